@@ -1,0 +1,56 @@
+#!/usr/bin/env python3
+"""run.py CASES.jsonl: runs the built programs on a file of cases and compares what they write.
+
+Each line of the file is a JSON object: `argv` (the program's name and its words), `stdin` and `stdout` (base64),
+`status` and `stderr`. The program NAME is `crates/NAME/out/NAME`, as the gate leaves it. The first mismatches are shown
+in full. The last line is 'N passed, M failed', and the exit status is 0 only where nothing failed."""
+import base64
+import json
+import os
+import subprocess
+import sys
+from concurrent.futures import ThreadPoolExecutor
+
+ROOT = os.path.dirname(os.path.dirname(os.path.abspath(__file__)))
+SHOWN = 5
+
+
+def run(case):
+    """What the program of a case answers: status, standard output, standard error."""
+    name, *words = case["argv"]
+    program = os.path.join(ROOT, "crates", name, "out", name)
+    try:
+        done = subprocess.run([program, *words], input=base64.b64decode(case["stdin"]), capture_output=True, timeout=60)
+    except (OSError, subprocess.TimeoutExpired) as fault:
+        return (str(fault), b"", b"")
+    return (done.returncode, done.stdout, done.stderr)
+
+
+def show(number, case, wanted, got):
+    print(f"case {number}: {case['argv']!r}")
+    print(f"  input {base64.b64decode(case['stdin'])!r}")
+    for what, want, have in zip(("status", "standard output", "standard error"), wanted, got):
+        if want != have:
+            print(f"  {what}: wanted {want!r}")
+            print(f"  {what}: got    {have!r}")
+
+
+def main(path):
+    with open(path, encoding="utf-8") as file:
+        cases = [json.loads(line) for line in file if line.strip()]
+    passed = failed = 0
+    with ThreadPoolExecutor(os.cpu_count() or 2) as pool:
+        for number, (case, got) in enumerate(zip(cases, pool.map(run, cases))):
+            wanted = (case["status"], base64.b64decode(case["stdout"]), case["stderr"].encode())
+            if got == wanted:
+                passed += 1
+                continue
+            failed += 1
+            if failed <= SHOWN:
+                show(number, case, wanted, got)
+    print(f"{passed} passed, {failed} failed")
+    return 1 if failed else 0
+
+
+if __name__ == "__main__":
+    sys.exit(main(sys.argv[1]))

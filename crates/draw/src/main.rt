@@ -1,0 +1,19 @@
+//! Draws one label on a source from standard input.
+#![tactic(auto)]
+
+use miette_report::draw::{draw_with, refuse_words};
+use miette_report::words::program_words;
+use std::process::ExitCode;
+
+fn main(rt: HostRuntime) -> ExitCode {
+    ExitCode::from(match program_words(&rt) {
+        Ok(words) => draw_with(
+            rt.alloc(),
+            words.as_slice(),
+            rt.stdin(),
+            rt.stdout(),
+            rt.stderr(),
+        ),
+        Err(fault) => refuse_words(fault, rt.stderr()),
+    })
+}

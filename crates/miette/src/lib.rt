@@ -1,0 +1,9 @@
+//! Diagnostics that a program can print: spans and labels, reports with causes and sources, and handlers that make their
+//! text. This crate names what its users need from the layers below.
+#![tactic(auto)]
+
+pub use miette_handlers::handlers;
+pub use miette_protocol::{diagnostic, error, protocol, source};
+pub use miette_text::{highlight, style, theme, wrap};
+pub use miette_tree::report;
+pub use miette_tree::report::{Report as ErrReport, Report as Error};

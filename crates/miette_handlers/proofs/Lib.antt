@@ -1,0 +1,14 @@
+pub mod JsonSpelled
+pub mod JsonUnique
+pub mod JsonJoined
+pub mod TreeSizes
+pub mod JsonAnswers
+pub mod Fading
+pub mod PartFading
+pub mod ReportFading
+pub mod Sizes
+pub mod Steps
+pub mod TextLaws
+pub mod Only
+pub mod Printed
+pub mod DrawnRows

@@ -1,0 +1,37 @@
+-- What the layer of texts promises of deleting colours: the clauses of its laws, gathered.
+use Rattle.std.proofs.Common.{◌≡◌, ℕ, true, List, [], ◌∷◌, ◌++◌, map, refl, ap, ◌∙◌, sym, subst}
+use Rattle.miette_text.specs.Sequences.{tokens, erase}
+use Rattle.miette_text.specs.Tame.{IsTame, AllTame, no_escape}
+use Rattle.miette_text.specs.Tame as tame
+use Rattle.miette_text.specs.Runs.{Run, Styled, HaveNoEscape, plain_run, print}
+use Rattle.miette_text.specs.Styles.{plain}
+use Rattle.miette_text.specs.Cutting.{without_leading, without_trailing}
+use Rattle.miette_text.specs.Wrapping.{Layout, columns_of, wrapped}
+
+pub record TextLaws : Type 0 where
+  pub wrapped-tame : (l : Layout) (text : List ℕ) → AllTame l text → IsTame (wrapped l text)
+  pub erase-wrapped : (l : Layout) (text : List ℕ) → AllTame l text → erase (wrapped l text) ≡ wrapped (tame.colourless l) (erase text)
+  pub append-tame : (x y : List ℕ) → IsTame x → IsTame y → IsTame (x ++ y)
+  pub erase-append : (x y : List ℕ) → IsTame x → IsTame y → erase (x ++ y) ≡ erase x ++ erase y
+  pub leading-tame : (text : List ℕ) → IsTame text → IsTame (without_leading text)
+  pub leading-erase : (text : List ℕ) → IsTame text → erase (without_leading text) ≡ without_leading (erase text)
+  pub trailing-tame : (text : List ℕ) → IsTame text → IsTame (without_trailing text)
+  pub trailing-erase : (text : List ℕ) → IsTame text → erase (without_trailing text) ≡ without_trailing (erase text)
+  pub print-tame : (runs : List Run) → HaveNoEscape runs → IsTame (print runs)
+  pub print-erase : (runs : List Run) → HaveNoEscape runs → erase (print runs) ≡ print (map plain_run runs)
+  pub erase-columns : (text : List ℕ) → IsTame text → columns_of (tokens (erase text)) ≡ columns_of (tokens text)
+
+-- a text that holds no escape is that of one plain run
+plain-printed : (text : List ℕ) → print (Styled plain text ∷ []) ≡ text
+plain-printed [] = refl
+plain-printed (c ∷ text) = append_nil (c ∷ text) where
+  append_nil : (xs : List ℕ) → xs ++ [] ≡ xs
+  append_nil [] = refl
+  append_nil (x ∷ xs) = ap (λ l. x ∷ l) (append_nil xs)
+
+pub plain-tame : TextLaws → (text : List ℕ) → no_escape text ≡ true → IsTame text
+plain-tame laws text h = subst IsTame (plain-printed text) (laws.print-tame (Styled plain text ∷ []) ((h, tt), tt))
+
+pub plain-erase : TextLaws → (text : List ℕ) → no_escape text ≡ true → erase text ≡ text
+plain-erase laws text h =
+    ap erase (sym (plain-printed text)) ∙ laws.print-erase (Styled plain text ∷ []) ((h, tt), tt) ∙ plain-printed text

@@ -1,0 +1,18 @@
+use Rattle.std.proofs.Common.{[], ◌∷◌, codes, ap, sym, ◌∙◌, ◌++◌, string_bytes, refl}
+use Rattle.std.specs.Option.{option_map}
+use Rattle.miette_tree.specs.Owned.{shown_source}
+use Rattle.miette_handlers.specs.Json.{items_text}
+use Rattle.miette_handlers.specs.JsonReport.{labels_json}
+use Rattle.miette_handlers.specs.JsonText.{key_text, maybe_text, places_text}
+use Rattle.miette_handlers.proofs.JsonJoined.{step, last_step, append_parts}
+use Rattle.miette_handlers.proofs.json_report.push_places.Goals as goal
+
+pub returns : goal.returns
+returns g c =
+    let source = option_map (shown_source g.S.SourceCode.source) c.args.source in
+    let labels = c.args.labels.now in
+    let named = c.file_name_for.ensures in record {
+      fault = named.fault;
+      may_fail = named.may_fail;
+      appended = append_parts _ _ _ _ _ _ _ _ (c.in_ok-push_maybe.ensures ∙ ap (λ o. string_bytes c.args.out.now ++ maybe_text (codes "filename") o) named.is) c.in_ok-push_key.ensures c.in_ok-push_str.ensures.bytes c.in_ok-push_labels.ensures;
+    }

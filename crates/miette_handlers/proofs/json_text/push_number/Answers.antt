@@ -1,0 +1,7 @@
+use Rattle.std.proofs.Common.{ap, sym, ◌∙◌, ◌++◌, string_bytes, rules}
+use Rattle.miette_handlers.specs.Json.{numeral}
+use Rattle.miette_handlers.proofs.JsonSpelled.{numeral_decimal}
+use Rattle.miette_handlers.proofs.json_text.push_number.Goals as goal
+
+pub returns : goal.returns
+returns c = let same = numeral_decimal c.args.n c.ranges.n.fits in search rules

@@ -1,0 +1,38 @@
+use Rattle.std.proofs.Common.{◌≡◌, sym, ap, ap₂, ◌∙◌, subst, map, option_map, false, rules}
+use Rattle.miette_tree.specs.Tree.{head, trees, source_of, related_of}
+use Rattle.miette_tree.specs.Report.{tree_of}
+use Rattle.miette_tree.specs.Owned.{shown_source}
+use Rattle.miette_handlers.specs.Answered.{AreRelated, IsDrawn, IsReport, related_read}
+use Rattle.miette_handlers.specs.Snippets.{drawn_rows}
+use Rattle.miette_handlers.specs.Text.{report_over}
+use Rattle.miette_handlers.specs.Views.{settings_of}
+use Rattle.miette_handlers.proofs.Steps.{root_step, root_related_fail}
+use Rattle.miette_handlers.proofs.report.report_codes.Goals as goal
+
+pub returns-in_err-related-clause-refused : goal.returns-in_err-related-clause-refused
+returns-in_err-related-clause-refused g c = λ h.
+    let value = tree_of g.D.Diagnostic.meaning g.S.SourceCode.source c.args.report.now in
+    let source = option_map (shown_source g.S.SourceCode.source) c.source_code-source.result in
+    let related : related_read source (trees (map (tree_of g.D.Diagnostic.meaning g.S.SourceCode.source) c.related.result.now)) ≡ false = c.in_err-related.ensures.refused (search rules) in
+    root_related_fail c.args.layout.chain value
+    (subst (λ o. related_read o (related_of value) ≡ false) c.source_code-source.ensures (subst (λ r. related_read source r ≡ false) c.related.ensures related))
+
+pub returns-clause-ok : goal.returns-clause-ok
+returns-clause-ok g c =
+    let s = settings_of c.args.layout in
+    let value = tree_of g.D.Diagnostic.meaning g.S.SourceCode.source c.args.report.now in
+    let source = option_map (shown_source g.S.SourceCode.source) c.source_code-source.result in
+    let causes = c.in_ok-causes.causes.items in
+    let related = c.in_ok-related.related.items in
+    let drawn = c.in_ok-rows.rows.items in
+    let rows : IsDrawn drawn_rows s (source_of value) (head value) drawn =
+    subst (λ o. IsDrawn drawn_rows s o (head value) drawn) c.source_code-source.ensures c.in_ok-rows.ensures.ok in
+    let beside : AreRelated drawn_rows s (head value).severity (source_of value) (related_of value) related =
+    subst (λ v. AreRelated drawn_rows s v (source_of value) (related_of value) related) c.severity.ensures
+    (subst (λ o. AreRelated drawn_rows s c.severity.result o (related_of value) related) c.source_code-source.ensures
+    (subst (λ r. AreRelated drawn_rows s c.severity.result source r related) c.related.ensures c.in_ok-related.ensures.ok)) in
+    let text : c.in_ok-report_with.field-0.items ≡ report_over s (head value) drawn causes related =
+    c.in_ok-report_with.ensures
+    ∙ ap₂ (λ r x. report_over s (head value) r x c.deref-3.result.now) c.deref-2.ensures.value c.deref.ensures.value
+    ∙ ap (λ x. report_over s (head value) drawn causes x) c.deref-3.ensures.value in
+    subst (λ x. IsReport drawn_rows s value x) (sym text) (root_step drawn_rows s value drawn causes related rows c.in_ok-causes.ensures.ok beside)

@@ -1,0 +1,37 @@
+-- The same settings with every style plain, and the same answers with the blank highlighter.
+use Rattle.std.specs.Prelude.{◌≡◌, List, [], map, Option, IfSome}
+use Rattle.miette_text.specs.Runs.{plain_run}
+use Rattle.miette_text.specs.Styles.{plain}
+use Rattle.miette_protocol.specs.Meaning.{Label}
+use Rattle.miette_protocol.specs.Reading.{Source}
+use Rattle.miette_handlers.specs.Settings.{Settings}
+use Rattle.miette_text.specs.Themes.{Styles}
+use Rattle.miette_handlers.specs.Answers.{Answer, Answers, unlisted, listed, RelatedAnswers, no_more, and_more}
+use Rattle.miette_handlers.specs.Parts.{SnippetRows, rows_text}
+use Rattle.miette_handlers.specs.Clean.{EachOf, AreCleanSettings, IsCleanLabel, IsCleanSource, IsCleanAnswer, HaveNoEscapes}
+
+abbrev pub faded : Styles → Styles
+faded s = record { error = plain; warning = plain; advice = plain; help = plain; link = plain; linum = plain; highlights = map (λ _. plain) s.highlights }
+
+abbrev pub colourless : Settings → Settings
+colourless s = record s { styles = faded s.styles }
+
+abbrev pub unhighlighted_answer : Answer → Answer
+unhighlighted_answer a = record a { pieces = [] }
+
+abbrev mutual
+  pub unhighlighted : Answers → Answers
+  unhighlighted unlisted = unlisted
+  unhighlighted (listed own cause related) = listed (unhighlighted_answer own) (unhighlighted cause) (unhighlighted_related related)
+
+  pub unhighlighted_related : RelatedAnswers → RelatedAnswers
+  unhighlighted_related no_more = no_more
+  unhighlighted_related (and_more first more) = and_more (unhighlighted first) (unhighlighted_related more)
+
+-- What a diagnostic's snippet rows have to be: in plain styles and without pieces they print the same rows with each style made
+-- plain; and they hold no escape where nothing that they are made of does.
+pub record AreSnippets (rows : SnippetRows) : Type 0 where
+  pub fade : (s : Settings) (source : Option Source) (labels : List Label) (a : Answer) →
+      rows_text (rows (colourless s) source labels (unhighlighted_answer a)) ≡ rows_text (map (map plain_run) (rows s source labels a))
+  pub clean : (s : Settings) (source : Option Source) (labels : List Label) (a : Answer) →
+      AreCleanSettings s → IfSome source IsCleanSource → EachOf IsCleanLabel labels → IsCleanAnswer a → HaveNoEscapes (rows s source labels a)

@@ -1,0 +1,74 @@
+-- JSON values over whole numbers, strings, lists and objects, and the one spelling that is written for each.
+use Rattle.std.specs.Prelude.{ℕ, zero, suc, ◌+◌, ◌/◌, ◌%◌, Bool, ◌||◌, ◌==◌, nat_lt, cond, List, [], ◌∷◌, ◌++◌}
+use Rattle.std.specs.Char.{digit_char}
+
+mutual
+  pub data Json : Type 0 where
+    number : ℕ → Json
+    string : List ℕ → Json
+    array : Items → Json
+    object : Members → Json
+
+  pub data Items : Type 0 where
+    no_items : Items
+    item : Json → Items → Items
+
+  -- a key, its value, and the members after it; a key may stand twice
+  pub data Members : Type 0 where
+    no_members : Members
+    member : List ℕ → Json → Members → Members
+
+-- the decimal digits of n, of which there are at most as many as the first number says
+abbrev pub digits_within : ℕ → ℕ → List ℕ
+digits_within zero n = []
+digits_within (suc most) n = cond (nat_lt n 10) ((48 + n) ∷ []) (digits_within most (n / 10) ++ (48 + n % 10) ∷ [])
+
+-- the decimal digits of a number of any size
+unfoldable pub numeral : ℕ → List ℕ
+numeral n = digits_within (suc n) n
+
+-- whether a byte may not stand for itself in a string: a control character, `"` or `\`
+abbrev pub is_escaped : ℕ → Bool
+is_escaped x = nat_lt x 32 || ((x == 34) || (x == 92))
+
+-- the letter of a byte's short escape, or 0 where it has none: `"` `\` \b \f \n \r \t
+abbrev pub escape_letter : ℕ → ℕ
+escape_letter x = cond ((x == 34) || (x == 92)) x (cond (x == 8) 98 (cond (x == 12) 102 (cond (x == 10) 110 (cond (x == 13) 114 (cond (x == 9) 116 0)))))
+
+-- what stands in a string for a byte: its short escape, \u00 and two digits in base 16, or the byte itself
+unfoldable pub escaped_byte : ℕ → List ℕ
+escaped_byte x =
+    cond (nat_lt 0 (escape_letter x)) (92 ∷ escape_letter x ∷ [])
+    (cond (nat_lt x 32) (92 ∷ 117 ∷ 48 ∷ 48 ∷ digit_char (x / 16) ∷ digit_char (x % 16) ∷ []) (x ∷ []))
+
+abbrev pub escaped : List ℕ → List ℕ
+escaped [] = []
+escaped (x ∷ xs) = escaped_byte x ++ escaped xs
+
+-- a string in quotes
+abbrev pub quoted : List ℕ → List ℕ
+quoted s = 34 ∷ (escaped s ++ 34 ∷ [])
+
+-- the spelling: `,` between items and between members, `: ` after each key, no other space
+abbrev mutual
+  pub json_text : Json → List ℕ
+  json_text (number n) = numeral n
+  json_text (string s) = quoted s
+  json_text (array is) = 91 ∷ items_text is
+  json_text (object ms) = 123 ∷ members_text ms
+
+  pub items_text : Items → List ℕ
+  items_text no_items = 93 ∷ []
+  items_text (item v more) = json_text v ++ more_items_text more
+
+  pub more_items_text : Items → List ℕ
+  more_items_text no_items = 93 ∷ []
+  more_items_text (item v more) = 44 ∷ (json_text v ++ more_items_text more)
+
+  pub members_text : Members → List ℕ
+  members_text no_members = 125 ∷ []
+  members_text (member k v more) = quoted k ++ (58 ∷ 32 ∷ (json_text v ++ more_members_text more))
+
+  pub more_members_text : Members → List ℕ
+  more_members_text no_members = 125 ∷ []
+  more_members_text (member k v more) = 44 ∷ (quoted k ++ (58 ∷ 32 ∷ (json_text v ++ more_members_text more)))

@@ -1,0 +1,32 @@
+//! Deleting colours from a report's text gives the report without colours.
+
+ghost use Rattle.std.specs.Prelude.{◌≡◌};
+ghost use Rattle.miette_handlers.specs.Answers.{Answers};
+ghost use Rattle.miette_handlers.specs.Clean.{AreCleanAnswers, AreCleanSettings, IsCleanTree};
+ghost use Rattle.miette_handlers.specs.Colourless.{AreSnippets, colourless, unhighlighted};
+ghost use Rattle.miette_handlers.specs.Parts.{SnippetRows};
+ghost use Rattle.miette_handlers.specs.Settings.{Settings};
+ghost use Rattle.miette_handlers.specs.Text.{report_text};
+ghost use Rattle.miette_tree.specs.Tree.{Tree};
+ghost use Rattle.miette_text.specs.Sequences.{erase};
+ghost use Rattle.miette_text.specs.Tame.{IsTame};
+
+use miette_text::wrap::laws::{columns_law, cutting_law, joining_law, printing_law, wrapping_law};
+
+/// Where no text, url, name, setting or theme character holds an escape: a report's text without its colours is the text of the
+/// same tree in plain styles under the same reads, and can be wrapped again in another one.
+pub fn colours_law()
+    ensures erase { (rows : SnippetRows) (s : Settings) (t : Tree) (a : Answers) → AreSnippets rows → AreCleanSettings s → IsCleanTree t → AreCleanAnswers a →
+        erase (report_text rows s t a) ≡ report_text rows (colourless s) t (unhighlighted a) }
+    ensures tame { (rows : SnippetRows) (s : Settings) (t : Tree) (a : Answers) → AreSnippets rows → AreCleanSettings s → IsCleanTree t → AreCleanAnswers a →
+        IsTame (report_text rows s t a) }
+    // Settings that differ in styles alone give the same text but for colours.
+    ensures alike { (rows : SnippetRows) (s u : Settings) (t : Tree) (a b : Answers) → AreSnippets rows → AreCleanSettings s → AreCleanSettings u → IsCleanTree t → AreCleanAnswers a → AreCleanAnswers b →
+        colourless s ≡ colourless u → unhighlighted a ≡ unhighlighted b → erase (report_text rows s t a) ≡ erase (report_text rows u t b) }
+{
+    wrapping_law();
+    joining_law();
+    cutting_law();
+    printing_law();
+    columns_law();
+}

@@ -1,0 +1,146 @@
+-- Texts of printable ASCII characters.
+use Rattle.std.proofs.Common.{ℕ, ◌+◌, ◌-◌, ◌<◌, ◌≤◌, ◌≡◌, true, false, leb, ltb, eqb, List, [], ◌∷◌, ◌++◌, map, length, refl, sym, ap, ◌∙◌, append-nil, arith}
+use Rattle.std.specs.Prelude.{encode_utf8_all, slice_index}
+use Rattle.std.specs.List.{list_all}
+use Rattle.std.proofs.lemmas.Bool.{and_parts}
+use Rattle.std.proofs.lemmas.Bool.Decides.{nat_tests}
+use Rattle.std.proofs.lemmas.Str.{encode_ascii}
+use Rattle.unicode_width.specs.Width.{char_width}
+use Rattle.bstr.specs.Utf8.{decoded, good, or_replacement}
+use Rattle.bstr.proofs.lemmas.PieceLemmas.{value-1}
+use Rattle.miette_layout.specs.Cells.{cells_from, characters, first_column, last_column, cells_width, width_at, hides_next, printed_cells, line_runs}
+use Rattle.miette_layout.specs.Given.{width_of}
+use Rattle.miette_layout.specs.Told.{Token, begins, told, text_told, bytes_told}
+use Rattle.miette_text.specs.declared.style.Style.{Style}
+use Rattle.std.proofs.lemmas.List.{nil_from_length}
+use Rattle.miette_layout.specs.Walking.{cells_told, highlight_of}
+use Rattle.miette_layout.specs.Printable.{is_printable, plain_cells}
+use Rattle.miette_layout.specs.Rows.{Piece, plain}
+use Rattle.miette_layout.proofs.Numbers.{by_cases}
+use Rattle.miette_layout.proofs.Telling.{then}
+use Rattle.miette_layout.proofs.Stepping.{cells_step, cells_end}
+
+-- what a printable character is not
+record IsPlain (b : ℕ) : Type 0 where
+  low : 32 ≤ b
+  high : b < 127
+  escape : eqb b 27 ≡ false
+  tab : eqb b 9 ≡ false
+
+from_le : (a b : ℕ) → leb a b ≡ true → a ≤ b
+from_le a b h = grind (arith, nat_tests)
+
+from_lt : (a b : ℕ) → ltb a b ≡ true → a < b
+from_lt a b h = grind (arith, nat_tests)
+
+apart : (a b : ℕ) → (a ≡ b → ⊥) → eqb a b ≡ false
+apart a b h = grind (arith, nat_tests)
+
+plain_byte : (b : ℕ) → is_printable b ≡ true → IsPlain b
+plain_byte b h =
+    let parts = and_parts (leb 32 b) (ltb b 127) h in
+    let low : 32 ≤ b = from_le 32 b parts.0 in
+    let high : b < 127 = from_lt b 127 parts.1 in
+    record { low = low; high = high; escape = apart b 27 (omega arith); tab = apart b 9 (omega arith) }
+
+one_column : (b : ℕ) → is_printable b ≡ true → width_of b ≡ 1
+unfolding char_width
+one_column b h =
+    let parts = and_parts (leb 32 b) (ltb b 127) h in
+    rw (parts.1, parts.0) refl
+
+plain_width : (tab column b : ℕ) → is_printable b ≡ true → 1 ≡ width_at width_of tab false column b
+plain_width tab column b h =
+    let p = plain_byte b h in
+    rw (p.escape, p.tab) (sym (one_column b h))
+
+plain_hides : (b : ℕ) → is_printable b ≡ true → false ≡ hides_next false b
+plain_hides b h = let p = plain_byte b h in rw (p.escape) refl
+
+ascii_decoded : (b : ℕ) (bs : List ℕ) → b < 128 → decoded (b ∷ bs) ≡ good b 1
+ascii_decoded b bs h = value-1 (length (b ∷ bs)) b (slice_index (b ∷ bs) 1) (slice_index (b ∷ bs) 2) (slice_index (b ∷ bs) 3) (omega arith, h)
+
+-- their cells
+pub printable_cells : (tab offset column : ℕ) (bs : List ℕ) → list_all is_printable bs ≡ true → cells_from width_of tab false offset column (characters bs) ≡ plain_cells offset column bs
+printable_cells tab offset column [] h = cells_end width_of tab false offset column [] refl
+printable_cells tab offset column (b ∷ bs) h =
+    let parts = and_parts (is_printable b) (list_all is_printable bs) h in
+    let p = plain_byte b parts.0 in
+    let is = ascii_decoded b bs (omega (arith, p.high)) in
+    cells_step width_of tab false false offset column (b ∷ bs) bs b 1 1 (column + 1) (omega arith) refl
+    (sym (ap (λ d. or_replacement d.char) is)) (sym (ap (λ d. d.size) is)) (plain_width tab column b parts.0) refl (plain_hides b parts.0)
+    ∙ ap (λ cells. record { code = b; start = offset; after = offset + 1; from = column; until = column + 1 } ∷ cells) (printable_cells tab (offset + 1) (column + 1) bs parts.1)
+
+-- they print as they are
+pub printable_codes : (offset column : ℕ) (bs : List ℕ) → list_all is_printable bs ≡ true → map (λ (p : Piece). p.code) (printed_cells (plain_cells offset column bs)) ≡ bs
+printable_codes offset column [] h = refl
+printable_codes offset column (b ∷ bs) h =
+    let parts = and_parts (is_printable b) (list_all is_printable bs) h in
+    let p = plain_byte b parts.0 in
+    rw (p.tab) (ap (λ r. b ∷ r) (printable_codes (offset + 1) (column + 1) bs parts.1))
+
+printable_encodes : (bs : List ℕ) → list_all is_printable bs ≡ true → encode_utf8_all bs ≡ bs
+printable_encodes [] h = refl
+printable_encodes (b ∷ bs) h =
+    let parts = and_parts (is_printable b) (list_all is_printable bs) h in
+    let p = plain_byte b parts.0 in
+    ap (λ xs. xs ++ encode_utf8_all bs) (encode_ascii b (omega (arith, p.high))) ∙ ap (λ xs. b ∷ xs) (printable_encodes bs parts.1)
+
+pub printable_told : (tab offset : ℕ) (bs : List ℕ) → list_all is_printable bs ≡ true → bytes_told bs ≡ cells_told (cells_from width_of tab false offset 0 (characters bs))
+printable_told tab offset bs h =
+    ap bytes_told (sym (printable_encodes bs h)) ∙ ap text_told (sym (printable_codes offset 0 bs h)) ∙ ap cells_told (sym (printable_cells tab offset 0 bs h))
+
+-- columns in them
+pub plain_columns : (offset column : ℕ) (bs : List ℕ) → cells_width column (plain_cells offset column bs) ≡ column + length bs
+plain_columns offset column [] = omega arith
+plain_columns offset column (b ∷ bs) = plain_columns (offset + 1) (column + 1) bs ∙ omega arith
+
+to_lt : (a b : ℕ) → a < b → ltb a b ≡ true
+to_lt a b h = grind (arith, nat_tests)
+
+to_le : (a b : ℕ) → a ≤ b → leb a b ≡ true
+to_le a b h = grind (arith, nat_tests)
+
+not_lt : (a b : ℕ) → b ≤ a → ltb a b ≡ false
+not_lt a b h = grind (arith, nat_tests)
+
+not_le : (a b : ℕ) → b < a → leb a b ≡ false
+not_le a b h = grind (arith, nat_tests)
+
+from_not_lt : (a b : ℕ) → ltb a b ≡ false → b ≤ a
+from_not_lt a b h = grind (arith, nat_tests)
+
+from_not_le : (a b : ℕ) → leb a b ≡ false → b < a
+from_not_le a b h = grind (arith, nat_tests)
+
+pub plain_first : (offset column : ℕ) (bs : List ℕ) (e w o : ℕ) → o - offset < length bs → column + (o - offset) ≡ first_column (plain_cells offset column bs) e w o
+plain_first offset column [] e w o h = absurd (omega arith)
+plain_first offset column (b ∷ bs) e w o h =
+    by_cases {C = column + (o - offset) ≡ first_column (plain_cells offset column (b ∷ bs)) e w o} (ltb o (offset + 1))
+    (λ y. let lt : o < offset + 1 = from_lt o (offset + 1) y in rw y (omega arith))
+    (λ n. let ge : offset + 1 ≤ o = from_not_lt o (offset + 1) n in rw n (omega arith ∙ plain_first (offset + 1) (column + 1) bs e w o (omega arith)))
+
+pub plain_first_end : (offset column : ℕ) (bs : List ℕ) (e w o : ℕ) → length bs ≤ o - offset → first_column [] e w o ≡ first_column (plain_cells offset column bs) e w o
+plain_first_end offset column [] e w o h = refl
+plain_first_end offset column (b ∷ bs) e w o h = rw (not_lt o (offset + 1) (omega arith)) (plain_first_end (offset + 1) (column + 1) bs e w o (omega arith))
+
+pub plain_last : (offset column : ℕ) (bs : List ℕ) (e w o : ℕ) → o - offset < length bs → column + (o - offset) ≡ last_column (plain_cells offset column bs) e w o
+plain_last offset column [] e w o h = absurd (omega arith)
+plain_last offset column (b ∷ bs) e w o h =
+    by_cases {C = column + (o - offset) ≡ last_column (plain_cells offset column (b ∷ bs)) e w o} (leb o offset)
+    (λ y. let le : o ≤ offset = from_le o offset y in rw y (omega arith))
+    (λ n. let gt : offset < o = from_not_le o offset n in rw n (omega arith ∙ plain_last (offset + 1) (column + 1) bs e w o (omega arith)))
+
+pub plain_last_end : (offset column : ℕ) (bs : List ℕ) (e w o : ℕ) → length bs ≤ o - offset → last_column [] e w o ≡ last_column (plain_cells offset column bs) e w o
+plain_last_end offset column [] e w o h = refl
+plain_last_end offset column (b ∷ bs) e w o h = rw (not_le o offset (omega arith)) (plain_last_end (offset + 1) (column + 1) bs e w o (omega arith))
+
+-- a plain text
+pub plain_put : (tab offset : ℕ) (bs text : List ℕ) (pieces : List (ℕ × Style)) (p q r : List Token) → length pieces ≡ 0 → text ≡ bs → list_all is_printable bs ≡ true → q ≡ p ++ begins plain ∷ [] → r ≡ q ++ bytes_told text →
+    r ≡ p ++ told (line_runs (map highlight_of pieces) (cells_from width_of tab false offset 0 (characters bs)))
+plain_put tab offset bs text pieces p q r none same h hq hr =
+    then p (begins plain ∷ []) (bytes_told text) hq hr
+    ∙ ap (λ x. p ++ begins plain ∷ bytes_told x) same
+    ∙ ap (λ x. p ++ begins plain ∷ x) (printable_told tab offset bs h)
+    ∙ ap (λ x. p ++ x) (sym (append-nil (begins plain ∷ cells_told (cells_from width_of tab false offset 0 (characters bs)))))
+    ∙ ap (λ ps. p ++ told (line_runs (map highlight_of ps) (cells_from width_of tab false offset 0 (characters bs)))) (sym (nil_from_length pieces none))

@@ -1,0 +1,16 @@
+use Rattle.std.proofs.Common.{[], ◌∷◌, ◌++◌, ◌≡◌, ◌∙◌, cond, true, ap, sym, replicate, rules}
+use Rattle.std.specs.Prelude.{codes, ◌&&◌}
+use Rattle.miette_layout.specs.Rows.{plain, styled}
+use Rattle.miette_layout.specs.Frames.{place_text}
+use Rattle.miette_layout.specs.Framed.{place_at}
+use Rattle.miette_layout.specs.Given.{width_of}
+use Rattle.miette_layout.specs.Told.{told}
+use Rattle.miette_layout.proofs.Framing.{bare_put}
+use Rattle.miette_layout.proofs.frame.push_bare_place.Goals as goal
+
+pub returns-then-frame : goal.returns-then-frame
+returns-then-frame c =
+    let shown : (c.args.several && c.args.frame.now.options.primary_start) ≡ true = search rules in
+    bare_put width_of (place_text (place_at c.args.place)) c.args.page.now c.push_line.new.self c.push_place.new.page c.push.new.self
+    c.in_ok-push_line.ensures c.in_ok-push_place.ensures c.in_ok-push.ensures
+    ∙ ap (λ b. c.args.page.now ++ told (cond b (styled width_of plain (codes "[" ++ place_text (place_at c.args.place) ++ codes "]") ∷ []) (styled width_of plain (replicate 3 c.args.frame.now.theme.now.characters.hbar) ∷ []))) (sym shown)

@@ -1,0 +1,8 @@
+use Rattle.std.proofs.Common.{◌≡◌, ◌++◌, map, drop}
+use Rattle.miette_layout.specs.Told.{told}
+use Rattle.miette_layout.specs.Cells.{line_runs}
+use Rattle.miette_layout.specs.Walking.{highlight_of}
+use Rattle.miette_layout.proofs.line.push_line_text.Given as goal
+
+abbrev pub invariant-loop-piece : goal.invariant-loop-piece
+invariant-loop-piece l = l.page ++ told (line_runs (map highlight_of (drop l.piece-index l.pieces)) l.walk) ≡ l.fn.page ++ told (line_runs (map highlight_of l.pieces) l.fn.walk)

@@ -1,0 +1,10 @@
+use Rattle.miette_layout.specs.Given.{settings_of}
+use Rattle.miette_layout.specs.Sweeping.{IsAt}
+use Rattle.miette_layout.proofs.Progressing.{AreDrawn}
+use Rattle.miette_layout.proofs.snippets.read_snippets.Given as goal
+
+abbrev pub invariant-loop-group : goal.invariant-loop-group
+invariant-loop-group g l = record {
+  drawn : AreDrawn (settings_of l.fn.theme l.fn.options) (g.S.SourceCode.source l.fn.source) l.fn.labels l.group-items l.group-index l.page;
+  state : IsAt l.placed.items l.at l.sweep.next l.sweep.running.items;
+}

@@ -1,0 +1,6 @@
+use Rattle.std.proofs.Common.{sym}
+use Rattle.miette_layout.proofs.Stroking.{middle_of_full}
+use Rattle.miette_layout.proofs.strokes.middle_of.Goals as goal
+
+pub returns-in-Some : goal.returns-in-Some
+returns-in-Some c = middle_of_full c.args.sheet.now.theme.now.characters c.args.mark.now.label.start c.args.mark.now.label.after _ c.in-Some.field-0.now c.if-mark.false (sym c.in-Some.ensures)

@@ -1,0 +1,9 @@
+use Rattle.std.proofs.Common.{rules, ◌+◌}
+use Rattle.miette_layout.specs.Given.{width_of}
+use Rattle.miette_layout.proofs.Texting.{start_put}
+use Rattle.miette_layout.proofs.texts.push_other_start.Goals as goal
+
+pub returns : goal.returns
+returns c =
+    start_put width_of c.args.sheet.now.theme.now.characters c.in-Some.columns (c.args.sheet.now.number_width + 2) c.args.page.now c.push_blank.new.self c.push_line.new.self
+    (search rules) c.in_ok-push_blank.ensures c.in_ok-push_line.ensures

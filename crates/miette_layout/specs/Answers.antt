@@ -1,0 +1,45 @@
+-- What a source and a highlighter answer, where the settings and the labels don't determine it.
+use Rattle.std.specs.Prelude.{ℕ, ◌≡◌, List, [], ◌∷◌, Bool, false}
+use Rattle.std.specs.List.{AllByRecursion}
+use Rattle.miette_text.specs.declared.style.Style.{Style}
+
+-- what a highlighter says of a line's next bytes
+pub record Highlight : Type 0 where
+  pub bytes : ℕ
+  pub style : Style
+
+-- Whether each read fails, of each label, of each group that a label would join, of each snippet's place;
+-- and the highlighter's pieces for each line of each snippet. A read that isn't listed succeeds, a line that isn't listed is plain.
+pub record Answers : Type 0 where
+  pub label_fails : List Bool
+  pub join_fails : List Bool
+  pub place_fails : List Bool
+  pub pieces : List (List (List Highlight))
+
+-- whether the next read fails, and the answers after it
+abbrev pub next_answer : List Bool → Bool
+next_answer [] = false
+next_answer (fails ∷ more) = fails
+
+abbrev pub later_answers : List Bool → List Bool
+later_answers [] = []
+later_answers (fails ∷ more) = more
+
+-- the first of some lists of answers, empty where there is none, and those after it
+abbrev pub first_of : {X : Type 0} → List (List X) → List X
+first_of [] = []
+first_of (x ∷ more) = x
+
+abbrev pub later_of : {X : Type 0} → List (List X) → List (List X)
+later_of [] = []
+later_of (x ∷ more) = more
+
+-- no read fails
+abbrev pub NoneFails : List Bool → Type 0
+NoneFails fails = AllByRecursion (λ f. f ≡ false) fails
+
+-- answers of a source that always reads
+pub record AlwaysReads (answers : Answers) : Type 0 where
+  pub labels : NoneFails answers.label_fails
+  pub joins : NoneFails answers.join_fails
+  pub places : NoneFails answers.place_fails

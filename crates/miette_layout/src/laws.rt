@@ -1,0 +1,52 @@
+//! What holds of the rows of snippets, as laws of their definitions.
+
+ghost use Rattle.std.specs.Prelude.{◌≡◌, ◌<◌, ◌≤◌, ◌+◌, ◌^◌, ℕ, List, ◌∷◌, [], Some, Bool, length};
+ghost use Rattle.std.specs.List.{AllByRecursion, concat};
+ghost use Rattle.miette_layout.specs.Numbers.{runs, IsRun, AreParted};
+ghost use Rattle.miette_protocol.specs.Meaning.{Label};
+ghost use Rattle.miette_protocol.specs.Reading.{Source, Contents, Span};
+ghost use Rattle.miette_layout.specs.Contexts.{lines_of_contents};
+ghost use Rattle.miette_layout.specs.Answers.{Answers, AlwaysReads, Highlight, NoneFails};
+ghost use Rattle.miette_layout.specs.Groups.{AreAccepted, in_order, spans_of, groups_answered, lines_of_groups};
+ghost use Rattle.miette_layout.specs.Snippets.{snippets};
+ghost use Rattle.miette_layout.specs.Labels.{DrawnLabel};
+ghost use Rattle.miette_layout.specs.Marks.{Text, marks, anchor, marks_at, AreApart};
+ghost use Rattle.miette_layout.specs.Drawing.{IsNarrow};
+ghost use Rattle.miette_layout.specs.Frames.{Settings};
+ghost use Rattle.miette_layout.specs.Layout.{snippet_rows};
+ghost use Rattle.miette_layout.specs.Pictures.{BodyShows};
+ghost use Rattle.miette_layout.specs.Shown.{framed_runs};
+
+/// Where no read fails, and there is at least one line of context, the lines that the groups of labels show are the maximal runs of
+/// all lines that lie in the context of a label.
+pub fn groups_are_runs()
+    ensures { (context : ℕ) (source : Source) (fails : List Bool) (labels : List Label) → 1 ≤ context → NoneFails fails →
+        lines_of_groups context source (groups_answered context source fails (spans_of (in_order labels))) ≡ snippets context source.bytes (spans_of labels) }
+{}
+
+/// The runs of a list hold its numbers, in order and once. Each is consecutive, and none goes on into the next.
+pub fn runs_are_maximal()
+    ensures { (ks : List ℕ) → (concat (runs ks) ≡ ks) × AllByRecursion IsRun (runs ks) × AreParted (runs ks) }
+{}
+
+/// Where the source always reads and accepts the labels, the rows of the snippets are those of the maximal runs of the shown lines:
+/// each line once, with its number and its own cells, each run in a frame.
+pub fn snippets_draw_runs()
+    ensures { (s : Settings) (source : Source) (labels : List Label) (answers : Answers) → 1 ≤ s.context → AreAccepted source.bytes labels → AlwaysReads answers →
+        snippet_rows s source labels answers ≡ Some (framed_runs s source labels answers) }
+{}
+
+/// The marks of a line's labels are not empty, and each begins where the one before it ends, or later. So an anchor lies in its own
+/// mark and in no other.
+pub fn marks_are_apart()
+    ensures apart { (text : Text) (labels : List DrawnLabel) → AreApart 0 (marks text labels) }
+    ensures anchors { (text : Text) (labels : List DrawnLabel) →
+        AllByRecursion (λ mark. marks_at (anchor mark) (marks text labels) ≡ mark ∷ []) (marks text labels) }
+{}
+
+/// In the rows of each line of a snippet the text begins at one column, the mark row has the marks in their columns counted from there,
+/// and each text hangs from its own mark's anchor.
+pub fn texts_hang()
+    ensures { (s : Settings) (labels : List DrawnLabel) (source : List ℕ) (read : Contents) (pieces : List (List Highlight)) →
+        IsNarrow s.width s.characters → read.line + length (lines_of_contents read) < 2 ^ 64 → BodyShows s labels source read pieces }
+{}

@@ -1,0 +1,197 @@
+//! All rows of one line.
+
+ghost use Rattle.std.specs.Prelude.{◌≡◌, ◌++◌, ◌+◌, ◌^◌, ◌<◌, ◌∷◌, [], false, map, length, OnOk};
+ghost use Rattle.std.specs.List.{All};
+ghost use Rattle.miette_layout.specs.Cells.{cells_from, characters, printed, cells_within, cells_beyond, line_runs};
+ghost use Rattle.miette_layout.specs.Marks.{marks};
+ghost use Rattle.miette_layout.specs.Drawing.{marked_rows};
+ghost use Rattle.miette_layout.specs.Frames.{number_start};
+ghost use Rattle.miette_layout.specs.Layout.{before_each, line_rows_of, text_of_cells};
+ghost use Rattle.miette_layout.specs.Told.{told, told_rows, text_told};
+ghost use Rattle.miette_layout.specs.Walking.{cell_of, cells_told, highlight_of};
+ghost use Rattle.miette_layout.specs.Given.{drawn_of, width_of};
+ghost use Rattle.miette_layout.specs.Made.{mark_of};
+ghost use Rattle.miette_layout.specs.Sheets.{settings, line_of_text, multi_labels, before_marks, number_row};
+
+use crate::cells::{Cell, Walk};
+use crate::closings::push_closings;
+use crate::gutters::push_number_gutter;
+use crate::marks::{Mark, marks_on};
+use crate::page::{PLAIN, Page};
+use crate::plain::printable;
+use crate::sheet::Sheet;
+use crate::strokes::push_marks;
+use crate::sweep::Placed;
+use crate::texts::{push_before_marks, push_texts};
+use miette_text::style::Style;
+use std::alloc::{AllocError, Global};
+
+#[cfg(test)]
+mod tests;
+
+// The number of a line: ` 12 │ `.
+fn push_number_start(page: &mut Page, sheet: &Sheet, number: usize) -> Result<(), AllocError>
+    ensures { OnOk result (page.new ≡ page.old ++ told (number_start (settings sheet.now) sheet.now.number_width number)) }
+{
+    page.push_blank(1)?;
+    page.begin(sheet.theme.styles.linum)?;
+    page.push_right(number, sheet.number_width)?;
+    page.push_line(PLAIN, ' ', sheet.theme.characters.vbar, 1)?;
+    page.push(' ')?;
+    Ok(())
+}
+
+// A character as it prints, a tab as spaces.
+fn push_cell(page: &mut Page, cell: &Cell) -> Result<(), AllocError>
+    ensures { OnOk result (page.new ≡ page.old ++ text_told (map (λ p. p.code) (printed (cell_of cell.now)))) }
+{
+    if cell.code == '\t' {
+        page.push_copies(' ', cell.until.saturating_sub(cell.from))?;
+    } else {
+        page.push(cell.code)?;
+    }
+    Ok(())
+}
+
+// The characters that fill so many bytes.
+fn push_cells_within(page: &mut Page, walk: &mut Walk, bytes: usize) -> Result<(), AllocError>
+    ensures within { OnOk result (page.new ≡ page.old ++ cells_told (cells_within bytes walk.old)) }
+    ensures beyond { OnOk result (walk.new ≡ cells_beyond bytes walk.old) }
+{
+    let mut left = bytes;
+    while left > 0 {
+        let Some(cell) = walk.next()? else {
+            return Ok(());
+        };
+        push_cell(page, &cell)?;
+        left = left.saturating_sub(cell.code.len_utf8());
+    }
+    Ok(())
+}
+
+// All characters that are left.
+fn push_cells(page: &mut Page, walk: &mut Walk) -> Result<(), AllocError>
+    ensures { OnOk result (page.new ≡ page.old ++ cells_told walk.old) }
+{
+    while let Some(cell) = walk.next()? {
+        push_cell(page, &cell)?;
+    }
+    Ok(())
+}
+
+// The line's text in a highlighter's pieces, each a length in bytes and a style, and plain behind them.
+fn push_line_text(
+    page: &mut Page,
+    walk: &mut Walk,
+    pieces: &[(usize, Style)],
+) -> Result<(), AllocError>
+    ensures { OnOk result (page.new ≡ page.old ++ told (line_runs (map highlight_of pieces.now) walk.old)) }
+{
+    for piece in pieces {
+        page.begin(piece.1)?;
+        push_cells_within(page, walk, piece.0)?;
+    }
+    page.begin(PLAIN)?;
+    push_cells(page, walk)?;
+    Ok(())
+}
+
+// The line's text: as it is where it's printable ASCII and in no highlighter's pieces, else character by character.
+fn push_text(
+    page: &mut Page,
+    sheet: &Sheet,
+    text: &[u8],
+    pieces: &[(usize, Style)],
+) -> Result<(), AllocError>
+    requires { sheet.now.line.start + length text.now < 2 ^ 64 }
+    ensures { OnOk result (page.new ≡ page.old ++ told (line_runs (map highlight_of pieces.now) (cells_from width_of sheet.now.options.tab_width false sheet.now.line.start 0 (characters text.now)))) }
+{
+    if pieces.is_empty() {
+        if let Some(plain) = printable(text) {
+            page.begin(PLAIN)?;
+            page.push_str(plain)?;
+            return Ok(());
+        }
+    }
+    let mut walk = Walk::new(text, sheet.line.start, sheet.options.tab_width);
+    push_line_text(page, &mut walk, pieces)?;
+    Ok(())
+}
+
+// The number row: ` 12 │ ╭─▶ the line's text`.
+fn push_number_row(
+    page: &mut Page,
+    sheet: &Sheet,
+    number: usize,
+    text: &[u8],
+    pieces: &[(usize, Style)],
+) -> Result<(), AllocError>
+    requires { sheet.now.line.start + length text.now < 2 ^ 64 }
+    ensures { OnOk result (page.new ≡ page.old ++ told_rows (number_row sheet.now number (cells_from width_of sheet.now.options.tab_width false sheet.now.line.start 0 (characters text.now)) (map highlight_of pieces.now) ∷ [])) }
+{
+    push_number_start(page, sheet, number)?;
+    push_number_gutter(page, sheet)?;
+    push_text(page, sheet, text, pieces)?;
+    page.end_row()?;
+    Ok(())
+}
+
+// The mark row and the rows of texts under it, where there is a mark.
+fn push_marked_rows(page: &mut Page, sheet: &Sheet, marks: &[Mark]) -> Result<(), AllocError>
+    requires { All (λ mark. mark.from < mark.until) marks.now }
+    ensures { OnOk result (page.new ≡ page.old ++ told_rows (before_each (before_marks sheet.now)
+        (marked_rows (settings sheet.now).width (settings sheet.now).characters (map (mark_of sheet.now.labels.now) marks.now)))) }
+{
+    if marks.is_empty() {
+        return Ok(());
+    }
+    push_before_marks(page, sheet)?;
+    push_marks(page, sheet, marks)?;
+    page.end_row()?;
+    push_texts(page, sheet, marks)?;
+    Ok(())
+}
+
+// The rows under a line's number row for the labels that lie on it alone.
+fn push_one_line_labels(
+    alloc: Global,
+    page: &mut Page,
+    sheet: &Sheet,
+    text: &[u8],
+    one: &[Placed],
+) -> Result<(), AllocError>
+    requires { sheet.now.line.start + length text.now < 2 ^ 64 }
+    ensures { OnOk result (page.new ≡ page.old ++ told_rows (before_each (before_marks sheet.now)
+        (marked_rows (settings sheet.now).width (settings sheet.now).characters (marks (text_of_cells (cells_from width_of sheet.now.options.tab_width false sheet.now.line.start 0 (characters text.now)) sheet.now.line.text_end) (map (drawn_of sheet.now.labels.now) one.now))))) }
+{
+    if one.is_empty() {
+        return Ok(());
+    }
+    let marks = marks_on(alloc, &sheet.line, text, sheet.options.tab_width, one)?;
+    push_marked_rows(page, sheet, &marks)?;
+    Ok(())
+}
+
+/// The rows of the sheet's line, which has this number and whose text has these bytes: the number row, the marks and texts of
+/// the labels that lie on it alone, and the texts of the labels of several lines that end there.
+///
+/// `one` are the labels that lie on the line alone, by offset; `pieces` are a highlighter's, each a length in bytes and a style.
+/// Columns past the largest `usize` are refused as want of memory.
+pub fn push_line_rows(
+    alloc: Global,
+    page: &mut Page,
+    sheet: &Sheet,
+    number: usize,
+    text: &[u8],
+    one: &[Placed],
+    pieces: &[(usize, Style)],
+) -> Result<(), AllocError>
+    requires { sheet.now.line.start + length text.now < 2 ^ 64 }
+    ensures { OnOk result (page.new ≡ page.old ++ told_rows (line_rows_of (settings sheet.now) sheet.now.number_width sheet.now.gutter (map (drawn_of sheet.now.labels.now) one.now) (multi_labels sheet.now)
+        (line_of_text sheet.now.line) number (cells_from width_of sheet.now.options.tab_width false sheet.now.line.start 0 (characters text.now)) (map highlight_of pieces.now))) }
+{
+    push_number_row(page, sheet, number, text, pieces)?;
+    push_one_line_labels(alloc, page, sheet, text, one)?;
+    push_closings(page, sheet)?;
+    Ok(())
+}

@@ -1,0 +1,12 @@
+//! What the layout is told beside a theme.
+
+/// How snippets are laid out.
+#[derive(Clone, Copy, Debug, PartialEq, Eq, Drop)]
+pub struct LayoutOptions {
+    /// A tab goes on to the next multiple of so many columns; at least 1.
+    pub tab_width: usize,
+    /// How many lines are shown before and after each label.
+    pub context_lines: usize,
+    /// Whether a frame shows where its primary label begins.
+    pub primary_start: bool,
+}

@@ -1,0 +1,251 @@
+//! Rows in the making: one text, with the places where runs begin and rows end.
+
+ghost use Rattle.std.specs.Prelude.{◌≡◌, ◌++◌, ◌∷◌, [], ℕ, List, replicate, decimal, chars, length, ◌-◌, encode_utf8, encode_utf8_all, string_bytes, OnOk, Some, None, Option};
+ghost use Rattle.miette_layout.specs.Seams.{first_mark};
+ghost use Rattle.miette_layout.specs.Told.{Token, begins, row_end, bytes_told, text_told, run_told};
+
+use itoa::Buffer;
+use miette_text::style::Style;
+use std::alloc::{AllocError, Global};
+use std::marker::Model;
+
+/// The style of a text that isn't styled.
+pub const PLAIN: Style = Style {
+    fg: None,
+    bold: false,
+    dimmed: false,
+    italic: false,
+    underline: false,
+};
+
+// Where a run in a style begins, or, without a style, where a row ends.
+#[derive(Clone, Copy, Debug, PartialEq, Eq, Drop)]
+struct Mark {
+    at: usize,
+    style: Option<Style>,
+}
+
+/// Rows of runs, each run a style and a text. All their text lies in one string.
+///
+/// A run is begun with its style and then gets its text; a row is ended behind its last run.
+/// Where memory is wanting, what the page holds is open: it's to be dropped.
+#[derive(Debug, Drop)]
+pub struct Page {
+    text: String,
+    marks: Vec<Mark>,
+}
+
+impl Model for Page {
+    ghost use Rattle.std.specs.Prelude.{List, string_bytes};
+    ghost use Rattle.miette_layout.specs.Told.{Token};
+    ghost use Rattle.miette_layout.specs.Pages.{tokens_from, AreMarks};
+
+    ghost Value = { List Token };
+
+    ghost view = { λ p. tokens_from 0 (string_bytes p.text) p.marks.items };
+
+    ghost invariant = { λ p. AreMarks 0 (string_bytes p.text) p.marks.items };
+}
+
+impl Page {
+    /// A page without rows.
+    pub fn new(alloc: Global) -> Self
+        ensures { result ≡ [] }
+    {
+        Page {
+            text: String::new(alloc),
+            marks: Vec::new(alloc),
+        }
+    }
+
+    /// Begins a run in a style.
+    pub fn begin(&mut self, style: Style) -> Result<(), AllocError>
+        ensures { OnOk result (self.new ≡ self.old ++ begins style ∷ []) }
+    {
+        let at = self.text.as_str().len();
+        self.marks.push(Mark {
+            at,
+            style: Some(style),
+        })?;
+        Ok(())
+    }
+
+    /// Ends a row.
+    pub fn end_row(&mut self) -> Result<(), AllocError>
+        ensures { OnOk result (self.new ≡ self.old ++ row_end ∷ []) }
+    {
+        let at = self.text.as_str().len();
+        self.marks.push(Mark { at, style: None })?;
+        Ok(())
+    }
+
+    /// Puts a character behind the run's text.
+    pub fn push(&mut self, character: char) -> Result<(), AllocError>
+        ensures { OnOk result (self.new ≡ self.old ++ bytes_told (encode_utf8 character)) }
+    {
+        self.text.push(character)?;
+        Ok(())
+    }
+
+    /// Puts a text behind the run's text.
+    pub fn push_str(&mut self, text: &str) -> Result<(), AllocError>
+        ensures bytes { OnOk result (self.new ≡ self.old ++ bytes_told text.now) }
+        ensures chars { OnOk result (self.new ≡ self.old ++ text_told (chars text.now)) }
+    {
+        self.text.push_str(text)?;
+        Ok(())
+    }
+
+    /// Puts copies of a character behind the run's text. Where the memory for them can't be had, none is put.
+    pub fn push_copies(&mut self, character: char, many: usize) -> Result<(), AllocError>
+        ensures { OnOk result (self.new ≡ self.old ++ text_told (replicate many character)) }
+    {
+        let Some(room) = many.checked_mul(character.len_utf8()) else {
+            return Err(AllocError);
+        };
+        self.text.reserve(room)?;
+        for i in 0..many {
+            let _count = i;
+            self.push(character)?;
+        }
+        Ok(())
+    }
+
+    /// A run of spaces: `····`.
+    pub fn push_blank(&mut self, many: usize) -> Result<(), AllocError>
+        ensures { OnOk result (self.new ≡ self.old ++ run_told PLAIN (replicate many 32)) }
+    {
+        self.begin(PLAIN)?;
+        self.push_copies(' ', many)?;
+        Ok(())
+    }
+
+    /// A run of a character and copies of another: `╰────`.
+    pub fn push_line(
+        &mut self,
+        style: Style,
+        first: char,
+        bar: char,
+        many: usize,
+    ) -> Result<(), AllocError>
+        ensures { OnOk result (self.new ≡ self.old ++ run_told style (first ∷ replicate many bar)) }
+    {
+        self.begin(style)?;
+        self.push(first)?;
+        self.push_copies(bar, many)?;
+        Ok(())
+    }
+
+    /// Puts characters behind the run's text.
+    pub fn push_chars(&mut self, characters: &[char]) -> Result<(), AllocError>
+        ensures { OnOk result (self.new ≡ self.old ++ text_told characters.now) }
+    {
+        for character in characters {
+            self.push(*character)?;
+        }
+        Ok(())
+    }
+
+    /// Puts a number behind the run's text, its digits behind the spaces that fill so many columns: `  12`.
+    pub fn push_right(&mut self, number: usize, columns: usize) -> Result<(), AllocError>
+        ensures { OnOk result (self.new ≡ self.old ++ text_told (replicate (columns - length (decimal number)) 32 ++ decimal number)) }
+    {
+        let mut buffer = Buffer::new();
+        let digits = buffer.format(number);
+        self.push_copies(' ', columns.saturating_sub(digits.len()))?;
+        self.push_str(digits)?;
+        Ok(())
+    }
+
+    /// Puts a number behind the run's text, in decimal digits.
+    pub fn push_number(&mut self, number: usize) -> Result<(), AllocError>
+        ensures { OnOk result (self.new ≡ self.old ++ text_told (decimal number)) }
+    {
+        let mut digits = Buffer::new();
+        self.push_str(digits.format(number))?;
+        Ok(())
+    }
+
+    /// The page's parts, in order.
+    pub fn parts(&self) -> Parts<'_>
+        ensures { result ≡ self.now }
+    {
+        Parts {
+            text: self.text.as_str(),
+            marks: self.marks.as_slice(),
+            at: 0,
+        }
+    }
+}
+
+/// A part of a page.
+#[derive(Clone, Copy, Debug)]
+pub enum Part<'a> {
+    /// A run: its style, and its text.
+    Run(Style, &'a str),
+    /// A text for which no run was begun.
+    Loose(&'a str),
+    /// The end of a row.
+    RowEnd,
+}
+
+/// The parts of a page that are left.
+#[derive(Drop)]
+pub struct Parts<'a> {
+    text: &'a str,
+    marks: &'a [Mark],
+    at: usize,
+}
+
+impl<'a> Model for Parts<'a> {
+    ghost use Rattle.std.specs.Prelude.{List};
+    ghost use Rattle.miette_layout.specs.Told.{Token};
+    ghost use Rattle.miette_layout.specs.Pages.{tokens_from, AreMarks};
+
+    ghost Value = { List Token };
+
+    ghost view = { λ p. tokens_from p.at p.text.now p.marks.now };
+
+    ghost invariant = { λ p. AreMarks p.at p.text.now p.marks.now };
+}
+
+// Where the first of these marks stands, or where the text ends.
+fn first_place(text: &str, marks: &[Mark]) -> usize
+    ensures { result ≡ first_mark text.now marks.now }
+{
+    match marks.first() {
+        Some(mark) => mark.at,
+        None => text.len(),
+    }
+}
+
+impl<'a> Parts<'a> {
+    ghost use Rattle.std.specs.Prelude.{◌≡◌, ◌<◌, ◌++◌, [], length, IfSome, IsSome, MatchOption};
+    ghost use Rattle.miette_layout.specs.PageParts.{part_told, EndsBefore};
+
+    /// The next part, if there is one.
+    pub fn next(&mut self) -> Option<Part<'a>>
+        ensures parts { MatchOption result ((self.old ≡ []) × (self.new ≡ [])) (λ part. self.old ≡ part_told part ++ self.new) }
+        ensures whole { IfSome result (λ part. EndsBefore part self.new) }
+        ensures shorter { IsSome result → length self.new < length self.old }
+    {
+        let end = first_place(self.text, self.marks);
+        if self.at < end {
+            let text = &self.text[self.at..end];
+            self.at = end;
+            return Some(Part::Loose(text));
+        }
+        if self.marks.is_empty() {
+            return None;
+        }
+        let mark = self.marks[0];
+        self.marks = &self.marks[1..];
+        let Some(style) = mark.style else {
+            return Some(Part::RowEnd);
+        };
+        let end = first_place(self.text, self.marks);
+        let text = &self.text[self.at..end];
+        self.at = end;
+        Some(Part::Run(style, text))
+    }
+}

@@ -1,0 +1,82 @@
+//! Where a snippet's frame points to.
+
+ghost use Rattle.std.specs.Prelude.{◌≡◌, ℕ, List, None, IfOk};
+ghost use Rattle.miette_layout.specs.Primary.{chosen, PointsTo};
+
+use crate::grouping::end_of;
+use crate::reading::ReadLabel;
+use miette_protocol::protocol::SourceSpan;
+use miette_protocol::source::SourceCode;
+use std::alloc::AllocError;
+
+/// Where a snippet's primary label begins.
+#[derive(Clone, Copy, Debug, PartialEq, Eq)]
+pub enum Place {
+    /// No label lies within the snippet's span.
+    Nowhere,
+    /// The line and the column, both counted from 0.
+    At(usize, usize),
+    /// The read of it failed.
+    Unread,
+}
+
+impl Place {
+    ghost use Rattle.miette_layout.specs.Primary.{begins_of, is_unread};
+
+    /// The line and the column, where there are any.
+    pub fn begins(self) -> Option<(usize, usize)>
+        ensures { result ≡ begins_of self }
+    {
+        match self {
+            Place::At(line, column) => Some((line, column)),
+            Place::Nowhere | Place::Unread => None,
+        }
+    }
+
+    /// Whether the read failed.
+    pub fn is_unread(self) -> bool
+        ensures { result ≡ is_unread self }
+    {
+        match self {
+            Place::Unread => true,
+            Place::Nowhere | Place::At(_, _) => false,
+        }
+    }
+}
+
+// The first label within a span that is marked as primary, else the first one within it.
+fn primary(span: &SourceSpan, reads: &[ReadLabel<'_>]) -> Result<Option<SourceSpan>, AllocError>
+    ensures { IfOk result (λ r. r ≡ chosen span.now None reads.now) }
+{
+    let start = span.offset();
+    let end = end_of(span)?;
+    let mut first = None;
+    for read in reads {
+        if start <= read.span.offset() && end_of(&read.span)? <= end {
+            if read.primary {
+                return Ok(Some(read.span));
+            }
+            if first.is_none() {
+                first = Some(read.span);
+            }
+        }
+    }
+    Ok(first)
+}
+
+/// Where the primary label of a snippet with this span begins, by a read without context.
+pub fn place_of<S: SourceCode>(
+    source: &S,
+    span: &SourceSpan,
+    reads: &[ReadLabel<'_>],
+) -> Result<Place, AllocError>
+    ensures { IfOk result (λ place. PointsTo (S.source source.now) (chosen span.now None reads.now) place) }
+{
+    let Some(label) = primary(span, reads)? else {
+        return Ok(Place::Nowhere);
+    };
+    match source.read_span(&label, 0, 0) {
+        Ok(contents) => Ok(Place::At(contents.line(), contents.column())),
+        Err(_) => Ok(Place::Unread),
+    }
+}

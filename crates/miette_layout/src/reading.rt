@@ -1,0 +1,75 @@
+//! Each label read with its context.
+
+ghost use Rattle.std.specs.Prelude.{◌≡◌, ◌<◌, ℕ, List, map, length, IfOk};
+ghost use Rattle.std.specs.List.{All};
+ghost use Rattle.miette_layout.specs.Given.{label_at};
+ghost use Rattle.miette_layout.specs.Read.{AreRead, Reason};
+
+use crate::order::Turn;
+use miette_protocol::error::MietteError;
+use miette_protocol::protocol::{LabeledSpan, SourceSpan};
+use miette_protocol::source::{MietteSpanContents, SourceCode};
+use std::alloc::{AllocError, Global};
+
+/// A label that was read: its number in the list as given, its span, whether it is marked as primary, and what the read lent.
+#[derive(Debug, Drop)]
+pub struct ReadLabel<'a> {
+    pub index: usize,
+    pub span: SourceSpan,
+    pub primary: bool,
+    pub contents: MietteSpanContents<'a>,
+}
+
+/// Why a label is refused.
+#[derive(Clone, Copy, Debug, PartialEq, Eq)]
+pub enum Refusal {
+    /// Its read failed.
+    IoError,
+    /// Its span isn't accepted.
+    OutOfBounds,
+}
+
+/// What the reads of all labels gave.
+#[derive(Debug, Drop)]
+pub enum ReadLabels<'a> {
+    /// All labels, in the order of their reads.
+    All(Vec<ReadLabel<'a>>),
+    /// The first one that is refused, by its number in the list as given.
+    Refused(usize, Refusal),
+}
+
+fn reason_of(error: &MietteError) -> Refusal
+    ensures { Reason error.now result }
+{
+    match error {
+        MietteError::IoError(_) => Refusal::IoError,
+        MietteError::OutOfBounds => Refusal::OutOfBounds,
+    }
+}
+
+/// Reads the labels in this order, each with so many lines of context, up to the first one that is refused.
+pub fn read_labels<'a, S: SourceCode>(
+    alloc: Global,
+    source: &'a S,
+    context: usize,
+    labels: &[LabeledSpan],
+    order: &[Turn],
+) -> Result<ReadLabels<'a>, AllocError>
+    requires { All (λ turn. turn.index < length labels.now) order.now }
+    ensures { IfOk result (λ read. AreRead context (S.source source.now) labels.now (map (λ turn. label_at labels.now turn.index) order.now) read) }
+{
+    let mut reads = Vec::new(alloc);
+    for turn in order {
+        let label = &labels[turn.index];
+        match source.read_span(label.inner(), context, context) {
+            Ok(contents) => reads.push(ReadLabel {
+                index: turn.index,
+                span: *label.inner(),
+                primary: label.primary(),
+                contents,
+            })?,
+            Err(error) => return Ok(ReadLabels::Refused(turn.index, reason_of(&error))),
+        }
+    }
+    Ok(ReadLabels::All(reads))
+}

@@ -1,0 +1,126 @@
+//! The rows of a diagnostic's snippets.
+
+ghost use Rattle.std.specs.Prelude.{◌≡◌, List, Some, map, IfOk, MatchResult};
+ghost use Rattle.std.specs.List.{All};
+ghost use Rattle.miette_layout.specs.Drawn.{MayGive, RefusesWith};
+ghost use Rattle.miette_layout.specs.Given.{settings_of, label_at};
+ghost use Rattle.miette_layout.specs.Groups.{in_order};
+ghost use Rattle.miette_layout.specs.Read.{IsRead, name_of as name_of_reason};
+
+use crate::drawn_labels::placed;
+use crate::frame::{Frame, push_refused_row};
+use crate::grouping::groups;
+use crate::options::LayoutOptions;
+use crate::order::by_offset;
+use crate::page::Page;
+use crate::primary::place_of;
+use crate::reading::{ReadLabel, ReadLabels, Refusal, read_labels};
+use crate::snippet::push_snippet;
+use crate::sweep::Sweep;
+use miette_protocol::error::RenderError;
+use miette_protocol::protocol::LabeledSpan;
+use miette_protocol::source::SourceCode;
+use miette_text::theme::GraphicalTheme;
+use std::alloc::{AllocError, Global};
+
+#[cfg(test)]
+mod tests;
+
+// The bare name of a reason.
+fn name_of(refusal: Refusal) -> &'static str
+    ensures { result.now ≡ name_of_reason refusal }
+{
+    match refusal {
+        Refusal::IoError => "IoError",
+        Refusal::OutOfBounds => "OutOfBounds",
+    }
+}
+
+// The snippets of labels that were read, or none where the read of some place failed.
+fn read_snippets<'a, 'b, S: SourceCode>(
+    alloc: Global,
+    theme: &'b GraphicalTheme,
+    options: &LayoutOptions,
+    source: &'a S,
+    labels: &'b [LabeledSpan],
+    reads: &[ReadLabel<'a>],
+) -> Result<Option<Page>, AllocError>
+    requires order { map (λ read. label_at labels.now read.index) reads.now ≡ in_order labels.now }
+    requires each { All (IsRead options.now.context_lines (S.source source.now) labels.now) reads.now }
+    ensures { IfOk result (λ page. MayGive (settings_of theme.now options.now) (S.source source.now) labels.now page) }
+{
+    let placed = placed(alloc, &theme.styles.highlights, labels, reads)?;
+    let groups = groups(alloc, source, options.context_lines, reads)?;
+    let mut page = Page::new(alloc);
+    let mut sweep = Sweep {
+        running: Vec::new(alloc),
+        next: 0,
+    };
+    let mut at = 0;
+    for group in &groups {
+        let place = place_of(source, &group.span, reads)?;
+        if place.is_unread() {
+            return Ok(None);
+        }
+        at = push_snippet(
+            alloc,
+            &mut page,
+            theme,
+            options,
+            labels,
+            &placed,
+            &group.contents,
+            place.begins(),
+            at,
+            &mut sweep,
+        )?;
+    }
+    Ok(Some(page))
+}
+
+// All snippets, or the one row of a label that is refused; none where the read of some place failed.
+fn all_snippets<'b, S: SourceCode>(
+    alloc: Global,
+    theme: &'b GraphicalTheme,
+    options: &LayoutOptions,
+    source: &S,
+    labels: &'b [LabeledSpan],
+) -> Result<Option<Page>, AllocError>
+    ensures { IfOk result (λ page. MayGive (settings_of theme.now options.now) (S.source source.now) labels.now page) }
+{
+    let order = by_offset(alloc, labels)?;
+    match read_labels(alloc, source, options.context_lines, labels, &order)? {
+        ReadLabels::All(reads) => { read_snippets(alloc, theme, options, source, labels, &reads) }
+        ReadLabels::Refused(index, refusal) => {
+            let frame = Frame {
+                theme,
+                options: *options,
+                number_width: 0,
+            };
+            let mut page = Page::new(alloc);
+            push_refused_row(&mut page, &frame, &labels[index], name_of(refusal))?;
+            Ok(Some(page))
+        }
+    }
+}
+
+/// The rows of a diagnostic's snippets, whose labels are given over its source: frames, numbered lines, marks and the labels' texts; or
+/// the one row of the first label that is refused. Fails with `Refused` where a label's place can't be read, which a source that always
+/// reads never does, and with `Memory` where memory is refused.
+pub fn snippets<'b, S: SourceCode>(
+    alloc: Global,
+    theme: &'b GraphicalTheme,
+    options: &LayoutOptions,
+    source: &S,
+    labels: &'b [LabeledSpan],
+) -> Result<Page, RenderError>
+    ensures { MatchResult result
+        (λ page. MayGive (settings_of theme.now options.now) (S.source source.now) labels.now (Some page))
+        (λ e. RefusesWith (settings_of theme.now options.now) (S.source source.now) labels.now e) }
+{
+    match all_snippets(alloc, theme, options, source, labels) {
+        Ok(Some(page)) => Ok(page),
+        Ok(None) => Err(RenderError::Refused),
+        Err(_) => Err(RenderError::Memory),
+    }
+}

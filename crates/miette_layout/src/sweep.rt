@@ -1,0 +1,106 @@
+//! Which labels lie on a line, by one sweep over labels that come by offset.
+
+ghost use Rattle.std.specs.Prelude.{◌≡◌, ◌<◌, ◌≤◌, nat_lt, ℕ, List, length, take, OnOk, IfOk};
+ghost use Rattle.std.specs.List.{filter};
+ghost use Rattle.miette_layout.specs.Sweeping.{label_of, passes, ends_by, is_one, is_multi, IsAt, AreSorted, line_of_bounds};
+
+use miette_text::style::Style;
+use std::alloc::{AllocError, Global};
+
+/// A label up to its drawn end, with its style, whether it has a text, and which label it is.
+#[derive(Clone, Copy, Debug, PartialEq, Eq, Drop)]
+pub struct Placed {
+    pub start: usize,
+    pub after: usize,
+    pub style: Style,
+    pub has_text: bool,
+    pub index: usize,
+}
+
+/// Where a line begins, and where it ends with its terminator.
+#[derive(Clone, Copy, Debug, PartialEq, Eq, Drop)]
+pub struct Bounds {
+    pub start: usize,
+    pub after: usize,
+}
+
+/// The labels that began before a place and go on past it, and how many began before it.
+#[derive(Debug, Drop)]
+pub struct Sweep {
+    pub running: Vec<Placed>,
+    pub next: usize,
+}
+
+/// The labels that lie on a line alone, and those of several lines that lie on it.
+#[derive(Debug, Drop)]
+pub struct OnLine {
+    pub one: Vec<Placed>,
+    pub multi: Vec<Placed>,
+}
+
+// Whether a label goes on past a place.
+fn goes_past(label: &Placed, place: usize) -> bool
+    ensures { result ≡ passes place label.now }
+{
+    if label.start == label.after {
+        label.start >= place
+    } else {
+        label.after > place
+    }
+}
+
+// The labels that go on past a place.
+fn carried(alloc: Global, running: &[Placed], place: usize) -> Result<Vec<Placed>, AllocError>
+    ensures { IfOk result (λ still. still.items ≡ filter (passes place) running.now) }
+{
+    let mut still = Vec::new(alloc);
+    for label in running {
+        if goes_past(label, place) {
+            still.push(*label)?;
+        }
+    }
+    Ok(still)
+}
+
+fn copied(alloc: Global, labels: &[Placed]) -> Result<Vec<Placed>, AllocError>
+    ensures { IfOk result (λ copy. copy.items ≡ labels.now) }
+{
+    let mut copy = Vec::new(alloc);
+    for label in labels {
+        copy.push(*label)?;
+    }
+    Ok(copy)
+}
+
+/// Goes on to the end of the next line, and answers which labels lie on it.
+pub fn advance(
+    alloc: Global,
+    labels: &[Placed],
+    line: &Bounds,
+    sweep: &mut Sweep,
+) -> Result<OnLine, AllocError>
+    requires sorted { AreSorted labels.now }
+    requires some { line.now.start < line.now.after }
+    requires at { IsAt labels.now line.now.start sweep.old.next sweep.old.running.items }
+    ensures one { IfOk result (λ on. on.one.items ≡ filter (is_one (line_of_bounds line.now)) labels.now) }
+    ensures multi { IfOk result (λ on. on.multi.items ≡ filter (is_multi (line_of_bounds line.now)) labels.now) }
+    ensures at { OnOk result (IsAt labels.now line.now.after sweep.new.next sweep.new.running.items) }
+{
+    let mut one = Vec::new(alloc);
+    let mut multi = copied(alloc, &sweep.running)?;
+    let mut still = carried(alloc, &sweep.running, line.after)?;
+    let mut next = sweep.next;
+    while next < labels.len() && labels[next].start < line.after {
+        let label = labels[next];
+        if goes_past(&label, line.after) {
+            multi.push(label)?;
+            still.push(label)?;
+        } else {
+            one.push(label)?;
+        }
+        next += 1;
+    }
+    sweep.running = still;
+    sweep.next = next;
+    Ok(OnLine { one, multi })
+}

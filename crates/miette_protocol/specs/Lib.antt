@@ -1,0 +1,11 @@
+pub mod Lines
+pub mod Reading
+pub mod Context
+pub mod Outcome
+pub mod Named
+pub mod Index
+pub mod Texts
+pub mod Meaning
+pub mod Diagnostic
+pub mod Location
+pub mod Cutting

@@ -1,0 +1,164 @@
+//! What a read lends and says.
+
+ghost use Rattle.std.specs.Prelude.{◌≡◌, Some, None};
+ghost use Rattle.std.specs.Option.{option_copied};
+
+use crate::protocol::SourceSpan;
+use std::marker::Model;
+
+/// What a read lends and says: the bytes, where they stand in the source, and whose they are. Nothing in
+/// it is a copy. It stands for the trait `SpanContents` of the original crate too.
+#[derive(Clone, Debug, Drop)]
+pub struct MietteSpanContents<'a> {
+    bytes: &'a [u8],
+    span: SourceSpan,
+    line: usize,
+    column: usize,
+    line_count: usize,
+    name: Option<&'a str>,
+    language: Option<&'a str>,
+}
+
+impl<'a> Model for MietteSpanContents<'a> {
+    ghost use Rattle.std.specs.Option.{option_map};
+    ghost use Rattle.miette_protocol.specs.Reading.{Contents};
+
+    ghost Value = { Contents };
+
+    ghost view = { λ it. record {
+      bytes = it.bytes.now;
+      span = it.span;
+      line = it.line;
+      column = it.column;
+      line_count = it.line_count;
+      name = option_map (λ t. t.now) it.name;
+      language = option_map (λ t. t.now) it.language;
+    } };
+}
+
+impl<'a> MietteSpanContents<'a> {
+    /// Contents of a source without a name: its bytes, their span in it, the zero-based line and column at
+    /// which they begin, and how many line terminators they hold.
+    pub fn new(
+        data: &'a [u8],
+        span: SourceSpan,
+        line: usize,
+        column: usize,
+        line_count: usize,
+    ) -> Self
+        ensures { result ≡ record {
+          bytes = «data».now;
+          span = span;
+          line = line;
+          column = column;
+          line_count = line_count;
+          name = None;
+          language = None;
+        } }
+    {
+        MietteSpanContents {
+            bytes: data,
+            span,
+            line,
+            column,
+            line_count,
+            name: None,
+            language: None,
+        }
+    }
+
+    /// The same for a source with a name.
+    pub fn new_named(
+        name: &'a str,
+        data: &'a [u8],
+        span: SourceSpan,
+        line: usize,
+        column: usize,
+        line_count: usize,
+    ) -> Self
+        ensures { result ≡ record {
+          bytes = «data».now;
+          span = span;
+          line = line;
+          column = column;
+          line_count = line_count;
+          name = Some name.now;
+          language = None;
+        } }
+    {
+        MietteSpanContents {
+            bytes: data,
+            span,
+            line,
+            column,
+            line_count,
+            name: Some(name),
+            language: None,
+        }
+    }
+
+    /// The same contents with the language of the source, as a highlighter knows it, in place of any before.
+    pub fn with_language(self, language: &'a str) -> Self
+        ensures { result ≡ record self.entry { language = Some language.now } }
+    {
+        MietteSpanContents {
+            bytes: self.bytes,
+            span: self.span,
+            line: self.line,
+            column: self.column,
+            line_count: self.line_count,
+            name: self.name,
+            language: Some(language),
+        }
+    }
+
+    /// The bytes that were read, context lines included.
+    pub fn data(&self) -> &'a [u8]
+        ensures { result.now ≡ self.now.bytes }
+    {
+        self.bytes
+    }
+
+    /// Where those bytes stand in the source.
+    pub fn span(&self) -> &SourceSpan
+        ensures { result.now ≡ self.now.span }
+    {
+        &self.span
+    }
+
+    /// The name of the source, if it has one.
+    pub fn name(&self) -> Option<&'a str>
+        ensures { option_copied result ≡ self.now.name }
+    {
+        self.name
+    }
+
+    /// The zero-based number of the line at which the bytes begin.
+    pub fn line(&self) -> usize
+        ensures { result ≡ self.now.line }
+    {
+        self.line
+    }
+
+    /// The zero-based column, in bytes of text, at which the bytes begin in that line.
+    pub fn column(&self) -> usize
+        ensures { result ≡ self.now.column }
+    {
+        self.column
+    }
+
+    /// How many line terminators have their last byte in the bytes. The code of the original crate counts
+    /// them from the start of the source, against its documentation.
+    pub fn line_count(&self) -> usize
+        ensures { result ≡ self.now.line_count }
+    {
+        self.line_count
+    }
+
+    /// The language of the source, if it is known.
+    pub fn language(&self) -> Option<&'a str>
+        ensures { option_copied result ≡ self.now.language }
+    {
+        self.language
+    }
+}

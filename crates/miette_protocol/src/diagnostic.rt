@@ -1,0 +1,334 @@
+//! A diagnostic that is plain data, as in the crate miette 7.6.0.
+
+ghost use Rattle.std.specs.Prelude.{◌≡◌, ◌↔◌, [], ◌∷◌, IfOk, IsTrue, Some, None};
+ghost use Rattle.miette_protocol.specs.Diagnostic.{meaning_of};
+
+use crate::protocol::{Diagnostic, LabeledSpan, Severity};
+use serde::{Deserialize, Serialize};
+use std::alloc::{AllocError, Global};
+use std::fmt;
+
+/// A diagnostic that is plain data, made by builders or by its fields. `with_` replaces what was
+/// there, `and_` appends to it. A builder that is refused memory drops the value.
+#[derive(Debug, Drop, PartialEq, Eq, Serialize, Deserialize)]
+pub struct MietteDiagnostic {
+    /// The message.
+    pub message: String,
+    /// A code by which the kind of error can be looked up.
+    #[serde(skip_serializing_if = "Option::is_none")]
+    pub code: Option<String>,
+    /// How grave it is.
+    #[serde(skip_serializing_if = "Option::is_none")]
+    pub severity: Option<Severity>,
+    /// What may help.
+    #[serde(skip_serializing_if = "Option::is_none")]
+    pub help: Option<String>,
+    /// Where more is written about it.
+    #[serde(skip_serializing_if = "Option::is_none")]
+    pub url: Option<String>,
+    /// The places of the source that it speaks of.
+    #[serde(skip_serializing_if = "Option::is_none")]
+    pub labels: Option<Vec<LabeledSpan>>,
+}
+
+/// Two diagnostics are equal where they mean the same.
+pub fn diagnostic_equality_law()
+    ensures { (a b : MietteDiagnostic)
+        → IsTrue (⟦<MietteDiagnostic as PartialEq>⟧.eq a b) ↔ (meaning_of a ≡ meaning_of b) }
+{}
+
+impl MietteDiagnostic {
+    ghost use Rattle.miette_protocol.specs.Diagnostic.{meaning_of, message_alone, appended};
+
+    /// A diagnostic with a copy of a message, and nothing else.
+    ///
+    /// # Errors
+    /// `AllocError` where memory for the copy is refused.
+    pub fn new(alloc: Global, message: &str) -> Result<Self, AllocError>
+        ensures { IfOk result (λ it. meaning_of it ≡ message_alone message.now) }
+    {
+        Ok(MietteDiagnostic {
+            message: String::from_str(alloc, message)?,
+            code: None,
+            severity: None,
+            help: None,
+            url: None,
+            labels: None,
+        })
+    }
+
+    /// With a copy of a code in place of the one that was there.
+    ///
+    /// # Errors
+    /// `AllocError` where memory for the copy is refused; the value is dropped.
+    pub fn with_code(self, alloc: Global, code: &str) -> Result<Self, AllocError>
+        ensures { IfOk result (λ it. meaning_of it ≡ record (meaning_of self) { code = Some code.now }) }
+    {
+        let code = Some(String::from_str(alloc, code)?);
+        Ok(MietteDiagnostic { code, ..self })
+    }
+
+    /// With a severity in place of the one that was there. Takes no memory.
+    pub fn with_severity(self, severity: Severity) -> Self
+        ensures { meaning_of result ≡ record (meaning_of self) { severity = Some severity } }
+    {
+        MietteDiagnostic {
+            severity: Some(severity),
+            ..self
+        }
+    }
+
+    /// With a copy of a help text in place of the one that was there.
+    ///
+    /// # Errors
+    /// `AllocError` where memory for the copy is refused; the value is dropped.
+    pub fn with_help(self, alloc: Global, help: &str) -> Result<Self, AllocError>
+        ensures { IfOk result (λ it. meaning_of it ≡ record (meaning_of self) { help = Some help.now }) }
+    {
+        let help = Some(String::from_str(alloc, help)?);
+        Ok(MietteDiagnostic { help, ..self })
+    }
+
+    /// With a copy of a url in place of the one that was there.
+    ///
+    /// # Errors
+    /// `AllocError` where memory for the copy is refused; the value is dropped.
+    pub fn with_url(self, alloc: Global, url: &str) -> Result<Self, AllocError>
+        ensures { IfOk result (λ it. meaning_of it ≡ record (meaning_of self) { url = Some url.now }) }
+    {
+        let url = Some(String::from_str(alloc, url)?);
+        Ok(MietteDiagnostic { url, ..self })
+    }
+
+    /// With one label in place of all that were there.
+    ///
+    /// # Errors
+    /// `AllocError` where memory for the list is refused; the value is dropped.
+    pub fn with_label(self, alloc: Global, label: LabeledSpan) -> Result<Self, AllocError>
+        ensures { IfOk result (λ it. meaning_of it ≡ record (meaning_of self) {
+          labels = Some (label ∷ []);
+        }) }
+    {
+        let one = vec![in alloc; label]?;
+        Ok(self.with_labels(one))
+    }
+
+    /// With these labels in place of all that were there. Takes no memory.
+    pub fn with_labels(self, labels: Vec<LabeledSpan>) -> Self
+        ensures { meaning_of result ≡ record (meaning_of self) { labels = Some labels.items } }
+    {
+        MietteDiagnostic {
+            labels: Some(labels),
+            ..self
+        }
+    }
+
+    /// With one label after those that were there.
+    ///
+    /// # Errors
+    /// `AllocError` where memory for the list is refused; the value is dropped.
+    pub fn and_label(mut self, alloc: Global, label: LabeledSpan) -> Result<Self, AllocError>
+        ensures { IfOk result (λ it. meaning_of it ≡ record (meaning_of self) {
+          labels = appended (meaning_of self).labels (label ∷ []);
+        }) }
+    {
+        let mut labels = self.labels.take().unwrap_or(Vec::new(alloc));
+        labels.push(label)?;
+        Ok(self.with_labels(labels))
+    }
+
+    /// With these labels after those that were there.
+    ///
+    /// # Errors
+    /// `AllocError` where memory for the list is refused; the value is dropped.
+    pub fn and_labels(
+        mut self,
+        alloc: Global,
+        mut more: Vec<LabeledSpan>,
+    ) -> Result<Self, AllocError>
+        ensures { IfOk result (λ it. meaning_of it ≡ record (meaning_of self) {
+          labels = appended (meaning_of self).labels more.items;
+        }) }
+    {
+        let mut labels = self.labels.take().unwrap_or(Vec::new(alloc));
+        labels.append(&mut more)?;
+        Ok(self.with_labels(labels))
+    }
+}
+
+/// A clone means what its source does; `AllocError` where memory is refused.
+impl Clone for MietteDiagnostic {
+    ghost use Rattle.std.specs.Prelude.{◌≡◌};
+    ghost use Rattle.miette_protocol.specs.Diagnostic.{meaning_of};
+
+    ghost is_clone = { λ it made. meaning_of made ≡ meaning_of it };
+
+    fn clone(&self) -> Result<MietteDiagnostic, AllocError> {
+        Ok(MietteDiagnostic {
+            message: self.message.clone()?,
+            code: self.code.clone()?,
+            severity: self.severity,
+            help: self.help.clone()?,
+            url: self.url.clone()?,
+            labels: self.labels.clone()?,
+        })
+    }
+}
+
+/// Prints the message.
+impl fmt::Display for MietteDiagnostic {
+    ghost use Rattle.std.specs.Prelude.{Some, string_bytes};
+
+    ghost output = { λ it. Some (string_bytes it.message) };
+
+    fn fmt<W: fmt::Write>(&self, f: &mut fmt::Formatter<W>) -> fmt::Result {
+        f.write_str(self.message())
+    }
+}
+
+impl Diagnostic for MietteDiagnostic {
+    ghost use Rattle.miette_protocol.specs.Diagnostic.{meaning_of};
+
+    ghost meaning = { meaning_of };
+
+    fn message(&self) -> &str {
+        self.message.as_str()
+    }
+
+    fn code(&self) -> Option<&str> {
+        match &self.code {
+            Some(text) => Some(text.as_str()),
+            None => None,
+        }
+    }
+
+    fn severity(&self) -> Option<Severity> {
+        self.severity
+    }
+
+    fn help(&self) -> Option<&str> {
+        match &self.help {
+            Some(text) => Some(text.as_str()),
+            None => None,
+        }
+    }
+
+    fn url(&self) -> Option<&str> {
+        match &self.url {
+            Some(text) => Some(text.as_str()),
+            None => None,
+        }
+    }
+
+    fn labels(&self) -> Option<&[LabeledSpan]> {
+        match &self.labels {
+            Some(labels) => Some(labels.as_slice()),
+            None => None,
+        }
+    }
+}
+
+#[cfg(test)]
+mod tests {
+    use super::*;
+    use crate::protocol::{SourceOffset, SourceSpan};
+    use std::alloc::Global;
+    use std::test::Fail;
+
+    fn labels(alloc: Global, from: usize) -> Result<Vec<LabeledSpan>, AllocError> {
+        Ok(vec![in alloc;
+            LabeledSpan::underline(from),
+            LabeledSpan::underline(from.saturating_add(1)),
+        ]?)
+    }
+
+    #[test]
+    fn builders(rt: HostRuntime) -> Result<(), Fail> {
+        let alloc = rt.alloc();
+        let made = MietteDiagnostic::new(alloc, "m")?
+            .with_code(alloc, "a::b")?
+            .with_severity(Severity::Warning)
+            .with_help(alloc, "h")?
+            .with_url(alloc, "u")?
+            .with_label(alloc, LabeledSpan::underline(0))?
+            .and_label(alloc, LabeledSpan::underline(1))?
+            .and_labels(alloc, labels(alloc, 2)?)?;
+        assert_eq!(rt; made.message(), "m");
+        assert_eq!(rt; made.code(), Some("a::b"));
+        assert_eq!(rt; made.severity(), Some(Severity::Warning));
+        assert_eq!(rt; made.help(), Some("h"));
+        assert_eq!(rt; made.url(), Some("u"));
+        let found = made.labels().ok_or("no labels")?;
+        assert_eq!(rt; found.len(), 4);
+        assert_eq!(rt; found[3].offset(), 3);
+        assert_eq!(rt; format!(in alloc; "{made}")?.as_str(), "m");
+        assert!(rt; made.clone()? == made);
+        let made = made.with_labels(labels(alloc, 8)?);
+        let found = made.labels().ok_or("no labels")?;
+        assert_eq!(rt; found.len(), 2);
+        Ok(())
+    }
+
+    #[test]
+    fn severities(rt: HostRuntime) {
+        assert!(rt; Severity::Advice < Severity::Warning);
+        assert!(rt; Severity::Warning < Severity::Error);
+        assert!(rt; Severity::default() == Severity::Error);
+    }
+
+    #[test]
+    fn json_of_parts(rt: HostRuntime) -> Result<(), Fail> {
+        let alloc = rt.alloc();
+        let text = serde_json::to_string(alloc, &Severity::Advice)?;
+        assert_eq!(rt; text.as_str(), "\"Advice\"");
+        let severity: Severity = serde_json::from_str(alloc, text.as_str())?;
+        assert!(rt; severity == Severity::Advice);
+        let text = serde_json::to_string(alloc, &SourceOffset::from(0))?;
+        assert_eq!(rt; text.as_str(), "0");
+        let offset: SourceOffset = serde_json::from_str(alloc, text.as_str())?;
+        assert!(rt; offset == SourceOffset::from(0));
+        let span = SourceSpan::from((3, 4));
+        let text = serde_json::to_string(alloc, &span)?;
+        assert_eq!(rt; text.as_str(), r#"{"offset":3,"length":4}"#);
+        let read: SourceSpan = serde_json::from_str(alloc, text.as_str())?;
+        assert!(rt; read == span);
+        Ok(())
+    }
+
+    #[test]
+    fn json_of_a_label(rt: HostRuntime) -> Result<(), Fail> {
+        let alloc = rt.alloc();
+        let label = LabeledSpan::new(None, 0, 0);
+        let text = serde_json::to_string(alloc, &label)?;
+        assert_eq!(rt;
+            text.as_str(),
+            r#"{"span":{"offset":0,"length":0},"primary":false}"#
+        );
+        let read: LabeledSpan = serde_json::from_str(alloc, text.as_str())?;
+        assert!(rt; read == label);
+        let null = r#"{"label":null,"span":{"offset":0,"length":0},"primary":false}"#;
+        let read: LabeledSpan = serde_json::from_str(alloc, null)?;
+        assert!(rt; read == label);
+        Ok(())
+    }
+
+    #[test]
+    fn json_of_a_diagnostic(rt: HostRuntime) -> Result<(), Fail> {
+        let alloc = rt.alloc();
+        let made = MietteDiagnostic::new(alloc, "message")?;
+        let text = serde_json::to_string(alloc, &made)?;
+        assert_eq!(rt; text.as_str(), r#"{"message":"message"}"#);
+        let read: MietteDiagnostic = serde_json::from_str(alloc, text.as_str())?;
+        assert!(rt; read == made);
+        let null = r#"{"message":"message","code":null,"labels":null}"#;
+        let read: MietteDiagnostic = serde_json::from_str(alloc, null)?;
+        assert!(rt; read == made);
+        let full = made
+            .with_code(alloc, "c")?
+            .with_label(alloc, LabeledSpan::at(alloc, 1..3, "t")?)?;
+        let text = serde_json::to_string(alloc, &full)?;
+        let read: MietteDiagnostic = serde_json::from_str(alloc, text.as_str())?;
+        assert!(rt; read == full);
+        Ok(())
+    }
+}

@@ -1,0 +1,170 @@
+//! Reading a span of bytes whose lines can be found.
+
+ghost use Rattle.std.specs.Prelude.{◌≡◌, ℕ, ◌≤◌, ◌+◌, ◌-◌, List, MatchBool, min, length};
+ghost use Rattle.miette_protocol.specs.Lines.{line_of, line_start, line_end, column_of};
+ghost use Rattle.miette_protocol.specs.Reading.{IsAccepted, reading_end, data_start, data_end, plain_source};
+ghost use Rattle.miette_protocol.specs.Outcome.{Answers};
+
+use crate::contents::MietteSpanContents;
+use crate::error::MietteError;
+use crate::protocol::{SourceOffset, SourceSpan};
+
+/// Finds the lines of a text.
+pub(crate) trait FindLines {
+    ghost text: { Self → List ℕ };
+
+    /// The number of an offset's line, from the number of the line of an offset before it.
+    fn line_from(&self, from: usize, line: usize, offset: usize) -> usize
+        requires order { from ≤ offset }
+        requires within { offset ≤ length (text self.now) }
+        requires line { line ≡ line_of (text self.now) from }
+        ensures { result ≡ line_of (text self.now) offset };
+
+    /// Where the line begins that stands so many before an offset's line.
+    fn start_before(&self, offset: usize, line: usize, lines: usize) -> usize
+        requires within { offset ≤ length (text self.now) }
+        requires line { line ≡ line_of (text self.now) offset }
+        ensures { result ≡ line_start (text self.now) (line - lines) };
+
+    /// Where the line ends that stands so many after an offset's line, and the number of that end's line.
+    fn end_after(&self, offset: usize, line: usize, lines: usize) -> (usize, usize)
+        requires within { offset ≤ length (text self.now) }
+        requires line { line ≡ line_of (text self.now) offset }
+        ensures end { result.0 ≡ line_end (text self.now) (line + lines) }
+        ensures line { result.1 ≡ line_of (text self.now) result.0 };
+}
+
+/// May a span be read?
+fn is_accepted(bytes: &[u8], span: &SourceSpan) -> bool
+    ensures { MatchBool result (IsAccepted bytes.now span.now) (¬ IsAccepted bytes.now span.now) }
+{
+    span.offset() <= bytes.len() && span.len() <= bytes.len() - span.offset() + 1
+}
+
+/// Where the read of a span ends, no further than the bytes.
+fn reading_end(bytes: &[u8], span: &SourceSpan) -> usize
+    requires { IsAccepted bytes.now span.now }
+    ensures end { result ≡ min (length bytes.now) (reading_end bytes.now span.now) }
+    ensures after { span.now.offset ≤ result }
+    ensures within { result ≤ length bytes.now }
+{
+    let end = (span.offset() + span.len()).max(1);
+    if end < bytes.len() && bytes[end - 1] == b'\r' && bytes[end] == b'\n' {
+        end + 1
+    } else {
+        end.min(bytes.len())
+    }
+}
+
+/// Where the data of a read end, and the number of that end's line. The number of the line of the span's
+/// offset is known.
+#[tactic(auto, using(crate::proofs::Places::reads))]
+fn data_end<L: FindLines>(
+    lines: &L,
+    bytes: &[u8],
+    span: &SourceSpan,
+    line: usize,
+    after: usize,
+) -> (usize, usize)
+    requires bytes { L.text lines.now ≡ bytes.now }
+    requires accepted { IsAccepted bytes.now span.now }
+    requires line { line ≡ line_of bytes.now span.now.offset }
+    ensures end { result.0 ≡ data_end bytes.now span.now after }
+    ensures line { result.1 ≡ line_of bytes.now result.0 }
+    ensures order { span.now.offset ≤ result.0 }
+    ensures within { result.0 ≤ length bytes.now }
+{
+    let end = reading_end(bytes, span);
+    let last = lines.line_from(span.offset(), line, end);
+    if after == 0 {
+        (end, last)
+    } else {
+        lines.end_after(end, last, after)
+    }
+}
+
+/// Where the data of a read begin, and the number of the line of that offset. The number of the line of
+/// the span's offset is known.
+#[tactic(auto, using(crate::proofs::Places::reads))]
+fn data_start<L: FindLines>(
+    lines: &L,
+    span: &SourceSpan,
+    line: usize,
+    before: usize,
+) -> (usize, usize)
+    requires accepted { IsAccepted (L.text lines.now) span.now }
+    requires line { line ≡ line_of (L.text lines.now) span.now.offset }
+    ensures start { result.0 ≡ data_start (L.text lines.now) span.now before }
+    ensures line { result.1 ≡ line_of (L.text lines.now) span.now.offset - before }
+    ensures same { result.1 ≡ line_of (L.text lines.now) result.0 }
+    ensures order { result.0 ≤ span.now.offset }
+{
+    if before == 0 {
+        (span.offset(), line)
+    } else {
+        let start = lines.start_before(span.offset(), line, before);
+        (start, line.saturating_sub(before))
+    }
+}
+
+/// The column of an offset, whose line begins at a start. The bytes between the two are text, but for the
+/// CR of a CRLF that the offset splits.
+#[tactic(auto, using(crate::proofs::Columns::columns))]
+fn column_from(bytes: &[u8], start: usize, offset: usize) -> usize
+    requires start { start ≡ line_start bytes.now (line_of bytes.now offset) }
+    requires order { start ≤ offset }
+    requires within { offset ≤ length bytes.now }
+    ensures { result ≡ column_of bytes.now offset }
+{
+    if start < offset && bytes[offset - 1] == b'\r' {
+        offset - start - 1
+    } else {
+        offset - start
+    }
+}
+
+/// The column of an offset, whose line's number is known.
+#[tactic(auto, using(crate::proofs::Places::reads))]
+fn column<L: FindLines>(lines: &L, bytes: &[u8], offset: usize, line: usize) -> usize
+    requires bytes { L.text lines.now ≡ bytes.now }
+    requires offset { offset ≤ length bytes.now }
+    requires line { line ≡ line_of bytes.now offset }
+    ensures { result ≡ column_of bytes.now offset }
+{
+    let start = lines.start_before(offset, line, 0);
+    column_from(bytes, start, offset)
+}
+
+/// Reads a span of the bytes: one pass to the end of the data at most, and one back over the data or over
+/// the line in which they begin.
+#[tactic(auto, using(crate::proofs::Places::reads))]
+pub(crate) fn read<'a, L: FindLines>(
+    lines: &L,
+    bytes: &'a [u8],
+    span: &SourceSpan,
+    before: usize,
+    after: usize,
+) -> Result<MietteSpanContents<'a>, MietteError>
+    requires { L.text lines.now ≡ bytes.now }
+    ensures { Answers (plain_source bytes.now) span.now before after result }
+{
+    if !is_accepted(bytes, span) {
+        return Err(MietteError::OutOfBounds);
+    }
+    let offset = span.offset();
+    let line = lines.line_from(0, 0, offset);
+    let (from, first) = data_start(lines, span, line, before);
+    let (to, last) = data_end(lines, bytes, span, line, after);
+    let column = if before == 0 {
+        column(lines, bytes, offset, line)
+    } else {
+        0
+    };
+    Ok(MietteSpanContents::new(
+        &bytes[from..to],
+        SourceSpan::new(SourceOffset::from(from), to - from),
+        first,
+        column,
+        last - first,
+    ))
+}

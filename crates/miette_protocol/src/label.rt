@@ -1,0 +1,245 @@
+//! Labels: spans with a text, as in the crate miette 7.6.0.
+
+ghost use Rattle.std.specs.Prelude.{◌≡◌, ◌==◌, Some, None, IfOk, true, false, string_bytes};
+ghost use Rattle.std.specs.Option.{option_map, option_copied};
+
+use crate::span::{ByteOffset, SourceOffset, SourceSpan};
+use serde::{Deserialize, Serialize};
+use std::alloc::{AllocError, Global};
+use std::marker::Model;
+
+/// A span of a source, with a text where there is one. It may be marked as the primary label of
+/// its diagnostic.
+#[derive(Debug, Drop, Serialize, Deserialize)]
+pub struct LabeledSpan {
+    #[serde(skip_serializing_if = "Option::is_none")]
+    label: Option<String>,
+    span: SourceSpan,
+    primary: bool,
+}
+
+impl Model for LabeledSpan {
+    ghost use Rattle.std.specs.Prelude.{string_bytes};
+    ghost use Rattle.std.specs.Option.{option_map};
+    ghost use Rattle.miette_protocol.specs.Meaning.{Label};
+
+    ghost Value = { Label };
+
+    ghost view = { λ it. record {
+      text = option_map string_bytes it.label;
+      span = it.span;
+      primary = it.primary;
+    } };
+}
+
+/// Two labels are equal where text, span and mark are.
+impl PartialEq for LabeledSpan {
+    ghost use Rattle.std.specs.Prelude.{◌==◌};
+    ghost use Rattle.std.proofs.Common.{rules};
+    ghost use Rattle.std.specs.Cmp.Rules.{comparing};
+    ghost use mathlib.Core.Bool.{beq};
+    ghost use Rattle.std.specs.Option.{option_eq};
+    ghost use Rattle.std.specs.Cmp.Lexicographic.{pointwise};
+    ghost use Rattle.std.specs.Ordering.{on, eq_of_both};
+
+    ghost eq = { eq_of_both (on (λ it. it.text) (option_eq (pointwise ◌==◌)))
+        (eq_of_both (on (λ it. it.span.offset) ◌==◌)
+        (eq_of_both (on (λ it. it.span.len) ◌==◌) (on (λ it. it.primary) beq))) };
+
+    ghost laws = { Prim.search (comparing, rules) depth 12 };
+
+    fn eq(&self, other: &LabeledSpan) -> bool {
+        self.label == other.label && self.span == other.span && self.primary == other.primary
+    }
+}
+
+impl Eq for LabeledSpan {
+    ghost use Rattle.std.proofs.Common.{rules};
+    ghost use Rattle.std.specs.Cmp.Rules.{comparing};
+
+    ghost laws = { Prim.search (comparing, rules) depth 12 };
+}
+
+/// A clone equals its source; `AllocError` where memory for the text is refused.
+impl Clone for LabeledSpan {
+    ghost use Rattle.std.specs.Prelude.{◌≡◌};
+
+    ghost is_clone = { λ it made. made ≡ it };
+
+    fn clone(&self) -> Result<LabeledSpan, AllocError> {
+        let label = match &self.label {
+            Some(text) => Some(text.clone()?),
+            None => None,
+        };
+        Ok(LabeledSpan {
+            label,
+            span: self.span,
+            primary: self.primary,
+        })
+    }
+}
+
+impl LabeledSpan {
+    /// A label that is not primary; offset and length are in bytes.
+    pub fn new(label: Option<String>, offset: ByteOffset, len: usize) -> Self
+        ensures { result ≡ record {
+          text = option_map string_bytes label;
+          span = record { offset = offset; len = len };
+          primary = false;
+        } }
+    {
+        LabeledSpan::new_with_span(label, (offset, len))
+    }
+
+    /// A label that is not primary.
+    pub fn new_with_span<S: Into<SourceSpan>>(label: Option<String>, span: S) -> Self
+        ensures text { result.text ≡ option_map string_bytes label }
+        ensures span { S.converts span result.span }
+        ensures primary { result.primary ≡ false }
+    {
+        LabeledSpan {
+            label,
+            span: span.into(),
+            primary: false,
+        }
+    }
+
+    /// A primary label.
+    pub fn new_primary_with_span<S: Into<SourceSpan>>(label: Option<String>, span: S) -> Self
+        ensures text { result.text ≡ option_map string_bytes label }
+        ensures span { S.converts span result.span }
+        ensures primary { result.primary ≡ true }
+    {
+        LabeledSpan {
+            label,
+            span: span.into(),
+            primary: true,
+        }
+    }
+
+    /// A label with a copy of a text, not primary.
+    ///
+    /// # Errors
+    /// `AllocError` where memory for the copy is refused.
+    pub fn at<S: Into<SourceSpan>>(alloc: Global, span: S, label: &str) -> Result<Self, AllocError>
+        ensures text { IfOk result (λ it. it.text ≡ Some label.now) }
+        ensures span { IfOk result (λ it. S.converts span it.span) }
+        ensures primary { IfOk result (λ it. it.primary ≡ false) }
+    {
+        let unlabeled = LabeledSpan::underline(span);
+        let label = String::from_str(alloc, label)?;
+        Ok(LabeledSpan {
+            label: Some(label),
+            ..unlabeled
+        })
+    }
+
+    /// An empty label at an offset in bytes, with a copy of a text, not primary.
+    ///
+    /// # Errors
+    /// `AllocError` where memory for the copy is refused.
+    pub fn at_offset(alloc: Global, offset: ByteOffset, label: &str) -> Result<Self, AllocError>
+        ensures { IfOk result (λ it. it ≡ record {
+          text = Some label.now;
+          span = record { offset = offset; len = 0 };
+          primary = false;
+        }) }
+    {
+        LabeledSpan::at(alloc, offset, label)
+    }
+
+    /// A label without a text, not primary.
+    pub fn underline<S: Into<SourceSpan>>(span: S) -> Self
+        ensures text { result.text ≡ None }
+        ensures span { S.converts span result.span }
+        ensures primary { result.primary ≡ false }
+    {
+        LabeledSpan::new_with_span(None, span)
+    }
+
+    /// Replaces the text, or takes it away.
+    pub fn set_label(&mut self, label: Option<String>)
+        ensures { self.new ≡ record self.old { text = option_map string_bytes label } }
+    {
+        self.label = label;
+    }
+
+    /// The text, where there is one.
+    pub fn label(&self) -> Option<&str>
+        ensures { option_copied result ≡ self.now.text }
+    {
+        match &self.label {
+            Some(text) => Some(text.as_str()),
+            None => None,
+        }
+    }
+
+    /// The span.
+    pub fn inner(&self) -> &SourceSpan
+        ensures { result.now ≡ self.now.span }
+    {
+        &self.span
+    }
+
+    /// Where the span begins, in bytes from the start of the source.
+    pub fn offset(&self) -> ByteOffset
+        ensures { result ≡ self.now.span.offset }
+    {
+        self.span.offset()
+    }
+
+    /// The length of the span in bytes.
+    pub fn len(&self) -> usize
+        ensures { result ≡ self.now.span.len }
+    {
+        self.span.len()
+    }
+
+    /// Whether the span has length 0.
+    pub fn is_empty(&self) -> bool
+        ensures { result ≡ (self.now.span.len == 0) }
+    {
+        self.span.is_empty()
+    }
+
+    /// Whether it is marked as primary.
+    pub fn primary(&self) -> bool
+        ensures { result ≡ self.now.primary }
+    {
+        self.primary
+    }
+}
+
+#[cfg(test)]
+mod tests {
+    use super::*;
+    use std::test::Fail;
+
+    #[test]
+    fn labels(rt: HostRuntime) -> Result<(), Fail> {
+        let alloc = rt.alloc();
+        let text = String::from_str(alloc, "here")?;
+        let mut label = LabeledSpan::new(Some(text), 3, 4);
+        assert_eq!(rt; label.label(), Some("here"));
+        assert_eq!(rt;
+            (label.offset(), label.len(), label.is_empty()),
+            (3, 4, false)
+        );
+        assert_eq!(rt; *label.inner(), SourceSpan::from((3, 4)));
+        assert!(rt; !label.primary());
+        label.set_label(None);
+        assert!(rt; label == LabeledSpan::new_with_span(None, (3, 4)));
+        assert!(rt; label == LabeledSpan::underline(3..7));
+        assert!(rt; label != LabeledSpan::new_primary_with_span(None, 3..7));
+        assert!(rt; LabeledSpan::new_primary_with_span(None, 3..7).primary());
+        assert!(rt; LabeledSpan::underline(5).is_empty());
+        let label = LabeledSpan::at(alloc, 2..5, "x")?;
+        assert_eq!(rt; label.label(), Some("x"));
+        assert_eq!(rt; *label.inner(), SourceSpan::from(2..5));
+        let label = LabeledSpan::at_offset(alloc, 7, "y")?;
+        assert_eq!(rt; label.label(), Some("y"));
+        assert_eq!(rt; *label.inner(), SourceSpan::from(7));
+        assert!(rt; label.clone()? == label);
+        Ok(())
+    }
+}

@@ -1,0 +1,43 @@
+//! Laws of lines and reads. Each function does nothing: its contract is the law, and a proof above calls it.
+
+ghost use Rattle.std.specs.Prelude.{◌≡◌, ◌↔◌, ℕ, ◌+◌, ◌<◌, ◌≤◌, min, List, length, slice_range};
+ghost use Rattle.miette_protocol.specs.Context.{first_line, last_line};
+ghost use Rattle.miette_protocol.specs.Cutting.{AreLines};
+ghost use Rattle.miette_protocol.specs.Lines.{Line, IsCut, lines_of, lines_from, line_of, line_start, line_end};
+ghost use Rattle.miette_protocol.specs.Reading.{Span, Source, IsAccepted, contents_of};
+
+/// The lines of a source are its pieces, one after the other, each a text without CR and LF and its
+/// terminator: LF, CRLF, a CR that no LF follows, or nothing at the end of the source. No other list of
+/// lines is that, and every byte lies in exactly one of them.
+#[tactic(auto, using(crate::proofs::Cuts::lines_cut, crate::proofs::Cutting::lines_are, crate::proofs::Only::only_lines))]
+pub fn lines_cut_the_source()
+    ensures pieces { (bytes : List ℕ) → AreLines 0 (lines_of bytes) bytes }
+    ensures only { (bytes : List ℕ) → (ls : List Line) → AreLines 0 ls bytes → ls ≡ lines_of bytes }
+    ensures cover { (bytes : List ℕ) → IsCut 0 (lines_of bytes) (length bytes) }
+{}
+
+/// With at least one line of context before and after, the data of a read are whole lines: cut alone, they
+/// are the lines of the source from the first to the last of the context. So many terminators stand before
+/// their end, and no other line lies between their place's begin and end.
+#[tactic(auto, using(crate::proofs::Wholes::shown_lines, crate::proofs::Wholes::shown_count, crate::proofs::Wholes::shown_numbers))]
+pub fn data_are_whole_lines()
+    ensures lines { (source : Source) → (span : Span) → (before after : ℕ) → 1 ≤ before → 1 ≤ after →
+        lines_from (contents_of source span before after).span.offset (contents_of source span before after).bytes
+        ≡ slice_range (lines_of source.bytes) (first_line source.bytes span before) (last_line source.bytes span after + 1) }
+    ensures count { (source : Source) → (span : Span) → (before after : ℕ) → 1 ≤ before → 1 ≤ after →
+        (contents_of source span before after).line + (contents_of source span before after).line_count
+        ≡ min (last_line source.bytes span after + 1) (line_of source.bytes (length source.bytes)) }
+    ensures numbers { (source : Source) → (span : Span) → (before after k : ℕ) → 1 ≤ before → 1 ≤ after → k < length (lines_of source.bytes) →
+        (((contents_of source span before after).span.offset ≤ line_start source.bytes k)
+        × (line_end source.bytes k ≤ (contents_of source span before after).span.offset + (contents_of source span before after).span.len))
+        ↔ ((first_line source.bytes span before ≤ k) × (k ≤ last_line source.bytes span after)) }
+{}
+
+/// The end of a span that is accepted, cut to the end of the source, is to be had from its own read: it is
+/// the span's end cut to the end of the data, with every number of lines of context.
+#[tactic(auto, using(crate::proofs::Wholes::shown_end))]
+pub fn data_reach_the_span()
+    ensures { (source : Source) → (span : Span) → (before after : ℕ) → IsAccepted source.bytes span →
+        min (span.offset + span.len) (length source.bytes)
+        ≡ min (span.offset + span.len) ((contents_of source span before after).span.offset + (contents_of source span before after).span.len) }
+{}

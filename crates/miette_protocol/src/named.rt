@@ -1,0 +1,107 @@
+//! A source with a name.
+
+ghost use Rattle.std.specs.Prelude.{◌≡◌, Some, None, IfOk};
+
+use crate::contents::MietteSpanContents;
+use crate::error::MietteError;
+use crate::protocol::SourceSpan;
+use crate::source::SourceCode;
+use std::alloc::{AllocError, Global};
+
+/// A source with a name, and with a language where one is given. All else is the inner source's, its
+/// language too where none is given.
+#[derive(Drop, PartialEq, Eq, PartialOrd, Ord, Hash)]
+pub struct NamedSource<S> {
+    pub(crate) source: S,
+    pub(crate) name: String,
+    pub(crate) language: Option<String>,
+}
+
+impl<S: SourceCode> NamedSource<S> {
+    ghost use Rattle.miette_protocol.specs.Named.{inner_of, name_of, given_language};
+
+    /// Gives a source a name.
+    ///
+    /// # Errors
+    /// `AllocError` where there is no memory for the name. The source is then let go.
+    pub fn new(alloc: Global, name: &str, source: S) -> Result<Self, AllocError>
+        ensures inner { IfOk result (λ it. inner_of it ≡ source) }
+        ensures name { IfOk result (λ it. name_of it ≡ name.now) }
+        ensures language { IfOk result (λ it. given_language it ≡ None) }
+    {
+        Ok(NamedSource {
+            source,
+            name: String::from_str(alloc, name)?,
+            language: None,
+        })
+    }
+
+    /// The same source with a language, in place of any before.
+    ///
+    /// # Errors
+    /// `AllocError` where there is no memory for the language. The source is then let go.
+    pub fn with_language(self, alloc: Global, language: &str) -> Result<Self, AllocError>
+        ensures inner { IfOk result (λ it. inner_of it ≡ inner_of self) }
+        ensures name { IfOk result (λ it. name_of it ≡ name_of self) }
+        ensures language { IfOk result (λ it. given_language it ≡ Some language.now) }
+    {
+        let language = String::from_str(alloc, language)?;
+        let NamedSource {
+            source,
+            name,
+            language: _,
+        } = self;
+        Ok(NamedSource {
+            source,
+            name,
+            language: Some(language),
+        })
+    }
+
+    /// The name.
+    pub fn name(&self) -> &str
+        ensures { result.now ≡ name_of self.now }
+    {
+        self.name.as_str()
+    }
+
+    /// The source inside.
+    pub fn inner(&self) -> &S
+        ensures { result.now ≡ inner_of self.now }
+    {
+        &self.source
+    }
+}
+
+impl<S: SourceCode> SourceCode for NamedSource<S> {
+    ghost use Rattle.std.specs.Prelude.{Some};
+    ghost use Rattle.miette_protocol.specs.Reading.{named};
+    ghost use Rattle.miette_protocol.specs.Named.{inner_of, name_of, given_language};
+
+    ghost source = { λ it. named (S.source (inner_of it)) (name_of it) (given_language it) };
+
+    fn read_span(
+        &self,
+        span: &SourceSpan,
+        before: usize,
+        after: usize,
+    ) -> Result<MietteSpanContents<'_>, MietteError> {
+        let contents = self.source.read_span(span, before, after)?;
+        let named = MietteSpanContents::new_named(
+            self.name.as_str(),
+            contents.data(),
+            *contents.span(),
+            contents.line(),
+            contents.column(),
+            contents.line_count(),
+        );
+        let language = match &self.language {
+            Some(language) => Some(language.as_str()),
+            None => contents.language(),
+        };
+        Ok(match language {
+            Some(language) => named.with_language(language),
+            None => named,
+        })
+    }
+}

@@ -1,0 +1,173 @@
+//! What describes an error: offsets, spans, labels, severities, and the trait of diagnostics.
+
+ghost use Rattle.std.specs.Prelude.{◌≡◌, ◌↔◌, ◌++◌, ℕ, IsTrue};
+ghost use Rattle.std.specs.Option.{option_copied};
+ghost use Rattle.std.specs.Hash as fed;
+ghost use Rattle.std.specs.Ordering.{on, then_cmp, nat_cmp};
+ghost use Rattle.std.specs.declared.cmp.Ordering.TheVariants.{Less};
+ghost use Rattle.miette_protocol.specs.Meaning.{Meaning, Label};
+ghost use Rattle.miette_protocol.specs.Reading.{Span};
+
+pub use crate::label::LabeledSpan;
+pub use crate::span::{ByteOffset, LengthOverflow, SourceOffset, SourceSpan, location_law};
+use serde::{Deserialize, Serialize};
+use std::hash::Hash;
+
+/// How grave a diagnostic is, in rising order.
+#[derive(Clone, Copy, Debug, PartialEq, Eq, PartialOrd, Ord, Default, Serialize, Deserialize)]
+pub enum Severity {
+    /// A hint: nothing is wrong.
+    Advice,
+    /// Something may be wrong, and work goes on.
+    Warning,
+    /// Something is wrong. Reports take a diagnostic without a severity for an error.
+    #[default]
+    Error,
+}
+
+/// What comparing, hashing and cloning the types of this module say. Values are equal where all
+/// their parts are, and a clone equals its source. Offsets compare as numbers, spans by offset and
+/// then by length, and both hash these numbers. Severities rise from advice to error, and the
+/// default is an error.
+pub fn comparison_laws()
+    ensures equal_offsets { (a b : ℕ) → IsTrue (⟦<SourceOffset as PartialEq>⟧.eq a b) ↔ (a ≡ b) }
+    ensures equal_spans { (a b : Span) → IsTrue (⟦<SourceSpan as PartialEq>⟧.eq a b) ↔ (a ≡ b) }
+    ensures equal_labels { (a b : Label) → IsTrue (⟦<LabeledSpan as PartialEq>⟧.eq a b) ↔ (a ≡ b) }
+    ensures offset_order { (a b : ℕ) → ⟦<SourceOffset as Ord>⟧.cmp a b ≡ nat_cmp a b }
+    ensures span_order { (a b : Span) → ⟦<SourceSpan as Ord>⟧.cmp a b
+        ≡ then_cmp (on (λ it. it.offset) nat_cmp) (on (λ it. it.len) nat_cmp) a b }
+    ensures offset_hash { (a : ℕ) → ⟦<SourceOffset as Hash>⟧.hash_input a ≡ fed.usize a }
+    ensures span_hash { (a : Span)
+        → ⟦<SourceSpan as Hash>⟧.hash_input a ≡ fed.usize a.offset ++ fed.usize a.len }
+    ensures cloned_offsets { (a b : ℕ) → ⟦<SourceOffset as Clone>⟧.is_clone a b → b ≡ a }
+    ensures cloned_spans { (a b : Span) → ⟦<SourceSpan as Clone>⟧.is_clone a b → b ≡ a }
+    ensures cloned_labels { (a b : Label) → ⟦<LabeledSpan as Clone>⟧.is_clone a b → b ≡ a }
+    ensures cloned_severities { (a b : Severity) → ⟦<Severity as Clone>⟧.is_clone a b → b ≡ a }
+    ensures equal_severities { (a b : Severity)
+        → IsTrue (⟦<Severity as PartialEq>⟧.eq a b) ↔ (a ≡ b) }
+    ensures severity_order { (⟦<Severity as Ord>⟧.cmp Severity.Advice Severity.Warning ≡ Less)
+        × (⟦<Severity as Ord>⟧.cmp Severity.Warning Severity.Error ≡ Less)
+        × (⟦<Severity as Ord>⟧.cmp Severity.Advice Severity.Error ≡ Less) }
+    ensures default_severity { (it : Severity)
+        → ⟦<Severity as Default>⟧.is_default it → it ≡ Severity.Error }
+{}
+
+/// What describes an error. An implementation writes every method, and answers `None` where it has
+/// nothing to say; all answers together are its meaning.
+pub trait Diagnostic: Drop {
+    ghost meaning: { Self → Meaning };
+
+    /// The message.
+    fn message(&self) -> &str
+        ensures { result.now ≡ (meaning self.now).message };
+
+    /// A code by which the kind of error can be looked up.
+    fn code(&self) -> Option<&str>
+        ensures { option_copied result ≡ (meaning self.now).code };
+
+    /// How grave it is.
+    fn severity(&self) -> Option<Severity>
+        ensures { result ≡ (meaning self.now).severity };
+
+    /// What may help.
+    fn help(&self) -> Option<&str>
+        ensures { option_copied result ≡ (meaning self.now).help };
+
+    /// Where more is written about it.
+    fn url(&self) -> Option<&str>
+        ensures { option_copied result ≡ (meaning self.now).url };
+
+    /// The places of the source that it speaks of.
+    fn labels(&self) -> Option<&[LabeledSpan]>
+        ensures { option_copied result ≡ (meaning self.now).labels };
+}
+
+/// Passes on what the boxed diagnostic answers.
+impl Diagnostic for Box<dyn Diagnostic> {
+    ghost meaning = { λ it. (Diagnostic-box it).meaning it.value };
+
+    fn message(&self) -> &str {
+        (**self).message()
+    }
+
+    fn code(&self) -> Option<&str> {
+        (**self).code()
+    }
+
+    fn severity(&self) -> Option<Severity> {
+        (**self).severity()
+    }
+
+    fn help(&self) -> Option<&str> {
+        (**self).help()
+    }
+
+    fn url(&self) -> Option<&str> {
+        (**self).url()
+    }
+
+    fn labels(&self) -> Option<&[LabeledSpan]> {
+        (**self).labels()
+    }
+}
+
+#[cfg(test)]
+mod tests {
+    use super::*;
+    use std::test::Fail;
+
+    /// An implementation by hand: its meaning in one record, and a method for each part of it.
+    #[derive(Drop)]
+    struct Missing {
+        message: String,
+        help: String,
+    }
+
+    impl Diagnostic for Missing {
+        ghost use Rattle.std.specs.Prelude.{Some, string_bytes};
+        ghost use Rattle.miette_protocol.specs.Diagnostic.{message_alone};
+        ghost use Rattle.miette_protocol.specs.declared.protocol.Severity.TheVariants.{Warning};
+
+        ghost meaning = { λ it. record (message_alone (string_bytes it.message)) { severity = Some Warning; help = Some (string_bytes it.help) } };
+
+        fn message(&self) -> &str {
+            self.message.as_str()
+        }
+
+        fn code(&self) -> Option<&str> {
+            None
+        }
+
+        fn severity(&self) -> Option<Severity> {
+            Some(Severity::Warning)
+        }
+
+        fn help(&self) -> Option<&str> {
+            Some(self.help.as_str())
+        }
+
+        fn url(&self) -> Option<&str> {
+            None
+        }
+
+        fn labels(&self) -> Option<&[LabeledSpan]> {
+            None
+        }
+    }
+
+    #[test]
+    fn boxed(rt: HostRuntime) -> Result<(), Fail> {
+        let missing = Missing {
+            message: String::from_str(rt.alloc(), "a file is missing")?,
+            help: String::from_str(rt.alloc(), "make it")?,
+        };
+        let boxed: Box<dyn Diagnostic> = Box::new(rt.alloc(), missing)?;
+        assert_eq!(rt; boxed.message(), "a file is missing");
+        assert_eq!(rt; boxed.code(), None);
+        assert_eq!(rt; boxed.severity(), Some(Severity::Warning));
+        assert_eq!(rt; boxed.help(), Some("make it"));
+        assert_eq!(rt; boxed.url(), None);
+        assert!(rt; boxed.labels().is_none());
+        Ok(())
+    }
+}

@@ -1,0 +1,263 @@
+//! Offsets and spans, in bytes, as in the crate miette 7.6.0.
+
+ghost use Rattle.std.specs.Prelude.{◌≡◌, ◌==◌, ℕ, ◌+◌, ◌-◌, ◌^◌, List, MatchResult};
+ghost use Rattle.miette_protocol.specs.Location.{IsLocation};
+ghost use Rattle.std.specs.Range.{range_inclusive_start, range_inclusive_end};
+
+use serde::{Deserialize, Serialize};
+use std::marker::Model;
+use std::ops::{Range, RangeInclusive};
+
+/// A number of bytes from the start of a source.
+pub type ByteOffset = usize;
+
+/// A place in a source: a number of bytes from its start.
+#[derive(Clone, Copy, Debug, PartialEq, Eq, PartialOrd, Ord, Hash, Serialize, Deserialize)]
+#[serde(transparent)]
+pub struct SourceOffset(usize);
+
+impl Model for SourceOffset {
+    ghost use Rattle.std.specs.Prelude.{ℕ};
+
+    ghost Value = { ℕ };
+
+    ghost view = { λ it. it.0 };
+
+    ghost inverse = { λ n. record { 0 = n } };
+}
+
+impl SourceOffset {
+    /// The offset in bytes of the first character of a text whose line and column are at least
+    /// those asked for, or the text's length where there is none. Lines and columns count from 1;
+    /// a column counts characters, and LF alone ends a line, as in the original crate.
+    pub fn from_location(source: &str, line: usize, column: usize) -> Self
+        ensures { IsLocation source.now line column result }
+    {
+        let mut at = 0;
+        let mut line_at = 1;
+        let mut column_at = 1;
+        for c in source.chars() {
+            if line <= line_at && column <= column_at {
+                return SourceOffset(at);
+            }
+            at += c.len_utf8();
+            if c == '\n' {
+                line_at += 1;
+                column_at = 1;
+            } else {
+                column_at += 1;
+            }
+        }
+        SourceOffset(at)
+    }
+
+    /// The number of bytes from the start of the source.
+    pub fn offset(&self) -> ByteOffset
+        ensures { result ≡ self.now }
+    {
+        self.0
+    }
+}
+
+/// A text has one location for a line and a column.
+pub fn location_law()
+    ensures { (text : List ℕ) (line column a b : ℕ)
+        → IsLocation text line column a → IsLocation text line column b → a ≡ b }
+{}
+
+impl From<ByteOffset> for SourceOffset {
+    ghost from_gives = { λ offset it. it ≡ offset };
+
+    fn from(offset: ByteOffset) -> Self {
+        SourceOffset(offset)
+    }
+}
+
+/// A range of a source: where it begins, and its length, both in bytes.
+#[derive(Clone, Copy, Debug, PartialEq, Eq, PartialOrd, Ord, Hash, Serialize, Deserialize)]
+pub struct SourceSpan {
+    offset: SourceOffset,
+    length: usize,
+}
+
+impl Model for SourceSpan {
+    ghost use Rattle.miette_protocol.specs.Reading.{Span};
+
+    ghost Value = { Span };
+
+    ghost view = { λ it. record { offset = it.offset; len = it.length } };
+
+    ghost inverse = { λ span. record { offset = span.offset; length = span.len } };
+}
+
+impl SourceSpan {
+    /// The span of so many bytes from an offset on.
+    pub fn new(start: SourceOffset, length: usize) -> Self
+        ensures { result ≡ record { offset = start; len = length } }
+    {
+        SourceSpan {
+            offset: start,
+            length,
+        }
+    }
+
+    /// Where the span begins, in bytes from the start of the source.
+    pub fn offset(&self) -> usize
+        ensures { result ≡ self.now.offset }
+    {
+        self.offset.offset()
+    }
+
+    /// The length of the span in bytes.
+    pub fn len(&self) -> usize
+        ensures { result ≡ self.now.len }
+    {
+        self.length
+    }
+
+    /// Whether the span has length 0.
+    pub fn is_empty(&self) -> bool
+        ensures { result ≡ (self.now.len == 0) }
+    {
+        self.len() == 0
+    }
+}
+
+/// An offset and a length, in bytes.
+impl From<(ByteOffset, usize)> for SourceSpan {
+    ghost from_gives = { λ pair it. it ≡ record { offset = pair.0; len = pair.1 } };
+
+    fn from(pair: (ByteOffset, usize)) -> Self {
+        SourceSpan::new(SourceOffset::from(pair.0), pair.1)
+    }
+}
+
+/// An offset, and a length in bytes.
+impl From<(SourceOffset, usize)> for SourceSpan {
+    ghost from_gives = { λ pair it. it ≡ record { offset = pair.0; len = pair.1 } };
+
+    fn from(pair: (SourceOffset, usize)) -> Self {
+        SourceSpan::new(pair.0, pair.1)
+    }
+}
+
+/// From the range's start up to its end, the end not included. A range that ends before it starts
+/// has length 0.
+impl From<Range<ByteOffset>> for SourceSpan {
+    ghost from_gives = { λ range it. it ≡ record {
+      offset = range.start;
+      len = range.end - range.start;
+    } };
+
+    fn from(range: Range<ByteOffset>) -> Self {
+        SourceSpan::new(
+            SourceOffset::from(range.start),
+            range.end.saturating_sub(range.start),
+        )
+    }
+}
+
+/// The empty span at an offset.
+impl From<SourceOffset> for SourceSpan {
+    ghost from_gives = { λ offset it. it ≡ record { offset = offset; len = 0 } };
+
+    fn from(offset: SourceOffset) -> Self {
+        SourceSpan::new(offset, 0)
+    }
+}
+
+/// The empty span at an offset.
+impl From<ByteOffset> for SourceSpan {
+    ghost from_gives = { λ offset it. it ≡ record { offset = offset; len = 0 } };
+
+    fn from(offset: ByteOffset) -> Self {
+        SourceSpan::new(SourceOffset::from(offset), 0)
+    }
+}
+
+/// The length of an inclusive range is greater than a `usize` can say. Of all ranges of `usize`
+/// this is so for `0..=usize::MAX` alone. (The original crate panics there.)
+#[derive(Clone, Copy, Debug, PartialEq, Eq)]
+pub struct LengthOverflow;
+
+/// From the range's start up to its end, the end included. A range that ends before it starts has
+/// length 0.
+///
+/// # Errors
+/// `LengthOverflow` for `0..=usize::MAX`, and for no other range.
+impl TryFrom<RangeInclusive<ByteOffset>> for SourceSpan {
+    type Error = LengthOverflow;
+
+    ghost try_from_gives = { λ range result. MatchResult result
+        (λ it. it ≡ record {
+          offset = range_inclusive_start range;
+          len = range_inclusive_end range + 1 - range_inclusive_start range;
+        })
+        (λ _. (range_inclusive_start range ≡ 0) × (range_inclusive_end range + 1 ≡ 2 ^ 64)) };
+
+    fn try_from(range: RangeInclusive<ByteOffset>) -> Result<Self, LengthOverflow> {
+        let start = *range.start();
+        let end = *range.end();
+        let length = if end < start {
+            0
+        } else if end - start < usize::MAX {
+            end - start + 1
+        } else {
+            return Err(LengthOverflow);
+        };
+        Ok(SourceSpan::new(SourceOffset::from(start), length))
+    }
+}
+
+#[cfg(test)]
+mod tests {
+    use super::*;
+
+    fn located(text: &str, line: usize, column: usize) -> usize {
+        SourceOffset::from_location(text, line, column).offset()
+    }
+
+    #[test]
+    fn locations(rt: HostRuntime) {
+        let text = "f\n\noo\r\nbar";
+        assert_eq!(rt; located(text, 1, 1), 0);
+        assert_eq!(rt; located(text, 1, 2), 1);
+        assert_eq!(rt; located(text, 2, 1), 2);
+        assert_eq!(rt; located(text, 3, 1), 3);
+        assert_eq!(rt; located(text, 3, 4), 6);
+        assert_eq!(rt; located(text, 4, 1), 7);
+        assert_eq!(rt; located(text, 4, 4), 10);
+        assert_eq!(rt; located(text, 5, 1), 10);
+        let readme = "source\n  text\n    here";
+        assert_eq!(rt; located(readme, 2, 3), 9);
+        assert_eq!(rt; located(readme, 1, 8), 21);
+        assert_eq!(rt; located(readme, 9, 9), 22);
+        assert_eq!(rt; located("漢x", 1, 2), 3);
+    }
+
+    fn parts(span: SourceSpan) -> (usize, usize) {
+        (span.offset(), span.len())
+    }
+
+    #[test]
+    fn conversions(rt: HostRuntime) {
+        assert_eq!(rt; parts(SourceSpan::new(SourceOffset::from(3), 4)), (3, 4));
+        assert_eq!(rt; parts(SourceSpan::from((3, 4))), (3, 4));
+        assert_eq!(rt; parts(SourceSpan::from((SourceOffset::from(3), 4))), (3, 4));
+        assert_eq!(rt; parts(SourceSpan::from(2..5)), (2, 3));
+        assert_eq!(rt; parts(SourceSpan::from(5..3)), (5, 0));
+        assert_eq!(rt; parts(SourceSpan::from(SourceOffset::from(7))), (7, 0));
+        assert_eq!(rt; parts(SourceSpan::from(7)), (7, 0));
+        assert_eq!(rt; SourceSpan::try_from(2..=5), Ok(SourceSpan::from((2, 4))));
+        assert_eq!(rt; SourceSpan::try_from(5..=3), Ok(SourceSpan::from((5, 0))));
+        assert_eq!(rt; SourceSpan::try_from(0..=usize::MAX), Err(LengthOverflow));
+        assert!(rt; SourceSpan::from(7).is_empty());
+    }
+
+    #[test]
+    fn order(rt: HostRuntime) {
+        assert!(rt; SourceSpan::from((1, 9)) < SourceSpan::from((2, 0)));
+        assert!(rt; SourceSpan::from((1, 1)) < SourceSpan::from((1, 2)));
+        assert!(rt; SourceOffset::from(1) < SourceOffset::from(2));
+    }
+}

@@ -1,0 +1,5 @@
+pub mod DescriptionShape
+pub mod DescriptionLists
+pub mod DeviceLemmas
+pub mod DescriptionSources
+pub mod FaultStatuses

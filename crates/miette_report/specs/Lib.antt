@@ -1,0 +1,10 @@
+pub mod Marked
+pub mod Device
+pub mod Words
+pub mod Members
+pub mod Description
+pub mod Built
+pub mod Job
+pub mod Statuses
+pub mod Drawn
+pub mod Faults

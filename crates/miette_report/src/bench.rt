@@ -1,0 +1,77 @@
+//! The program `bench`, which renders one report many times: speed is measured by it.
+
+ghost use Rattle.std.specs.Prelude.{◌≡◌};
+ghost use Rattle.miette_report.specs.Statuses.{words_status};
+
+use crate::device::Device;
+use crate::run::{JobError, rendered_length};
+use crate::settings::Settings;
+use crate::statuses;
+use crate::whole::{ReadError, read_whole, write_whole};
+use crate::words::{WordsFault, number};
+use std::alloc::Global;
+use std::io::{Read, Write};
+
+#[cfg(test)]
+mod tests;
+
+/// Reads a description, builds its report once, renders it N times, each time into a fresh text, and writes the number of
+/// bytes of one rendering in decimal and a line feed; 0 where N is 0. The words are N and then those of `job`. The status
+/// comes out, with `job`'s meaning; a fault's text and a line feed go to `faults`, whose own faults are ignored.
+pub fn bench_with<R: Read + Drop, W: Write + Drop, F: Write + Drop>(
+    alloc: Global,
+    words: &[String],
+    reader: R,
+    writer: W,
+    faults: F,
+) -> u8 {
+    let (times, settings) = match read_words(alloc, words) {
+        Ok(asked) => asked,
+        Err(fault) => return refuse_words(fault, faults),
+    };
+    match measure(alloc, reader, writer, times, settings) {
+        Ok(()) => 0,
+        Err(error) => statuses::refuse_job("bench", error, faults),
+    }
+}
+
+/// Ends the program where its words could not be had: prints why, and gives the status.
+pub fn refuse_words<F: Write + Drop>(fault: WordsFault, faults: F) -> u8
+    ensures { result ≡ words_status fault }
+{
+    statuses::refuse_words("bench", "N [OPTIONS]", fault, faults)
+}
+
+/// How often to render, and by which settings.
+fn read_words(alloc: Global, words: &[String]) -> Result<(usize, Settings), WordsFault> {
+    let [times, options @ ..] = words else {
+        return Err(WordsFault::Usage);
+    };
+    let Some(times) = number(times.as_str()) else {
+        return Err(WordsFault::Usage);
+    };
+    Ok((times, Settings::read(alloc, options)?))
+}
+
+/// Reads all, renders so many times, and writes the length of one rendering.
+fn measure<R: Read + Drop, W: Write + Drop>(
+    alloc: Global,
+    reader: R,
+    writer: W,
+    times: usize,
+    settings: Settings,
+) -> Result<(), JobError> {
+    let bytes = match read_whole(alloc, &mut Device::new(reader)) {
+        Ok(bytes) => bytes,
+        Err(ReadError::Memory) => return Err(JobError::Memory),
+        Err(ReadError::Read) => return Err(JobError::Read),
+    };
+    let length = rendered_length(alloc, bytes.as_slice(), times, settings.choice)?;
+    let Ok(text) = format!(in alloc; "{length}\n") else {
+        return Err(JobError::Memory);
+    };
+    match write_whole(&mut Device::new(writer), text.as_bytes()) {
+        Ok(()) => Ok(()),
+        Err(_) => Err(JobError::Write),
+    }
+}

@@ -1,0 +1,45 @@
+//! The program `job`, over any reader and writers.
+
+ghost use Rattle.std.specs.Prelude.{◌≡◌};
+ghost use Rattle.miette_report.specs.Statuses.{words_status};
+
+use crate::device::Device;
+pub use crate::run::{JobError, run};
+pub use crate::settings::{Choice, Settings};
+use crate::statuses;
+pub use crate::words::WordsFault;
+use std::alloc::Global;
+use std::io::{Read, Write};
+
+#[cfg(test)]
+mod tests;
+
+/// Reads a description, and writes its report. The words after the program's name go in, and the status comes out: 0; 1 for
+/// want of memory and for a device that failed; 2 for words that are no settings; 3 for a bad description; 4 for a report
+/// that the handler refused. The words are checked first, before anything is read. The text of a fault and a line feed go to
+/// `faults`, whose own faults are ignored.
+pub fn job_with<R: Read + Drop, W: Write + Drop, F: Write + Drop>(
+    alloc: Global,
+    words: &[String],
+    reader: R,
+    writer: W,
+    faults: F,
+) -> u8 {
+    let settings = match Settings::read(alloc, words) {
+        Ok(settings) => settings,
+        Err(fault) => return refuse_words(fault, faults),
+    };
+    let mut reader = Device::new(reader);
+    let mut writer = Device::new(writer);
+    match run(alloc, &mut reader, &mut writer, settings) {
+        Ok(()) => 0,
+        Err(error) => statuses::refuse_job("job", error, faults),
+    }
+}
+
+/// Ends the program where its words could not be had: prints why, and gives the status.
+pub fn refuse_words<F: Write + Drop>(fault: WordsFault, faults: F) -> u8
+    ensures { result ≡ words_status fault }
+{
+    statuses::refuse_words("job", "[OPTIONS]", fault, faults)
+}

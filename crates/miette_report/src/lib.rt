@@ -1,0 +1,18 @@
+//! The work of the programs: from the description of a report to its written text.
+#![tactic(auto)]
+
+pub mod bench;
+mod description;
+pub mod description_laws;
+mod description_members;
+mod description_numbers;
+mod description_parts;
+pub mod device;
+pub mod draw;
+pub mod job;
+mod picture;
+mod run;
+mod settings;
+mod statuses;
+pub mod whole;
+pub mod words;

@@ -1,0 +1,337 @@
+-- Wrapping looks at characters alone, so it commutes with deleting sequences.
+use Rattle.std.proofs.Common.{◌≡◌, ℕ, ◌+◌, ◌-◌, Bool, true, false, ◌&&◌, ◌==◌, nat_lt, min, List, [], ◌∷◌, ◌++◌, map, flat_map, fold, refl, sym, ap, ap₂, ◌∙◌, arith, if◌then◌else◌}
+use Rattle.std.specs.Char.{is_whitespace}
+use Rattle.std.proofs.lemmas.Bool.Decides.{nat_tests}
+use Rattle.std.proofs.lemmas.List.{map-append}
+use Rattle.miette_text.specs.Sequences.{Token, Character, Sequence, tokens, is_line_feed}
+use Rattle.miette_text.specs.Tame.{erased, is_colour}
+use Rattle.miette_text.specs.Wrapping.{Cell, Piece, Word, Layout, on_first, with_mark, with_code, no_characters, pieces, cell_tokens, width, columns, token_width, columns_of, is_space, with_letter, with_space, words, onto, is_alphanumeric, begins_alphanumeric, hyphen_parts, broken, with_spaces, first_room, further_room, hyphenated, narrowed, parts, piece_words, word_cells, rows_behind, rows, only_spaces, trimmed, row_tokens, with_rest, piece_rows, text_rows, line_feed, joined, filled, all_white, piece_tokens, indented, last_indented, whole_pieces, unwrapped, wrapped_tokens}
+
+abbrev pub kept : List (List ℕ) → List (List ℕ)
+kept [] = []
+kept (m ∷ ms) = if is_colour m then kept ms else m ∷ kept ms
+
+abbrev pub strip : Cell → Cell
+strip c = record { marks = kept c.marks; code = c.code }
+
+abbrev pub strip_piece : Piece → Piece
+strip_piece p = record { cells = map strip p.cells; rest = kept p.rest }
+
+abbrev pub strip_word : Word → Word
+strip_word w = record { letters = map strip w.letters; spaces = map strip w.spaces }
+
+-- ---- tokens
+
+pub erased-append : (us bs : List Token) → erased (us ++ bs) ≡ erased us ++ erased bs
+erased-append [] bs = refl
+erased-append (Character c ∷ us) bs = ap (λ ts. Character c ∷ ts) (erased-append us bs)
+erased-append (Sequence s ∷ us) bs = grind (arith, nat_tests, erased-append us bs)
+
+pub erased-marks : (ms : List (List ℕ)) → erased (map Sequence ms) ≡ map Sequence (kept ms)
+erased-marks [] = refl
+erased-marks (m ∷ ms) = grind (arith, nat_tests, erased-marks ms)
+
+pub erased-cell : (c : Cell) → erased (cell_tokens c) ≡ cell_tokens (strip c)
+erased-cell c = erased-append (map Sequence c.marks) (Character c.code ∷ []) ∙ ap (λ ts. ts ++ Character c.code ∷ []) (erased-marks c.marks)
+
+pub erased-cells : (cs : List Cell) → erased (flat_map cell_tokens cs) ≡ flat_map cell_tokens (map strip cs)
+erased-cells [] = refl
+erased-cells (c ∷ cs) = erased-append (cell_tokens c) (flat_map cell_tokens cs) ∙ ap₂ (λ xs ys. xs ++ ys) (erased-cell c) (erased-cells cs)
+
+fold-strip : (cs : List Cell) (n : ℕ) → fold (λ a c. a + width c.code) n (map strip cs) ≡ fold (λ a c. a + width c.code) n cs
+fold-strip [] n = refl
+fold-strip (c ∷ cs) n = fold-strip cs (n + width c.code)
+
+pub columns-strip : (cs : List Cell) → columns (map strip cs) ≡ columns cs
+columns-strip cs = fold-strip cs 0
+
+fold-erased : (ts : List Token) (n : ℕ) → fold (λ a t. a + token_width t) n (erased ts) ≡ fold (λ a t. a + token_width t) n ts
+fold-erased [] n = refl
+fold-erased (Character c ∷ ts) n = fold-erased ts (n + width c)
+fold-erased (Sequence s ∷ ts) n =
+    elim (is_colour s) as (λ b. fold (λ a t. a + token_width t) n (if b then erased ts else Sequence s ∷ erased ts) ≡ fold (λ a t. a + token_width t) (n + 0) ts) [
+      | true ↦ fold-erased ts n ∙ ap (λ m. fold (λ a t. a + token_width t) m ts) (omega arith)
+      | false ↦ fold-erased ts (n + 0)
+    ]
+
+pub columns_of-erased : (ts : List Token) → columns_of (erased ts) ≡ columns_of ts
+columns_of-erased ts = fold-erased ts 0
+
+-- ---- pieces
+
+map-on_first : {A : Type 0} (f g h : A → A) → ((x : A) → f (g x) ≡ h (f x)) → (xs : List A) → map f (on_first g xs) ≡ on_first h (map f xs)
+map-on_first f g h e [] = refl
+map-on_first f g h e (x ∷ xs) = ap (λ y. y ∷ map f xs) (e x)
+
+strip-mark : (s : List ℕ) → is_colour s ≡ false → (p : Piece) → strip_piece (with_mark s p) ≡ with_mark s (strip_piece p)
+strip-mark s h p = elim p.cells as (λ cs. strip_piece (with_mark s (record { cells = cs; rest = p.rest })) ≡ with_mark s (strip_piece (record { cells = cs; rest = p.rest }))) [
+  | [] ↦ ap (λ (b : Bool). record { cells = []; rest = if b then kept p.rest else s ∷ kept p.rest }) h
+  | c ∷ cs ↦ ap (λ (b : Bool). record { cells = record { marks = (if b then kept c.marks else s ∷ kept c.marks); code = c.code } ∷ map strip cs; rest = kept p.rest }) h
+]
+
+strip-colour : (s : List ℕ) → is_colour s ≡ true → (p : Piece) → strip_piece (with_mark s p) ≡ strip_piece p
+strip-colour s h p = elim p.cells as (λ cs. strip_piece (with_mark s (record { cells = cs; rest = p.rest })) ≡ strip_piece (record { cells = cs; rest = p.rest })) [
+  | [] ↦ ap (λ (b : Bool). record { cells = []; rest = if b then kept p.rest else s ∷ kept p.rest }) h
+  | c ∷ cs ↦ ap (λ (b : Bool). record { cells = record { marks = (if b then kept c.marks else s ∷ kept c.marks); code = c.code } ∷ map strip cs; rest = kept p.rest }) h
+]
+
+on_first_same : {A B : Type 0} (f : A → B) (g : A → A) → ((x : A) → f (g x) ≡ f x) → (xs : List A) → map f (on_first g xs) ≡ map f xs
+on_first_same f g e [] = refl
+on_first_same f g e (x ∷ xs) = ap (λ y. y ∷ map f xs) (e x)
+
+pub pieces-erased : (ts : List Token) → pieces (erased ts) ≡ map strip_piece (pieces ts)
+pieces-erased [] = refl
+pieces-erased (Character c ∷ ts) =
+    elim (is_line_feed c) as (λ b. (if b then no_characters ∷ pieces (erased ts) else on_first (with_code c) (pieces (erased ts))) ≡ map strip_piece (if b then no_characters ∷ pieces ts else on_first (with_code c) (pieces ts))) [
+      | true ↦ ap (λ ps. no_characters ∷ ps) (pieces-erased ts)
+      | false ↦ ap (on_first (with_code c)) (pieces-erased ts) ∙ sym (map-on_first strip_piece (with_code c) (with_code c) (λ p. refl) (pieces ts))
+    ]
+pieces-erased (Sequence s ∷ ts) =
+    elim (is_colour s) as (λ b. is_colour s ≡ b → pieces (if b then erased ts else Sequence s ∷ erased ts) ≡ map strip_piece (on_first (with_mark s) (pieces ts))) [
+      | true ↦ λ h. pieces-erased ts ∙ sym (on_first_same strip_piece (with_mark s) (strip-colour s h) (pieces ts))
+      | false ↦ λ h. ap (on_first (with_mark s)) (pieces-erased ts) ∙ sym (map-on_first strip_piece (with_mark s) (with_mark s) (strip-mark s h) (pieces ts))
+    ] refl
+
+-- ---- words
+
+with_space-strip : (c : Cell) (ws : List Word) → with_space (strip c) (map strip_word ws) ≡ map strip_word (with_space c ws)
+with_space-strip c [] = refl
+with_space-strip c (w ∷ ws) = elim w.letters as (λ ls. with_space (strip c) (map strip_word (record { letters = ls; spaces = w.spaces } ∷ ws)) ≡ map strip_word (with_space c (record { letters = ls; spaces = w.spaces } ∷ ws))) [
+  | [] ↦ refl
+  | l ∷ ls ↦ refl
+]
+
+with_letter-strip : (c : Cell) (ws : List Word) → with_letter (strip c) (map strip_word ws) ≡ map strip_word (with_letter c ws)
+with_letter-strip c [] = refl
+with_letter-strip c (w ∷ ws) = refl
+
+pub words-strip : (cs : List Cell) → words (map strip cs) ≡ map strip_word (words cs)
+words-strip [] = refl
+words-strip (c ∷ cs) =
+    elim (is_space c.code) as (λ b. (if b then with_space (strip c) (words (map strip cs)) else with_letter (strip c) (words (map strip cs))) ≡ map strip_word (if b then with_space c (words cs) else with_letter c (words cs))) [
+      | true ↦ ap (with_space (strip c)) (words-strip cs) ∙ with_space-strip c (words cs)
+      | false ↦ ap (with_letter (strip c)) (words-strip cs) ∙ with_letter-strip c (words cs)
+    ]
+
+-- what is mapped in front is mapped
+onto-map : {A B : Type 0} (f : A → B) (x : A) (ps : List (List A)) → onto (f x) (map (map f) ps) ≡ map (map f) (onto x ps)
+onto-map f x [] = refl
+onto-map f x (p ∷ ps) = refl
+
+begins-strip : (cs : List Cell) → begins_alphanumeric (map strip cs) ≡ begins_alphanumeric cs
+begins-strip [] = refl
+begins-strip (c ∷ cs) = refl
+
+pub hyphen_parts-strip : (before : ℕ) (cs : List Cell) → hyphen_parts before (map strip cs) ≡ map (map strip) (hyphen_parts before cs)
+hyphen_parts-strip before [] = refl
+hyphen_parts-strip before (c ∷ cs) =
+    ap (λ v. if (c.code == 45) && is_alphanumeric before && v then (strip c ∷ []) ∷ hyphen_parts c.code (map strip cs) else onto (strip c) (hyphen_parts c.code (map strip cs))) (begins-strip cs)
+    ∙ elim ((c.code == 45) && is_alphanumeric before && begins_alphanumeric cs) as (λ b. (if b then (strip c ∷ []) ∷ hyphen_parts c.code (map strip cs) else onto (strip c) (hyphen_parts c.code (map strip cs))) ≡ map (map strip) (if b then (c ∷ []) ∷ hyphen_parts c.code cs else onto c (hyphen_parts c.code cs))) [
+      | true ↦ ap (λ ps. (strip c ∷ []) ∷ ps) (hyphen_parts-strip c.code cs)
+      | false ↦ ap (onto (strip c)) (hyphen_parts-strip c.code cs) ∙ onto-map strip c (hyphen_parts c.code cs)
+    ]
+
+pub broken-strip : (room used : ℕ) (cs : List Cell) → broken room used (map strip cs) ≡ map (map strip) (broken room used cs)
+broken-strip room used [] = refl
+broken-strip room used (c ∷ cs) =
+    elim (nat_lt 0 used && nat_lt room (used + width c.code)) as (λ b. (if b then [] ∷ onto (strip c) (broken room (width c.code) (map strip cs)) else onto (strip c) (broken room (used + width c.code) (map strip cs))) ≡ map (map strip) (if b then [] ∷ onto c (broken room (width c.code) cs) else onto c (broken room (used + width c.code) cs))) [
+      | true ↦ ap (λ ps. [] ∷ onto (strip c) ps) (broken-strip room (width c.code) cs) ∙ ap (λ ps. [] ∷ ps) (onto-map strip c (broken room (width c.code) cs))
+      | false ↦ ap (onto (strip c)) (broken-strip room (used + width c.code) cs) ∙ onto-map strip c (broken room (used + width c.code) cs)
+    ]
+
+pub with_spaces-strip : (spaces : List Cell) (ps : List (List Cell)) → with_spaces (map strip spaces) (map (map strip) ps) ≡ map strip_word (with_spaces spaces ps)
+with_spaces-strip spaces [] = refl
+with_spaces-strip spaces (p ∷ []) = refl
+with_spaces-strip spaces (p ∷ q ∷ qs) = ap (λ ws. record { letters = map strip p; spaces = [] } ∷ ws) (with_spaces-strip spaces (q ∷ qs))
+
+pub flat_map_along : {X Y A B : Type 0} (h : X → Y) (k : A → B) (f : X → List A) (g : Y → List B) → ((x : X) → g (h x) ≡ map k (f x)) → (xs : List X) → flat_map g (map h xs) ≡ map k (flat_map f xs)
+flat_map_along h k f g e [] = refl
+flat_map_along h k f g e (x ∷ xs) = ap₂ (λ us vs. us ++ vs) (e x) (flat_map_along h k f g e xs) ∙ sym (map-append k (f x) (flat_map f xs))
+
+-- ---- rows, under the same rooms
+
+-- Layouts that differ in their indents alone, which are as wide.
+pub record AreAlike (k l : Layout) : Type 0 where
+  pub first : first_room k ≡ first_room l
+  pub further : further_room k ≡ further_room l
+  pub breaks : k.breaks ≡ l.breaks
+  pub hyphens : k.hyphens ≡ l.hyphens
+
+narrowed-strip : (k l : Layout) → AreAlike k l → (cs : List Cell) → narrowed k (map strip cs) ≡ map (map strip) (narrowed l cs)
+narrowed-strip k l e cs =
+    ap (λ (b : Bool). if b then broken (min (first_room k) (further_room k)) 0 (map strip cs) else map strip cs ∷ []) e.breaks
+    ∙ ap₂ (λ m n. if l.breaks then broken (min m n) 0 (map strip cs) else map strip cs ∷ []) e.first e.further
+    ∙ elim l.breaks as (λ b. (if b then broken (min (first_room l) (further_room l)) 0 (map strip cs) else map strip cs ∷ []) ≡ map (map strip) (if b then broken (min (first_room l) (further_room l)) 0 cs else cs ∷ [])) [
+      | true ↦ broken-strip (min (first_room l) (further_room l)) 0 cs
+      | false ↦ refl
+    ]
+
+hyphenated-strip : (k l : Layout) → AreAlike k l → (cs : List Cell) → hyphenated k (map strip cs) ≡ map (map strip) (hyphenated l cs)
+hyphenated-strip k l e cs =
+    ap (λ (b : Bool). if b then hyphen_parts 0 (map strip cs) else map strip cs ∷ []) e.hyphens
+    ∙ elim l.hyphens as (λ b. (if b then hyphen_parts 0 (map strip cs) else map strip cs ∷ []) ≡ map (map strip) (if b then hyphen_parts 0 cs else cs ∷ [])) [
+      | true ↦ hyphen_parts-strip 0 cs
+      | false ↦ refl
+    ]
+
+parts-strip : (k l : Layout) → AreAlike k l → (w : Word) → parts k (strip_word w) ≡ map strip_word (parts l w)
+parts-strip k l e w =
+    ap (λ ps. with_spaces (map strip w.spaces) (flat_map (narrowed k) ps)) (hyphenated-strip k l e w.letters)
+    ∙ ap (with_spaces (map strip w.spaces)) (flat_map_along (map strip) (map strip) (narrowed l) (narrowed k) (narrowed-strip k l e) (hyphenated l w.letters))
+    ∙ with_spaces-strip w.spaces (flat_map (narrowed l) (hyphenated l w.letters))
+
+pub piece_words-strip : (k l : Layout) → AreAlike k l → (p : Piece) → piece_words k (strip_piece p) ≡ map strip_word (piece_words l p)
+piece_words-strip k l e p =
+    ap (flat_map (parts k)) (words-strip p.cells)
+    ∙ flat_map_along strip_word strip_word (parts l) (parts k) (parts-strip k l e) (words p.cells)
+
+word_cells-strip : (w : Word) → word_cells (strip_word w) ≡ map strip (word_cells w)
+word_cells-strip w = sym (map-append strip w.letters w.spaces)
+
+wide-strip : (w : Word) → columns (word_cells (strip_word w)) ≡ columns (word_cells w)
+wide-strip w = ap columns (word_cells-strip w) ∙ columns-strip (word_cells w)
+
+rows_behind-strip : (used room further : ℕ) (ws : List Word) → rows_behind used room further (map strip_word ws) ≡ map (map strip_word) (rows_behind used room further ws)
+rows_behind-strip used room further [] = refl
+rows_behind-strip used room further (w ∷ ws) =
+    ap₂ (λ m n. if nat_lt room (used + m) then [] ∷ onto (strip_word w) (rows_behind n further further (map strip_word ws)) else onto (strip_word w) (rows_behind (used + n) room further (map strip_word ws))) (columns-strip w.letters) (wide-strip w)
+    ∙ elim (nat_lt room (used + columns w.letters)) as (λ b. (if b then [] ∷ onto (strip_word w) (rows_behind (columns (word_cells w)) further further (map strip_word ws)) else onto (strip_word w) (rows_behind (used + columns (word_cells w)) room further (map strip_word ws))) ≡ map (map strip_word) (if b then [] ∷ onto w (rows_behind (columns (word_cells w)) further further ws) else onto w (rows_behind (used + columns (word_cells w)) room further ws))) [
+      | true ↦ ap (λ rs. [] ∷ onto (strip_word w) rs) (rows_behind-strip (columns (word_cells w)) further further ws) ∙ ap (λ rs. [] ∷ rs) (onto-map strip_word w (rows_behind (columns (word_cells w)) further further ws))
+      | false ↦ ap (onto (strip_word w)) (rows_behind-strip (used + columns (word_cells w)) room further ws) ∙ onto-map strip_word w (rows_behind (used + columns (word_cells w)) room further ws)
+    ]
+
+pub rows-strip : (room further : ℕ) (ws : List Word) → rows room further (map strip_word ws) ≡ map (map strip_word) (rows room further ws)
+rows-strip room further [] = refl
+rows-strip room further (w ∷ ws) =
+    ap (λ n. onto (strip_word w) (rows_behind n room further (map strip_word ws))) (wide-strip w)
+    ∙ ap (onto (strip_word w)) (rows_behind-strip (columns (word_cells w)) room further ws)
+    ∙ onto-map strip_word w (rows_behind (columns (word_cells w)) room further ws)
+
+-- ---- what rows print
+
+only_spaces-erased : (ts : List Token) → only_spaces (erased ts) ≡ only_spaces ts
+only_spaces-erased [] = refl
+only_spaces-erased (Character c ∷ ts) = ap (λ b. is_space c && b) (only_spaces-erased ts)
+only_spaces-erased (Sequence s ∷ ts) = elim (is_colour s) as (λ b. only_spaces (if b then erased ts else Sequence s ∷ erased ts) ≡ only_spaces ts) [ true ↦ only_spaces-erased ts | false ↦ only_spaces-erased ts ]
+
+pub trimmed-erased : (ts : List Token) → trimmed (erased ts) ≡ erased (trimmed ts)
+trimmed-erased [] = refl
+trimmed-erased (Character c ∷ ts) =
+    ap (λ v. if is_space c && v then trimmed (erased ts) else Character c ∷ trimmed (erased ts)) (only_spaces-erased ts)
+    ∙ elim (is_space c && only_spaces ts) as (λ b. (if b then trimmed (erased ts) else Character c ∷ trimmed (erased ts)) ≡ erased (if b then trimmed ts else Character c ∷ trimmed ts)) [
+      | true ↦ trimmed-erased ts
+      | false ↦ ap (λ us. Character c ∷ us) (trimmed-erased ts)
+    ]
+trimmed-erased (Sequence s ∷ ts) = elim (is_colour s) as (λ b. trimmed (if b then erased ts else Sequence s ∷ erased ts) ≡ (if b then erased (trimmed ts) else Sequence s ∷ erased (trimmed ts))) [
+  | true ↦ trimmed-erased ts
+  | false ↦ ap (λ us. Sequence s ∷ us) (trimmed-erased ts)
+]
+
+pub row_tokens-strip : (ws : List Word) → row_tokens (map strip_word ws) ≡ erased (row_tokens ws)
+row_tokens-strip ws =
+    ap (λ cs. trimmed (flat_map cell_tokens cs)) (flat_map_along strip_word strip word_cells word_cells word_cells-strip ws)
+    ∙ ap trimmed (sym (erased-cells (flat_map word_cells ws)))
+    ∙ trimmed-erased (flat_map cell_tokens (flat_map word_cells ws))
+
+map_along : {A B C D : Type 0} (h : A → B) (f : B → D) (g : A → C) (k : C → D) → ((x : A) → f (h x) ≡ k (g x)) → (xs : List A) → map f (map h xs) ≡ map k (map g xs)
+map_along h f g k e [] = refl
+map_along h f g k e (x ∷ xs) = ap₂ (λ y ys. y ∷ ys) (e x) (map_along h f g k e xs)
+
+with_rest-erased : (rest : List (List ℕ)) (rs : List (List Token)) → with_rest (kept rest) (map erased rs) ≡ map erased (with_rest rest rs)
+with_rest-erased rest [] = refl
+with_rest-erased rest (r ∷ []) = ap (λ us. us ∷ []) (ap (λ us. erased r ++ us) (sym (erased-marks rest)) ∙ sym (erased-append r (map Sequence rest)))
+with_rest-erased rest (r ∷ s ∷ rs) = ap (λ us. erased r ∷ us) (with_rest-erased rest (s ∷ rs))
+
+pub piece_rows-strip : (k l : Layout) → AreAlike k l → (room : ℕ) (p : Piece) → piece_rows k room (strip_piece p) ≡ map erased (piece_rows l room p)
+piece_rows-strip k l e room p =
+    ap₂ (λ n ws. with_rest (kept p.rest) (map row_tokens (rows room n ws))) e.further (piece_words-strip k l e p)
+    ∙ ap (λ rs. with_rest (kept p.rest) (map row_tokens rs)) (rows-strip room (further_room l) (piece_words l p))
+    ∙ ap (with_rest (kept p.rest)) (map_along (map strip_word) row_tokens row_tokens erased row_tokens-strip (rows room (further_room l) (piece_words l p)))
+    ∙ with_rest-erased p.rest (map row_tokens (rows room (further_room l) (piece_words l p)))
+
+pub text_rows-strip : (k l : Layout) → AreAlike k l → (ps : List Piece) → text_rows k (map strip_piece ps) ≡ map erased (text_rows l ps)
+text_rows-strip k l e [] = refl
+text_rows-strip k l e (p ∷ ps) =
+    ap₂ (λ m n. piece_rows k m (strip_piece p) ++ flat_map (piece_rows k n) (map strip_piece ps)) e.first e.further
+    ∙ ap₂ (λ us vs. us ++ vs) (piece_rows-strip k l e (first_room l) p) (flat_map_along strip_piece erased (piece_rows l (further_room l)) (piece_rows k (further_room l)) (piece_rows-strip k l e (further_room l)) ps)
+    ∙ sym (map-append erased (piece_rows l (first_room l) p) (flat_map (piece_rows l (further_room l)) ps))
+
+erased-append_feed : (us vs ws : List Token) → erased (us ++ vs ++ line_feed ∷ ws) ≡ erased us ++ erased vs ++ line_feed ∷ erased ws
+erased-append_feed us vs ws = erased-append (us ++ vs) (line_feed ∷ ws) ∙ ap (λ ts. ts ++ line_feed ∷ erased ws) (erased-append us vs)
+
+pub joined-erased : (indent further : List Token) (rs : List (List Token)) → joined (erased indent) (erased further) (map erased rs) ≡ erased (joined indent further rs)
+joined-erased indent further [] = refl
+joined-erased indent further (r ∷ []) = sym (erased-append indent r)
+joined-erased indent further (r ∷ s ∷ rs) =
+    ap (λ ts. erased indent ++ erased r ++ line_feed ∷ ts) (joined-erased further further (s ∷ rs))
+    ∙ sym (erased-append_feed indent r (joined further further (s ∷ rs)))
+
+-- ---- without wrapping
+
+all_white-strip : (cs : List Cell) → all_white (map strip cs) ≡ all_white cs
+all_white-strip [] = refl
+all_white-strip (c ∷ cs) = ap (λ b. is_whitespace c.code && b) (all_white-strip cs)
+
+piece_tokens-strip : (p : Piece) → piece_tokens (strip_piece p) ≡ erased (piece_tokens p)
+piece_tokens-strip p = ap₂ (λ us vs. us ++ vs) (sym (erased-cells p.cells)) (sym (erased-marks p.rest)) ∙ sym (erased-append (flat_map cell_tokens p.cells) (map Sequence p.rest))
+
+indented-strip : (indent : List Token) (p : Piece) → indented (erased indent) (strip_piece p) ≡ erased (indented indent p)
+indented-strip indent p =
+    ap₂ (λ (b : Bool) ts. (if b then trimmed (erased indent) else erased indent) ++ ts) (all_white-strip p.cells) (piece_tokens-strip p)
+    ∙ elim (all_white p.cells) as (λ b. (if b then trimmed (erased indent) else erased indent) ++ erased (piece_tokens p) ≡ erased ((if b then trimmed indent else indent) ++ piece_tokens p)) [
+      | true ↦ ap (λ ts. ts ++ erased (piece_tokens p)) (trimmed-erased indent) ∙ sym (erased-append (trimmed indent) (piece_tokens p))
+      | false ↦ sym (erased-append indent (piece_tokens p))
+    ]
+
+last_indented-strip : (indent : List Token) (p : Piece) → last_indented (erased indent) (strip_piece p) ≡ erased (last_indented indent p)
+last_indented-strip indent p = elim p.cells as (λ cs. last_indented (erased indent) (strip_piece (record { cells = cs; rest = p.rest })) ≡ erased (last_indented indent (record { cells = cs; rest = p.rest }))) [
+  | [] ↦ sym (erased-marks p.rest)
+  | c ∷ cs ↦ indented-strip indent (record { cells = c ∷ cs; rest = p.rest })
+]
+
+pub whole_pieces-strip : (indent further : List Token) (ps : List Piece) → whole_pieces (erased indent) (erased further) (map strip_piece ps) ≡ erased (whole_pieces indent further ps)
+whole_pieces-strip indent further [] = refl
+whole_pieces-strip indent further (p ∷ []) = last_indented-strip indent p
+whole_pieces-strip indent further (p ∷ q ∷ ps) =
+    ap₂ (λ us vs. us ++ line_feed ∷ vs) (indented-strip indent p) (whole_pieces-strip further further (q ∷ ps))
+    ∙ sym (erased-append (indented indent p) (line_feed ∷ whole_pieces further further (q ∷ ps)))
+
+-- ---- all of it
+
+-- The layout k has l's indents without their colours.
+pub record Bleaches (k l : Layout) : Type 0 where
+  pub first : tokens k.first ≡ erased (tokens l.first)
+  pub further : tokens k.further ≡ erased (tokens l.further)
+  pub room : k.room ≡ l.room
+  pub breaks : k.breaks ≡ l.breaks
+  pub wraps : k.wraps ≡ l.wraps
+  pub hyphens : k.hyphens ≡ l.hyphens
+
+alike_of : (k l : Layout) → Bleaches k l → AreAlike k l
+alike_of k l e = record {
+  first = ap₂ (λ m ts. m - columns_of ts) e.room e.first ∙ ap (λ n. l.room - n) (columns_of-erased (tokens l.first));
+  further = ap₂ (λ m ts. m - columns_of ts) e.room e.further ∙ ap (λ n. l.room - n) (columns_of-erased (tokens l.further));
+  breaks = e.breaks;
+  hyphens = e.hyphens;
+}
+
+filled-erased : (k l : Layout) → Bleaches k l → (ts : List Token) → filled k (erased ts) ≡ erased (filled l ts)
+filled-erased k l e ts =
+    ap (λ ps. joined (tokens k.first) (tokens k.further) (text_rows k ps)) (pieces-erased ts)
+    ∙ ap (joined (tokens k.first) (tokens k.further)) (text_rows-strip k l (alike_of k l e) (pieces ts))
+    ∙ ap₂ (λ us vs. joined us vs (map erased (text_rows l (pieces ts)))) e.first e.further
+    ∙ joined-erased (tokens l.first) (tokens l.further) (text_rows l (pieces ts))
+
+unwrapped-erased : (k l : Layout) → Bleaches k l → (ts : List Token) → unwrapped k (erased ts) ≡ erased (unwrapped l ts)
+unwrapped-erased k l e ts =
+    ap (whole_pieces (tokens k.first) (tokens k.further)) (pieces-erased ts)
+    ∙ ap₂ (λ us vs. whole_pieces us vs (map strip_piece (pieces ts))) e.first e.further
+    ∙ whole_pieces-strip (tokens l.first) (tokens l.further) (pieces ts)
+
+pub wrapped-erased : (k l : Layout) → Bleaches k l → (ts : List Token) → wrapped_tokens k (erased ts) ≡ erased (wrapped_tokens l ts)
+wrapped-erased k l e ts =
+    ap (λ (b : Bool). if b then filled k (erased ts) else unwrapped k (erased ts)) e.wraps
+    ∙ elim l.wraps as (λ b. (if b then filled k (erased ts) else unwrapped k (erased ts)) ≡ erased (if b then filled l ts else unwrapped l ts)) [
+      | true ↦ filled-erased k l e ts
+      | false ↦ unwrapped-erased k l e ts
+    ]

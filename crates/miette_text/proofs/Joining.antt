@@ -1,0 +1,87 @@
+-- Lines, as the code makes them and as the rows spell them.
+use Rattle.std.proofs.Common.{◌≡◌, ℕ, suc, zero, ◌+◌, ◌<◌, ◌≤◌, true, false, not, ◌&&◌, List, [], ◌∷◌, ◌++◌, map, flat_map, length, drop, get_or, refl, sym, ap, ap₂, ◌∙◌, append_assoc, append-nil, if◌then◌else◌, arith, length-drop, Bor}
+use Rattle.std.proofs.lemmas.List.{drop_more}
+use Rattle.miette_text.specs.Sequences.{flat, Token, Character, Sequence, spell, spelling}
+use Rattle.miette_text.specs.Wrapping.{Cell, Word, is_space, cell_tokens, trimmed, only_spaces, row_tokens, with_rest, joined, line_feed}
+use Rattle.miette_text.specs.Printing.{all_spaces, shown, lines_of, behind, joined_lines, row_cells, view_rows}
+use Rattle.miette_text.specs.PieceViews.{view_cells}
+use Rattle.miette_text.specs.declared.wrap.pieces.Cell as code
+
+drop_end : {A : Type 0} (xs : List A) (i : ℕ) → length xs ≤ i → drop i xs ≡ []
+drop_end [] zero h = refl
+drop_end [] (suc i) h = refl
+drop_end (c ∷ cs) zero h = absurd (omega arith)
+drop_end (c ∷ cs) (suc i) h = drop_end cs i (omega arith)
+
+lines_tail : (rest : List (List ℕ)) (r : List Cell) (xs : List (Bor (List code.Cell))) → 0 < length xs → lines_of rest (r ∷ view_rows xs) ≡ shown r ∷ lines_of rest (view_rows xs)
+lines_tail rest r [] h = absurd (omega arith)
+lines_tail rest r (x ∷ xs) h = refl
+
+pub lines_more : (front : List (List ℕ)) (rest : List (List ℕ)) (rows : List (Bor (List code.Cell))) (i : ℕ) (row : Bor (List code.Cell)) → i + 1 < length rows → row ≡ get_or rows i row →
+    (front ++ shown (view_cells row.now) ∷ []) ++ lines_of rest (view_rows (drop (i + 1) rows)) ≡ front ++ lines_of rest (view_rows (drop i rows))
+lines_more front rest rows i row h e =
+    let d : drop i rows ≡ row ∷ drop (i + 1) rows = drop_more rows i row (omega arith) ∙ ap (λ x. x ∷ drop (i + 1) rows) (sym e) in
+    append_assoc front (shown (view_cells row.now) ∷ []) (lines_of rest (view_rows (drop (i + 1) rows)))
+    ∙ ap (λ us. front ++ us) (sym (ap (λ xs. lines_of rest (view_rows xs)) d ∙ lines_tail rest (view_cells row.now) (drop (i + 1) rows) (omega (arith, length-drop {A = Bor (List code.Cell)} (i + 1) rows))))
+
+pub lines_last : (front : List (List ℕ)) (rest : List (List ℕ)) (rows : List (Bor (List code.Cell))) (i : ℕ) (row : Bor (List code.Cell)) → i + 1 ≡ length rows → row ≡ get_or rows i row →
+    (front ++ (shown (view_cells row.now) ++ flat rest) ∷ []) ++ lines_of rest (view_rows (drop (i + 1) rows)) ≡ front ++ lines_of rest (view_rows (drop i rows))
+lines_last front rest rows i row h e =
+    let z : drop (i + 1) rows ≡ [] = drop_end rows (i + 1) (omega arith) in
+    let d : drop i rows ≡ row ∷ [] = drop_more rows i row (omega arith) ∙ ap (λ x. x ∷ drop (i + 1) rows) (sym e) ∙ ap (λ xs. row ∷ xs) z in
+    ap (λ xs. (front ++ (shown (view_cells row.now) ++ flat rest) ∷ []) ++ lines_of rest (view_rows xs)) z
+    ∙ append-nil (front ++ (shown (view_cells row.now) ++ flat rest) ∷ [])
+    ∙ ap (λ us. front ++ us) (sym (ap (λ xs. lines_of rest (view_rows xs)) d))
+
+-- ---- what rows spell
+
+pub spell-append : (us vs : List Token) → spell (us ++ vs) ≡ spell us ++ spell vs
+spell-append [] vs = refl
+spell-append (u ∷ us) vs = ap (λ xs. spelling u ++ xs) (spell-append us vs) ∙ sym (append_assoc (spelling u) (spell us) (spell vs))
+
+pub spell-marks : (ms : List (List ℕ)) → spell (map Sequence ms) ≡ flat ms
+spell-marks [] = refl
+spell-marks (m ∷ ms) = ap (λ xs. m ++ xs) (spell-marks ms)
+
+only-marks : (ms : List (List ℕ)) (ts : List Token) → only_spaces (map Sequence ms ++ ts) ≡ only_spaces ts
+only-marks [] ts = refl
+only-marks (m ∷ ms) ts = only-marks ms ts
+
+trimmed-marks : (ms : List (List ℕ)) (ts : List Token) → trimmed (map Sequence ms ++ ts) ≡ map Sequence ms ++ trimmed ts
+trimmed-marks [] ts = refl
+trimmed-marks (m ∷ ms) ts = ap (λ xs. Sequence m ∷ xs) (trimmed-marks ms ts)
+
+only-cells : (cs : List Cell) → only_spaces (flat_map cell_tokens cs) ≡ all_spaces cs
+only-cells [] = refl
+only-cells (c ∷ cs) = ap only_spaces (append_assoc (map Sequence c.marks) (Character c.code ∷ []) (flat_map cell_tokens cs)) ∙ only-marks c.marks (Character c.code ∷ flat_map cell_tokens cs) ∙ ap (λ b. is_space c.code && b) (only-cells cs)
+
+pub spell-trimmed : (cs : List Cell) → spell (trimmed (flat_map cell_tokens cs)) ≡ shown cs
+spell-trimmed [] = refl
+spell-trimmed (c ∷ cs) =
+    ap (λ ts. spell (trimmed ts)) (append_assoc (map Sequence c.marks) (Character c.code ∷ []) (flat_map cell_tokens cs))
+    ∙ ap spell (trimmed-marks c.marks (Character c.code ∷ flat_map cell_tokens cs))
+    ∙ spell-append (map Sequence c.marks) (trimmed (Character c.code ∷ flat_map cell_tokens cs))
+    ∙ ap₂ (λ us vs. us ++ vs) (spell-marks c.marks)
+    (ap (λ b. spell (if is_space c.code && b then trimmed (flat_map cell_tokens cs) else Character c.code ∷ trimmed (flat_map cell_tokens cs))) (only-cells cs)
+    ∙ elim (is_space c.code && all_spaces cs) as (λ b. spell (if b then trimmed (flat_map cell_tokens cs) else Character c.code ∷ trimmed (flat_map cell_tokens cs)) ≡ (if not b then c.code ∷ [] else []) ++ shown cs) [
+      | true ↦ spell-trimmed cs
+      | false ↦ ap (λ xs. c.code ∷ xs) (spell-trimmed cs)
+    ])
+
+pub spell-rows : (rest : List (List ℕ)) (rs : List (List Word)) → map spell (with_rest rest (map row_tokens rs)) ≡ lines_of rest (map row_cells rs)
+spell-rows rest [] = refl
+spell-rows rest (r ∷ []) = ap (λ x. x ∷ []) (spell-append (row_tokens r) (map Sequence rest) ∙ ap₂ (λ us vs. us ++ vs) (spell-trimmed (row_cells r)) (spell-marks rest))
+spell-rows rest (r ∷ s ∷ rs) = ap₂ (λ x xs. x ∷ xs) (spell-trimmed (row_cells r)) (spell-rows rest (s ∷ rs))
+
+spell-behind : (further : List Token) (r : List Token) (rs : List (List Token)) → 10 ∷ spell (joined further further (r ∷ rs)) ≡ behind (spell further) (map spell (r ∷ rs))
+spell-behind further r [] = ap (λ xs. 10 ∷ xs) (spell-append further r) ∙ ap (λ xs. (10 ∷ spell further) ++ xs) (sym (append-nil (spell r)))
+spell-behind further r (s ∷ rs) =
+    ap (λ xs. 10 ∷ xs) (spell-append (further ++ r) (line_feed ∷ joined further further (s ∷ rs)) ∙ ap₂ (λ us vs. us ++ vs) (spell-append further r) (spell-behind further s rs) ∙ append_assoc (spell further) (spell r) (behind (spell further) (map spell (s ∷ rs))))
+
+pub spell-joined : (first further : List Token) (rs : List (List Token)) → spell (joined first further rs) ≡ joined_lines (spell first) (spell further) (map spell rs)
+spell-joined first further [] = refl
+spell-joined first further (r ∷ []) = spell-append first r ∙ ap (λ xs. spell first ++ xs) (sym (append-nil (spell r)))
+spell-joined first further (r ∷ s ∷ rs) =
+    spell-append (first ++ r) (line_feed ∷ joined further further (s ∷ rs))
+    ∙ ap₂ (λ us vs. us ++ vs) (spell-append first r) (spell-behind further s rs)
+    ∙ append_assoc (spell first) (spell r) (behind (spell further) (map spell (s ∷ rs)))

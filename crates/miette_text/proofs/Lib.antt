@@ -1,0 +1,22 @@
+pub mod Examples
+pub mod Parsing
+pub mod Commuting
+pub mod Closed
+pub mod Erasing
+pub mod Printing
+pub mod Cuts
+pub mod Coloured
+pub mod Counting
+pub mod Gathering
+pub mod Packing
+pub mod Joining
+pub mod Simple
+pub mod Unique
+pub mod Encoding
+pub mod FilledColours
+pub mod Ending
+pub mod Laying
+pub mod Opened
+pub mod Steps
+pub mod Icons
+mod PieceLemmas

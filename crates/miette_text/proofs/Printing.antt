@@ -1,0 +1,274 @@
+-- What runs and links print is tame, and without colours it is the same runs in plain styles.
+use Rattle.std.proofs.Common.{◌≡◌, ℕ, ◌+◌, ◌<◌, Bool, true, false, not, ◌&&◌, ◌||◌, ◌==◌, List, [], ◌∷◌, ◌++◌, map, refl, sym, ap, ap₂, ◌∙◌, arith, eqb-true, append_assoc, append-nil, if◌then◌else◌, decimal, codes, Option, Some, None, IfSome, ◌⊎◌, inl, inr, ◌^◌, ◌%◌}
+use Rattle.std.proofs.lemmas.Bool.{and_parts}
+use Rattle.std.proofs.lemmas.Bool.Decides.{nat_tests}
+use Rattle.miette_text.specs.Sequences.{Token, Character, Sequence, tokens, spell, erase, is_line_feed, is_escape, is_bell, is_parameter}
+use Rattle.miette_text.specs.Tame.{no_escape, Free, Opened, Waiting, Broken, step, state_behind, AreTame, IsTame, erased, is_colour, is_colour_end, is_link, is_link_end}
+use Rattle.miette_text.specs.Styles.{plain}
+use Rattle.miette_text.specs.declared.style.Color.{Color}
+use Rattle.miette_text.specs.declared.style.Color.TheVariants.{Red, Green, Yellow, Blue, Magenta, Cyan, Rgb}
+use Rattle.miette_text.specs.declared.style.Style.{Style}
+use Rattle.miette_text.specs.Runs.{foreground, foreground_codes, flag, style_codes, separated, colour_start, colour_stop, Run, Styled, LinkTo, LinkEnd, printed_run, link_start, printed, print, IsColor, IsStyle, HaveNoEscape, plain_run, HasNoEscape, behind_separators}
+use Rattle.std.proofs.lemmas.Fmt.{decimal_by_steps}
+use Rattle.miette_text.proofs.Parsing.{tokens-spell, erase-spell}
+use Rattle.miette_text.proofs.Closed.{run-append}
+use Rattle.miette_text.proofs.Erasing.{append-tame, erase-append}
+
+-- a text that is spelled by tame tokens
+spelled-tame : (text : List ℕ) (ts : List Token) → AreTame ts → spell ts ≡ text → IsTame text
+spelled-tame text ts h e = ap (λ x. state_behind Free (tokens x)) (sym e) ∙ ap (state_behind Free) (tokens-spell Free ts h) ∙ h
+
+spelled-erase : (text : List ℕ) (ts : List Token) → AreTame ts → spell ts ≡ text → erase text ≡ spell (erased ts)
+spelled-erase text ts h e = ap erase (sym e) ∙ erase-spell Free ts h
+
+-- ---- a plain text
+
+spell-characters : (cs : List ℕ) → spell (map Character cs) ≡ cs
+spell-characters [] = refl
+spell-characters (c ∷ cs) = ap (λ xs. c ∷ xs) (spell-characters cs)
+
+erased-characters : (cs : List ℕ) → erased (map Character cs) ≡ map Character cs
+erased-characters [] = refl
+erased-characters (c ∷ cs) = ap (λ xs. Character c ∷ xs) (erased-characters cs)
+
+plain-run : (cs : List ℕ) → no_escape cs ≡ true → state_behind Free (map Character cs) ≡ Free
+plain-run [] h = refl
+plain-run (c ∷ cs) h = grind (arith, nat_tests, plain-run cs)
+
+pub plain-tame : (cs : List ℕ) → no_escape cs ≡ true → IsTame cs
+plain-tame cs h = spelled-tame cs (map Character cs) (plain-run cs h) (spell-characters cs)
+
+pub plain-erase : (cs : List ℕ) → no_escape cs ≡ true → erase cs ≡ cs
+plain-erase cs h = spelled-erase cs (map Character cs) (plain-run cs h) (spell-characters cs) ∙ ap spell (erased-characters cs) ∙ spell-characters cs
+
+-- ---- links
+
+-- `ESC \`
+abbrev terminator : List ℕ
+terminator = 27 ∷ 92 ∷ []
+
+-- The body of a link, with what is to finish it: a BEL finishes it before, or a line feed leaves it open, or all of it is the sequence.
+abbrev Finish : List ℕ → Type 0
+Finish b = ((p : List ℕ × List ℕ) × (b ≡ p.0 ++ 7 ∷ p.1) × (is_link_end (p.0 ++ 7 ∷ []) ≡ true) × (no_escape p.1 ≡ true))
+    ⊎ ((state_behind Opened (map Character b ++ map Character terminator) ≡ Free) ⊎ (is_link_end (b ++ terminator) ≡ true))
+
+plain-closed : (b : List ℕ) → no_escape b ≡ true → state_behind Free (map Character b ++ map Character terminator) ≡ Free
+plain-closed b h = run-append Free (map Character b) (map Character terminator) ∙ ap (λ s. state_behind s (map Character terminator)) (plain-run b h)
+
+-- behind a line feed, what is to be seen comes
+waiting-run : (b : List ℕ) → no_escape b ≡ true → state_behind Waiting (map Character b ++ map Character terminator) ≡ Free
+waiting-run [] h = refl
+waiting-run (c ∷ b) h = grind (arith, nat_tests, waiting-run b, plain-closed b)
+
+link_end-more : (c : ℕ) (cs : List ℕ) → is_bell c ≡ false → is_escape c ≡ false → is_line_feed c ≡ false → is_link_end cs ≡ true → is_link_end (c ∷ cs) ≡ true
+link_end-more c cs a b d h = grind (arith, nat_tests)
+
+opened-more : (c : ℕ) (ts : List Token) → is_bell c ≡ false → is_escape c ≡ false → is_line_feed c ≡ false → state_behind Opened ts ≡ Free → state_behind Opened (Character c ∷ ts) ≡ Free
+opened-more c ts a b d h = grind (arith, nat_tests)
+
+finish : (b : List ℕ) → no_escape b ≡ true → Finish b
+finish [] h = inr (inr refl)
+finish (c ∷ b) h =
+    let p = and_parts (not (is_escape c)) (no_escape b) h in
+    let e : is_escape c ≡ false = grind (arith, nat_tests) in
+    elim (is_bell c) as (λ v. is_bell c ≡ v → Finish (c ∷ b)) [
+      | true ↦ λ v. inl (([], b), ap (λ x. x ∷ b) (eqb-true c 7 v), refl, p.1)
+      | false ↦ λ v. elim (is_line_feed c) as (λ w. is_line_feed c ≡ w → Finish (c ∷ b)) [
+        | true ↦ λ w. inr (inl (ap (λ x. state_behind (step Opened (Character x)) (map Character b ++ map Character terminator)) (eqb-true c 10 w) ∙ waiting-run b p.1))
+        | false ↦ λ w. elim (finish b p.1) [
+          | inl f ↦ inl ((c ∷ f.0.0, f.0.1), ap (λ xs. c ∷ xs) f.1, link_end-more c (f.0.0 ++ 7 ∷ []) v e w f.2, f.3)
+          | inr g ↦ elim g [
+            | inl f ↦ inr (inl (opened-more c (map Character b ++ map Character terminator) v e w f))
+            | inr f ↦ inr (inr (link_end-more c (b ++ terminator) v e w f))
+          ]
+        ]
+      ] refl
+    ] refl
+
+-- what is spelled by tame tokens with no colour
+record Uncoloured (text : List ℕ) : Type 0 where
+  pub ts : List Token
+  pub spells : spell ts ≡ text
+  pub tame : AreTame ts
+  pub same : erased ts ≡ ts
+
+spell-both : (x y : List ℕ) → spell (map Character x ++ map Character y) ≡ x ++ y
+spell-both [] y = spell-characters y
+spell-both (c ∷ x) y = ap (λ xs. c ∷ xs) (spell-both x y)
+
+erased-both : (x y : List ℕ) → erased (map Character x ++ map Character y) ≡ map Character x ++ map Character y
+erased-both [] y = erased-characters y
+erased-both (c ∷ x) y = ap (λ xs. Character c ∷ xs) (erased-both x y)
+
+link-run : (s : List ℕ) (ts : List Token) → is_link_end s ≡ true → state_behind Free ts ≡ Free → state_behind Free (Sequence (27 ∷ 93 ∷ s) ∷ ts) ≡ Free
+link-run s ts h k = ap (λ (b : Bool). state_behind (if b then Free else Broken) ts) h ∙ k
+
+uncoloured_link : (b : List ℕ) → no_escape b ≡ true → Uncoloured (27 ∷ 93 ∷ b ++ terminator)
+uncoloured_link b h = elim (finish b h) [
+  | inl f ↦ record {
+    ts = Sequence (27 ∷ 93 ∷ f.0.0 ++ 7 ∷ []) ∷ map Character f.0.1 ++ map Character terminator;
+    spells = ap (λ xs. 27 ∷ 93 ∷ xs) (ap (λ xs. (f.0.0 ++ 7 ∷ []) ++ xs) (spell-both f.0.1 terminator) ∙ append_assoc f.0.0 (7 ∷ []) (f.0.1 ++ terminator) ∙ sym (append_assoc f.0.0 (7 ∷ f.0.1) terminator) ∙ ap (λ xs. xs ++ terminator) (sym f.1));
+    tame = link-run (f.0.0 ++ 7 ∷ []) (map Character f.0.1 ++ map Character terminator) f.2 (plain-closed f.0.1 f.3);
+    same = ap (λ xs. Sequence (27 ∷ 93 ∷ f.0.0 ++ 7 ∷ []) ∷ xs) (erased-both f.0.1 terminator);
+  }
+  | inr g ↦ elim g [
+    | inl f ↦ record {
+      ts = Character 27 ∷ Character 93 ∷ map Character b ++ map Character terminator;
+      spells = ap (λ xs. 27 ∷ 93 ∷ xs) (spell-both b terminator);
+      tame = f;
+      same = ap (λ xs. Character 27 ∷ Character 93 ∷ xs) (erased-both b terminator);
+    }
+    | inr f ↦ record {
+      ts = Sequence (27 ∷ 93 ∷ b ++ terminator) ∷ [];
+      spells = append-nil (27 ∷ 93 ∷ b ++ terminator);
+      tame = link-run (b ++ terminator) [] f refl;
+      same = refl;
+    }
+  ]
+]
+
+pub link-tame : (url : List ℕ) → no_escape url ≡ true → IsTame (link_start url)
+link-tame url h = let u = uncoloured_link (56 ∷ 59 ∷ 59 ∷ url) h in spelled-tame (link_start url) u.ts u.tame u.spells
+
+pub link-erase : (url : List ℕ) → no_escape url ≡ true → erase (link_start url) ≡ link_start url
+link-erase url h = let u = uncoloured_link (56 ∷ 59 ∷ 59 ∷ url) h in spelled-erase (link_start url) u.ts u.tame u.spells ∙ ap spell u.same ∙ u.spells
+
+-- ---- colours
+
+abbrev parameters : List ℕ → Bool
+parameters [] = true
+parameters (c ∷ cs) = is_parameter c && parameters cs
+
+parameters-append : (x y : List ℕ) → parameters x ≡ true → parameters y ≡ true → parameters (x ++ y) ≡ true
+parameters-append [] y h k = k
+parameters-append (c ∷ x) y h k = grind (arith, nat_tests, parameters-append x y)
+
+parameter_end : (c : ℕ) → is_parameter c ≡ true → (c == 109) ≡ false
+parameter_end c h = grind (arith, nat_tests)
+
+parameters_end : (x : List ℕ) → parameters x ≡ true → is_colour_end (x ++ 109 ∷ []) ≡ true
+parameters_end [] h = refl
+parameters_end (c ∷ x) h = grind (arith, nat_tests, parameter_end c, parameters_end x)
+
+decimal_parameters : (n : ℕ) → n < 2 ^ 64 → parameters (decimal n) ≡ true
+decimal_parameters = decimal_by_steps (λ n ds. parameters ds ≡ true) (λ n h. grind (arith, nat_tests)) (λ n ds h e. parameters-append ds ((48 + n % 10) ∷ []) e (let k : n % 10 < 10 = omega arith in grind (arith, nat_tests, k)))
+
+foreground_parameters : (c : Color) → IsColor c → parameters (foreground c) ≡ true
+foreground_parameters Red h = refl
+foreground_parameters Green h = refl
+foreground_parameters Yellow h = refl
+foreground_parameters Blue h = refl
+foreground_parameters Magenta h = refl
+foreground_parameters Cyan h = refl
+foreground_parameters (Rgb r g b) h =
+    parameters-append (codes "38;2;" ++ decimal r ++ codes ";" ++ decimal g ++ codes ";") (decimal b)
+    (parameters-append (codes "38;2;" ++ decimal r ++ codes ";" ++ decimal g) (codes ";")
+    (parameters-append (codes "38;2;" ++ decimal r ++ codes ";") (decimal g)
+    (parameters-append (codes "38;2;" ++ decimal r) (codes ";") (parameters-append (codes "38;2;") (decimal r) refl (decimal_parameters r (omega arith))) refl)
+    (decimal_parameters g (omega arith)))
+    refl)
+    (decimal_parameters b (omega arith))
+
+abbrev each_parameters : List (List ℕ) → Bool
+each_parameters [] = true
+each_parameters (x ∷ xs) = parameters x && each_parameters xs
+
+behind_parameters : (xs : List (List ℕ)) → each_parameters xs ≡ true → parameters (behind_separators xs) ≡ true
+behind_parameters [] h = refl
+behind_parameters (x ∷ xs) h =
+    let p = and_parts (parameters x) (each_parameters xs) h in
+    parameters-append (59 ∷ x) (behind_separators xs) p.0 (behind_parameters xs p.1)
+
+separated_parameters : (xs : List (List ℕ)) → each_parameters xs ≡ true → parameters (separated xs) ≡ true
+separated_parameters [] h = refl
+separated_parameters (x ∷ xs) h =
+    let p = and_parts (parameters x) (each_parameters xs) h in
+    parameters-append x (behind_separators xs) p.0 (behind_parameters xs p.1)
+
+each-append : (xs ys : List (List ℕ)) → each_parameters xs ≡ true → each_parameters ys ≡ true → each_parameters (xs ++ ys) ≡ true
+each-append [] ys h k = k
+each-append (x ∷ xs) ys h k = grind (arith, nat_tests, each-append xs ys)
+
+flag-each : (b : Bool) (x : List ℕ) → parameters x ≡ true → each_parameters (flag b x) ≡ true
+flag-each true x h = ap (λ v. v && true) h
+flag-each false x h = refl
+
+foreground-each : (c : Option Color) → IfSome c IsColor → each_parameters (foreground_codes c) ≡ true
+foreground-each None h = refl
+foreground-each (Some c) h = ap (λ v. v && true) (foreground_parameters c h)
+
+style_parameters : (s : Style) → IsStyle s → each_parameters (style_codes s) ≡ true
+style_parameters s h =
+    each-append (foreground_codes s.fg ++ flag s.bold (codes "1") ++ flag s.dimmed (codes "2") ++ flag s.italic (codes "3")) (flag s.underline (codes "4"))
+    (each-append (foreground_codes s.fg ++ flag s.bold (codes "1") ++ flag s.dimmed (codes "2")) (flag s.italic (codes "3"))
+    (each-append (foreground_codes s.fg ++ flag s.bold (codes "1")) (flag s.dimmed (codes "2"))
+    (each-append (foreground_codes s.fg) (flag s.bold (codes "1")) (foreground-each s.fg h) (flag-each s.bold (codes "1") refl))
+    (flag-each s.dimmed (codes "2") refl))
+    (flag-each s.italic (codes "3") refl))
+    (flag-each s.underline (codes "4") refl)
+
+start_colour : (s : Style) → IsStyle s → is_colour (colour_start s) ≡ true
+start_colour s h = parameters_end (separated (style_codes s)) (separated_parameters (style_codes s) (style_parameters s h))
+
+colour-run : (q : List ℕ) (ts : List Token) → is_colour q ≡ true → state_behind Free (Sequence q ∷ ts) ≡ state_behind Free ts
+colour-run q ts h = ap (λ (b : Bool). state_behind (if b || is_link q then Free else Broken) ts) h
+
+colour-erased : (q : List ℕ) (ts : List Token) → is_colour q ≡ true → erased (Sequence q ∷ ts) ≡ erased ts
+colour-erased q ts h = ap (λ (b : Bool). if b then erased ts else Sequence q ∷ erased ts) h
+
+colour-tame : (q : List ℕ) → is_colour q ≡ true → IsTame q
+colour-tame q h = spelled-tame q (Sequence q ∷ []) (colour-run q [] h) (append-nil q)
+
+colour-erase : (q : List ℕ) → is_colour q ≡ true → erase q ≡ []
+colour-erase q h = spelled-erase q (Sequence q ∷ []) (colour-run q [] h) (append-nil q) ∙ ap spell (colour-erased q [] h)
+
+-- ---- runs
+
+coloured-tame : (s : Style) (text : List ℕ) → IsStyle s → no_escape text ≡ true → IsTame (colour_start s ++ text ++ colour_stop)
+coloured-tame s text h k = append-tame (colour_start s ++ text) colour_stop (append-tame (colour_start s) text (colour-tame (colour_start s) (start_colour s h)) (plain-tame text k)) (colour-tame colour_stop refl)
+
+coloured-erase : (s : Style) (text : List ℕ) → IsStyle s → no_escape text ≡ true → erase (colour_start s ++ text ++ colour_stop) ≡ text
+coloured-erase s text h k =
+    erase-append (colour_start s ++ text) colour_stop (append-tame (colour_start s) text (colour-tame (colour_start s) (start_colour s h)) (plain-tame text k)) (colour-tame colour_stop refl)
+    ∙ ap₂ (λ x y. x ++ y) (erase-append (colour_start s) text (colour-tame (colour_start s) (start_colour s h)) (plain-tame text k) ∙ ap₂ (λ x y. x ++ y) (colour-erase (colour_start s) (start_colour s h)) (plain-erase text k)) (colour-erase colour_stop refl)
+    ∙ append-nil text
+
+styled-tame : (s : Style) (text : List ℕ) → IsStyle s → no_escape text ≡ true → IsTame (printed_run s text)
+styled-tame s [] h k = refl
+styled-tame s (c ∷ cs) h k = elim (style_codes s) as (λ xs. IsTame (elim xs as (λ _. List ℕ) [ [] ↦ c ∷ cs | y ∷ ys ↦ colour_start s ++ (c ∷ cs) ++ colour_stop ])) [
+  | [] ↦ plain-tame (c ∷ cs) k
+  | y ∷ ys ↦ coloured-tame s (c ∷ cs) h k
+]
+
+plain-printed : (text : List ℕ) → printed_run plain text ≡ text
+plain-printed [] = refl
+plain-printed (c ∷ cs) = refl
+
+styled-erase : (s : Style) (text : List ℕ) → IsStyle s → no_escape text ≡ true → erase (printed_run s text) ≡ printed_run plain text
+styled-erase s [] h k = refl
+styled-erase s (c ∷ cs) h k = elim (style_codes s) as (λ xs. erase (elim xs as (λ _. List ℕ) [ [] ↦ c ∷ cs | y ∷ ys ↦ colour_start s ++ (c ∷ cs) ++ colour_stop ]) ≡ c ∷ cs) [
+  | [] ↦ plain-erase (c ∷ cs) k
+  | y ∷ ys ↦ coloured-erase s (c ∷ cs) h k
+]
+
+pub run-tame : (s : Run) → HasNoEscape s → IsTame (printed s)
+run-tame (Styled s text) h = styled-tame s text h.1 h.0
+run-tame (LinkTo url) h = link-tame url h
+run-tame LinkEnd h = link-tame [] refl
+
+pub run-erase : (s : Run) → HasNoEscape s → erase (printed s) ≡ printed (plain_run s)
+run-erase (Styled s text) h = styled-erase s text h.1 h.0
+run-erase (LinkTo url) h = link-erase url h
+run-erase LinkEnd h = link-erase [] refl
+
+-- What runs print is tame.
+pub print-tame : (ss : List Run) → HaveNoEscape ss → IsTame (print ss)
+print-tame [] h = refl
+print-tame (s ∷ ss) h = append-tame (printed s) (print ss) (run-tame s h.0) (print-tame ss h.1)
+
+-- Without colours it is what they print in plain styles.
+pub print-erase : (ss : List Run) → HaveNoEscape ss → erase (print ss) ≡ print (map plain_run ss)
+print-erase [] h = refl
+print-erase (s ∷ ss) h =
+    erase-append (printed s) (print ss) (run-tame s h.0) (print-tame ss h.1)
+    ∙ ap₂ (λ x y. x ++ y) (run-erase s h.0) (print-erase ss h.1)

@@ -1,0 +1,8 @@
+use Rattle.miette_text.proofs.PieceLemmas.{total_length-line, ends-boundaries}
+use Rattle.miette_text.proofs.highlight.pieces_law.Goals as goal
+
+pub returns-clause-lengths : goal.returns-clause-lengths
+returns-clause-lengths c = total_length-line
+
+pub returns-clause-boundaries : goal.returns-clause-boundaries
+returns-clause-boundaries c = ends-boundaries

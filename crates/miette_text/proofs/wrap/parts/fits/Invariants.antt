@@ -1,0 +1,11 @@
+use Rattle.std.proofs.Common.{◌≡◌, ◌≤◌, ◌+◌, drop}
+use Rattle.std.specs.List.{fold}
+use Rattle.miette_text.specs.PieceViews.{view_cells}
+use Rattle.miette_text.specs.Wrapping.{columns, width}
+use Rattle.miette_text.proofs.wrap.parts.fits.Given as goal
+
+abbrev pub invariant-loop-cell : goal.invariant-loop-cell
+invariant-loop-cell l = record {
+  summed : fold (λ a c. a + width c.code) l.total (view_cells (drop l.cell-index l.cells)) ≡ columns (view_cells l.cells);
+  within : l.total ≤ l.room;
+}

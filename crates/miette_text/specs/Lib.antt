@@ -1,0 +1,17 @@
+pub mod Cutting
+pub mod Ends
+pub mod Filled
+pub mod Filling
+pub mod Marks
+pub mod PieceViews
+pub mod Printing
+pub mod Runs
+pub mod Sequences
+pub mod Styles
+pub mod Tame
+pub mod Views
+pub mod WholeText
+pub mod WordViews
+pub mod Wrapping
+pub mod Themes
+pub mod Pieces

@@ -1,0 +1,12 @@
+-- Styles of a text.
+use Rattle.std.specs.Prelude.{false, Some, None}
+use Rattle.miette_text.specs.declared.style.Color.{Color}
+use Rattle.miette_text.specs.declared.style.Style.{Style}
+
+-- the style in which nothing is set
+abbrev pub plain : Style
+plain = record { fg = None; bold = false; dimmed = false; italic = false; underline = false }
+
+-- a colour alone
+abbrev pub coloured : Color → Style
+coloured c = record plain { fg = Some c }

@@ -1,0 +1,7 @@
+//! Words and styles: the layer that turns texts into styled rows.
+#![tactic(auto)]
+
+pub mod highlight;
+pub mod style;
+pub mod theme;
+pub mod wrap;

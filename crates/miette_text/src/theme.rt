@@ -1,0 +1,303 @@
+//! The characters and styles that a graphical report is drawn with.
+
+use crate::style::{Color, Style};
+use std::alloc::{AllocError, Global};
+
+#[cfg(test)]
+mod tests;
+
+/// The characters of a drawing, and the icon before a message for each severity.
+#[derive(Debug, PartialEq, Eq, Drop)]
+pub struct ThemeCharacters {
+    pub hbar: char,
+    pub vbar: char,
+    pub xbar: char,
+    pub vbar_break: char,
+    pub uarrow: char,
+    pub rarrow: char,
+    pub ltop: char,
+    pub mtop: char,
+    pub rtop: char,
+    pub lbot: char,
+    pub rbot: char,
+    pub mbot: char,
+    pub lbox: char,
+    pub rbox: char,
+    pub lcross: char,
+    pub rcross: char,
+    pub underbar: char,
+    pub underline: char,
+    pub error: String,
+    pub warning: String,
+    pub advice: String,
+}
+
+impl ThemeCharacters {
+    ghost use Rattle.std.specs.Prelude.{◌≡◌, IfOk};
+    ghost use Rattle.miette_text.specs.Themes.{ascii_characters, characters_of, emoji_characters, unicode_characters};
+
+    /// Lines and arrows of Unicode.
+    ///
+    /// # Errors
+    /// Where no memory is found for the icons.
+    #[tactic(auto, using(crate::proofs::Icons::icons))]
+    pub fn unicode(alloc: Global) -> Result<Self, AllocError>
+        ensures { IfOk result (λ it. characters_of it ≡ unicode_characters) }
+    {
+        Ok(ThemeCharacters {
+            hbar: '─',
+            vbar: '│',
+            xbar: '┼',
+            vbar_break: '·',
+            uarrow: '▲',
+            rarrow: '▶',
+            ltop: '╭',
+            mtop: '┬',
+            rtop: '╮',
+            lbot: '╰',
+            rbot: '╯',
+            mbot: '┴',
+            lbox: '[',
+            rbox: ']',
+            lcross: '├',
+            rcross: '┤',
+            underbar: '┬',
+            underline: '─',
+            error: String::from_str(alloc, "×")?,
+            warning: String::from_str(alloc, "⚠")?,
+            advice: String::from_str(alloc, "☞")?,
+        })
+    }
+
+    /// As `unicode`, with pictures as icons.
+    ///
+    /// # Errors
+    /// Where no memory is found for the icons.
+    #[tactic(auto, using(crate::proofs::Icons::icons))]
+    pub fn emoji(alloc: Global) -> Result<Self, AllocError>
+        ensures { IfOk result (λ it. characters_of it ≡ emoji_characters) }
+    {
+        Ok(ThemeCharacters {
+            error: String::from_str(alloc, "💥")?,
+            warning: String::from_str(alloc, "⚠\u{fe0f}")?,
+            advice: String::from_str(alloc, "💡")?,
+            ..ThemeCharacters::unicode(alloc)?
+        })
+    }
+
+    /// ASCII characters alone.
+    ///
+    /// # Errors
+    /// Where no memory is found for the icons.
+    #[tactic(auto, using(crate::proofs::Icons::icons))]
+    pub fn ascii(alloc: Global) -> Result<Self, AllocError>
+        ensures { IfOk result (λ it. characters_of it ≡ ascii_characters) }
+    {
+        Ok(ThemeCharacters {
+            hbar: '-',
+            vbar: '|',
+            xbar: '+',
+            vbar_break: ':',
+            uarrow: '^',
+            rarrow: '>',
+            ltop: ',',
+            mtop: 'v',
+            rtop: '.',
+            lbot: '`',
+            rbot: '\'',
+            mbot: '^',
+            lbox: '[',
+            rbox: ']',
+            lcross: '|',
+            rcross: '|',
+            underbar: '|',
+            underline: '^',
+            error: String::from_str(alloc, "x")?,
+            warning: String::from_str(alloc, "!")?,
+            advice: String::from_str(alloc, ">")?,
+        })
+    }
+}
+
+// By hand, so that one line says what a clone keeps.
+impl Clone for ThemeCharacters {
+    ghost use Rattle.std.specs.Prelude.{◌≡◌};
+    ghost use Rattle.miette_text.specs.Themes.{characters_of};
+
+    ghost is_clone = { λ it made. characters_of made ≡ characters_of it };
+
+    fn clone(&self) -> Result<Self, AllocError> {
+        Ok(ThemeCharacters {
+            error: self.error.clone()?,
+            warning: self.warning.clone()?,
+            advice: self.advice.clone()?,
+            ..*self
+        })
+    }
+}
+
+/// The styles of a graphical report. In order of offset, the labels take the styles of `highlights` in turn.
+#[derive(Debug, Drop)]
+pub struct ThemeStyles {
+    pub error: Style,
+    pub warning: Style,
+    pub advice: Style,
+    pub help: Style,
+    pub link: Style,
+    pub linum: Style,
+    pub highlights: Vec<Style>,
+}
+
+impl ThemeStyles {
+    ghost use Rattle.std.specs.Prelude.{◌≡◌, IfOk};
+    ghost use Rattle.miette_text.specs.Themes.{ansi_styles, no_styles, rgb_styles, styles_of};
+
+    /// Colours by their red, green and blue parts, for terminals that have 16 million.
+    ///
+    /// # Errors
+    /// Where no memory is found for the list of highlights.
+    pub fn rgb(alloc: Global) -> Result<Self, AllocError>
+        ensures { IfOk result (λ it. styles_of it ≡ rgb_styles) }
+    {
+        let coloured = |red, green, blue| Style::new().color(Color::Rgb(red, green, blue));
+        Ok(ThemeStyles {
+            error: coloured(255, 30, 30),
+            warning: coloured(244, 191, 117),
+            advice: coloured(106, 159, 181),
+            help: coloured(106, 159, 181),
+            link: coloured(92, 157, 255).bold().underline(),
+            linum: Style::new().dimmed(),
+            highlights: vec![in alloc;
+                coloured(246, 87, 248),
+                coloured(30, 201, 212),
+                coloured(145, 246, 111),
+            ]?,
+        })
+    }
+
+    /// The terminal's own colours.
+    ///
+    /// # Errors
+    /// Where no memory is found for the list of highlights.
+    pub fn ansi(alloc: Global) -> Result<Self, AllocError>
+        ensures { IfOk result (λ it. styles_of it ≡ ansi_styles) }
+    {
+        Ok(ThemeStyles {
+            error: Style::new().color(Color::Red),
+            warning: Style::new().color(Color::Yellow),
+            advice: Style::new().color(Color::Cyan),
+            help: Style::new().color(Color::Cyan),
+            link: Style::new().color(Color::Cyan).bold().underline(),
+            linum: Style::new().dimmed(),
+            highlights: vec![in alloc;
+                Style::new().color(Color::Magenta).bold(),
+                Style::new().color(Color::Yellow).bold(),
+                Style::new().color(Color::Green).bold(),
+            ]?,
+        })
+    }
+
+    /// Plain styles.
+    ///
+    /// # Errors
+    /// Where no memory is found for the list of highlights.
+    pub fn none(alloc: Global) -> Result<Self, AllocError>
+        ensures { IfOk result (λ it. styles_of it ≡ no_styles) }
+    {
+        Ok(ThemeStyles {
+            error: Style::new(),
+            warning: Style::new(),
+            advice: Style::new(),
+            help: Style::new(),
+            link: Style::new(),
+            linum: Style::new(),
+            highlights: vec![in alloc; Style::new()]?,
+        })
+    }
+}
+
+impl Clone for ThemeStyles {
+    ghost use Rattle.std.specs.Prelude.{◌≡◌};
+    ghost use Rattle.miette_text.specs.Themes.{styles_of};
+
+    ghost is_clone = { λ it made. styles_of made ≡ styles_of it };
+
+    fn clone(&self) -> Result<Self, AllocError> {
+        Ok(ThemeStyles {
+            highlights: self.highlights.clone()?,
+            ..*self
+        })
+    }
+}
+
+/// How a graphical report looks: its characters and its styles.
+#[derive(Debug, Drop)]
+pub struct GraphicalTheme {
+    pub characters: ThemeCharacters,
+    pub styles: ThemeStyles,
+}
+
+impl GraphicalTheme {
+    ghost use Rattle.std.specs.Prelude.{◌≡◌, IfOk};
+    ghost use Rattle.miette_text.specs.Themes.{ansi_styles, ascii_characters, no_styles, theme_of, unicode_characters};
+
+    fn new(characters: ThemeCharacters, styles: ThemeStyles) -> Self
+        ensures { result ≡ record { characters = characters; styles = styles } }
+    {
+        GraphicalTheme { characters, styles }
+    }
+
+    /// ASCII characters, in the terminal's own colours.
+    ///
+    /// # Errors
+    /// Where no memory is found for the icons and the highlights.
+    pub fn ascii(alloc: Global) -> Result<Self, AllocError>
+        ensures { IfOk result (λ it. theme_of it ≡ record { characters = ascii_characters; styles = ansi_styles }) }
+    {
+        Ok(Self::new(ThemeCharacters::ascii(alloc)?, ThemeStyles::ansi(alloc)?))
+    }
+
+    /// Characters of Unicode, in the terminal's own colours.
+    ///
+    /// # Errors
+    /// Where no memory is found for the icons and the highlights.
+    pub fn unicode(alloc: Global) -> Result<Self, AllocError>
+        ensures { IfOk result (λ it. theme_of it ≡ record { characters = unicode_characters; styles = ansi_styles }) }
+    {
+        Ok(Self::new(ThemeCharacters::unicode(alloc)?, ThemeStyles::ansi(alloc)?))
+    }
+
+    /// Characters of Unicode, plain.
+    ///
+    /// # Errors
+    /// Where no memory is found for the icons and the highlights.
+    pub fn unicode_nocolor(alloc: Global) -> Result<Self, AllocError>
+        ensures { IfOk result (λ it. theme_of it ≡ record { characters = unicode_characters; styles = no_styles }) }
+    {
+        Ok(Self::new(ThemeCharacters::unicode(alloc)?, ThemeStyles::none(alloc)?))
+    }
+
+    /// ASCII characters, plain.
+    ///
+    /// # Errors
+    /// Where no memory is found for the icons and the highlights.
+    pub fn none(alloc: Global) -> Result<Self, AllocError>
+        ensures { IfOk result (λ it. theme_of it ≡ record { characters = ascii_characters; styles = no_styles }) }
+    {
+        Ok(Self::new(ThemeCharacters::ascii(alloc)?, ThemeStyles::none(alloc)?))
+    }
+}
+
+impl Clone for GraphicalTheme {
+    ghost use Rattle.std.specs.Prelude.{◌≡◌};
+    ghost use Rattle.miette_text.specs.Themes.{theme_of};
+
+    ghost is_clone = { λ it made. theme_of made ≡ theme_of it };
+
+    fn clone(&self) -> Result<Self, AllocError> {
+        Ok(GraphicalTheme {
+            characters: self.characters.clone()?,
+            styles: self.styles.clone()?,
+        })
+    }
+}

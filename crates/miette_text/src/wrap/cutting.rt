@@ -1,0 +1,110 @@
+//! Text without the line feeds at an end.
+
+ghost use Rattle.std.specs.Prelude.{◌≡◌, IfOk, if◌then◌else◌};
+ghost use Rattle.miette_text.specs.Cutting.{cut_front, cut_end, only_feeds, without_leading, without_trailing};
+ghost use Rattle.miette_text.specs.Sequences.{spell, is_parameter};
+ghost use Rattle.miette_text.specs.Tame.{is_colour, is_colour_end};
+ghost use Rattle.miette_text.specs.Views.{view_tokens};
+
+use crate::wrap::sequences::{Token, tokens};
+use std::alloc::{AllocError, Global};
+
+fn is_parameter(c: char) -> bool
+    ensures { result ≡ is_parameter c }
+{
+    ('0' <= c && c <= '9') || c == ';'
+}
+
+// Digits and `;`, and then one `m`.
+fn is_colour_end(codes: &[char]) -> bool
+    ensures { result ≡ is_colour_end codes.now }
+{
+    match codes {
+        [] => false,
+        [c, rest @ ..] => {
+            if *c == 'm' {
+                rest.is_empty()
+            } else {
+                is_parameter(*c) && is_colour_end(rest)
+            }
+        }
+    }
+}
+
+fn is_colour(codes: &[char]) -> bool
+    ensures { result ≡ is_colour codes.now }
+{
+    match codes {
+        [escape, bracket, rest @ ..] => {
+            *escape == '\u{1B}' && *bracket == '[' && is_colour_end(rest)
+        }
+        _ => false,
+    }
+}
+
+fn only_feeds(tokens: &[Token]) -> bool
+    ensures { result ≡ only_feeds (view_tokens tokens.now) }
+{
+    for token in tokens {
+        match token {
+            Token::Sequence(s) => {
+                if !is_colour(s) {
+                    return false;
+                }
+            }
+            Token::Character(c) => {
+                if *c != '\n' {
+                    return false;
+                }
+            }
+        }
+    }
+    true
+}
+
+/// Without the line feeds at the beginning; colours before and between them stay.
+pub fn without_leading(alloc: Global, codes: &[char]) -> Result<Vec<char>, AllocError>
+    ensures { IfOk result (λ v. v.items ≡ without_leading codes.now) }
+{
+    let all = tokens(alloc, codes)?;
+    let mut found = Vec::new(alloc);
+    let mut cuts = true;
+    for token in &all {
+        match token {
+            Token::Sequence(s) => {
+                if !is_colour(s) {
+                    cuts = false;
+                }
+                found.extend_from_slice(s)?;
+            }
+            Token::Character(c) => {
+                if *c != '\n' {
+                    cuts = false;
+                }
+                if !cuts {
+                    found.push(*c)?;
+                }
+            }
+        }
+    }
+    Ok(found)
+}
+
+/// Without the line feeds at the end; colours behind and between them stay.
+pub fn without_trailing(alloc: Global, codes: &[char]) -> Result<Vec<char>, AllocError>
+    ensures { IfOk result (λ v. v.items ≡ without_trailing codes.now) }
+{
+    let all = tokens(alloc, codes)?;
+    let mut found = Vec::new(alloc);
+    for (i, token) in all.iter().enumerate() {
+        match token {
+            Token::Sequence(s) => found.extend_from_slice(s)?,
+            Token::Character(c) => {
+                if *c != '\n' || !only_feeds(&all[i + 1..]) {
+                    found.push(*c)?;
+                }
+            }
+        }
+    }
+    Ok(found)
+}

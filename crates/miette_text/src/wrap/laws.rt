@@ -1,0 +1,53 @@
+//! Laws of the definitions: deleting colours commutes with wrapping, with joining, with cutting line feeds and
+//! with what runs print.
+
+ghost use Rattle.std.specs.Prelude.{◌≡◌, ℕ, List, ◌++◌, map};
+ghost use Rattle.miette_text.specs.Cutting.{without_leading, without_trailing};
+ghost use Rattle.miette_text.specs.Runs.{HaveNoEscape, Run, plain_run, print};
+ghost use Rattle.miette_text.specs.Sequences.{erase, tokens};
+ghost use Rattle.miette_text.specs.Tame.{AllTame, IsColoured, IsTame, colourless};
+ghost use Rattle.miette_text.specs.Filled.{IsFilled, all_words};
+ghost use Rattle.miette_text.specs.Wrapping.{Layout, Word, columns_of, rows, wrapped};
+
+/// Wrapping tame parts gives a tame text, and colours can be deleted before or after.
+pub fn wrapping_law()
+    ensures tame { (l : Layout) (text : List ℕ) → AllTame l text → IsTame (wrapped l text) }
+    ensures erase { (l : Layout) (text : List ℕ) → AllTame l text → erase (wrapped l text) ≡ wrapped (colourless l) (erase text) }
+{}
+
+/// The same of joining.
+pub fn joining_law()
+    ensures tame { (x y : List ℕ) → IsTame x → IsTame y → IsTame (x ++ y) }
+    ensures erase { (x y : List ℕ) → IsTame x → IsTame y → erase (x ++ y) ≡ erase x ++ erase y }
+{}
+
+/// The same of cutting line feeds at an end.
+pub fn cutting_law()
+    ensures leading_tame { (text : List ℕ) → IsTame text → IsTame (without_leading text) }
+    ensures leading { (text : List ℕ) → IsTame text → erase (without_leading text) ≡ without_leading (erase text) }
+    ensures trailing_tame { (text : List ℕ) → IsTame text → IsTame (without_trailing text) }
+    ensures trailing { (text : List ℕ) → IsTame text → erase (without_trailing text) ≡ without_trailing (erase text) }
+{}
+
+/// The same of runs and links, whatever the urls hold but escapes.
+pub fn printing_law()
+    ensures tame { (runs : List Run) → HaveNoEscape runs → IsTame (print runs) }
+    ensures erase { (runs : List Run) → HaveNoEscape runs → erase (print runs) ≡ print (map plain_run runs) }
+{}
+
+/// Colours have no columns.
+pub fn columns_law()
+    ensures { (text : List ℕ) → IsTame text → columns_of (tokens (erase text)) ≡ columns_of (tokens text) }
+{}
+
+/// Where every escape belongs to a colour, colours can be deleted before or after wrapping.
+pub fn colours_law()
+    ensures { (l : Layout) (text : List ℕ) → IsColoured l.first → IsColoured l.further → IsColoured text → erase (wrapped l text) ≡ wrapped (colourless l) (erase text) }
+{}
+
+/// The rows that words fill, by what holds of them: they hold the words in order, and each word begins a row exactly
+/// where it doesn't fit behind those before it. No other rows are such.
+pub fn rows_law()
+    ensures filled { (room further : ℕ) (words : List Word) → IsFilled room further (rows room further words) }
+    ensures only { (room further : ℕ) (found : List (List Word)) → IsFilled room further found → found ≡ rows room further (all_words found) }
+{}

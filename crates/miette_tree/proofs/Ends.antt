@@ -1,0 +1,78 @@
+-- The last of what is left of a chain.
+use Rattle.std.proofs.Common.{◌≡◌, ℕ, ◌<◌, ◌≤◌, ◌+◌, ◌-◌, List, [], ◌∷◌, ◌++◌, length, map, take, Option, Some, None, refl, sym, ap, ◌∙◌, arith, append-nil, subst}
+use Rattle.std.specs.Prelude.{slice_get}
+use Rattle.std.specs.List.{last_or}
+use Rattle.std.proofs.Math.Seq.{take-append-add}
+use Rattle.std.proofs.lemmas.List.{take_more, take-append-le, take_all}
+use Rattle.miette_tree.specs.Tree.{Tree, tree, Cause, diagnostic, texts, chain_of, causes_of, cause_of}
+use Rattle.std.specs.Borrow.{Bor}
+use Rattle.miette_protocol.specs.Meaning.{Meaning}
+use Rattle.miette_protocol.specs.Reading.{Source}
+use Rattle.miette_tree.specs.Chain.{spine, spine_below, tail, tail_below, texts_below}
+use Rattle.miette_tree.specs.Report.{cause_shown}
+use Rattle.miette_tree.specs.declared.report.Report.{Report}
+use Rattle.miette_tree.specs.declared.report.Cause as shown
+use Rattle.miette_tree.specs.declared.report.Cause.TheVariants as seen
+use Rattle.std.proofs.lemmas.Option.{slice_get_within, get_or_from_slice_get}
+
+take_last : (xs : List (List ℕ)) (n : ℕ) (x : List ℕ) → 0 < n → slice_get xs (n - 1) ≡ Some x → take n xs ≡ take (n - 1) xs ++ x ∷ []
+take_last xs n x h e =
+    let one : n ≡ n - 1 + 1 = omega arith in
+    ap (λ k. take k xs) one ∙ (take_more xs (n - 1) x (slice_get_within xs (n - 1) x e) ∙ ap (λ y. take (n - 1) xs ++ y ∷ []) (get_or_from_slice_get xs (n - 1) x x e))
+
+pub none_mapped : {A B : Type 0} (f : A → B) (ts : List A) → length ts ≡ 0 → map f ts ≡ []
+none_mapped f [] e = refl
+none_mapped f (t ∷ ts) e = absurd (omega arith)
+
+-- where no text is left, the last message is taken off
+pub back_step : (value xs ts : List (List ℕ)) (n : ℕ) (x : List ℕ) → take n xs ++ ts ≡ value → ts ≡ [] → 0 < n → slice_get xs (n - 1) ≡ Some x → value ≡ (take (n - 1) xs ++ ts) ++ x ∷ []
+back_step value xs ts n x e f h i =
+    sym e ∙ (ap (λ l. take n xs ++ l) f ∙ (append-nil (take n xs) ∙ (take_last xs n x h i ∙ ap (λ l. l ++ x ∷ []) (sym (ap (λ l. take (n - 1) xs ++ l) f ∙ append-nil (take (n - 1) xs))))))
+
+-- ---- where a chain ends
+
+pub spine_down : (t : Tree) → length (spine t) ≡ length (spine_below (cause_of t)) + 1
+spine_down (tree m s c r) = omega arith
+
+pub tail_down : (t : Tree) → tail t ≡ tail_below (cause_of t)
+tail_down (tree m s c r) = refl
+
+-- one report further down
+pub down : (t n : Tree) → diagnostic n ≡ cause_of t → (length (spine t) ≡ length (spine n) + 1) × (tail n ≡ tail t)
+down t n e = (spine_down t ∙ ap (λ c. length (spine_below c) + 1) (sym e), ap tail_below e ∙ sym (tail_down t))
+
+mutual
+  pub chain_parts : (t : Tree) → chain_of t ≡ spine t ++ tail t
+  chain_parts (tree m s c r) = ap (λ l. m.message ∷ l) (cause_parts c)
+
+  cause_parts : (c : Cause) → causes_of c ≡ spine_below c ++ tail_below c
+  cause_parts (diagnostic t) = chain_parts t
+  cause_parts (texts ts) = refl
+
+-- what is kept of a chain that is longer than can be counted, and of any other
+pub cut_chain : (t : Tree) (most : ℕ) → most ≤ length (spine t) → take most (spine t) ++ [] ≡ take most (chain_of t)
+cut_chain t most h = append-nil (take most (spine t)) ∙ (sym (take-append-le most (spine t) (tail t) h) ∙ ap (take most) (sym (chain_parts t)))
+
+pub whole_chain : (t : Tree) (count most : ℕ) (kept : List (List ℕ)) → count ≡ length (spine t) → count ≤ most → kept ≡ take (most - count) (tail t) → take count (spine t) ++ kept ≡ take most (chain_of t)
+whole_chain t count most kept e h f =
+    let all : take count (spine t) ≡ spine t = take_all count (spine t) (omega arith) in
+    let split : length (spine t) + (most - count) ≡ most = omega arith in
+    ap (λ l. l ++ kept) all ∙ (ap (λ l. spine t ++ l) f ∙ (sym (take-append-add (spine t) (tail t) (most - count)) ∙ (ap (λ n. take n (spine t ++ tail t)) split ∙ ap (take most) (sym (chain_parts t)))))
+
+-- a cause that shows no diagnostic
+pub no_diagnostic : {D S : Type 0} (means : D → Meaning) (is : S → Source) (r : shown.Cause D S) (c : Cause) → cause_shown means is r ≡ c → ((x : Bor (Report D S)) → r ≡ seen.Diagnostic x → ⊥)
+    → (length (spine_below c) ≡ 0) × (texts_below c ≡ tail_below c)
+no_diagnostic means is seen.None c e f = subst (λ k. (length (spine_below k) ≡ 0) × (texts_below k ≡ tail_below k)) e (refl, refl)
+no_diagnostic means is (seen.Diagnostic x) c e f = absurd (f x refl)
+no_diagnostic means is (seen.Texts ts) c e f = subst (λ k. (length (spine_below k) ≡ 0) × (texts_below k ≡ tail_below k)) e (refl, refl)
+
+-- ---- the last of a chain
+
+last_or-append : (before : Option (List ℕ)) (xs : List (List ℕ)) (x : List ℕ) → last_or before (xs ++ x ∷ []) ≡ Some x
+last_or-append before [] x = refl
+last_or-append before (y ∷ ys) x = last_or-append (Some y) ys x
+
+-- where texts stand behind the last report, the last of them is the chain's
+pub last_text : (t : Tree) (ts rest : List (List ℕ)) (x : List ℕ) → length (spine_below (cause_of t)) ≡ 0 → ts ≡ tail_below (cause_of t) → ts ≡ rest ++ x ∷ [] → last_or None (chain_of t) ≡ Some x
+last_text (tree m s (diagnostic n) r) ts rest x none same split = absurd (omega (arith, none, spine_down n))
+last_text (tree m s (texts us) r) ts rest x none same split = ap (last_or (Some m.message)) (sym same ∙ split) ∙ last_or-append (Some m.message) rest x

@@ -1,0 +1,11 @@
+use Rattle.std.proofs.Common.{ap, ◌∙◌, map, rules}
+use Rattle.miette_tree.specs.Tree.{trees}
+use Rattle.miette_tree.specs.Report.{tree_of}
+use Rattle.miette_tree.specs.declared.report.Report.{the_lemmas}
+use Rattle.miette_tree.proofs.report.Report.related.Goals as goal
+
+pub returns-in-Some : goal.returns-in-Some
+returns-in-Some g c =
+    let value = tree_of g.D.Diagnostic.meaning g.S.SourceCode.source in
+    let lent = ap (λ list. trees (map value list)) c.as_slice.ensures.value in
+    lent ∙ search (rules, the_lemmas)

@@ -1,0 +1,98 @@
+//! How reports are made: constructors and conversions.
+ghost use Rattle.std.specs.Prelude.{◌≡◌, Some, IfOk};
+
+use crate::innermost::Innermost;
+use crate::report::Report;
+use miette_protocol::diagnostic::MietteDiagnostic;
+use miette_protocol::protocol::Diagnostic;
+use miette_protocol::source::SourceCode;
+use std::alloc::{AllocError, Global};
+use std::fmt;
+use std::fmt::Display;
+
+/// The report that users write as `Report`, over boxed diagnostics and sources. Where nothing else tells
+/// which boxes the report of a call holds, this bound does: so `Report::new(diagnostic)` and
+/// `value.wrap_err(alloc, "text")` need no type beside them.
+pub trait UsualBoxes {}
+
+impl UsualBoxes for Report {}
+
+/// Constructors.
+impl<D: Diagnostic, S: SourceCode> Report<D, S>
+where
+    Report<D, S>: UsualBoxes,
+{
+    ghost use Rattle.miette_protocol.specs.Diagnostic.{meaning_of, message_alone};
+    ghost use Rattle.miette_tree.specs.Tree.{alone};
+    ghost use Rattle.miette_tree.specs.Report.{tree_of};
+    ghost use Rattle.miette_tree.specs.Kind.{kind_of, message, built, boxed};
+    ghost use Rattle.miette_tree.specs.WrapErr.{Prints};
+
+    /// The report of a plain diagnostic. Takes no memory.
+    pub fn new(diagnostic: MietteDiagnostic) -> Report<D, S>
+        ensures tree { tree_of D.meaning S.source result ≡ alone (meaning_of diagnostic) }
+        ensures kind { kind_of result ≡ built diagnostic }
+    {
+        Report::built(diagnostic)
+    }
+
+    /// The report of a boxed diagnostic. Takes no memory.
+    pub fn new_boxed(diagnostic: D) -> Report<D, S>
+        ensures tree { tree_of D.meaning S.source result ≡ alone (D.meaning diagnostic) }
+        ensures kind { kind_of result ≡ boxed diagnostic }
+    {
+        Report::from_innermost(Innermost::Boxed(diagnostic))
+    }
+
+    /// The report of a message alone.
+    pub fn msg(alloc: Global, text: &str) -> Result<Report<D, S>, AllocError>
+        ensures tree { IfOk result (λ r. tree_of D.meaning S.source r ≡ alone (message_alone text.now)) }
+        ensures kind { IfOk result (λ r. kind_of r ≡ message) }
+    {
+        Ok(Report::of_text(String::from_str(alloc, text)?))
+    }
+
+    /// The report of an error of any kind, which keeps its printed text alone. An error of the printing
+    /// itself counts as refused memory.
+    pub fn from_err<E: Display + Drop>(alloc: Global, error: E) -> Result<Report<D, S>, AllocError>
+        ensures { IfOk result (Prints D.meaning S.source (E.output error)) }
+    {
+        Report::printed(alloc, error)
+    }
+}
+
+/// Prints the message.
+impl<D: Diagnostic, S: SourceCode> fmt::Display for Report<D, S> {
+    ghost use Rattle.miette_tree.specs.Tree.{head};
+    ghost use Rattle.miette_tree.specs.Report.{tree_of};
+
+    ghost output = { λ r. Some (head (tree_of D.meaning S.source r)).message };
+
+    fn fmt<W: fmt::Write>(&self, f: &mut fmt::Formatter<W>) -> fmt::Result {
+        f.write_str(self.message())
+    }
+}
+
+impl<D: Diagnostic, S: SourceCode> From<MietteDiagnostic> for Report<D, S> {
+    ghost use Rattle.miette_protocol.specs.Diagnostic.{meaning_of};
+    ghost use Rattle.miette_tree.specs.Tree.{alone};
+    ghost use Rattle.miette_tree.specs.Report.{tree_of};
+    ghost use Rattle.miette_tree.specs.Kind.{kind_of, built};
+
+    ghost from_gives = { λ d r. (tree_of D.meaning S.source r ≡ alone (meaning_of d)) × (kind_of r ≡ built d) };
+
+    fn from(diagnostic: MietteDiagnostic) -> Report<D, S> {
+        Report::from_innermost(Innermost::Built(diagnostic))
+    }
+}
+
+/// The message is `memory allocation failed`.
+impl<D: Diagnostic, S: SourceCode> From<AllocError> for Report<D, S> {
+    ghost use Rattle.miette_tree.specs.WrapErr.{IsRefused};
+
+    ghost from_gives = { λ _ r. IsRefused D.meaning S.source r };
+
+    fn from(_refused: AllocError) -> Report<D, S> {
+        Report::from_innermost(Innermost::OutOfMemory)
+    }
+}

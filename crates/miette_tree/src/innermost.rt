@@ -1,0 +1,118 @@
+//! What a report was made of.
+ghost use Rattle.std.specs.Prelude.{◌≡◌};
+ghost use Rattle.std.specs.Option.{option_copied};
+
+use miette_protocol::diagnostic::MietteDiagnostic;
+use miette_protocol::protocol::{Diagnostic, LabeledSpan, Severity};
+use std::alloc::AllocError;
+
+/// The error that a report was made of, below the messages that were put in front of it.
+#[derive(Drop)]
+pub(crate) enum Innermost<D> {
+    Message(String),
+    Built(MietteDiagnostic),
+    Boxed(D),
+    OutOfMemory,
+}
+
+/// What a report was made of: what `Report::kind` shows of the innermost error, whatever messages
+/// were put in front of it.
+pub enum ReportKind<'a, D = Box<dyn Diagnostic>> {
+    /// A message alone.
+    Message,
+    /// A diagnostic that is plain data.
+    Built(&'a MietteDiagnostic),
+    /// A diagnostic in a box.
+    Boxed(&'a D),
+    /// Memory that was refused.
+    OutOfMemory,
+}
+
+impl<'a, D> Clone for ReportKind<'a, D> {
+    ghost is_clone = { λ x y. y ≡ x };
+
+    ghost is_infallible = { λ _. Unit {0} };
+
+    fn clone(&self) -> Result<ReportKind<'a, D>, AllocError> {
+        Ok(*self)
+    }
+}
+
+impl<'a, D> Copy for ReportKind<'a, D> {}
+
+impl<D: Diagnostic> Innermost<D> {
+    ghost use Rattle.miette_tree.specs.Report.{innermost_meaning};
+    ghost use Rattle.miette_tree.specs.Kind.{innermost_kind, kind_shown};
+
+    pub(crate) fn message(&self) -> &str
+        ensures { result.now ≡ (innermost_meaning D.meaning self.now).message }
+    {
+        match self {
+            Innermost::Message(text) => text.as_str(),
+            Innermost::Built(diagnostic) => diagnostic.message(),
+            Innermost::Boxed(diagnostic) => diagnostic.message(),
+            Innermost::OutOfMemory => "memory allocation failed",
+        }
+    }
+
+    pub(crate) fn code(&self) -> Option<&str>
+        ensures { option_copied result ≡ (innermost_meaning D.meaning self.now).code }
+    {
+        match self {
+            Innermost::Built(diagnostic) => diagnostic.code(),
+            Innermost::Boxed(diagnostic) => diagnostic.code(),
+            _ => None,
+        }
+    }
+
+    pub(crate) fn severity(&self) -> Option<Severity>
+        ensures { result ≡ (innermost_meaning D.meaning self.now).severity }
+    {
+        match self {
+            Innermost::Built(diagnostic) => diagnostic.severity(),
+            Innermost::Boxed(diagnostic) => diagnostic.severity(),
+            _ => None,
+        }
+    }
+
+    pub(crate) fn help(&self) -> Option<&str>
+        ensures { option_copied result ≡ (innermost_meaning D.meaning self.now).help }
+    {
+        match self {
+            Innermost::Built(diagnostic) => diagnostic.help(),
+            Innermost::Boxed(diagnostic) => diagnostic.help(),
+            _ => None,
+        }
+    }
+
+    pub(crate) fn url(&self) -> Option<&str>
+        ensures { option_copied result ≡ (innermost_meaning D.meaning self.now).url }
+    {
+        match self {
+            Innermost::Built(diagnostic) => diagnostic.url(),
+            Innermost::Boxed(diagnostic) => diagnostic.url(),
+            _ => None,
+        }
+    }
+
+    pub(crate) fn labels(&self) -> Option<&[LabeledSpan]>
+        ensures { option_copied result ≡ (innermost_meaning D.meaning self.now).labels }
+    {
+        match self {
+            Innermost::Built(diagnostic) => diagnostic.labels(),
+            Innermost::Boxed(diagnostic) => diagnostic.labels(),
+            _ => None,
+        }
+    }
+
+    pub(crate) fn kind(&self) -> ReportKind<'_, D>
+        ensures { kind_shown result ≡ innermost_kind self.now }
+    {
+        match self {
+            Innermost::Message(_) => ReportKind::Message,
+            Innermost::Built(diagnostic) => ReportKind::Built(diagnostic),
+            Innermost::Boxed(diagnostic) => ReportKind::Boxed(diagnostic),
+            Innermost::OutOfMemory => ReportKind::OutOfMemory,
+        }
+    }
+}

@@ -1,0 +1,11 @@
+//! Reports: errors with their messages, places, sources and causes, kept in a tree.
+#![tactic(auto)]
+
+mod chain;
+mod constructors;
+mod innermost;
+pub mod laws;
+pub mod macros;
+mod owned;
+pub mod report;
+mod wrap;

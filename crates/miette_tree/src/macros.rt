@@ -1,0 +1,80 @@
+//! Diagnostics and reports from a format text.
+//!
+//! Each macro begins with `in alloc;`, as `format!` does. Before the format text stand keys, each with a
+//! value: `code`, `help` and `url` (a `&str`), `severity` (a `Severity`), `labels` (a `Vec<LabeledSpan>`).
+
+pub use miette_protocol::diagnostic::MietteDiagnostic;
+
+/// A diagnostic, as a `Result<MietteDiagnostic, AllocError>`:
+/// `diagnostic!(in alloc; code = "math::bad", "{x} + {} = {z}", y, z = x + y)`.
+#[macro_export]
+macro_rules! diagnostic {
+    (in $alloc:expr; $($key:ident = $value:expr,)* $format:literal $($arg:tt)*) => {{
+        let made = match format!(in $alloc; $format $($arg)*) {
+            Ok(message) => Ok($crate::macros::MietteDiagnostic {
+                message,
+                code: None,
+                severity: None,
+                help: None,
+                url: None,
+                labels: None,
+            }),
+            Err(refused) => Err(refused),
+        };
+        $(let made = match made {
+            Ok(diagnostic) => $crate::diagnostic_with!($alloc, diagnostic, $key, $value),
+            Err(refused) => Err(refused),
+        };)*
+        made
+    }};
+}
+
+/// A diagnostic with one more key. Written by `diagnostic!` alone.
+#[macro_export]
+macro_rules! diagnostic_with {
+    ($alloc:expr, $diagnostic:ident, code, $value:expr) => {
+        $diagnostic.with_code($alloc, $value)
+    };
+    ($alloc:expr, $diagnostic:ident, help, $value:expr) => {
+        $diagnostic.with_help($alloc, $value)
+    };
+    ($alloc:expr, $diagnostic:ident, url, $value:expr) => {
+        $diagnostic.with_url($alloc, $value)
+    };
+    ($alloc:expr, $diagnostic:ident, severity, $value:expr) => {
+        Ok($diagnostic.with_severity($value))
+    };
+    ($alloc:expr, $diagnostic:ident, labels, $value:expr) => {
+        Ok($diagnostic.with_labels($value))
+    };
+}
+
+/// A report of such a diagnostic; where memory is refused, the report of an `AllocError`.
+#[macro_export]
+macro_rules! miette {
+    ($($arg:tt)+) => {
+        match $crate::diagnostic!($($arg)+) {
+            Ok(diagnostic) => $crate::report::Report::new(diagnostic),
+            Err(refused) => $crate::report::Report::from(refused),
+        }
+    };
+}
+
+/// Returns such a report as the error of the function.
+#[macro_export]
+macro_rules! bail {
+    ($($arg:tt)+) => {
+        return $crate::report::Result::Err($crate::miette!($($arg)+))
+    };
+}
+
+/// Returns such a report as the error of the function where a condition is false:
+/// `ensure!(in alloc; n < 10, "{n} is too much")`.
+#[macro_export]
+macro_rules! ensure {
+    (in $alloc:expr; $condition:expr, $($arg:tt)+) => {
+        if !$condition {
+            $crate::bail!(in $alloc; $($arg)+)
+        }
+    };
+}

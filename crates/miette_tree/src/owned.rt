@@ -1,0 +1,143 @@
+//! Sources that a report owns, and the place where it keeps its source.
+ghost use Rattle.std.specs.Prelude.{◌≡◌, Some, IfOk};
+ghost use Rattle.std.specs.Option.{option_copied};
+ghost use Rattle.miette_protocol.specs.Reading.{plain_source, named};
+ghost use Rattle.miette_protocol.specs.Outcome.{Answers};
+
+use miette_protocol::error::MietteError;
+use miette_protocol::protocol::SourceSpan;
+use miette_protocol::source::{IndexedSource, MietteSpanContents, NamedSource, SourceCode};
+use std::alloc::{AllocError, Global};
+
+/// The bytes, with a name or without one.
+#[derive(Drop)]
+enum Bytes {
+    Plain(IndexedSource),
+    Named(NamedSource<IndexedSource>),
+}
+
+/// A source that owns its bytes and keeps an index of their lines, so that a report can hold it with
+/// no box. It always reads.
+#[derive(Drop)]
+pub struct OwnedSource {
+    bytes: Bytes,
+}
+
+impl OwnedSource {
+    ghost use Rattle.miette_tree.specs.Owned.{owned_source};
+
+    /// These bytes, with no name and no language.
+    pub fn new(alloc: Global, bytes: Vec<u8>) -> Result<OwnedSource, AllocError>
+        ensures { IfOk result (λ it. owned_source it ≡ plain_source bytes.items) }
+    {
+        Ok(OwnedSource {
+            bytes: Bytes::Plain(IndexedSource::new(alloc, bytes)?),
+        })
+    }
+
+    /// These bytes, with a name, and with a language where one is given.
+    pub fn named(
+        alloc: Global,
+        name: &str,
+        language: Option<&str>,
+        bytes: Vec<u8>,
+    ) -> Result<OwnedSource, AllocError>
+        ensures { IfOk result (λ it. owned_source it ≡ named (plain_source bytes.items) name.now (option_copied language.entry)) }
+    {
+        let source = NamedSource::new(alloc, name, IndexedSource::new(alloc, bytes)?)?;
+        let source = match language {
+            Some(language) => source.with_language(alloc, language)?,
+            None => source,
+        };
+        Ok(OwnedSource {
+            bytes: Bytes::Named(source),
+        })
+    }
+}
+
+/// Takes no memory.
+impl SourceCode for OwnedSource {
+    ghost use Rattle.miette_tree.specs.Owned.{owned_source};
+
+    ghost source = { owned_source };
+
+    fn read_span(
+        &self,
+        span: &SourceSpan,
+        before: usize,
+        after: usize,
+    ) -> Result<MietteSpanContents<'_>, MietteError> {
+        match &self.bytes {
+            Bytes::Plain(source) => source.read_span(span, before, after),
+            Bytes::Named(source) => source.read_span(span, before, after),
+        }
+    }
+}
+
+/// The source of a report: one that was given in a box, or an owned one.
+#[derive(Drop)]
+pub(crate) enum Kept<S> {
+    Boxed(S),
+    Owned(OwnedSource),
+}
+
+/// The source of a report, lent: a reference to the place where the report keeps it.
+pub struct SourceRef<'a, S = Box<dyn SourceCode>> {
+    place: &'a Kept<S>,
+}
+
+impl<'a, S> Clone for SourceRef<'a, S> {
+    ghost is_clone = { λ x y. y ≡ x };
+
+    ghost is_infallible = { λ _. Unit {0} };
+
+    fn clone(&self) -> Result<SourceRef<'a, S>, AllocError> {
+        Ok(*self)
+    }
+}
+
+impl<'a, S> Copy for SourceRef<'a, S> {}
+
+impl<'a, S> SourceRef<'a, S> {
+    pub(crate) fn to(place: &'a Kept<S>) -> SourceRef<'a, S>
+        ensures { result.place.now ≡ place.now }
+    {
+        SourceRef { place }
+    }
+}
+
+impl<'a, S: SourceCode> SourceRef<'a, S> {
+    ghost use Rattle.miette_tree.specs.Owned.{shown_source};
+
+    /// Reads a span of the source with so many lines of context before it and after it. Takes memory
+    /// only where the source does. The data, name and language are lent by the report.
+    pub fn read_span(
+        self,
+        span: &SourceSpan,
+        before: usize,
+        after: usize,
+    ) -> Result<MietteSpanContents<'a>, MietteError>
+        ensures { Answers (shown_source S.source self.entry) span.now before after result }
+    {
+        match self.place {
+            Kept::Boxed(source) => source.read_span(span, before, after),
+            Kept::Owned(source) => source.read_span(span, before, after),
+        }
+    }
+}
+
+/// A lent source reads as the source that it shows.
+impl<'a, S: SourceCode> SourceCode for SourceRef<'a, S> {
+    ghost use Rattle.miette_tree.specs.Owned.{shown_source};
+
+    ghost source = { shown_source S.source };
+
+    fn read_span(
+        &self,
+        span: &SourceSpan,
+        before: usize,
+        after: usize,
+    ) -> Result<MietteSpanContents<'_>, MietteError> {
+        SourceRef::read_span(*self, span, before, after)
+    }
+}

@@ -1,0 +1,377 @@
+//! Reports: an error with its message, places, source and causes, and reports that are related to it.
+ghost use Rattle.std.specs.Prelude.{◌≡◌, ◌≤◌, ◌+◌, ◌++◌, IfOk, IfErr, length, map, string_bytes, vec_len, vec_capacity};
+ghost use Rattle.std.specs.Option.{option_copied, option_map};
+
+pub use crate::chain::Chain;
+pub use crate::constructors::UsualBoxes;
+use crate::innermost::Innermost;
+pub use crate::innermost::ReportKind;
+use crate::owned::Kept;
+pub use crate::owned::{OwnedSource, SourceRef};
+pub use crate::wrap::{IntoDiagnostic, WrapErr, WrapErr as Context};
+use miette_protocol::diagnostic::MietteDiagnostic;
+use miette_protocol::protocol::{Diagnostic, LabeledSpan, Severity};
+use miette_protocol::source::SourceCode;
+use std::alloc::{AllocError, Global};
+use std::fmt::Display;
+
+/// A result whose error is a report, unless another type is given.
+pub type Result<T, E = Report> = std::result::Result<T, E>;
+
+/// A report: what one error answers (message, code, severity, help, url, labels), the source that its
+/// labels speak of, its cause, and the reports that are related to it.
+///
+/// Users write `Report`; the parameters are the boxes in which diagnostics and sources are given.
+#[derive(Drop)]
+pub struct Report<D = Box<dyn Diagnostic>, S = Box<dyn SourceCode>> {
+    front: Option<String>,
+    innermost: Innermost<D>,
+    source: Option<Kept<S>>,
+    cause: KeptCause<Report<D, S>>,
+    related: Option<Vec<Report<D, S>>>,
+}
+
+#[derive(Drop)]
+enum KeptCause<R> {
+    None,
+    Diagnostic(Box<R>),
+    Texts(Vec<String>),
+}
+
+/// The cause of a report.
+pub enum Cause<'a, D = Box<dyn Diagnostic>, S = Box<dyn SourceCode>> {
+    /// No cause, or an empty list of texts.
+    None,
+    /// A report.
+    Diagnostic(&'a Report<D, S>),
+    /// Texts, the nearest first; there is at least one.
+    Texts(&'a [String]),
+}
+
+impl<'a, D, S> Clone for Cause<'a, D, S> {
+    ghost is_clone = { λ x y. y ≡ x };
+
+    ghost is_infallible = { λ _. Unit {0} };
+
+    fn clone(&self) -> Result<Cause<'a, D, S>, AllocError> {
+        Ok(*self)
+    }
+}
+
+impl<'a, D, S> Copy for Cause<'a, D, S> {}
+
+/// Constructors and setters, for boxes of any kind.
+impl<D: Diagnostic, S: SourceCode> Report<D, S> {
+    ghost use Rattle.miette_protocol.specs.Diagnostic.{meaning_of, message_alone};
+    ghost use Rattle.miette_tree.specs.Tree.{alone, texts, diagnostic, trees, wrapped, with_source, with_cause, with_related, chain_of};
+    ghost use Rattle.miette_tree.specs.Report.{tree_of, innermost_meaning, own_texts};
+    ghost use Rattle.miette_tree.specs.Owned.{owned_source, kept_source};
+    ghost use Rattle.miette_tree.specs.Kind.{kind_of, innermost_kind, built, message};
+    ghost use Rattle.miette_tree.specs.WrapErr.{Prints};
+
+    pub(crate) fn from_innermost(innermost: Innermost<D>) -> Report<D, S>
+        ensures tree { tree_of D.meaning S.source result ≡ alone (innermost_meaning D.meaning innermost) }
+        ensures kind { kind_of result ≡ innermost_kind innermost }
+    {
+        Report {
+            front: None,
+            innermost,
+            source: None,
+            cause: KeptCause::None,
+            related: None,
+        }
+    }
+
+    /// The report of a plain diagnostic, as `Report::new`, for boxes of any kind. Takes no memory.
+    pub fn built(diagnostic: MietteDiagnostic) -> Report<D, S>
+        ensures tree { tree_of D.meaning S.source result ≡ alone (meaning_of diagnostic) }
+        ensures kind { kind_of result ≡ built diagnostic }
+    {
+        Report::from_innermost(Innermost::Built(diagnostic))
+    }
+
+    /// The report of a message alone.
+    pub(crate) fn of_text(text: String) -> Report<D, S>
+        ensures tree { tree_of D.meaning S.source result ≡ alone (message_alone (string_bytes text)) }
+        ensures kind { kind_of result ≡ message }
+    {
+        Report::from_innermost(Innermost::Message(text))
+    }
+
+    /// The report of an error's printed text.
+    pub(crate) fn printed<E: Display + Drop>(
+        alloc: Global,
+        error: E,
+    ) -> Result<Report<D, S>, AllocError>
+        ensures { IfOk result (Prints D.meaning S.source (E.output error)) }
+    {
+        Ok(Report::of_text(format!(in alloc; "{error}")?))
+    }
+
+    /// With this source, where the report has none; it keeps the one that it has. Takes no memory.
+    pub fn with_source_code(self, source: S) -> Report<D, S>
+        ensures tree { tree_of D.meaning S.source result ≡ with_source (S.source source) (tree_of D.meaning S.source self) }
+        ensures kind { kind_of result ≡ kind_of self }
+    {
+        self.with_kept(Kept::Boxed(source))
+    }
+
+    /// With this source, where the report has none; it keeps the one that it has. Takes no memory.
+    pub fn with_owned_source(self, source: OwnedSource) -> Report<D, S>
+        ensures tree { tree_of D.meaning S.source result ≡ with_source (owned_source source) (tree_of D.meaning S.source self) }
+        ensures kind { kind_of result ≡ kind_of self }
+    {
+        self.with_kept(Kept::Owned(source))
+    }
+
+    fn with_kept(self, place: Kept<S>) -> Report<D, S>
+        ensures tree { tree_of D.meaning S.source result ≡ with_source (kept_source S.source place) (tree_of D.meaning S.source self) }
+        ensures kind { kind_of result ≡ kind_of self }
+    {
+        let Report {
+            front,
+            innermost,
+            source,
+            cause,
+            related,
+        } = self;
+        Report {
+            front,
+            innermost,
+            source: Some(source.unwrap_or(place)),
+            cause,
+            related,
+        }
+    }
+
+    /// With these texts as its causes, the nearest first, in place of the cause that it had. An empty
+    /// list is no cause. Takes no memory.
+    pub fn with_cause_texts(self, list: Vec<String>) -> Report<D, S>
+        ensures tree { tree_of D.meaning S.source result ≡ with_cause (texts (map string_bytes list.items)) (tree_of D.meaning S.source self) }
+        ensures kind { kind_of result ≡ kind_of self }
+    {
+        Report {
+            cause: KeptCause::Texts(list),
+            ..self
+        }
+    }
+
+    /// With this report as its cause, in place of the cause that it had. Where memory is refused, both
+    /// come back as they were: first the one, then its cause.
+    pub fn with_diagnostic_cause(
+        self,
+        alloc: Global,
+        cause: Report<D, S>,
+    ) -> Result<Report<D, S>, (Report<D, S>, Report<D, S>)>
+        ensures tree { IfOk result (λ r. tree_of D.meaning S.source r ≡ with_cause (diagnostic (tree_of D.meaning S.source cause)) (tree_of D.meaning S.source self)) }
+        ensures kind { IfOk result (λ r. kind_of r ≡ kind_of self) }
+        ensures err { IfErr result (λ both. both ≡ (self, cause)) }
+    {
+        match Box::new(alloc, cause) {
+            Ok(boxed) => Ok(Report {
+                cause: KeptCause::Diagnostic(boxed),
+                ..self
+            }),
+            Err(refused) => Err((self, refused.value)),
+        }
+    }
+
+    /// With these related reports in place of those that it had. Takes no memory.
+    pub fn with_related(self, list: Vec<Report<D, S>>) -> Report<D, S>
+        ensures tree { tree_of D.meaning S.source result ≡ with_related (trees (map (tree_of D.meaning S.source) list.items)) (tree_of D.meaning S.source self) }
+        ensures kind { kind_of result ≡ kind_of self }
+    {
+        Report {
+            related: Some(list),
+            ..self
+        }
+    }
+
+    /// With a message in front: the chain that it had becomes its causes, as texts, and all else stays.
+    /// Where memory is refused, the report comes back as it was.
+    pub fn wrap_err(self, alloc: Global, message: &str) -> Result<Report<D, S>, Report<D, S>>
+        ensures tree { IfOk result (λ r. tree_of D.meaning S.source r ≡ wrapped message.now (tree_of D.meaning S.source self)) }
+        ensures kind { IfOk result (λ r. kind_of r ≡ kind_of self) }
+        ensures err { IfErr result (λ r. r ≡ self) }
+    {
+        let Ok(front) = String::from_str(alloc, message) else {
+            return Err(self);
+        };
+        self.with_front(alloc, front)
+    }
+
+    /// As `wrap_err`, with a message that is already owned.
+    pub(crate) fn with_front(
+        self,
+        alloc: Global,
+        front: String,
+    ) -> Result<Report<D, S>, Report<D, S>>
+        ensures tree { IfOk result (λ r. tree_of D.meaning S.source r ≡ wrapped (string_bytes front) (tree_of D.meaning S.source self)) }
+        ensures kind { IfOk result (λ r. kind_of r ≡ kind_of self) }
+        ensures err { IfErr result (λ r. r ≡ self) }
+    {
+        let Ok(mut causes) = self.texts_but_own(alloc) else {
+            return Err(self);
+        };
+        let Report {
+            front: _,
+            innermost,
+            source,
+            cause,
+            related,
+        } = self;
+        if let KeptCause::Texts(mut own) = cause
+            && causes.append(&mut own).is_err()
+        {
+            unreachable!();
+        }
+        Ok(Report {
+            front: Some(front),
+            innermost,
+            source,
+            cause: KeptCause::Texts(causes),
+            related,
+        })
+    }
+
+    /// As `wrap_err`.
+    pub fn context(self, alloc: Global, message: &str) -> Result<Report<D, S>, Report<D, S>>
+        ensures tree { IfOk result (λ r. tree_of D.meaning S.source r ≡ wrapped message.now (tree_of D.meaning S.source self)) }
+        ensures kind { IfOk result (λ r. kind_of r ≡ kind_of self) }
+        ensures err { IfErr result (λ r. r ≡ self) }
+    {
+        self.wrap_err(alloc, message)
+    }
+
+    /// The texts of the chain, copied, but for the texts that are the report's own cause: for those there
+    /// is room at the end.
+    fn texts_but_own(&self, alloc: Global) -> Result<Vec<String>, AllocError>
+        ensures texts { IfOk result (λ list. map string_bytes list.items ++ own_texts self.now ≡ chain_of (tree_of D.meaning S.source self.now)) }
+        ensures room { IfOk result (λ list. vec_len list + length (own_texts self.now) ≤ vec_capacity list) }
+    {
+        match &self.cause {
+            KeptCause::Texts(own) => {
+                let mut list = Vec::with_capacity(alloc, own.len() + 1)?;
+                list.push(String::from_str(alloc, self.message())?)?;
+                Ok(list)
+            }
+            _ => self.chain_texts(alloc),
+        }
+    }
+
+    /// The texts of the chain, copied.
+    fn chain_texts(&self, alloc: Global) -> Result<Vec<String>, AllocError>
+        ensures { IfOk result (λ list. map string_bytes list.items ≡ chain_of (tree_of D.meaning S.source self.now)) }
+    {
+        let mut list = Vec::new(alloc);
+        let mut at = self;
+        list.push(String::from_str(alloc, at.message())?)?;
+        while let KeptCause::Diagnostic(next) = &at.cause {
+            at = next;
+            list.push(String::from_str(alloc, at.message())?)?;
+        }
+        if let KeptCause::Texts(texts) = &at.cause {
+            for text in texts {
+                list.push(String::from_str(alloc, text.as_str())?)?;
+            }
+        }
+        Ok(list)
+    }
+}
+
+/// Getters. None of them takes memory.
+impl<D: Diagnostic, S: SourceCode> Report<D, S> {
+    ghost use Rattle.miette_tree.specs.Tree.{head, source_of, cause_of, related_of, trees};
+    ghost use Rattle.miette_tree.specs.Report.{tree_of, cause_shown};
+    ghost use Rattle.miette_tree.specs.Owned.{shown_source};
+    ghost use Rattle.miette_tree.specs.Kind.{kind_of, kind_shown};
+
+    /// The message: the one that was last put in front, else that of what the report was made of.
+    pub fn message(&self) -> &str
+        ensures { result.now ≡ (head (tree_of D.meaning S.source self.now)).message }
+    {
+        match &self.front {
+            Some(text) => text.as_str(),
+            None => self.innermost.message(),
+        }
+    }
+
+    /// The code by which the kind of error can be looked up.
+    pub fn code(&self) -> Option<&str>
+        ensures { option_copied result ≡ (head (tree_of D.meaning S.source self.now)).code }
+    {
+        self.innermost.code()
+    }
+
+    /// How grave it is.
+    pub fn severity(&self) -> Option<Severity>
+        ensures { result ≡ (head (tree_of D.meaning S.source self.now)).severity }
+    {
+        self.innermost.severity()
+    }
+
+    /// What may help.
+    pub fn help(&self) -> Option<&str>
+        ensures { option_copied result ≡ (head (tree_of D.meaning S.source self.now)).help }
+    {
+        self.innermost.help()
+    }
+
+    /// Where more is written about it.
+    pub fn url(&self) -> Option<&str>
+        ensures { option_copied result ≡ (head (tree_of D.meaning S.source self.now)).url }
+    {
+        self.innermost.url()
+    }
+
+    /// The places of the source that it speaks of.
+    pub fn labels(&self) -> Option<&[LabeledSpan]>
+        ensures { option_copied result ≡ (head (tree_of D.meaning S.source self.now)).labels }
+    {
+        self.innermost.labels()
+    }
+
+    /// Its own source.
+    pub fn source_code(&self) -> Option<SourceRef<'_, S>>
+        ensures { option_map (shown_source S.source) result ≡ source_of (tree_of D.meaning S.source self.now) }
+    {
+        match &self.source {
+            Some(place) => Some(SourceRef::to(place)),
+            None => None,
+        }
+    }
+
+    /// Its cause.
+    pub fn cause(&self) -> Cause<'_, D, S>
+        ensures { cause_shown D.meaning S.source result ≡ cause_of (tree_of D.meaning S.source self.now) }
+    {
+        match &self.cause {
+            KeptCause::None => Cause::None,
+            KeptCause::Diagnostic(report) => Cause::Diagnostic(report),
+            KeptCause::Texts(list) => {
+                if list.is_empty() {
+                    Cause::None
+                } else {
+                    Cause::Texts(list.as_slice())
+                }
+            }
+        }
+    }
+
+    /// The reports that are related to it.
+    pub fn related(&self) -> &[Report<D, S>]
+        ensures { trees (map (tree_of D.meaning S.source) result.now) ≡ related_of (tree_of D.meaning S.source self.now) }
+    {
+        match &self.related {
+            Some(list) => list.as_slice(),
+            None => &[],
+        }
+    }
+
+    /// What it was made of, whatever messages were put in front.
+    pub fn kind(&self) -> ReportKind<'_, D>
+        ensures { kind_shown result ≡ kind_of self.now }
+    {
+        self.innermost.kind()
+    }
+}

@@ -1,0 +1,254 @@
+//! A message in front of what is missing or has failed.
+ghost use Rattle.std.specs.Prelude.{◌≡◌, ◌⊎◌, ℕ, List, Option, IsNone, IfSome, IsErrAnd, IfErr, Some, None};
+ghost use Rattle.std.specs.Option.{option_and_then};
+ghost use Rattle.std.specs.Result.{result_ok, result_err};
+ghost use Rattle.miette_tree.specs.WrapErr.{IsRefused, Tells, TellsMade, Prints};
+ghost use Rattle.miette_tree.specs.declared.report.Report.{Report};
+
+use crate::constructors::UsualBoxes;
+use crate::report::Report;
+use miette_protocol::protocol::Diagnostic;
+use miette_protocol::source::SourceCode;
+use std::alloc::{AllocError, Global};
+use std::fmt::Display;
+
+/// A value that may be missing: an `Option`, or a `Result` whose error becomes a report. Where it is
+/// there, it is passed on, and no text is made. Where it is missing, the error is a report: of the text
+/// alone for an `Option`, and of the error with the text in front for a `Result`. Where memory is refused,
+/// it is the report of an `AllocError`.
+pub trait WrapErr<T, D: Diagnostic, S: SourceCode>: Sized {
+    /// The value, where it is there.
+    ghost given: { Self → Option T };
+
+    /// What a text stands in front of, where the value is missing: the report of the error, or nothing.
+    ghost stands_behind: { Self → Option (Report D S) → Type 0 };
+
+    /// A message in front.
+    fn wrap_err(self, alloc: Global, text: &str) -> Result<T, Report<D, S>>
+    where
+        Report<D, S>: UsualBoxes,
+        ensures given { IfSome (given self) (λ value. result ≡ Ok value) }
+        ensures missing { IsNone (given self) → IsErrAnd result (λ r. (below : _) × stands_behind self below × Tells D.meaning S.source text.now below r) };
+
+    /// As `wrap_err`.
+    fn context(self, alloc: Global, text: &str) -> Result<T, Report<D, S>>
+    where
+        Report<D, S>: UsualBoxes,
+        ensures given { IfSome (given self) (λ value. result ≡ Ok value) }
+        ensures missing { IsNone (given self) → IsErrAnd result (λ r. (below : _) × stands_behind self below × Tells D.meaning S.source text.now below r) };
+
+    /// A message in front that is made only where it is needed, by at most one call.
+    fn wrap_err_with<F: FnOnce() -> Result<String, AllocError>>(
+        self,
+        alloc: Global,
+        make: F,
+    ) -> Result<T, Report<D, S>>
+    where
+        F: Drop,
+        Report<D, S>: UsualBoxes,
+        requires { IsNone (given self) → F.IsAlwaysCallable make }
+        ensures given { IfSome (given self) (λ value. result ≡ Ok value) }
+        ensures missing { IsNone (given self) → IsErrAnd result (λ r. (below : _) × stands_behind self below
+            × ((made : _) × F.post make made × TellsMade D.meaning S.source made below r)) };
+
+    /// As `wrap_err_with`.
+    fn with_context<F: FnOnce() -> Result<String, AllocError>>(
+        self,
+        alloc: Global,
+        make: F,
+    ) -> Result<T, Report<D, S>>
+    where
+        F: Drop,
+        Report<D, S>: UsualBoxes,
+        requires { IsNone (given self) → F.IsAlwaysCallable make }
+        ensures given { IfSome (given self) (λ value. result ≡ Ok value) }
+        ensures missing { IsNone (given self) → IsErrAnd result (λ r. (below : _) × stands_behind self below
+            × ((made : _) × F.post make made × TellsMade D.meaning S.source made below r)) };
+}
+
+/// The report of a text, or of refused memory.
+fn told<D: Diagnostic, S: SourceCode>(made: Result<String, AllocError>) -> Report<D, S>
+    ensures { TellsMade D.meaning S.source made None result }
+{
+    match made {
+        Ok(text) => Report::of_text(text),
+        Err(refused) => Report::from(refused),
+    }
+}
+
+/// A report under a text, or the report of refused memory.
+fn told_over<D: Diagnostic, S: SourceCode>(
+    alloc: Global,
+    report: Report<D, S>,
+    made: Result<String, AllocError>,
+) -> Report<D, S>
+    ensures { TellsMade D.meaning S.source made (Some report) result }
+{
+    match made {
+        Ok(text) => match report.with_front(alloc, text) {
+            Ok(wrapped) => wrapped,
+            Err(_) => Report::from(AllocError),
+        },
+        Err(refused) => Report::from(refused),
+    }
+}
+
+/// The report of a text that is made now, or of refused memory.
+fn told_by<D: Diagnostic, S: SourceCode, F: FnOnce() -> Result<String, AllocError>>(
+    make: F,
+) -> Report<D, S>
+    requires { F.IsAlwaysCallable make }
+    ensures { (made : _) × F.post make made × TellsMade D.meaning S.source made None result }
+{
+    told(make())
+}
+
+/// The report of an error under a text that is made now, or of refused memory.
+fn told_over_by<
+    D: Diagnostic,
+    S: SourceCode,
+    E: Into<Report<D, S>>,
+    F: FnOnce() -> Result<String, AllocError>,
+>(alloc: Global, error: E, make: F) -> Report<D, S>
+    requires { F.IsAlwaysCallable make }
+    ensures { (below : _) × E.converts error below
+        × ((made : _) × F.post make made × TellsMade D.meaning S.source made (Some below) result) }
+{
+    told_over(alloc, error.into(), make())
+}
+
+impl<T, D: Diagnostic, S: SourceCode> WrapErr<T, D, S> for Option<T> {
+    ghost given = { λ option. option };
+
+    ghost stands_behind = { λ _ below. below ≡ None };
+
+    fn wrap_err(self, alloc: Global, text: &str) -> Result<T, Report<D, S>>
+    where
+        Report<D, S>: UsualBoxes,
+    {
+        match self {
+            Some(value) => Ok(value),
+            None => Err(told(String::from_str(alloc, text))),
+        }
+    }
+
+    fn context(self, alloc: Global, text: &str) -> Result<T, Report<D, S>>
+    where
+        Report<D, S>: UsualBoxes,
+    {
+        self.wrap_err(alloc, text)
+    }
+
+    fn wrap_err_with<F: FnOnce() -> Result<String, AllocError>>(
+        self,
+        _alloc: Global,
+        make: F,
+    ) -> Result<T, Report<D, S>>
+    where
+        F: Drop,
+        Report<D, S>: UsualBoxes,
+    {
+        match self {
+            Some(given) => Ok(given),
+            None => Err(told_by(make)),
+        }
+    }
+
+    fn with_context<F: FnOnce() -> Result<String, AllocError>>(
+        self,
+        alloc: Global,
+        make: F,
+    ) -> Result<T, Report<D, S>>
+    where
+        F: Drop,
+        Report<D, S>: UsualBoxes,
+    {
+        self.wrap_err_with(alloc, make)
+    }
+}
+
+impl<T, D: Diagnostic, S: SourceCode, E: Into<Report<D, S>>> WrapErr<T, D, S> for Result<T, E> {
+    ghost given = { result_ok };
+
+    ghost stands_behind = { λ outcome below. IfErr outcome (λ error. (report : _) × E.converts error report × (below ≡ Some report)) };
+
+    fn wrap_err(self, alloc: Global, message: &str) -> Result<T, Report<D, S>>
+    where
+        Report<D, S>: UsualBoxes,
+    {
+        match self {
+            Ok(value) => Ok(value),
+            Err(error) => Err(told_over(alloc, error.into(), String::from_str(alloc, message))),
+        }
+    }
+
+    fn context(self, alloc: Global, message: &str) -> Result<T, Report<D, S>>
+    where
+        Report<D, S>: UsualBoxes,
+    {
+        self.wrap_err(alloc, message)
+    }
+
+    fn wrap_err_with<F: FnOnce() -> Result<String, AllocError>>(
+        self,
+        alloc: Global,
+        make_message: F,
+    ) -> Result<T, Report<D, S>>
+    where
+        F: Drop,
+        Report<D, S>: UsualBoxes,
+    {
+        match self {
+            Ok(given) => Ok(given),
+            Err(error) => Err(told_over_by(alloc, error, make_message)),
+        }
+    }
+
+    fn with_context<F: FnOnce() -> Result<String, AllocError>>(
+        self,
+        alloc: Global,
+        make_message: F,
+    ) -> Result<T, Report<D, S>>
+    where
+        F: Drop,
+        Report<D, S>: UsualBoxes,
+    {
+        self.wrap_err_with(alloc, make_message)
+    }
+}
+
+/// A result whose error prints becomes one whose error is a report.
+pub trait IntoDiagnostic<T, D: Diagnostic, S: SourceCode>: Sized {
+    /// The value, where it is there.
+    ghost given: { Self → Option T };
+
+    /// What the error prints, where its type states it.
+    ghost printed: { Self → Option (List ℕ) };
+
+    /// Keeps the error's printed text alone, as the message of a report. Where memory is refused, the
+    /// error is the report of an `AllocError`.
+    fn into_diagnostic(self, alloc: Global) -> Result<T, Report<D, S>>
+    where
+        Report<D, S>: UsualBoxes,
+        ensures given { IfSome (given self) (λ value. result ≡ Ok value) }
+        ensures missing { IsNone (given self) → IsErrAnd result (λ r. Prints D.meaning S.source (printed self) r ⊎ IsRefused D.meaning S.source r) };
+}
+
+impl<T, D: Diagnostic, S: SourceCode, E: Display + Drop> IntoDiagnostic<T, D, S> for Result<T, E> {
+    ghost given = { result_ok };
+
+    ghost printed = { λ outcome. option_and_then E.output (result_err outcome) };
+
+    fn into_diagnostic(self, alloc: Global) -> Result<T, Report<D, S>>
+    where
+        Report<D, S>: UsualBoxes,
+    {
+        match self {
+            Ok(kept) => Ok(kept),
+            Err(error) => match Report::printed(alloc, error) {
+                Ok(report) => Err(report),
+                Err(refused) => Err(Report::from(refused)),
+            },
+        }
+    }
+}

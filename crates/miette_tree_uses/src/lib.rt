@@ -1,0 +1,7 @@
+//! What users of reports write, from a crate above: proved callers, and tests.
+#![tactic(auto)]
+
+pub mod load;
+#[cfg(test)]
+mod tests;
+pub mod told;

@@ -1,0 +1,40 @@
+//! A file that is read, with what a reader should know when that fails.
+
+use miette_protocol::protocol::Severity;
+use miette_tree::miette;
+use miette_tree::report::{IntoDiagnostic, Report, Result, WrapErr};
+use std::alloc::{Alloc, Global};
+use std::fs;
+use std::fs::Files;
+
+/// The bytes of a file.
+fn settings_bytes<R: Files + Alloc<A = Global>>(rt: &R, path: &str) -> Result<Vec<u8>> {
+    let alloc = rt.alloc();
+    fs::read(rt, path)
+        .into_diagnostic(alloc)
+        .wrap_err_with(alloc, || format!(in alloc; "could not read {path}"))
+}
+
+/// How many bytes a file of settings has; the default settings have none.
+pub fn settings_len<R: Files + Alloc<A = Global>>(rt: &R, path: &str) -> Result<usize> {
+    let alloc = rt.alloc();
+    let bytes = settings_bytes(rt, path).wrap_err(alloc, "the settings could not be loaded")?;
+    Ok(bytes.len())
+}
+
+/// The same, with a hint beside the error.
+pub fn settings_len_or_hint<R: Files + Alloc<A = Global>>(rt: &R, path: &str) -> Result<usize> {
+    let alloc = rt.alloc();
+    match settings_len(rt, path) {
+        Ok(len) => Ok(len),
+        Err(report) => {
+            let hint =
+                miette!(in alloc; severity = Severity::Advice, "without {path} the default settings hold");
+            let mut related = Vec::new(alloc);
+            match related.push(hint) {
+                Ok(()) => Err(report.with_related(related)),
+                Err(_) => Err(report),
+            }
+        }
+    }
+}
