@@ -3,6 +3,7 @@
 #![tactic(auto)]
 
 pub use miette_handlers::handlers;
+pub use miette_handlers::handlers::ReportHandler as EyreContext;
 pub use miette_protocol::{diagnostic, error, protocol, source};
 pub use miette_text::{highlight, style, theme, wrap};
 pub use miette_tree::report;
