@@ -103,8 +103,8 @@ pub drawn_page : (s : Settings) (source : Source) (labels : List Label) (page : 
 drawn_page s source labels page text g e =
     let shown : text ≡ rows_text (drawn_rows s (Some source) labels g.answers) = e ∙ page_given (snippet_rows (layout_settings s) source labels g.answers) page g.is in
     elim (decide source.always_reads) [
-      | inl reads ↦ (nothing_listed, λ h. refl, shown ∙ ap (λ r. rows_text (shown_rows r)) (rows_same (layout_settings s) source labels g.answers (g.always reads) g.uncolored))
-      | inr fails ↦ (g.answers, λ h. absurd (cc), shown)
+      | inl reads ↦ (nothing_listed, λ h. refl, refl, shown ∙ ap (λ r. rows_text (shown_rows r)) (rows_same (layout_settings s) source labels g.answers (g.always reads) g.uncolored))
+      | inr fails ↦ (g.answers, λ h. absurd (cc), g.uncolored, shown)
     ]
 
 pub refused_page : (s : Settings) (source : Source) (labels : List Label) → MayGive (layout_settings s) source labels None → source.always_reads ≡ false
@@ -117,18 +117,18 @@ refused_page s source labels g =
 -- ---- a diagnostic's snippets
 
 pub drawn_nowhere : (s : Settings) (m : Meaning) (text : List ℕ) → text ≡ [] → IsDrawn drawn_rows s None m text
-drawn_nowhere s m text e = (nothing_listed, λ h. refl, e)
+drawn_nowhere s m text e = (nothing_listed, (λ h. refl, refl), e)
 
 pub drawn_unlabelled : (s : Settings) (source : Source) (m : Meaning) (text : List ℕ) → list_of m.labels ≡ [] → text ≡ [] → IsDrawn drawn_rows s (Some source) m text
 drawn_unlabelled s source m text e t =
-    (nothing_listed, λ h. refl, t ∙ ap (λ ls. rows_text (drawn_rows s (Some source) ls nothing_listed)) (sym e))
+    (nothing_listed, (λ h. refl, refl), t ∙ ap (λ ls. rows_text (drawn_rows s (Some source) ls nothing_listed)) (sym e))
 
 reads_some : (source : Source) (labels : List Label) → labels ≢ [] → (if is_nil labels then true else source.always_reads) ≡ source.always_reads
 reads_some source [] h = absurd (h refl)
 reads_some source (label ∷ labels) h = refl
 
 pub drawn_labelled : (s : Settings) (source : Source) (m : Meaning) (text : List ℕ) → list_of m.labels ≢ [] → AreDrawn s source (list_of m.labels) text → IsDrawn drawn_rows s (Some source) m text
-drawn_labelled s source m text some d = (d.0, λ h. d.1 (sym (reads_some source (list_of m.labels) some) ∙ h), d.2)
+drawn_labelled s source m text some d = (d.0, (λ h. d.1 (sym (reads_some source (list_of m.labels) some) ∙ h), d.2), d.3)
 
 pub refused_labelled : (source : Source) (m : Meaning) → list_of m.labels ≢ [] → source.always_reads ≡ false → always_reads (Some source) m ≡ false
 refused_labelled source m some e = reads_some source (list_of m.labels) some ∙ e

@@ -25,7 +25,7 @@ mutual
       let q = and_parts (always_reads source m) (related_read source r) p.0 in
       ap₂ (λ x y. x ++ y)
       (ap (under_arrow s outer (ends_there c))
-      (ap₂ (inner_text rows n m source) (h.0 q.0) (same-related rows n m.severity source r (related_answers a) h.1 q.1)))
+      (ap₂ (inner_text rows n m source) (h.0.0 q.0) (same-related rows n m.severity source r (related_answers a) h.1 q.1)))
       (same-causes rows s outer inherited c (cause_answers a) h.2 p.1)
 
   same-related : (rows : SnippetRows) (s : Settings) (outer : Option Severity) (inherited : Option Source) (ts : Trees) (more : RelatedAnswers) →
@@ -41,8 +41,8 @@ mutual
       let o = and_parts (always_reads source m) (causes_read source c) q.0 in
       ap₂ (λ x y. x ++ y)
       (ap₂ (λ x y. if s.nested then under_arrow s outer (are_last ts) (without_trailing x) else y)
-      (ap₂ (inner_text rows n m source) (h.0 o.0) (same-related rows n m.severity source r (related_answers a) h.2 q.1))
-      (ap (λ x. title_text s m ++ body rows s m source x (causes_text rows s m.severity source c (cause_answers a)) (related_text rows s m.severity source r (related_answers a))) (h.0 o.0)
+      (ap₂ (inner_text rows n m source) (h.0.0 o.0) (same-related rows n m.severity source r (related_answers a) h.2 q.1))
+      (ap (λ x. title_text s m ++ body rows s m source x (causes_text rows s m.severity source c (cause_answers a)) (related_text rows s m.severity source r (related_answers a))) (h.0.0 o.0)
       ∙ ap₂ (λ x y. title_text s m ++ body rows s m source nothing_listed x y)
       (same-causes rows s m.severity source c (cause_answers a) h.1 o.1)
       (same-related rows s m.severity source r (related_answers a) h.2 q.1)))
@@ -59,7 +59,7 @@ pub same-report : (rows : SnippetRows) (s : Settings) (t : Tree) (a : Answers) �
 same-report rows s (tree m own c r) a h e =
     let p = and_parts (always_reads own m && root_causes_read s.chain (tree m own c r)) (related_read own r) e in
     let q = and_parts (always_reads own m) (root_causes_read s.chain (tree m own c r)) p.0 in
-    ap (λ o. report_over s m (rows_text (rows s own (list_of m.labels) o)) (only_if s.chain (causes_text rows s m.severity own c (cause_answers a))) (related_text rows s m.severity own r (related_answers a))) (h.0 q.0)
+    ap (λ o. report_over s m (rows_text (rows s own (list_of m.labels) o)) (only_if s.chain (causes_text rows s m.severity own c (cause_answers a))) (related_text rows s m.severity own r (related_answers a))) (h.0.0 q.0)
     ∙ ap₂ (report_over s m (rows_text (rows s own (list_of m.labels) nothing_listed)))
     (same-root rows s m own c (cause_answers a) s.chain h.1 q.1)
     (same-related rows s m.severity own r (related_answers a) h.2 p.1)

@@ -32,12 +32,12 @@ and_false false = refl
 mutual
   causes-unlisted : (inherited : Option Source) (c : Cause) → AreCauseAnswers inherited c unlisted
   causes-unlisted inherited (texts ts) = tt
-  causes-unlisted inherited (diagnostic (tree m own c r)) = (λ h. refl, related-unlisted (effective own inherited) r, causes-unlisted inherited c)
+  causes-unlisted inherited (diagnostic (tree m own c r)) = ((λ h. refl, refl), related-unlisted (effective own inherited) r, causes-unlisted inherited c)
 
   related-unlisted : (inherited : Option Source) (ts : Trees) → AreRelatedAnswers inherited ts no_more
   related-unlisted inherited no_trees = tt
   related-unlisted inherited (more_trees (tree m own c r) ts) =
-      (λ h. refl, causes-unlisted (effective own inherited) c, related-unlisted (effective own inherited) r, related-unlisted inherited ts)
+      ((λ h. refl, refl), causes-unlisted (effective own inherited) c, related-unlisted (effective own inherited) r, related-unlisted inherited ts)
 
 -- ---- texts
 

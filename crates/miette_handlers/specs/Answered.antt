@@ -52,10 +52,11 @@ root_causes_read chain (tree m own c r) = if chain then causes_read own c else t
 abbrev pub report_reads : Bool → Tree → Bool
 report_reads chain (tree m own c r) = always_reads own m && (if chain then causes_read own c else true) && related_read own r
 
--- ---- answers that the sources can have given: nothing fails that always reads
+-- ---- answers that the sources can have given: nothing fails that always reads, and no line has pieces of its own, since no handler
+-- asks a highlighter
 
 abbrev pub IsAnswer : Option Source → Meaning → Answer → Type 0
-IsAnswer source m a = always_reads source m ≡ true → a ≡ nothing_listed
+IsAnswer source m a = (always_reads source m ≡ true → a ≡ nothing_listed) × (a.pieces ≡ [])
 
 abbrev mutual
   pub AreCauseAnswers : Option Source → Cause → Answers → Type 0
@@ -88,7 +89,7 @@ IsDrawn rows s source m text = (a : Answer) × IsAnswer source m a × (text ≡ 
 -- the text of the rows of some labels' snippets over a source, with nothing listed where it always reads
 abbrev pub AreDrawn : Settings → Source → List Label → List ℕ → Type 0
 AreDrawn s source labels text =
-    (a : Answer) × (source.always_reads ≡ true → a ≡ nothing_listed) × (text ≡ rows_text (drawn_rows s (Some source) labels a))
+    (a : Answer) × (source.always_reads ≡ true → a ≡ nothing_listed) × (a.pieces ≡ []) × (text ≡ rows_text (drawn_rows s (Some source) labels a))
 
 -- the causes of a report
 abbrev pub AreCauses : SnippetRows → Settings → Option Severity → Option Source → Cause → List ℕ → Type 0

@@ -1,5 +1,5 @@
 -- The value that a report stands for.
-use Rattle.std.specs.Prelude.{ℕ, List, [], Option, Some, None, option_map, string_bytes, map, codes}
+use Rattle.std.specs.Prelude.{ℕ, ◌<◌, List, [], Option, Some, None, length, option_map, string_bytes, map, codes}
 use Rattle.miette_protocol.specs.Meaning.{Meaning}
 use Rattle.miette_protocol.specs.Reading.{Source}
 use Rattle.miette_protocol.specs.Diagnostic.{meaning_of, message_alone}
@@ -67,3 +67,9 @@ abbrev pub cause_shown : {D S : Type 0} → (D → Meaning) → (S → Source) �
 cause_shown means is seen.None = texts []
 cause_shown means is (seen.Diagnostic r) = diagnostic (tree_of means is r.now)
 cause_shown means is (seen.Texts list) = texts (map string_bytes list.now)
+
+-- texts are shown only where there is at least one
+abbrev pub IsNoEmptyList : {D S : Type 0} → shown.Cause D S → Type 0
+IsNoEmptyList seen.None = Unit {0}
+IsNoEmptyList (seen.Diagnostic r) = Unit {0}
+IsNoEmptyList (seen.Texts list) = 0 < length list.now

@@ -282,7 +282,7 @@ impl<D: Diagnostic, S: SourceCode> Report<D, S> {
 /// Getters. None of them takes memory.
 impl<D: Diagnostic, S: SourceCode> Report<D, S> {
     ghost use Rattle.miette_tree.specs.Tree.{head, source_of, cause_of, related_of, trees};
-    ghost use Rattle.miette_tree.specs.Report.{tree_of, cause_shown};
+    ghost use Rattle.miette_tree.specs.Report.{tree_of, cause_shown, IsNoEmptyList};
     ghost use Rattle.miette_tree.specs.Owned.{shown_source};
     ghost use Rattle.miette_tree.specs.Kind.{kind_of, kind_shown};
 
@@ -343,7 +343,9 @@ impl<D: Diagnostic, S: SourceCode> Report<D, S> {
 
     /// Its cause.
     pub fn cause(&self) -> Cause<'_, D, S>
-        ensures { cause_shown D.meaning S.source result ≡ cause_of (tree_of D.meaning S.source self.now) }
+        ensures value { cause_shown D.meaning S.source result ≡ cause_of (tree_of D.meaning S.source self.now) }
+        // An empty list of texts is no cause.
+        ensures nonempty { IsNoEmptyList result }
     {
         match &self.cause {
             KeptCause::None => Cause::None,

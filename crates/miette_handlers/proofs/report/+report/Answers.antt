@@ -17,20 +17,20 @@ causes_text-returns-in_err-below-in-Diagnostic-clause-refused g t c = λ h.
     let inherited = option_map (shown_source g.S.SourceCode.source) c.args.inherited in
     let cause = tree_of g.D.Diagnostic.meaning g.S.SourceCode.source c.in-Diagnostic.cause.now in
     let below : causes_read inherited (cause_of cause) ≡ false = c.in_err-below-in-Diagnostic.ensures.refused (search rules) in
-    subst (λ x. causes_read inherited x ≡ false) c.in-Diagnostic.ensures (later_cause_fails inherited cause below)
+    subst (λ x. causes_read inherited x ≡ false) c.in-Diagnostic.ensures.value (later_cause_fails inherited cause below)
 
 pub causes_text-returns-in-None-clause-ok : goal.causes_text-returns-in-None-clause-ok
 causes_text-returns-in-None-clause-ok g t c =
     let s = settings_of c.args.layout in
     let inherited = option_map (shown_source g.S.SourceCode.source) c.args.inherited in
-    subst (λ x. AreCauses drawn_rows s c.args.outer inherited x c.new.result.items) c.in-None.ensures
+    subst (λ x. AreCauses drawn_rows s c.args.outer inherited x c.new.result.items) c.in-None.ensures.value
     (causes_none drawn_rows s c.args.outer inherited [] c.new.result.items c.new.ensures.items)
 
 pub causes_text-returns-in_ok-push_cause_texts-in-Texts-clause-ok : goal.causes_text-returns-in_ok-push_cause_texts-in-Texts-clause-ok
 causes_text-returns-in_ok-push_cause_texts-in-Texts-clause-ok g t c =
     let s = settings_of c.args.layout in
     let inherited = option_map (shown_source g.S.SourceCode.source) c.args.inherited in
-    subst (λ x. AreCauses drawn_rows s c.args.outer inherited x c.push_cause_texts.new.out.items) c.in-Texts.ensures
+    subst (λ x. AreCauses drawn_rows s c.args.outer inherited x c.push_cause_texts.new.out.items) c.in-Texts.ensures.value
     (causes_none drawn_rows s c.args.outer inherited (map string_bytes c.in-Texts.list.now) c.push_cause_texts.new.out.items
     (c.in_ok-push_cause_texts-in-Texts.ensures ∙ ap (λ o. o ++ cause_texts s c.args.outer (map string_bytes c.in-Texts.list.now)) c.new-text.ensures.items))
 
@@ -42,7 +42,7 @@ causes_text-returns-in_ok-extend_from_slice-in-Diagnostic-clause-ok g t c =
     let one = c.in_ok-text-in-Diagnostic.text.items in
     let more = c.in_ok-below-in-Diagnostic.below.items in
     let both : c.extend_from_slice.new.self.items ≡ one ++ more = c.in_ok-extend_from_slice-in-Diagnostic.ensures.items ∙ ap (λ x. one ++ x) c.deref.ensures.value in
-    subst (λ x. AreCauses drawn_rows s c.args.outer inherited x c.extend_from_slice.new.self.items) c.in-Diagnostic.ensures
+    subst (λ x. AreCauses drawn_rows s c.args.outer inherited x c.extend_from_slice.new.self.items) c.in-Diagnostic.ensures.value
     (subst (λ x. AreCauses drawn_rows s c.args.outer inherited (diagnostic cause) x) (sym both)
     (cause_step drawn_rows s c.args.outer inherited cause one more c.in_ok-text-in-Diagnostic.ensures.ok c.in_ok-below-in-Diagnostic.ensures.ok))
 

@@ -18,7 +18,7 @@ returns g c =
     let value = tree_of g.D.Diagnostic.meaning g.S.SourceCode.source in
     let most : ℕ = 18446744073709551615 in
     let at = value c.loop-next.at.now in
-    let last = no_diagnostic g.D.Diagnostic.meaning g.S.SourceCode.source c.cause.result (cause_of at) c.cause.ensures c.in_default.not-Diagnostic in
+    let last = no_diagnostic g.D.Diagnostic.meaning g.S.SourceCode.source c.cause.result (cause_of at) c.cause.ensures.value c.in_default.not-Diagnostic in
     let count : c.loop-next.count ≡ length (spine (value c.args.self.now)) = omega (arith, last.0, spine_down at, c.loop-next.invariant.counted) in
     let kept : map string_bytes c.first_texts.result.now ≡ take (most - c.loop-next.count) (tail (value c.args.self.now)) =
     ap (map string_bytes) c.first_texts.ensures ∙ (sym (take-map string_bytes (most - c.loop-next.count) c.texts_of.result.now)

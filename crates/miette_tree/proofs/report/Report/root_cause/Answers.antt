@@ -8,7 +8,7 @@ use Rattle.miette_tree.proofs.report.Report.root_cause.Goals as goal
 pub returns-in-Some : goal.returns-in-Some
 returns-in-Some g c =
     let at = tree_of g.D.Diagnostic.meaning g.S.SourceCode.source c.loop-next.at.now in
-    let last = no_diagnostic g.D.Diagnostic.meaning g.S.SourceCode.source c.cause.result (cause_of at) c.cause.ensures c.in_default.not-Diagnostic in
+    let last = no_diagnostic g.D.Diagnostic.meaning g.S.SourceCode.source c.cause.result (cause_of at) c.cause.ensures.value c.in_default.not-Diagnostic in
     let split : c.texts_of.result.now ≡ c.in-Some.field-0-1.now ++ c.in-Some.last.now ∷ [] = search rules in
     let texts : map string_bytes c.texts_of.result.now ≡ map string_bytes c.in-Some.field-0-1.now ++ string_bytes c.in-Some.last.now ∷ [] =
     ap (map string_bytes) split ∙ map-append string_bytes c.in-Some.field-0-1.now (c.in-Some.last.now ∷ []) in
