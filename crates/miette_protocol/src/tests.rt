@@ -248,18 +248,22 @@ fn few_looks_at_the_index(rt: HostRuntime) -> Result<(), Fail> {
     Ok(())
 }
 
-/// The source of a number: up to six bytes of `a`, CR and LF.
+/// The source of a number below 200, each another one: up to five bytes of `a`, CR and LF, and behind odd ones an `a`.
 fn source_of(alloc: Global, number: usize) -> Result<Vec<u8>, AllocError> {
     let mut bytes = Vec::new(alloc);
-    let mut rest = number;
-    for _ in 0..6 {
-        match rest % 4 {
-            1 => bytes.push(b'a')?,
-            2 => bytes.push(b'\r')?,
-            3 => bytes.push(b'\n')?,
-            _ => (),
+    let mut rest = number / 2 * 2;
+    for _ in 0..5 {
+        if rest > 0 {
+            match rest % 3 {
+                0 => bytes.push(b'a')?,
+                1 => bytes.push(b'\r')?,
+                _ => bytes.push(b'\n')?,
+            }
         }
-        rest /= 4;
+        rest /= 3;
+    }
+    if number % 2 == 1 {
+        bytes.push(b'a')?;
     }
     Ok(bytes)
 }
@@ -267,7 +271,7 @@ fn source_of(alloc: Global, number: usize) -> Result<Vec<u8>, AllocError> {
 #[test]
 fn index_and_scan_agree(rt: HostRuntime) -> Result<(), Fail> {
     for number in 0..200 {
-        let bytes = source_of(rt.alloc(), number * 20)?;
+        let bytes = source_of(rt.alloc(), number)?;
         let indexed = IndexedSource::new(rt.alloc(), bytes.clone()?)?;
         let plain = bytes.as_slice();
         for offset in 0..8 {
