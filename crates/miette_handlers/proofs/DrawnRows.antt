@@ -1,5 +1,5 @@
 -- The rows of snippets under answers: where nothing fails, they are those in which nothing is listed.
-use Rattle.std.proofs.Common.{◌≡◌, ◌≢◌, ℕ, Bool, true, false, ◌||◌, if◌then◌else◌, ◌⊎◌, inl, inr, List, [], ◌∷◌, ◌++◌, map, refl, sym, ap, ap₂, ◌∙◌, subst, Option, Some, None, option_map, codes, length, ◌<◌, ◌≤◌, arith}
+use Rattle.std.proofs.Common.{◌≡◌, ◌≢◌, ℕ, Bool, true, false, ◌||◌, if◌then◌else◌, ◌⊎◌, inl, inr, List, [], ◌∷◌, refl, sym, ap, ap₂, ◌∙◌, Option, Some, None, is_some, option_map, codes, length, ◌<◌, ◌≤◌, arith}
 use Rattle.miette_protocol.specs.Meaning.{Label, Meaning}
 use Rattle.miette_protocol.specs.Reading.{Source, Span}
 use Rattle.miette_text.specs.Tame.{is_nil}
@@ -8,16 +8,17 @@ use Rattle.miette_layout.specs.Contexts.{is_accepted}
 use Rattle.miette_layout.specs.Drawn.{MayGive}
 use Rattle.miette_layout.specs.Frames as frames
 use Rattle.miette_layout.specs.Frames.{refused_row}
-use Rattle.miette_layout.specs.Groups.{Refusal, refusal, joins_before, joined, groups_from, groups_answered, in_order, spans_of}
+use Rattle.miette_layout.specs.Groups.{refusal, joins_before, joined, groups_from, groups_answered, in_order, spans_of}
 use Rattle.miette_layout.specs.Layout.{snippet_rows, rows_unless, rows_of_groups, all_snippets, some_fails}
 use Rattle.miette_layout.specs.Rows.{Row}
 use Rattle.miette_layout.specs.Told.{Token, told_rows}
 use Rattle.miette_handlers.specs.Answers.{Answer, nothing_listed}
-use Rattle.miette_handlers.specs.Answered.{always_reads, source_reads, AreDrawn, IsDrawn}
+use Rattle.miette_handlers.specs.Answered.{HasRows, AreDrawn, IsDrawn}
+use Rattle.miette_handlers.specs.Printed.{always_reads}
 use Rattle.miette_handlers.specs.Parts.{rows_text, list_of}
 use Rattle.miette_handlers.specs.Printing.{page_text}
 use Rattle.miette_handlers.specs.Settings.{Settings}
-use Rattle.miette_handlers.specs.Snippets.{layout_settings, shown_rows, drawn_rows, runs_of_row}
+use Rattle.miette_handlers.specs.Snippets.{layout_settings, shown_rows, drawn_rows}
 use Rattle.miette_handlers.proofs.Printed.{rows_printed}
 
 next_none : (fails : List Bool) → NoneFails fails → next_answer fails ≡ false
@@ -64,7 +65,7 @@ groups_given s source labels a h e =
     ∙ ap (λ b. if b then None else Some (all_snippets s source labels a.pieces (groups_answered s.context source [] (spans_of labels)))) (places_none a.place_fails (groups_answered s.context source [] (spans_of labels)) h.places)
     ∙ ap (λ p. Some (all_snippets s source labels p (groups_answered s.context source [] (spans_of labels)))) e
 
-none_listed : AlwaysReads nothing_listed
+pub none_listed : AlwaysReads nothing_listed
 none_listed = record { labels = tt; joins = tt; places = tt }
 
 unless_same : (s : frames.Settings) (source : Source) (labels : List Label) (a : Answer) (refused : Option Row) → AlwaysReads a → a.pieces ≡ [] →
@@ -77,6 +78,15 @@ pub rows_same : (s : frames.Settings) (source : Source) (labels : List Label) (a
 rows_same s source labels a h e =
     ap (λ r. rows_unless s source (in_order labels) a (option_map (refused_row s) r)) (refusal_none source.bytes a.label_fails (in_order labels) h.labels)
     ∙ unless_same s source (in_order labels) a (option_map (refused_row s) (refusal source.bytes [] (in_order labels))) h e
+
+some_unless : (s : frames.Settings) (source : Source) (labels : List Label) (refused : Option Row) → is_some (rows_unless s source labels nothing_listed refused) ≡ true
+some_unless s source labels (Some row) = refl
+some_unless s source labels None = ap is_some (groups_given s source labels nothing_listed none_listed refl)
+
+-- where nothing is listed there are rows
+pub always_rows : (s : frames.Settings) (source : Option Source) (labels : List Label) → HasRows s source labels nothing_listed
+always_rows s None labels = tt
+always_rows s (Some source) labels = some_unless s source (in_order labels) (option_map (refused_row s) (refusal source.bytes [] (in_order labels)))
 
 never_none : (s : frames.Settings) (source : Source) (labels : List Label) (refused : Option Row) → rows_unless s source labels nothing_listed refused ≢ None
 never_none s source labels (Some row) e = absurd (cc)
@@ -94,6 +104,10 @@ page_given : (rows : Option (List Row)) (page : List Token) → Some page ≡ op
 page_given None page e = absurd (cc)
 page_given (Some rows) page e = let same : page ≡ told_rows rows = cc in ap page_text same ∙ rows_printed rows
 
+rows_some : (rows : Option (List Row)) (page : List Token) → Some page ≡ option_map told_rows rows → is_some rows ≡ true
+rows_some None page e = absurd (cc)
+rows_some (Some rows) page e = refl
+
 rows_none : (rows : Option (List Row)) → None ≡ option_map told_rows rows → rows ≡ None
 rows_none None e = refl
 rows_none (Some rows) e = absurd (cc)
@@ -103,8 +117,8 @@ pub drawn_page : (s : Settings) (source : Source) (labels : List Label) (page : 
 drawn_page s source labels page text g e =
     let shown : text ≡ rows_text (drawn_rows s (Some source) labels g.answers) = e ∙ page_given (snippet_rows (layout_settings s) source labels g.answers) page g.is in
     elim (decide source.always_reads) [
-      | inl reads ↦ (nothing_listed, λ h. refl, refl, shown ∙ ap (λ r. rows_text (shown_rows r)) (rows_same (layout_settings s) source labels g.answers (g.always reads) g.uncolored))
-      | inr fails ↦ (g.answers, λ h. absurd (cc), g.uncolored, shown)
+      | inl reads ↦ (nothing_listed, λ h. refl, refl, always_rows (layout_settings s) (Some source) labels, shown ∙ ap (λ r. rows_text (shown_rows r)) (rows_same (layout_settings s) source labels g.answers (g.always reads) g.uncolored))
+      | inr fails ↦ (g.answers, λ h. absurd (cc), g.uncolored, rows_some (snippet_rows (layout_settings s) source labels g.answers) page g.is, shown)
     ]
 
 pub refused_page : (s : Settings) (source : Source) (labels : List Label) → MayGive (layout_settings s) source labels None → source.always_reads ≡ false
@@ -117,18 +131,18 @@ refused_page s source labels g =
 -- ---- a diagnostic's snippets
 
 pub drawn_nowhere : (s : Settings) (m : Meaning) (text : List ℕ) → text ≡ [] → IsDrawn drawn_rows s None m text
-drawn_nowhere s m text e = (nothing_listed, (λ h. refl, refl), e)
+drawn_nowhere s m text e = (nothing_listed, (λ h. refl, refl, tt), e)
 
 pub drawn_unlabelled : (s : Settings) (source : Source) (m : Meaning) (text : List ℕ) → list_of m.labels ≡ [] → text ≡ [] → IsDrawn drawn_rows s (Some source) m text
 drawn_unlabelled s source m text e t =
-    (nothing_listed, (λ h. refl, refl), t ∙ ap (λ ls. rows_text (drawn_rows s (Some source) ls nothing_listed)) (sym e))
+    (nothing_listed, (λ h. refl, refl, always_rows (layout_settings s) (Some source) (list_of m.labels)), t ∙ ap (λ ls. rows_text (drawn_rows s (Some source) ls nothing_listed)) (sym e))
 
 reads_some : (source : Source) (labels : List Label) → labels ≢ [] → (if is_nil labels then true else source.always_reads) ≡ source.always_reads
 reads_some source [] h = absurd (h refl)
 reads_some source (label ∷ labels) h = refl
 
 pub drawn_labelled : (s : Settings) (source : Source) (m : Meaning) (text : List ℕ) → list_of m.labels ≢ [] → AreDrawn s source (list_of m.labels) text → IsDrawn drawn_rows s (Some source) m text
-drawn_labelled s source m text some d = (d.0, (λ h. d.1 (sym (reads_some source (list_of m.labels) some) ∙ h), d.2), d.3)
+drawn_labelled s source m text some d = (d.0, (λ h. d.1 (sym (reads_some source (list_of m.labels) some) ∙ h), d.2, d.3), d.4)
 
 pub refused_labelled : (source : Source) (m : Meaning) → list_of m.labels ≢ [] → source.always_reads ≡ false → always_reads (Some source) m ≡ false
 refused_labelled source m some e = reads_some source (list_of m.labels) some ∙ e

@@ -1,11 +1,10 @@
 -- The parts that are written make up the text of the value.
-use Rattle.std.proofs.Common.{◌≡◌, ℕ, List, [], ◌∷◌, ◌++◌, Option, Some, None, refl, sym, ap, ◌∙◌, append_assoc, append-nil, subst, suc, ◌+◌, ◌<◌, length, get_or, map, drop, add-one, Bool, true, false, codes, option_map}
+use Rattle.std.proofs.Common.{◌≡◌, ℕ, List, [], ◌∷◌, ◌++◌, Option, Some, None, refl, sym, ap, ◌∙◌, append_assoc, append-nil, Bool, true, false, codes, option_map}
 use Rattle.std.specs.Prelude.{if◌then◌else◌}
-use Rattle.std.proofs.Math.Seq.{drop-cons}
 use Rattle.miette_handlers.specs.Json.{Json, string, array, object, Items, item, Members, no_members, member, quoted, json_text, items_text, more_members_text}
 use Rattle.miette_protocol.specs.Reading.{Source}
-use Rattle.miette_tree.specs.Tree.{Tree, tree, head, source_of, cause_of, causes_of, related_of, trees, effective}
-use Rattle.miette_handlers.specs.JsonReport.{NameAnswers, RelatedNameAnswers, own_fault, related_answers, maybe, severity_text, strings, labels_json, given_labels, file_name, report_json, reports_json}
+use Rattle.miette_tree.specs.Tree.{Tree, tree, head, source_of, cause_of, causes_of, related_of, effective}
+use Rattle.miette_handlers.specs.JsonReport.{NameAnswers, own_fault, related_answers, maybe, severity_text, strings, labels_json, given_labels, file_name, report_json, reports_json}
 use Rattle.miette_handlers.specs.JsonText.{key_text, maybe_text, rest_text, start_text, head_text, reasons_text, places_text}
 
 -- what is left to write grows shorter

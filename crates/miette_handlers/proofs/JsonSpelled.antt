@@ -1,6 +1,6 @@
 -- The spelling of a value stands for it.
 use Rattle.std.proofs.Common.{◌≡◌, ◌≢◌, ◌⊎◌, inl, inr, ℕ, zero, suc, ◌+◌, ◌-◌, ◌*◌, ◌/◌, ◌%◌, ◌^◌, ◌<◌, ◌≤◌, Bool, true, false, cond, List, [], ◌∷◌, ◌++◌, refl, sym, ap, ◌∙◌, subst, arith, append_assoc, append-nil, add-one, length, get_or, take, drop}
-use Rattle.std.specs.Prelude.{⊤, nat_lt, not, Option, Some, None, position}
+use Rattle.std.specs.Prelude.{nat_lt, not, Some, None, position}
 use Rattle.std.specs.List.{position_or_len, prefix_len}
 use Rattle.std.proofs.Math.Seq.{drop-cons}
 use Rattle.std.proofs.lemmas.List.Quantifiers.{position-Some}
@@ -10,7 +10,6 @@ use Rattle.std.proofs.lemmas.Fmt.{decimal_by_steps}
 use Rattle.std.proofs.lemmas.Bool.{ltb-true, ltb-false, lt-ltb, le-ltb}
 use Rattle.std.proofs.lemmas.Bool.Decides.{eqb_tells, nat_tests}
 use Rattle.std.proofs.lemmas.Str.{encode_ascii, digit_value-digit_char}
-use lib.Utf8.{encode}
 use Rattle.miette_handlers.specs.Json.{Json, number, string, array, object, Items, no_items, item, Members, no_members, member, digits_within, numeral, is_escaped, escape_letter, escaped_byte, escaped, quoted, json_text, items_text, more_items_text, members_text, more_members_text}
 use Rattle.miette_handlers.specs.Denotes.{Token, mark, text, whole, tokens_then, items_then, more_items_then, members_then, more_members_then, Piece, plain, short, unit, short_for, IsPiece, hex, written, meant, ArePieces, all_written, all_meant, IsDigit, AreDigits, value_after, NoLeadingZero, NoDigitNext, IsMark, IsString, IsNumber, Begins, Next, AreTokens, Denotes}
 

@@ -7,6 +7,7 @@ pub mod Fading
 pub mod PartFading
 pub mod ReportFading
 pub mod Sizes
+pub mod Lists
 pub mod Steps
 pub mod TextLaws
 pub mod Only

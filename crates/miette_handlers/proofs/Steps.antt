@@ -1,5 +1,5 @@
 -- Printing a report, step by step: the answers of a whole are put together from those of its parts.
-use Rattle.std.proofs.Common.{◌≡◌, ◌≤◌, ◌<◌, Bool, true, false, ◌&&◌, List, [], ◌∷◌, ◌++◌, ℕ, length, map, drop, take, ◌-◌, get_or, refl, ap, ap₂, ◌∙◌, arith, Option, MatchBool, if◌then◌else◌}
+use Rattle.std.proofs.Common.{◌≡◌, ◌≤◌, ◌<◌, Bool, true, false, List, [], ◌∷◌, ◌++◌, ℕ, length, map, drop, take, ◌-◌, get_or, refl, ap, ap₂, ◌∙◌, arith, Option, MatchBool, if◌then◌else◌}
 use Rattle.std.proofs.lemmas.List.{take_rest}
 use Rattle.miette_text.specs.Cutting.{without_trailing}
 use Rattle.miette_protocol.specs.Meaning.{Meaning}
@@ -7,12 +7,17 @@ use Rattle.miette_protocol.specs.Reading.{Source}
 use Rattle.miette_tree.specs.Tree.{Tree, tree, Cause, diagnostic, texts, Trees, no_trees, more_trees, head, source_of, cause_of, related_of, trees}
 use Rattle.miette_protocol.specs.declared.protocol.Severity.{Severity}
 use Rattle.miette_handlers.specs.Settings.{Settings}
-use Rattle.miette_handlers.specs.Answers.{Answer, Answers, unlisted, listed, RelatedAnswers, no_more, and_more, nothing_listed, own_answer, cause_answers, related_answers}
+use Rattle.miette_handlers.specs.Answers.{Answers, unlisted, listed, no_more, and_more, own_answer, cause_answers, related_answers}
 use Rattle.miette_handlers.specs.Indents.{narrowed}
 use Rattle.miette_handlers.specs.Parts.{SnippetRows, rows_text, under_arrow, title_text, list_of}
-use Rattle.miette_handlers.specs.Text.{ends_there, are_last, body, body_over, inner_over, inner_text, causes_text, related_text, report_over, report_text, only_if}
+use Rattle.miette_handlers.specs.Text.{ends_there, are_last, body, body_over, inner_over, inner_text, causes_text, related_text, report_over, only_if}
 use Rattle.miette_tree.specs.Tree.{effective}
-use Rattle.miette_handlers.specs.Answered.{always_reads, causes_read, related_read, inner_reads, sibling_reads, root_causes_read, report_reads, IsAnswer, AreCauseAnswers, AreRelatedAnswers, AreAnswers, IsDrawn, AreCauses, AreRelated, IsInner, IsSibling, IsOneCause, IsNested, IsOneRelated, AreRootCauses, IsReport}
+use Rattle.miette_layout.specs.Frames as frames
+use Rattle.miette_handlers.specs.Printed.{all_read, over, printed, printed_causes, printed_related, printed_inner, printed_sibling, printed_one, printed_root_causes}
+use Rattle.miette_handlers.specs.Snippets.{layout_settings}
+use Rattle.miette_handlers.proofs.DrawnRows.{always_rows}
+use Rattle.miette_handlers.proofs.Lists.{first_fails, later_fails}
+use Rattle.miette_handlers.specs.Answered.{IsAnswer, AreCauseAnswers, AreRelatedAnswers, IsDrawn, AreCauses, AreRelated, IsInner, IsSibling, IsOneCause, IsNested, IsOneRelated, AreRootCauses, IsReport}
 
 pub not_last : {R : Type 0} (value : R → Tree) (rs : List R) → 1 ≤ length rs → false ≡ are_last (trees (map value rs))
 not_last value [] h = absurd (omega arith)
@@ -23,21 +28,25 @@ pub first_and_more : {R : Type 0} (value : R → Tree) (rs : List R) (d : R) →
 first_and_more value [] d h = absurd (omega arith)
 first_and_more value (r ∷ rs) d h = ap (λ t. more_trees (value r) (trees (map value t))) (take_rest (r ∷ rs) 1)
 
-pub and_false : (b : Bool) → (b && false) ≡ false
-and_false true = refl
-and_false false = refl
-
 -- ---- where nothing is listed, nothing failed
 
 mutual
-  causes-unlisted : (inherited : Option Source) (c : Cause) → AreCauseAnswers inherited c unlisted
-  causes-unlisted inherited (texts ts) = tt
-  causes-unlisted inherited (diagnostic (tree m own c r)) = ((λ h. refl, refl), related-unlisted (effective own inherited) r, causes-unlisted inherited c)
+  causes-unlisted : (l : frames.Settings) (inherited : Option Source) (c : Cause) → AreCauseAnswers l inherited c unlisted
+  causes-unlisted l inherited (texts ts) = tt
+  causes-unlisted l inherited (diagnostic (tree m own c r)) = (
+    (λ h. refl, refl, always_rows l (effective own inherited) (list_of m.labels)),
+    related-unlisted l (effective own inherited) r,
+    causes-unlisted l inherited c,
+  )
 
-  related-unlisted : (inherited : Option Source) (ts : Trees) → AreRelatedAnswers inherited ts no_more
-  related-unlisted inherited no_trees = tt
-  related-unlisted inherited (more_trees (tree m own c r) ts) =
-      ((λ h. refl, refl), causes-unlisted (effective own inherited) c, related-unlisted (effective own inherited) r, related-unlisted inherited ts)
+  related-unlisted : (l : frames.Settings) (inherited : Option Source) (ts : Trees) → AreRelatedAnswers l inherited ts no_more
+  related-unlisted l inherited no_trees = tt
+  related-unlisted l inherited (more_trees (tree m own c r) ts) = (
+    (λ h. refl, refl, always_rows l (effective own inherited) (list_of m.labels)),
+    causes-unlisted l (effective own inherited) c,
+    related-unlisted l (effective own inherited) r,
+    related-unlisted l inherited ts,
+  )
 
 -- ---- texts
 
@@ -83,12 +92,12 @@ sibling_step rows s source (tree m own c r) drawn causes related p q k = (
 -- one of several related reports, with its answers in one
 one_by : (rows : SnippetRows) (s : Settings) (outer : Option Severity) (source : Option Source) (last : Bool) (m : Meaning) (own : Option Source) (c : Cause) (r : Trees) (text : List ℕ) (nested : Bool) →
     MatchBool nested (IsNested rows s outer source last (tree m own c r) text) (IsSibling rows s source (tree m own c r) text) →
-    (a : Answers) × IsAnswer source m (own_answer a) × AreCauseAnswers source c (cause_answers a) × AreRelatedAnswers source r (related_answers a)
+    (a : Answers) × IsAnswer (layout_settings s) source m (own_answer a) × AreCauseAnswers (layout_settings s) source c (cause_answers a) × AreRelatedAnswers (layout_settings s) source r (related_answers a)
     × (text ≡ (if nested then
     under_arrow s outer last (without_trailing (inner_text rows (narrowed s outer last) m source (own_answer a) (related_text rows (narrowed s outer last) m.severity source r (related_answers a))))
     else title_text s m ++ body rows s m source (own_answer a) (causes_text rows s m.severity source c (cause_answers a)) (related_text rows s m.severity source r (related_answers a))))
 one_by rows s outer source last m own c r text true p =
-    (listed p.1.0 unlisted p.1.1, p.1.2, causes-unlisted source c, p.1.3, p.2 ∙ ap (λ x. under_arrow s outer last (without_trailing x)) p.1.4)
+    (listed p.1.0 unlisted p.1.1, p.1.2, causes-unlisted (layout_settings s) source c, p.1.3, p.2 ∙ ap (λ x. under_arrow s outer last (without_trailing x)) p.1.4)
 one_by rows s outer source last m own c r text false p = (listed p.0 p.1 p.2, p.3, p.4, p.5, p.6)
 
 pub related_step : (rows : SnippetRows) (s : Settings) (outer : Option Severity) (inherited : Option Source) (t : Tree) (ts : Trees) (one more : List ℕ) →
@@ -100,9 +109,9 @@ related_step rows s outer inherited (tree m own c r) ts one more p q =
 
 root_by : (rows : SnippetRows) (s : Settings) (m : Meaning) (own : Option Source) (c : Cause) (causes : List ℕ) (chain : Bool) →
     MatchBool chain (AreCauses rows s m.severity own c causes) (causes ≡ []) →
-    (a : Answers) × (chain ≡ true → AreCauseAnswers own c a) × (causes ≡ only_if chain (causes_text rows s m.severity own c a))
+    (a : Answers) × (chain ≡ true → AreCauseAnswers (layout_settings s) own c a) × (causes ≡ only_if chain (causes_text rows s m.severity own c a))
 root_by rows s m own c causes true p = (p.0, λ h. p.1, p.2)
-root_by rows s m own c causes false p = (unlisted, λ h. causes-unlisted own c, p)
+root_by rows s m own c causes false p = (unlisted, λ h. causes-unlisted (layout_settings s) own c, p)
 
 pub root_step : (rows : SnippetRows) (s : Settings) (t : Tree) (drawn : List ℕ) (causes related : List ℕ) →
     IsDrawn rows s (source_of t) (head t) drawn → AreRootCauses rows s t causes → AreRelated rows s (head t).severity (source_of t) (related_of t) related →
@@ -117,49 +126,45 @@ root_step rows s (tree m own c r) drawn causes related p q k =
 
 -- ---- refusals
 
-pub one_cause_fails : (inherited : Option Source) (t : Tree) → inner_reads (effective (source_of t) inherited) t ≡ false → causes_read inherited (diagnostic t) ≡ false
-one_cause_fails inherited (tree m own c r) h = ap (λ b. b && causes_read inherited c) h
+pub one_cause_fails : (nested : Bool) (inherited : Option Source) (t : Tree) → all_read (printed_inner nested (effective (source_of t) inherited) t) ≡ false →
+    all_read (printed_causes nested inherited (diagnostic t)) ≡ false
+one_cause_fails nested inherited (tree m own c r) h = first_fails (printed_inner nested (effective own inherited) (tree m own c r)) (printed_causes nested inherited c) h
 
-pub later_cause_fails : (inherited : Option Source) (t : Tree) → causes_read inherited (cause_of t) ≡ false → causes_read inherited (diagnostic t) ≡ false
-later_cause_fails inherited (tree m own c r) h =
-    ap (λ b. always_reads (effective own inherited) m && related_read (effective own inherited) r && b) h ∙ and_false _
+pub later_cause_fails : (nested : Bool) (inherited : Option Source) (t : Tree) → all_read (printed_causes nested inherited (cause_of t)) ≡ false →
+    all_read (printed_causes nested inherited (diagnostic t)) ≡ false
+later_cause_fails nested inherited (tree m own c r) h = later_fails (printed_inner nested (effective own inherited) (tree m own c r)) (printed_causes nested inherited c) h
 
-pub inner_rows_fail : (source : Option Source) (t : Tree) → always_reads source (head t) ≡ false → inner_reads source t ≡ false
-inner_rows_fail source (tree m own c r) h = ap (λ b. b && related_read source r) h
+pub inner_related_fail : (nested : Bool) (source : Option Source) (t : Tree) → all_read (printed_related nested source (related_of t)) ≡ false →
+    all_read (printed_inner nested source t) ≡ false
+inner_related_fail nested source (tree m own c r) h = later_fails (over source m ∷ []) (printed_related nested source r) h
 
-pub inner_related_fail : (source : Option Source) (t : Tree) → related_read source (related_of t) ≡ false → inner_reads source t ≡ false
-inner_related_fail source (tree m own c r) h = ap (λ b. always_reads source m && b) h ∙ and_false _
+pub sibling_causes_fail : (nested : Bool) (source : Option Source) (t : Tree) → all_read (printed_causes nested source (cause_of t)) ≡ false →
+    all_read (printed_sibling nested source t) ≡ false
+sibling_causes_fail nested source (tree m own c r) h =
+    later_fails (over source m ∷ []) (printed_causes nested source c ++ printed_related nested source r) (first_fails (printed_causes nested source c) (printed_related nested source r) h)
 
-pub sibling_rows_fail : (source : Option Source) (t : Tree) → always_reads source (head t) ≡ false → sibling_reads source t ≡ false
-sibling_rows_fail source (tree m own c r) h = ap (λ b. b && causes_read source c && related_read source r) h
+pub sibling_related_fail : (nested : Bool) (source : Option Source) (t : Tree) → all_read (printed_related nested source (related_of t)) ≡ false →
+    all_read (printed_sibling nested source t) ≡ false
+sibling_related_fail nested source (tree m own c r) h = later_fails (over source m ∷ printed_causes nested source c) (printed_related nested source r) h
 
-pub sibling_causes_fail : (source : Option Source) (t : Tree) → causes_read source (cause_of t) ≡ false → sibling_reads source t ≡ false
-sibling_causes_fail source (tree m own c r) h =
-    ap (λ b. always_reads source m && b && related_read source r) h ∙ ap (λ b. b && related_read source r) (and_false (always_reads source m))
+pub one_inner_fails : (nested : Bool) (source : Option Source) (t : Tree) → nested ≡ true → all_read (printed_inner nested source t) ≡ false → all_read (printed_one nested source t) ≡ false
+one_inner_fails true source t n h = h
+one_inner_fails false source t n h = absurd (cc)
 
-pub sibling_related_fail : (source : Option Source) (t : Tree) → related_read source (related_of t) ≡ false → sibling_reads source t ≡ false
-sibling_related_fail source (tree m own c r) h = ap (λ b. always_reads source m && causes_read source c && b) h ∙ and_false _
+pub one_related_fails : (nested : Bool) (inherited : Option Source) (t : Tree) (ts : Trees) → all_read (printed_one nested (effective (source_of t) inherited) t) ≡ false →
+    all_read (printed_related nested inherited (more_trees t ts)) ≡ false
+one_related_fails true inherited (tree m own c r) ts h = first_fails (printed_inner true (effective own inherited) (tree m own c r)) (printed_related true inherited ts) h
+one_related_fails false inherited (tree m own c r) ts h = first_fails (printed_sibling false (effective own inherited) (tree m own c r)) (printed_related false inherited ts) h
 
--- an inner report reads no more than a sibling
-pub inner_fails : (source : Option Source) (t : Tree) → inner_reads source t ≡ false → sibling_reads source t ≡ false
-inner_fails source (tree m own c r) h = first_of_three (always_reads source m) (causes_read source c) (related_read source r) h where
-  first_of_three : (x y z : Bool) → (x && z) ≡ false → (x && y && z) ≡ false
-  first_of_three true true z h = h
-  first_of_three true false z h = refl
-  first_of_three false y z h = refl
+pub later_related_fails : (nested : Bool) (inherited : Option Source) (t : Tree) (ts : Trees) → all_read (printed_related nested inherited ts) ≡ false →
+    all_read (printed_related nested inherited (more_trees t ts)) ≡ false
+later_related_fails true inherited (tree m own c r) ts h = later_fails (printed_inner true (effective own inherited) (tree m own c r)) (printed_related true inherited ts) h
+later_related_fails false inherited (tree m own c r) ts h = later_fails (printed_sibling false (effective own inherited) (tree m own c r)) (printed_related false inherited ts) h
 
-pub one_related_fails : (inherited : Option Source) (t : Tree) (ts : Trees) → sibling_reads (effective (source_of t) inherited) t ≡ false → related_read inherited (more_trees t ts) ≡ false
-one_related_fails inherited (tree m own c r) ts h = ap (λ b. b && related_read inherited ts) h
+pub root_causes_fail : (s : Settings) (t : Tree) → all_read (printed_root_causes s.chain s.nested t) ≡ false → all_read (printed s t) ≡ false
+root_causes_fail s (tree m own c r) h =
+    later_fails (over own m ∷ []) (printed_root_causes s.chain s.nested (tree m own c r) ++ printed_related s.nested own r)
+    (first_fails (printed_root_causes s.chain s.nested (tree m own c r)) (printed_related s.nested own r) h)
 
-pub later_related_fails : (inherited : Option Source) (t : Tree) (ts : Trees) → related_read inherited ts ≡ false → related_read inherited (more_trees t ts) ≡ false
-later_related_fails inherited (tree m own c r) ts h = ap (λ b. sibling_reads (effective own inherited) (tree m own c r) && b) h ∙ and_false _
-
-pub root_rows_fail : (chain : Bool) (t : Tree) → always_reads (source_of t) (head t) ≡ false → report_reads chain t ≡ false
-root_rows_fail chain (tree m own c r) h = ap (λ b. b && root_causes_read chain (tree m own c r) && related_read own r) h
-
-pub root_causes_fail : (chain : Bool) (t : Tree) → root_causes_read chain t ≡ false → report_reads chain t ≡ false
-root_causes_fail chain (tree m own c r) h =
-    ap (λ b. always_reads own m && b && related_read own r) h ∙ ap (λ b. b && related_read own r) (and_false (always_reads own m))
-
-pub root_related_fail : (chain : Bool) (t : Tree) → related_read (source_of t) (related_of t) ≡ false → report_reads chain t ≡ false
-root_related_fail chain (tree m own c r) h = ap (λ b. always_reads own m && root_causes_read chain (tree m own c r) && b) h ∙ and_false _
+pub root_related_fail : (s : Settings) (t : Tree) → all_read (printed_related s.nested (source_of t) (related_of t)) ≡ false → all_read (printed s t) ≡ false
+root_related_fail s (tree m own c r) h = later_fails (over own m ∷ printed_root_causes s.chain s.nested (tree m own c r)) (printed_related s.nested own r) h

@@ -14,6 +14,8 @@ pub mod Text
 pub mod Clean
 pub mod Colourless
 pub mod Views
+pub mod Printed
 pub mod Answered
 pub mod Snippets
 pub mod Printing
+pub mod Headline

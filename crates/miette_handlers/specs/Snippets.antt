@@ -1,13 +1,10 @@
 -- The rows of a diagnostic's snippets, as runs.
 use Rattle.std.specs.Prelude.{ℕ, List, [], map, chars, encode_utf8_all, Option, Some, None, unwrap_or}
-use Rattle.miette_protocol.specs.Meaning.{Label}
-use Rattle.miette_protocol.specs.Reading.{Source}
 use Rattle.miette_text.specs.Runs.{Run, Styled}
 use Rattle.miette_layout.specs.Rows as layout
 use Rattle.miette_layout.specs.Frames as frames
 use Rattle.miette_layout.specs.Given.{width_of}
 use Rattle.miette_layout.specs.Layout.{snippet_rows}
-use Rattle.miette_handlers.specs.Answers.{Answer}
 use Rattle.miette_handlers.specs.Settings.{Settings}
 use Rattle.miette_handlers.specs.Parts.{SnippetRows}
 

@@ -1,5 +1,5 @@
 -- The text of a whole report.
-use Rattle.std.specs.Prelude.{ℕ, Bool, true, false, List, [], ◌∷◌, ◌++◌, chars, Option, Some, None, if◌then◌else◌}
+use Rattle.std.specs.Prelude.{ℕ, Bool, true, false, List, [], ◌∷◌, ◌++◌, chars, Option, if◌then◌else◌}
 use Rattle.miette_text.specs.Runs.{print}
 use Rattle.miette_text.specs.Tame.{is_nil}
 use Rattle.miette_text.specs.Cutting.{without_leading, without_trailing}

@@ -1,8 +1,11 @@
 //! The graphical handler: the picture of a report.
 
 ghost use Rattle.std.specs.Prelude.{◌≡◌, ◌≤◌, ◌++◌, Some, OnErr, OnOk, false, true, chars, string_bytes, encode_utf8_all, option_map};
-ghost use Rattle.miette_handlers.specs.Answered.{Appends, report_reads};
+ghost use Rattle.std.specs.List.{AllByRecursion};
+ghost use Rattle.miette_handlers.specs.Answered.{Appends, IsTextOf};
 ghost use Rattle.miette_handlers.specs.Answers.{unlisted};
+ghost use Rattle.miette_handlers.specs.Headline.{LinesAreShown, MarksAreApart, TextsHang};
+ghost use Rattle.miette_handlers.specs.Printed.{all_read, printed};
 ghost use Rattle.miette_handlers.specs.Settings.{default_settings, links_shown, urls_shown};
 ghost use Rattle.miette_handlers.specs.Snippets.{drawn_rows};
 ghost use Rattle.miette_handlers.specs.Text.{report_text};
@@ -11,7 +14,9 @@ ghost use Rattle.miette_handlers.specs.Views.{settings_of};
 ghost use Rattle.miette_text.specs.Themes.{styles_of};
 ghost use Rattle.miette_tree.specs.Report.{tree_of};
 
+use crate::laws::snippets_law;
 use crate::report;
+use crate::report_handler::ReportHandler;
 use crate::settings::{Layout, UrlMode};
 use miette_protocol::error::RenderError;
 use miette_protocol::protocol::Diagnostic;
@@ -131,8 +136,9 @@ impl GraphicalReportHandler {
     pub fn with_cause_chain(self) -> Self
         ensures { result ≡ record self { chain = true } }
     {
+        let cause_chain = true;
         GraphicalReportHandler {
-            cause_chain: true,
+            cause_chain,
             ..self
         }
     }
@@ -141,8 +147,9 @@ impl GraphicalReportHandler {
     pub fn without_cause_chain(self) -> Self
         ensures { result ≡ record self { chain = false } }
     {
+        let cause_chain = false;
         GraphicalReportHandler {
-            cause_chain: false,
+            cause_chain,
             ..self
         }
     }
@@ -151,8 +158,9 @@ impl GraphicalReportHandler {
     pub fn with_primary_span_start(self) -> Self
         ensures { result ≡ record self { primary_start = true } }
     {
+        let primary_span_start = true;
         GraphicalReportHandler {
-            primary_span_start: true,
+            primary_span_start,
             ..self
         }
     }
@@ -161,8 +169,9 @@ impl GraphicalReportHandler {
     pub fn without_primary_span_start(self) -> Self
         ensures { result ≡ record self { primary_start = false } }
     {
+        let primary_span_start = false;
         GraphicalReportHandler {
-            primary_span_start: false,
+            primary_span_start,
             ..self
         }
     }
@@ -297,16 +306,43 @@ impl GraphicalReportHandler {
     }
 
     /// Appends the picture of a report. After an error `out` is as before: `Memory` where memory was refused, `Refused` where a
-    /// source that doesn't always read refused the place of a snippet.
+    /// printed diagnostic has labels over a source that doesn't always read, and the place of a snippet was refused.
     pub fn render_report(&mut self, report: &Report, out: &mut String) -> Result<(), RenderError>
         ensures settings { self.new ≡ self.old }
-        ensures ok { OnOk result (Appends drawn_rows self.old (tree_of ⟦<Box<dyn Diagnostic> as Diagnostic>⟧.meaning ⟦<Box<dyn SourceCode> as SourceCode>⟧.source report.now) (string_bytes out.old) (string_bytes out.new)) }
+        ensures ok { let tree = tree_of ⟦<Box<dyn Diagnostic> as Diagnostic>⟧.meaning ⟦<Box<dyn SourceCode> as SourceCode>⟧.source report.now in
+            OnOk result (Appends drawn_rows self.old tree (string_bytes out.old) (string_bytes out.new)) }
         // where every source always reads, there is one such text
-        ensures only { OnOk result (report_reads self.old.chain (tree_of ⟦<Box<dyn Diagnostic> as Diagnostic>⟧.meaning ⟦<Box<dyn SourceCode> as SourceCode>⟧.source report.now) ≡ true →
-            string_bytes out.new ≡ string_bytes out.old ++ encode_utf8_all (report_text drawn_rows self.old (tree_of ⟦<Box<dyn Diagnostic> as Diagnostic>⟧.meaning ⟦<Box<dyn SourceCode> as SourceCode>⟧.source report.now) unlisted)) }
-        ensures refused { (result ≡ Err RenderError.Refused) → report_reads self.old.chain (tree_of ⟦<Box<dyn Diagnostic> as Diagnostic>⟧.meaning ⟦<Box<dyn SourceCode> as SourceCode>⟧.source report.now) ≡ false }
+        ensures only { let tree = tree_of ⟦<Box<dyn Diagnostic> as Diagnostic>⟧.meaning ⟦<Box<dyn SourceCode> as SourceCode>⟧.source report.now in
+            OnOk result (all_read (printed self.old tree) ≡ true →
+            string_bytes out.new ≡ string_bytes out.old ++ encode_utf8_all (report_text drawn_rows self.old tree unlisted)) }
+        // of each printed diagnostic: its snippets show the lines in the context of its labels, once and in order,
+        ensures lines { let tree = tree_of ⟦<Box<dyn Diagnostic> as Diagnostic>⟧.meaning ⟦<Box<dyn SourceCode> as SourceCode>⟧.source report.now in
+            OnOk result (AllByRecursion (LinesAreShown self.old) (printed self.old tree)) }
+        // its marks have columns of their own,
+        ensures marks { let tree = tree_of ⟦<Box<dyn Diagnostic> as Diagnostic>⟧.meaning ⟦<Box<dyn SourceCode> as SourceCode>⟧.source report.now in
+            OnOk result (AllByRecursion (MarksAreApart self.old) (printed self.old tree)) }
+        // and each text of a label on one line hangs from its own mark
+        ensures texts { let tree = tree_of ⟦<Box<dyn Diagnostic> as Diagnostic>⟧.meaning ⟦<Box<dyn SourceCode> as SourceCode>⟧.source report.now in
+            OnOk result (AllByRecursion (TextsHang self.old) (printed self.old tree)) }
+        ensures refused { let tree = tree_of ⟦<Box<dyn Diagnostic> as Diagnostic>⟧.meaning ⟦<Box<dyn SourceCode> as SourceCode>⟧.source report.now in
+            (result ≡ Err RenderError.Refused) → all_read (printed self.old tree) ≡ false }
         ensures err { OnErr result (string_bytes out.new ≡ string_bytes out.old) }
     {
+        snippets_law();
         report::render(self.layout(), report, out)
+    }
+}
+
+impl ReportHandler for GraphicalReportHandler {
+    ghost gives = { λ s t. IsTextOf drawn_rows s t };
+
+    ghost refuses = { λ s t. all_read (printed s t) ≡ false };
+
+    fn debug<D: Diagnostic, S: SourceCode>(
+        &mut self,
+        report: &Report<D, S>,
+        out: &mut String,
+    ) -> Result<(), RenderError> {
+        report::render::<D, S>(self.layout(), report, out)
     }
 }

@@ -17,9 +17,6 @@ use miette_protocol::source::SourceCode;
 use miette_tree::report::Report;
 use std::alloc::{AllocError, Global};
 
-#[cfg(test)]
-mod tests;
-
 /// The handler that gives a report as JSON (RFC 8259), for editors and build servers: one object, without a line feed at
 /// its end. There is nothing to set.
 #[derive(Clone, Debug, Default, Drop)]

@@ -1,16 +1,22 @@
-//! Deleting colours from a report's text gives the report without colours.
+//! What holds of the definition of a report's text: of its colours, and of the snippets of each diagnostic that it prints.
 
 ghost use Rattle.std.specs.Prelude.{◌≡◌};
 ghost use Rattle.miette_handlers.specs.Answers.{Answers};
 ghost use Rattle.miette_handlers.specs.Clean.{AreCleanAnswers, AreCleanSettings, IsCleanTree};
 ghost use Rattle.miette_handlers.specs.Colourless.{AreSnippets, colourless, unhighlighted};
+ghost use Rattle.std.specs.List.{AllByRecursion};
+ghost use Rattle.miette_handlers.specs.Headline.{LinesAreShown, MarksAreApart, TextsHang};
 ghost use Rattle.miette_handlers.specs.Parts.{SnippetRows};
+ghost use Rattle.miette_handlers.specs.Printed.{printed};
 ghost use Rattle.miette_handlers.specs.Settings.{Settings};
 ghost use Rattle.miette_handlers.specs.Text.{report_text};
 ghost use Rattle.miette_tree.specs.Tree.{Tree};
 ghost use Rattle.miette_text.specs.Sequences.{erase};
 ghost use Rattle.miette_text.specs.Tame.{IsTame};
 
+use miette_layout::laws::{
+    groups_are_runs, marks_are_apart, runs_are_maximal, snippets_draw_runs, texts_hang,
+};
 use miette_text::wrap::laws::{columns_law, cutting_law, joining_law, printing_law, wrapping_law};
 
 /// Where no text, url, name, setting or theme character holds an escape: a report's text without its colours is the text of the
@@ -29,4 +35,18 @@ pub fn colours_law()
     cutting_law();
     printing_law();
     columns_law();
+}
+
+/// The snippets of each printed diagnostic show the lines in the context of its labels, its marks are apart, and each text hangs from
+/// its own mark.
+pub fn snippets_law()
+    ensures lines { (s : Settings) (t : Tree) → AllByRecursion (LinesAreShown s) (printed s t) }
+    ensures marks { (s : Settings) (t : Tree) → AllByRecursion (MarksAreApart s) (printed s t) }
+    ensures texts { (s : Settings) (t : Tree) → AllByRecursion (TextsHang s) (printed s t) }
+{
+    snippets_draw_runs();
+    groups_are_runs();
+    runs_are_maximal();
+    marks_are_apart();
+    texts_hang();
 }

@@ -1,6 +1,7 @@
 //! The handlers: from a report to its text.
 #![tactic(auto)]
 
+mod debug_handler;
 mod graphical;
 pub mod handlers;
 mod header;
@@ -10,6 +11,7 @@ pub mod json_laws;
 mod json_report;
 mod json_text;
 pub mod laws;
+mod narrated_handler;
 mod printing;
 mod report;
 mod report_handler;

@@ -3,7 +3,8 @@
 ghost use Rattle.std.specs.Prelude.{◌≡◌, ◌++◌, ◌∷◌, [], IfOk, OnOk, OnErr, option_map, map, string_bytes, encode_utf8_all};
 ghost use Rattle.std.specs.Prelude.{false, true};
 ghost use Rattle.miette_handlers.specs.Answers.{unlisted};
-ghost use Rattle.miette_handlers.specs.Answered.{Appends, AreCauses, AreRelated, AreRootCauses, IsDrawn, IsInner, IsOneCause, IsOneRelated, IsReport, IsSibling, always_reads, causes_read, inner_reads, related_read, report_reads, root_causes_read, sibling_reads};
+ghost use Rattle.miette_handlers.specs.Answered.{Appends, AreCauses, AreRelated, AreRootCauses, IsDrawn, IsInner, IsOneCause, IsOneRelated, IsReport, IsSibling};
+ghost use Rattle.miette_handlers.specs.Printed.{all_read, always_reads, printed, printed_causes, printed_inner, printed_one, printed_related, printed_root_causes, printed_sibling};
 ghost use Rattle.miette_tree.specs.Owned.{shown_source};
 ghost use Rattle.miette_handlers.specs.Parts as parts;
 ghost use Rattle.miette_handlers.specs.Snippets.{drawn_rows};
@@ -270,7 +271,7 @@ fn causes_text<D: Diagnostic, S: SourceCode>(
     report: &Report<D, S>,
 ) -> Result<Vec<char>, RenderError>
     ensures ok { IfOk result (λ v. AreCauses drawn_rows (settings_of layout.entry) outer (option_map (shown_source S.source) inherited.entry) (cause_of (tree_of D.meaning S.source report.now)) v.items) }
-    ensures refused { (result ≡ Err RenderError.Refused) → causes_read (option_map (shown_source S.source) inherited.entry) (cause_of (tree_of D.meaning S.source report.now)) ≡ false }
+    ensures refused { (result ≡ Err RenderError.Refused) → all_read (printed_causes layout.entry.nested (option_map (shown_source S.source) inherited.entry) (cause_of (tree_of D.meaning S.source report.now))) ≡ false }
 {
     match report.cause() {
         Cause::None => Ok(Vec::new(alloc)),
@@ -298,7 +299,7 @@ fn one_cause<D: Diagnostic, S: SourceCode>(
     cause: &Report<D, S>,
 ) -> Result<Vec<char>, RenderError>
     ensures ok { IfOk result (λ v. IsOneCause drawn_rows (settings_of layout.entry) outer (option_map (shown_source S.source) inherited.entry) (tree_of D.meaning S.source cause.now) v.items) }
-    ensures refused { (result ≡ Err RenderError.Refused) → inner_reads (effective (source_of (tree_of D.meaning S.source cause.now)) (option_map (shown_source S.source) inherited.entry)) (tree_of D.meaning S.source cause.now) ≡ false }
+    ensures refused { (result ≡ Err RenderError.Refused) → all_read (printed_inner layout.entry.nested (effective (source_of (tree_of D.meaning S.source cause.now)) (option_map (shown_source S.source) inherited.entry)) (tree_of D.meaning S.source cause.now)) ≡ false }
 {
     let is_last = ends_there(cause);
     let narrow = narrowed(alloc, layout, outer, is_last)?;
@@ -317,7 +318,7 @@ fn inner_text<D: Diagnostic, S: SourceCode>(
     report: &Report<D, S>,
 ) -> Result<Vec<char>, RenderError>
     ensures ok { IfOk result (λ v. IsInner drawn_rows (settings_of layout.entry) (option_map (shown_source S.source) source.entry) (tree_of D.meaning S.source report.now) v.items) }
-    ensures refused { (result ≡ Err RenderError.Refused) → inner_reads (option_map (shown_source S.source) source.entry) (tree_of D.meaning S.source report.now) ≡ false }
+    ensures refused { (result ≡ Err RenderError.Refused) → all_read (printed_inner layout.entry.nested (option_map (shown_source S.source) source.entry) (tree_of D.meaning S.source report.now)) ≡ false }
 {
     let rows = snippet_rows(alloc, layout, source, report)?;
     let related = related_text(alloc, layout, report.severity(), source, report.related())?;
@@ -333,7 +334,7 @@ fn sibling_text<D: Diagnostic, S: SourceCode>(
     report: &Report<D, S>,
 ) -> Result<Vec<char>, RenderError>
     ensures ok { IfOk result (λ v. IsSibling drawn_rows (settings_of layout.entry) (option_map (shown_source S.source) source.entry) (tree_of D.meaning S.source report.now) v.items) }
-    ensures refused { (result ≡ Err RenderError.Refused) → sibling_reads (option_map (shown_source S.source) source.entry) (tree_of D.meaning S.source report.now) ≡ false }
+    ensures refused { (result ≡ Err RenderError.Refused) → all_read (printed_sibling layout.entry.nested (option_map (shown_source S.source) source.entry) (tree_of D.meaning S.source report.now)) ≡ false }
 {
     let rows = snippet_rows(alloc, layout, source, report)?;
     let causes = causes_text(alloc, layout, report.severity(), source, report)?;
@@ -357,7 +358,7 @@ fn one_related<D: Diagnostic, S: SourceCode>(
     report: &Report<D, S>,
 ) -> Result<Vec<char>, RenderError>
     ensures ok { IfOk result (λ v. IsOneRelated drawn_rows (settings_of layout.entry) outer (effective (source_of (tree_of D.meaning S.source report.now)) (option_map (shown_source S.source) inherited.entry)) is_last (tree_of D.meaning S.source report.now) v.items) }
-    ensures refused { (result ≡ Err RenderError.Refused) → sibling_reads (effective (source_of (tree_of D.meaning S.source report.now)) (option_map (shown_source S.source) inherited.entry)) (tree_of D.meaning S.source report.now) ≡ false }
+    ensures refused { (result ≡ Err RenderError.Refused) → all_read (printed_one layout.entry.nested (effective (source_of (tree_of D.meaning S.source report.now)) (option_map (shown_source S.source) inherited.entry)) (tree_of D.meaning S.source report.now)) ≡ false }
 {
     let source = own_or(report, inherited);
     if !layout.nested {
@@ -381,7 +382,7 @@ fn related_text<D: Diagnostic, S: SourceCode>(
     reports: &[Report<D, S>],
 ) -> Result<Vec<char>, RenderError>
     ensures ok { IfOk result (λ v. AreRelated drawn_rows (settings_of layout.entry) outer (option_map (shown_source S.source) inherited.entry) (trees (map (tree_of D.meaning S.source) reports.now)) v.items) }
-    ensures refused { (result ≡ Err RenderError.Refused) → related_read (option_map (shown_source S.source) inherited.entry) (trees (map (tree_of D.meaning S.source) reports.now)) ≡ false }
+    ensures refused { (result ≡ Err RenderError.Refused) → all_read (printed_related layout.entry.nested (option_map (shown_source S.source) inherited.entry) (trees (map (tree_of D.meaning S.source) reports.now))) ≡ false }
 {
     match reports {
         [] => Ok(Vec::new(alloc)),
@@ -401,7 +402,7 @@ fn root_causes<D: Diagnostic, S: SourceCode>(
     report: &Report<D, S>,
 ) -> Result<Vec<char>, RenderError>
     ensures ok { IfOk result (λ v. AreRootCauses drawn_rows (settings_of layout.entry) (tree_of D.meaning S.source report.now) v.items) }
-    ensures refused { (result ≡ Err RenderError.Refused) → root_causes_read layout.entry.chain (tree_of D.meaning S.source report.now) ≡ false }
+    ensures refused { (result ≡ Err RenderError.Refused) → all_read (printed_root_causes layout.entry.chain layout.entry.nested (tree_of D.meaning S.source report.now)) ≡ false }
 {
     if layout.chain {
         causes_text(
@@ -438,7 +439,7 @@ fn report_codes<D: Diagnostic, S: SourceCode>(
     report: &Report<D, S>,
 ) -> Result<Vec<char>, RenderError>
     ensures ok { IfOk result (λ v. IsReport drawn_rows (settings_of layout.entry) (tree_of D.meaning S.source report.now) v.items) }
-    ensures refused { (result ≡ Err RenderError.Refused) → report_reads layout.entry.chain (tree_of D.meaning S.source report.now) ≡ false }
+    ensures refused { (result ≡ Err RenderError.Refused) → all_read (printed (settings_of layout.entry) (tree_of D.meaning S.source report.now)) ≡ false }
 {
     let source = report.source_code();
     let rows = snippet_rows(alloc, layout, source, report)?;
@@ -459,8 +460,8 @@ pub fn render<D: Diagnostic, S: SourceCode>(
     out: &mut String,
 ) -> Result<(), RenderError>
     ensures ok { OnOk result (Appends drawn_rows (settings_of layout.entry) (tree_of D.meaning S.source report.now) (string_bytes out.old) (string_bytes out.new)) }
-    ensures refused { (result ≡ Err RenderError.Refused) → report_reads layout.entry.chain (tree_of D.meaning S.source report.now) ≡ false }
-    ensures only { OnOk result (report_reads layout.entry.chain (tree_of D.meaning S.source report.now) ≡ true →
+    ensures refused { (result ≡ Err RenderError.Refused) → all_read (printed (settings_of layout.entry) (tree_of D.meaning S.source report.now)) ≡ false }
+    ensures only { OnOk result (all_read (printed (settings_of layout.entry) (tree_of D.meaning S.source report.now)) ≡ true →
         string_bytes out.new ≡ string_bytes out.old ++ encode_utf8_all (texts.report_text drawn_rows (settings_of layout.entry) (tree_of D.meaning S.source report.now) unlisted)) }
     ensures err { OnErr result (string_bytes out.new ≡ string_bytes out.old) }
 {

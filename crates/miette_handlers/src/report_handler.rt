@@ -21,7 +21,7 @@ pub trait ReportHandler {
     /// For which reports it may answer `Refused`.
     ghost refuses: { Self → Tree → Type 0 };
 
-    /// Appends the report's text. After an error `out` is as before.
+    /// Appends the report's text; the handler's settings stay. After an error `out` is as before.
     fn debug<D: Diagnostic, S: SourceCode>(
         &mut self,
         report: &Report<D, S>,
@@ -29,7 +29,8 @@ pub trait ReportHandler {
     ) -> Result<(), RenderError>
         ensures text { OnOk result (AppendsOne (gives self.old (tree_of D.meaning S.source report.now)) (string_bytes out.old) (string_bytes out.new)) }
         ensures refused { (result ≡ Err RenderError.Refused) → refuses self.old (tree_of D.meaning S.source report.now) }
-        ensures err { OnErr result (string_bytes out.new ≡ string_bytes out.old) };
+        ensures err { OnErr result (string_bytes out.new ≡ string_bytes out.old) }
+        ensures settings { self.new ≡ self.old };
 
     /// Appends the message, or where `alternate` the chain of messages joined by `: `. After an error, which is want of
     /// memory, `out` is as before.

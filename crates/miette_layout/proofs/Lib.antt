@@ -20,6 +20,7 @@ pub mod Lines
 pub mod Lining
 pub mod Maximal
 pub mod Merging
+pub mod Nearing
 pub mod Numbers
 pub mod Paging
 pub mod Parting

@@ -1,6 +1,7 @@
 -- Texts of printable ASCII characters.
-use Rattle.std.proofs.Common.{ℕ, ◌+◌, ◌-◌, ◌<◌, ◌≤◌, ◌≡◌, true, false, leb, ltb, eqb, List, [], ◌∷◌, ◌++◌, map, length, refl, sym, ap, ◌∙◌, append-nil, arith}
+use Rattle.std.proofs.Common.{ℕ, zero, suc, ◌+◌, ◌-◌, ◌<◌, ◌≤◌, ◌≡◌, true, false, leb, ltb, eqb, List, [], ◌∷◌, ◌++◌, map, length, refl, sym, ap, ◌∙◌, append-nil, arith}
 use Rattle.std.specs.Prelude.{encode_utf8_all, slice_index}
+use Rattle.std.specs.Int.{is_in_range}
 use Rattle.std.specs.List.{list_all}
 use Rattle.std.proofs.lemmas.Bool.{and_parts}
 use Rattle.std.proofs.lemmas.Bool.Decides.{nat_tests}
@@ -8,17 +9,19 @@ use Rattle.std.proofs.lemmas.Str.{encode_ascii}
 use Rattle.unicode_width.specs.Width.{char_width}
 use Rattle.bstr.specs.Utf8.{decoded, good, or_replacement}
 use Rattle.bstr.proofs.lemmas.PieceLemmas.{value-1}
-use Rattle.miette_layout.specs.Cells.{cells_from, characters, first_column, last_column, cells_width, width_at, hides_next, printed_cells, line_runs}
+use Rattle.miette_layout.specs.Cells.{Cell, cells_from, characters, first_column, last_column, cells_width, width_at, hides_next, printed_cells, line_runs}
 use Rattle.miette_layout.specs.Given.{width_of}
 use Rattle.miette_layout.specs.Told.{Token, begins, told, text_told, bytes_told}
 use Rattle.miette_text.specs.declared.style.Style.{Style}
 use Rattle.std.proofs.lemmas.List.{nil_from_length}
 use Rattle.miette_layout.specs.Walking.{cells_told, highlight_of}
+use Rattle.miette_layout.specs.Layout.{text_of_cells}
+use Rattle.miette_layout.specs.Marks.{Text}
 use Rattle.miette_layout.specs.Printable.{is_printable, plain_cells}
 use Rattle.miette_layout.specs.Rows.{Piece, plain}
 use Rattle.miette_layout.proofs.Numbers.{by_cases}
 use Rattle.miette_layout.proofs.Telling.{then}
-use Rattle.miette_layout.proofs.Stepping.{cells_step, cells_end}
+use Rattle.miette_layout.proofs.Stepping.{made, characters_step, cells_step, cells_end}
 
 -- what a printable character is not
 record IsPlain (b : ℕ) : Type 0 where
@@ -43,7 +46,8 @@ plain_byte b h =
     let high : b < 127 = from_lt b 127 parts.1 in
     record { low = low; high = high; escape = apart b 27 (omega arith); tab = apart b 9 (omega arith) }
 
-one_column : (b : ℕ) → is_printable b ≡ true → width_of b ≡ 1
+-- each has one column
+pub one_column : (b : ℕ) → is_printable b ≡ true → width_of b ≡ 1
 unfolding char_width
 one_column b h =
     let parts = and_parts (leb 32 b) (ltb b 127) h in
@@ -59,6 +63,23 @@ plain_hides b h = let p = plain_byte b h in rw (p.escape) refl
 
 ascii_decoded : (b : ℕ) (bs : List ℕ) → b < 128 → decoded (b ∷ bs) ≡ good b 1
 ascii_decoded b bs h = value-1 (length (b ∷ bs)) b (slice_index (b ∷ bs) 1) (slice_index (b ∷ bs) 2) (slice_index (b ∷ bs) 3) (omega arith, h)
+
+-- each is a character of one byte
+pub printable_character : (b : ℕ) (bs : List ℕ) → is_printable b ≡ true → characters (b ∷ bs) ≡ made b 1 ∷ characters bs
+printable_character b bs h =
+    let p = plain_byte b h in
+    let is = ascii_decoded b bs (omega (arith, p.high)) in
+    characters_step (b ∷ bs) bs b 1 (record { some = omega arith; left_is = refl; code_is = sym (ap (λ d. or_replacement d.char) is); size_is = sym (ap (λ d. d.size) is) })
+
+pub printable_in_range : (b : ℕ) → is_printable b ≡ true → is_in_range 0x20 0x7E b ≡ true
+printable_in_range b h = grind (arith, nat_tests)
+
+-- they are ASCII
+pub printable_ascii : (bs : List ℕ) → list_all is_printable bs ≡ true → (i : ℕ) → slice_index bs i < 128
+printable_ascii [] h zero = omega arith
+printable_ascii [] h (suc i) = omega arith
+printable_ascii (b ∷ bs) h zero = let p = plain_byte b (and_parts (is_printable b) (list_all is_printable bs) h).0 in omega (arith, p.high)
+printable_ascii (b ∷ bs) h (suc i) = printable_ascii bs (and_parts (is_printable b) (list_all is_printable bs) h).1 i
 
 -- their cells
 pub printable_cells : (tab offset column : ℕ) (bs : List ℕ) → list_all is_printable bs ≡ true → cells_from width_of tab false offset column (characters bs) ≡ plain_cells offset column bs
@@ -113,27 +134,36 @@ from_not_lt a b h = grind (arith, nat_tests)
 from_not_le : (a b : ℕ) → leb a b ≡ false → b < a
 from_not_le a b h = grind (arith, nat_tests)
 
-pub plain_first : (offset column : ℕ) (bs : List ℕ) (e w o : ℕ) → o - offset < length bs → column + (o - offset) ≡ first_column (plain_cells offset column bs) e w o
-plain_first offset column [] e w o h = absurd (omega arith)
-plain_first offset column (b ∷ bs) e w o h =
-    by_cases {C = column + (o - offset) ≡ first_column (plain_cells offset column (b ∷ bs)) e w o} (ltb o (offset + 1))
+pub plain_first : (offset column : ℕ) (bs : List ℕ) (cs : List Cell) (e w o : ℕ) → o - offset < length bs → column + (o - offset) ≡ first_column (plain_cells offset column bs ++ cs) e w o
+plain_first offset column [] cs e w o h = absurd (omega arith)
+plain_first offset column (b ∷ bs) cs e w o h =
+    by_cases {C = column + (o - offset) ≡ first_column (plain_cells offset column (b ∷ bs) ++ cs) e w o} (ltb o (offset + 1))
     (λ y. let lt : o < offset + 1 = from_lt o (offset + 1) y in rw y (omega arith))
-    (λ n. let ge : offset + 1 ≤ o = from_not_lt o (offset + 1) n in rw n (omega arith ∙ plain_first (offset + 1) (column + 1) bs e w o (omega arith)))
+    (λ n. let ge : offset + 1 ≤ o = from_not_lt o (offset + 1) n in rw n (omega arith ∙ plain_first (offset + 1) (column + 1) bs cs e w o (omega arith)))
 
-pub plain_first_end : (offset column : ℕ) (bs : List ℕ) (e w o : ℕ) → length bs ≤ o - offset → first_column [] e w o ≡ first_column (plain_cells offset column bs) e w o
-plain_first_end offset column [] e w o h = refl
-plain_first_end offset column (b ∷ bs) e w o h = rw (not_lt o (offset + 1) (omega arith)) (plain_first_end (offset + 1) (column + 1) bs e w o (omega arith))
+pub plain_first_end : (offset column : ℕ) (bs : List ℕ) (cs : List Cell) (e w o : ℕ) → length bs ≤ o - offset → first_column cs e w o ≡ first_column (plain_cells offset column bs ++ cs) e w o
+plain_first_end offset column [] cs e w o h = refl
+plain_first_end offset column (b ∷ bs) cs e w o h = rw (not_lt o (offset + 1) (omega arith)) (plain_first_end (offset + 1) (column + 1) bs cs e w o (omega arith))
 
-pub plain_last : (offset column : ℕ) (bs : List ℕ) (e w o : ℕ) → o - offset < length bs → column + (o - offset) ≡ last_column (plain_cells offset column bs) e w o
-plain_last offset column [] e w o h = absurd (omega arith)
-plain_last offset column (b ∷ bs) e w o h =
-    by_cases {C = column + (o - offset) ≡ last_column (plain_cells offset column (b ∷ bs)) e w o} (leb o offset)
+pub plain_last : (offset column : ℕ) (bs : List ℕ) (cs : List Cell) (e w o : ℕ) → o - offset < length bs → column + (o - offset) ≡ last_column (plain_cells offset column bs ++ cs) e w o
+plain_last offset column [] cs e w o h = absurd (omega arith)
+plain_last offset column (b ∷ bs) cs e w o h =
+    by_cases {C = column + (o - offset) ≡ last_column (plain_cells offset column (b ∷ bs) ++ cs) e w o} (leb o offset)
     (λ y. let le : o ≤ offset = from_le o offset y in rw y (omega arith))
-    (λ n. let gt : offset < o = from_not_le o offset n in rw n (omega arith ∙ plain_last (offset + 1) (column + 1) bs e w o (omega arith)))
+    (λ n. let gt : offset < o = from_not_le o offset n in rw n (omega arith ∙ plain_last (offset + 1) (column + 1) bs cs e w o (omega arith)))
 
-pub plain_last_end : (offset column : ℕ) (bs : List ℕ) (e w o : ℕ) → length bs ≤ o - offset → last_column [] e w o ≡ last_column (plain_cells offset column bs) e w o
-plain_last_end offset column [] e w o h = refl
-plain_last_end offset column (b ∷ bs) e w o h = rw (not_le o offset (omega arith)) (plain_last_end (offset + 1) (column + 1) bs e w o (omega arith))
+pub plain_last_end : (offset column : ℕ) (bs : List ℕ) (cs : List Cell) (e w o : ℕ) → length bs ≤ o - offset → last_column cs e w o ≡ last_column (plain_cells offset column bs ++ cs) e w o
+plain_last_end offset column [] cs e w o h = refl
+plain_last_end offset column (b ∷ bs) cs e w o h = rw (not_le o offset (omega arith)) (plain_last_end (offset + 1) (column + 1) bs cs e w o (omega arith))
+
+-- where they stand
+pub plain_text : (tab offset e : ℕ) (bs : List ℕ) → list_all is_printable bs ≡ true →
+    record { cells = plain_cells offset 0 bs ++ []; text_end = e; width = length bs } ≡ text_of_cells (cells_from width_of tab false offset 0 (characters bs)) e
+plain_text tab offset e bs h =
+    let many : length bs ≡ cells_width 0 (plain_cells offset 0 bs) = omega (arith, plain_columns offset 0 bs) in
+    let made : List Cell → ℕ → Text = λ cs n. record { cells = cs; text_end = e; width = n } in
+    ap (λ cs. made cs (length bs)) (append-nil (plain_cells offset 0 bs)) ∙ ap (made (plain_cells offset 0 bs)) many
+    ∙ ap (λ cs. text_of_cells cs e) (sym (printable_cells tab offset 0 bs h))
 
 -- a plain text
 pub plain_put : (tab offset : ℕ) (bs text : List ℕ) (pieces : List (ℕ × Style)) (p q r : List Token) → length pieces ≡ 0 → text ≡ bs → list_all is_printable bs ≡ true → q ≡ p ++ begins plain ∷ [] → r ≡ q ++ bytes_told text →

@@ -29,3 +29,24 @@ cells_step w tab hidden hides offset column bytes left code size width until som
 pub cells_end : (w : ℕ → ℕ) (tab : ℕ) (hidden : Bool) (offset column : ℕ) (bytes : List ℕ) → bytes ≡ [] → cells_from w tab hidden offset column (characters bytes) ≡ []
 cells_end w tab hidden offset column bytes e =
     ap (λ bs. cells_from w tab hidden offset column (characters bs)) e ∙ ap (λ ps. cells_from w tab hidden offset column (map character ps)) pieces-nil
+
+abbrev pub made : ℕ → ℕ → Character
+made code size = record { code = code; bytes = size }
+
+-- the first character of some bytes, and those after it
+pub record IsFirst (bytes left : List ℕ) (code size : ℕ) : Type 0 where
+  pub some : 0 < length bytes
+  pub left_is : left ≡ drop size bytes
+  pub code_is : code ≡ or_replacement (decoded bytes).char
+  pub size_is : size ≡ (decoded bytes).size
+
+pub characters_step : (bytes left : List ℕ) (code size : ℕ) → IsFirst bytes left code size → characters bytes ≡ made code size ∷ characters left
+characters_step bytes left code size h =
+    let d : Decoded = decoded bytes in
+    ap (λ ps. map character ps) (pieces-step bytes h.some)
+    ∙ ap (λ x. made x d.size ∷ characters (drop d.size bytes)) (sym h.code_is)
+    ∙ ap (λ x. made code x ∷ characters (drop x bytes)) (sym h.size_is)
+    ∙ ap (λ x. made code size ∷ characters x) (sym h.left_is)
+
+pub characters_end : (bytes : List ℕ) → bytes ≡ [] → characters bytes ≡ []
+characters_end bytes e = ap characters e ∙ ap (λ ps. map character ps) pieces-nil

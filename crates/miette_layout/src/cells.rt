@@ -39,8 +39,8 @@ impl<'a> Model for Walk<'a> {
     ghost invariant = { λ w. w.offset + length w.rest.now < 2 ^ 64 };
 }
 
-// The columns of a character, 0 where it has none.
-fn columns_of(character: char) -> usize
+/// The columns of a character by itself, 0 where it has none.
+pub fn columns_of(character: char) -> usize
     ensures { result ≡ width_of character }
 {
     character.width().unwrap_or(0)
@@ -73,8 +73,8 @@ fn width_there(tab: usize, hidden: bool, column: usize, character: char) -> usiz
     }
 }
 
-// The first character of some bytes, U+FFFD where they begin with none, and how many bytes it takes.
-fn first_character(bytes: &[u8]) -> (char, usize)
+/// The first character of some bytes, U+FFFD where they begin with none, and how many bytes it takes.
+pub fn first_character(bytes: &[u8]) -> (char, usize)
     requires { 0 < length bytes.now }
     ensures code { result.0 ≡ or_replacement (decoded bytes.now).char }
     ensures size { result.1 ≡ (decoded bytes.now).size }

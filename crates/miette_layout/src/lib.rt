@@ -15,7 +15,7 @@ pub mod options;
 pub mod order;
 pub mod page;
 mod parts;
-mod plain;
+pub mod plain;
 pub mod primary;
 pub mod reading;
 pub mod sheet;

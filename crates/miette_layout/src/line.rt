@@ -26,9 +26,6 @@ use crate::texts::{push_before_marks, push_texts};
 use miette_text::style::Style;
 use std::alloc::{AllocError, Global};
 
-#[cfg(test)]
-mod tests;
-
 // The number of a line: ` 12 │ `.
 fn push_number_start(page: &mut Page, sheet: &Sheet, number: usize) -> Result<(), AllocError>
     ensures { OnOk result (page.new ≡ page.old ++ told (number_start (settings sheet.now) sheet.now.number_width number)) }

@@ -11,43 +11,56 @@ ghost use Rattle.miette_layout.specs.Given.{drawn_of, width_of};
 ghost use Rattle.miette_layout.specs.Made.{mark_of};
 
 use crate::cells::{Cell, Walk};
+use crate::plain::all_printable;
 use crate::sheet::LineOfText;
 use crate::sweep::Placed;
 use std::alloc::{AllocError, Global};
 use std::marker::Model;
 
-/// Where the characters of a line's text stand, by offset.
+/// Where the characters of a line's text stand, by offset. A text of printable ASCII characters needs no cells: its bytes are its columns.
 #[derive(Drop)]
-pub struct Columns {
+pub struct Columns<'a> {
+    plain: &'a [u8],
+    start: usize,
     cells: Vec<Cell>,
     text_end: usize,
     width: usize,
 }
 
-impl Model for Columns {
-    ghost use Rattle.std.specs.Prelude.{◌≡◌, map};
+impl<'a> Model for Columns<'a> {
+    ghost use Rattle.std.specs.Prelude.{◌≡◌, ◌++◌, map};
     ghost use Rattle.miette_layout.specs.Marks.{Text};
     ghost use Rattle.miette_layout.specs.Walking.{cell_of};
     ghost use Rattle.miette_layout.specs.Made.{AreSortedCells};
+    ghost use Rattle.miette_layout.specs.Printable.{plain_cells};
 
     ghost Value = { Text };
 
-    ghost view = { λ c. record { cells = map cell_of c.cells.items; text_end = c.text_end; width = c.width } };
+    ghost view = { λ c. record { cells = plain_cells c.start 0 c.plain.now ++ map cell_of c.cells.items; text_end = c.text_end; width = c.width } };
 
     ghost invariant = { λ c. AreSortedCells c.cells.items };
 }
 
-impl Columns {
+impl<'a> Columns<'a> {
     /// The columns of a line's text, whose bytes are given, with tabs of so many columns.
     pub fn new(
         alloc: Global,
         line: &LineOfText,
-        text: &[u8],
+        text: &'a [u8],
         tab: usize,
     ) -> Result<Self, AllocError>
         requires { line.now.start + length text.now < 2 ^ 64 }
         ensures { IfOk result (λ columns. columns ≡ text_of_cells (cells_from width_of tab false line.now.start 0 (characters text.now)) line.now.text_end) }
     {
+        if all_printable(text) {
+            return Ok(Columns {
+                plain: text,
+                start: line.start,
+                cells: Vec::new(alloc),
+                text_end: line.text_end,
+                width: text.len(),
+            });
+        }
         let mut walk = Walk::new(text, line.start, tab);
         let mut cells = Vec::new(alloc);
         let mut width = 0;
@@ -56,6 +69,8 @@ impl Columns {
             cells.push(cell)?;
         }
         Ok(Columns {
+            plain: &[],
+            start: line.start,
             cells,
             text_end: line.text_end,
             width,
@@ -79,6 +94,10 @@ impl Columns {
     pub fn first_column(&self, offset: usize) -> Result<usize, AllocError>
         ensures { IfOk result (λ column. column ≡ first_of_cells self.now.cells self.now.text_end self.now.width offset) }
     {
+        let at = offset.saturating_sub(self.start);
+        if at < self.plain.len() {
+            return Ok(at);
+        }
         let index = self.cells.partition_point(|cell| cell.after <= offset);
         if index < self.cells.len() {
             return Ok(self.cells[index].from);
@@ -90,6 +109,10 @@ impl Columns {
     pub fn last_column(&self, offset: usize) -> Result<usize, AllocError>
         ensures { IfOk result (λ column. column ≡ last_of_cells self.now.cells self.now.text_end self.now.width offset) }
     {
+        let at = offset.saturating_sub(self.start);
+        if at < self.plain.len() {
+            return Ok(at);
+        }
         let index = self.cells.partition_point(|cell| cell.start < offset);
         if index < self.cells.len() {
             return Ok(self.cells[index].from);
@@ -107,7 +130,7 @@ pub struct Mark {
 }
 
 // The mark of a label, where the mark before it ends at a column.
-fn next_mark(columns: &Columns, label: &Placed, reached: usize) -> Result<Mark, AllocError>
+fn next_mark(columns: &Columns<'_>, label: &Placed, reached: usize) -> Result<Mark, AllocError>
     ensures from { IfOk result (λ mark. mark.from ≡ mark_from columns.now reached (label_of label.now)) }
     ensures until { IfOk result (λ mark. mark.until ≡ mark_until columns.now reached (label_of label.now)) }
     ensures label { IfOk result (λ mark. mark.label ≡ label.now) }
@@ -130,7 +153,11 @@ fn next_mark(columns: &Columns, label: &Placed, reached: usize) -> Result<Mark, 
 }
 
 // The marks of labels by offset, each behind the one before it.
-fn marks_in(alloc: Global, columns: &Columns, placed: &[Placed]) -> Result<Vec<Mark>, AllocError>
+fn marks_in(
+    alloc: Global,
+    columns: &Columns<'_>,
+    placed: &[Placed],
+) -> Result<Vec<Mark>, AllocError>
     ensures is { IfOk result (λ made. (labels : List Label) → map (mark_of labels) made.items ≡ marks columns.now (map (drawn_of labels) placed.now)) }
     ensures some { IfOk result (λ made. All (λ mark. mark.from < mark.until) made.items) }
 {

@@ -1,12 +1,13 @@
 //! Texts of printable ASCII characters, which print as they are: each byte is a character of one column.
 
-ghost use Rattle.std.specs.Prelude.{◌≡◌, true, IfSome};
+ghost use Rattle.std.specs.Prelude.{◌≡◌, true, false, IfSome, IsNone};
 ghost use Rattle.std.specs.List.{list_all};
 ghost use Rattle.miette_layout.specs.Printable.{is_printable};
 
 use std::str;
 
-fn all_printable(bytes: &[u8]) -> bool
+/// Whether each of these bytes is a printable ASCII character.
+pub fn all_printable(bytes: &[u8]) -> bool
     ensures { result ≡ list_all is_printable bytes.now }
 {
     for byte in bytes {
@@ -21,12 +22,13 @@ fn all_printable(bytes: &[u8]) -> bool
 pub fn printable(bytes: &[u8]) -> Option<&str>
     ensures same { IfSome result (λ text. text.now ≡ bytes.now) }
     ensures printable { IfSome result (λ text. list_all is_printable bytes.now ≡ true) }
+    ensures none { IsNone result → list_all is_printable bytes.now ≡ false }
 {
     if !all_printable(bytes) {
         return None;
     }
     match str::from_utf8(bytes) {
         Ok(text) => Some(text),
-        Err(_) => None,
+        Err(_) => unreachable!(),
     }
 }

@@ -1,6 +1,7 @@
 //! Where a snippet's frame points to.
 
 ghost use Rattle.std.specs.Prelude.{◌≡◌, ℕ, List, None, IfOk};
+ghost use Rattle.std.specs.List.Sorted.{IsNonDecreasingBy};
 ghost use Rattle.miette_layout.specs.Primary.{chosen, PointsTo};
 
 use crate::grouping::end_of;
@@ -62,6 +63,21 @@ fn primary(span: &SourceSpan, reads: &[ReadLabel<'_>]) -> Result<Option<SourceSp
         }
     }
     Ok(first)
+}
+
+// Of labels by offset those that begin in a span or where it ends, found by halving: the span's primary label is among them.
+pub(crate) fn near<'r, 'a>(
+    span: &SourceSpan,
+    reads: &'r [ReadLabel<'a>],
+) -> Result<&'r [ReadLabel<'a>], AllocError>
+    requires { IsNonDecreasingBy (λ read. read.span.offset) reads.now }
+    ensures { IfOk result (λ near. chosen span.now None near.now ≡ chosen span.now None reads.now) }
+{
+    let start = span.offset();
+    let end = end_of(span)?;
+    let first = reads.partition_point(|read| read.span.offset() < start);
+    let after = reads.partition_point(|read| read.span.offset() <= end);
+    Ok(&reads[first.min(after)..after])
 }
 
 /// Where the primary label of a snippet with this span begins, by a read without context.

@@ -13,7 +13,7 @@ use crate::grouping::groups;
 use crate::options::LayoutOptions;
 use crate::order::by_offset;
 use crate::page::Page;
-use crate::primary::place_of;
+use crate::primary::{near, place_of};
 use crate::reading::{ReadLabel, ReadLabels, Refusal, read_labels};
 use crate::snippet::push_snippet;
 use crate::sweep::Sweep;
@@ -22,9 +22,6 @@ use miette_protocol::protocol::LabeledSpan;
 use miette_protocol::source::SourceCode;
 use miette_text::theme::GraphicalTheme;
 use std::alloc::{AllocError, Global};
-
-#[cfg(test)]
-mod tests;
 
 // The bare name of a reason.
 fn name_of(refusal: Refusal) -> &'static str
@@ -58,7 +55,8 @@ fn read_snippets<'a, 'b, S: SourceCode>(
     };
     let mut at = 0;
     for group in &groups {
-        let place = place_of(source, &group.span, reads)?;
+        let near = near(&group.span, reads)?;
+        let place = place_of(source, &group.span, near)?;
         if place.is_unread() {
             return Ok(None);
         }

@@ -1,6 +1,12 @@
-//! Worked pictures: what the graphical handler draws, as the rules ask for it. The expected texts were written by hand from the rules.
+//! Worked reports: what each handler gives, as the rules ask for it. The expected texts were written by hand from the rules.
 #![tactic(auto)]
 
+#[cfg(test)]
+mod debug;
+#[cfg(test)]
+mod json;
+#[cfg(test)]
+mod narrated;
 #[cfg(test)]
 mod reports;
 #[cfg(test)]

@@ -1,5 +1,5 @@
 use miette::diagnostic::MietteDiagnostic;
-use miette::handlers::GraphicalReportHandler;
+use miette::handlers::{GraphicalReportHandler, ReportHandler};
 use miette::protocol::{LabeledSpan, Severity};
 use miette::report::{OwnedSource, Report};
 use miette::theme::GraphicalTheme;
@@ -151,5 +151,38 @@ fn related_reports(rt: HostRuntime) -> Result<(), Fail> {
         told(alloc, nested, &report)?.as_str(),
         "  × top\n  ╰─▶   ⚠ rel\n"
     );
+    Ok(())
+}
+
+#[test]
+fn a_primary_label(rt: HostRuntime) -> Result<(), Fail> {
+    let alloc = rt.alloc();
+    let first = LabeledSpan::underline((0, 6));
+    let primary = LabeledSpan::new_primary_with_span(None, (9, 4));
+    let diagnostic = MietteDiagnostic::new(alloc, "m")?
+        .with_label(alloc, first)?
+        .and_label(alloc, primary)?;
+    let bytes = b"source\n  text\n    here".to_vec(alloc)?;
+    let source = OwnedSource::named(alloc, "f", None, bytes)?;
+    let report: Report = Report::new(diagnostic).with_owned_source(source);
+    let wanted =
+        "  × m\n   ╭─[f:2:3]\n 1 │ source\n   · ──────\n 2 │   text\n   ·   ────\n 3 │     here\n   ╰────\n";
+    assert_eq!(rt; told(alloc, unicode(alloc)?, &report)?.as_str(), wanted);
+    Ok(())
+}
+
+#[test]
+fn a_label_over_all_lines(rt: HostRuntime) -> Result<(), Fail> {
+    let alloc = rt.alloc();
+    let label = LabeledSpan::at(alloc, (0, 22), "whole")?;
+    let diagnostic = MietteDiagnostic::new(alloc, "oops!")?.with_label(alloc, label)?;
+    let report: Report = Report::new(diagnostic).with_owned_source(named(alloc)?);
+    let wanted =
+        "  × oops!\n   ╭─[bad_file.rs:1:1]\n 1 │ ╭─▶ source\n 2 │ │     text\n 3 │ ├─▶     here\n   · ╰──── whole\n   ╰────\n";
+    let mut handler = unicode(alloc)?;
+    let mut out = String::new(alloc);
+    handler.debug(&report, &mut out)?;
+    assert_eq!(rt; out.as_str(), wanted);
+    assert_eq!(rt; told(alloc, handler, &report)?.as_str(), wanted);
     Ok(())
 }

@@ -2,6 +2,7 @@
 
 ghost use Rattle.std.specs.Prelude.{◌≡◌, Some, None};
 ghost use Rattle.std.specs.Option.{option_copied};
+ghost use Rattle.miette_protocol.specs.Reading.{Contents};
 
 use crate::protocol::SourceSpan;
 use std::marker::Model;
@@ -35,6 +36,11 @@ impl<'a> Model for MietteSpanContents<'a> {
       language = option_map (λ t. t.now) it.language;
     } };
 }
+
+/// A clone of contents keeps all that they lend and say.
+pub fn contents_clone_law<'a>()
+    ensures { (a b : Contents) → ⟦<MietteSpanContents<'a> as Clone>⟧.is_clone a b → b ≡ a }
+{}
 
 impl<'a> MietteSpanContents<'a> {
     /// Contents of a source without a name: its bytes, their span in it, the zero-based line and column at

@@ -186,6 +186,7 @@ impl fmt::Display for MietteDiagnostic {
     }
 }
 
+/// Answers its fields.
 impl Diagnostic for MietteDiagnostic {
     ghost use Rattle.miette_protocol.specs.Diagnostic.{meaning_of};
 
@@ -225,110 +226,5 @@ impl Diagnostic for MietteDiagnostic {
             Some(labels) => Some(labels.as_slice()),
             None => None,
         }
-    }
-}
-
-#[cfg(test)]
-mod tests {
-    use super::*;
-    use crate::protocol::{SourceOffset, SourceSpan};
-    use std::alloc::Global;
-    use std::test::Fail;
-
-    fn labels(alloc: Global, from: usize) -> Result<Vec<LabeledSpan>, AllocError> {
-        Ok(vec![in alloc;
-            LabeledSpan::underline(from),
-            LabeledSpan::underline(from.saturating_add(1)),
-        ]?)
-    }
-
-    #[test]
-    fn builders(rt: HostRuntime) -> Result<(), Fail> {
-        let alloc = rt.alloc();
-        let made = MietteDiagnostic::new(alloc, "m")?
-            .with_code(alloc, "a::b")?
-            .with_severity(Severity::Warning)
-            .with_help(alloc, "h")?
-            .with_url(alloc, "u")?
-            .with_label(alloc, LabeledSpan::underline(0))?
-            .and_label(alloc, LabeledSpan::underline(1))?
-            .and_labels(alloc, labels(alloc, 2)?)?;
-        assert_eq!(rt; made.message(), "m");
-        assert_eq!(rt; made.code(), Some("a::b"));
-        assert_eq!(rt; made.severity(), Some(Severity::Warning));
-        assert_eq!(rt; made.help(), Some("h"));
-        assert_eq!(rt; made.url(), Some("u"));
-        let found = made.labels().ok_or("no labels")?;
-        assert_eq!(rt; found.len(), 4);
-        assert_eq!(rt; found[3].offset(), 3);
-        assert_eq!(rt; format!(in alloc; "{made}")?.as_str(), "m");
-        assert!(rt; made.clone()? == made);
-        let made = made.with_labels(labels(alloc, 8)?);
-        let found = made.labels().ok_or("no labels")?;
-        assert_eq!(rt; found.len(), 2);
-        Ok(())
-    }
-
-    #[test]
-    fn severities(rt: HostRuntime) {
-        assert!(rt; Severity::Advice < Severity::Warning);
-        assert!(rt; Severity::Warning < Severity::Error);
-        assert!(rt; Severity::default() == Severity::Error);
-    }
-
-    #[test]
-    fn json_of_parts(rt: HostRuntime) -> Result<(), Fail> {
-        let alloc = rt.alloc();
-        let text = serde_json::to_string(alloc, &Severity::Advice)?;
-        assert_eq!(rt; text.as_str(), "\"Advice\"");
-        let severity: Severity = serde_json::from_str(alloc, text.as_str())?;
-        assert!(rt; severity == Severity::Advice);
-        let text = serde_json::to_string(alloc, &SourceOffset::from(0))?;
-        assert_eq!(rt; text.as_str(), "0");
-        let offset: SourceOffset = serde_json::from_str(alloc, text.as_str())?;
-        assert!(rt; offset == SourceOffset::from(0));
-        let span = SourceSpan::from((3, 4));
-        let text = serde_json::to_string(alloc, &span)?;
-        assert_eq!(rt; text.as_str(), r#"{"offset":3,"length":4}"#);
-        let read: SourceSpan = serde_json::from_str(alloc, text.as_str())?;
-        assert!(rt; read == span);
-        Ok(())
-    }
-
-    #[test]
-    fn json_of_a_label(rt: HostRuntime) -> Result<(), Fail> {
-        let alloc = rt.alloc();
-        let label = LabeledSpan::new(None, 0, 0);
-        let text = serde_json::to_string(alloc, &label)?;
-        assert_eq!(rt;
-            text.as_str(),
-            r#"{"span":{"offset":0,"length":0},"primary":false}"#
-        );
-        let read: LabeledSpan = serde_json::from_str(alloc, text.as_str())?;
-        assert!(rt; read == label);
-        let null = r#"{"label":null,"span":{"offset":0,"length":0},"primary":false}"#;
-        let read: LabeledSpan = serde_json::from_str(alloc, null)?;
-        assert!(rt; read == label);
-        Ok(())
-    }
-
-    #[test]
-    fn json_of_a_diagnostic(rt: HostRuntime) -> Result<(), Fail> {
-        let alloc = rt.alloc();
-        let made = MietteDiagnostic::new(alloc, "message")?;
-        let text = serde_json::to_string(alloc, &made)?;
-        assert_eq!(rt; text.as_str(), r#"{"message":"message"}"#);
-        let read: MietteDiagnostic = serde_json::from_str(alloc, text.as_str())?;
-        assert!(rt; read == made);
-        let null = r#"{"message":"message","code":null,"labels":null}"#;
-        let read: MietteDiagnostic = serde_json::from_str(alloc, null)?;
-        assert!(rt; read == made);
-        let full = made
-            .with_code(alloc, "c")?
-            .with_label(alloc, LabeledSpan::at(alloc, 1..3, "t")?)?;
-        let text = serde_json::to_string(alloc, &full)?;
-        let read: MietteDiagnostic = serde_json::from_str(alloc, text.as_str())?;
-        assert!(rt; read == full);
-        Ok(())
     }
 }

@@ -1,5 +1,7 @@
 //! How reads and reports fail.
 
+ghost use Rattle.std.specs.Prelude.{◌≡◌, ◌↔◌, IsTrue};
+
 use crate::protocol::{Diagnostic, LabeledSpan, Severity};
 use std::alloc::AllocError;
 use std::{fmt, io};
@@ -13,6 +15,7 @@ pub enum MietteError {
     OutOfBounds,
 }
 
+/// A source that could not be read: the error is kept inside `IoError`.
 impl From<io::Error> for MietteError {
     ghost use Rattle.std.specs.Prelude.{◌≡◌};
     ghost use Rattle.miette_protocol.specs.declared.error.MietteError.TheVariants.{IoError};
@@ -40,6 +43,7 @@ impl fmt::Display for MietteError {
     }
 }
 
+/// Fixed texts for each of the two errors, with no severity and no labels.
 impl Diagnostic for MietteError {
     ghost use Rattle.miette_protocol.specs.Texts.{error_meaning};
 
@@ -97,6 +101,12 @@ pub enum RenderError {
     Refused,
 }
 
+/// Errors of writing are equal where they are the same one, and a clone is the same one.
+pub fn render_error_law()
+    ensures equal { (a b : RenderError) → IsTrue (⟦<RenderError as PartialEq>⟧.eq a b) ↔ (a ≡ b) }
+    ensures cloned { (a b : RenderError) → ⟦<RenderError as Clone>⟧.is_clone a b → b ≡ a }
+{}
+
 /// Refused memory is the error `Memory`.
 impl From<AllocError> for RenderError {
     ghost use Rattle.std.specs.Prelude.{◌≡◌};
@@ -106,50 +116,5 @@ impl From<AllocError> for RenderError {
 
     fn from(_: AllocError) -> Self {
         RenderError::Memory
-    }
-}
-
-#[cfg(test)]
-mod tests {
-    use super::*;
-    use std::test::Fail;
-
-    #[test]
-    fn out_of_bounds(rt: HostRuntime) -> Result<(), Fail> {
-        let error = MietteError::OutOfBounds;
-        let text = "The given offset is outside the bounds of its Source";
-        assert_eq!(rt; format!(in rt.alloc(); "{error}")?.as_str(), text);
-        assert_eq!(rt; error.message(), text);
-        assert_eq!(rt; error.code(), Some("miette::span_out_of_bounds"));
-        assert_eq!(rt;
-            error.help(),
-            Some("Double-check your spans. Do you have an off-by-one error?")
-        );
-        assert_eq!(rt;
-            error.url(),
-            Some("https://docs.rs/miette/7.6.0/miette/enum.MietteError.html#variant.OutOfBounds")
-        );
-        assert_eq!(rt; error.severity(), None);
-        assert!(rt; error.labels().is_none());
-        Ok(())
-    }
-
-    #[test]
-    fn io_error(rt: HostRuntime) -> Result<(), Fail> {
-        let error = MietteError::from(io::Error::from(io::ErrorKind::NotFound));
-        assert_eq!(rt;
-            format!(in rt.alloc(); "{error}")?.as_str(),
-            "entity not found"
-        );
-        assert_eq!(rt; error.message(), "a source could not be read");
-        assert_eq!(rt; error.code(), Some("miette::io_error"));
-        assert_eq!(rt; error.help(), None);
-        assert_eq!(rt;
-            error.url(),
-            Some("https://docs.rs/miette/7.6.0/miette/enum.MietteError.html#variant.IoError")
-        );
-        assert_eq!(rt; error.severity(), None);
-        assert!(rt; error.labels().is_none());
-        Ok(())
     }
 }

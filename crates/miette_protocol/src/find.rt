@@ -1,6 +1,6 @@
 //! Reading a span of bytes whose lines can be found.
 
-ghost use Rattle.std.specs.Prelude.{◌≡◌, ℕ, ◌≤◌, ◌+◌, ◌-◌, List, MatchBool, min, length};
+ghost use Rattle.std.specs.Prelude.{◌≡◌, ℕ, ◌≤◌, ◌+◌, ◌-◌, ◌==◌, if◌then◌else◌, List, MatchBool, min, length};
 ghost use Rattle.miette_protocol.specs.Lines.{line_of, line_start, line_end, column_of};
 ghost use Rattle.miette_protocol.specs.Reading.{IsAccepted, reading_end, data_start, data_end, plain_source};
 ghost use Rattle.miette_protocol.specs.Outcome.{Answers};
@@ -20,11 +20,11 @@ pub(crate) trait FindLines {
         requires line { line ≡ line_of (text self.now) from }
         ensures { result ≡ line_of (text self.now) offset };
 
-    /// Where the line begins that stands so many before an offset's line.
-    fn start_before(&self, offset: usize, line: usize, lines: usize) -> usize
-        requires within { offset ≤ length (text self.now) }
-        requires line { line ≡ line_of (text self.now) offset }
-        ensures { result ≡ line_start (text self.now) (line - lines) };
+    /// Where the line begins that stands so many before an offset's line, and the number of the offset's line.
+    fn start_before(&self, offset: usize, lines: usize) -> (usize, usize)
+        requires { offset ≤ length (text self.now) }
+        ensures start { result.0 ≡ line_start (text self.now) (line_of (text self.now) offset - lines) }
+        ensures line { result.1 ≡ line_of (text self.now) offset };
 
     /// Where the line ends that stands so many after an offset's line, and the number of that end's line.
     fn end_after(&self, offset: usize, line: usize, lines: usize) -> (usize, usize)
@@ -32,6 +32,15 @@ pub(crate) trait FindLines {
         requires line { line ≡ line_of (text self.now) offset }
         ensures end { result.0 ≡ line_end (text self.now) (line + lines) }
         ensures line { result.1 ≡ line_of (text self.now) result.0 };
+}
+
+/// Where the data of a read begin: an offset with its line and column, and the number of the line of the span.
+#[derive(Clone, Copy)]
+struct DataStart {
+    at: usize,
+    line: usize,
+    column: usize,
+    own: usize,
 }
 
 /// May a span be read?
@@ -83,30 +92,6 @@ fn data_end<L: FindLines>(
     }
 }
 
-/// Where the data of a read begin, and the number of the line of that offset. The number of the line of
-/// the span's offset is known.
-#[tactic(auto, using(crate::proofs::Places::reads))]
-fn data_start<L: FindLines>(
-    lines: &L,
-    span: &SourceSpan,
-    line: usize,
-    before: usize,
-) -> (usize, usize)
-    requires accepted { IsAccepted (L.text lines.now) span.now }
-    requires line { line ≡ line_of (L.text lines.now) span.now.offset }
-    ensures start { result.0 ≡ data_start (L.text lines.now) span.now before }
-    ensures line { result.1 ≡ line_of (L.text lines.now) span.now.offset - before }
-    ensures same { result.1 ≡ line_of (L.text lines.now) result.0 }
-    ensures order { result.0 ≤ span.now.offset }
-{
-    if before == 0 {
-        (span.offset(), line)
-    } else {
-        let start = lines.start_before(span.offset(), line, before);
-        (start, line.saturating_sub(before))
-    }
-}
-
 /// The column of an offset, whose line begins at a start. The bytes between the two are text, but for the
 /// CR of a CRLF that the offset splits.
 #[tactic(auto, using(crate::proofs::Columns::columns))]
@@ -123,20 +108,42 @@ fn column_from(bytes: &[u8], start: usize, offset: usize) -> usize
     }
 }
 
-/// The column of an offset, whose line's number is known.
+/// Where the data of a read begin, the number and the column of that offset, and the number of the line of the
+/// span's offset.
 #[tactic(auto, using(crate::proofs::Places::reads))]
-fn column<L: FindLines>(lines: &L, bytes: &[u8], offset: usize, line: usize) -> usize
+fn data_start<L: FindLines>(lines: &L, bytes: &[u8], span: &SourceSpan, before: usize) -> DataStart
     requires bytes { L.text lines.now ≡ bytes.now }
-    requires offset { offset ≤ length bytes.now }
-    requires line { line ≡ line_of bytes.now offset }
-    ensures { result ≡ column_of bytes.now offset }
+    requires accepted { IsAccepted bytes.now span.now }
+    ensures start { result.at ≡ data_start bytes.now span.now before }
+    ensures own { result.own ≡ line_of bytes.now span.now.offset }
+    ensures line { result.line ≡ line_of bytes.now span.now.offset - before }
+    ensures same { result.line ≡ line_of bytes.now result.at }
+    ensures column { result.column ≡ (if before == 0 then column_of bytes.now span.now.offset else 0) }
+    ensures order { result.at ≤ span.now.offset }
 {
-    let start = lines.start_before(offset, line, 0);
-    column_from(bytes, start, offset)
+    let offset = span.offset();
+    let (start, own) = lines.start_before(offset, before);
+    if before == 0 {
+        let column = column_from(bytes, start, offset);
+        DataStart {
+            at: offset,
+            line: own,
+            column,
+            own,
+        }
+    } else {
+        let line = own.saturating_sub(before);
+        DataStart {
+            at: start,
+            line,
+            column: 0,
+            own,
+        }
+    }
 }
 
-/// Reads a span of the bytes: one pass to the end of the data at most, and one back over the data or over
-/// the line in which they begin.
+/// Reads a span of the bytes: back from the span over the lines before it that are shown, once over the bytes
+/// before these, and forward from the span to the end of the data.
 #[tactic(auto, using(crate::proofs::Places::reads))]
 pub(crate) fn read<'a, L: FindLines>(
     lines: &L,
@@ -151,20 +158,13 @@ pub(crate) fn read<'a, L: FindLines>(
     if !is_accepted(bytes, span) {
         return Err(MietteError::OutOfBounds);
     }
-    let offset = span.offset();
-    let line = lines.line_from(0, 0, offset);
-    let (from, first) = data_start(lines, span, line, before);
-    let (to, last) = data_end(lines, bytes, span, line, after);
-    let column = if before == 0 {
-        column(lines, bytes, offset, line)
-    } else {
-        0
-    };
+    let from = data_start(lines, bytes, span, before);
+    let (to, last) = data_end(lines, bytes, span, from.own, after);
     Ok(MietteSpanContents::new(
-        &bytes[from..to],
-        SourceSpan::new(SourceOffset::from(from), to - from),
-        first,
-        column,
-        last - first,
+        &bytes[from.at..to],
+        SourceSpan::new(SourceOffset::from(from.at), to - from.at),
+        from.line,
+        from.column,
+        last - from.line,
     ))
 }

@@ -98,12 +98,14 @@ impl FindLines for IndexedSource {
     }
 
     #[tactic(auto, using(crate::proofs::Places::index_reads))]
-    fn start_before(&self, _offset: usize, line: usize, lines: usize) -> usize {
-        if line <= lines {
+    fn start_before(&self, offset: usize, lines: usize) -> (usize, usize) {
+        let line = self.line_of(offset).0;
+        let start = if line <= lines {
             0
         } else {
             entry(&self.ends, line - lines - 1)
-        }
+        };
+        (start, line)
     }
 
     #[tactic(auto, using(crate::proofs::Places::index_reads))]

@@ -16,5 +16,3 @@ pub mod protocol;
 mod scan;
 pub mod source;
 mod span;
-#[cfg(test)]
-mod tests;

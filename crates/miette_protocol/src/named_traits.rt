@@ -39,18 +39,24 @@ impl<S: Clone> NamedSource<S> {
     }
 }
 
-/// What the comparisons of named sources say. They are equal where their inner sources, names and
-/// languages are; they compare by inner source, then by name, then by language, where none comes
-/// first; and they hash these three in this order.
-pub fn named_source_laws<S: Ord + Hash>()
-    ensures equal { (a b : NamedSource S) → IsTrue (⟦<NamedSource<S> as PartialEq>⟧.eq a b)
+/// Named sources are equal where their inner sources, names and languages are.
+pub fn named_source_equality_law<S: PartialEq>()
+    ensures { (a b : NamedSource S) → IsTrue (⟦<NamedSource<S> as PartialEq>⟧.eq a b)
         ↔ (IsTrue (S.eq (inner_of a) (inner_of b))
         × ((name_of a ≡ name_of b) × (given_language a ≡ given_language b))) }
-    ensures hash { (a : NamedSource S) → ⟦<NamedSource<S> as Hash>⟧.hash_input a
-        ≡ S.hash_input (inner_of a) ++ fed.str (name_of a) ++ fed.option fed.str (given_language a) }
-    ensures order { (a b : NamedSource S) → ⟦<NamedSource<S> as Ord>⟧.cmp a b
+{}
+
+/// Named sources compare by inner source, then by name, then by language, where none comes first.
+pub fn named_source_order_law<S: Ord>()
+    ensures { (a b : NamedSource S) → ⟦<NamedSource<S> as Ord>⟧.cmp a b
         ≡ then_cmp (on inner_of S.cmp) (then_cmp (on name_of (slice_cmp nat_cmp))
         (on given_language (option_cmp (slice_cmp nat_cmp)))) a b }
+{}
+
+/// Named sources hash the inner source, the name and the language, in this order.
+pub fn named_source_hash_law<S: Hash>()
+    ensures { (a : NamedSource S) → ⟦<NamedSource<S> as Hash>⟧.hash_input a
+        ≡ S.hash_input (inner_of a) ++ fed.str (name_of a) ++ fed.option fed.str (given_language a) }
 {}
 
 /// Prints the name and the language, and `"<redacted>"` in place of the source.
@@ -61,35 +67,5 @@ impl<S> fmt::Debug for NamedSource<S> {
             .field("source", &"<redacted>")
             .field("language", &self.language)
             .finish()
-    }
-}
-
-#[cfg(test)]
-mod tests {
-    use super::*;
-    use std::hash::{DefaultHasher, Hasher};
-    use std::test::Fail;
-
-    fn hash_of<T: Hash>(it: &T) -> u64 {
-        let mut state = DefaultHasher::new();
-        it.hash(&mut state);
-        state.finish()
-    }
-
-    #[test]
-    fn named(rt: HostRuntime) -> Result<(), Fail> {
-        let alloc = rt.alloc();
-        let a = NamedSource::new(alloc, "a", "2")?;
-        let b = NamedSource::new(alloc, "b", "1")?.with_language(alloc, "Rust")?;
-        assert!(rt; a.clone()? == a);
-        assert!(rt; b < a);
-        assert!(rt; b < NamedSource::new(alloc, "c", "1")?);
-        assert!(rt; NamedSource::new(alloc, "b", "1")? < b);
-        assert_eq!(rt; hash_of(&a.clone()?), hash_of(&a));
-        assert_eq!(rt;
-            format!(in alloc; "{b:?}")?.as_str(),
-            r#"NamedSource { name: "b", source: "<redacted>", language: Some("Rust") }"#
-        );
-        Ok(())
     }
 }

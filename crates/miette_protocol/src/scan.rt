@@ -98,24 +98,27 @@ fn last_mark(bytes: &[u8], offset: usize) -> Option<usize>
     memrchr2(b'\n', b'\r', &bytes[..offset])
 }
 
-/// Where the line begins that stands so many before an offset's line, found from the offset back.
+/// Where the line begins that stands so many before an offset's line, found from the offset back, and how many
+/// terminators end between that start and the offset.
 #[tactic(auto, using(crate::proofs::Places::scan_steps))]
-fn start_before(bytes: &[u8], offset: usize, lines: usize) -> usize
+fn start_before(bytes: &[u8], offset: usize, lines: usize) -> (usize, usize)
     requires { offset ≤ length bytes.now }
-    ensures { result ≡ line_start bytes.now (line_of bytes.now offset - lines) }
+    ensures start { result.0 ≡ line_start bytes.now (line_of bytes.now offset - lines) }
+    ensures passed { line_of bytes.now result.0 + result.1 ≡ line_of bytes.now offset }
+    ensures order { result.0 ≤ offset }
 {
-    let mut left = lines;
+    let mut passed = 0;
     let mut end = offset;
     while let Some(at) = last_mark(bytes, end) {
         if ends_line(bytes, at) {
-            if left == 0 {
-                return at + 1;
+            if passed == lines {
+                return (at + 1, passed);
             }
-            left -= 1;
+            passed += 1;
         }
         end = at;
     }
-    0
+    (0, passed)
 }
 
 /// Where the line ends that stands so many after an offset's line, and the number of that end's line.
@@ -149,8 +152,10 @@ impl FindLines for Scan<'_> {
         line_from(self.0, from, line, offset)
     }
 
-    fn start_before(&self, offset: usize, _line: usize, lines: usize) -> usize {
-        start_before(self.0, offset, lines)
+    #[tactic(auto, using(crate::proofs::Places::scan_steps))]
+    fn start_before(&self, offset: usize, lines: usize) -> (usize, usize) {
+        let (start, passed) = start_before(self.0, offset, lines);
+        (start, line_from(self.0, 0, 0, start) + passed)
     }
 
     fn end_after(&self, offset: usize, line: usize, lines: usize) -> (usize, usize) {

@@ -4,12 +4,14 @@ ghost use Rattle.std.specs.Prelude.{ℕ, string_bytes};
 ghost use Rattle.miette_protocol.specs.Reading.{Source, plain_source};
 ghost use Rattle.miette_protocol.specs.Outcome.{Answers};
 
-pub use crate::contents::MietteSpanContents;
+pub use crate::contents::{MietteSpanContents, contents_clone_law};
 use crate::error::MietteError;
 use crate::find;
 pub use crate::indexed::IndexedSource;
 pub use crate::named::NamedSource;
-pub use crate::named_traits::named_source_laws;
+pub use crate::named_traits::{
+    named_source_equality_law, named_source_hash_law, named_source_order_law,
+};
 use crate::protocol::SourceSpan;
 use crate::scan::Scan;
 

@@ -1,5 +1,5 @@
 -- The sources of a described report always read.
-use Rattle.std.proofs.Common.{◌≡◌, ℕ, List, [], ◌∷◌, Option, Some, None, option_map, Ordering, Less, Equal, Greater, Bool, true, false, refl, sym, subst, IfSome, codes, nat_cmp}
+use Rattle.std.proofs.Common.{◌≡◌, ℕ, List, [], ◌∷◌, Option, Some, None, option_map, Ordering, Less, Equal, Greater, Bool, true, false, refl, subst, IfSome, codes, nat_cmp}
 use Rattle.std.specs.Prelude.{is_some, unwrap_or, if◌then◌else◌}
 use Rattle.std.specs.Ordering.{match_ordering}
 use Rattle.std.specs.Cmp.Lexicographic.{slice_cmp}
@@ -8,7 +8,7 @@ use Rattle.serde_json.specs.Find.{as_null, as_str}
 use Rattle.serde_json.specs.Written.{has_float}
 use Rattle.miette_protocol.specs.Reading.{Source}
 use Rattle.miette_protocol.specs.Meaning.{Meaning}
-use Rattle.miette_tree.specs.Tree.{Tree, tree, Cause, diagnostic, texts, Trees, no_trees, more_trees, wrapped}
+use Rattle.miette_tree.specs.Tree.{Tree, tree, Trees, no_trees, wrapped}
 use Rattle.miette_handlers.specs.Reads.{AlwaysReads, CauseAlwaysReads, AllAlwaysRead}
 use Rattle.miette_report.specs.Members.{given, at_key, typed, list_of, source_named, source_of, meaning_in}
 use Rattle.miette_report.specs.Description.{one_cause, wrapped_in, assembled, report_from, nullable, report_in, cause_in, related_in, reports_in, each_in, described}

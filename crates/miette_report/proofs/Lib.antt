@@ -3,3 +3,4 @@ pub mod DescriptionLists
 pub mod DeviceLemmas
 pub mod DescriptionSources
 pub mod FaultStatuses
+pub mod PictureSteps

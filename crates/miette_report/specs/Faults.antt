@@ -2,8 +2,8 @@
 use Rattle.std.specs.Prelude.{ℕ}
 use Rattle.miette_report.specs.declared.draw.Fault.{Fault}
 use Rattle.miette_report.specs.declared.draw.Fault.TheVariants as faults
-use Rattle.miette_report.specs.declared.whole.ReadError.{ReadError}
-use Rattle.miette_report.specs.declared.whole.ReadError.TheVariants as reads
+use Rattle.miette_report.specs.declared.picture.DrawError.{DrawError}
+use Rattle.miette_report.specs.declared.picture.DrawError.TheVariants as draws
 use Rattle.miette_report.specs.declared.words.WordsFault.{WordsFault}
 use Rattle.miette_report.specs.declared.words.WordsFault.TheVariants as words
 
@@ -17,6 +17,7 @@ abbrev pub words_fault : WordsFault → Fault
 words_fault words.Usage = faults.Usage
 words_fault words.Memory = faults.Memory
 
-abbrev pub read_fault : ReadError → Fault
-read_fault reads.Memory = faults.Memory
-read_fault reads.Read = faults.Read
+abbrev pub draw_fault : DrawError → Fault
+draw_fault draws.Memory = faults.Memory
+draw_fault draws.Read = faults.Read
+draw_fault draws.Write = faults.Write

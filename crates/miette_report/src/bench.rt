@@ -1,6 +1,7 @@
 //! The program `bench`, which renders one report many times: speed is measured by it.
 
-ghost use Rattle.std.specs.Prelude.{◌≡◌};
+ghost use Rattle.std.specs.Prelude.{◌≡◌, IfSome, IsSome, IsUtf8, OnErr, OnOk, None};
+ghost use Rattle.miette_report.specs.Job.{text_for, tree_for};
 ghost use Rattle.miette_report.specs.Statuses.{words_status};
 
 use crate::device::Device;
@@ -12,9 +13,6 @@ use crate::words::{WordsFault, number};
 use std::alloc::Global;
 use std::io::{Read, Write};
 
-#[cfg(test)]
-mod tests;
-
 /// Reads a description, builds its report once, renders it N times, each time into a fresh text, and writes the number of
 /// bytes of one rendering in decimal and a line feed; 0 where N is 0. The words are N and then those of `job`. The status
 /// comes out, with `job`'s meaning; a fault's text and a line feed go to `faults`, whose own faults are ignored.
@@ -24,7 +22,11 @@ pub fn bench_with<R: Read + Drop, W: Write + Drop, F: Write + Drop>(
     reader: R,
     writer: W,
     faults: F,
-) -> u8 {
+) -> u8
+    ensures done { result ≡ 0 → IfSome (R.remaining reader) (λ bytes. IsUtf8 bytes × IsSome (tree_for bytes)) }
+    ensures description { result ≡ 3 → IfSome (R.remaining reader) (λ bytes. IsUtf8 bytes → tree_for bytes ≡ None) }
+    ensures accepted { ¬ (result ≡ 4) }
+{
     let (times, settings) = match read_words(alloc, words) {
         Ok(asked) => asked,
         Err(fault) => return refuse_words(fault, faults),
@@ -43,7 +45,9 @@ pub fn refuse_words<F: Write + Drop>(fault: WordsFault, faults: F) -> u8
 }
 
 /// How often to render, and by which settings.
-fn read_words(alloc: Global, words: &[String]) -> Result<(usize, Settings), WordsFault> {
+fn read_words(alloc: Global, words: &[String]) -> Result<(usize, Settings), WordsFault>
+    ensures { OnErr result (result ≡ Err WordsFault.Usage) }
+{
     let [times, options @ ..] = words else {
         return Err(WordsFault::Usage);
     };
@@ -60,7 +64,11 @@ fn measure<R: Read + Drop, W: Write + Drop>(
     writer: W,
     times: usize,
     settings: Settings,
-) -> Result<(), JobError> {
+) -> Result<(), JobError>
+    ensures described { OnOk result (IfSome (R.remaining reader) (λ bytes. IsUtf8 bytes × IsSome (text_for settings.choice bytes))) }
+    ensures description { (result ≡ Err JobError.Description) → IfSome (R.remaining reader) (λ bytes. IsUtf8 bytes → tree_for bytes ≡ None) }
+    ensures refused { ¬ (result ≡ Err JobError.Refused) }
+{
     let bytes = match read_whole(alloc, &mut Device::new(reader)) {
         Ok(bytes) => bytes,
         Err(ReadError::Memory) => return Err(JobError::Memory),

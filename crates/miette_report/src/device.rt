@@ -9,9 +9,6 @@ use std::io;
 use std::io::{Read, Write};
 use std::marker::Model;
 
-#[cfg(test)]
-pub(crate) mod tests;
-
 /// A reader or a writer with a mark, which is set where a call of it failed and then stays.
 ///
 /// A `Device` is no `Read` and no `Write` itself: std's own helpers over those repeat a call that was interrupted, and

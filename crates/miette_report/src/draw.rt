@@ -1,20 +1,17 @@
 //! The program `draw` over any reader and writers.
 
-ghost use Rattle.std.specs.Prelude.{◌≡◌, ◌↔◌, ◌<◌, IfSome, IsNone, OnOk, OnErr, map, string_bytes};
+ghost use Rattle.std.specs.Prelude.{◌≡◌, ◌↔◌, ◌<◌, false, IfSome, IsNone, IsTrue, OnOk, OnErr, map, string_bytes};
+ghost use Rattle.std.specs.Io.KnownBytes.{Appends};
+ghost use Rattle.miette_report.specs.Drawn.{CallPictures};
 ghost use Rattle.miette_report.specs.Faults.{status_of, words_fault};
 ghost use Rattle.miette_report.specs.Words.{AreDrawWords, IsNoDrawCall};
 
 use crate::device::Device;
-use crate::picture::picture;
-use crate::whole::{ReadError, WriteError, read_whole, write_whole};
+pub use crate::picture::{DrawError, write_picture};
 use crate::words::{WordsFault, number};
-use miette::error::RenderError;
 use std::alloc::Global;
 use std::io::{Read, Write};
 use thiserror::Error;
-
-#[cfg(test)]
-mod tests;
 
 /// What the words ask for: one label on a source.
 #[derive(Clone, Copy, Debug, PartialEq, Eq)]
@@ -98,55 +95,41 @@ impl From<WordsFault> for Fault {
     }
 }
 
-impl From<ReadError> for Fault {
-    ghost use Rattle.miette_report.specs.Faults.{read_fault};
+impl From<DrawError> for Fault {
+    ghost use Rattle.miette_report.specs.Faults.{draw_fault};
 
-    ghost from_gives = { λ error it. it ≡ read_fault error };
+    ghost from_gives = { λ error it. it ≡ draw_fault error };
 
-    fn from(error: ReadError) -> Self {
+    fn from(error: DrawError) -> Self {
         match error {
-            ReadError::Memory => Fault::Memory,
-            ReadError::Read => Fault::Read,
+            DrawError::Memory => Fault::Memory,
+            DrawError::Read => Fault::Read,
+            DrawError::Write => Fault::Write,
         }
     }
 }
 
-impl From<WriteError> for Fault {
-    ghost use Rattle.miette_report.specs.declared.draw.Fault.TheVariants.{Write};
-
-    ghost from_gives = { λ error it. it ≡ Write };
-
-    fn from(_error: WriteError) -> Self {
-        Fault::Write
-    }
-}
-
-// A source that is read whole refuses nothing, so all that a picture can lack is memory.
-impl From<RenderError> for Fault {
-    ghost use Rattle.miette_report.specs.declared.draw.Fault.TheVariants.{Memory};
-
-    ghost from_gives = { λ error it. it ≡ Memory };
-
-    fn from(_error: RenderError) -> Self {
-        Fault::Memory
-    }
-}
-
-// Checks the words, reads all, makes the picture, writes all.
-fn run<R: Read + Drop, W: Write + Drop>(
+// Checks the words before anything is read, and then writes the picture.
+fn run<R: Read, W: Write>(
     alloc: Global,
     words: &[String],
-    reader: R,
-    writer: W,
+    reader: &mut Device<R>,
+    writer: &mut Device<W>,
 ) -> Result<(), Fault>
+    requires reader_unmarked { reader.old.failed ≡ false }
+    requires writer_unmarked { writer.old.failed ≡ false }
+    // All that the reader had left is the source, and the writer took its picture and nothing else.
+    ensures ok { OnOk result (IfSome (R.remaining reader.old.inner) (λ bytes.
+        CallPictures (map string_bytes words.now) bytes (Appends (W.contents writer.old.inner) (W.contents writer.new.inner)))) }
     ensures usage { (result ≡ Err Fault.Usage) ↔ IsNoDrawCall (map string_bytes words.now) }
+    ensures read_mark { IsTrue reader.new.failed ↔ (result ≡ Err Fault.Read) }
+    ensures write_mark { IsTrue writer.new.failed ↔ (result ≡ Err Fault.Write) }
+    ensures unread { (result ≡ Err Fault.Usage) → (reader.new ≡ reader.old) × (writer.new ≡ writer.old) }
 {
     let Some(words) = DrawWords::read(words) else {
         return Err(Fault::Usage);
     };
-    let input = read_whole(alloc, &mut Device::new(reader))?;
-    let text = picture(alloc, &words, input)?;
-    write_whole(&mut Device::new(writer), text.as_bytes())?;
+    write_picture(alloc, &words, reader, writer)?;
     Ok(())
 }
 
@@ -165,7 +148,9 @@ pub fn draw_with<R: Read + Drop, W: Write + Drop, F: Write + Drop>(
     ensures status { result < 3 }
     ensures usage { (result ≡ 2) ↔ IsNoDrawCall (map string_bytes words.now) }
 {
-    match run(alloc, words, reader, writer) {
+    let mut reader = Device::new(reader);
+    let mut writer = Device::new(writer);
+    match run(alloc, words, &mut reader, &mut writer) {
         Ok(()) => 0,
         Err(fault) => fault.end(faults),
     }

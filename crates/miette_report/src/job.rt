@@ -1,6 +1,7 @@
 //! The program `job`, over any reader and writers.
 
-ghost use Rattle.std.specs.Prelude.{◌≡◌};
+ghost use Rattle.std.specs.Prelude.{◌≡◌, IfSome, IsSome, IsUtf8, None};
+ghost use Rattle.miette_report.specs.Job.{tree_for};
 ghost use Rattle.miette_report.specs.Statuses.{words_status};
 
 use crate::device::Device;
@@ -10,9 +11,6 @@ use crate::statuses;
 pub use crate::words::WordsFault;
 use std::alloc::Global;
 use std::io::{Read, Write};
-
-#[cfg(test)]
-mod tests;
 
 /// Reads a description, and writes its report. The words after the program's name go in, and the status comes out: 0; 1 for
 /// want of memory and for a device that failed; 2 for words that are no settings; 3 for a bad description; 4 for a report
@@ -24,7 +22,11 @@ pub fn job_with<R: Read + Drop, W: Write + Drop, F: Write + Drop>(
     reader: R,
     writer: W,
     faults: F,
-) -> u8 {
+) -> u8
+    ensures done { result ≡ 0 → IfSome (R.remaining reader) (λ bytes. IsUtf8 bytes × IsSome (tree_for bytes)) }
+    ensures description { result ≡ 3 → IfSome (R.remaining reader) (λ bytes. IsUtf8 bytes → tree_for bytes ≡ None) }
+    ensures accepted { ¬ (result ≡ 4) }
+{
     let settings = match Settings::read(alloc, words) {
         Ok(settings) => settings,
         Err(fault) => return refuse_words(fault, faults),

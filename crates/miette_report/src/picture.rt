@@ -1,10 +1,14 @@
 //! The report of one label on a source, and its picture.
 
-ghost use Rattle.std.specs.Prelude.{◌≡◌, IfOk};
+ghost use Rattle.std.specs.Prelude.{◌≡◌, ◌↔◌, ◌⊎◌, false, string_bytes, IsTrue, IfOk, OnOk, OnErr, IfSome};
+ghost use Rattle.std.specs.Io.KnownBytes.{Appends};
 ghost use Rattle.miette.specs.Report.{tree_of};
-ghost use Rattle.miette_report.specs.Drawn.{drawn_label, drawn_tree};
+ghost use Rattle.miette_report.specs.Device.{TakesBeginning};
+ghost use Rattle.miette_report.specs.Drawn.{drawn_label, drawn_tree, IsPicture, IsReadWhole, Pictures};
 
+use crate::device::Device;
 use crate::draw::DrawWords;
+use crate::whole::{ReadError, read_whole, write_whole};
 use miette::diagnostic::MietteDiagnostic;
 use miette::error::RenderError;
 use miette::handlers::GraphicalReportHandler;
@@ -13,6 +17,7 @@ use miette::report::{OwnedSource, Report};
 use miette::source::SourceCode;
 use miette::theme::GraphicalTheme;
 use std::alloc::{AllocError, Global};
+use std::io::{Read, Write};
 
 // How many columns a row may have.
 const WIDTH: usize = 80;
@@ -43,6 +48,24 @@ fn report<D: Diagnostic, S: SourceCode>(
     Ok(Report::built(diagnostic).with_owned_source(source))
 }
 
+// The picture of a report, in plain characters.
+fn draw(alloc: Global, report: &Report) -> Result<String, RenderError>
+    requires reads { IsReadWhole (tree_of ⟦<Box<dyn Diagnostic> as Diagnostic>⟧.meaning ⟦<Box<dyn SourceCode> as SourceCode>⟧.source report.now) }
+    ensures ok { IfOk result (λ text. IsPicture (tree_of ⟦<Box<dyn Diagnostic> as Diagnostic>⟧.meaning ⟦<Box<dyn SourceCode> as SourceCode>⟧.source report.now) (string_bytes text)) }
+    ensures accepted { ¬ (result ≡ Err RenderError.Refused) }
+{
+    let theme = match GraphicalTheme::unicode_nocolor(alloc) {
+        Ok(theme) => theme,
+        Err(_) => return Err(RenderError::Memory),
+    };
+    let mut text = String::new(alloc);
+    let mut handler = GraphicalReportHandler::new_themed(theme).with_width(WIDTH);
+    match handler.render_report(report, &mut text) {
+        Ok(()) => Ok(text),
+        Err(error) => Err(error),
+    }
+}
+
 /// The text that the program `draw` writes for its words and its input.
 ///
 /// # Errors
@@ -51,18 +74,60 @@ pub(crate) fn picture(
     alloc: Global,
     words: &DrawWords<'_>,
     input: Vec<u8>,
-) -> Result<String, RenderError> {
+) -> Result<String, RenderError>
+    ensures ok { IfOk result (λ text. IsPicture (drawn_tree words.now.name.now words.now.offset words.now.length words.now.label.now words.now.message.now input.items) (string_bytes text)) }
+    ensures accepted { ¬ (result ≡ Err RenderError.Refused) }
+{
     let report: Report = match report(alloc, words, input) {
         Ok(report) => report,
         Err(_) => return Err(RenderError::Memory),
     };
-    let theme = match GraphicalTheme::unicode_nocolor(alloc) {
-        Ok(theme) => theme,
-        Err(_) => return Err(RenderError::Memory),
+    draw(alloc, &report)
+}
+
+/// Why `write_picture` ended without its text.
+#[derive(Clone, Copy, Debug, PartialEq, Eq)]
+pub enum DrawError {
+    /// Memory was refused.
+    Memory,
+    /// The reader failed.
+    Read,
+    /// The writer failed. It has taken a beginning of the text.
+    Write,
+}
+
+/// Reads all, and writes the picture of the words' label on it, and nothing else.
+pub fn write_picture<R: Read, W: Write>(
+    alloc: Global,
+    words: &DrawWords<'_>,
+    reader: &mut Device<R>,
+    writer: &mut Device<W>,
+) -> Result<(), DrawError>
+    requires reader_unmarked { reader.old.failed ≡ false }
+    requires writer_unmarked { writer.old.failed ≡ false }
+    // All that the reader had left is the source, and the writer took its picture and nothing else.
+    ensures ok { OnOk result (IfSome (R.remaining reader.old.inner) (λ bytes.
+        Pictures words.now.name.now words.now.offset words.now.length words.now.label.now words.now.message.now bytes
+        (Appends (W.contents writer.old.inner) (W.contents writer.new.inner)))) }
+    ensures read_mark { IsTrue reader.new.failed ↔ (result ≡ Err DrawError.Read) }
+    ensures write_mark { IsTrue writer.new.failed ↔ (result ≡ Err DrawError.Write) }
+    // After a write fault a beginning of the picture was taken.
+    ensures beginning { (result ≡ Err DrawError.Write) → IfSome (R.remaining reader.old.inner) (λ bytes.
+        Pictures words.now.name.now words.now.offset words.now.length words.now.label.now words.now.message.now bytes
+        (TakesBeginning (W.contents writer.old.inner) (W.contents writer.new.inner))) }
+    // After any other error nothing was written.
+    ensures untouched { OnErr result ((result ≡ Err DrawError.Write) ⊎ (writer.new ≡ writer.old)) }
+{
+    let input = match read_whole(alloc, reader) {
+        Ok(input) => input,
+        Err(ReadError::Memory) => return Err(DrawError::Memory),
+        Err(ReadError::Read) => return Err(DrawError::Read),
     };
-    let mut text = String::new(alloc);
-    GraphicalReportHandler::new_themed(theme)
-        .with_width(WIDTH)
-        .render_report(&report, &mut text)?;
-    Ok(text)
+    let Ok(text) = picture(alloc, words, input) else {
+        return Err(DrawError::Memory);
+    };
+    match write_whole(writer, text.as_bytes()) {
+        Ok(()) => Ok(()),
+        Err(_) => Err(DrawError::Write),
+    }
 }

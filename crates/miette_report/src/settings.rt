@@ -1,5 +1,7 @@
 //! What a job is asked for.
 
+ghost use Rattle.std.specs.Prelude.{◌≡◌, OnErr};
+
 use crate::words::WordsFault;
 use std::alloc::Global;
 
@@ -20,7 +22,9 @@ pub struct Settings {
 impl Settings {
     /// The settings that a program's words ask for, without the program's name. Today there is one word, `--json`, which has
     /// to be there and may be repeated; what a later word copies will be taken from `_alloc`.
-    pub fn read(_alloc: Global, words: &[String]) -> Result<Settings, WordsFault> {
+    pub fn read(_alloc: Global, words: &[String]) -> Result<Settings, WordsFault>
+        ensures { OnErr result (result ≡ Err WordsFault.Usage) }
+    {
         if words.is_empty() {
             return Err(WordsFault::Usage);
         }

@@ -7,9 +7,6 @@ use std::env;
 use std::env::Env;
 use std::io::ErrorKind;
 
-#[cfg(test)]
-mod tests;
-
 /// Why the words of a call are refused.
 #[derive(Clone, Copy, Debug, PartialEq, Eq)]
 pub enum WordsFault {

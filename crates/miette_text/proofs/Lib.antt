@@ -20,3 +20,4 @@ pub mod Opened
 pub mod Steps
 pub mod Icons
 mod PieceLemmas
+pub mod Equality

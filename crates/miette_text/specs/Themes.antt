@@ -1,9 +1,12 @@
 -- What a graphical report is drawn with, and the tables of characters and styles that it can be drawn with.
-use Rattle.std.specs.Prelude.{ℕ, List, [], ◌∷◌, true, chars, codes, string_bytes}
+use Rattle.std.specs.Prelude.{ℕ, Bool, List, [], ◌∷◌, Option, Some, None, true, false, ◌&&◌, if◌then◌else◌, not, chars, codes, string_bytes}
+use Rattle.std.specs.Option.{option_map}
+use Rattle.std.specs.Str.{bytes_eq}
 use Rattle.miette_text.specs.Styles.{plain, coloured}
 use Rattle.miette_text.specs.declared.style.Color.TheVariants.{Red, Green, Yellow, Magenta, Cyan, Rgb}
 use Rattle.miette_text.specs.declared.style.Style.{Style}
 use Rattle.miette_text.specs.declared.theme.GraphicalTheme.{GraphicalTheme}
+use Rattle.miette_text.specs.declared.theme.Terminal.{Terminal}
 use Rattle.miette_text.specs.declared.theme.ThemeCharacters.{ThemeCharacters}
 use Rattle.miette_text.specs.declared.theme.ThemeStyles.{ThemeStyles}
 
@@ -179,3 +182,19 @@ no_styles = record {
   linum = plain;
   highlights = plain ∷ [];
 }
+
+-- there is a text, and it isn't `0`
+abbrev pub refuses_colours : Option (List ℕ) → Bool
+refuses_colours None = false
+refuses_colours (Some text) = not (bytes_eq text (codes "0"))
+
+-- ASCII alone where the text may go elsewhere than to a terminal, no colours there and where they are refused
+abbrev pub terminal_theme : Terminal → Theme
+terminal_theme t =
+    if t.stdout_terminal && t.stderr_terminal then
+    record {
+      characters = unicode_characters;
+      styles = if refuses_colours (option_map string_bytes t.no_color) then no_styles else ansi_styles;
+    }
+    else
+    record { characters = ascii_characters; styles = no_styles }

@@ -8,9 +8,6 @@ use crate::style::Style;
 use miette_protocol::source::MietteSpanContents;
 use std::alloc::{AllocError, Global};
 
-#[cfg(test)]
-mod tests;
-
 /// Styles the pieces of a line. A highlighter is restarted before each snippet, with the contents of the snippet's read,
 /// and is then given the text of each line in order, without its terminator, tabs as they are.
 ///

@@ -2,6 +2,7 @@
 #![tactic(auto)]
 
 pub mod highlight;
+pub mod laws;
 pub mod style;
 pub mod theme;
 pub mod wrap;

@@ -2,9 +2,6 @@
 
 ghost use Rattle.std.specs.Prelude.{◌≡◌, Some, true};
 
-#[cfg(test)]
-mod tests;
-
 /// A colour of the foreground: one of the terminal's own, or its red, green and blue parts.
 #[derive(Clone, Copy, Debug, PartialEq, Eq)]
 pub enum Color {

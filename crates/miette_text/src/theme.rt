@@ -3,9 +3,6 @@
 use crate::style::{Color, Style};
 use std::alloc::{AllocError, Global};
 
-#[cfg(test)]
-mod tests;
-
 /// The characters of a drawing, and the icon before a message for each severity.
 #[derive(Debug, PartialEq, Eq, Drop)]
 pub struct ThemeCharacters {
@@ -230,6 +227,27 @@ impl Clone for ThemeStyles {
     }
 }
 
+/// What is known of the terminal that a text may go to, and what its user asks for.
+#[derive(Debug, Drop)]
+pub struct Terminal {
+    /// How many columns it has, where that is known.
+    pub width: Option<usize>,
+    /// Whether it has 16 million colours; nothing where it has no colours.
+    pub color: Option<bool>,
+    /// Whether it draws characters of Unicode.
+    pub unicode: bool,
+    /// Whether it shows links.
+    pub hyperlinks: bool,
+    /// Whether standard output goes to a terminal.
+    pub stdout_terminal: bool,
+    /// Whether standard error goes to a terminal.
+    pub stderr_terminal: bool,
+    /// What the user says of graphics, where they say something; `0` asks for them.
+    pub no_graphics: Option<String>,
+    /// What the user says of colours, where they say something; all but `0` asks for none.
+    pub no_color: Option<String>,
+}
+
 /// How a graphical report looks: its characters and its styles.
 #[derive(Debug, Drop)]
 pub struct GraphicalTheme {
@@ -239,7 +257,7 @@ pub struct GraphicalTheme {
 
 impl GraphicalTheme {
     ghost use Rattle.std.specs.Prelude.{◌≡◌, IfOk};
-    ghost use Rattle.miette_text.specs.Themes.{ansi_styles, ascii_characters, no_styles, theme_of, unicode_characters};
+    ghost use Rattle.miette_text.specs.Themes.{ansi_styles, ascii_characters, no_styles, terminal_theme, theme_of, unicode_characters};
 
     fn new(characters: ThemeCharacters, styles: ThemeStyles) -> Self
         ensures { result ≡ record { characters = characters; styles = styles } }
@@ -285,6 +303,23 @@ impl GraphicalTheme {
         ensures { IfOk result (λ it. theme_of it ≡ record { characters = ascii_characters; styles = no_styles }) }
     {
         Ok(Self::new(ThemeCharacters::ascii(alloc)?, ThemeStyles::none(alloc)?))
+    }
+
+    /// The theme that fits a terminal: `none` where standard output or standard error goes to none; else
+    /// `unicode_nocolor` where its user wants no colours; else `unicode`.
+    ///
+    /// # Errors
+    /// Where no memory is found for the icons and the highlights.
+    pub fn for_terminal(alloc: Global, terminal: &Terminal) -> Result<Self, AllocError>
+        ensures { IfOk result (λ it. theme_of it ≡ terminal_theme terminal.now) }
+    {
+        if !terminal.stdout_terminal || !terminal.stderr_terminal {
+            return Self::none(alloc);
+        }
+        match &terminal.no_color {
+            Some(text) if text.as_str() != "0" => Self::unicode_nocolor(alloc),
+            _ => Self::unicode(alloc),
+        }
     }
 }
 

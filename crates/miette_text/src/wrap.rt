@@ -15,8 +15,6 @@ mod parts;
 mod pieces;
 mod rows;
 mod sequences;
-#[cfg(test)]
-mod tests;
 mod whole;
 mod words;
 
@@ -30,13 +28,13 @@ use std::alloc::{AllocError, Global};
 use unicode_width::UnicodeWidthChar;
 
 /// How words are told apart.
-#[derive(Clone, Copy)]
+#[derive(Clone, Copy, Debug, PartialEq, Eq)]
 pub enum WordSeparator {
     AsciiSpace,
 }
 
 /// Where words may be cut.
-#[derive(Clone, Copy)]
+#[derive(Clone, Copy, Debug, PartialEq, Eq)]
 pub enum WordSplitter {
     NoHyphenation,
     HyphenSplitter,

@@ -64,6 +64,7 @@ fn count_within<D: Diagnostic, S: SourceCode>(report: &Report<D, S>, count: usiz
     }
 }
 
+/// The first of what is left.
 impl<'a, D: Diagnostic, S: SourceCode> Iterator for Chain<'a, D, S> {
     ghost use Rattle.miette_tree.specs.Left.{left_of};
 
@@ -91,6 +92,7 @@ impl<'a, D: Diagnostic, S: SourceCode> Iterator for Chain<'a, D, S> {
     }
 }
 
+/// The last of what is left.
 impl<'a, D: Diagnostic, S: SourceCode> DoubleEndedIterator for Chain<'a, D, S> {
     ghost use Rattle.miette_tree.specs.Left.{left_of};
 
@@ -112,6 +114,7 @@ impl<'a, D: Diagnostic, S: SourceCode> DoubleEndedIterator for Chain<'a, D, S> {
     }
 }
 
+/// How many items are left.
 impl<'a, D: Diagnostic, S: SourceCode> ExactSizeIterator for Chain<'a, D, S> {
     fn len(&self) -> usize {
         match self.at {
@@ -214,30 +217,5 @@ fn first_texts(texts: &[String], most: usize) -> &[String]
         &texts[..most]
     } else {
         texts
-    }
-}
-
-#[cfg(test)]
-mod tests {
-    use super::*;
-    use std::test::Fail;
-
-    #[test]
-    fn from_both_ends(rt: HostRuntime) -> Result<(), Fail> {
-        let alloc = rt.alloc();
-        let mut texts = Vec::new(alloc);
-        texts.push(String::from_str(alloc, "c")?)?;
-        let inner = Report::msg(alloc, "b")?.with_cause_texts(texts);
-        let Ok(report) = Report::msg(alloc, "a")?.with_diagnostic_cause(alloc, inner) else {
-            return Err(Fail::from("no memory"));
-        };
-        let mut chain = report.chain();
-        assert_eq!(rt; chain.len(), 3);
-        assert_eq!(rt; chain.next(), Some("a"));
-        assert_eq!(rt; chain.next_back(), Some("c"));
-        assert_eq!(rt; chain.next(), Some("b"));
-        assert_eq!(rt; chain.next(), None);
-        assert_eq!(rt; chain.next_back(), None);
-        Ok(())
     }
 }

@@ -73,6 +73,7 @@ impl<D: Diagnostic, S: SourceCode> fmt::Display for Report<D, S> {
     }
 }
 
+/// The report of a plain diagnostic, as `Report::new`. Takes no memory.
 impl<D: Diagnostic, S: SourceCode> From<MietteDiagnostic> for Report<D, S> {
     ghost use Rattle.miette_protocol.specs.Diagnostic.{meaning_of};
     ghost use Rattle.miette_tree.specs.Tree.{alone};

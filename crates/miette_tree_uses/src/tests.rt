@@ -129,6 +129,22 @@ fn a_missing_value_is_told(rt: HostRuntime) -> Result<(), Fail> {
 }
 
 #[test]
+fn a_missing_value_in_its_context(rt: HostRuntime) -> Result<(), Fail> {
+    let alloc = rt.alloc();
+    let missing: Option<u32> = None;
+    match missing.context(alloc, "no") {
+        Ok(_) => assert!(rt; false, "nothing was given"),
+        Err(report) => assert_eq!(rt; report.message(), "no"),
+    }
+    let missing: Option<u32> = None;
+    match missing.with_context(alloc, || format!(in alloc; "no {}", 7)) {
+        Ok(_) => assert!(rt; false, "nothing was given"),
+        Err(report) => assert_eq!(rt; report.message(), "no 7"),
+    }
+    Ok(())
+}
+
+#[test]
 fn a_lazy_text_is_made_only_on_the_error_side(rt: HostRuntime) -> Result<(), Fail> {
     let alloc = rt.alloc();
     let mut calls = 0u32;

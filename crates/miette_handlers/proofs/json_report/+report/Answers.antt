@@ -1,6 +1,6 @@
-use Rattle.std.proofs.Common.{rules, arith, subst, ◌<◌, [], ◌∷◌, codes, ap, sym, ◌∙◌, ◌++◌, string_bytes, map}
+use Rattle.std.proofs.Common.{rules, arith, subst, ◌<◌, sym, string_bytes, map}
 use Rattle.std.specs.Option.{option_map}
-use Rattle.miette_tree.specs.Tree.{head, cause_of, causes_of, related_of, source_of, trees, effective}
+use Rattle.miette_tree.specs.Tree.{trees}
 use Rattle.miette_tree.specs.Owned.{shown_source}
 use Rattle.miette_tree.specs.Report.{tree_of}
 use Rattle.miette_handlers.proofs.JsonAnswers.{none_so_far, one_more, all_written, next_of, at_the_end, report_written, RelatedSoFar}

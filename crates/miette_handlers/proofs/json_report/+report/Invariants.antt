@@ -1,4 +1,4 @@
-use Rattle.std.proofs.Common.{◌≡◌, ◌++◌, string_bytes, map, drop}
+use Rattle.std.proofs.Common.{string_bytes, map, drop}
 use Rattle.std.specs.Option.{option_map}
 use Rattle.miette_tree.specs.Tree.{trees}
 use Rattle.miette_tree.specs.Owned.{shown_source}

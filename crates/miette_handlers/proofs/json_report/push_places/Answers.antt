@@ -1,10 +1,8 @@
-use Rattle.std.proofs.Common.{[], ◌∷◌, codes, ap, sym, ◌∙◌, ◌++◌, string_bytes, refl}
+use Rattle.std.proofs.Common.{codes, ap, ◌∙◌, ◌++◌, string_bytes}
 use Rattle.std.specs.Option.{option_map}
 use Rattle.miette_tree.specs.Owned.{shown_source}
-use Rattle.miette_handlers.specs.Json.{items_text}
-use Rattle.miette_handlers.specs.JsonReport.{labels_json}
-use Rattle.miette_handlers.specs.JsonText.{key_text, maybe_text, places_text}
-use Rattle.miette_handlers.proofs.JsonJoined.{step, last_step, append_parts}
+use Rattle.miette_handlers.specs.JsonText.{maybe_text}
+use Rattle.miette_handlers.proofs.JsonJoined.{append_parts}
 use Rattle.miette_handlers.proofs.json_report.push_places.Goals as goal
 
 pub returns : goal.returns

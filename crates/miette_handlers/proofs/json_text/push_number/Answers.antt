@@ -1,5 +1,4 @@
-use Rattle.std.proofs.Common.{ap, sym, ◌∙◌, ◌++◌, string_bytes, rules}
-use Rattle.miette_handlers.specs.Json.{numeral}
+use Rattle.std.proofs.Common.{rules}
 use Rattle.miette_handlers.proofs.JsonSpelled.{numeral_decimal}
 use Rattle.miette_handlers.proofs.json_text.push_number.Goals as goal
 

@@ -1,4 +1,4 @@
-use Rattle.std.proofs.Common.{◌≡◌, ◌++◌, [], sym, ap, ◌∙◌, append_assoc, append-nil}
+use Rattle.std.proofs.Common.{◌++◌, sym, ap, ◌∙◌, append_assoc, append-nil}
 use Rattle.miette_handlers.specs.Printing.{page_text, part_text}
 use Rattle.miette_handlers.proofs.Printed.{nothing, part_step}
 use Rattle.miette_handlers.proofs.printing.push_page.Goals as goal

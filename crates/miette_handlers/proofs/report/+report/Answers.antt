@@ -2,22 +2,30 @@ use Rattle.std.proofs.Common.{◌≡◌, sym, ◌++◌, ◌-◌, length, take, d
 use Rattle.miette_tree.specs.Tree.{head, trees, more_trees, diagnostic, cause_of, related_of, source_of}
 use Rattle.miette_tree.specs.Report.{tree_of}
 use Rattle.miette_tree.specs.Owned.{shown_source}
-use Rattle.miette_handlers.specs.Answered.{AreCauses, AreRelated, IsInner, IsOneRelated, IsSibling, causes_read, related_read, inner_reads, sibling_reads}
+use Rattle.miette_handlers.specs.Answered.{AreCauses, AreRelated, IsInner, IsOneRelated, IsSibling}
+use Rattle.miette_handlers.specs.Printed.{all_read, printed_causes, printed_inner, printed_one, printed_related}
 use Rattle.miette_handlers.specs.Snippets.{drawn_rows}
 use Rattle.miette_handlers.specs.Indents.{narrowed}
 use Rattle.miette_handlers.specs.Parts.{title_text, under_arrow}
 use Rattle.miette_handlers.specs.Text.{are_last, cause_texts, ends_there, inner_over, body_over}
 use Rattle.miette_tree.specs.Tree.{effective}
 use Rattle.miette_handlers.specs.Views.{settings_of}
-use Rattle.miette_handlers.proofs.Steps.{causes_none, none_related, cause_step, inner_step, sibling_step, related_step, first_and_more, later_cause_fails, inner_related_fail, sibling_related_fail, inner_fails, later_related_fails}
+use Rattle.miette_handlers.proofs.Steps.{causes_none, none_related, cause_step, inner_step, sibling_step, related_step, first_and_more, later_cause_fails, one_cause_fails, inner_related_fail, sibling_causes_fail, sibling_related_fail, one_inner_fails, one_related_fails, later_related_fails}
 use Rattle.miette_handlers.proofs.report.+report.Goals as goal
+
+pub causes_text-returns-in_err-text-in-Diagnostic-clause-refused : goal.causes_text-returns-in_err-text-in-Diagnostic-clause-refused
+causes_text-returns-in_err-text-in-Diagnostic-clause-refused g t c = λ h.
+    let inherited = option_map (shown_source g.S.SourceCode.source) c.args.inherited in
+    let cause = tree_of g.D.Diagnostic.meaning g.S.SourceCode.source c.in-Diagnostic.cause.now in
+    let one : all_read (printed_inner c.args.layout.nested (effective (source_of cause) inherited) cause) ≡ false = c.in_err-text-in-Diagnostic.ensures.refused (search rules) in
+    subst (λ x. all_read (printed_causes c.args.layout.nested inherited x) ≡ false) c.in-Diagnostic.ensures.value (one_cause_fails c.args.layout.nested inherited cause one)
 
 pub causes_text-returns-in_err-below-in-Diagnostic-clause-refused : goal.causes_text-returns-in_err-below-in-Diagnostic-clause-refused
 causes_text-returns-in_err-below-in-Diagnostic-clause-refused g t c = λ h.
     let inherited = option_map (shown_source g.S.SourceCode.source) c.args.inherited in
     let cause = tree_of g.D.Diagnostic.meaning g.S.SourceCode.source c.in-Diagnostic.cause.now in
-    let below : causes_read inherited (cause_of cause) ≡ false = c.in_err-below-in-Diagnostic.ensures.refused (search rules) in
-    subst (λ x. causes_read inherited x ≡ false) c.in-Diagnostic.ensures.value (later_cause_fails inherited cause below)
+    let below : all_read (printed_causes c.args.layout.nested inherited (cause_of cause)) ≡ false = c.in_err-below-in-Diagnostic.ensures.refused (search rules) in
+    subst (λ x. all_read (printed_causes c.args.layout.nested inherited x) ≡ false) c.in-Diagnostic.ensures.value (later_cause_fails c.args.layout.nested inherited cause below)
 
 pub causes_text-returns-in-None-clause-ok : goal.causes_text-returns-in-None-clause-ok
 causes_text-returns-in-None-clause-ok g t c =
@@ -51,7 +59,7 @@ inner_text-returns-in_err-related-clause-refused g t c = λ h.
     let source = option_map (shown_source g.S.SourceCode.source) c.args.source in
     let value = tree_of g.D.Diagnostic.meaning g.S.SourceCode.source c.args.report.now in
     let related = c.in_err-related.ensures.refused (search rules) in
-    inner_related_fail source value (subst (λ r. related_read source r ≡ false) c.related.ensures related)
+    inner_related_fail c.args.layout.nested source value (subst (λ r. all_read (printed_related c.args.layout.nested source r) ≡ false) c.related.ensures related)
 
 pub inner_text-returns-clause-ok : goal.inner_text-returns-clause-ok
 inner_text-returns-clause-ok g t c =
@@ -88,8 +96,23 @@ one_related-returns-in_err-inner-clause-refused g t c = λ h.
     let inherited = option_map (shown_source g.S.SourceCode.source) c.args.inherited in
     let value = tree_of g.D.Diagnostic.meaning g.S.SourceCode.source c.args.report.now in
     let own = option_map (shown_source g.S.SourceCode.source) c.own_or-source.result in
-    let inner : inner_reads own value ≡ false = c.in_err-inner.ensures.refused (search rules) in
-    inner_fails (effective (source_of value) inherited) value (subst (λ o. inner_reads o value ≡ false) c.own_or-source.ensures inner)
+    let narrow : c.in_ok-narrow.narrow.nested ≡ c.args.layout.nested = ap (λ s. s.nested) c.in_ok-narrow.ensures in
+    let inner : all_read (printed_inner c.in_ok-narrow.narrow.nested own value) ≡ false = c.in_err-inner.ensures.refused (search rules) in
+    one_inner_fails c.args.layout.nested (effective (source_of value) inherited) value (search rules)
+    (subst (λ o. all_read (printed_inner c.args.layout.nested o value) ≡ false) c.own_or-source.ensures
+    (subst (λ n. all_read (printed_inner n own value) ≡ false) narrow inner))
+
+pub related_text-returns-in_err-text-in-len1-up-clause-refused : goal.related_text-returns-in_err-text-in-len1-up-clause-refused
+related_text-returns-in_err-text-in-len1-up-clause-refused g t c = λ h.
+    let inherited = option_map (shown_source g.S.SourceCode.source) c.args.inherited in
+    let value = tree_of g.D.Diagnostic.meaning g.S.SourceCode.source in
+    let rs = c.args.reports.now in
+    let more = take (length rs - 1) (drop 1 rs) in
+    let item = c.report-item.result in
+    let one : all_read (printed_one c.args.layout.nested (effective (source_of (value item)) inherited) (value item)) ≡ false = c.in_err-text-in-len1-up.ensures.refused (search rules) in
+    subst (λ ts. all_read (printed_related c.args.layout.nested inherited ts) ≡ false) (first_and_more value rs item c.in-len1-up.len_at_least)
+    (one_related_fails c.args.layout.nested inherited (value (get_or rs 0 item)) (trees (map value more))
+    (subst (λ r. all_read (printed_one c.args.layout.nested (effective (source_of (value r)) inherited) (value r)) ≡ false) c.report-item.is one))
 
 pub related_text-returns-in_err-below-in-len1-up-clause-refused : goal.related_text-returns-in_err-below-in-len1-up-clause-refused
 related_text-returns-in_err-below-in-len1-up-clause-refused g t c = λ h.
@@ -97,9 +120,9 @@ related_text-returns-in_err-below-in-len1-up-clause-refused g t c = λ h.
     let value = tree_of g.D.Diagnostic.meaning g.S.SourceCode.source in
     let rs = c.args.reports.now in
     let more = take (length rs - 1) (drop 1 rs) in
-    let below : related_read inherited (trees (map value more)) ≡ false = c.in_err-below-in-len1-up.ensures.refused (search rules) in
-    subst (λ ts. related_read inherited ts ≡ false) (first_and_more value rs c.report-item.result c.in-len1-up.len_at_least)
-    (later_related_fails inherited (value (get_or rs 0 c.report-item.result)) (trees (map value more)) below)
+    let below : all_read (printed_related c.args.layout.nested inherited (trees (map value more))) ≡ false = c.in_err-below-in-len1-up.ensures.refused (search rules) in
+    subst (λ ts. all_read (printed_related c.args.layout.nested inherited ts) ≡ false) (first_and_more value rs c.report-item.result c.in-len1-up.len_at_least)
+    (later_related_fails c.args.layout.nested inherited (value (get_or rs 0 c.report-item.result)) (trees (map value more)) below)
 
 pub related_text-returns-in-empty-clause-ok : goal.related_text-returns-in-empty-clause-ok
 related_text-returns-in-empty-clause-ok g t c =
@@ -125,12 +148,17 @@ related_text-returns-in_ok-extend_from_slice-in-len1-up-clause-ok g t c =
     (subst (λ x. AreRelated drawn_rows s outer inherited (more_trees (value item) (trees (map value more))) x) (sym both)
     (related_step drawn_rows s outer inherited (value item) (trees (map value more)) one later first c.in_ok-below-in-len1-up.ensures.ok))
 
+pub sibling_text-returns-in_err-causes-clause-refused : goal.sibling_text-returns-in_err-causes-clause-refused
+sibling_text-returns-in_err-causes-clause-refused g t c = λ h.
+    sibling_causes_fail c.args.layout.nested (option_map (shown_source g.S.SourceCode.source) c.args.source) (tree_of g.D.Diagnostic.meaning g.S.SourceCode.source c.args.report.now)
+    (c.in_err-causes.ensures.refused (search rules))
+
 pub sibling_text-returns-in_err-related-clause-refused : goal.sibling_text-returns-in_err-related-clause-refused
 sibling_text-returns-in_err-related-clause-refused g t c = λ h.
     let source = option_map (shown_source g.S.SourceCode.source) c.args.source in
     let value = tree_of g.D.Diagnostic.meaning g.S.SourceCode.source c.args.report.now in
     let related = c.in_err-related.ensures.refused (search rules) in
-    sibling_related_fail source value (subst (λ r. related_read source r ≡ false) c.related.ensures related)
+    sibling_related_fail c.args.layout.nested source value (subst (λ r. all_read (printed_related c.args.layout.nested source r) ≡ false) c.related.ensures related)
 
 pub sibling_text-returns-clause-ok : goal.sibling_text-returns-clause-ok
 sibling_text-returns-clause-ok g t c =

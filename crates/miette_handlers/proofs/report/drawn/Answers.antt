@@ -1,4 +1,4 @@
-use Rattle.std.proofs.Common.{◌≡◌, ◌++◌, ap, ◌∙◌, subst}
+use Rattle.std.proofs.Common.{◌++◌, ap, ◌∙◌, subst}
 use Rattle.miette_tree.specs.Owned.{shown_source}
 use Rattle.miette_layout.specs.Drawn.{RefusesWith}
 use Rattle.miette_handlers.specs.Snippets.{layout_settings}

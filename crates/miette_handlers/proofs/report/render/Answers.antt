@@ -1,4 +1,4 @@
-use Rattle.std.proofs.Common.{◌≡◌, ◌++◌, ap, ◌∙◌, option_map, encode_utf8_all, string_bytes}
+use Rattle.std.proofs.Common.{◌≡◌, ◌++◌, ap, ◌∙◌, encode_utf8_all, string_bytes}
 use Rattle.miette_tree.specs.Report.{tree_of}
 use Rattle.miette_handlers.specs.Answers.{unlisted}
 use Rattle.miette_handlers.specs.Snippets.{drawn_rows}

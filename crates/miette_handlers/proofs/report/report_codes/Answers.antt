@@ -2,20 +2,26 @@ use Rattle.std.proofs.Common.{◌≡◌, sym, ap, ap₂, ◌∙◌, subst, map, 
 use Rattle.miette_tree.specs.Tree.{head, trees, source_of, related_of}
 use Rattle.miette_tree.specs.Report.{tree_of}
 use Rattle.miette_tree.specs.Owned.{shown_source}
-use Rattle.miette_handlers.specs.Answered.{AreRelated, IsDrawn, IsReport, related_read}
+use Rattle.miette_handlers.specs.Answered.{AreRelated, IsDrawn, IsReport}
+use Rattle.miette_handlers.specs.Printed.{all_read, printed_related}
 use Rattle.miette_handlers.specs.Snippets.{drawn_rows}
 use Rattle.miette_handlers.specs.Text.{report_over}
 use Rattle.miette_handlers.specs.Views.{settings_of}
-use Rattle.miette_handlers.proofs.Steps.{root_step, root_related_fail}
+use Rattle.miette_handlers.proofs.Steps.{root_step, root_causes_fail, root_related_fail}
 use Rattle.miette_handlers.proofs.report.report_codes.Goals as goal
+
+pub returns-in_err-causes-clause-refused : goal.returns-in_err-causes-clause-refused
+returns-in_err-causes-clause-refused g c = λ h.
+    root_causes_fail (settings_of c.args.layout) (tree_of g.D.Diagnostic.meaning g.S.SourceCode.source c.args.report.now) (c.in_err-causes.ensures.refused (search rules))
 
 pub returns-in_err-related-clause-refused : goal.returns-in_err-related-clause-refused
 returns-in_err-related-clause-refused g c = λ h.
     let value = tree_of g.D.Diagnostic.meaning g.S.SourceCode.source c.args.report.now in
     let source = option_map (shown_source g.S.SourceCode.source) c.source_code-source.result in
-    let related : related_read source (trees (map (tree_of g.D.Diagnostic.meaning g.S.SourceCode.source) c.related.result.now)) ≡ false = c.in_err-related.ensures.refused (search rules) in
-    root_related_fail c.args.layout.chain value
-    (subst (λ o. related_read o (related_of value) ≡ false) c.source_code-source.ensures (subst (λ r. related_read source r ≡ false) c.related.ensures related))
+    let related : all_read (printed_related c.args.layout.nested source (trees (map (tree_of g.D.Diagnostic.meaning g.S.SourceCode.source) c.related.result.now))) ≡ false = c.in_err-related.ensures.refused (search rules) in
+    root_related_fail (settings_of c.args.layout) value
+    (subst (λ o. all_read (printed_related c.args.layout.nested o (related_of value)) ≡ false) c.source_code-source.ensures
+    (subst (λ r. all_read (printed_related c.args.layout.nested source r) ≡ false) c.related.ensures related))
 
 pub returns-clause-ok : goal.returns-clause-ok
 returns-clause-ok g c =

@@ -1,4 +1,4 @@
-use Rattle.std.proofs.Common.{◌≡◌, sym, subst, option_map, Option}
+use Rattle.std.proofs.Common.{sym, subst, option_map}
 use Rattle.miette_tree.specs.Owned.{shown_source}
 use Rattle.miette_tree.specs.Report.{tree_of}
 use Rattle.miette_tree.specs.Tree.{head}

@@ -1,0 +1,102 @@
+-- Steps over the characters of a text, and the column that they come to.
+use Rattle.std.proofs.Common.{ℕ, ◌+◌, ◌-◌, ◌<◌, ◌≤◌, ◌≡◌, true, false, List, [], ◌∷◌, ◌++◌, refl, sym, ap, ◌∙◌, append_assoc, append-nil, arith, eqb}
+use Rattle.std.specs.Prelude.{IsUtf8, chars, encode_utf8, encode_utf8_all}
+use Rattle.std.proofs.lemmas.Str.{chars_from_encodes, encodes-append, encodes-chars, chars-nil}
+use Rattle.std.proofs.lemmas.Bool.{ne_eqb, le-ltb, lt-ltb}
+use Rattle.unicode_width.specs.Width.{str_width}
+use Rattle.miette_layout.specs.Cells.{Character, characters}
+use Rattle.miette_layout.specs.Given.{width_of}
+use Rattle.miette_layout.proofs.Stepping.{IsFirst, made, characters_step, characters_end}
+use Rattle.miette_narrated.specs.Columns.{begun, is_boundary, widths, column}
+use Rattle.miette_narrated.specs.Lines.{decoded_text}
+
+pub decoded_more : (old new rest left : List ℕ) (code size : ℕ) (goal : List ℕ) → IsFirst rest left code size → new ≡ old ++ encode_utf8 code →
+    old ++ decoded_text (characters rest) ≡ goal → new ++ decoded_text (characters left) ≡ goal
+decoded_more old new rest left code size goal first e h =
+    ap (λ n. n ++ decoded_text (characters left)) e ∙ append_assoc old (encode_utf8 code) (decoded_text (characters left))
+    ∙ ap (λ cs. old ++ decoded_text cs) (sym (characters_step rest left code size first)) ∙ h
+
+pub decoded_all : (out rest goal : List ℕ) → rest ≡ [] → out ++ decoded_text (characters rest) ≡ goal → out ≡ goal
+decoded_all out rest goal e h = sym (append-nil out) ∙ ap (λ cs. out ++ decoded_text cs) (sym (characters_end rest e)) ∙ h
+
+-- ---- the column
+
+-- some characters are over, and so many bytes of the rest are left
+pub record IsOver (text : List ℕ) (bytes : ℕ) (over : List ℕ) (sum : ℕ) (rest : List ℕ) (left : ℕ) : Type 0 where
+  pub all : chars over ++ begun left (characters rest) ≡ begun bytes (characters text)
+  pub boundary : is_boundary left (characters rest) ≡ is_boundary bytes (characters text)
+  pub width : sum + widths (begun left (characters rest)) ≡ widths (begun bytes (characters text))
+
+pub none_over : (text : List ℕ) (bytes : ℕ) (over : List ℕ) → over ≡ [] → IsOver text bytes over 0 text bytes
+none_over text bytes over e = record { all = ap (λ o. chars o ++ begun bytes (characters text)) e ∙ ap (λ o. o ++ begun bytes (characters text)) chars-nil; boundary = refl; width = omega arith }
+
+chars_pushed : (old new : List ℕ) (code : ℕ) → IsUtf8 old → IsUtf8 new → new ≡ old ++ encode_utf8 code → chars new ≡ chars old ++ code ∷ []
+chars_pushed old new code u v e =
+    sym (chars_from_encodes (chars old ++ code ∷ []) new v
+    (encodes-append (chars old) (code ∷ []) ∙ ap (λ o. o ++ encode_utf8_all (code ∷ [])) (encodes-chars old u) ∙ ap (λ o. old ++ o) (append-nil (encode_utf8 code)) ∙ sym e))
+
+nonzero : (left : ℕ) → 0 < left → eqb left 0 ≡ false
+nonzero left h = ne_eqb left 0 (λ e. omega arith)
+
+pub begun_more : (left code size : ℕ) (cs : List Character) → 0 < left → begun left (made code size ∷ cs) ≡ code ∷ begun (left - size) cs
+begun_more left code size cs h = rw (nonzero left h) refl
+
+boundary_more : (left code size : ℕ) (cs : List Character) → 0 < left → size ≤ left → is_boundary left (made code size ∷ cs) ≡ is_boundary (left - size) cs
+boundary_more left code size cs h k = rw (nonzero left h, le-ltb left size k) refl
+
+boundary_inside : (left code size : ℕ) (cs : List Character) → 0 < left → left < size → is_boundary left (made code size ∷ cs) ≡ false
+boundary_inside left code size cs h k = rw (nonzero left h, lt-ltb left size k) refl
+
+pub begun_zero : (cs : List Character) → begun 0 cs ≡ []
+begun_zero [] = refl
+begun_zero (c ∷ cs) = refl
+
+boundary_zero : (cs : List Character) → is_boundary 0 cs ≡ true
+boundary_zero [] = refl
+boundary_zero (c ∷ cs) = refl
+
+pub one_over : (text : List ℕ) (bytes : ℕ) (over new : List ℕ) (sum wider : ℕ) (rest after : List ℕ) (left code size : ℕ) → IsOver text bytes over sum rest left → IsFirst rest after code size →
+    IsUtf8 over → IsUtf8 new → new ≡ over ++ encode_utf8 code → wider ≡ sum + width_of code → 0 < left → size ≤ left → IsOver text bytes new wider after (left - size)
+one_over text bytes over new sum wider rest after left code size h first u v e w some fits =
+    let cs = characters after in
+    let step = characters_step rest after code size first in
+    let more : begun left (characters rest) ≡ code ∷ begun (left - size) cs = ap (begun left) step ∙ begun_more left code size cs some in
+    let sums : widths (begun left (characters rest)) ≡ width_of code + widths (begun (left - size) cs) = ap widths more in
+    record {
+      all = ap (λ o. o ++ begun (left - size) cs) (chars_pushed over new code u v e) ∙ append_assoc (chars over) (code ∷ []) (begun (left - size) cs) ∙ ap (λ o. chars over ++ o) (sym more) ∙ h.all;
+      boundary = sym (boundary_more left code size cs some fits) ∙ ap (is_boundary left) (sym step) ∙ h.boundary;
+      width = omega (arith, w, sums, h.width);
+    }
+
+pub at_boundary : (text : List ℕ) (bytes : ℕ) → is_boundary bytes (characters text) ≡ true → column bytes (characters text) ≡ str_width false (begun bytes (characters text))
+at_boundary text bytes e = rw e refl
+
+pub off_boundary : (text : List ℕ) (bytes : ℕ) → is_boundary bytes (characters text) ≡ false → column bytes (characters text) ≡ widths (begun bytes (characters text))
+off_boundary text bytes e = rw e refl
+
+pub over_at_zero : (text : List ℕ) (bytes : ℕ) (over : List ℕ) (sum : ℕ) (rest : List ℕ) (left result : ℕ) → IsOver text bytes over sum rest left → left ≡ 0 → result ≡ str_width false (chars over) →
+    result ≡ column bytes (characters text)
+over_at_zero text bytes over sum rest left result h zero r =
+    let none : begun left (characters rest) ≡ [] = ap (λ k. begun k (characters rest)) zero ∙ begun_zero (characters rest) in
+    let here : is_boundary bytes (characters text) ≡ true = sym h.boundary ∙ ap (λ k. is_boundary k (characters rest)) zero ∙ boundary_zero (characters rest) in
+    r ∙ ap (str_width false) (sym (append-nil (chars over)) ∙ ap (λ o. chars over ++ o) (sym none) ∙ h.all) ∙ sym (at_boundary text bytes here)
+
+pub over_past_end : (text : List ℕ) (bytes : ℕ) (over : List ℕ) (sum : ℕ) (rest : List ℕ) (left : ℕ) → IsOver text bytes over sum rest left → 0 < left → rest ≡ [] → sum ≡ column bytes (characters text)
+over_past_end text bytes over sum rest left h some e =
+    let end = characters_end rest e in
+    let none : widths (begun left (characters rest)) ≡ 0 = ap (λ cs. widths (begun left cs)) end in
+    let here : is_boundary bytes (characters text) ≡ false = sym h.boundary ∙ ap (is_boundary left) end ∙ nonzero left some in
+    let sums : sum ≡ widths (begun bytes (characters text)) = omega (arith, none, h.width) in
+    sums ∙ sym (off_boundary text bytes here)
+
+pub over_inside : (text : List ℕ) (bytes : ℕ) (over : List ℕ) (sum wider : ℕ) (rest after : List ℕ) (left code size : ℕ) → IsOver text bytes over sum rest left → IsFirst rest after code size →
+    wider ≡ sum + width_of code → 0 < left → left < size → wider ≡ column bytes (characters text)
+over_inside text bytes over sum wider rest after left code size h first w some inside =
+    let cs = characters after in
+    let step = characters_step rest after code size first in
+    let zero : left - size ≡ 0 = omega arith in
+    let more : begun left (characters rest) ≡ code ∷ [] = ap (begun left) step ∙ begun_more left code size cs some ∙ ap (λ k. code ∷ begun k cs) zero ∙ ap (λ o. code ∷ o) (begun_zero cs) in
+    let here : is_boundary bytes (characters text) ≡ false = sym h.boundary ∙ ap (is_boundary left) step ∙ boundary_inside left code size cs some inside in
+    let one : widths (begun left (characters rest)) ≡ width_of code + 0 = ap widths more in
+    let sums : wider ≡ widths (begun bytes (characters text)) = omega (arith, w, one, h.width) in
+    sums ∙ sym (off_boundary text bytes here)

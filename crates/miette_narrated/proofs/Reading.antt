@@ -1,0 +1,188 @@
+-- Labels that were read, as they are told; groups of them; and what a refused one says.
+use Rattle.std.proofs.Common.{ℕ, suc, ◌+◌, ◌<◌, ◌≤◌, ◌≡◌, Bool, true, false, leb, min, max, ◌&&◌, ◌||◌, List, [], ◌∷◌, ◌++◌, map, length, drop, get_or, All, Option, Some, None, refl, sym, ap, ap₂, subst, ◌∙◌, append_assoc, append-nil, arith, add-one}
+use Rattle.std.specs.Prelude.{slice_get, unwrap_or}
+use Rattle.std.specs.Option.{option_map_or}
+use Rattle.std.specs.List.{list_all}
+use Rattle.std.proofs.Math.Seq.{drop-cons}
+use Rattle.std.proofs.lemmas.Bool.{leb-true, leb-false, and_parts}
+use Rattle.miette_protocol.specs.Meaning.{Label}
+use Rattle.miette_protocol.specs.Reading.{Span, Source, IsAccepted, contents_of}
+use Rattle.miette_layout.specs.declared.sweep.Placed.{Placed}
+use Rattle.miette_layout.specs.declared.grouping.Group.{Group}
+use Rattle.miette_layout.specs.declared.reading.ReadLabel.{ReadLabel}
+use Rattle.miette_layout.specs.declared.reading.Refusal.{Refusal}
+use Rattle.miette_layout.specs.declared.reading.ReadLabels.{ReadLabels}
+use Rattle.miette_layout.specs.declared.reading.ReadLabels.TheVariants as reads
+use Rattle.miette_layout.specs.Answers.{NoneFails}
+use Rattle.miette_layout.specs.Contexts.{contents, end_of_span, is_accepted}
+use Rattle.miette_layout.specs.Given.{label_at}
+use Rattle.miette_layout.specs.Groups.{put_label, in_order, spans_of, refusal, AreAccepted, groups_answered}
+use Rattle.miette_layout.specs.Groups as groups
+use Rattle.miette_layout.specs.Placing.{placed_one, placed_from}
+use Rattle.miette_layout.specs.Read.{IsRead, AreRead, IsLent, AreGroups}
+use Rattle.miette_narrated.specs.Labels.{Told, told}
+use Rattle.miette_narrated.specs.Made.{told_of, all_told}
+use Rattle.miette_narrated.specs.Snippets.{snippet, snippets_of}
+use Rattle.miette_narrated.specs.Answered.{AppendsSnippets, accepts, is_nil}
+use Rattle.miette_narrated.specs.Sweeping.{BeginsFrom, AreOrdered}
+use Rattle.miette_narrated.proofs.Sweeps.{by_cases}
+use Rattle.miette_narrated.proofs.Lining.{none_left}
+
+-- where a read's data end cuts a label as the source's end does
+abbrev pub Reaches : Type 0
+Reaches = (source : Source) → (span : Span) → (before after : ℕ) → IsAccepted source.bytes span →
+    min (span.offset + span.len) (length source.bytes)
+    ≡ min (span.offset + span.len) ((contents_of source span before after).span.offset + (contents_of source span before after).span.len)
+
+abbrev pub label_of_read : List Label → ReadLabel → Label
+label_of_read labels r = label_at labels r.index
+
+text_there : (o : Option Label) → option_map_or (λ label. label.text) o None ≡ (unwrap_or o (record { text = None; span = record { offset = 0; len = 0 }; primary = false })).text
+text_there None = refl
+text_there (Some label) = refl
+
+told_one : (context : ℕ) (source : Source) (labels : List Label) (i : ℕ) (r : ReadLabel) → Reaches → IsRead context source labels r →
+    told_of labels (placed_one [] labels i r) ≡ told (length source.bytes) (label_of_read labels r)
+told_one context source labels i r law h =
+    let l = label_of_read labels r in
+    let n = length source.bytes in
+    let ends : end_of_span r.contents.span ≡ end_of_span (contents context source r.span).span = ap (λ c. end_of_span c.span) h.contents_are in
+    let cut : min (end_of_span r.span) (end_of_span r.contents.span) ≡ min (end_of_span r.span) n =
+    ap (min (end_of_span r.span)) ends ∙ sym (law source r.span context context h.accepted) in
+    ap₂ (λ e t. the r.span.offset (max r.span.offset e) t) cut (text_there (slice_get labels r.index))
+    ∙ ap (λ s. the s.offset (max s.offset (min (end_of_span s) n)) l.text) h.span where
+      the : ℕ → ℕ → Option (List ℕ) → Told
+      the a b t = record { start = a; after = b; text = t }
+
+All-tail : {X : Type 0} (P : X → Type 0) (x : X) (xs : List X) → All P (x ∷ xs) → All P xs
+All-tail P x xs h = λ k d lt. h (suc k) d (omega arith)
+
+All-head : {X : Type 0} (P : X → Type 0) (x : X) (xs : List X) → All P (x ∷ xs) → P x
+All-head P x xs h = h 0 x (omega arith)
+
+told_reads : (context : ℕ) (source : Source) (labels : List Label) (i : ℕ) (rs : List ReadLabel) → Reaches → All (IsRead context source labels) rs →
+    all_told labels (placed_from [] labels i rs) ≡ map (told (length source.bytes)) (map (label_of_read labels) rs)
+told_reads context source labels i [] law h = refl
+told_reads context source labels i (r ∷ rs) law h =
+    ap₂ (λ x xs. x ∷ xs) (told_one context source labels i r law (All-head (IsRead context source labels) r rs h))
+    (told_reads context source labels (i + 1) rs law (All-tail (IsRead context source labels) r rs h))
+
+pub told_in_order : (context : ℕ) (source : Source) (labels : List Label) (rs : List ReadLabel) (ps : List Placed) → Reaches → All (IsRead context source labels) rs → map (label_of_read labels) rs ≡ in_order labels →
+    ps ≡ placed_from [] labels 0 rs → all_told labels ps ≡ map (told (length source.bytes)) (in_order labels)
+told_in_order context source labels rs ps law h order e =
+    ap (all_told labels) e ∙ told_reads context source labels 0 rs law h ∙ ap (map (told (length source.bytes))) order
+
+-- ---- their order
+
+abbrev Rises : ℕ → List Label → Type 0
+Rises from [] = Unit {0}
+Rises from (l ∷ ls) = (from ≤ l.span.offset) × Rises l.span.offset ls
+
+put_rises : (from : ℕ) (l : Label) (ls : List Label) → from ≤ l.span.offset → Rises from ls → Rises from (put_label l ls)
+put_rises from l [] le h = (le, tt)
+put_rises from l (m ∷ ls) le h =
+    by_cases {C = Rises from (put_label l (m ∷ ls))} (leb l.span.offset m.span.offset)
+    (λ t. rw t (le, (leb-true l.span.offset m.span.offset t, h.1)))
+    (λ f. rw f (h.0, put_rises m.span.offset l ls (omega (arith, leb-false l.span.offset m.span.offset f)) h.1))
+
+order_rises : (ls : List Label) → Rises 0 (in_order ls)
+order_rises [] = tt
+order_rises (l ∷ ls) = put_rises 0 l (in_order ls) (omega arith) (order_rises ls)
+
+ordered_reads : (context : ℕ) (source : Source) (labels : List Label) (i from : ℕ) (rs : List ReadLabel) → All (IsRead context source labels) rs → Rises from (map (label_of_read labels) rs) →
+    AreOrdered (placed_from [] labels i rs) × BeginsFrom from (placed_from [] labels i rs)
+ordered_reads context source labels i from [] h up = (tt, tt)
+ordered_reads context source labels i from (r ∷ rs) h up =
+    let start : r.span.offset ≡ (label_of_read labels r).span.offset = ap (λ s. s.offset) (All-head (IsRead context source labels) r rs h).span in
+    let more = ordered_reads context source labels (i + 1) r.span.offset rs (All-tail (IsRead context source labels) r rs h)
+    (subst (λ k. Rises k (map (label_of_read labels) rs)) (sym start) up.1) in
+    ((omega arith, more.1, more.0), omega (arith, start, up.0))
+
+pub placed_ordered : (context : ℕ) (source : Source) (labels : List Label) (rs : List ReadLabel) (ps : List Placed) → All (IsRead context source labels) rs → map (label_of_read labels) rs ≡ in_order labels →
+    ps ≡ placed_from [] labels 0 rs → AreOrdered ps
+placed_ordered context source labels rs ps h order e =
+    subst (λ (xs : List Placed). AreOrdered xs) (sym e)
+    (ordered_reads context source labels 0 0 rs h (subst (λ (ls : List Label). Rises 0 ls) (sym order) (order_rises labels))).0
+
+-- ---- acceptance
+
+accepted_reads : (context : ℕ) (source : Source) (labels : List Label) (rs : List ReadLabel) → All (IsRead context source labels) rs → AreAccepted source.bytes (map (label_of_read labels) rs)
+accepted_reads context source labels [] h = tt
+accepted_reads context source labels (r ∷ rs) h =
+    let own = All-head (IsRead context source labels) r rs h in
+    (subst (λ (s : Span). IsAccepted source.bytes s) own.span own.accepted, accepted_reads context source labels rs (All-tail (IsRead context source labels) r rs h))
+
+-- ---- groups, one after the other
+
+pub groups_more : (context : ℕ) (source : Source) (labels : List Told) (spans : List Span) (gs : List Group) (i : ℕ) (d : Group) (out new goal : List ℕ) → AreGroups context source spans gs → i < length gs → d ≡ get_or gs i d →
+    new ≡ out ++ snippet labels d.contents → out ++ snippets_of context source labels (map (λ g. g.span) (drop i gs)) ≡ goal →
+    new ++ snippets_of context source labels (map (λ g. g.span) (drop (i + 1) gs)) ≡ goal
+groups_more context source labels spans gs i d out new goal are lt is e h =
+    let later = snippets_of context source labels (map (λ g. g.span) (drop (suc i) gs)) in
+    let lent : d.contents ≡ contents context source d.span = (subst (λ (g : Group). IsLent context source g.span g.contents) (sym is) (are.lent i d lt)).is in
+    let left : drop i gs ≡ d ∷ drop (suc i) gs = drop-cons gs i d lt ∙ ap (λ x. x ∷ drop (suc i) gs) (sym is) in
+    ap (λ k. new ++ snippets_of context source labels (map (λ g. g.span) (drop k gs))) (add-one i)
+    ∙ ap (λ o. o ++ later) (e ∙ ap (λ c. out ++ snippet labels c) lent)
+    ∙ append_assoc out (snippet labels (contents context source d.span)) later
+    ∙ ap (λ xs. out ++ snippets_of context source labels (map (λ g. g.span) xs)) (sym left) ∙ h
+
+pub groups_end : (context : ℕ) (source : Source) (labels : List Told) (gs : List Group) (i : ℕ) (out goal : List ℕ) → length gs ≤ i →
+    out ++ snippets_of context source labels (map (λ g. g.span) (drop i gs)) ≡ goal → out ≡ goal
+groups_end context source labels gs i out goal le h =
+    sym (append-nil out) ∙ ap (λ xs. out ++ snippets_of context source labels (map (λ g. g.span) xs)) (sym (none_left gs i le)) ∙ h
+
+spans_read : (context : ℕ) (source : Source) (labels : List Label) (rs : List ReadLabel) → All (IsRead context source labels) rs → map (λ r. r.span) rs ≡ spans_of (map (label_of_read labels) rs)
+spans_read context source labels [] h = refl
+spans_read context source labels (r ∷ rs) h =
+    ap₂ (λ x xs. x ∷ xs) (All-head (IsRead context source labels) r rs h).span (spans_read context source labels rs (All-tail (IsRead context source labels) r rs h))
+
+pub snippets_told : (context : ℕ) (source : Source) (labels : List Label) (rs : List ReadLabel) (ps : List Placed) (gs : List Group) (old new : List ℕ) → Reaches → All (IsRead context source labels) rs →
+    map (label_of_read labels) rs ≡ in_order labels → ps ≡ placed_from [] labels 0 rs → AreGroups context source (map (λ r. r.span) rs) gs →
+    new ≡ old ++ snippets_of context source (all_told labels ps) (map (λ g. g.span) gs) → AppendsSnippets context (Some source) labels old new
+snippets_told context source labels rs ps gs old new law h order e are text =
+    let fails = are.fails in
+    let spans : map (λ g. g.span) gs ≡ groups_answered context source fails (spans_of (in_order labels)) =
+    are.are ∙ ap (groups_answered context source fails) (spans_read context source labels rs h ∙ ap spans_of order) in
+    record {
+      fails = fails;
+      possible = record { accepted = subst (λ (ls : List Label). AreAccepted source.bytes ls) order (accepted_reads context source labels rs h); always = are.always };
+      appended = text ∙ ap₂ (λ ts ss. old ++ snippets_of context source ts ss) (told_in_order context source labels rs ps law h order e) spans;
+    }
+
+-- ---- a refused label
+
+accepts_all : (bytes : List ℕ) (fails : List Bool) (ls : List Label) → NoneFails fails → list_all (λ l. is_accepted bytes l.span) ls ≡ true → refusal bytes fails ls ≡ None
+accepts_all bytes fails [] none all = refl
+accepts_all bytes [] (l ∷ ls) none all =
+    let p = and_parts (is_accepted bytes l.span) (list_all (λ m. is_accepted bytes m.span) ls) all in
+    rw p.0 (accepts_all bytes [] ls tt p.1)
+accepts_all bytes (f ∷ fails) (l ∷ ls) none all =
+    let p = and_parts (is_accepted bytes l.span) (list_all (λ m. is_accepted bytes m.span) ls) all in
+    rw (none.0, p.0) (accepts_all bytes fails ls none.1 p.1)
+
+never_both : {X : Type 0} (o : Option X) (x : X) → o ≡ None → o ≡ Some x → ⊥
+never_both o x e f = cc
+
+not_both : (b c : Bool) → (b ≡ true → c ≡ true → ⊥) → (b && c) ≡ false
+not_both true true h = absurd (h refl refl)
+not_both true false h = refl
+not_both false c h = refl
+
+refused_nil : (bytes : List ℕ) (fails : List Bool) (r : groups.Refusal) (ls : List Label) → refusal bytes fails (in_order ls) ≡ Some r → is_nil ls ≡ true → ⊥
+refused_nil bytes fails r [] e n = cc
+refused_nil bytes fails r (l ∷ ls) e n = cc
+
+reads_or_nil : (b c : Bool) → (b || c) ≡ true → (b ≡ true → ⊥) → c ≡ true
+reads_or_nil true c e f = absurd (f refl)
+reads_or_nil false c e f = e
+
+refused_label : (context : ℕ) (source : Source) (labels : List Label) (index : ℕ) (reason : Refusal) → AreRead context source labels (in_order labels) (reads.Refused index reason) → accepts (Some source) labels ≡ false
+refused_label context source labels index reason h =
+    not_both (list_all (λ l. is_accepted source.bytes l.span) (in_order labels)) (is_nil labels || source.always_reads)
+    (λ all reads. never_both _ _ (accepts_all source.bytes h.0 (in_order labels) (h.1 (reads_or_nil (is_nil labels) source.always_reads reads (refused_nil source.bytes h.0 _ labels h.2))) all) h.2)
+
+pub refused_read : (context : ℕ) (source : Source) (labels order : List Label) (r : ReadLabels) (index : ℕ) (reason : Refusal) → AreRead context source labels order r → r ≡ reads.Refused index reason → order ≡ in_order labels →
+    accepts (Some source) labels ≡ false
+refused_read context source labels order r index reason h is sorted =
+    refused_label context source labels index reason
+    (subst (λ (x : ReadLabels). AreRead context source labels (in_order labels) x) is (subst (λ (ls : List Label). AreRead context source labels ls r) sorted h))

@@ -1,0 +1,16 @@
+use Rattle.std.proofs.Common.{ap, ◌∙◌, ◌++◌, string_bytes, codes}
+use Rattle.std.specs.Prelude.{decimal}
+use Rattle.miette_narrated.specs.Labels.{row, text_behind, first_number}
+use Rattle.miette_narrated.specs.Made.{told_of, shown_of}
+use Rattle.miette_narrated.proofs.Putting.{label_put_at}
+use Rattle.miette_narrated.proofs.label_rows.push_start.Goals as goal
+
+pub returns : goal.returns
+returns c =
+    let it = shown_of c.args.it.now in
+    let d = told_of c.args.labels.now c.args.label.now in
+    label_put_at (string_bytes c.args.out.now) (string_bytes c.push_number.new.out) (string_bytes c.push_number-2.new.out) (string_bytes c.push_end.new.out)
+    (codes "    label starting at line ") (decimal it.number) (codes ", column ") (decimal (first_number it d.start)) (text_behind d.text)
+    c.in_ok-push_number.ensures
+    (c.in_ok-push_number-2.ensures ∙ ap (λ a. string_bytes c.push_number.new.out ++ (codes ", column " ++ decimal a)) c.in_ok-first.ensures)
+    (c.in_ok-push_end.ensures ∙ ap (λ t. string_bytes c.push_number-2.new.out ++ row (text_behind t)) c.text_of.ensures)

@@ -1,0 +1,10 @@
+use Rattle.std.proofs.Common.{ap, sym, ◌∙◌, ◌++◌, length, string_bytes}
+use Rattle.std.proofs.lemmas.Bool.{eqb-false}
+use Rattle.miette_tree.specs.Report.{tree_of}
+use Rattle.miette_narrated.proofs.Telling.{blank_some}
+use Rattle.miette_narrated.proofs.report.push_blank_before.Goals as goal
+
+pub returns : goal.returns
+returns g c =
+    let reports = c.args.reports.now in
+    c.in_ok-push_row.ensures ∙ ap (λ r. string_bytes c.args.out.now ++ r) (sym (blank_some (tree_of g.D.Diagnostic.meaning g.S.SourceCode.source) reports (eqb-false (length reports) 0 (sym c.is_empty.ensures ∙ c.if-is_empty.false))))

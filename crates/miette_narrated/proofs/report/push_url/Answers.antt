@@ -1,0 +1,8 @@
+use Rattle.std.proofs.Common.{codes, string_bytes}
+use Rattle.miette_narrated.specs.Labels.{row}
+use Rattle.miette_narrated.proofs.Putting.{then}
+use Rattle.miette_narrated.proofs.report.push_url.Goals as goal
+
+pub returns-in_ok-push_row-2 : goal.returns-in_ok-push_row-2
+returns-in_ok-push_row-2 c =
+    rw c.in-Some.is (then (string_bytes c.args.out.now) (string_bytes c.push_row.new.out) (string_bytes c.push_row-in-Some.new.out) (row (codes "For more details, see:")) (row c.in-Some.url.now) c.in_ok-push_row.ensures c.in_ok-push_row-2.ensures)

@@ -1,0 +1,38 @@
+use Rattle.std.proofs.Common.{ap, sym, ◌∙◌, ◌++◌, map, List, string_bytes, subst}
+use Rattle.miette_layout.specs.declared.grouping.Group.{Group}
+use Rattle.miette_layout.specs.declared.sweep.Placed.{Placed}
+use Rattle.miette_layout.specs.Read.{AreGroups}
+use Rattle.miette_narrated.specs.Made.{all_told}
+use Rattle.miette_narrated.specs.Snippets.{snippet}
+use Rattle.miette_narrated.specs.Sweeping.{IsAt}
+use Rattle.miette_narrated.proofs.Reading.{placed_ordered, groups_more, groups_end, snippets_told}
+use Rattle.miette_narrated.proofs.snippets.push_read.Goals as goal
+
+pub push_snippet-requires-clause-ordered : goal.push_snippet-requires-clause-ordered
+push_snippet-requires-clause-ordered g c =
+    placed_ordered c.args.context (g.S.SourceCode.source c.args.source.now) c.args.labels.now c.args.reads.now c.deref.result.now c.requires.each c.requires.order (c.deref.ensures.value ∙ c.in_ok-placed.ensures)
+
+pub loop-group-preserved : goal.loop-group-preserved
+loop-group-preserved g c =
+    let source = g.S.SourceCode.source c.args.source.now in
+    let l = c.loop-group in
+    let placed = c.in_ok-placed.placed.items in
+    let grouped : AreGroups c.args.context source (map (λ read. read.span) c.args.reads.now) c.deref-group-items.result.now =
+    subst (λ (gs : List Group). AreGroups c.args.context source (map (λ read. read.span) c.args.reads.now) gs) (sym c.deref-group-items.ensures.value) c.in_ok-groups.ensures in
+    let text = c.in_ok-push_snippet.ensures.rows ∙ ap (λ (ps : List Placed). string_bytes l.out ++ snippet (all_told c.args.labels.now ps) c.group-item.result.contents) c.deref.ensures.value in
+    record {
+      rows = groups_more c.args.context source (all_told c.args.labels.now placed) (map (λ read. read.span) c.args.reads.now) c.deref-group-items.result.now l.group-index c.group-item.result
+          (string_bytes l.out) (string_bytes c.push_snippet.new.out) _ grouped c.loop-group-test.true c.group-item.is text l.invariant.rows;
+      at = subst (λ (ps : List Placed). IsAt ps c.push_snippet.new.sweep.at c.push_snippet.new.sweep.next c.push_snippet.new.sweep.running.items) c.deref.ensures.value c.in_ok-push_snippet.ensures.at;
+    }
+
+pub returns : goal.returns
+returns g c =
+    let source = g.S.SourceCode.source c.args.source.now in
+    let l = c.loop-group in
+    let placed = c.in_ok-placed.placed.items in
+    let groups = c.deref-group-items.result.now in
+    let grouped : AreGroups c.args.context source (map (λ read. read.span) c.args.reads.now) groups =
+    subst (λ (gs : List Group). AreGroups c.args.context source (map (λ read. read.span) c.args.reads.now) gs) (sym c.deref-group-items.ensures.value) c.in_ok-groups.ensures in
+    snippets_told c.args.context source c.args.labels.now c.args.reads.now placed groups _ _ c.data_reach_the_span.ensures c.requires.each c.requires.order c.in_ok-placed.ensures grouped
+    (groups_end c.args.context source (all_told c.args.labels.now placed) groups l.group-index (string_bytes l.out) _ c.loop-group-test.false l.invariant.rows)

@@ -1,0 +1,10 @@
+use Rattle.std.proofs.Common.{ap, ◌∙◌, take, arith}
+use Rattle.std.specs.List.{filter}
+use Rattle.miette_narrated.specs.Sweeping.{reaches}
+use Rattle.miette_narrated.proofs.Sweeps.{reach_later}
+use Rattle.miette_narrated.proofs.sweeping.come_to.Goals as goal
+
+pub take_more-requires-2 : goal.take_more-requires-2
+take_more-requires-2 c =
+    let old = c.args.sweep.now in
+    c.in_ok-running.ensures ∙ ap (filter (reaches c.args.place)) (c.deref.ensures.value ∙ c.requires) ∙ reach_later old.at c.args.place (take old.next c.args.labels.now) (omega arith)

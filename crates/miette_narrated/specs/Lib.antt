@@ -1,0 +1,9 @@
+pub mod Columns
+pub mod Labels
+pub mod Lines
+pub mod Snippets
+pub mod Report
+pub mod Answered
+pub mod Made
+pub mod Sweeping
+pub mod Settings

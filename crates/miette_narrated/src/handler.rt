@@ -1,0 +1,171 @@
+//! The handler of narrated reports.
+
+ghost use Rattle.std.specs.Prelude.{◌≡◌, ◌++◌, true, false, Some, OnOk, OnErr, string_bytes, option_copied};
+ghost use Rattle.miette_tree.specs.Report.{tree_of};
+ghost use Rattle.miette_narrated.specs.Report.{default_settings, narrated as narrated_text, unlisted};
+ghost use Rattle.miette_narrated.specs.Answered.{Appends, report_reads, report_accepted};
+ghost use Rattle.miette_narrated.specs.Settings.{settings_of};
+
+use crate::report::narrated;
+use miette_protocol::error::RenderError;
+use miette_protocol::protocol::Diagnostic;
+use miette_protocol::source::SourceCode;
+use miette_tree::report::Report;
+use std::alloc::{AllocError, Global};
+use std::marker::Model;
+
+/// What a report is narrated with.
+#[derive(Clone, Copy)]
+pub(crate) struct Settings<'a> {
+    pub(crate) cause_chain: bool,
+    pub(crate) context_lines: usize,
+    pub(crate) footer: Option<&'a str>,
+}
+
+/// Tells a report in rows of plain words, for people who hear it read: no pictures, no colours, no wrapping.
+///
+/// All calls but `render_report`, `render` and `clone` take no memory.
+#[derive(Debug, Drop)]
+pub struct NarratableReportHandler {
+    cause_chain: bool,
+    context_lines: usize,
+    footer: Option<String>,
+}
+
+impl Model for NarratableReportHandler {
+    ghost use Rattle.std.specs.Prelude.{option_map, string_bytes};
+    ghost use Rattle.miette_narrated.specs.Report.{Settings};
+
+    ghost Value = { Settings };
+
+    ghost view = { λ it. record { chain = it.cause_chain; context = it.context_lines; footer = option_map string_bytes it.footer } };
+}
+
+/// A clone has the same settings; `AllocError` where memory is refused.
+impl Clone for NarratableReportHandler {
+    ghost use Rattle.std.specs.Prelude.{◌≡◌};
+
+    ghost is_clone = { λ it made. made ≡ it };
+
+    fn clone(&self) -> Result<Self, AllocError> {
+        Ok(NarratableReportHandler {
+            cause_chain: self.cause_chain,
+            context_lines: self.context_lines,
+            footer: self.footer.clone()?,
+        })
+    }
+}
+
+impl Default for NarratableReportHandler {
+    fn default() -> Self
+        ensures { result ≡ default_settings }
+    {
+        NarratableReportHandler::new()
+    }
+}
+
+impl NarratableReportHandler {
+    /// A handler that tells causes, one line of context, and no footer.
+    pub fn new() -> Self
+        ensures { result ≡ default_settings }
+    {
+        NarratableReportHandler {
+            cause_chain: true,
+            context_lines: 1,
+            footer: None,
+        }
+    }
+
+    /// The causes of the report are told.
+    pub fn with_cause_chain(self) -> Self
+        ensures { result ≡ record self { chain = true } }
+    {
+        self.telling_causes(true)
+    }
+
+    /// The causes of the report are not told; those of related reports are.
+    pub fn without_cause_chain(self) -> Self
+        ensures { result ≡ record self { chain = false } }
+    {
+        self.telling_causes(false)
+    }
+
+    fn telling_causes(self, cause_chain: bool) -> Self
+        ensures { result ≡ record self { chain = cause_chain } }
+    {
+        NarratableReportHandler {
+            cause_chain,
+            ..self
+        }
+    }
+
+    /// A text as the last row.
+    pub fn with_footer(self, footer: String) -> Self
+        ensures { result ≡ record self { footer = Some (string_bytes footer) } }
+    {
+        NarratableReportHandler {
+            footer: Some(footer),
+            ..self
+        }
+    }
+
+    /// How many lines of context are told around a label.
+    pub fn with_context_lines(self, lines: usize) -> Self
+        ensures { result ≡ record self { context = lines } }
+    {
+        NarratableReportHandler {
+            context_lines: lines,
+            ..self
+        }
+    }
+
+    fn settings(&self) -> Settings<'_>
+        ensures { settings_of result ≡ self.now }
+    {
+        Settings {
+            cause_chain: self.cause_chain,
+            context_lines: self.context_lines,
+            footer: self.footer_text(),
+        }
+    }
+
+    fn footer_text(&self) -> Option<&str>
+        ensures { option_copied result ≡ self.now.footer }
+    {
+        match &self.footer {
+            Some(text) => Some(text.as_str()),
+            None => None,
+        }
+    }
+
+    /// Appends the narrated text of a report. After an error `out` is as before: `Memory` where memory was refused, `Refused` where a
+    /// label isn't accepted, or a source that doesn't always read refused it.
+    pub fn render_report(&self, report: &Report, out: &mut String) -> Result<(), RenderError>
+        // a text for answers that the sources can have given
+        ensures text { OnOk result (Appends self.now (tree_of ⟦<Box<dyn Diagnostic> as Diagnostic>⟧.meaning ⟦<Box<dyn SourceCode> as SourceCode>⟧.source report.now) (string_bytes out.old) (string_bytes out.new)) }
+        // where every source that labels are read from always reads, there is one such text
+        ensures only { OnOk result (report_reads (tree_of ⟦<Box<dyn Diagnostic> as Diagnostic>⟧.meaning ⟦<Box<dyn SourceCode> as SourceCode>⟧.source report.now) ≡ true →
+            string_bytes out.new ≡ string_bytes out.old ++ narrated_text self.now (tree_of ⟦<Box<dyn Diagnostic> as Diagnostic>⟧.meaning ⟦<Box<dyn SourceCode> as SourceCode>⟧.source report.now) unlisted) }
+        ensures refused { (result ≡ Err RenderError.Refused) → report_accepted (tree_of ⟦<Box<dyn Diagnostic> as Diagnostic>⟧.meaning ⟦<Box<dyn SourceCode> as SourceCode>⟧.source report.now) ≡ false }
+        ensures err { OnErr result (string_bytes out.new ≡ string_bytes out.old) }
+    {
+        self.render(report, out)
+    }
+
+    /// The same of a report of diagnostics and sources of any kind.
+    pub fn render<D: Diagnostic, S: SourceCode>(
+        &self,
+        report: &Report<D, S>,
+        out: &mut String,
+    ) -> Result<(), RenderError>
+        ensures text { OnOk result (Appends self.now (tree_of D.meaning S.source report.now) (string_bytes out.old) (string_bytes out.new)) }
+        ensures only { OnOk result (report_reads (tree_of D.meaning S.source report.now) ≡ true →
+            string_bytes out.new ≡ string_bytes out.old ++ narrated_text self.now (tree_of D.meaning S.source report.now) unlisted) }
+        ensures refused { (result ≡ Err RenderError.Refused) → report_accepted (tree_of D.meaning S.source report.now) ≡ false }
+        ensures err { OnErr result (string_bytes out.new ≡ string_bytes out.old) }
+    {
+        let text = narrated(*out.allocator(), self.settings(), report)?;
+        out.push_str(text.as_str())?;
+        Ok(())
+    }
+}

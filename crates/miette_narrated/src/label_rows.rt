@@ -1,0 +1,215 @@
+//! The rows of labels under a line.
+
+ghost use Rattle.std.specs.Prelude.{◌≡◌, ◌++◌, IfOk, OnOk, string_bytes, option_copied};
+ghost use Rattle.miette_narrated.specs.Labels.{row, begins, begins_within, reaches_line, ends_before, first_number, last_number, columns_text, text_behind, whole_row, start_row, end_row, begun_row, reaching_row, label_row, label_rows};
+ghost use Rattle.miette_narrated.specs.Made.{told_of, all_told, shown_of};
+
+use crate::columns::column;
+use crate::shown::ShownLine;
+use crate::words::push_number;
+use miette_layout::sheet::text_of;
+use miette_layout::sweep::Placed;
+use miette_protocol::protocol::LabeledSpan;
+use std::alloc::{AllocError, Global};
+
+/// Whether a label begins on the line or behind it.
+fn begins(it: &ShownLine<'_>, label: &Placed) -> bool
+    ensures { result ≡ begins (shown_of it.now) label.now.start }
+{
+    it.line.start <= label.start
+}
+
+/// Whether a label begins before the text's end.
+fn begins_within(it: &ShownLine<'_>, label: &Placed) -> bool
+    ensures { result ≡ begins_within (shown_of it.now) label.now.start }
+{
+    label.start <= it.line.text_end
+}
+
+/// Whether a label reaches the line.
+fn reaches(it: &ShownLine<'_>, label: &Placed) -> bool
+    ensures { result ≡ reaches_line (shown_of it.now) label.now.after }
+{
+    it.line.start <= label.after
+}
+
+/// Whether a label ends before the text's end; on a snippet's last line also one does that begins in the data or where they end.
+fn ends_before(it: &ShownLine<'_>, label: &Placed) -> bool
+    ensures { result ≡ ends_before (shown_of it.now) label.now.start label.now.after }
+{
+    label.after <= it.line.text_end || it.is_last && label.start <= it.data_end
+}
+
+/// The number of a label's first column.
+fn first_number(alloc: Global, it: &ShownLine<'_>, label: &Placed) -> Result<usize, AllocError>
+    ensures { IfOk result (λ n. n ≡ first_number (shown_of it.now) label.now.start) }
+{
+    let before = column(alloc, it.text, label.start.saturating_sub(it.line.start))?;
+    match before.checked_add(1) {
+        Some(number) => Ok(number),
+        None => Err(AllocError),
+    }
+}
+
+/// The number of its last column; an empty label has one column.
+fn last_number(alloc: Global, it: &ShownLine<'_>, label: &Placed) -> Result<usize, AllocError>
+    ensures { IfOk result (λ n. n ≡ last_number (shown_of it.now) label.now.start label.now.after) }
+{
+    if label.start == label.after {
+        let first = first_number(alloc, it, label)?;
+        return Ok(first);
+    }
+    let last = column(alloc, it.text, label.after.saturating_sub(it.line.start))?;
+    Ok(last)
+}
+
+/// Appends a label's text behind a colon, where there is one, and a line feed.
+fn push_end(out: &mut String, text: Option<&str>) -> Result<(), AllocError>
+    ensures { OnOk result (string_bytes out.new ≡ string_bytes out.old ++ row (text_behind (option_copied text.entry))) }
+{
+    if let Some(text) = text {
+        out.push_str(": ")?;
+        out.push_str(text)?;
+    }
+    out.push_str("\n")?;
+    Ok(())
+}
+
+/// `, columns 2 to 3`
+fn push_columns(out: &mut String, first: usize, last: usize) -> Result<(), AllocError>
+    ensures { OnOk result (string_bytes out.new ≡ string_bytes out.old ++ columns_text first last) }
+{
+    if first == last {
+        return push_number(out, ", column ", first);
+    }
+    push_number(out, ", columns ", first)?;
+    push_number(out, " to ", last)?;
+    Ok(())
+}
+
+/// `    label at line 2, columns 3 to 6: This bit here`
+fn push_whole(
+    alloc: Global,
+    out: &mut String,
+    it: &ShownLine<'_>,
+    labels: &[LabeledSpan],
+    label: &Placed,
+) -> Result<(), AllocError>
+    ensures { OnOk result (string_bytes out.new ≡ string_bytes out.old ++ whole_row (shown_of it.now) (told_of labels.now label.now)) }
+{
+    let first = first_number(alloc, it, label)?;
+    let last = last_number(alloc, it, label)?;
+    push_number(out, "    label at line ", it.number)?;
+    push_columns(out, first, last)?;
+    push_end(out, text_of(labels, label))?;
+    Ok(())
+}
+
+/// `    label starting at line 1, column 1`
+fn push_start(
+    alloc: Global,
+    out: &mut String,
+    it: &ShownLine<'_>,
+    labels: &[LabeledSpan],
+    label: &Placed,
+) -> Result<(), AllocError>
+    ensures { OnOk result (string_bytes out.new ≡ string_bytes out.old ++ start_row (shown_of it.now) (told_of labels.now label.now)) }
+{
+    let first = first_number(alloc, it, label)?;
+    push_number(out, "    label starting at line ", it.number)?;
+    push_number(out, ", column ", first)?;
+    push_end(out, text_of(labels, label))?;
+    Ok(())
+}
+
+/// `    label ending at line 2, column 0`
+fn push_ending(
+    alloc: Global,
+    out: &mut String,
+    it: &ShownLine<'_>,
+    labels: &[LabeledSpan],
+    label: &Placed,
+) -> Result<(), AllocError>
+    ensures { OnOk result (string_bytes out.new ≡ string_bytes out.old ++ end_row (shown_of it.now) (told_of labels.now label.now)) }
+{
+    let last = last_number(alloc, it, label)?;
+    push_number(out, "    label ending at line ", it.number)?;
+    push_number(out, ", column ", last)?;
+    push_end(out, text_of(labels, label))?;
+    Ok(())
+}
+
+/// The row of a label that begins on a line or behind it, where it has one there.
+fn push_begun(
+    alloc: Global,
+    out: &mut String,
+    it: &ShownLine<'_>,
+    labels: &[LabeledSpan],
+    label: &Placed,
+) -> Result<(), AllocError>
+    ensures { OnOk result (string_bytes out.new ≡ string_bytes out.old ++ begun_row (shown_of it.now) (told_of labels.now label.now)) }
+{
+    if ends_before(it, label) {
+        push_whole(alloc, out, it, labels, label)?;
+        return Ok(());
+    }
+    if begins_within(it, label) {
+        push_start(alloc, out, it, labels, label)?;
+        return Ok(());
+    }
+    Ok(())
+}
+
+/// The row of a label that began before a line and reaches it, where it has one there.
+fn push_reaching(
+    alloc: Global,
+    out: &mut String,
+    it: &ShownLine<'_>,
+    labels: &[LabeledSpan],
+    label: &Placed,
+) -> Result<(), AllocError>
+    ensures { OnOk result (string_bytes out.new ≡ string_bytes out.old ++ reaching_row (shown_of it.now) (told_of labels.now label.now)) }
+{
+    if ends_before(it, label) {
+        push_ending(alloc, out, it, labels, label)?;
+        return Ok(());
+    }
+    Ok(())
+}
+
+/// The row of a label under a line, where it has one there.
+fn push_label(
+    alloc: Global,
+    out: &mut String,
+    it: &ShownLine<'_>,
+    labels: &[LabeledSpan],
+    label: &Placed,
+) -> Result<(), AllocError>
+    ensures { OnOk result (string_bytes out.new ≡ string_bytes out.old ++ label_row (shown_of it.now) (told_of labels.now label.now)) }
+{
+    if begins(it, label) {
+        push_begun(alloc, out, it, labels, label)?;
+        return Ok(());
+    }
+    if reaches(it, label) {
+        push_reaching(alloc, out, it, labels, label)?;
+        return Ok(());
+    }
+    Ok(())
+}
+
+/// The rows of labels under a line, in order.
+pub(crate) fn push_labels(
+    alloc: Global,
+    out: &mut String,
+    it: &ShownLine<'_>,
+    labels: &[LabeledSpan],
+    placed: &[Placed],
+) -> Result<(), AllocError>
+    ensures { OnOk result (string_bytes out.new ≡ string_bytes out.old ++ label_rows (shown_of it.now) (all_told labels.now placed.now)) }
+{
+    for label in placed {
+        push_label(alloc, out, it, labels, label)?;
+    }
+    Ok(())
+}

@@ -1,0 +1,13 @@
+//! The narrated report: the text of a report for people who hear it read.
+#![tactic(auto)]
+
+mod columns;
+pub mod handler;
+mod label_rows;
+mod line_text;
+mod lines;
+mod report;
+mod shown;
+mod snippets;
+mod sweeping;
+mod words;

@@ -1,0 +1,117 @@
+//! The rows of a snippet's lines.
+
+ghost use Rattle.std.specs.Prelude.{◌≡◌, ◌++◌, ◌+◌, ◌<◌, ◌≤◌, ◌^◌, map, length, OnOk, string_bytes};
+ghost use Rattle.std.specs.List.{All};
+ghost use Rattle.miette_layout.specs.Sheets.{line_of_text};
+ghost use Rattle.miette_layout.specs.Swept.{LiesIn};
+ghost use Rattle.miette_narrated.specs.Made.{all_told, shown_of};
+ghost use Rattle.miette_narrated.specs.Lines.{shown, line_row, rows_of_line, rows_of_lines};
+ghost use Rattle.miette_narrated.specs.Sweeping.{IsAt, AreOrdered, last_start};
+
+use crate::columns::push_decoded;
+use crate::label_rows::push_labels;
+use crate::line_text::LineText;
+use crate::shown::ShownLine;
+use crate::sweeping::{Sweep, come_to};
+use crate::words::push_number;
+use miette_layout::line_sweep::SweptLine;
+use miette_layout::sheet::LineOfText;
+use miette_layout::sweep::Placed;
+use miette_protocol::protocol::LabeledSpan;
+use miette_protocol::source::MietteSpanContents;
+use std::alloc::{AllocError, Global};
+
+/// `snippet line 2:   text`
+fn push_line(out: &mut String, it: &ShownLine<'_>) -> Result<(), AllocError>
+    ensures { OnOk result (string_bytes out.new ≡ string_bytes out.old ++ line_row (shown_of it.now)) }
+{
+    push_number(out, "snippet line ", it.number)?;
+    out.push_str(": ")?;
+    push_decoded(out, it.text.bytes)?;
+    out.push_str("\n")?;
+    Ok(())
+}
+
+/// Where the labels begin that may have a row on a line.
+fn last_start(it: &ShownLine<'_>) -> usize
+    ensures { result ≡ last_start (shown_of it.now) }
+{
+    if it.is_last {
+        it.data_end.max(it.line.text_end)
+    } else {
+        it.line.text_end
+    }
+}
+
+/// A line's row, and those of its labels.
+fn push_shown(
+    alloc: Global,
+    out: &mut String,
+    it: &ShownLine<'_>,
+    labels: &[LabeledSpan],
+    placed: &[Placed],
+    sweep: &mut Sweep,
+) -> Result<(), AllocError>
+    requires ordered { AreOrdered placed.now }
+    requires at { IsAt placed.now sweep.old.at sweep.old.next sweep.old.running.items }
+    ensures rows { OnOk result (string_bytes out.new ≡ string_bytes out.old ++ rows_of_line (all_told labels.now placed.now) (shown_of it.now)) }
+    ensures at { OnOk result (IsAt placed.now sweep.new.at sweep.new.next sweep.new.running.items) }
+{
+    push_line(out, it)?;
+    come_to(alloc, placed, it.line.start, last_start(it), sweep)?;
+    push_labels(alloc, out, it, labels, &sweep.running)?;
+    Ok(())
+}
+
+/// A line of what a snippet's read lent.
+fn shown_line<'a>(
+    lent: &'a MietteSpanContents<'_>,
+    line: LineOfText,
+    number: usize,
+    is_last: bool,
+) -> ShownLine<'a>
+    requires from { lent.now.span.offset ≤ line.start }
+    requires text { line.start ≤ line.text_end }
+    requires to { line.text_end ≤ lent.now.span.offset + length lent.now.bytes }
+    requires small { lent.now.span.offset + length lent.now.bytes < 2 ^ 64 }
+    ensures { shown_of result ≡ shown lent.now number is_last (line_of_text line) }
+{
+    let start = lent.span().offset();
+    let data = lent.data();
+    ShownLine {
+        line,
+        number,
+        is_last,
+        data_end: start + data.len(),
+        text: LineText::new(&data[line.start - start..line.text_end - start]),
+    }
+}
+
+/// The rows of a snippet's lines, from what its read lent.
+pub(crate) fn push_lines(
+    alloc: Global,
+    out: &mut String,
+    lent: &MietteSpanContents<'_>,
+    lines: &[SweptLine],
+    labels: &[LabeledSpan],
+    placed: &[Placed],
+    sweep: &mut Sweep,
+) -> Result<(), AllocError>
+    requires inside { All (LiesIn lent.now.span.offset (length lent.now.bytes)) lines.now }
+    requires small { lent.now.span.offset + length lent.now.bytes < 2 ^ 64 }
+    requires ordered { AreOrdered placed.now }
+    requires at { IsAt placed.now sweep.old.at sweep.old.next sweep.old.running.items }
+    ensures rows { OnOk result (string_bytes out.new ≡ string_bytes out.old ++ rows_of_lines (all_told labels.now placed.now) lent.now (lent.now.line + 1) (map (λ l. line_of_text l.line) lines.now)) }
+    ensures at { OnOk result (IsAt placed.now sweep.new.at sweep.new.next sweep.new.running.items) }
+{
+    let mut before = lent.line();
+    for (i, swept) in lines.iter().enumerate() {
+        let Some(number) = before.checked_add(1) else {
+            return Err(AllocError);
+        };
+        let it = shown_line(lent, swept.line, number, i + 1 == lines.len());
+        push_shown(alloc, out, &it, labels, placed, sweep)?;
+        before = number;
+    }
+    Ok(())
+}

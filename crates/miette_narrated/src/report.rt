@@ -1,0 +1,264 @@
+//! The narrated text of a report, part by part.
+
+ghost use Rattle.std.specs.Prelude.{◌≡◌, ◌++◌, false, OnOk, IfOk, string_bytes, map, option_copied};
+ghost use Rattle.std.specs.Option.{option_map};
+ghost use Rattle.miette_tree.specs.Tree.{head, cause_of, causes_of, source_of, trees, effective};
+ghost use Rattle.miette_tree.specs.Chain.{texts_below};
+ghost use Rattle.miette_tree.specs.Report.{tree_of};
+ghost use Rattle.miette_tree.specs.Owned.{shown_source};
+ghost use Rattle.miette_narrated.specs.Report.{severity_text, title, severity_row, head_rows, titled_rows, cause_rows, causes_if, advice_rows, url_rows, given_labels, blank_before};
+ghost use Rattle.miette_narrated.specs.Answered.{AppendsSnippets, AppendsReport, AppendsRelated, IsNarrated, accepts, holds_of, holds_of_all, report_accepted};
+ghost use Rattle.miette_narrated.specs.Settings.{settings_of};
+
+use crate::handler::Settings;
+use crate::snippets::push_snippets;
+use crate::words::{push_row, push_row_if};
+use miette_protocol::error::RenderError;
+use miette_protocol::protocol::{Diagnostic, LabeledSpan, Severity};
+use miette_protocol::source::SourceCode;
+use miette_tree::report::{Cause, Report, SourceRef};
+use std::alloc::{AllocError, Global};
+
+/// The name of a severity: `error` where there is none.
+fn severity_name(severity: Option<Severity>) -> &'static str
+    ensures { result.now ≡ severity_text severity }
+{
+    match severity {
+        Some(Severity::Advice) => "advice",
+        Some(Severity::Warning) => "warning",
+        _ => "error",
+    }
+}
+
+fn title_of(severity: Option<Severity>) -> &'static str
+    ensures { result.now ≡ title severity }
+{
+    match severity {
+        Some(Severity::Advice) => "Advice: ",
+        Some(Severity::Warning) => "Warning: ",
+        _ => "Error: ",
+    }
+}
+
+/// `    Diagnostic severity: error`
+fn push_severity(out: &mut String, severity: Option<Severity>) -> Result<(), AllocError>
+    ensures { OnOk result (string_bytes out.new ≡ string_bytes out.old ++ severity_row severity) }
+{
+    push_row(out, "    Diagnostic severity: ", severity_name(severity))?;
+    Ok(())
+}
+
+/// The message and the severity of the outermost report.
+fn push_head<D: Diagnostic, S: SourceCode>(
+    report: &Report<D, S>,
+    out: &mut String,
+) -> Result<(), AllocError>
+    ensures { OnOk result (string_bytes out.new ≡ string_bytes out.old ++ head_rows (head (tree_of D.meaning S.source report.now))) }
+{
+    push_row(out, "", report.message())?;
+    push_severity(out, report.severity())?;
+    Ok(())
+}
+
+/// The message of a related report behind its title, its severity, and a blank row.
+fn push_titled<D: Diagnostic, S: SourceCode>(
+    report: &Report<D, S>,
+    out: &mut String,
+) -> Result<(), AllocError>
+    ensures { OnOk result (string_bytes out.new ≡ string_bytes out.old ++ titled_rows (head (tree_of D.meaning S.source report.now))) }
+{
+    push_row(out, title_of(report.severity()), report.message())?;
+    push_severity(out, report.severity())?;
+    push_row(out, "", "")?;
+    Ok(())
+}
+
+/// The texts of a report's cause, none where it is a report.
+fn cause_texts<D: Diagnostic, S: SourceCode>(report: &Report<D, S>) -> &[String]
+    ensures { map string_bytes result.now ≡ texts_below (cause_of (tree_of D.meaning S.source report.now)) }
+{
+    match report.cause() {
+        Cause::Texts(texts) => texts,
+        _ => &[],
+    }
+}
+
+/// A row for each cause of a report.
+fn push_causes<D: Diagnostic, S: SourceCode>(
+    report: &Report<D, S>,
+    out: &mut String,
+) -> Result<(), AllocError>
+    ensures { OnOk result (string_bytes out.new ≡ string_bytes out.old ++ cause_rows (causes_of (cause_of (tree_of D.meaning S.source report.now)))) }
+{
+    let mut at = report;
+    while let Cause::Diagnostic(next) = at.cause() {
+        push_row(out, "    Caused by: ", next.message())?;
+        at = next;
+    }
+    for text in cause_texts(at) {
+        push_row(out, "    Caused by: ", text.as_str())?;
+    }
+    Ok(())
+}
+
+/// The same where causes are told.
+fn push_causes_if<D: Diagnostic, S: SourceCode>(
+    told: bool,
+    report: &Report<D, S>,
+    out: &mut String,
+) -> Result<(), AllocError>
+    ensures { OnOk result (string_bytes out.new ≡ string_bytes out.old ++ causes_if told (causes_of (cause_of (tree_of D.meaning S.source report.now)))) }
+{
+    if told {
+        push_causes(report, out)
+    } else {
+        Ok(())
+    }
+}
+
+/// Where more is written, on a row of its own.
+fn push_url(out: &mut String, url: Option<&str>) -> Result<(), AllocError>
+    ensures { OnOk result (string_bytes out.new ≡ string_bytes out.old ++ url_rows (option_copied url.entry)) }
+{
+    if let Some(url) = url {
+        push_row(out, "For more details, see:", "")?;
+        push_row(out, "", url)?;
+    }
+    Ok(())
+}
+
+/// Help, code and url.
+fn push_advice<D: Diagnostic, S: SourceCode>(
+    report: &Report<D, S>,
+    out: &mut String,
+) -> Result<(), AllocError>
+    ensures { OnOk result (string_bytes out.new ≡ string_bytes out.old ++ advice_rows (head (tree_of D.meaning S.source report.now))) }
+{
+    push_row_if(out, "diagnostic help: ", report.help())?;
+    push_row_if(out, "diagnostic code: ", report.code())?;
+    push_url(out, report.url())?;
+    Ok(())
+}
+
+fn labels_of<D: Diagnostic, S: SourceCode>(report: &Report<D, S>) -> &[LabeledSpan]
+    ensures { result.now ≡ given_labels (head (tree_of D.meaning S.source report.now)).labels }
+{
+    report.labels().unwrap_or(&[])
+}
+
+/// The source of the report, or else the one that it inherits.
+fn own_or<'a, D: Diagnostic, S: SourceCode>(
+    report: &'a Report<D, S>,
+    inherited: Option<SourceRef<'a, S>>,
+) -> Option<SourceRef<'a, S>>
+    ensures { option_map (shown_source S.source) result
+        ≡ effective (source_of (tree_of D.meaning S.source report.now)) (option_map (shown_source S.source) inherited.entry) }
+{
+    match report.source_code() {
+        Some(own) => Some(own),
+        None => inherited,
+    }
+}
+
+/// The snippets of labels over a source, none without one.
+fn push_snippets_of<S: SourceCode>(
+    alloc: Global,
+    context: usize,
+    labels: &[LabeledSpan],
+    source: Option<SourceRef<'_, S>>,
+    out: &mut String,
+) -> Result<(), RenderError>
+    ensures text { OnOk result (AppendsSnippets context (option_map (shown_source S.source) source.entry) labels.now (string_bytes out.old) (string_bytes out.new)) }
+    ensures refused { (result ≡ Err RenderError.Refused) → accepts (option_map (shown_source S.source) source.entry) labels.now ≡ false }
+{
+    match source {
+        Some(source) => push_snippets(alloc, out, context, &source, labels),
+        None => Ok(()),
+    }
+}
+
+/// A blank row where there are related reports.
+fn push_blank_before<D: Diagnostic, S: SourceCode>(
+    reports: &[Report<D, S>],
+    out: &mut String,
+) -> Result<(), AllocError>
+    ensures { OnOk result (string_bytes out.new ≡ string_bytes out.old ++ blank_before (trees (map (tree_of D.meaning S.source) reports.now))) }
+{
+    if reports.is_empty() {
+        return Ok(());
+    }
+    push_row(out, "", "")?;
+    Ok(())
+}
+
+/// Appends a related report, under one with this source.
+#[cycle(report)]
+fn push_report<'a, D: Diagnostic, S: SourceCode>(
+    alloc: Global,
+    context: usize,
+    report: &'a Report<D, S>,
+    inherited: Option<SourceRef<'a, S>>,
+    out: &mut String,
+) -> Result<(), RenderError>
+    ensures text { OnOk result (AppendsReport context (option_map (shown_source S.source) inherited.entry) (tree_of D.meaning S.source report.now) (string_bytes out.old) (string_bytes out.new)) }
+    ensures refused { (result ≡ Err RenderError.Refused) → holds_of accepts (option_map (shown_source S.source) inherited.entry) (tree_of D.meaning S.source report.now) ≡ false }
+{
+    let source = own_or(report, inherited);
+    push_titled(report, out)?;
+    push_causes(report, out)?;
+    push_snippets_of(alloc, context, labels_of(report), source, out)?;
+    push_advice(report, out)?;
+    push_related(alloc, context, report.related(), source, out)?;
+    Ok(())
+}
+
+/// Appends related reports, under a report with this source, behind a blank row.
+#[cycle(report)]
+fn push_related<'a, D: Diagnostic, S: SourceCode>(
+    alloc: Global,
+    context: usize,
+    reports: &'a [Report<D, S>],
+    source: Option<SourceRef<'a, S>>,
+    out: &mut String,
+) -> Result<(), RenderError>
+    ensures text { OnOk result (AppendsRelated context (option_map (shown_source S.source) source.entry) (trees (map (tree_of D.meaning S.source) reports.now)) (string_bytes out.old) (string_bytes out.new)) }
+    ensures refused { (result ≡ Err RenderError.Refused) → holds_of_all accepts (option_map (shown_source S.source) source.entry) (trees (map (tree_of D.meaning S.source) reports.now)) ≡ false }
+{
+    push_blank_before(reports, out)?;
+    for report in reports {
+        push_report(alloc, context, report, source, out)?;
+    }
+    Ok(())
+}
+
+/// The narrated text of a report.
+pub(crate) fn narrated<D: Diagnostic, S: SourceCode>(
+    alloc: Global,
+    settings: Settings<'_>,
+    report: &Report<D, S>,
+) -> Result<String, RenderError>
+    ensures text { IfOk result (λ text. IsNarrated (settings_of settings.entry) (tree_of D.meaning S.source report.now) (string_bytes text)) }
+    ensures refused { (result ≡ Err RenderError.Refused) → report_accepted (tree_of D.meaning S.source report.now) ≡ false }
+{
+    let mut text = String::new(alloc);
+    let source = own_or(report, None);
+    push_head(report, &mut text)?;
+    push_causes_if(settings.cause_chain, report, &mut text)?;
+    push_snippets_of(
+        alloc,
+        settings.context_lines,
+        labels_of(report),
+        source,
+        &mut text,
+    )?;
+    push_advice(report, &mut text)?;
+    push_related(
+        alloc,
+        settings.context_lines,
+        report.related(),
+        source,
+        &mut text,
+    )?;
+    push_row_if(&mut text, "", settings.footer)?;
+    Ok(text)
+}

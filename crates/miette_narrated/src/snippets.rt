@@ -1,0 +1,144 @@
+//! The rows of a diagnostic's snippets.
+
+ghost use Rattle.std.specs.Prelude.{◌≡◌, ◌++◌, ◌+◌, ◌<◌, ◌^◌, false, Some, map, length, decimal, IfOk, OnOk, string_bytes, option_copied};
+ghost use Rattle.std.specs.List.{All};
+ghost use Rattle.miette_layout.specs.Contexts.{lines_of_contents};
+ghost use Rattle.miette_layout.specs.Groups.{in_order};
+ghost use Rattle.miette_layout.specs.Given.{label_at};
+ghost use Rattle.miette_layout.specs.Read.{IsRead};
+ghost use Rattle.miette_layout.specs.Sheets.{line_of_text};
+ghost use Rattle.miette_layout.specs.Swept.{LiesIn};
+ghost use Rattle.miette_narrated.specs.Made.{all_told};
+ghost use Rattle.miette_narrated.specs.Snippets.{name_text, begin_rows, snippet};
+ghost use Rattle.miette_narrated.specs.Answered.{AppendsSnippets, accepts};
+ghost use Rattle.miette_narrated.specs.Sweeping.{IsAt, AreOrdered};
+
+use crate::lines::push_lines;
+use crate::sweeping::Sweep;
+use crate::words::push_number;
+use miette_layout::drawn_labels::placed;
+use miette_layout::grouping::groups;
+use miette_layout::line_sweep::{SweptLine, swept_lines};
+use miette_layout::order::by_offset;
+use miette_layout::reading::{ReadLabel, ReadLabels, read_labels};
+use miette_layout::sweep::{Placed, Sweep as LayoutSweep};
+use miette_protocol::error::RenderError;
+use miette_protocol::laws::data_reach_the_span;
+use miette_protocol::protocol::LabeledSpan;
+use miette_protocol::source::{MietteSpanContents, SourceCode};
+use std::alloc::{AllocError, Global};
+
+/// ` for bad_file.rs`
+fn push_name(out: &mut String, name: Option<&str>) -> Result<(), AllocError>
+    ensures { OnOk result (string_bytes out.new ≡ string_bytes out.old ++ name_text (option_copied name.entry)) }
+{
+    if let Some(name) = name {
+        out.push_str(" for ")?;
+        out.push_str(name)?;
+    }
+    Ok(())
+}
+
+/// ` starting at line 1, column 1`, from a line and a column that are counted from 0
+fn push_place(out: &mut String, words: &str, before: usize) -> Result<(), AllocError>
+    ensures { OnOk result (string_bytes out.new ≡ string_bytes out.old ++ (words.now ++ decimal (before + 1))) }
+{
+    match before.checked_add(1) {
+        Some(number) => push_number(out, words, number),
+        None => Err(AllocError),
+    }
+}
+
+/// `Begin snippet for bad_file.rs starting at line 1, column 1`, and a blank row
+fn push_begin(out: &mut String, lent: &MietteSpanContents<'_>) -> Result<(), AllocError>
+    ensures { OnOk result (string_bytes out.new ≡ string_bytes out.old ++ begin_rows lent.now) }
+{
+    out.push_str("Begin snippet")?;
+    push_name(out, lent.name())?;
+    push_place(out, " starting at line ", lent.line())?;
+    push_place(out, ", column ", lent.column())?;
+    out.push_str("\n\n")?;
+    Ok(())
+}
+
+/// The lines of what a read lent.
+fn lines_of(alloc: Global, lent: &MietteSpanContents<'_>) -> Result<Vec<SweptLine>, AllocError>
+    ensures lines { IfOk result (λ lines. map (λ l. line_of_text l.line) lines.items ≡ lines_of_contents lent.now) }
+    ensures inside { IfOk result (λ lines. All (LiesIn lent.now.span.offset (length lent.now.bytes)) lines.items) }
+    ensures small { IfOk result (λ lines. lent.now.span.offset + length lent.now.bytes < 2 ^ 64) }
+{
+    let mut sweep = LayoutSweep {
+        running: Vec::new(alloc),
+        next: 0,
+    };
+    swept_lines(alloc, lent.data(), lent.span().offset(), &[], &mut sweep)
+}
+
+/// A snippet, from what its read lent.
+fn push_snippet(
+    alloc: Global,
+    out: &mut String,
+    lent: &MietteSpanContents<'_>,
+    labels: &[LabeledSpan],
+    placed: &[Placed],
+    sweep: &mut Sweep,
+) -> Result<(), AllocError>
+    requires ordered { AreOrdered placed.now }
+    requires at { IsAt placed.now sweep.old.at sweep.old.next sweep.old.running.items }
+    ensures rows { OnOk result (string_bytes out.new ≡ string_bytes out.old ++ snippet (all_told labels.now placed.now) lent.now) }
+    ensures at { OnOk result (IsAt placed.now sweep.new.at sweep.new.next sweep.new.running.items) }
+{
+    push_begin(out, lent)?;
+    let lines = lines_of(alloc, lent)?;
+    push_lines(alloc, out, lent, &lines, labels, placed, sweep)?;
+    Ok(())
+}
+
+/// The snippets of labels that were read.
+fn push_read<'a, S: SourceCode>(
+    alloc: Global,
+    out: &mut String,
+    context: usize,
+    source: &'a S,
+    labels: &[LabeledSpan],
+    reads: &[ReadLabel<'a>],
+) -> Result<(), AllocError>
+    requires order { map (λ read. label_at labels.now read.index) reads.now ≡ in_order labels.now }
+    requires each { All (IsRead context (S.source source.now) labels.now) reads.now }
+    ensures { OnOk result (AppendsSnippets context (Some (S.source source.now)) labels.now (string_bytes out.old) (string_bytes out.new)) }
+{
+    data_reach_the_span();
+    let placed = placed(alloc, &[], labels, reads)?;
+    let groups = groups(alloc, source, context, reads)?;
+    let mut sweep = Sweep {
+        at: 0,
+        next: 0,
+        running: Vec::new(alloc),
+    };
+    for group in &groups {
+        push_snippet(alloc, out, &group.contents, labels, &placed, &mut sweep)?;
+    }
+    Ok(())
+}
+
+/// The snippets of a diagnostic whose labels are given over a source. Fails with `Refused` where a label isn't accepted or can't be read,
+/// and with `Memory` where memory is refused.
+pub(crate) fn push_snippets<S: SourceCode>(
+    alloc: Global,
+    out: &mut String,
+    context: usize,
+    source: &S,
+    labels: &[LabeledSpan],
+) -> Result<(), RenderError>
+    ensures text { OnOk result (AppendsSnippets context (Some (S.source source.now)) labels.now (string_bytes out.old) (string_bytes out.new)) }
+    ensures refused { (result ≡ Err RenderError.Refused) → accepts (Some (S.source source.now)) labels.now ≡ false }
+{
+    let order = by_offset(alloc, labels)?;
+    match read_labels(alloc, source, context, labels, &order)? {
+        ReadLabels::All(reads) => {
+            push_read(alloc, out, context, source, labels, &reads)?;
+            Ok(())
+        }
+        ReadLabels::Refused(_, _) => Err(RenderError::Refused),
+    }
+}

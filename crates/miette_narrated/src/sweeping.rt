@@ -1,0 +1,73 @@
+//! Which labels may have a row under a line, by one sweep over labels that come by offset.
+
+ghost use Rattle.std.specs.Prelude.{◌≡◌, IfOk, OnOk, drop, suc};
+ghost use Rattle.std.specs.List.{filter};
+ghost use Rattle.miette_narrated.specs.Sweeping.{reaches, IsAt, BeginsFrom};
+
+use miette_layout::sweep::Placed;
+use std::alloc::{AllocError, Global};
+
+/// A sweep that has come to a place: how many labels have come, and those of them that reach the place.
+#[derive(Debug, Drop)]
+pub(crate) struct Sweep {
+    pub(crate) at: usize,
+    pub(crate) next: usize,
+    pub(crate) running: Vec<Placed>,
+}
+
+/// The labels that reach a place.
+fn reaching(alloc: Global, running: &[Placed], place: usize) -> Result<Vec<Placed>, AllocError>
+    ensures { IfOk result (λ still. still.items ≡ filter (reaches place) running.now) }
+{
+    let mut still = Vec::new(alloc);
+    for label in running {
+        if place <= label.after {
+            still.push(*label)?;
+        }
+    }
+    Ok(still)
+}
+
+/// Puts the labels that begin at `last` or before behind those that run, where they reach the sweep's place.
+fn take_more(labels: &[Placed], last: usize, sweep: &mut Sweep) -> Result<(), AllocError>
+    requires { IsAt labels.now sweep.old.at sweep.old.next sweep.old.running.items }
+    ensures place { sweep.new.at ≡ sweep.old.at }
+    ensures at { OnOk result (IsAt labels.now sweep.new.at sweep.new.next sweep.new.running.items) }
+    ensures end { OnOk result (BeginsFrom (suc last) (drop sweep.new.next labels.now)) }
+{
+    while let Some(label) = labels.get(sweep.next) {
+        if last < label.start {
+            return Ok(());
+        }
+        if sweep.at <= label.after {
+            sweep.running.push(*label)?;
+        }
+        sweep.next += 1;
+    }
+    Ok(())
+}
+
+/// Comes to a line that begins at a place: those labels run that began at `last` or before and reach the place.
+pub(crate) fn come_to(
+    alloc: Global,
+    labels: &[Placed],
+    place: usize,
+    last: usize,
+    sweep: &mut Sweep,
+) -> Result<(), AllocError>
+    requires { IsAt labels.now sweep.old.at sweep.old.next sweep.old.running.items }
+    ensures place { OnOk result (sweep.new.at ≡ place) }
+    ensures at { OnOk result (IsAt labels.now sweep.new.at sweep.new.next sweep.new.running.items) }
+    ensures end { OnOk result (BeginsFrom (suc last) (drop sweep.new.next labels.now)) }
+{
+    if place < sweep.at {
+        sweep.running = Vec::new(alloc);
+        sweep.next = 0;
+        sweep.at = place;
+        return take_more(labels, last, sweep);
+    }
+    let running = reaching(alloc, &sweep.running, place)?;
+    sweep.running = running;
+    sweep.at = place;
+    take_more(labels, last, sweep)
+}

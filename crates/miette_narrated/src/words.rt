@@ -1,0 +1,42 @@
+//! Rows put together from words and numbers.
+
+ghost use Rattle.std.specs.Prelude.{◌≡◌, ◌++◌, ◌∷◌, [], OnOk, OnErr, decimal, string_bytes, option_copied};
+ghost use Rattle.miette_narrated.specs.Labels.{row};
+ghost use Rattle.miette_narrated.specs.Report.{row_if};
+
+use itoa::Buffer;
+use std::alloc::AllocError;
+
+/// Appends words and a number in decimal.
+pub(crate) fn push_number(out: &mut String, words: &str, number: usize) -> Result<(), AllocError>
+    ensures { OnOk result (string_bytes out.new ≡ string_bytes out.old ++ (words.now ++ decimal number)) }
+{
+    out.push_str(words)?;
+    let mut digits = Buffer::new();
+    out.push_str(digits.format(number))?;
+    Ok(())
+}
+
+/// Appends a row: words, a text, and a line feed.
+pub(crate) fn push_row(out: &mut String, words: &str, text: &str) -> Result<(), AllocError>
+    ensures { OnOk result (string_bytes out.new ≡ string_bytes out.old ++ row (words.now ++ text.now)) }
+{
+    out.push_str(words)?;
+    out.push_str(text)?;
+    out.push_str("\n")?;
+    Ok(())
+}
+
+/// The same where there is a text.
+pub(crate) fn push_row_if(
+    out: &mut String,
+    words: &str,
+    text: Option<&str>,
+) -> Result<(), AllocError>
+    ensures { OnOk result (string_bytes out.new ≡ string_bytes out.old ++ row_if words.now (option_copied text.entry)) }
+{
+    match text {
+        Some(text) => push_row(out, words, text),
+        None => Ok(()),
+    }
+}

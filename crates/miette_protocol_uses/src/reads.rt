@@ -1,0 +1,321 @@
+//! Reads of sources, as values, and each call of the module `source` once.
+
+use miette_protocol::diagnostic::diagnostic_equality_law;
+use miette_protocol::error::{MietteError, RenderError, render_error_law};
+use miette_protocol::laws;
+use miette_protocol::protocol::{SourceOffset, SourceSpan, comparison_laws, location_law};
+use miette_protocol::source::{
+    IndexedSource, MietteSpanContents, NamedSource, SourceCode, contents_clone_law,
+    named_source_equality_law, named_source_hash_law, named_source_order_law,
+};
+use std::alloc::{AllocError, Global};
+use std::io;
+use std::test::Fail;
+
+const README: &str = "source\n  text\n    here";
+
+/// What a read gives: the data, its offset and length, line, column and count of lines.
+type Seen<'a> = (&'a [u8], (usize, usize), usize, usize, usize);
+
+fn span(offset: usize, len: usize) -> SourceSpan {
+    SourceSpan::new(SourceOffset::from(offset), len)
+}
+
+fn seen<'a>(contents: &MietteSpanContents<'a>) -> Seen<'a> {
+    let place = contents.span();
+    (
+        contents.data(),
+        (place.offset(), place.len()),
+        contents.line(),
+        contents.column(),
+        contents.line_count(),
+    )
+}
+
+/// Reads through the bound, as a generic caller does. Nothing is seen of a refusal but that it is one.
+fn read<S: SourceCode>(
+    code: &S,
+    offset: usize,
+    len: usize,
+    before: usize,
+    after: usize,
+) -> Option<Seen<'_>> {
+    match code.read_span(&span(offset, len), before, after) {
+        Ok(contents) => Some(seen(&contents)),
+        Err(_) => None,
+    }
+}
+
+#[test]
+fn reads_a_text(rt: HostRuntime) {
+    let all = README.as_bytes();
+    assert_eq!(rt;
+        read(&README, 9, 4, 0, 0),
+        Some((&all[9..13], (9, 4), 1, 2, 0))
+    );
+    assert_eq!(rt; read(&README, 9, 4, 1, 1), Some((all, (0, 22), 0, 0, 2)));
+    assert_eq!(rt;
+        read(&README, 22, 1, 0, 0),
+        Some((&all[22..], (22, 0), 2, 8, 0))
+    );
+}
+
+#[test]
+fn refuses_what_lies_outside(rt: HostRuntime) {
+    assert_eq!(rt; read(&README, 22, 2, 0, 0), None);
+    assert_eq!(rt; read(&README, 23, 0, 0, 0), None);
+    let outside = README.read_span(&span(23, 0), 0, 0);
+    assert!(rt; matches!(outside, Err(MietteError::OutOfBounds)));
+}
+
+#[test]
+fn an_empty_source_accepts_one_byte(rt: HostRuntime) {
+    let empty = b"".as_slice();
+    assert_eq!(rt; read(&empty, 0, 1, 1, 1), Some((empty, (0, 0), 0, 0, 0)));
+    assert_eq!(rt; read(&empty, 1, 1, 1, 1), None);
+}
+
+#[test]
+fn context_is_whole_lines(rt: HostRuntime) -> Result<(), Fail> {
+    let bytes = b"a\nb\nc\nd";
+    let owned = bytes.to_vec(rt.alloc())?;
+    assert_eq!(rt;
+        read(&owned, 0, 2, 1, 1),
+        Some((&bytes[..6], (0, 6), 0, 0, 3))
+    );
+    Ok(())
+}
+
+#[test]
+fn terminators_are_read_whole(rt: HostRuntime) -> Result<(), Fail> {
+    let text = String::from_str(rt.alloc(), "foo\r\nbar")?;
+    let foo = b"foo\r\n".as_slice();
+    assert_eq!(rt; read(&text, 0, 4, 0, 0), Some((foo, (0, 5), 0, 0, 1)));
+    let bytes = b"\nx".as_slice();
+    assert_eq!(rt;
+        read(&bytes, 0, 0, 0, 0),
+        Some((b"\n".as_slice(), (0, 1), 0, 0, 1))
+    );
+    Ok(())
+}
+
+/// Sums past the largest number are refused or cut, and nothing wraps.
+#[test]
+fn the_largest_numbers(rt: HostRuntime) -> Result<(), Fail> {
+    let most = usize::MAX;
+    let all = README.as_bytes();
+    assert_eq!(rt; read(&README, most, most, 0, 0), None);
+    assert_eq!(rt; read(&README, 1, most, 0, 0), None);
+    assert_eq!(rt;
+        read(&README, 9, 4, most, most),
+        Some((all, (0, 22), 0, 0, 2))
+    );
+    let indexed = IndexedSource::new(rt.alloc(), all.to_vec(rt.alloc())?)?;
+    assert_eq!(rt; read(&indexed, most, most, 0, 0), None);
+    assert_eq!(rt;
+        read(&indexed, 9, 4, most, most),
+        Some((all, (0, 22), 0, 0, 2))
+    );
+    Ok(())
+}
+
+/// A thousand bytes: a CRLF that stands between two blocks of 224, a lone CR and an LF.
+fn long_source(alloc: Global) -> Result<Vec<u8>, AllocError> {
+    let mut bytes = Vec::new(alloc);
+    for at in 0..1_000usize {
+        bytes.push(match at {
+            223 | 500 => b'\r',
+            224 | 700 => b'\n',
+            _ => b'x',
+        })?;
+    }
+    Ok(bytes)
+}
+
+/// A line is found over more bytes than are counted together.
+#[test]
+fn long_sources(rt: HostRuntime) -> Result<(), Fail> {
+    let bytes = long_source(rt.alloc())?;
+    let rows = [
+        ((999, 1, 0), ((999, 1), 3, 298, 0)),
+        ((224, 0, 0), ((224, 1), 0, 223, 1)),
+        ((220, 4, 0), ((220, 5), 0, 220, 1)),
+        ((600, 1, 1), ((225, 775), 1, 0, 2)),
+    ];
+    for ((offset, len, context), numbers) in rows {
+        let found = read(&bytes, offset, len, context, context);
+        assert_eq!(rt; found.map(|it| (it.1, it.2, it.3, it.4)), Some(numbers));
+    }
+    Ok(())
+}
+
+/// A source that may fail, and does.
+#[derive(Drop)]
+struct Broken;
+
+impl SourceCode for Broken {
+    ghost use Rattle.std.specs.Prelude.{[], None, false};
+
+    ghost source = { λ _. record { bytes = []; name = None; language = None; always_reads = false } };
+
+    fn read_span(
+        &self,
+        _span: &SourceSpan,
+        _before: usize,
+        _after: usize,
+    ) -> Result<MietteSpanContents<'_>, MietteError> {
+        Err(MietteError::IoError(io::Error::other("gone")))
+    }
+}
+
+fn boxed_readme(alloc: Global) -> Result<NamedSource<Vec<u8>>, AllocError> {
+    let bytes = README.as_bytes().to_vec(alloc)?;
+    NamedSource::new(alloc, "bad_file.rs", bytes)?.with_language(alloc, "Rust")
+}
+
+#[test]
+fn reads_through_a_box(rt: HostRuntime) -> Result<(), Fail> {
+    let code: Box<dyn SourceCode> = Box::new(rt.alloc(), boxed_readme(rt.alloc())?)?;
+    match code.read_span(&span(9, 4), 0, 0) {
+        Ok(contents) => {
+            assert_eq!(rt; contents.name(), Some("bad_file.rs"));
+            assert_eq!(rt; contents.language(), Some("Rust"));
+            assert_eq!(rt; contents.data(), b"text".as_slice());
+        }
+        Err(_) => assert!(rt; false),
+    }
+    let all = README.as_bytes();
+    assert_eq!(rt;
+        read(&code, 9, 4, 0, 0),
+        Some((&all[9..13], (9, 4), 1, 2, 0))
+    );
+    let broken: Box<dyn SourceCode> = Box::new(rt.alloc(), Broken)?;
+    assert!(rt;
+        matches!(
+            broken.read_span(&span(9, 4), 0, 0),
+            Err(MietteError::IoError(_))
+        )
+    );
+    Ok(())
+}
+
+#[test]
+fn names_pass_the_rest_on(rt: HostRuntime) -> Result<(), Fail> {
+    let inner = boxed_readme(rt.alloc())?;
+    let outer = NamedSource::new(rt.alloc(), "other.rs", inner)?;
+    assert_eq!(rt; outer.name(), "other.rs");
+    assert_eq!(rt; outer.inner().name(), "bad_file.rs");
+    assert_eq!(rt; outer.inner().inner().as_slice(), README.as_bytes());
+    match outer.read_span(&span(9, 4), 1, 1) {
+        Ok(contents) => {
+            assert_eq!(rt; contents.name(), Some("other.rs"));
+            assert_eq!(rt; contents.language(), Some("Rust"));
+            assert_eq!(rt; seen(&contents), (README.as_bytes(), (0, 22), 0, 0, 2));
+        }
+        Err(_) => assert!(rt; false),
+    }
+    let broken = NamedSource::new(rt.alloc(), "f", Broken)?;
+    assert!(rt;
+        matches!(
+            broken.read_span(&span(0, 0), 0, 0),
+            Err(MietteError::IoError(_))
+        )
+    );
+    Ok(())
+}
+
+#[test]
+fn contents_by_hand(rt: HostRuntime) {
+    let plain = MietteSpanContents::new(b"ab".as_slice(), span(3, 2), 4, 5, 6);
+    assert_eq!(rt; seen(&plain), (b"ab".as_slice(), (3, 2), 4, 5, 6));
+    assert_eq!(rt; plain.name(), None);
+    assert_eq!(rt; plain.language(), None);
+    let named = MietteSpanContents::new_named("f", b"ab".as_slice(), span(3, 2), 4, 5, 6);
+    let named = named.with_language("Rust");
+    assert_eq!(rt; seen(&named), (b"ab".as_slice(), (3, 2), 4, 5, 6));
+    assert_eq!(rt; named.name(), Some("f"));
+    assert_eq!(rt; named.language(), Some("Rust"));
+}
+
+#[test]
+fn few_looks_at_the_index(rt: HostRuntime) -> Result<(), Fail> {
+    let bytes = b"a\r\nb\rc\n";
+    let source = IndexedSource::new(rt.alloc(), bytes.to_vec(rt.alloc())?)?;
+    assert_eq!(rt; source.bytes(), bytes.as_slice());
+    for (offset, line) in [(0, 0), (2, 0), (3, 1), (5, 2), (7, 3), (9, 3)] {
+        let (found, looks) = source.line_of(offset);
+        assert_eq!(rt; found, line);
+        assert!(rt; looks <= 2);
+    }
+    let none = IndexedSource::new(rt.alloc(), b"abc".to_vec(rt.alloc())?)?;
+    assert_eq!(rt; none.line_of(2), (0, 0));
+    Ok(())
+}
+
+/// The source of a number below 200, each another one: up to five bytes of `a`, CR and LF, and behind odd ones an `a`.
+fn source_of(alloc: Global, number: usize) -> Result<Vec<u8>, AllocError> {
+    let mut bytes = Vec::new(alloc);
+    let mut rest = number / 2 * 2;
+    for _ in 0..5 {
+        if rest > 0 {
+            match rest % 3 {
+                0 => bytes.push(b'a')?,
+                1 => bytes.push(b'\r')?,
+                _ => bytes.push(b'\n')?,
+            }
+        }
+        rest /= 3;
+    }
+    if number % 2 == 1 {
+        bytes.push(b'a')?;
+    }
+    Ok(bytes)
+}
+
+#[test]
+fn index_and_scan_agree(rt: HostRuntime) -> Result<(), Fail> {
+    for number in 0..200 {
+        let bytes = source_of(rt.alloc(), number)?;
+        let indexed = IndexedSource::new(rt.alloc(), bytes.clone()?)?;
+        let plain = bytes.as_slice();
+        for offset in 0..8 {
+            for len in 0..8 {
+                for before in 0..3 {
+                    for after in 0..3 {
+                        assert_eq!(rt;
+                            read(&indexed, offset, len, before, after),
+                            read(&plain, offset, len, before, after)
+                        );
+                    }
+                }
+            }
+        }
+    }
+    Ok(())
+}
+
+#[test]
+fn laws_do_nothing(_rt: HostRuntime) {
+    laws::lines_cut_the_source();
+    laws::data_are_whole_lines();
+    laws::data_reach_the_span();
+    contents_clone_law();
+    named_source_equality_law::<&str>();
+    named_source_order_law::<&str>();
+    named_source_hash_law::<&str>();
+    render_error_law();
+    comparison_laws();
+    location_law();
+    diagnostic_equality_law();
+}
+
+#[test]
+fn contents_are_cloned(rt: HostRuntime) -> Result<(), Fail> {
+    let bytes = b"abc".as_slice();
+    let contents = bytes.read_span(&SourceSpan::from((1, 1)), 0, 0)?;
+    let again = contents.clone()?;
+    assert_eq!(rt; again.data(), b"b".as_slice());
+    assert_eq!(rt; again.column(), 1);
+    assert_eq!(rt; RenderError::from(AllocError), RenderError::Memory);
+    Ok(())
+}

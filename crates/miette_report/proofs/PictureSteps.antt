@@ -1,0 +1,51 @@
+-- Steps of making a picture and of writing it.
+use Rattle.std.proofs.Common.{◌≡◌, ℕ, List, [], ◌++◌, Option, Some, None, Result, Err, true, false, IfOk, IfSome, sym, ◌∙◌, ap, ap₂, subst, encode_utf8_all, string_bytes, String}
+use Rattle.miette_protocol.specs.declared.error.RenderError.{RenderError}
+use Rattle.miette_protocol.specs.declared.error.RenderError.TheVariants.{Refused}
+use Rattle.miette_tree.specs.Tree.{Tree}
+use Rattle.miette_text.specs.Themes.{no_styles, styles_of, theme_of, unicode_characters}
+use Rattle.miette_text.specs.declared.theme.GraphicalTheme.{GraphicalTheme}
+use Rattle.miette_handlers.specs.Answers.{unlisted}
+use Rattle.miette_handlers.specs.Printed.{all_read, printed}
+use Rattle.miette_handlers.specs.Settings.{Settings, default_settings}
+use Rattle.miette_handlers.specs.Snippets.{drawn_rows}
+use Rattle.miette_handlers.specs.Text.{report_text}
+use Rattle.miette_report.specs.Drawn.{draw_settings, drawn_tree, IsPicture, IsReadWhole, Pictures}
+
+abbrev narrow : Settings → Settings
+narrow s = record s { width = 80 }
+
+-- what the handler is made with
+pub plain-settings : (theme : GraphicalTheme) (made wide : Settings) → theme_of theme ≡ record { characters = unicode_characters; styles = no_styles }
+    → made ≡ default_settings theme.characters (styles_of theme.styles) → wide ≡ record made { width = 80 } → wide ≡ draw_settings theme.characters
+plain-settings theme made wide is m w = w ∙ ap narrow (m ∙ ap (λ t. default_settings theme.characters t.styles) is)
+
+reads-whole : (theme : GraphicalTheme) (s : Settings) (t : Tree) → s ≡ draw_settings theme.characters → IsReadWhole t → all_read (printed s t) ≡ true
+reads-whole theme s t same reads = ap (λ u. all_read (printed u t)) same ∙ reads theme.characters
+
+pub pictured : (theme : GraphicalTheme) (s : Settings) (t : Tree) (old new : List ℕ) → theme_of theme ≡ record { characters = unicode_characters; styles = no_styles }
+    → s ≡ draw_settings theme.characters → old ≡ [] → (all_read (printed s t) ≡ true → new ≡ old ++ encode_utf8_all (report_text drawn_rows s t unlisted))
+    → IsReadWhole t → IsPicture t new
+pictured theme s t old new is same none only reads =
+    (theme.characters, ap (λ u. u.characters) is, only (reads-whole theme s t same reads) ∙ ap₂ (λ o u. o ++ encode_utf8_all (report_text drawn_rows u t unlisted)) none same)
+
+pub unrefused : {A B : Type 0} (theme : GraphicalTheme) (s : Settings) (t : Tree) (r : Result A RenderError) (q : Result B RenderError) (e : RenderError) → s ≡ draw_settings theme.characters
+    → r ≡ Err e → q ≡ Err e → (r ≡ Err Refused → all_read (printed s t) ≡ false) → IsReadWhole t → q ≡ Err Refused → ⊥
+unrefused theme s t r q e same is kept refused reads p =
+    let refusal : e ≡ Refused = cc in
+    let k : true ≡ false = sym (reads-whole theme s t same reads) ∙ refused (is ∙ ap Err refusal) in cc
+
+-- of a drawn tree every label is read
+pub reads-drawn : (t : Tree) (name : List ℕ) (offset length : ℕ) (label message input : List ℕ) → t ≡ drawn_tree name offset length label message input → IsReadWhole t
+reads-drawn t name offset length label message input same = λ c. ap (λ u. all_read (printed (draw_settings c) u)) same
+
+pub IfOk-same : {E Z : Type 0} (r : Result (String Z) E) (t u : Tree) → t ≡ u → IfOk r (λ text. IsPicture t (string_bytes text)) → IfOk r (λ text. IsPicture u (string_bytes text))
+IfOk-same r t u same is = subst (λ v. IfOk r (λ text. IsPicture v (string_bytes text))) same is
+
+-- what was written of the picture, for what the reader tells
+pub told : (name : List ℕ) (offset length : ℕ) (label message input : List ℕ) (all : Option (List ℕ)) (text bytes : List ℕ) (P : List ℕ → Type 0)
+    → IfSome all (λ bs. input ≡ bs) → IsPicture (drawn_tree name offset length label message input) text → bytes ≡ text → P bytes
+    → IfSome all (λ bs. Pictures name offset length label message bs P)
+told name offset length label message input None text bytes P read is same p = tt
+told name offset length label message input (Some bs) text bytes P read is same p =
+    (text, subst (λ i. IsPicture (drawn_tree name offset length label message i) text) read is, subst P same p)

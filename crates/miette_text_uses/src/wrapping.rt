@@ -1,0 +1,110 @@
+use miette_text::wrap::{WordSeparator, WordSplitter, WrapOptions, fill};
+use std::alloc::AllocError;
+use std::test::Fail;
+
+fn filled(rt: &HostRuntime, text: &str, width: usize, hyphens: bool) -> Result<String, AllocError> {
+    let options = WrapOptions {
+        width,
+        first_indent: "",
+        further_indent: "",
+        break_words: true,
+        wrap_lines: true,
+        separator: WordSeparator::AsciiSpace,
+        splitter: if hyphens {
+            WordSplitter::HyphenSplitter
+        } else {
+            WordSplitter::NoHyphenation
+        },
+    };
+    let mut out = String::new(rt.alloc());
+    fill(text, &options, &mut out)?;
+    Ok(out)
+}
+
+#[test]
+fn hyphens(rt: HostRuntime) -> Result<(), Fail> {
+    assert_eq!(rt; filled(&rt, "ab-cd ef", 5, true)?.as_str(), "ab-cd\nef");
+    assert_eq!(rt; filled(&rt, "ab-cd ef", 4, true)?.as_str(), "ab-\ncd\nef");
+    assert_eq!(rt; filled(&rt, "ab-cd ef", 4, false)?.as_str(), "ab-c\nd ef");
+    Ok(())
+}
+
+#[test]
+fn sequences(rt: HostRuntime) -> Result<(), Fail> {
+    assert_eq!(rt;
+        filled(&rt, "aa \u{1B}[31m bb", 3, true)?.as_str(),
+        "aa\u{1B}[31m\nbb"
+    );
+    assert_eq!(rt;
+        filled(&rt, "\u{1B}[31mred \u{1B}[0mx", 4, true)?.as_str(),
+        "\u{1B}[31mred\n\u{1B}[0mx"
+    );
+    assert_eq!(rt;
+        filled(&rt, "a-\u{1B}[31mb\u{1B}[0m", 2, true)?.as_str(),
+        "a-\n\u{1B}[31mb\u{1B}[0m"
+    );
+    assert_eq!(rt;
+        filled(&rt, "\u{1B}[31mab \u{1B}[0m", 5, true)?.as_str(),
+        "\u{1B}[31mab\u{1B}[0m"
+    );
+    assert_eq!(rt;
+        filled(&rt, "\u{1B}[31mabcd\u{1B}[0m", 2, true)?.as_str(),
+        "\u{1B}[31mab\ncd\u{1B}[0m"
+    );
+    Ok(())
+}
+
+#[test]
+fn whole(rt: HostRuntime) -> Result<(), Fail> {
+    let options = WrapOptions {
+        width: 80,
+        first_indent: "> ",
+        further_indent: ". ",
+        break_words: true,
+        wrap_lines: false,
+        separator: WordSeparator::AsciiSpace,
+        splitter: WordSplitter::HyphenSplitter,
+    };
+    let mut out = String::from_str(rt.alloc(), "x")?;
+    fill("a\n\n", &options, &mut out)?;
+    assert_eq!(rt; out.as_str(), "x> a\n.\n");
+    Ok(())
+}
+
+#[test]
+fn indents(rt: HostRuntime) -> Result<(), Fail> {
+    let options = WrapOptions {
+        width: 10,
+        first_indent: "  \u{1B}[31m×\u{1B}[0m ",
+        further_indent: "  | ",
+        break_words: true,
+        wrap_lines: true,
+        separator: WordSeparator::AsciiSpace,
+        splitter: WordSplitter::HyphenSplitter,
+    };
+    let mut out = String::new(rt.alloc());
+    fill("alpha 漢字 é\n", &options, &mut out)?;
+    assert_eq!(rt;
+        out.as_str(),
+        "  \u{1B}[31m×\u{1B}[0m alpha\n  | 漢字 é\n  | "
+    );
+    Ok(())
+}
+
+#[test]
+fn ends(rt: HostRuntime) -> Result<(), Fail> {
+    // without wrapping, what is white loses its indent's last spaces, and sequences behind the last line feed stay
+    let options = WrapOptions {
+        width: 80,
+        first_indent: "> ",
+        further_indent: ". ",
+        break_words: true,
+        wrap_lines: false,
+        separator: WordSeparator::AsciiSpace,
+        splitter: WordSplitter::HyphenSplitter,
+    };
+    let mut out = String::new(rt.alloc());
+    fill("\u{A0}\t\na\n\u{1B}[0m", &options, &mut out)?;
+    assert_eq!(rt; out.as_str(), ">\u{A0}\t\n. a\n\u{1B}[0m");
+    Ok(())
+}
