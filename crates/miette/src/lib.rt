@@ -2,6 +2,8 @@
 //! text. This crate names what its users need from the layers below.
 #![tactic(auto)]
 
+pub mod options;
+
 pub use miette_handlers::handlers;
 pub use miette_handlers::handlers::ReportHandler as EyreContext;
 pub use miette_protocol::{diagnostic, error, protocol, source};

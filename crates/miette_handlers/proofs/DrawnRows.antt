@@ -1,19 +1,20 @@
 -- The rows of snippets under answers: where nothing fails, they are those in which nothing is listed.
-use Rattle.std.proofs.Common.{◌≡◌, ◌≢◌, ℕ, Bool, true, false, ◌||◌, if◌then◌else◌, ◌⊎◌, inl, inr, List, [], ◌∷◌, refl, sym, ap, ap₂, ◌∙◌, Option, Some, None, is_some, option_map, codes, length, ◌<◌, ◌≤◌, arith}
+use Rattle.std.proofs.Common.{◌≡◌, ◌≢◌, ℕ, Bool, true, false, ◌||◌, if◌then◌else◌, ◌⊎◌, inl, inr, List, [], ◌∷◌, refl, sym, ap, ap₂, ◌∙◌, subst, Option, Some, None, is_some, option_map, codes, length, ◌<◌, ◌≤◌, arith}
 use Rattle.miette_protocol.specs.Meaning.{Label, Meaning}
 use Rattle.miette_protocol.specs.Reading.{Source, Span}
 use Rattle.miette_text.specs.Tame.{is_nil}
-use Rattle.miette_layout.specs.Answers.{NoneFails, AlwaysReads, next_answer, later_answers}
-use Rattle.miette_layout.specs.Contexts.{is_accepted}
+use Rattle.miette_layout.specs.Answers.{Highlight, NoneFails, AlwaysReads, next_answer, later_answers}
+use Rattle.miette_layout.specs.Contexts.{is_accepted, contents, lines_of_contents}
 use Rattle.miette_layout.specs.Drawn.{MayGive}
 use Rattle.miette_layout.specs.Frames as frames
 use Rattle.miette_layout.specs.Frames.{refused_row}
 use Rattle.miette_layout.specs.Groups.{refusal, joins_before, joined, groups_from, groups_answered, in_order, spans_of}
+use Rattle.miette_layout.specs.Highlighted.{EachHasPieces, SnippetsHavePieces, texts_of}
 use Rattle.miette_layout.specs.Layout.{snippet_rows, rows_unless, rows_of_groups, all_snippets, some_fails}
 use Rattle.miette_layout.specs.Rows.{Row}
 use Rattle.miette_layout.specs.Told.{Token, told_rows}
-use Rattle.miette_handlers.specs.Answers.{Answer, nothing_listed}
-use Rattle.miette_handlers.specs.Answered.{HasRows, AreDrawn, IsDrawn}
+use Rattle.miette_handlers.specs.Answers.{Answer, nothing_listed, pieces_listed}
+use Rattle.miette_handlers.specs.Answered.{HasRows, HasPieces, IsAnswerOf, AreDrawn, IsDrawn}
 use Rattle.miette_handlers.specs.Printed.{always_reads}
 use Rattle.miette_handlers.specs.Parts.{rows_text, list_of}
 use Rattle.miette_handlers.specs.Printing.{page_text}
@@ -57,44 +58,62 @@ places_none fails [] h = refl
 places_none fails (group ∷ groups) h = ap₂ (λ a b. a || b) (next_none fails h) (places_none (later_answers fails) groups (later_none fails h))
 
 -- the rows of groups where nothing fails
-groups_given : (s : frames.Settings) (source : Source) (labels : List Label) (a : Answer) → AlwaysReads a → a.pieces ≡ [] →
+groups_given : (s : frames.Settings) (source : Source) (labels : List Label) (a : Answer) → AlwaysReads a →
     rows_of_groups s source labels a (groups_answered s.context source a.join_fails (spans_of labels))
-    ≡ Some (all_snippets s source labels [] (groups_answered s.context source [] (spans_of labels)))
-groups_given s source labels a h e =
+    ≡ Some (all_snippets s source labels a.pieces (groups_answered s.context source [] (spans_of labels)))
+groups_given s source labels a h =
     ap (λ g. rows_of_groups s source labels a g) (answered_none s.context source a.join_fails (spans_of labels) h.joins)
     ∙ ap (λ b. if b then None else Some (all_snippets s source labels a.pieces (groups_answered s.context source [] (spans_of labels)))) (places_none a.place_fails (groups_answered s.context source [] (spans_of labels)) h.places)
-    ∙ ap (λ p. Some (all_snippets s source labels p (groups_answered s.context source [] (spans_of labels)))) e
 
-pub none_listed : AlwaysReads nothing_listed
-none_listed = record { labels = tt; joins = tt; places = tt }
+pub none_listed : (pieces : List (List (List Highlight))) → AlwaysReads (pieces_listed pieces)
+none_listed pieces = record { labels = tt; joins = tt; places = tt }
 
-unless_same : (s : frames.Settings) (source : Source) (labels : List Label) (a : Answer) (refused : Option Row) → AlwaysReads a → a.pieces ≡ [] →
-    rows_unless s source labels a refused ≡ rows_unless s source labels nothing_listed refused
-unless_same s source labels a (Some row) h e = refl
-unless_same s source labels a None h e = groups_given s source labels a h e ∙ sym (groups_given s source labels nothing_listed none_listed refl)
+unless_same : (s : frames.Settings) (source : Source) (labels : List Label) (a : Answer) (refused : Option Row) → AlwaysReads a →
+    rows_unless s source labels a refused ≡ rows_unless s source labels (pieces_listed a.pieces) refused
+unless_same s source labels a (Some row) h = refl
+unless_same s source labels a None h = groups_given s source labels a h ∙ sym (groups_given s source labels (pieces_listed a.pieces) (none_listed a.pieces))
 
-pub rows_same : (s : frames.Settings) (source : Source) (labels : List Label) (a : Answer) → AlwaysReads a → a.pieces ≡ [] →
-    snippet_rows s source labels a ≡ snippet_rows s source labels nothing_listed
-rows_same s source labels a h e =
+pub rows_same : (s : frames.Settings) (source : Source) (labels : List Label) (a : Answer) → AlwaysReads a →
+    snippet_rows s source labels a ≡ snippet_rows s source labels (pieces_listed a.pieces)
+rows_same s source labels a h =
     ap (λ r. rows_unless s source (in_order labels) a (option_map (refused_row s) r)) (refusal_none source.bytes a.label_fails (in_order labels) h.labels)
-    ∙ unless_same s source (in_order labels) a (option_map (refused_row s) (refusal source.bytes [] (in_order labels))) h e
+    ∙ unless_same s source (in_order labels) a (option_map (refused_row s) (refusal source.bytes [] (in_order labels))) h
 
-some_unless : (s : frames.Settings) (source : Source) (labels : List Label) (refused : Option Row) → is_some (rows_unless s source labels nothing_listed refused) ≡ true
-some_unless s source labels (Some row) = refl
-some_unless s source labels None = ap is_some (groups_given s source labels nothing_listed none_listed refl)
+some_unless : (s : frames.Settings) (source : Source) (labels : List Label) (pieces : List (List (List Highlight))) (refused : Option Row) → is_some (rows_unless s source labels (pieces_listed pieces) refused) ≡ true
+some_unless s source labels pieces (Some row) = refl
+some_unless s source labels pieces None = ap is_some (groups_given s source labels (pieces_listed pieces) (none_listed pieces))
 
--- where nothing is listed there are rows
-pub always_rows : (s : frames.Settings) (source : Option Source) (labels : List Label) → HasRows s source labels nothing_listed
-always_rows s None labels = tt
-always_rows s (Some source) labels = some_unless s source (in_order labels) (option_map (refused_row s) (refusal source.bytes [] (in_order labels)))
+-- where no read failed there are rows
+pub always_rows : (s : frames.Settings) (source : Option Source) (labels : List Label) (pieces : List (List (List Highlight))) → HasRows s source labels (pieces_listed pieces)
+always_rows s None labels pieces = tt
+always_rows s (Some source) labels pieces = some_unless s source (in_order labels) pieces (option_map (refused_row s) (refusal source.bytes [] (in_order labels)))
 
-never_none : (s : frames.Settings) (source : Source) (labels : List Label) (refused : Option Row) → rows_unless s source labels nothing_listed refused ≢ None
-never_none s source labels (Some row) e = absurd (cc)
-never_none s source labels None e = let k = sym (groups_given s source labels nothing_listed none_listed refl) ∙ e in absurd (cc)
+never_none : (s : frames.Settings) (source : Source) (labels : List Label) (pieces : List (List (List Highlight))) (refused : Option Row) → rows_unless s source labels (pieces_listed pieces) refused ≢ None
+never_none s source labels pieces (Some row) e = absurd (cc)
+never_none s source labels pieces None e = let k = sym (groups_given s source labels (pieces_listed pieces) (none_listed pieces)) ∙ e in absurd (cc)
 
-no_rows_fail : (s : frames.Settings) (source : Source) (labels : List Label) (a : Answer) → AlwaysReads a → a.pieces ≡ [] → snippet_rows s source labels a ≡ None → ⊥
-no_rows_fail s source labels a h e n =
-    never_none s source (in_order labels) (option_map (refused_row s) (refusal source.bytes [] (in_order labels))) (sym (rows_same s source labels a h e) ∙ n)
+no_rows_fail : (s : frames.Settings) (source : Source) (labels : List Label) (a : Answer) → AlwaysReads a → snippet_rows s source labels a ≡ None → ⊥
+no_rows_fail s source labels a h n =
+    never_none s source (in_order labels) a.pieces (option_map (refused_row s) (refusal source.bytes [] (in_order labels))) (sym (rows_same s source labels a h) ∙ n)
+
+-- ---- no pieces
+
+none_each : (blank : Bool) (texts : List (List ℕ)) → EachHasPieces blank texts []
+none_each blank [] = tt
+none_each blank (text ∷ texts) = (record { cut = λ some. absurd (some refl); none = λ b. refl }, none_each blank texts)
+
+none_have : (context : ℕ) (blank : Bool) (source : Source) (groups : List Span) → SnippetsHavePieces context blank source groups []
+none_have context blank source [] = tt
+none_have context blank source (group ∷ groups) =
+    (none_each blank (texts_of source.bytes (lines_of_contents (contents context source group))), none_have context blank source groups)
+
+no_pieces : (s : frames.Settings) (blank : Bool) (source : Option Source) (labels : List Label) → HasPieces s blank source labels nothing_listed
+no_pieces s blank None labels = tt
+no_pieces s blank (Some source) labels = none_have s.context blank source (groups_answered s.context source [] (spans_of (in_order labels)))
+
+-- where nothing is listed, nothing failed
+pub unlisted_is : (s : frames.Settings) (blank : Bool) (source : Option Source) (labels : List Label) (reads : Bool) → IsAnswerOf s blank source labels reads nothing_listed
+unlisted_is s blank source labels reads = record { read = λ h. refl; plain = λ b. refl; pieces = no_pieces s blank source labels; rows = always_rows s source labels [] }
 
 decide : (b : Bool) → (b ≡ true) ⊎ (b ≡ false)
 decide true = inl refl
@@ -112,37 +131,53 @@ rows_none : (rows : Option (List Row)) → None ≡ option_map told_rows rows �
 rows_none None e = refl
 rows_none (Some rows) e = absurd (cc)
 
-pub drawn_page : (s : Settings) (source : Source) (labels : List Label) (page : List Token) (text : List ℕ) →
-    MayGive (layout_settings s) source labels (Some page) → text ≡ page_text page → AreDrawn s source labels text
-drawn_page s source labels page text g e =
-    let shown : text ≡ rows_text (drawn_rows s (Some source) labels g.answers) = e ∙ page_given (snippet_rows (layout_settings s) source labels g.answers) page g.is in
+pub drawn_page : (s : Settings) (source : Source) (labels : List Label) (blank : Bool) (page : List Token) (text : List ℕ) →
+    MayGive (layout_settings s) source labels blank (Some page) → text ≡ page_text page → AreDrawn s blank source labels text
+drawn_page s source labels blank page text g e =
+    let l = layout_settings s in
+    let a = g.answers in
+    let shown : text ≡ rows_text (drawn_rows s (Some source) labels a) = e ∙ page_given (snippet_rows l source labels a) page g.is in
     elim (decide source.always_reads) [
-      | inl reads ↦ (nothing_listed, λ h. refl, refl, always_rows (layout_settings s) (Some source) labels, shown ∙ ap (λ r. rows_text (shown_rows r)) (rows_same (layout_settings s) source labels g.answers (g.always reads) g.uncolored))
-      | inr fails ↦ (g.answers, λ h. absurd (cc), g.uncolored, rows_some (snippet_rows (layout_settings s) source labels g.answers) page g.is, shown)
+      | inl reads ↦ (
+        pieces_listed a.pieces,
+        record {
+          read = λ h. refl;
+          plain = g.plain;
+          pieces = subst (λ groups. SnippetsHavePieces l.context blank source groups a.pieces) (answered_none l.context source a.join_fails (spans_of (in_order labels)) (g.always reads).joins) g.pieces;
+          rows = always_rows l (Some source) labels a.pieces;
+        },
+        shown ∙ ap (λ r. rows_text (shown_rows r)) (rows_same l source labels a (g.always reads)),
+      )
+      | inr fails ↦ (
+        a,
+        record { read = λ h. absurd (cc); plain = g.plain; pieces = g.pieces; rows = rows_some (snippet_rows l source labels a) page g.is },
+        shown,
+      )
     ]
 
-pub refused_page : (s : Settings) (source : Source) (labels : List Label) → MayGive (layout_settings s) source labels None → source.always_reads ≡ false
-refused_page s source labels g =
+pub refused_page : (s : Settings) (source : Source) (labels : List Label) (blank : Bool) → MayGive (layout_settings s) source labels blank None → source.always_reads ≡ false
+refused_page s source labels blank g =
     elim (decide source.always_reads) [
-      | inl reads ↦ absurd (no_rows_fail (layout_settings s) source labels g.answers (g.always reads) g.uncolored (rows_none (snippet_rows (layout_settings s) source labels g.answers) g.is))
+      | inl reads ↦ absurd (no_rows_fail (layout_settings s) source labels g.answers (g.always reads) (rows_none (snippet_rows (layout_settings s) source labels g.answers) g.is))
       | inr fails ↦ fails
     ]
 
 -- ---- a diagnostic's snippets
 
-pub drawn_nowhere : (s : Settings) (m : Meaning) (text : List ℕ) → text ≡ [] → IsDrawn drawn_rows s None m text
-drawn_nowhere s m text e = (nothing_listed, (λ h. refl, refl, tt), e)
+pub drawn_nowhere : (s : Settings) (blank : Bool) (m : Meaning) (text : List ℕ) → text ≡ [] → IsDrawn drawn_rows s blank None m text
+drawn_nowhere s blank m text e = (nothing_listed, unlisted_is (layout_settings s) blank None (list_of m.labels) (always_reads None m), e)
 
-pub drawn_unlabelled : (s : Settings) (source : Source) (m : Meaning) (text : List ℕ) → list_of m.labels ≡ [] → text ≡ [] → IsDrawn drawn_rows s (Some source) m text
-drawn_unlabelled s source m text e t =
-    (nothing_listed, (λ h. refl, refl, always_rows (layout_settings s) (Some source) (list_of m.labels)), t ∙ ap (λ ls. rows_text (drawn_rows s (Some source) ls nothing_listed)) (sym e))
+pub drawn_unlabelled : (s : Settings) (blank : Bool) (source : Source) (m : Meaning) (text : List ℕ) → list_of m.labels ≡ [] → text ≡ [] → IsDrawn drawn_rows s blank (Some source) m text
+drawn_unlabelled s blank source m text e t =
+    (nothing_listed, unlisted_is (layout_settings s) blank (Some source) (list_of m.labels) (always_reads (Some source) m), t ∙ ap (λ ls. rows_text (drawn_rows s (Some source) ls nothing_listed)) (sym e))
 
 reads_some : (source : Source) (labels : List Label) → labels ≢ [] → (if is_nil labels then true else source.always_reads) ≡ source.always_reads
 reads_some source [] h = absurd (h refl)
 reads_some source (label ∷ labels) h = refl
 
-pub drawn_labelled : (s : Settings) (source : Source) (m : Meaning) (text : List ℕ) → list_of m.labels ≢ [] → AreDrawn s source (list_of m.labels) text → IsDrawn drawn_rows s (Some source) m text
-drawn_labelled s source m text some d = (d.0, (λ h. d.1 (sym (reads_some source (list_of m.labels) some) ∙ h), d.2, d.3), d.4)
+pub drawn_labelled : (s : Settings) (blank : Bool) (source : Source) (m : Meaning) (text : List ℕ) → list_of m.labels ≢ [] → AreDrawn s blank source (list_of m.labels) text → IsDrawn drawn_rows s blank (Some source) m text
+drawn_labelled s blank source m text some d =
+    (d.0, record { read = λ h. d.1.read (sym (reads_some source (list_of m.labels) some) ∙ h); plain = d.1.plain; pieces = d.1.pieces; rows = d.1.rows }, d.2)
 
 pub refused_labelled : (source : Source) (m : Meaning) → list_of m.labels ≢ [] → source.always_reads ≡ false → always_reads (Some source) m ≡ false
 refused_labelled source m some e = reads_some source (list_of m.labels) some ∙ e

@@ -7,7 +7,8 @@ use Rattle.miette_text.specs.Cutting.{without_leading, without_trailing}
 use Rattle.miette_text.specs.Wrapping.{Layout, columns_of, wrapped}
 use Rattle.miette_handlers.proofs.TextLaws.{TextLaws, plain-tame, plain-erase}
 use Rattle.miette_handlers.specs.Settings.{Settings}
-use Rattle.miette_handlers.specs.Clean.{IsClean, HaveNoEscapes}
+use Rattle.miette_layout.specs.Clean.{IsClean}
+use Rattle.miette_handlers.specs.Clean.{HaveNoEscapes}
 use Rattle.miette_handlers.specs.Colourless.{colourless}
 use Rattle.miette_handlers.specs.Indents.{wrapped_under}
 use Rattle.miette_handlers.specs.Parts.{rows_text, line_feed}

@@ -3,6 +3,7 @@ pub mod JsonUnique
 pub mod JsonJoined
 pub mod TreeSizes
 pub mod JsonAnswers
+pub mod Bare
 pub mod Fading
 pub mod PartFading
 pub mod ReportFading
@@ -13,3 +14,4 @@ pub mod TextLaws
 pub mod Only
 pub mod Printed
 pub mod DrawnRows
+pub mod SnippetsFading

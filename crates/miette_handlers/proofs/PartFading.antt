@@ -3,7 +3,7 @@ use Rattle.std.proofs.Common.{◌≡◌, ℕ, ◌-◌, Bool, true, false, not, �
 use Rattle.std.proofs.lemmas.Bool.{and_parts}
 use Rattle.miette_text.specs.Sequences.{is_escape}
 use Rattle.miette_text.specs.Tame.{no_escape, is_nil}
-use Rattle.miette_text.specs.Runs.{IsStyle, Run, Styled, print}
+use Rattle.miette_text.specs.Runs.{Run, Styled, print}
 use Rattle.miette_text.specs.Styles.{plain}
 use Rattle.miette_protocol.specs.Meaning.{Meaning, Label}
 use Rattle.miette_protocol.specs.Reading.{Source}
@@ -18,7 +18,9 @@ use Rattle.miette_handlers.specs.Indents.{bare, spaces, wrapped_under, icon_inde
 use Rattle.miette_handlers.specs.Parts.{footer_of, line_feed, header, header_by, message_text, help_text, footer_text, under_arrow, severity_title, header_or_end, title_text, SnippetRows, rows_text, list_of}
 use Rattle.miette_handlers.specs.Text.{cause_texts, body, inner_text}
 use Rattle.miette_tree.specs.Tree.{effective}
-use Rattle.miette_handlers.specs.Clean.{IsClean, IsCleanCode, IsCleanText, EachOf, AreCleanCharacters, AreStyles, AreCleanSettings, AreCleanLabels, IsCleanLabel, IsCleanMeaning, IsCleanSource, IsCleanAnswer}
+use Rattle.std.specs.List.{AllByRecursion}
+use Rattle.miette_layout.specs.Clean.{IsClean, IsCleanCode, IsCleanText, IsCleanLabel, IsCleanSource}
+use Rattle.miette_handlers.specs.Clean.{AreCleanCharacters, AreCleanSettings, AreCleanLabels, IsCleanMeaning}
 use Rattle.miette_handlers.specs.Colourless.{faded, colourless, unhighlighted_answer, AreSnippets}
 use Rattle.miette_handlers.proofs.Fading.{Fades, Pales, fades-to, fades-append, fades-clean, fades-print, fades-leading, fades-under, fades-feed, fades-rows, columns-pale}
 
@@ -34,12 +36,6 @@ module _ (laws : TextLaws) where
 
   -- ---- styles and characters
 
-  style-clean : (s : Styles) (v : Option Severity) → AreStyles s → IsStyle (style_in s v)
-  style-clean s None h = h.0
-  style-clean s (Some Error) h = h.0
-  style-clean s (Some Warning) h = h.1
-  style-clean s (Some Advice) h = h.2
-
   style-faded : (s : Styles) (v : Option Severity) → plain ≡ style_in (faded s) v
   style-faded s None = refl
   style-faded s (Some Error) = refl
@@ -47,34 +43,34 @@ module _ (laws : TextLaws) where
   style-faded s (Some Advice) = refl
 
   icon-clean : (c : ThemeCharacters) (v : Option Severity) → AreCleanCharacters c → IsClean (icon_in c v)
-  icon-clean c None h = h.5
-  icon-clean c (Some Error) h = h.5
-  icon-clean c (Some Warning) h = h.6
-  icon-clean c (Some Advice) h = h.7
+  icon-clean c None h = h.error
+  icon-clean c (Some Error) h = h.error
+  icon-clean c (Some Warning) h = h.warning
+  icon-clean c (Some Advice) h = h.advice
 
   arrow-clean : (s : Settings) (b : Bool) → AreCleanSettings s → IsClean (arrow_text s b)
-  arrow-clean s true h = let k = h.0 in
-      clean-cons s.characters.lbot (s.characters.hbar ∷ s.characters.rarrow ∷ spaces 1) k.4
-      (clean-cons s.characters.hbar (s.characters.rarrow ∷ spaces 1) k.0 (clean-cons s.characters.rarrow (spaces 1) k.2 refl))
-  arrow-clean s false h = let k = h.0 in
-      clean-cons s.characters.lcross (s.characters.hbar ∷ s.characters.rarrow ∷ spaces 1) k.3
-      (clean-cons s.characters.hbar (s.characters.rarrow ∷ spaces 1) k.0 (clean-cons s.characters.rarrow (spaces 1) k.2 refl))
+  arrow-clean s true h = let k = h.0.drawings in
+      clean-cons s.characters.lbot (s.characters.hbar ∷ s.characters.rarrow ∷ spaces 1) k.lbot
+      (clean-cons s.characters.hbar (s.characters.rarrow ∷ spaces 1) k.hbar (clean-cons s.characters.rarrow (spaces 1) k.rarrow refl))
+  arrow-clean s false h = let k = h.0.drawings in
+      clean-cons s.characters.lcross (s.characters.hbar ∷ s.characters.rarrow ∷ spaces 1) k.lcross
+      (clean-cons s.characters.hbar (s.characters.rarrow ∷ spaces 1) k.hbar (clean-cons s.characters.rarrow (spaces 1) k.rarrow refl))
 
   stem-clean : (s : Settings) (b : Bool) → AreCleanSettings s → IsClean (stem_text s b)
   stem-clean s true h = refl
-  stem-clean s false h = let k = h.0 in clean-cons s.characters.vbar (spaces 3) k.1 refl
+  stem-clean s false h = let k = h.0.drawings in clean-cons s.characters.vbar (spaces 3) k.vbar refl
 
   -- ---- indents
 
   pale-icon : (s : Settings) (v : Option Severity) → AreCleanSettings s → Pales (icon_indent s v) (icon_indent (colourless s) v)
   pale-icon s v h = record {
-    clean = ((refl, tt), ((icon-clean s.characters v h.0, style-clean s.styles v h.1), ((refl, tt), tt)));
+    clean = (refl, (icon-clean s.characters v h.0, (refl, tt)));
     same = ap (λ st. bare (spaces 2) ∷ Styled st (icon s v) ∷ bare (spaces 1) ∷ []) (style-faded s.styles v);
   }
 
   pale-bar : (s : Settings) (v : Option Severity) → AreCleanSettings s → Pales (bar_indent s v) (bar_indent (colourless s) v)
-  pale-bar s v h = let k = h.0 in record {
-    clean = ((refl, tt), ((clean-cons s.characters.vbar [] k.1 refl, style-clean s.styles v h.1), ((refl, tt), tt)));
+  pale-bar s v h = let k = h.0.drawings in record {
+    clean = (refl, (clean-cons s.characters.vbar [] k.vbar refl, (refl, tt)));
     same = ap (λ st. bare (spaces 2) ∷ Styled st (s.characters.vbar ∷ []) ∷ bare (spaces 1) ∷ []) (style-faded s.styles v);
   }
 
@@ -89,13 +85,13 @@ module _ (laws : TextLaws) where
 
   pale-arrow : (s : Settings) (v : Option Severity) (b : Bool) → AreCleanSettings s → Pales (arrow_indent s v b) (arrow_indent (colourless s) v b)
   pale-arrow s v b h = record {
-    clean = ((arrow-clean s b h, style-clean s.styles v h.1), tt);
+    clean = (arrow-clean s b h, tt);
     same = ap₂ (λ st t. Styled st t ∷ []) (style-faded s.styles v) (arrow-same s b);
   }
 
   pale-stem : (s : Settings) (v : Option Severity) (b : Bool) → AreCleanSettings s → Pales (stem_indent s v b) (stem_indent (colourless s) v b)
   pale-stem s v b h = record {
-    clean = ((stem-clean s b h, style-clean s.styles v h.1), tt);
+    clean = (stem-clean s b h, tt);
     same = ap₂ (λ st t. Styled st t ∷ []) (style-faded s.styles v) (stem-same s b);
   }
 
@@ -107,21 +103,15 @@ module _ (laws : TextLaws) where
 
   pale-header_by : (u : Urls) (s : Settings) (v : Option Severity) (url code : Option (List ℕ)) → AreCleanSettings s → IfSome url IsCleanText → IfSome code IsCleanText →
       Pales (header_by u s (severity_style s v) url code) (header_by u (colourless s) plain url code)
-  pale-header_by AsLinks s v (Some url) (Some code) h k j = let st = h.1 in record {
-    clean = (k, ((clean-append (chars code) (32 ∷ []) j refl, style-clean s.styles v st), ((h.2, st.4), (tt, ((refl, tt), tt)))));
-    same = refl;
-  }
-  pale-header_by AsLinks s v (Some url) None h k j = let st = h.1 in record { clean = (k, ((h.2, st.4), (tt, ((refl, tt), tt)))); same = refl }
-  pale-header_by AsLinks s v None (Some code) h k j = record { clean = ((j, style-clean s.styles v h.1), ((refl, tt), tt)); same = refl }
+  pale-header_by AsLinks s v (Some url) (Some code) h k j = record { clean = (k, (clean-append (chars code) (32 ∷ []) j refl, (h.1, (tt, (refl, tt))))); same = refl }
+  pale-header_by AsLinks s v (Some url) None h k j = record { clean = (k, (h.1, (tt, (refl, tt)))); same = refl }
+  pale-header_by AsLinks s v None (Some code) h k j = record { clean = (j, (refl, tt)); same = refl }
   pale-header_by AsLinks s v None None h k j = record { clean = tt; same = refl }
-  pale-header_by AsText s v (Some url) (Some code) h k j = let st = h.1 in record {
-    clean = ((j, style-clean s.styles v st), ((refl, tt), ((k, st.4), ((refl, tt), ((refl, tt), tt)))));
-    same = refl;
-  }
+  pale-header_by AsText s v (Some url) (Some code) h k j = record { clean = (j, (refl, (k, (refl, (refl, tt))))); same = refl }
   pale-header_by AsText s v (Some url) None h k j = record { clean = tt; same = refl }
-  pale-header_by AsText s v None (Some code) h k j = record { clean = ((j, style-clean s.styles v h.1), ((refl, tt), tt)); same = refl }
+  pale-header_by AsText s v None (Some code) h k j = record { clean = (j, (refl, tt)); same = refl }
   pale-header_by AsText s v None None h k j = record { clean = tt; same = refl }
-  pale-header_by Hidden s v url (Some code) h k j = record { clean = ((j, style-clean s.styles v h.1), ((refl, tt), tt)); same = refl }
+  pale-header_by Hidden s v url (Some code) h k j = record { clean = (j, (refl, tt)); same = refl }
   pale-header_by Hidden s v url None h k j = record { clean = tt; same = refl }
 
   pale-header : (s : Settings) (m : Meaning) → AreCleanSettings s → IsCleanMeaning m → Pales (header s m) (header (colourless s) m)
@@ -130,7 +120,7 @@ module _ (laws : TextLaws) where
       record { clean = p.clean; same = p.same ∙ ap (λ st. header_by s.urls (colourless s) st m.url m.code) (style-faded s.styles m.severity) }
 
   pale-or_end : (xs ys : List Run) → Pales xs ys → Pales (header_or_end xs) (header_or_end ys)
-  pale-or_end [] ys h = record { clean = ((refl, tt), tt); same = ap header_or_end h.same }
+  pale-or_end [] ys h = record { clean = (refl, tt); same = ap header_or_end h.same }
   pale-or_end (x ∷ xs) ys h = record { clean = h.clean; same = ap header_or_end h.same }
 
   -- ---- message, help, footer
@@ -160,13 +150,13 @@ module _ (laws : TextLaws) where
       (pale-icon s m.severity h) (pale-bar s m.severity h) (fades-clean laws (chars m.message) k.message))
 
   pale-help : (s : Settings) → AreCleanSettings s → Pales (help_indent s) (help_indent (colourless s))
-  pale-help s h = let st = h.1 in record { clean = ((refl, st.3), tt); same = refl }
+  pale-help s h = record { clean = (refl, tt); same = refl }
 
   pale-spaces : Pales further_help_indent further_help_indent
-  pale-spaces = record { clean = ((refl, tt), tt); same = refl }
+  pale-spaces = record { clean = (refl, tt); same = refl }
 
   pale-footer : Pales footer_indent footer_indent
-  pale-footer = record { clean = ((refl, tt), tt); same = refl }
+  pale-footer = record { clean = (refl, tt); same = refl }
 
   fades-help : (s : Settings) (help : Option (List ℕ)) → AreCleanSettings s → IfSome help IsCleanText → Fades (help_text s help) (help_text (colourless s) help)
   fades-help s None h k = fades-clean laws [] refl
@@ -182,7 +172,7 @@ module _ (laws : TextLaws) where
       (fades-under laws s footer_indent footer_indent footer_indent footer_indent footer footer pale-footer pale-footer (fades-clean laws footer k)))
 
   pub fades-footer : (s : Settings) → AreCleanSettings s → Fades (footer_text s) (footer_text (colourless s))
-  fades-footer s h = fades-footer_of s s.footer h.3
+  fades-footer s h = fades-footer_of s s.footer h.2
 
   -- ---- causes
 
@@ -191,7 +181,7 @@ module _ (laws : TextLaws) where
       fades-line (wrapped_under s (arrow_indent s v b) (stem_indent s v b) x) (wrapped_under (colourless s) (arrow_indent (colourless s) v b) (stem_indent (colourless s) v b) y)
       (fades-under laws s (arrow_indent s v b) (arrow_indent (colourless s) v b) (stem_indent s v b) (stem_indent (colourless s) v b) x y (pale-arrow s v b h) (pale-stem s v b h) k)
 
-  pub fades-cause_texts : (s : Settings) (v : Option Severity) (ts : List (List ℕ)) → AreCleanSettings s → EachOf IsCleanText ts → Fades (cause_texts s v ts) (cause_texts (colourless s) v ts)
+  pub fades-cause_texts : (s : Settings) (v : Option Severity) (ts : List (List ℕ)) → AreCleanSettings s → AllByRecursion IsCleanText ts → Fades (cause_texts s v ts) (cause_texts (colourless s) v ts)
   fades-cause_texts s v [] h k = fades-clean laws [] refl
   fades-cause_texts s v (t ∷ ts) h k =
       fades-append laws (under_arrow s v (is_nil ts) (chars t)) (under_arrow (colourless s) v (is_nil ts) (chars t)) (cause_texts s v ts) (cause_texts (colourless s) v ts)
@@ -199,7 +189,7 @@ module _ (laws : TextLaws) where
 
   -- ---- snippets, and a diagnostic's text
 
-  labels-clean : (labels : Option (List Label)) → AreCleanLabels labels → EachOf IsCleanLabel (list_of labels)
+  labels-clean : (labels : Option (List Label)) → AreCleanLabels labels → AllByRecursion IsCleanLabel (list_of labels)
   labels-clean None h = tt
   labels-clean (Some ls) h = h
 
@@ -208,23 +198,23 @@ module _ (laws : TextLaws) where
   effective-clean (Some s) inherited h k = h
 
   pub fades-body : (rows : SnippetRows) → AreSnippets rows → (s : Settings) (m : Meaning) (source : Option Source) (a : Answer) (causes causes2 related related2 : List ℕ) →
-      AreCleanSettings s → IsCleanMeaning m → IfSome source IsCleanSource → IsCleanAnswer a → Fades causes causes2 → Fades related related2 →
+      AreCleanSettings s → IsCleanMeaning m → IfSome source IsCleanSource → Fades causes causes2 → Fades related related2 →
       Fades (body rows s m source a causes related) (body rows (colourless s) m source (unhighlighted_answer a) causes2 related2)
-  fades-body rows law s m source a causes causes2 related related2 h k j i p q =
+  fades-body rows law s m source a causes causes2 related related2 h k j p q =
       let ls = list_of m.labels in
       let rs = rows s source ls a in
       let rs2 = rows (colourless s) source ls (unhighlighted_answer a) in
       let snippets : Fades (rows_text rs) (rows_text rs2) =
-      fades-to (fades-rows laws rs (law.clean s source ls a h j (labels-clean m.labels k.labels) i)) (sym (law.fade s source ls a)) in
+      fades-to (fades-rows laws rs (law.clean s source ls a h j (labels-clean m.labels k.labels))) (sym (law.fade s source ls a)) in
       let one = fades-append laws (message_text s m) (message_text (colourless s) m) causes causes2 (fades-message s m h k) p in
       let two = fades-append laws (message_text s m ++ causes) (message_text (colourless s) m ++ causes2) (rows_text rs) (rows_text rs2) one snippets in
       let three = fades-append laws (message_text s m ++ causes ++ rows_text rs) (message_text (colourless s) m ++ causes2 ++ rows_text rs2) (help_text s m.help) (help_text (colourless s) m.help) two (fades-help s m.help h k.help) in
       fades-append laws (message_text s m ++ causes ++ rows_text rs ++ help_text s m.help) (message_text (colourless s) m ++ causes2 ++ rows_text rs2 ++ help_text (colourless s) m.help) related related2 three q
 
   pub fades-inner : (rows : SnippetRows) → AreSnippets rows → (s : Settings) (m : Meaning) (source : Option Source) (a : Answer) (related related2 : List ℕ) →
-      AreCleanSettings s → IsCleanMeaning m → IfSome source IsCleanSource → IsCleanAnswer a → Fades related related2 →
+      AreCleanSettings s → IsCleanMeaning m → IfSome source IsCleanSource → Fades related related2 →
       Fades (inner_text rows s m source a related) (inner_text rows (colourless s) m source (unhighlighted_answer a) related2)
-  fades-inner rows law s m source a related related2 h k j i q =
+  fades-inner rows law s m source a related related2 h k j q =
       fades-leading laws (print (header s m) ++ body rows s m source a [] related) (print (header (colourless s) m) ++ body rows (colourless s) m source (unhighlighted_answer a) [] related2)
       (fades-append laws (print (header s m)) (print (header (colourless s) m)) (body rows s m source a [] related) (body rows (colourless s) m source (unhighlighted_answer a) [] related2)
-      (fades-header s m h k) (fades-body rows law s m source a [] [] related related2 h k j i (fades-clean laws [] refl) q))
+      (fades-header s m h k) (fades-body rows law s m source a [] [] related related2 h k j (fades-clean laws [] refl) q))

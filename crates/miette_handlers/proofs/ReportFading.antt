@@ -8,72 +8,32 @@ use Rattle.miette_tree.specs.Tree.{Tree, tree, Cause, diagnostic, texts, Trees, 
 use Rattle.miette_protocol.specs.declared.protocol.Severity.{Severity}
 use Rattle.miette_handlers.proofs.TextLaws.{TextLaws}
 use Rattle.miette_handlers.specs.Settings.{Settings}
-use Rattle.miette_handlers.specs.Answers.{Answer, Answers, unlisted, listed, RelatedAnswers, no_more, and_more, own_answer, cause_answers, related_answers, first_answers, later_answers}
+use Rattle.miette_handlers.specs.Answers.{Answer, Answers, RelatedAnswers, own_answer, cause_answers, related_answers, first_answers, later_answers}
 use Rattle.miette_handlers.specs.Indents.{narrowed}
 use Rattle.miette_handlers.specs.Parts.{SnippetRows, header, footer_text, under_arrow, title_text}
 use Rattle.miette_handlers.specs.Text.{ends_there, are_last, only_if, body, inner_text, causes_text, related_text, report_text}
 use Rattle.miette_tree.specs.Tree.{effective}
-use Rattle.miette_handlers.specs.Clean.{AreCleanSettings, IsCleanMeaning, IsCleanSource, IsCleanTree, IsCleanCause, AreCleanTrees, IsCleanAnswer, AreCleanAnswers, AreCleanRelated}
+use Rattle.miette_layout.specs.Clean.{IsCleanSource}
+use Rattle.miette_handlers.specs.Clean.{AreCleanSettings, IsCleanMeaning, IsCleanTree, IsCleanCause, AreCleanTrees}
 use Rattle.miette_handlers.specs.Colourless.{colourless, unhighlighted_answer, unhighlighted, unhighlighted_related, AreSnippets}
+use Rattle.miette_handlers.proofs.Bare.{own-bare, cause-bare, related-bare, first-bare, later-bare}
 use Rattle.miette_handlers.proofs.Fading.{Fades, fades-to, fades-append, fades-trailing, fades-if, fades-only_if, fades-clean}
 use Rattle.miette_handlers.proofs.PartFading.{narrowed-faded, fades-header, fades-title, fades-footer, fades-under_arrow, fades-cause_texts, effective-clean, fades-body, fades-inner}
 
 module _ (laws : TextLaws) where
-  -- ---- answers
-
-  own-bare : (a : Answers) → unhighlighted_answer (own_answer a) ≡ own_answer (unhighlighted a)
-  own-bare unlisted = refl
-  own-bare (listed own cause related) = refl
-
-  cause-bare : (a : Answers) → unhighlighted (cause_answers a) ≡ cause_answers (unhighlighted a)
-  cause-bare unlisted = refl
-  cause-bare (listed own cause related) = refl
-
-  related-bare : (a : Answers) → unhighlighted_related (related_answers a) ≡ related_answers (unhighlighted a)
-  related-bare unlisted = refl
-  related-bare (listed own cause related) = refl
-
-  first-bare : (more : RelatedAnswers) → unhighlighted (first_answers more) ≡ first_answers (unhighlighted_related more)
-  first-bare no_more = refl
-  first-bare (and_more first more) = refl
-
-  later-bare : (more : RelatedAnswers) → unhighlighted_related (later_answers more) ≡ later_answers (unhighlighted_related more)
-  later-bare no_more = refl
-  later-bare (and_more first more) = refl
-
-  own-clean : (a : Answers) → AreCleanAnswers a → IsCleanAnswer (own_answer a)
-  own-clean unlisted h = tt
-  own-clean (listed own cause related) h = h.0
-
-  cause-clean : (a : Answers) → AreCleanAnswers a → AreCleanAnswers (cause_answers a)
-  cause-clean unlisted h = tt
-  cause-clean (listed own cause related) h = h.1
-
-  related-clean : (a : Answers) → AreCleanAnswers a → AreCleanRelated (related_answers a)
-  related-clean unlisted h = tt
-  related-clean (listed own cause related) h = h.2
-
-  first-clean : (more : RelatedAnswers) → AreCleanRelated more → AreCleanAnswers (first_answers more)
-  first-clean no_more h = tt
-  first-clean (and_more first more) h = h.0
-
-  later-clean : (more : RelatedAnswers) → AreCleanRelated more → AreCleanRelated (later_answers more)
-  later-clean no_more h = tt
-  later-clean (and_more first more) h = h.1
-
   -- ---- what stands under an arrow
 
   module _ (rows : SnippetRows) (law : AreSnippets rows) where
     -- an inner report, whose related reports are already known
     inner : (s : Settings) (v : Option Severity) (b : Bool) (m : Meaning) (source : Option Source) (a : Answers)
         (related : Settings → RelatedAnswers → List ℕ) →
-        AreCleanSettings s → IsCleanMeaning m → IfSome source IsCleanSource → AreCleanAnswers a →
+        AreCleanSettings s → IsCleanMeaning m → IfSome source IsCleanSource →
         Fades (related (narrowed s v b) (related_answers a)) (related (colourless (narrowed s v b)) (unhighlighted_related (related_answers a))) →
         Fades (inner_text rows (narrowed s v b) m source (own_answer a) (related (narrowed s v b) (related_answers a)))
         (inner_text rows (narrowed (colourless s) v b) m source (own_answer (unhighlighted a)) (related (narrowed (colourless s) v b) (related_answers (unhighlighted a))))
-    inner s v b m source a related h k j i q =
+    inner s v b m source a related h k j q =
         fades-to
-        (fades-inner laws rows law (narrowed s v b) m source (own_answer a) (related (narrowed s v b) (related_answers a)) (related (colourless (narrowed s v b)) (unhighlighted_related (related_answers a))) h k j (own-clean a i) q)
+        (fades-inner laws rows law (narrowed s v b) m source (own_answer a) (related (narrowed s v b) (related_answers a)) (related (colourless (narrowed s v b)) (unhighlighted_related (related_answers a))) h k j q)
         (ap (λ n. inner_text rows n m source (unhighlighted_answer (own_answer a)) (related n (unhighlighted_related (related_answers a)))) (narrowed-faded laws s v b h)
         ∙ ap₂ (λ o r. inner_text rows (narrowed (colourless s) v b) m source o (related (narrowed (colourless s) v b) r)) (own-bare a) (related-bare a))
 
@@ -132,56 +92,55 @@ module _ (laws : TextLaws) where
 
   mutual
     fades-causes : (rows : SnippetRows) → AreSnippets rows → (s : Settings) (outer : Option Severity) (inherited : Option Source) (c : Cause) (a : Answers) →
-        AreCleanSettings s → IfSome inherited IsCleanSource → IsCleanCause c → AreCleanAnswers a →
+        AreCleanSettings s → IfSome inherited IsCleanSource → IsCleanCause c →
         Fades (causes_text rows s outer inherited c a) (causes_text rows (colourless s) outer inherited c (unhighlighted a))
-    fades-causes rows law s outer inherited (texts ts) a h j k i = fades-cause_texts laws s outer ts h k
-    fades-causes rows law s outer inherited (diagnostic (tree m own c r)) a h j k i =
+    fades-causes rows law s outer inherited (texts ts) a h j k = fades-cause_texts laws s outer ts h k
+    fades-causes rows law s outer inherited (diagnostic (tree m own c r)) a h j k =
         let source = effective own inherited in
         let clean = effective-clean laws own inherited k.1 j in
         let b = ends_there c in
         fades-append laws _ _ _ _
         (fades-under_arrow laws s outer b _ _ h
-        (inner rows law s outer b m source a (λ n d. related_text rows n m.severity source r d) h k.0 clean i
-        (fades-related rows law (narrowed s outer b) m.severity source r (related_answers a) h clean k.3 (related-clean a i))))
-        (fades-to (fades-causes rows law s outer inherited c (cause_answers a) h j k.2 (cause-clean a i))
+        (inner rows law s outer b m source a (λ n d. related_text rows n m.severity source r d) h k.0 clean
+        (fades-related rows law (narrowed s outer b) m.severity source r (related_answers a) h clean k.3)))
+        (fades-to (fades-causes rows law s outer inherited c (cause_answers a) h j k.2)
         (ap (causes_text rows (colourless s) outer inherited c) (cause-bare a)))
 
     fades-related : (rows : SnippetRows) → AreSnippets rows → (s : Settings) (outer : Option Severity) (inherited : Option Source) (ts : Trees) (more : RelatedAnswers) →
-        AreCleanSettings s → IfSome inherited IsCleanSource → AreCleanTrees ts → AreCleanRelated more →
+        AreCleanSettings s → IfSome inherited IsCleanSource → AreCleanTrees ts →
         Fades (related_text rows s outer inherited ts more) (related_text rows (colourless s) outer inherited ts (unhighlighted_related more))
-    fades-related rows law s outer inherited no_trees more h j k i = fades-clean laws [] refl
-    fades-related rows law s outer inherited (more_trees (tree m own c r) ts) more h j k i =
+    fades-related rows law s outer inherited no_trees more h j k = fades-clean laws [] refl
+    fades-related rows law s outer inherited (more_trees (tree m own c r) ts) more h j k =
         let source = effective own inherited in
         let t = k.0 in
         let clean = effective-clean laws own inherited t.1 j in
         let b = are_last ts in
         let a = first_answers more in
-        let ia = first-clean more i in
         fades-to
         (fades-append laws _ _ _ _
         (fades-if laws s.nested _ _ _ _
         (fades-under_arrow laws s outer b _ _ h
         (fades-trailing laws _ _
-        (inner rows law s outer b m source a (λ n d. related_text rows n m.severity source r d) h t.0 clean ia
-        (fades-related rows law (narrowed s outer b) m.severity source r (related_answers a) h clean t.3 (related-clean a ia)))))
+        (inner rows law s outer b m source a (λ n d. related_text rows n m.severity source r d) h t.0 clean
+        (fades-related rows law (narrowed s outer b) m.severity source r (related_answers a) h clean t.3))))
         (fades-append laws _ _ _ _
         (fades-title laws s m h t.0)
-        (fades-body laws rows law s m source (own_answer a) _ _ _ _ h t.0 clean (own-clean a ia)
-        (fades-causes rows law s m.severity source c (cause_answers a) h clean t.2 (cause-clean a ia))
-        (fades-related rows law s m.severity source r (related_answers a) h clean t.3 (related-clean a ia)))))
-        (fades-related rows law s outer inherited ts (later_answers more) h j k.1 (later-clean more i)))
+        (fades-body laws rows law s m source (own_answer a) _ _ _ _ h t.0 clean
+        (fades-causes rows law s m.severity source c (cause_answers a) h clean t.2)
+        (fades-related rows law s m.severity source r (related_answers a) h clean t.3))))
+        (fades-related rows law s outer inherited ts (later_answers more) h j k.1))
         (related-end rows s m outer source inherited c r ts more)
 
   pub fades-report : (rows : SnippetRows) → AreSnippets rows → (s : Settings) (t : Tree) (a : Answers) →
-      AreCleanSettings s → IsCleanTree t → AreCleanAnswers a →
+      AreCleanSettings s → IsCleanTree t →
       Fades (report_text rows s t a) (report_text rows (colourless s) t (unhighlighted a))
-  fades-report rows law s (tree m own c r) a h k i =
+  fades-report rows law s (tree m own c r) a h k =
       fades-to
       (fades-append laws _ _ _ _
       (fades-append laws _ _ _ _
       (fades-header laws s m h k.0)
-      (fades-body laws rows law s m own (own_answer a) _ _ _ _ h k.0 k.1 (own-clean a i)
-      (fades-only_if laws s.chain _ _ (fades-causes rows law s m.severity own c (cause_answers a) h k.1 k.2 (cause-clean a i)))
-      (fades-related rows law s m.severity own r (related_answers a) h k.1 k.3 (related-clean a i))))
+      (fades-body laws rows law s m own (own_answer a) _ _ _ _ h k.0 k.1
+      (fades-only_if laws s.chain _ _ (fades-causes rows law s m.severity own c (cause_answers a) h k.1 k.2))
+      (fades-related rows law s m.severity own r (related_answers a) h k.1 k.3)))
       (fades-footer laws s h))
       (report-end rows s m own c r a)

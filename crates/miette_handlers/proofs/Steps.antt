@@ -1,5 +1,5 @@
 -- Printing a report, step by step: the answers of a whole are put together from those of its parts.
-use Rattle.std.proofs.Common.{◌≡◌, ◌≤◌, ◌<◌, Bool, true, false, List, [], ◌∷◌, ◌++◌, ℕ, length, map, drop, take, ◌-◌, get_or, refl, ap, ap₂, ◌∙◌, arith, Option, MatchBool, if◌then◌else◌}
+use Rattle.std.proofs.Common.{◌≡◌, ◌≤◌, ◌<◌, Bool, true, false, List, [], ◌∷◌, ◌++◌, ℕ, length, map, drop, take, ◌-◌, get_or, refl, sym, subst, ap, ap₂, ◌∙◌, append_assoc, append-nil, arith, Option, MatchBool, if◌then◌else◌}
 use Rattle.std.proofs.lemmas.List.{take_rest}
 use Rattle.miette_text.specs.Cutting.{without_trailing}
 use Rattle.miette_protocol.specs.Meaning.{Meaning}
@@ -10,13 +10,14 @@ use Rattle.miette_handlers.specs.Settings.{Settings}
 use Rattle.miette_handlers.specs.Answers.{Answers, unlisted, listed, no_more, and_more, own_answer, cause_answers, related_answers}
 use Rattle.miette_handlers.specs.Indents.{narrowed}
 use Rattle.miette_handlers.specs.Parts.{SnippetRows, rows_text, under_arrow, title_text, list_of}
-use Rattle.miette_handlers.specs.Text.{ends_there, are_last, body, body_over, inner_over, inner_text, causes_text, related_text, report_over, only_if}
+use Rattle.miette_handlers.specs.Text.{cause_texts, ends_there, are_last, body, body_over, inner_over, inner_text, causes_text, related_text, report_over, only_if}
 use Rattle.miette_tree.specs.Tree.{effective}
 use Rattle.miette_layout.specs.Frames as frames
-use Rattle.miette_handlers.specs.Printed.{all_read, over, printed, printed_causes, printed_related, printed_inner, printed_sibling, printed_one, printed_root_causes}
+use Rattle.miette_handlers.specs.Printed.{all_read, always_reads, over, printed, printed_causes, printed_related, printed_inner, printed_sibling, printed_one, printed_root_causes}
 use Rattle.miette_handlers.specs.Snippets.{layout_settings}
-use Rattle.miette_handlers.proofs.DrawnRows.{always_rows}
+use Rattle.miette_handlers.proofs.DrawnRows.{unlisted_is}
 use Rattle.miette_handlers.proofs.Lists.{first_fails, later_fails}
+use Rattle.miette_handlers.specs.Handler.{AppendsOne}
 use Rattle.miette_handlers.specs.Answered.{IsAnswer, AreCauseAnswers, AreRelatedAnswers, IsDrawn, AreCauses, AreRelated, IsInner, IsSibling, IsOneCause, IsNested, IsOneRelated, AreRootCauses, IsReport}
 
 pub not_last : {R : Type 0} (value : R → Tree) (rs : List R) → 1 ≤ length rs → false ≡ are_last (trees (map value rs))
@@ -31,54 +32,54 @@ first_and_more value (r ∷ rs) d h = ap (λ t. more_trees (value r) (trees (map
 -- ---- where nothing is listed, nothing failed
 
 mutual
-  causes-unlisted : (l : frames.Settings) (inherited : Option Source) (c : Cause) → AreCauseAnswers l inherited c unlisted
-  causes-unlisted l inherited (texts ts) = tt
-  causes-unlisted l inherited (diagnostic (tree m own c r)) = (
-    (λ h. refl, refl, always_rows l (effective own inherited) (list_of m.labels)),
-    related-unlisted l (effective own inherited) r,
-    causes-unlisted l inherited c,
+  causes-unlisted : (l : frames.Settings) (blank : Bool) (inherited : Option Source) (c : Cause) → AreCauseAnswers l blank inherited c unlisted
+  causes-unlisted l blank inherited (texts ts) = tt
+  causes-unlisted l blank inherited (diagnostic (tree m own c r)) = (
+    unlisted_is l blank (effective own inherited) (list_of m.labels) (always_reads (effective own inherited) m),
+    related-unlisted l blank (effective own inherited) r,
+    causes-unlisted l blank inherited c,
   )
 
-  related-unlisted : (l : frames.Settings) (inherited : Option Source) (ts : Trees) → AreRelatedAnswers l inherited ts no_more
-  related-unlisted l inherited no_trees = tt
-  related-unlisted l inherited (more_trees (tree m own c r) ts) = (
-    (λ h. refl, refl, always_rows l (effective own inherited) (list_of m.labels)),
-    causes-unlisted l (effective own inherited) c,
-    related-unlisted l (effective own inherited) r,
-    related-unlisted l inherited ts,
+  related-unlisted : (l : frames.Settings) (blank : Bool) (inherited : Option Source) (ts : Trees) → AreRelatedAnswers l blank inherited ts no_more
+  related-unlisted l blank inherited no_trees = tt
+  related-unlisted l blank inherited (more_trees (tree m own c r) ts) = (
+    unlisted_is l blank (effective own inherited) (list_of m.labels) (always_reads (effective own inherited) m),
+    causes-unlisted l blank (effective own inherited) c,
+    related-unlisted l blank (effective own inherited) r,
+    related-unlisted l blank inherited ts,
   )
 
 -- ---- texts
 
-pub causes_none : (rows : SnippetRows) (s : Settings) (outer : Option Severity) (inherited : Option Source) (ts : List (List ℕ)) (text : List ℕ) →
-    text ≡ causes_text rows s outer inherited (texts ts) unlisted → AreCauses rows s outer inherited (texts ts) text
-causes_none rows s outer inherited ts text e = (unlisted, tt, e)
+pub causes_none : (rows : SnippetRows) (s : Settings) (blank : Bool) (outer : Option Severity) (inherited : Option Source) (ts : List (List ℕ)) (text : List ℕ) →
+    text ≡ causes_text rows s outer inherited (texts ts) unlisted → AreCauses rows s blank outer inherited (texts ts) text
+causes_none rows s blank outer inherited ts text e = (unlisted, tt, e)
 
-pub cause_step : (rows : SnippetRows) (s : Settings) (outer : Option Severity) (inherited : Option Source) (t : Tree) (one more : List ℕ) →
-    IsOneCause rows s outer inherited t one → AreCauses rows s outer inherited (cause_of t) more →
-    AreCauses rows s outer inherited (diagnostic t) (one ++ more)
-cause_step rows s outer inherited (tree m own c r) one more p q = (
+pub cause_step : (rows : SnippetRows) (s : Settings) (blank : Bool) (outer : Option Severity) (inherited : Option Source) (t : Tree) (one more : List ℕ) →
+    IsOneCause rows s blank outer inherited t one → AreCauses rows s blank outer inherited (cause_of t) more →
+    AreCauses rows s blank outer inherited (diagnostic t) (one ++ more)
+cause_step rows s blank outer inherited (tree m own c r) one more p q = (
   listed p.1.0 q.0 p.1.1,
   (p.1.2, p.1.3, q.1),
   ap₂ (λ x y. x ++ y) (p.2 ∙ ap (under_arrow s outer (ends_there c)) p.1.4) q.2,
 )
 
-pub none_related : {R : Type 0} (rows : SnippetRows) (s : Settings) (outer : Option Severity) (inherited : Option Source) (value : R → Tree) (rs : List R) (text : List ℕ) →
-    length rs < 1 → text ≡ [] → AreRelated rows s outer inherited (trees (map value rs)) text
-none_related rows s outer inherited value [] text h e = (no_more, tt, e)
-none_related rows s outer inherited value (r ∷ rs) text h e = absurd (omega arith)
+pub none_related : {R : Type 0} (rows : SnippetRows) (s : Settings) (blank : Bool) (outer : Option Severity) (inherited : Option Source) (value : R → Tree) (rs : List R) (text : List ℕ) →
+    length rs < 1 → text ≡ [] → AreRelated rows s blank outer inherited (trees (map value rs)) text
+none_related rows s blank outer inherited value [] text h e = (no_more, tt, e)
+none_related rows s blank outer inherited value (r ∷ rs) text h e = absurd (omega arith)
 
-pub inner_step : (rows : SnippetRows) (s : Settings) (source : Option Source) (t : Tree) (drawn : List ℕ) (related : List ℕ) →
-    IsDrawn rows s source (head t) drawn → AreRelated rows s (head t).severity source (related_of t) related →
-    IsInner rows s source t (inner_over s (head t) drawn related)
-inner_step rows s source (tree m own c r) drawn related p q =
+pub inner_step : (rows : SnippetRows) (s : Settings) (blank : Bool) (source : Option Source) (t : Tree) (drawn : List ℕ) (related : List ℕ) →
+    IsDrawn rows s blank source (head t) drawn → AreRelated rows s blank (head t).severity source (related_of t) related →
+    IsInner rows s blank source t (inner_over s (head t) drawn related)
+inner_step rows s blank source (tree m own c r) drawn related p q =
     (p.0, q.0, p.1, q.1, ap₂ (inner_over s m) p.2 q.2)
 
-pub sibling_step : (rows : SnippetRows) (s : Settings) (source : Option Source) (t : Tree) (drawn : List ℕ) (causes related : List ℕ) →
-    IsDrawn rows s source (head t) drawn → AreCauses rows s (head t).severity source (cause_of t) causes →
-    AreRelated rows s (head t).severity source (related_of t) related →
-    IsSibling rows s source t (title_text s (head t) ++ body_over s (head t) drawn causes related)
-sibling_step rows s source (tree m own c r) drawn causes related p q k = (
+pub sibling_step : (rows : SnippetRows) (s : Settings) (blank : Bool) (source : Option Source) (t : Tree) (drawn : List ℕ) (causes related : List ℕ) →
+    IsDrawn rows s blank source (head t) drawn → AreCauses rows s blank (head t).severity source (cause_of t) causes →
+    AreRelated rows s blank (head t).severity source (related_of t) related →
+    IsSibling rows s blank source t (title_text s (head t) ++ body_over s (head t) drawn causes related)
+sibling_step rows s blank source (tree m own c r) drawn causes related p q k = (
   p.0,
   q.0,
   k.0,
@@ -90,39 +91,65 @@ sibling_step rows s source (tree m own c r) drawn causes related p q k = (
 )
 
 -- one of several related reports, with its answers in one
-one_by : (rows : SnippetRows) (s : Settings) (outer : Option Severity) (source : Option Source) (last : Bool) (m : Meaning) (own : Option Source) (c : Cause) (r : Trees) (text : List ℕ) (nested : Bool) →
-    MatchBool nested (IsNested rows s outer source last (tree m own c r) text) (IsSibling rows s source (tree m own c r) text) →
-    (a : Answers) × IsAnswer (layout_settings s) source m (own_answer a) × AreCauseAnswers (layout_settings s) source c (cause_answers a) × AreRelatedAnswers (layout_settings s) source r (related_answers a)
+one_by : (rows : SnippetRows) (s : Settings) (blank : Bool) (outer : Option Severity) (source : Option Source) (last : Bool) (m : Meaning) (own : Option Source) (c : Cause) (r : Trees) (text : List ℕ) (nested : Bool) →
+    MatchBool nested (IsNested rows s blank outer source last (tree m own c r) text) (IsSibling rows s blank source (tree m own c r) text) →
+    (a : Answers) × IsAnswer (layout_settings s) blank source m (own_answer a) × AreCauseAnswers (layout_settings s) blank source c (cause_answers a) × AreRelatedAnswers (layout_settings s) blank source r (related_answers a)
     × (text ≡ (if nested then
     under_arrow s outer last (without_trailing (inner_text rows (narrowed s outer last) m source (own_answer a) (related_text rows (narrowed s outer last) m.severity source r (related_answers a))))
     else title_text s m ++ body rows s m source (own_answer a) (causes_text rows s m.severity source c (cause_answers a)) (related_text rows s m.severity source r (related_answers a))))
-one_by rows s outer source last m own c r text true p =
-    (listed p.1.0 unlisted p.1.1, p.1.2, causes-unlisted (layout_settings s) source c, p.1.3, p.2 ∙ ap (λ x. under_arrow s outer last (without_trailing x)) p.1.4)
-one_by rows s outer source last m own c r text false p = (listed p.0 p.1 p.2, p.3, p.4, p.5, p.6)
+one_by rows s blank outer source last m own c r text true p =
+    (listed p.1.0 unlisted p.1.1, p.1.2, causes-unlisted (layout_settings s) blank source c, p.1.3, p.2 ∙ ap (λ x. under_arrow s outer last (without_trailing x)) p.1.4)
+one_by rows s blank outer source last m own c r text false p = (listed p.0 p.1 p.2, p.3, p.4, p.5, p.6)
 
-pub related_step : (rows : SnippetRows) (s : Settings) (outer : Option Severity) (inherited : Option Source) (t : Tree) (ts : Trees) (one more : List ℕ) →
-    IsOneRelated rows s outer (effective (source_of t) inherited) (are_last ts) t one → AreRelated rows s outer inherited ts more →
-    AreRelated rows s outer inherited (more_trees t ts) (one ++ more)
-related_step rows s outer inherited (tree m own c r) ts one more p q =
-    let k = one_by rows s outer (effective own inherited) (are_last ts) m own c r one s.nested p in
+pub related_step : (rows : SnippetRows) (s : Settings) (blank : Bool) (outer : Option Severity) (inherited : Option Source) (t : Tree) (ts : Trees) (one more : List ℕ) →
+    IsOneRelated rows s blank outer (effective (source_of t) inherited) (are_last ts) t one → AreRelated rows s blank outer inherited ts more →
+    AreRelated rows s blank outer inherited (more_trees t ts) (one ++ more)
+related_step rows s blank outer inherited (tree m own c r) ts one more p q =
+    let k = one_by rows s blank outer (effective own inherited) (are_last ts) m own c r one s.nested p in
     (and_more k.0 q.0, (k.1, k.2, k.3, q.1), ap₂ (λ x y. x ++ y) k.4 q.2)
 
-root_by : (rows : SnippetRows) (s : Settings) (m : Meaning) (own : Option Source) (c : Cause) (causes : List ℕ) (chain : Bool) →
-    MatchBool chain (AreCauses rows s m.severity own c causes) (causes ≡ []) →
-    (a : Answers) × (chain ≡ true → AreCauseAnswers (layout_settings s) own c a) × (causes ≡ only_if chain (causes_text rows s m.severity own c a))
-root_by rows s m own c causes true p = (p.0, λ h. p.1, p.2)
-root_by rows s m own c causes false p = (unlisted, λ h. causes-unlisted (layout_settings s) own c, p)
+root_by : (rows : SnippetRows) (s : Settings) (blank : Bool) (m : Meaning) (own : Option Source) (c : Cause) (causes : List ℕ) (chain : Bool) →
+    MatchBool chain (AreCauses rows s blank m.severity own c causes) (causes ≡ []) →
+    (a : Answers) × (chain ≡ true → AreCauseAnswers (layout_settings s) blank own c a) × (causes ≡ only_if chain (causes_text rows s m.severity own c a))
+root_by rows s blank m own c causes true p = (p.0, λ h. p.1, p.2)
+root_by rows s blank m own c causes false p = (unlisted, λ h. causes-unlisted (layout_settings s) blank own c, p)
 
-pub root_step : (rows : SnippetRows) (s : Settings) (t : Tree) (drawn : List ℕ) (causes related : List ℕ) →
-    IsDrawn rows s (source_of t) (head t) drawn → AreRootCauses rows s t causes → AreRelated rows s (head t).severity (source_of t) (related_of t) related →
-    IsReport rows s t (report_over s (head t) drawn causes related)
-root_step rows s (tree m own c r) drawn causes related p q k =
-    let b = root_by rows s m own c causes s.chain q in (
+pub root_step : (rows : SnippetRows) (s : Settings) (blank : Bool) (t : Tree) (drawn : List ℕ) (causes related : List ℕ) →
+    IsDrawn rows s blank (source_of t) (head t) drawn → AreRootCauses rows s blank t causes → AreRelated rows s blank (head t).severity (source_of t) (related_of t) related →
+    IsReport rows s blank t (report_over s (head t) drawn causes related)
+root_step rows s blank (tree m own c r) drawn causes related p q k =
+    let b = root_by rows s blank m own c causes s.chain q in (
       listed p.0 b.0 k.0,
       (p.1, b.1, k.1),
       ap (λ d. report_over s m d causes related) p.2
           ∙ ap₂ (λ x y. report_over s m (rows_text (rows s own (list_of m.labels) p.0)) x y) b.2 k.2,
     )
+
+-- ---- texts that are appended
+
+-- behind nothing a text is appended alone
+pub alone : (P : List ℕ → Type 0) (old new : List ℕ) → old ≡ [] → AppendsOne P old new → P new
+alone P old new e q = subst P (sym (q.appended ∙ ap (λ o. o ++ q.text) e)) q.is_given
+
+pub cause_texts_behind : (rows : SnippetRows) (s : Settings) (blank : Bool) (outer : Option Severity) (inherited : Option Source) (ts : List (List ℕ)) (old new : List ℕ) →
+    new ≡ old ++ cause_texts s outer ts → AppendsOne (AreCauses rows s blank outer inherited (texts ts)) old new
+cause_texts_behind rows s blank outer inherited ts old new e = record { text = cause_texts s outer ts; is_given = causes_none rows s blank outer inherited ts (cause_texts s outer ts) refl; appended = e }
+
+pub cause_behind : (rows : SnippetRows) (s : Settings) (blank : Bool) (outer : Option Severity) (inherited : Option Source) (t : Tree) (one old mid new : List ℕ) →
+    IsOneCause rows s blank outer inherited t one → mid ≡ old ++ one → AppendsOne (AreCauses rows s blank outer inherited (cause_of t)) mid new →
+    AppendsOne (AreCauses rows s blank outer inherited (diagnostic t)) old new
+cause_behind rows s blank outer inherited t one old mid new p e q =
+    record { text = one ++ q.text; is_given = cause_step rows s blank outer inherited t one q.text p q.is_given; appended = q.appended ∙ ap (λ m. m ++ q.text) e ∙ append_assoc old one q.text }
+
+pub no_related_behind : {R : Type 0} (rows : SnippetRows) (s : Settings) (blank : Bool) (outer : Option Severity) (inherited : Option Source) (value : R → Tree) (rs : List R) (old : List ℕ) →
+    length rs < 1 → AppendsOne (AreRelated rows s blank outer inherited (trees (map value rs))) old old
+no_related_behind rows s blank outer inherited value rs old h = record { text = []; is_given = none_related rows s blank outer inherited value rs [] h refl; appended = sym (append-nil old) }
+
+pub related_behind : (rows : SnippetRows) (s : Settings) (blank : Bool) (outer : Option Severity) (inherited : Option Source) (t : Tree) (ts : Trees) (one old mid new : List ℕ) →
+    IsOneRelated rows s blank outer (effective (source_of t) inherited) (are_last ts) t one → mid ≡ old ++ one → AppendsOne (AreRelated rows s blank outer inherited ts) mid new →
+    AppendsOne (AreRelated rows s blank outer inherited (more_trees t ts)) old new
+related_behind rows s blank outer inherited t ts one old mid new p e q =
+    record { text = one ++ q.text; is_given = related_step rows s blank outer inherited t ts one q.text p q.is_given; appended = q.appended ∙ ap (λ m. m ++ q.text) e ∙ append_assoc old one q.text }
 
 -- ---- refusals
 

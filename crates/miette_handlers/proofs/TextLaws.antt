@@ -30,8 +30,8 @@ plain-printed (c ∷ text) = append_nil (c ∷ text) where
   append_nil (x ∷ xs) = ap (λ l. x ∷ l) (append_nil xs)
 
 pub plain-tame : TextLaws → (text : List ℕ) → no_escape text ≡ true → IsTame text
-plain-tame laws text h = subst IsTame (plain-printed text) (laws.print-tame (Styled plain text ∷ []) ((h, tt), tt))
+plain-tame laws text h = subst IsTame (plain-printed text) (laws.print-tame (Styled plain text ∷ []) (h, tt))
 
 pub plain-erase : TextLaws → (text : List ℕ) → no_escape text ≡ true → erase text ≡ text
 plain-erase laws text h =
-    ap erase (sym (plain-printed text)) ∙ laws.print-erase (Styled plain text ∷ []) ((h, tt), tt) ∙ plain-printed text
+    ap erase (sym (plain-printed text)) ∙ laws.print-erase (Styled plain text ∷ []) (h, tt) ∙ plain-printed text

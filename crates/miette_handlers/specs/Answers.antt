@@ -1,5 +1,5 @@
 -- What isn't determined by a tree and the settings: what reads answered, and the highlighter's pieces.
-use Rattle.std.specs.Prelude.{[]}
+use Rattle.std.specs.Prelude.{List, []}
 use Rattle.miette_layout.specs.Answers as layout
 
 -- Of one diagnostic: whether each read failed, and the highlighter's pieces for each line of each snippet. A read that isn't
@@ -7,8 +7,12 @@ use Rattle.miette_layout.specs.Answers as layout
 abbrev pub Answer : Type 0
 Answer = layout.Answers
 
+-- no read failed
+abbrev pub pieces_listed : List (List (List layout.Highlight)) → Answer
+pieces_listed pieces = record { label_fails = []; join_fails = []; place_fails = []; pieces = pieces }
+
 abbrev pub nothing_listed : Answer
-nothing_listed = record { label_fails = []; join_fails = []; place_fails = []; pieces = [] }
+nothing_listed = pieces_listed []
 
 -- Of a tree: of its diagnostic, of its cause, and of each related one. Nothing is listed where all sources always read and the
 -- highlighter is blank.

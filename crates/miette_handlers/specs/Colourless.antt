@@ -1,14 +1,20 @@
 -- The same settings with every style plain, and the same answers with the blank highlighter.
-use Rattle.std.specs.Prelude.{◌≡◌, List, [], map, Option, IfSome}
+use Rattle.std.specs.Prelude.{◌≡◌, ℕ, Bool, List, [], map, Option, IfSome, encode_utf8_all}
 use Rattle.miette_text.specs.Runs.{plain_run}
+use Rattle.miette_text.specs.Sequences.{erase}
 use Rattle.miette_text.specs.Styles.{plain}
 use Rattle.miette_protocol.specs.Meaning.{Label}
 use Rattle.miette_protocol.specs.Reading.{Source}
 use Rattle.miette_handlers.specs.Settings.{Settings}
 use Rattle.miette_text.specs.Themes.{Styles}
 use Rattle.miette_handlers.specs.Answers.{Answer, Answers, unlisted, listed, RelatedAnswers, no_more, and_more}
+use Rattle.miette_handlers.specs.Answered.{AreAnswers}
 use Rattle.miette_handlers.specs.Parts.{SnippetRows, rows_text}
-use Rattle.miette_handlers.specs.Clean.{EachOf, AreCleanSettings, IsCleanLabel, IsCleanSource, IsCleanAnswer, HaveNoEscapes}
+use Rattle.miette_handlers.specs.Text.{report_text}
+use Rattle.miette_tree.specs.Tree.{Tree}
+use Rattle.std.specs.List.{AllByRecursion}
+use Rattle.miette_layout.specs.Clean.{IsCleanLabel, IsCleanSource}
+use Rattle.miette_handlers.specs.Clean.{AreCleanSettings, HaveNoEscapes}
 
 abbrev pub faded : Styles → Styles
 faded s = record { error = plain; warning = plain; advice = plain; help = plain; link = plain; linum = plain; highlights = map (λ _. plain) s.highlights }
@@ -34,4 +40,14 @@ pub record AreSnippets (rows : SnippetRows) : Type 0 where
   pub fade : (s : Settings) (source : Option Source) (labels : List Label) (a : Answer) →
       rows_text (rows (colourless s) source labels (unhighlighted_answer a)) ≡ rows_text (map (map plain_run) (rows s source labels a))
   pub clean : (s : Settings) (source : Option Source) (labels : List Label) (a : Answer) →
-      AreCleanSettings s → IfSome source IsCleanSource → EachOf IsCleanLabel labels → IsCleanAnswer a → HaveNoEscapes (rows s source labels a)
+      AreCleanSettings s → IfSome source IsCleanSource → AllByRecursion IsCleanLabel labels → HaveNoEscapes (rows s source labels a)
+
+-- ---- what is printed
+
+-- The bytes of a report's text under some answers, which without their colours are those of its text in plain styles and without a
+-- highlighter, under the same reads.
+pub record IsColouredText (rows : SnippetRows) (s : Settings) (blank : Bool) (t : Tree) (bytes : List ℕ) : Type 0 where
+  pub answers : Answers
+  pub are : AreAnswers s blank t answers
+  pub text : bytes ≡ encode_utf8_all (report_text rows s t answers)
+  pub erased : erase bytes ≡ encode_utf8_all (report_text rows (colourless s) t (unhighlighted answers))

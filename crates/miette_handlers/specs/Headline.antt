@@ -4,6 +4,7 @@ use Rattle.std.specs.List.{AllByRecursion, concat}
 use Rattle.miette_protocol.specs.Lines.{lines_of}
 use Rattle.miette_protocol.specs.Meaning.{Label}
 use Rattle.miette_protocol.specs.Reading.{Source, Span, Contents}
+use Rattle.miette_layout.specs.Answers.{Highlight}
 use Rattle.miette_layout.specs.Contexts.{contents, lines_of_contents}
 use Rattle.miette_layout.specs.Drawing.{IsNarrow}
 use Rattle.miette_layout.specs.Given.{width_of}
@@ -15,7 +16,7 @@ use Rattle.miette_layout.specs.Numbers.{runs, IsRun, AreParted}
 use Rattle.miette_layout.specs.Pictures.{BodyShows, marks_of_line}
 use Rattle.miette_layout.specs.Shown.{framed_runs, line_at}
 use Rattle.miette_layout.specs.Snippets.{shown, snippets}
-use Rattle.miette_handlers.specs.Answers.{nothing_listed}
+use Rattle.miette_handlers.specs.Answers.{pieces_listed}
 use Rattle.miette_handlers.specs.Parts.{list_of}
 use Rattle.miette_handlers.specs.Printed.{Printed}
 use Rattle.miette_handlers.specs.Settings.{Settings}
@@ -32,9 +33,9 @@ abbrev pub groups_of : Settings → Source → List Label → List Span
 groups_of s source labels = groups_answered s.context source [] (spans_of (in_order labels))
 
 -- The snippets show the lines in the context of some label, once and in order, each with its number: the rows are those of the maximal
--- runs of these lines, each line with its own cells, each run in a frame; and a group shows the lines of one run.
+-- runs of these lines, each line with its own cells, in whatever pieces, each run in a frame; and a group shows the lines of one run.
 pub record ShowsRuns (s : Settings) (source : Source) (labels : List Label) : Type 0 where
-  pub rows : drawn_rows s (Some source) labels nothing_listed ≡ shown_rows (Some (framed_runs (layout_settings s) source labels nothing_listed))
+  pub rows : (pieces : List (List (List Highlight))) → drawn_rows s (Some source) labels (pieces_listed pieces) ≡ shown_rows (Some (framed_runs (layout_settings s) source labels (pieces_listed pieces)))
   pub groups : lines_of_groups s.context source (groups_of s source labels) ≡ snippets s.context source.bytes (spans_of labels)
   pub whole : concat (runs (shown_lines s source labels)) ≡ shown_lines s source labels
   pub consecutive : AllByRecursion IsRun (runs (shown_lines s source labels))
@@ -72,11 +73,11 @@ MarksAreApart s p = IfSome p.source (λ source. (k : ℕ) → AreOwnMarks (marks
 abbrev pub HasFewLines : Contents → Type 0
 HasFewLines read = read.line + length (lines_of_contents read) < 2 ^ 64
 
--- in the rows of a snippet each text of a label that lies on one line hangs from its own mark's anchor
+-- in the rows of a snippet, in whatever pieces its lines are, each text of a label that lies on one line hangs from its own mark's anchor
 abbrev pub SnippetHangs : Settings → Source → List Label → Span → Type 0
 SnippetHangs s source labels group =
-    HasFewLines (contents s.context source group) →
-    BodyShows (layout_settings s) (drawn_labels s source labels) source.bytes (contents s.context source group) []
+    HasFewLines (contents s.context source group) → (pieces : List (List Highlight)) →
+    BodyShows (layout_settings s) (drawn_labels s source labels) source.bytes (contents s.context source group) pieces
 
 -- in each snippet of a diagnostic, where the theme's characters are one column wide
 abbrev pub TextsHang : Settings → Printed → Type 0

@@ -14,10 +14,13 @@ bare text = Styled plain text
 abbrev pub spaces : ℕ → List ℕ
 spaces n = replicate n 32
 
--- a text wrapped under a first and a further indent, at the set width less 2
+-- a text wrapped behind what a first and a further indent print, at the set width less 2
+abbrev pub wrapped_behind : Settings → List ℕ → List ℕ → List ℕ → List ℕ
+wrapped_behind s first further text =
+    wrapped (record { room = s.width - 2; first = first; further = further; breaks = s.breaks; wraps = s.wraps; hyphens = s.hyphens }) text
+
 abbrev pub wrapped_under : Settings → List Run → List Run → List ℕ → List ℕ
-wrapped_under s first further text =
-    wrapped (record { room = s.width - 2; first = print first; further = print further; breaks = s.breaks; wraps = s.wraps; hyphens = s.hyphens }) text
+wrapped_under s first further text = wrapped_behind s (print first) (print further) text
 
 -- in front of a message: its icon, and a bar
 abbrev pub icon_indent : Settings → Option Severity → List Run

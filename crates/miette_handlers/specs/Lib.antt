@@ -5,6 +5,7 @@ pub mod JsonReport
 pub mod JsonText
 pub mod Displayed
 pub mod Handler
+pub mod Handling
 pub mod Settings
 pub mod Modes
 pub mod Answers

@@ -8,20 +8,15 @@ ghost use Rattle.miette_handlers.specs.Modes.{splits};
 ghost use Rattle.miette_handlers.specs.Views.{settings_of, run_of, runs_of};
 ghost use Rattle.miette_text.specs.Runs as runs;
 
-use crate::runs::{Run, bare, push_bytes, push_runs};
+use crate::printing::push_styled;
+use crate::runs::{push_bytes, push_run};
 use crate::settings::{Layout, UrlMode, icon, severity_style};
 use miette_protocol::protocol::Severity;
-use miette_text::style::Style;
 use miette_text::wrap::{WordSplitter, codes_of, columns_of, wrap_all};
 use std::alloc::{AllocError, Global};
 
-fn text_of(alloc: Global, list: &[Run]) -> Result<Vec<char>, AllocError>
-    ensures { IfOk result (λ v. v.items ≡ runs.print (runs_of list.now)) }
-{
-    let mut out = Vec::new(alloc);
-    push_runs(alloc, &mut out, list)?;
-    Ok(out)
-}
+/// Characters that an indent has room for before it grows.
+const ROOM: usize = 32;
 
 /// Are words also cut behind hyphens?
 fn splits_words(layout: Layout<'_>) -> bool
@@ -33,26 +28,25 @@ fn splits_words(layout: Layout<'_>) -> bool
     }
 }
 
+/// Appends a text wrapped under a first and a further indent, and a line feed.
 fn push_wrapped(
     alloc: Global,
     layout: Layout<'_>,
-    first: &[Run],
-    further: &[Run],
+    first: &[char],
+    further: &[char],
     text: &[char],
     out: &mut Vec<char>,
 ) -> Result<(), AllocError>
-    ensures { OnOk result (out.new.items ≡ out.old.items ++ (indents.wrapped_under (settings_of layout.entry) (runs_of first.now) (runs_of further.now) text.now ++ parts.line_feed)) }
+    ensures { OnOk result (out.new.items ≡ out.old.items ++ (indents.wrapped_behind (settings_of layout.entry) first.now further.now text.now ++ parts.line_feed)) }
 {
-    let first = text_of(alloc, first)?;
-    let further = text_of(alloc, further)?;
     let wrapped = wrap_all(
         alloc,
         layout.wraps,
         splits_words(layout),
         layout.breaks,
         layout.width.saturating_sub(2),
-        &first,
-        &further,
+        first,
+        further,
         text,
     )?;
     out.extend_from_slice(&wrapped)?;
@@ -60,98 +54,82 @@ fn push_wrapped(
     Ok(())
 }
 
+// `  × `
 fn icon_indent(
     alloc: Global,
     layout: Layout<'_>,
     severity: Option<Severity>,
-) -> Result<Vec<Run>, AllocError>
-    ensures { IfOk result (λ v. runs_of v.items ≡ indents.icon_indent (settings_of layout.entry) severity) }
+) -> Result<Vec<char>, AllocError>
+    ensures { IfOk result (λ v. v.items ≡ runs.print (indents.icon_indent (settings_of layout.entry) severity)) }
 {
-    let mut list = Vec::new(alloc);
-    list.push(bare(alloc, "  ")?)?;
-    let icon = codes_of(alloc, icon(layout, severity))?;
-    list.push(Run::Styled(severity_style(layout, severity), icon))?;
-    list.push(bare(alloc, " ")?)?;
-    Ok(list)
-}
-
-fn bar_indent(
-    alloc: Global,
-    layout: Layout<'_>,
-    severity: Option<Severity>,
-) -> Result<Vec<Run>, AllocError>
-    ensures { IfOk result (λ v. runs_of v.items ≡ indents.bar_indent (settings_of layout.entry) severity) }
-{
-    let mut list = Vec::new(alloc);
-    list.push(bare(alloc, "  ")?)?;
-    let mut bar = Vec::new(alloc);
-    bar.push(layout.theme.characters.vbar)?;
-    list.push(Run::Styled(severity_style(layout, severity), bar))?;
-    list.push(bare(alloc, " ")?)?;
-    Ok(list)
-}
-
-fn arrow_text(alloc: Global, layout: Layout<'_>, is_last: bool) -> Result<Vec<char>, AllocError>
-    ensures { IfOk result (λ v. v.items ≡ indents.arrow_text (settings_of layout.entry) is_last) }
-{
-    let mut text = Vec::new(alloc);
+    let mut text = Vec::with_capacity(alloc, ROOM)?;
     push_bytes(&mut text, "  ")?;
-    if is_last {
-        text.push(layout.theme.characters.lbot)?;
-    } else {
-        text.push(layout.theme.characters.lcross)?;
-    }
-    text.push(layout.theme.characters.hbar)?;
-    text.push(layout.theme.characters.rarrow)?;
+    let style = severity_style(layout, severity);
+    push_styled(alloc, style, icon(layout, severity), &mut text)?;
     push_bytes(&mut text, " ")?;
     Ok(text)
 }
 
-fn stem_text(alloc: Global, layout: Layout<'_>, is_last: bool) -> Result<Vec<char>, AllocError>
-    ensures { IfOk result (λ v. v.items ≡ indents.stem_text (settings_of layout.entry) is_last) }
+// `  │ `
+fn bar_indent(
+    alloc: Global,
+    layout: Layout<'_>,
+    severity: Option<Severity>,
+) -> Result<Vec<char>, AllocError>
+    ensures { IfOk result (λ v. v.items ≡ runs.print (indents.bar_indent (settings_of layout.entry) severity)) }
 {
-    let mut text = Vec::new(alloc);
-    if is_last {
-        push_bytes(&mut text, "      ")?;
-    } else {
-        push_bytes(&mut text, "  ")?;
-        text.push(layout.theme.characters.vbar)?;
-        push_bytes(&mut text, "   ")?;
-    }
+    let mut text = Vec::with_capacity(alloc, ROOM)?;
+    push_bytes(&mut text, "  ")?;
+    let bar = [layout.theme.characters.vbar];
+    push_run(alloc, &mut text, severity_style(layout, severity), &bar)?;
+    push_bytes(&mut text, " ")?;
     Ok(text)
 }
 
-/// Runs with one run, of a text in a style.
-fn one_run(alloc: Global, style: Style, text: Vec<char>) -> Result<Vec<Run>, AllocError>
-    ensures { IfOk result (λ v. runs_of v.items ≡ runs.Styled style text.items ∷ []) }
-{
-    let mut list = Vec::new(alloc);
-    list.push(Run::Styled(style, text))?;
-    Ok(list)
-}
-
+// `  ├─▶ `, the last one `  ╰─▶ `
 fn arrow_indent(
     alloc: Global,
     layout: Layout<'_>,
     outer: Option<Severity>,
     is_last: bool,
-) -> Result<Vec<Run>, AllocError>
-    ensures { IfOk result (λ v. runs_of v.items ≡ indents.arrow_indent (settings_of layout.entry) outer is_last) }
+) -> Result<Vec<char>, AllocError>
+    ensures { IfOk result (λ v. v.items ≡ runs.print (indents.arrow_indent (settings_of layout.entry) outer is_last)) }
 {
-    let text = arrow_text(alloc, layout, is_last)?;
-    one_run(alloc, severity_style(layout, outer), text)
+    let mut arrow = Vec::with_capacity(alloc, 6)?;
+    push_bytes(&mut arrow, "  ")?;
+    if is_last {
+        arrow.push(layout.theme.characters.lbot)?;
+    } else {
+        arrow.push(layout.theme.characters.lcross)?;
+    }
+    arrow.push(layout.theme.characters.hbar)?;
+    arrow.push(layout.theme.characters.rarrow)?;
+    arrow.push(' ')?;
+    let mut text = Vec::with_capacity(alloc, ROOM)?;
+    push_run(alloc, &mut text, severity_style(layout, outer), &arrow)?;
+    Ok(text)
 }
 
+// `  │   `, under the last one six spaces
 fn stem_indent(
     alloc: Global,
     layout: Layout<'_>,
     outer: Option<Severity>,
     is_last: bool,
-) -> Result<Vec<Run>, AllocError>
-    ensures { IfOk result (λ v. runs_of v.items ≡ indents.stem_indent (settings_of layout.entry) outer is_last) }
+) -> Result<Vec<char>, AllocError>
+    ensures { IfOk result (λ v. v.items ≡ runs.print (indents.stem_indent (settings_of layout.entry) outer is_last)) }
 {
-    let text = stem_text(alloc, layout, is_last)?;
-    one_run(alloc, severity_style(layout, outer), text)
+    let mut stem = Vec::with_capacity(alloc, 6)?;
+    if is_last {
+        push_bytes(&mut stem, "      ")?;
+    } else {
+        push_bytes(&mut stem, "  ")?;
+        stem.push(layout.theme.characters.vbar)?;
+        push_bytes(&mut stem, "   ")?;
+    }
+    let mut text = Vec::with_capacity(alloc, ROOM)?;
+    push_run(alloc, &mut text, severity_style(layout, outer), &stem)?;
+    Ok(text)
 }
 
 /// The layout of what stands under an arrow.
@@ -163,8 +141,7 @@ pub fn narrowed<'a>(
 ) -> Result<Layout<'a>, AllocError>
     ensures { IfOk result (λ l. settings_of l ≡ indents.narrowed (settings_of layout.entry) outer is_last) }
 {
-    let stem = stem_indent(alloc, layout, outer, is_last)?;
-    let columns = columns_of(alloc, &text_of(alloc, &stem)?)?;
+    let columns = columns_of(alloc, &stem_indent(alloc, layout, outer, is_last)?)?;
     Ok(Layout {
         width: layout.width.saturating_sub(columns),
         ..layout
@@ -208,12 +185,15 @@ pub fn push_message(
     )
 }
 
-fn bare_indent(alloc: Global, text: &str) -> Result<Vec<Run>, AllocError>
-    ensures { IfOk result (λ v. runs_of v.items ≡ indents.bare text.now ∷ []) }
+// `  help: `
+fn help_indent(alloc: Global, layout: Layout<'_>) -> Result<Vec<char>, AllocError>
+    ensures { IfOk result (λ v. v.items ≡ runs.print (indents.help_indent (settings_of layout.entry))) }
 {
-    let mut list = Vec::new(alloc);
-    list.push(bare(alloc, text)?)?;
-    Ok(list)
+    let mut help = Vec::with_capacity(alloc, 8)?;
+    push_bytes(&mut help, "  help: ")?;
+    let mut text = Vec::with_capacity(alloc, ROOM)?;
+    push_run(alloc, &mut text, layout.theme.styles.help, &help)?;
+    Ok(text)
 }
 
 pub fn push_help(
@@ -227,10 +207,8 @@ pub fn push_help(
     let Some(help) = help else {
         return Ok(());
     };
-    let mut text = Vec::new(alloc);
-    push_bytes(&mut text, "  help: ")?;
-    let first = one_run(alloc, layout.theme.styles.help, text)?;
-    let further = bare_indent(alloc, "        ")?;
+    let first = help_indent(alloc, layout)?;
+    let further = [' '; 8];
     push_wrapped(
         alloc,
         layout,
@@ -247,7 +225,7 @@ pub fn push_footer(alloc: Global, layout: Layout<'_>, out: &mut Vec<char>) -> Re
     let Some(footer) = layout.footer else {
         return Ok(());
     };
-    let indent = bare_indent(alloc, "  ")?;
+    let indent = [' ', ' '];
     out.push('\n')?;
     push_wrapped(
         alloc,

@@ -1,33 +1,38 @@
 //! What holds of the definition of a report's text: of its colours, and of the snippets of each diagnostic that it prints.
 
-ghost use Rattle.std.specs.Prelude.{◌≡◌};
-ghost use Rattle.miette_handlers.specs.Answers.{Answers};
-ghost use Rattle.miette_handlers.specs.Clean.{AreCleanAnswers, AreCleanSettings, IsCleanTree};
-ghost use Rattle.miette_handlers.specs.Colourless.{AreSnippets, colourless, unhighlighted};
+ghost use Rattle.std.specs.Prelude.{◌≡◌, ℕ, Bool, List, encode_utf8_all, true};
+ghost use Rattle.miette_handlers.specs.Answered.{IsTextOf};
+ghost use Rattle.miette_handlers.specs.Answers.{Answers, unlisted};
+ghost use Rattle.miette_handlers.specs.Clean.{AreCleanSettings, IsCleanTree};
+ghost use Rattle.miette_handlers.specs.Colourless.{AreSnippets, IsColouredText, colourless, unhighlighted};
 ghost use Rattle.std.specs.List.{AllByRecursion};
 ghost use Rattle.miette_handlers.specs.Headline.{LinesAreShown, MarksAreApart, TextsHang};
 ghost use Rattle.miette_handlers.specs.Parts.{SnippetRows};
-ghost use Rattle.miette_handlers.specs.Printed.{printed};
+ghost use Rattle.miette_handlers.specs.Printed.{all_read, printed};
 ghost use Rattle.miette_handlers.specs.Settings.{Settings};
+ghost use Rattle.miette_handlers.specs.Snippets.{drawn_rows};
 ghost use Rattle.miette_handlers.specs.Text.{report_text};
 ghost use Rattle.miette_tree.specs.Tree.{Tree};
 ghost use Rattle.miette_text.specs.Sequences.{erase};
 ghost use Rattle.miette_text.specs.Tame.{IsTame};
 
 use miette_layout::laws::{
-    groups_are_runs, marks_are_apart, runs_are_maximal, snippets_draw_runs, texts_hang,
+    groups_are_runs, marks_are_apart, rows_fade, rows_hold_no_escape, runs_are_maximal,
+    snippets_draw_runs, texts_hang,
 };
-use miette_text::wrap::laws::{columns_law, cutting_law, joining_law, printing_law, wrapping_law};
+use miette_text::wrap::laws::{
+    columns_law, cutting_law, encoding_law, joining_law, printing_law, wrapping_law,
+};
 
-/// Where no text, url, name, setting or theme character holds an escape: a report's text without its colours is the text of the
-/// same tree in plain styles under the same reads, and can be wrapped again in another one.
+/// For all rows of snippets that fade, where no text, url, source, name, setting or theme character holds an escape: a report's text
+/// without its colours is the text of the same tree in plain styles under the same reads, and can be wrapped again in another one.
 pub fn colours_law()
-    ensures erase { (rows : SnippetRows) (s : Settings) (t : Tree) (a : Answers) → AreSnippets rows → AreCleanSettings s → IsCleanTree t → AreCleanAnswers a →
+    ensures erase { (rows : SnippetRows) (s : Settings) (t : Tree) (a : Answers) → AreSnippets rows → AreCleanSettings s → IsCleanTree t →
         erase (report_text rows s t a) ≡ report_text rows (colourless s) t (unhighlighted a) }
-    ensures tame { (rows : SnippetRows) (s : Settings) (t : Tree) (a : Answers) → AreSnippets rows → AreCleanSettings s → IsCleanTree t → AreCleanAnswers a →
+    ensures tame { (rows : SnippetRows) (s : Settings) (t : Tree) (a : Answers) → AreSnippets rows → AreCleanSettings s → IsCleanTree t →
         IsTame (report_text rows s t a) }
     // Settings that differ in styles alone give the same text but for colours.
-    ensures alike { (rows : SnippetRows) (s u : Settings) (t : Tree) (a b : Answers) → AreSnippets rows → AreCleanSettings s → AreCleanSettings u → IsCleanTree t → AreCleanAnswers a → AreCleanAnswers b →
+    ensures alike { (rows : SnippetRows) (s u : Settings) (t : Tree) (a b : Answers) → AreSnippets rows → AreCleanSettings s → AreCleanSettings u → IsCleanTree t →
         colourless s ≡ colourless u → unhighlighted a ≡ unhighlighted b → erase (report_text rows s t a) ≡ erase (report_text rows u t b) }
 {
     wrapping_law();
@@ -35,6 +40,26 @@ pub fn colours_law()
     cutting_law();
     printing_law();
     columns_law();
+}
+
+/// The rows of snippets, as they are drawn, fade and hold no escape.
+pub fn drawn_rows_law()
+    ensures { AreSnippets drawn_rows }
+{
+    rows_fade();
+    rows_hold_no_escape();
+}
+
+/// Of each text that may be printed of such a report: without its colours it is the text in plain styles under the same reads. Where
+/// every source always reads, that is one text.
+pub fn erasing_law()
+    ensures text { (s : Settings) (blank : Bool) (t : Tree) (bytes : List ℕ) → AreCleanSettings s → IsCleanTree t → IsTextOf drawn_rows s blank t bytes → IsColouredText drawn_rows s blank t bytes }
+    ensures only { (s : Settings) (blank : Bool) (t : Tree) (bytes : List ℕ) → AreCleanSettings s → IsCleanTree t → IsTextOf drawn_rows s blank t bytes → all_read (printed s t) ≡ true →
+        erase bytes ≡ encode_utf8_all (report_text drawn_rows (colourless s) t unlisted) }
+{
+    colours_law();
+    drawn_rows_law();
+    encoding_law();
 }
 
 /// The snippets of each printed diagnostic show the lines in the context of its labels, its marks are apart, and each text hangs from

@@ -12,6 +12,7 @@ mod json_report;
 mod json_text;
 pub mod laws;
 mod narrated_handler;
+mod pen;
 mod printing;
 mod report;
 mod report_handler;

@@ -4,7 +4,11 @@ ghost use Rattle.std.specs.Prelude.{◌≡◌, ◌++◌, ◌∷◌, [], IfOk, On
 ghost use Rattle.std.specs.Prelude.{false, true};
 ghost use Rattle.miette_handlers.specs.Answers.{unlisted};
 ghost use Rattle.miette_handlers.specs.Answered.{Appends, AreCauses, AreRelated, AreRootCauses, IsDrawn, IsInner, IsOneCause, IsOneRelated, IsReport, IsSibling};
+ghost use Rattle.miette_handlers.specs.Clean.{AreCleanSettings, IsCleanTree};
+ghost use Rattle.miette_handlers.specs.Colourless.{IsColouredText, colourless};
+ghost use Rattle.miette_handlers.specs.Handler.{AppendsOne};
 ghost use Rattle.miette_handlers.specs.Printed.{all_read, always_reads, printed, printed_causes, printed_inner, printed_one, printed_related, printed_root_causes, printed_sibling};
+ghost use Rattle.miette_layout.specs.Highlighted.{leaves_plain};
 ghost use Rattle.miette_tree.specs.Owned.{shown_source};
 ghost use Rattle.miette_handlers.specs.Parts as parts;
 ghost use Rattle.miette_handlers.specs.Snippets.{drawn_rows};
@@ -14,10 +18,13 @@ ghost use Rattle.miette_handlers.specs.Views.{settings_of, runs_of};
 ghost use Rattle.miette_tree.specs.Report.{tree_of};
 ghost use Rattle.miette_tree.specs.Tree.{cause_of, effective, head, related_of, source_of, trees};
 ghost use Rattle.miette_text.specs.Runs as runs;
+ghost use Rattle.miette_text.specs.Filling.{AppendsErasing};
 ghost use Rattle.miette_text.specs.Tame.{is_nil};
 
 use crate::header::{header, or_end, severity_title};
 use crate::indents::{narrowed, push_footer, push_help, push_message, push_under_arrow};
+use crate::laws::erasing_law;
+use crate::pen::Pen;
 use crate::printing::push_page;
 use crate::runs::{Run, push_bytes, push_runs};
 use crate::settings::{Layout, severity_style};
@@ -26,6 +33,7 @@ use miette_layout::snippets::snippets;
 use miette_protocol::error::RenderError;
 use miette_protocol::protocol::{Diagnostic, LabeledSpan, Severity};
 use miette_protocol::source::SourceCode;
+use miette_text::highlight::Highlighter;
 use miette_text::wrap::cutting::{without_leading, without_trailing};
 use miette_text::wrap::{codes_of, encode};
 use miette_tree::report::{Cause, Report, SourceRef};
@@ -40,60 +48,70 @@ struct Below<'a> {
 }
 
 /// The text of the rows of a diagnostic's snippets, over its effective source.
-fn snippet_rows<D: Diagnostic, S: SourceCode>(
-    alloc: Global,
+fn snippet_rows<D: Diagnostic, S: SourceCode, H: Highlighter>(
+    pen: &mut Pen<H>,
     layout: Layout<'_>,
     source: Option<SourceRef<'_, S>>,
     report: &Report<D, S>,
 ) -> Result<Vec<char>, RenderError>
-    ensures ok { IfOk result (λ v. IsDrawn drawn_rows (settings_of layout.entry) (option_map (shown_source S.source) source.entry) (head (tree_of D.meaning S.source report.now)) v.items) }
+    ensures ok { IfOk result (λ v. IsDrawn drawn_rows (settings_of layout.entry) (leaves_plain H.is_blank pen.old.highlighter) (option_map (shown_source S.source) source.entry) (head (tree_of D.meaning S.source report.now)) v.items) }
     ensures refused { (result ≡ Err RenderError.Refused) → always_reads (option_map (shown_source S.source) source.entry) (head (tree_of D.meaning S.source report.now)) ≡ false }
+    ensures stays { leaves_plain H.is_blank pen.new.highlighter ≡ leaves_plain H.is_blank pen.old.highlighter }
 {
     match source {
-        None => Ok(Vec::new(alloc)),
-        Some(source) => shown(alloc, layout, source, report),
+        None => Ok(Vec::new(pen.alloc)),
+        Some(source) => shown(pen, layout, source, report),
     }
 }
 
 /// The same over a source that is there.
-fn shown<D: Diagnostic, S: SourceCode>(
-    alloc: Global,
+fn shown<D: Diagnostic, S: SourceCode, H: Highlighter>(
+    pen: &mut Pen<H>,
     layout: Layout<'_>,
     source: SourceRef<'_, S>,
     report: &Report<D, S>,
 ) -> Result<Vec<char>, RenderError>
-    ensures ok { IfOk result (λ v. IsDrawn drawn_rows (settings_of layout.entry) (Some (shown_source S.source source.entry)) (head (tree_of D.meaning S.source report.now)) v.items) }
+    ensures ok { IfOk result (λ v. IsDrawn drawn_rows (settings_of layout.entry) (leaves_plain H.is_blank pen.old.highlighter) (Some (shown_source S.source source.entry)) (head (tree_of D.meaning S.source report.now)) v.items) }
     ensures refused { (result ≡ Err RenderError.Refused) → always_reads (Some (shown_source S.source source.entry)) (head (tree_of D.meaning S.source report.now)) ≡ false }
+    ensures stays { leaves_plain H.is_blank pen.new.highlighter ≡ leaves_plain H.is_blank pen.old.highlighter }
 {
     let labels = labels_of(report);
     match labels {
-        [] => Ok(Vec::new(alloc)),
-        [_, ..] => drawn(alloc, layout, source, labels),
+        [] => Ok(Vec::new(pen.alloc)),
+        [_, ..] => drawn(pen, layout, source, labels),
     }
 }
 
 /// The text of the rows of some labels' snippets, over a source.
-fn drawn<S: SourceCode>(
-    alloc: Global,
+fn drawn<S: SourceCode, H: Highlighter>(
+    pen: &mut Pen<H>,
     layout: Layout<'_>,
     source: SourceRef<'_, S>,
     labels: &[LabeledSpan],
 ) -> Result<Vec<char>, RenderError>
-    ensures ok { IfOk result (λ v. AreDrawn (settings_of layout.entry) (shown_source S.source source.entry) labels.now v.items) }
+    ensures ok { IfOk result (λ v. AreDrawn (settings_of layout.entry) (leaves_plain H.is_blank pen.old.highlighter) (shown_source S.source source.entry) labels.now v.items) }
     ensures refused { (result ≡ Err RenderError.Refused) → (shown_source S.source source.entry).always_reads ≡ false }
+    ensures stays { leaves_plain H.is_blank pen.new.highlighter ≡ leaves_plain H.is_blank pen.old.highlighter }
 {
     let options = LayoutOptions {
         tab_width: layout.tab,
         context_lines: layout.context,
         primary_start: layout.primary_start,
     };
-    let page = match snippets(alloc, layout.theme, &options, &source, labels) {
+    let page = match snippets(
+        pen.alloc,
+        &mut pen.highlighter,
+        layout.theme,
+        &options,
+        &source,
+        labels,
+    ) {
         Ok(page) => page,
         Err(RenderError::Refused) => return Err(RenderError::Refused),
         Err(RenderError::Memory) => return Err(RenderError::Memory),
     };
-    let mut text = Vec::new(alloc);
-    push_page(alloc, &page, &mut text)?;
+    let mut text = Vec::new(pen.alloc);
+    push_page(pen.alloc, &page, &mut text)?;
     Ok(text)
 }
 
@@ -261,160 +279,186 @@ fn sibling_with<D: Diagnostic, S: SourceCode>(
     Ok(text)
 }
 
-/// The causes of a report, under arrows in the style of the outer severity.
+/// Appends the causes of a report, under arrows in the style of the outer severity.
 #[cycle(report)]
-fn causes_text<D: Diagnostic, S: SourceCode>(
-    alloc: Global,
+fn push_causes<D: Diagnostic, S: SourceCode, H: Highlighter>(
+    pen: &mut Pen<H>,
     layout: Layout<'_>,
     outer: Option<Severity>,
     inherited: Option<SourceRef<'_, S>>,
     report: &Report<D, S>,
-) -> Result<Vec<char>, RenderError>
-    ensures ok { IfOk result (λ v. AreCauses drawn_rows (settings_of layout.entry) outer (option_map (shown_source S.source) inherited.entry) (cause_of (tree_of D.meaning S.source report.now)) v.items) }
+    out: &mut Vec<char>,
+) -> Result<(), RenderError>
+    ensures ok { OnOk result (AppendsOne (AreCauses drawn_rows (settings_of layout.entry) (leaves_plain H.is_blank pen.old.highlighter) outer (option_map (shown_source S.source) inherited.entry) (cause_of (tree_of D.meaning S.source report.now))) out.old.items out.new.items) }
     ensures refused { (result ≡ Err RenderError.Refused) → all_read (printed_causes layout.entry.nested (option_map (shown_source S.source) inherited.entry) (cause_of (tree_of D.meaning S.source report.now))) ≡ false }
+    ensures stays { leaves_plain H.is_blank pen.new.highlighter ≡ leaves_plain H.is_blank pen.old.highlighter }
 {
     match report.cause() {
-        Cause::None => Ok(Vec::new(alloc)),
+        Cause::None => Ok(()),
         Cause::Texts(list) => {
-            let mut text = Vec::new(alloc);
-            push_cause_texts(alloc, layout, outer, list, &mut text)?;
-            Ok(text)
+            push_cause_texts(pen.alloc, layout, outer, list, out)?;
+            Ok(())
         }
         Cause::Diagnostic(cause) => {
-            let mut text = one_cause(alloc, layout, outer, inherited, cause)?;
-            let below = causes_text(alloc, layout, outer, inherited, cause)?;
-            text.extend_from_slice(&below)?;
-            Ok(text)
+            let one = one_cause(pen, layout, outer, inherited, cause)?;
+            out.extend_from_slice(&one)?;
+            push_causes(pen, layout, outer, inherited, cause, out)?;
+            Ok(())
         }
     }
 }
 
 /// A diagnostic cause under its arrow.
 #[cycle(report)]
-fn one_cause<D: Diagnostic, S: SourceCode>(
-    alloc: Global,
+fn one_cause<D: Diagnostic, S: SourceCode, H: Highlighter>(
+    pen: &mut Pen<H>,
     layout: Layout<'_>,
     outer: Option<Severity>,
     inherited: Option<SourceRef<'_, S>>,
     cause: &Report<D, S>,
 ) -> Result<Vec<char>, RenderError>
-    ensures ok { IfOk result (λ v. IsOneCause drawn_rows (settings_of layout.entry) outer (option_map (shown_source S.source) inherited.entry) (tree_of D.meaning S.source cause.now) v.items) }
+    ensures ok { IfOk result (λ v. IsOneCause drawn_rows (settings_of layout.entry) (leaves_plain H.is_blank pen.old.highlighter) outer (option_map (shown_source S.source) inherited.entry) (tree_of D.meaning S.source cause.now) v.items) }
     ensures refused { (result ≡ Err RenderError.Refused) → all_read (printed_inner layout.entry.nested (effective (source_of (tree_of D.meaning S.source cause.now)) (option_map (shown_source S.source) inherited.entry)) (tree_of D.meaning S.source cause.now)) ≡ false }
+    ensures stays { leaves_plain H.is_blank pen.new.highlighter ≡ leaves_plain H.is_blank pen.old.highlighter }
 {
     let is_last = ends_there(cause);
-    let narrow = narrowed(alloc, layout, outer, is_last)?;
-    let inner = inner_text(alloc, narrow, own_or(cause, inherited), cause)?;
-    let mut text = Vec::new(alloc);
-    push_under_arrow(alloc, layout, outer, is_last, &inner, &mut text)?;
+    let narrow = narrowed(pen.alloc, layout, outer, is_last)?;
+    let inner = inner_text(pen, narrow, own_or(cause, inherited), cause)?;
+    let mut text = Vec::new(pen.alloc);
+    push_under_arrow(pen.alloc, layout, outer, is_last, &inner, &mut text)?;
     Ok(text)
 }
 
 /// A report that stands in another one, over its effective source.
 #[cycle(report)]
-fn inner_text<D: Diagnostic, S: SourceCode>(
-    alloc: Global,
+fn inner_text<D: Diagnostic, S: SourceCode, H: Highlighter>(
+    pen: &mut Pen<H>,
     layout: Layout<'_>,
     source: Option<SourceRef<'_, S>>,
     report: &Report<D, S>,
 ) -> Result<Vec<char>, RenderError>
-    ensures ok { IfOk result (λ v. IsInner drawn_rows (settings_of layout.entry) (option_map (shown_source S.source) source.entry) (tree_of D.meaning S.source report.now) v.items) }
+    ensures ok { IfOk result (λ v. IsInner drawn_rows (settings_of layout.entry) (leaves_plain H.is_blank pen.old.highlighter) (option_map (shown_source S.source) source.entry) (tree_of D.meaning S.source report.now) v.items) }
     ensures refused { (result ≡ Err RenderError.Refused) → all_read (printed_inner layout.entry.nested (option_map (shown_source S.source) source.entry) (tree_of D.meaning S.source report.now)) ≡ false }
+    ensures stays { leaves_plain H.is_blank pen.new.highlighter ≡ leaves_plain H.is_blank pen.old.highlighter }
 {
-    let rows = snippet_rows(alloc, layout, source, report)?;
-    let related = related_text(alloc, layout, report.severity(), source, report.related())?;
-    Ok(inner_with(alloc, layout, report, &rows, &related)?)
+    let rows = snippet_rows(pen, layout, source, report)?;
+    let mut related = Vec::new(pen.alloc);
+    push_related(
+        pen,
+        layout,
+        report.severity(),
+        source,
+        report.related(),
+        &mut related,
+    )?;
+    Ok(inner_with(pen.alloc, layout, report, &rows, &related)?)
 }
 
 /// A related report as a sibling, over its effective source.
 #[cycle(report)]
-fn sibling_text<D: Diagnostic, S: SourceCode>(
-    alloc: Global,
+fn sibling_text<D: Diagnostic, S: SourceCode, H: Highlighter>(
+    pen: &mut Pen<H>,
     layout: Layout<'_>,
     source: Option<SourceRef<'_, S>>,
     report: &Report<D, S>,
 ) -> Result<Vec<char>, RenderError>
-    ensures ok { IfOk result (λ v. IsSibling drawn_rows (settings_of layout.entry) (option_map (shown_source S.source) source.entry) (tree_of D.meaning S.source report.now) v.items) }
+    ensures ok { IfOk result (λ v. IsSibling drawn_rows (settings_of layout.entry) (leaves_plain H.is_blank pen.old.highlighter) (option_map (shown_source S.source) source.entry) (tree_of D.meaning S.source report.now) v.items) }
     ensures refused { (result ≡ Err RenderError.Refused) → all_read (printed_sibling layout.entry.nested (option_map (shown_source S.source) source.entry) (tree_of D.meaning S.source report.now)) ≡ false }
+    ensures stays { leaves_plain H.is_blank pen.new.highlighter ≡ leaves_plain H.is_blank pen.old.highlighter }
 {
-    let rows = snippet_rows(alloc, layout, source, report)?;
-    let causes = causes_text(alloc, layout, report.severity(), source, report)?;
-    let related = related_text(alloc, layout, report.severity(), source, report.related())?;
+    let mut causes = Vec::new(pen.alloc);
+    push_causes(pen, layout, report.severity(), source, report, &mut causes)?;
+    let rows = snippet_rows(pen, layout, source, report)?;
+    let mut related = Vec::new(pen.alloc);
+    push_related(
+        pen,
+        layout,
+        report.severity(),
+        source,
+        report.related(),
+        &mut related,
+    )?;
     let below = Below {
         causes: &causes,
         rows: &rows,
         related: &related,
     };
-    Ok(sibling_with(alloc, layout, report, below)?)
+    Ok(sibling_with(pen.alloc, layout, report, below)?)
 }
 
 /// One of several related reports, nested or as a sibling.
 #[cycle(report)]
-fn one_related<D: Diagnostic, S: SourceCode>(
-    alloc: Global,
+fn one_related<D: Diagnostic, S: SourceCode, H: Highlighter>(
+    pen: &mut Pen<H>,
     layout: Layout<'_>,
     outer: Option<Severity>,
     inherited: Option<SourceRef<'_, S>>,
     is_last: bool,
     report: &Report<D, S>,
 ) -> Result<Vec<char>, RenderError>
-    ensures ok { IfOk result (λ v. IsOneRelated drawn_rows (settings_of layout.entry) outer (effective (source_of (tree_of D.meaning S.source report.now)) (option_map (shown_source S.source) inherited.entry)) is_last (tree_of D.meaning S.source report.now) v.items) }
+    ensures ok { IfOk result (λ v. IsOneRelated drawn_rows (settings_of layout.entry) (leaves_plain H.is_blank pen.old.highlighter) outer (effective (source_of (tree_of D.meaning S.source report.now)) (option_map (shown_source S.source) inherited.entry)) is_last (tree_of D.meaning S.source report.now) v.items) }
     ensures refused { (result ≡ Err RenderError.Refused) → all_read (printed_one layout.entry.nested (effective (source_of (tree_of D.meaning S.source report.now)) (option_map (shown_source S.source) inherited.entry)) (tree_of D.meaning S.source report.now)) ≡ false }
+    ensures stays { leaves_plain H.is_blank pen.new.highlighter ≡ leaves_plain H.is_blank pen.old.highlighter }
 {
     let source = own_or(report, inherited);
     if !layout.nested {
-        return sibling_text(alloc, layout, source, report);
+        return sibling_text(pen, layout, source, report);
     }
-    let narrow = narrowed(alloc, layout, outer, is_last)?;
-    let inner = inner_text(alloc, narrow, source, report)?;
-    let cut = without_trailing(alloc, &inner)?;
-    let mut text = Vec::new(alloc);
-    push_under_arrow(alloc, layout, outer, is_last, &cut, &mut text)?;
+    let narrow = narrowed(pen.alloc, layout, outer, is_last)?;
+    let inner = inner_text(pen, narrow, source, report)?;
+    let cut = without_trailing(pen.alloc, &inner)?;
+    let mut text = Vec::new(pen.alloc);
+    push_under_arrow(pen.alloc, layout, outer, is_last, &cut, &mut text)?;
     Ok(text)
 }
 
-/// Related reports, nested or as siblings.
+/// Appends related reports, nested or as siblings.
 #[cycle(report)]
-fn related_text<D: Diagnostic, S: SourceCode>(
-    alloc: Global,
+fn push_related<D: Diagnostic, S: SourceCode, H: Highlighter>(
+    pen: &mut Pen<H>,
     layout: Layout<'_>,
     outer: Option<Severity>,
     inherited: Option<SourceRef<'_, S>>,
     reports: &[Report<D, S>],
-) -> Result<Vec<char>, RenderError>
-    ensures ok { IfOk result (λ v. AreRelated drawn_rows (settings_of layout.entry) outer (option_map (shown_source S.source) inherited.entry) (trees (map (tree_of D.meaning S.source) reports.now)) v.items) }
+    out: &mut Vec<char>,
+) -> Result<(), RenderError>
+    ensures ok { OnOk result (AppendsOne (AreRelated drawn_rows (settings_of layout.entry) (leaves_plain H.is_blank pen.old.highlighter) outer (option_map (shown_source S.source) inherited.entry) (trees (map (tree_of D.meaning S.source) reports.now))) out.old.items out.new.items) }
     ensures refused { (result ≡ Err RenderError.Refused) → all_read (printed_related layout.entry.nested (option_map (shown_source S.source) inherited.entry) (trees (map (tree_of D.meaning S.source) reports.now))) ≡ false }
+    ensures stays { leaves_plain H.is_blank pen.new.highlighter ≡ leaves_plain H.is_blank pen.old.highlighter }
 {
     match reports {
-        [] => Ok(Vec::new(alloc)),
+        [] => Ok(()),
         [report, more @ ..] => {
-            let mut text = one_related(alloc, layout, outer, inherited, are_last(more), report)?;
-            let below = related_text(alloc, layout, outer, inherited, more)?;
-            text.extend_from_slice(&below)?;
-            Ok(text)
+            let one = one_related(pen, layout, outer, inherited, are_last(more), report)?;
+            out.extend_from_slice(&one)?;
+            push_related(pen, layout, outer, inherited, more, out)?;
+            Ok(())
         }
     }
 }
 
 /// The causes of the outermost report, where they are shown.
-fn root_causes<D: Diagnostic, S: SourceCode>(
-    alloc: Global,
+fn root_causes<D: Diagnostic, S: SourceCode, H: Highlighter>(
+    pen: &mut Pen<H>,
     layout: Layout<'_>,
     report: &Report<D, S>,
 ) -> Result<Vec<char>, RenderError>
-    ensures ok { IfOk result (λ v. AreRootCauses drawn_rows (settings_of layout.entry) (tree_of D.meaning S.source report.now) v.items) }
+    ensures ok { IfOk result (λ v. AreRootCauses drawn_rows (settings_of layout.entry) (leaves_plain H.is_blank pen.old.highlighter) (tree_of D.meaning S.source report.now) v.items) }
     ensures refused { (result ≡ Err RenderError.Refused) → all_read (printed_root_causes layout.entry.chain layout.entry.nested (tree_of D.meaning S.source report.now)) ≡ false }
+    ensures stays { leaves_plain H.is_blank pen.new.highlighter ≡ leaves_plain H.is_blank pen.old.highlighter }
 {
+    let mut causes = Vec::new(pen.alloc);
     if layout.chain {
-        causes_text(
-            alloc,
+        push_causes(
+            pen,
             layout,
             report.severity(),
             report.source_code(),
             report,
-        )
-    } else {
-        Ok(Vec::new(alloc))
+            &mut causes,
+        )?;
     }
+    Ok(causes)
 }
 
 /// The outermost report, whose rows, causes and related reports are already made.
@@ -433,41 +477,57 @@ fn report_with<D: Diagnostic, S: SourceCode>(
     Ok(text)
 }
 
-fn report_codes<D: Diagnostic, S: SourceCode>(
-    alloc: Global,
+fn report_codes<D: Diagnostic, S: SourceCode, H: Highlighter>(
+    pen: &mut Pen<H>,
     layout: Layout<'_>,
     report: &Report<D, S>,
 ) -> Result<Vec<char>, RenderError>
-    ensures ok { IfOk result (λ v. IsReport drawn_rows (settings_of layout.entry) (tree_of D.meaning S.source report.now) v.items) }
+    ensures ok { IfOk result (λ v. IsReport drawn_rows (settings_of layout.entry) (leaves_plain H.is_blank pen.old.highlighter) (tree_of D.meaning S.source report.now) v.items) }
     ensures refused { (result ≡ Err RenderError.Refused) → all_read (printed (settings_of layout.entry) (tree_of D.meaning S.source report.now)) ≡ false }
+    ensures stays { leaves_plain H.is_blank pen.new.highlighter ≡ leaves_plain H.is_blank pen.old.highlighter }
 {
     let source = report.source_code();
-    let rows = snippet_rows(alloc, layout, source, report)?;
-    let causes = root_causes(alloc, layout, report)?;
-    let related = related_text(alloc, layout, report.severity(), source, report.related())?;
+    let causes = root_causes(pen, layout, report)?;
+    let rows = snippet_rows(pen, layout, source, report)?;
+    let mut related = Vec::new(pen.alloc);
+    push_related(
+        pen,
+        layout,
+        report.severity(),
+        source,
+        report.related(),
+        &mut related,
+    )?;
     let below = Below {
         causes: &causes,
         rows: &rows,
         related: &related,
     };
-    Ok(report_with(alloc, layout, report, below)?)
+    Ok(report_with(pen.alloc, layout, report, below)?)
 }
 
 /// Appends a report's text. An `Err` leaves the text as it was.
-pub fn render<D: Diagnostic, S: SourceCode>(
+pub fn render<D: Diagnostic, S: SourceCode, H: Highlighter>(
+    pen: &mut Pen<H>,
     layout: Layout<'_>,
     report: &Report<D, S>,
     out: &mut String,
 ) -> Result<(), RenderError>
-    ensures ok { OnOk result (Appends drawn_rows (settings_of layout.entry) (tree_of D.meaning S.source report.now) (string_bytes out.old) (string_bytes out.new)) }
+    ensures ok { OnOk result (Appends drawn_rows (settings_of layout.entry) (leaves_plain H.is_blank pen.old.highlighter) (tree_of D.meaning S.source report.now) (string_bytes out.old) (string_bytes out.new)) }
     ensures refused { (result ≡ Err RenderError.Refused) → all_read (printed (settings_of layout.entry) (tree_of D.meaning S.source report.now)) ≡ false }
-    ensures only { OnOk result (all_read (printed (settings_of layout.entry) (tree_of D.meaning S.source report.now)) ≡ true →
+    ensures only { OnOk result (leaves_plain H.is_blank pen.old.highlighter ≡ true → all_read (printed (settings_of layout.entry) (tree_of D.meaning S.source report.now)) ≡ true →
         string_bytes out.new ≡ string_bytes out.old ++ encode_utf8_all (texts.report_text drawn_rows (settings_of layout.entry) (tree_of D.meaning S.source report.now) unlisted)) }
+    ensures colours { OnOk result (AreCleanSettings (settings_of layout.entry) → IsCleanTree (tree_of D.meaning S.source report.now) →
+        AppendsOne (IsColouredText drawn_rows (settings_of layout.entry) (leaves_plain H.is_blank pen.old.highlighter) (tree_of D.meaning S.source report.now)) (string_bytes out.old) (string_bytes out.new)) }
+    ensures colourless { OnOk result (all_read (printed (settings_of layout.entry) (tree_of D.meaning S.source report.now)) ≡ true →
+        AreCleanSettings (settings_of layout.entry) → IsCleanTree (tree_of D.meaning S.source report.now) →
+        AppendsErasing (string_bytes out.old) (string_bytes out.new) (encode_utf8_all (texts.report_text drawn_rows (colourless (settings_of layout.entry)) (tree_of D.meaning S.source report.now) unlisted))) }
     ensures err { OnErr result (string_bytes out.new ≡ string_bytes out.old) }
+    ensures stays { leaves_plain H.is_blank pen.new.highlighter ≡ leaves_plain H.is_blank pen.old.highlighter }
 {
-    let alloc = *out.allocator();
-    let codes = report_codes(alloc, layout, report)?;
-    let text = encode(alloc, &codes)?;
+    erasing_law();
+    let codes = report_codes(pen, layout, report)?;
+    let text = encode(pen.alloc, &codes)?;
     out.push_str(text.as_str())?;
     Ok(())
 }

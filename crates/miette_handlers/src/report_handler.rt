@@ -15,11 +15,14 @@ use std::alloc::{AllocError, Global};
 
 /// A handler: it gives the text of a report in its own form.
 pub trait ReportHandler {
-    /// The texts that it may give for a report. It is one text, unless a source may fail to read.
+    /// The texts that it may give for a report. It is one text, unless a source may fail to read, or a highlighter isn't blank.
     ghost gives: { Self → Tree → List ℕ → Type 0 };
 
     /// For which reports it may answer `Refused`.
     ghost refuses: { Self → Tree → Type 0 };
+
+    /// What a call keeps of the handler: all of it, unless the handler has a state of its own.
+    ghost keeps: { Self → Self → Type 0 } = { λ old new. new ≡ old };
 
     /// Appends the report's text; the handler's settings stay. After an error `out` is as before.
     fn debug<D: Diagnostic, S: SourceCode>(
@@ -30,7 +33,7 @@ pub trait ReportHandler {
         ensures text { OnOk result (AppendsOne (gives self.old (tree_of D.meaning S.source report.now)) (string_bytes out.old) (string_bytes out.new)) }
         ensures refused { (result ≡ Err RenderError.Refused) → refuses self.old (tree_of D.meaning S.source report.now) }
         ensures err { OnErr result (string_bytes out.new ≡ string_bytes out.old) }
-        ensures settings { self.new ≡ self.old };
+        ensures settings { keeps self.old self.new };
 
     /// Appends the message, or where `alternate` the chain of messages joined by `: `. After an error, which is want of
     /// memory, `out` is as before.

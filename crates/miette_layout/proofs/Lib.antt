@@ -1,8 +1,10 @@
 pub mod Apart
 pub mod Beneath
+pub mod Bleaching
 pub mod Bodies
 pub mod Bridge
 pub mod Choosing
+pub mod CleanTexts
 pub mod Closing
 pub mod Columns
 pub mod Compared
@@ -23,6 +25,8 @@ pub mod Merging
 pub mod Nearing
 pub mod Numbers
 pub mod Paging
+pub mod PaleSnippets
+pub mod Paling
 pub mod Parting
 pub mod Placing
 pub mod Plaining
@@ -34,6 +38,7 @@ pub mod Sorting
 pub mod Sources
 pub mod Stepping
 pub mod Stroking
+pub mod Styling
 pub mod Swept
 pub mod Telling
 pub mod Texting

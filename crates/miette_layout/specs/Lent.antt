@@ -1,43 +1,57 @@
 -- The rows of a snippet from what its read lent, where nothing is known of the source beyond.
-use Rattle.std.specs.Prelude.{ℕ, ◌+◌, ◌-◌, ◌==◌, nat_lt, if◌then◌else◌, List, [], ◌∷◌, ◌++◌, length, map, decimal, slice_range, Option, false}
+use Rattle.std.specs.Prelude.{ℕ, ◌+◌, ◌-◌, ◌==◌, ◌≡◌, nat_lt, if◌then◌else◌, Bool, List, [], ◌∷◌, ◌++◌, length, map, decimal, slice_range, Option, false}
 use Rattle.miette_protocol.specs.Lines.{Line}
 use Rattle.miette_protocol.specs.Meaning.{Label}
 use Rattle.miette_protocol.specs.Reading.{Contents}
 use Rattle.miette_layout.specs.declared.line_sweep.SweptLine.{SweptLine}
 use Rattle.miette_layout.specs.Rows.{Row}
+use Rattle.miette_layout.specs.Answers.{Highlight, first_of, later_of}
 use Rattle.miette_layout.specs.Cells.{Cell, characters, cells_from}
 use Rattle.miette_layout.specs.Contexts.{lines_of_contents}
 use Rattle.miette_layout.specs.Frames.{Settings, Place, top_row, top_row_of, bottom_row, number_width}
 use Rattle.miette_layout.specs.Given.{drawn_of}
 use Rattle.miette_layout.specs.Gutters.{gutter_columns}
+use Rattle.miette_layout.specs.Highlighted.{decoded_text, EachHasPieces}
 use Rattle.miette_layout.specs.Labels.{DrawnLabel}
 use Rattle.miette_layout.specs.Layout.{line_rows, line_rows_of}
 use Rattle.miette_layout.specs.Sheets.{line_of_text}
 use Rattle.miette_layout.specs.Swept.{most_multi}
+use Rattle.miette_layout.specs.Told.{Token, told_rows}
 
--- the cells of a line, in bytes that begin at an offset
+-- the bytes of a line's text, in bytes that begin at an offset
+abbrev pub text_in : ℕ → List ℕ → Line → List ℕ
+text_in start bytes line = slice_range bytes (line.start - start) (line.text_end - start)
+
+-- its cells
 abbrev pub cells_in : Settings → ℕ → List ℕ → Line → List Cell
-cells_in s start bytes line = cells_from s.width s.tab false line.start 0 (characters (slice_range bytes (line.start - start) (line.text_end - start)))
+cells_in s start bytes line = cells_from s.width s.tab false line.start 0 (characters (text_in start bytes line))
+
+-- the lines' texts as a highlighter is given them
+abbrev pub texts_in : ℕ → List ℕ → List Line → List (List ℕ)
+texts_in start bytes lines = map (λ line. decoded_text (text_in start bytes line)) lines
 
 -- the rows of lines, with numbers from this one on, in bytes that begin at an offset
-abbrev pub lent_rows : Settings → ℕ → ℕ → List DrawnLabel → ℕ → List ℕ → ℕ → List Line → List Row
-lent_rows s w columns drawn start bytes number [] = []
-lent_rows s w columns drawn start bytes number (line ∷ lines) =
-    line_rows s w columns drawn line number (cells_in s start bytes line) [] ++ lent_rows s w columns drawn start bytes (number + 1) lines
+abbrev pub lent_rows : Settings → ℕ → ℕ → List DrawnLabel → ℕ → List ℕ → ℕ → List (List Highlight) → List Line → List Row
+lent_rows s w columns drawn start bytes number pieces [] = []
+lent_rows s w columns drawn start bytes number pieces (line ∷ lines) =
+    line_rows s w columns drawn line number (cells_in s start bytes line) (first_of pieces) ++ lent_rows s w columns drawn start bytes (number + 1) (later_of pieces) lines
 
 -- the rows of a snippet, with its frame
-abbrev pub lent_snippet : Settings → List DrawnLabel → Contents → Option Place → List Row
-lent_snippet s drawn lent place =
+abbrev pub lent_snippet : Settings → List DrawnLabel → Contents → Option Place → List (List Highlight) → List Row
+lent_snippet s drawn lent place pieces =
     top_row s lent place
-    ∷ lent_rows s (number_width lent) (gutter_columns drawn (lines_of_contents lent)) drawn lent.span.offset lent.bytes (lent.line + 1) (lines_of_contents lent)
+    ∷ lent_rows s (number_width lent) (gutter_columns drawn (lines_of_contents lent)) drawn lent.span.offset lent.bytes (lent.line + 1) pieces (lines_of_contents lent)
     ++ bottom_row s (number_width lent) ∷ []
 
 -- the rows of lines with the labels that were found on them
-abbrev pub swept_rows : Settings → ℕ → ℕ → List Label → ℕ → List ℕ → ℕ → List SweptLine → List Row
-swept_rows s w columns labels start bytes number [] = []
-swept_rows s w columns labels start bytes number (l ∷ ls) =
-    line_rows_of s w columns (map (drawn_of labels) l.on.one.items) (map (drawn_of labels) l.on.multi.items) (line_of_text l.line) number (cells_in s start bytes (line_of_text l.line)) []
-    ++ swept_rows s w columns labels start bytes (number + 1) ls
+abbrev pub swept_rows : Settings → ℕ → ℕ → List Label → ℕ → List ℕ → ℕ → List (List Highlight) → List SweptLine → List Row
+swept_rows s w columns labels start bytes number pieces [] = []
+swept_rows s w columns labels start bytes number pieces (l ∷ ls) =
+    line_rows_of s w columns (map (drawn_of labels) l.on.one.items) (map (drawn_of labels) l.on.multi.items) (line_of_text l.line) number (cells_in s start bytes (line_of_text l.line)) (first_of pieces)
+    ++ swept_rows s w columns labels start bytes (number + 1) (later_of pieces) ls
+
+abbrev pub places_of : List SweptLine → List Line
+places_of ls = map (λ l. line_of_text l.line) ls
 
 -- the digits of the number of the last of so many lines, where this many stand before the first; 1 where there is none
 abbrev pub width_of_count : ℕ → ℕ → ℕ
@@ -48,8 +62,14 @@ abbrev pub gutter_of : ℕ → ℕ
 gutter_of most = if most == 0 then 0 else most + 3
 
 -- the rows of a snippet, from the labels that were found on its lines
-abbrev pub swept_snippet : Settings → List Label → Contents → Option Place → List SweptLine → List Row
-swept_snippet s labels lent place ls =
+abbrev pub swept_snippet : Settings → List Label → Contents → Option Place → List SweptLine → List (List Highlight) → List Row
+swept_snippet s labels lent place ls pieces =
     top_row_of s (width_of_count lent.line (length ls)) lent.name (nat_lt 1 (length ls)) place
-    ∷ swept_rows s (width_of_count lent.line (length ls)) (gutter_of (most_multi ls)) labels lent.span.offset lent.bytes (lent.line + 1) ls
+    ∷ swept_rows s (width_of_count lent.line (length ls)) (gutter_of (most_multi ls)) labels lent.span.offset lent.bytes (lent.line + 1) pieces ls
     ++ bottom_row s (width_of_count lent.line (length ls)) ∷ []
+
+-- A page has got rows with some pieces, which a highlighter may have answered for these texts.
+pub record PutsRows (blank : Bool) (texts : List (List ℕ)) (rows : List (List Highlight) → List Row) (before after : List Token) : Type 0 where
+  pub pieces : List (List Highlight)
+  pub are : EachHasPieces blank texts pieces
+  pub is : after ≡ before ++ told_rows (rows pieces)

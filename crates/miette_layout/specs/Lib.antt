@@ -1,13 +1,16 @@
 pub mod Answers
 pub mod Cells
+pub mod Clean
 pub mod Contexts
 pub mod Drawing
 pub mod Drawn
+pub mod Fading
 pub mod Framed
 pub mod Frames
 pub mod Given
 pub mod Groups
 pub mod Gutters
+pub mod Highlighted
 pub mod Labels
 pub mod Layout
 pub mod Lent

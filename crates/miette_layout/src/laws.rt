@@ -1,11 +1,15 @@
 //! What holds of the rows of snippets, as laws of their definitions.
 
-ghost use Rattle.std.specs.Prelude.{◌≡◌, ◌<◌, ◌≤◌, ◌+◌, ◌^◌, ℕ, List, ◌∷◌, [], Some, Bool, length};
+ghost use Rattle.std.specs.Prelude.{◌≡◌, ◌<◌, ◌≤◌, ◌+◌, ◌^◌, ℕ, List, ◌∷◌, [], Some, Bool, length, map, IfSome};
+ghost use Rattle.std.specs.Option.{option_map};
 ghost use Rattle.std.specs.List.{AllByRecursion, concat};
 ghost use Rattle.miette_layout.specs.Numbers.{runs, IsRun, AreParted};
 ghost use Rattle.miette_protocol.specs.Meaning.{Label};
 ghost use Rattle.miette_protocol.specs.Reading.{Source, Contents, Span};
+ghost use Rattle.miette_layout.specs.Clean.{AreCleanDrawings, IsCleanLabel, IsCleanRow, IsCleanSource};
 ghost use Rattle.miette_layout.specs.Contexts.{lines_of_contents};
+ghost use Rattle.miette_layout.specs.Fading.{IsPlainRow, colourless, unhighlighted};
+ghost use Rattle.miette_layout.specs.Rows.{pieces_of};
 ghost use Rattle.miette_layout.specs.Answers.{Answers, AlwaysReads, Highlight, NoneFails};
 ghost use Rattle.miette_layout.specs.Groups.{AreAccepted, in_order, spans_of, groups_answered, lines_of_groups};
 ghost use Rattle.miette_layout.specs.Snippets.{snippets};
@@ -49,4 +53,21 @@ pub fn marks_are_apart()
 pub fn texts_hang()
     ensures { (s : Settings) (labels : List DrawnLabel) (source : List ℕ) (read : Contents) (pieces : List (List Highlight)) →
         IsNarrow s.width s.characters → read.line + length (lines_of_contents read) < 2 ^ 64 → BodyShows s labels source read pieces }
+{}
+
+/// In plain styles and without a highlighter's pieces the snippets have the same rows of the same characters in the same columns, and
+/// all of them are plain.
+pub fn rows_fade()
+    ensures same { (s : Settings) (source : Source) (labels : List Label) (answers : Answers) →
+        option_map (map pieces_of) (snippet_rows (colourless s) source labels (unhighlighted answers)) ≡ option_map (map pieces_of) (snippet_rows s source labels answers) }
+    ensures plain { (s : Settings) (source : Source) (labels : List Label) (answers : Answers) →
+        IfSome (snippet_rows (colourless s) source labels (unhighlighted answers)) (AllByRecursion IsPlainRow) }
+{}
+
+/// Where the characters that are drawn, the source's name and bytes, and the labels' texts hold no escape, the rows of the snippets hold
+/// none, whatever the reads and a highlighter answer.
+pub fn rows_hold_no_escape()
+    ensures { (s : Settings) (source : Source) (labels : List Label) (answers : Answers) →
+        AreCleanDrawings s.characters → IsCleanSource source → AllByRecursion IsCleanLabel labels →
+        IfSome (snippet_rows s source labels answers) (AllByRecursion IsCleanRow) }
 {}

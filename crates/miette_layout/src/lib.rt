@@ -7,6 +7,7 @@ pub mod drawn_labels;
 pub mod frame;
 pub mod grouping;
 pub mod gutters;
+pub mod highlighting;
 pub mod laws;
 pub mod line;
 pub mod line_sweep;

@@ -1,16 +1,18 @@
 //! The rows of one snippet.
 
-ghost use Rattle.std.specs.Prelude.{◌≡◌, ◌++◌, ◌+◌, ◌<◌, ◌^◌, map, length, decimal, IfOk, OnOk};
+ghost use Rattle.std.specs.Prelude.{◌≡◌, ◌+◌, ◌<◌, ◌^◌, map, length, decimal, IfOk, OnOk};
 ghost use Rattle.std.specs.Option.{option_map};
 ghost use Rattle.std.specs.List.{All};
 ghost use Rattle.miette_layout.specs.Framed.{place_at};
 ghost use Rattle.miette_layout.specs.Given.{settings_of, drawn_of};
-ghost use Rattle.miette_layout.specs.Lent.{swept_rows, swept_snippet, lent_snippet, width_of_count, gutter_of};
+ghost use Rattle.miette_layout.specs.Contexts.{lines_of_contents};
+ghost use Rattle.miette_layout.specs.Highlighted.{leaves_plain};
+ghost use Rattle.miette_layout.specs.Lent.{PutsRows, places_of, texts_in, swept_rows, swept_snippet, lent_snippet, width_of_count, gutter_of};
 ghost use Rattle.miette_layout.specs.Swept.{LiesIn};
 ghost use Rattle.miette_layout.specs.Sweeping.{IsAt, AreSorted};
-ghost use Rattle.miette_layout.specs.Told.{told_rows};
 
 use crate::frame::{Frame, push_bottom_row, push_top_row};
+use crate::highlighting::{pieces_of, restart};
 use crate::line::push_line_rows;
 use crate::line_sweep::{SweptLine, most_on_a_line, swept_lines};
 use crate::options::LayoutOptions;
@@ -20,6 +22,7 @@ use crate::sweep::{Bounds, Placed, Sweep, advance};
 use itoa::Buffer;
 use miette_protocol::protocol::LabeledSpan;
 use miette_protocol::source::MietteSpanContents;
+use miette_text::highlight::Highlighter;
 use miette_text::theme::GraphicalTheme;
 use std::alloc::{AllocError, Global};
 
@@ -87,9 +90,10 @@ fn seek(
     Ok(())
 }
 
-// The rows of lines, with numbers from this one on, whose bytes begin at an offset.
-fn push_lines<'a>(
+// The rows of lines, with numbers from this one on, whose bytes begin at an offset, in the highlighter's pieces.
+fn push_lines<'a, H: Highlighter>(
     alloc: Global,
+    highlighter: &mut Option<H>,
     page: &mut Page,
     frame: &Frame<'a>,
     gutter: usize,
@@ -101,7 +105,9 @@ fn push_lines<'a>(
 ) -> Result<(), AllocError>
     requires inside { All (LiesIn start (length bytes.now)) lines.now }
     requires small { start + length bytes.now < 2 ^ 64 }
-    ensures { OnOk result (page.new ≡ page.old ++ told_rows (swept_rows (settings_of frame.now.theme.now frame.now.options) frame.now.number_width gutter labels.now start bytes.now first lines.now)) }
+    ensures rows { OnOk result (PutsRows (leaves_plain H.is_blank highlighter.old) (texts_in start bytes.now (places_of lines.now))
+        (λ pieces. swept_rows (settings_of frame.now.theme.now frame.now.options) frame.now.number_width gutter labels.now start bytes.now first pieces lines.now) page.old page.new) }
+    ensures stays { leaves_plain H.is_blank highlighter.new ≡ leaves_plain H.is_blank highlighter.old }
 {
     for (i, swept) in lines.iter().enumerate() {
         let Some(number) = first.checked_add(i) else {
@@ -117,14 +123,16 @@ fn push_lines<'a>(
             multi: &swept.on.multi,
         };
         let text = &bytes[swept.line.start - start..swept.line.text_end - start];
-        push_line_rows(alloc, page, &sheet, number, text, &swept.on.one, &[])?;
+        let pieces = pieces_of(alloc, highlighter, text)?;
+        push_line_rows(alloc, page, &sheet, number, text, &swept.on.one, &pieces)?;
     }
     Ok(())
 }
 
 // The rows of a snippet whose lines are known.
-fn push_swept<'a>(
+fn push_swept<'a, H: Highlighter>(
     alloc: Global,
+    highlighter: &mut Option<H>,
     page: &mut Page,
     theme: &'a GraphicalTheme,
     options: &LayoutOptions,
@@ -135,7 +143,9 @@ fn push_swept<'a>(
 ) -> Result<(), AllocError>
     requires inside { All (LiesIn lent.now.span.offset (length lent.now.bytes)) lines.now }
     requires small { lent.now.span.offset + length lent.now.bytes < 2 ^ 64 }
-    ensures { OnOk result (page.new ≡ page.old ++ told_rows (swept_snippet (settings_of theme.now options.now) labels.now lent.now (option_map place_at place) lines.now)) }
+    ensures rows { OnOk result (PutsRows (leaves_plain H.is_blank highlighter.old) (texts_in lent.now.span.offset lent.now.bytes (places_of lines.now))
+        (swept_snippet (settings_of theme.now options.now) labels.now lent.now (option_map place_at place) lines.now) page.old page.new) }
+    ensures stays { leaves_plain H.is_blank highlighter.new ≡ leaves_plain H.is_blank highlighter.old }
 {
     let frame = Frame {
         theme,
@@ -149,6 +159,7 @@ fn push_swept<'a>(
     push_top_row(page, &frame, lent.name(), lines.len() > 1, place)?;
     push_lines(
         alloc,
+        highlighter,
         page,
         &frame,
         gutter,
@@ -162,10 +173,12 @@ fn push_swept<'a>(
     Ok(())
 }
 
-/// The rows of a snippet from what its read lent: its frame, which points to this line and column, and its lines. The sweep over the
-/// labels comes from an offset to the one where the lent bytes end, which is handed back.
-pub fn push_snippet<'a>(
+/// The rows of a snippet from what its read lent: its frame, which points to this line and column, and its lines, in the pieces of the
+/// highlighter, which is restarted. The sweep over the labels comes from an offset to the one where the lent bytes end, which is handed
+/// back.
+pub fn push_snippet<'a, H: Highlighter>(
     alloc: Global,
+    highlighter: &mut Option<H>,
     page: &mut Page,
     theme: &'a GraphicalTheme,
     options: &LayoutOptions,
@@ -178,13 +191,26 @@ pub fn push_snippet<'a>(
 ) -> Result<usize, AllocError>
     requires sorted { AreSorted placed.now }
     requires at { IsAt placed.now at sweep.old.next sweep.old.running.items }
-    ensures rows { OnOk result (page.new ≡ page.old ++ told_rows (lent_snippet (settings_of theme.now options.now) (map (drawn_of labels.now) placed.now) lent.now (option_map place_at place))) }
+    ensures rows { OnOk result (PutsRows (leaves_plain H.is_blank highlighter.old) (texts_in lent.now.span.offset lent.now.bytes (lines_of_contents lent.now))
+        (lent_snippet (settings_of theme.now options.now) (map (drawn_of labels.now) placed.now) lent.now (option_map place_at place)) page.old page.new) }
+    ensures stays { leaves_plain H.is_blank highlighter.new ≡ leaves_plain H.is_blank highlighter.old }
     ensures at { IfOk result (λ end. IsAt placed.now end sweep.new.next sweep.new.running.items) }
 {
     let start = lent.span().offset();
     seek(alloc, placed, at, start, sweep)?;
     let lines = swept_lines(alloc, lent.data(), start, placed, sweep)?;
-    push_swept(alloc, page, theme, options, labels, lent, place, &lines)?;
+    restart(highlighter, lent);
+    push_swept(
+        alloc,
+        highlighter,
+        page,
+        theme,
+        options,
+        labels,
+        lent,
+        place,
+        &lines,
+    )?;
     match start.checked_add(lent.data().len()) {
         Some(end) => Ok(end),
         None => Err(AllocError),

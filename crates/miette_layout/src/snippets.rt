@@ -5,6 +5,7 @@ ghost use Rattle.std.specs.List.{All};
 ghost use Rattle.miette_layout.specs.Drawn.{MayGive, RefusesWith};
 ghost use Rattle.miette_layout.specs.Given.{settings_of, label_at};
 ghost use Rattle.miette_layout.specs.Groups.{in_order};
+ghost use Rattle.miette_layout.specs.Highlighted.{leaves_plain};
 ghost use Rattle.miette_layout.specs.Read.{IsRead, name_of as name_of_reason};
 
 use crate::drawn_labels::placed;
@@ -20,6 +21,7 @@ use crate::sweep::Sweep;
 use miette_protocol::error::RenderError;
 use miette_protocol::protocol::LabeledSpan;
 use miette_protocol::source::SourceCode;
+use miette_text::highlight::Highlighter;
 use miette_text::theme::GraphicalTheme;
 use std::alloc::{AllocError, Global};
 
@@ -34,8 +36,9 @@ fn name_of(refusal: Refusal) -> &'static str
 }
 
 // The snippets of labels that were read, or none where the read of some place failed.
-fn read_snippets<'a, 'b, S: SourceCode>(
+fn read_snippets<'a, 'b, S: SourceCode, H: Highlighter>(
     alloc: Global,
+    highlighter: &mut Option<H>,
     theme: &'b GraphicalTheme,
     options: &LayoutOptions,
     source: &'a S,
@@ -44,7 +47,8 @@ fn read_snippets<'a, 'b, S: SourceCode>(
 ) -> Result<Option<Page>, AllocError>
     requires order { map (λ read. label_at labels.now read.index) reads.now ≡ in_order labels.now }
     requires each { All (IsRead options.now.context_lines (S.source source.now) labels.now) reads.now }
-    ensures { IfOk result (λ page. MayGive (settings_of theme.now options.now) (S.source source.now) labels.now page) }
+    ensures gives { IfOk result (λ page. MayGive (settings_of theme.now options.now) (S.source source.now) labels.now (leaves_plain H.is_blank highlighter.old) page) }
+    ensures stays { leaves_plain H.is_blank highlighter.new ≡ leaves_plain H.is_blank highlighter.old }
 {
     let placed = placed(alloc, &theme.styles.highlights, labels, reads)?;
     let groups = groups(alloc, source, options.context_lines, reads)?;
@@ -62,6 +66,7 @@ fn read_snippets<'a, 'b, S: SourceCode>(
         }
         at = push_snippet(
             alloc,
+            highlighter,
             &mut page,
             theme,
             options,
@@ -77,18 +82,22 @@ fn read_snippets<'a, 'b, S: SourceCode>(
 }
 
 // All snippets, or the one row of a label that is refused; none where the read of some place failed.
-fn all_snippets<'b, S: SourceCode>(
+fn all_snippets<'b, S: SourceCode, H: Highlighter>(
     alloc: Global,
+    highlighter: &mut Option<H>,
     theme: &'b GraphicalTheme,
     options: &LayoutOptions,
     source: &S,
     labels: &'b [LabeledSpan],
 ) -> Result<Option<Page>, AllocError>
-    ensures { IfOk result (λ page. MayGive (settings_of theme.now options.now) (S.source source.now) labels.now page) }
+    ensures gives { IfOk result (λ page. MayGive (settings_of theme.now options.now) (S.source source.now) labels.now (leaves_plain H.is_blank highlighter.old) page) }
+    ensures stays { leaves_plain H.is_blank highlighter.new ≡ leaves_plain H.is_blank highlighter.old }
 {
     let order = by_offset(alloc, labels)?;
     match read_labels(alloc, source, options.context_lines, labels, &order)? {
-        ReadLabels::All(reads) => { read_snippets(alloc, theme, options, source, labels, &reads) }
+        ReadLabels::All(reads) => {
+            read_snippets(alloc, highlighter, theme, options, source, labels, &reads)
+        }
         ReadLabels::Refused(index, refusal) => {
             let frame = Frame {
                 theme,
@@ -103,20 +112,23 @@ fn all_snippets<'b, S: SourceCode>(
 }
 
 /// The rows of a diagnostic's snippets, whose labels are given over its source: frames, numbered lines, marks and the labels' texts; or
-/// the one row of the first label that is refused. Fails with `Refused` where a label's place can't be read, which a source that always
-/// reads never does, and with `Memory` where memory is refused.
-pub fn snippets<'b, S: SourceCode>(
+/// the one row of the first label that is refused. A highlighter styles the lines: it is restarted for each snippet with the contents of
+/// the snippet's read, and is then given the text of each line in order, decoded. Fails with `Refused` where a label's place can't be
+/// read, which a source that always reads never does, and with `Memory` where memory is refused, to the highlighter too.
+pub fn snippets<'b, S: SourceCode, H: Highlighter>(
     alloc: Global,
+    highlighter: &mut Option<H>,
     theme: &'b GraphicalTheme,
     options: &LayoutOptions,
     source: &S,
     labels: &'b [LabeledSpan],
 ) -> Result<Page, RenderError>
-    ensures { MatchResult result
-        (λ page. MayGive (settings_of theme.now options.now) (S.source source.now) labels.now (Some page))
-        (λ e. RefusesWith (settings_of theme.now options.now) (S.source source.now) labels.now e) }
+    ensures gives { MatchResult result
+        (λ page. MayGive (settings_of theme.now options.now) (S.source source.now) labels.now (leaves_plain H.is_blank highlighter.old) (Some page))
+        (λ e. RefusesWith (settings_of theme.now options.now) (S.source source.now) labels.now (leaves_plain H.is_blank highlighter.old) e) }
+    ensures stays { leaves_plain H.is_blank highlighter.new ≡ leaves_plain H.is_blank highlighter.old }
 {
-    match all_snippets(alloc, theme, options, source, labels) {
+    match all_snippets(alloc, highlighter, theme, options, source, labels) {
         Ok(Some(page)) => Ok(page),
         Ok(None) => Err(RenderError::Refused),
         Err(_) => Err(RenderError::Memory),

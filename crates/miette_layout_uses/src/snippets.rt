@@ -6,6 +6,8 @@ use miette_layout::snippets::snippets;
 use miette_protocol::error::{MietteError, RenderError};
 use miette_protocol::protocol::{LabeledSpan, SourceSpan};
 use miette_protocol::source::{MietteSpanContents, NamedSource, SourceCode};
+use miette_text::highlight::{BlankHighlighter, Highlighter};
+use miette_text::style::Style;
 use miette_text::theme::{GraphicalTheme, ThemeCharacters, ThemeStyles};
 use std::alloc::{AllocError, Global};
 use std::io::{self, ErrorKind};
@@ -75,7 +77,8 @@ fn draw<S: SourceCode>(
     labels: &[LabeledSpan],
 ) -> Result<Result<String, RenderError>, AllocError> {
     let theme = plain_theme(alloc)?;
-    match snippets(alloc, &theme, &OPTIONS, source, labels) {
+    let mut highlighter: Option<BlankHighlighter> = None;
+    match snippets(alloc, &mut highlighter, &theme, &OPTIONS, source, labels) {
         Ok(page) => Ok(Ok(text_of(alloc, &page)?)),
         Err(error) => Ok(Err(error)),
     }
@@ -185,5 +188,51 @@ fn reads_that_fail(rt: HostRuntime) -> Result<(), Fail> {
         text.as_str(),
         "  [Failed to read contents for label `<none>` (offset: 0, length: 1): IoError]\n"
     );
+    Ok(())
+}
+
+/// Tells of each read the number of its first line and how many bytes it has, and the text of each line.
+#[derive(Drop)]
+struct Telling {
+    reads: Vec<(usize, usize)>,
+    lines: String,
+}
+
+impl Highlighter for Telling {
+    fn restart(&mut self, contents: &MietteSpanContents<'_>) {
+        let _ = self.reads.push((contents.line(), contents.data().len()));
+    }
+
+    fn highlight_line(
+        &mut self,
+        alloc: Global,
+        line: &str,
+    ) -> Result<Vec<(usize, Style)>, AllocError> {
+        self.lines.push_str(line)?;
+        self.lines.push_str("|")?;
+        Ok(vec![in alloc; (line.len(), Style::new())]?)
+    }
+}
+
+#[test]
+fn a_highlighter_is_asked_for_each_line(rt: HostRuntime) -> Result<(), Fail> {
+    let alloc = rt.alloc();
+    let theme = plain_theme(alloc)?;
+    let labels = vec![in alloc; LabeledSpan::new(None, 15, 1), LabeledSpan::new(None, 0, 1)]?;
+    let mut highlighter = Some(Telling {
+        reads: Vec::new(alloc),
+        lines: String::new(alloc),
+    });
+    let source = b"a\xFFb\tc\r\n2\n3\n4\n5\n6\n".as_slice();
+    let page = snippets(alloc, &mut highlighter, &theme, &OPTIONS, &source, &labels)?;
+    assert_eq!(rt;
+        text_of(alloc, &page)?.as_str(),
+        "   ╭─[1:1]\n 1 │ a\u{FFFD}b c\n   · ─\n 2 │ 2\n   ╰────\n   ╭─[6:1]\n 5 │ 5\n 6 │ 6\n   · ─\n   ╰────\n"
+    );
+    let Some(telling) = highlighter else {
+        return Err(Fail::from("no highlighter"));
+    };
+    assert_eq!(rt; telling.reads.as_slice(), [(0, 9), (4, 4)].as_slice());
+    assert_eq!(rt; telling.lines.as_str(), "a\u{FFFD}b\tc|2|5|6|");
     Ok(())
 }

@@ -9,6 +9,8 @@ use Rattle.miette_layout.specs.Given.{width_of}
 use Rattle.miette_layout.proofs.Stepping.{IsFirst, made, characters_step, characters_end}
 use Rattle.miette_narrated.specs.Columns.{begun, is_boundary, widths, column}
 use Rattle.miette_narrated.specs.Lines.{decoded_text}
+use Rattle.miette_narrated.specs.declared.places.Place.{Place}
+use Rattle.miette_narrated.specs.Places.{column_behind, IsPlace}
 
 pub decoded_more : (old new rest left : List ℕ) (code size : ℕ) (goal : List ℕ) → IsFirst rest left code size → new ≡ old ++ encode_utf8 code →
     old ++ decoded_text (characters rest) ≡ goal → new ++ decoded_text (characters left) ≡ goal
@@ -21,16 +23,16 @@ decoded_all out rest goal e h = sym (append-nil out) ∙ ap (λ cs. out ++ decod
 
 -- ---- the column
 
--- some characters are over, and so many bytes of the rest are left
-pub record IsOver (text : List ℕ) (bytes : ℕ) (over : List ℕ) (sum : ℕ) (rest : List ℕ) (left : ℕ) : Type 0 where
+-- some characters are over, and so many bytes of the rest are left; the sum of widths began with some
+pub record IsOver (first : ℕ) (text : List ℕ) (bytes : ℕ) (over : List ℕ) (sum : ℕ) (rest : List ℕ) (left : ℕ) : Type 0 where
   pub all : chars over ++ begun left (characters rest) ≡ begun bytes (characters text)
   pub boundary : is_boundary left (characters rest) ≡ is_boundary bytes (characters text)
-  pub width : sum + widths (begun left (characters rest)) ≡ widths (begun bytes (characters text))
+  pub width : sum + widths (begun left (characters rest)) ≡ first + widths (begun bytes (characters text))
 
-pub none_over : (text : List ℕ) (bytes : ℕ) (over : List ℕ) → over ≡ [] → IsOver text bytes over 0 text bytes
-none_over text bytes over e = record { all = ap (λ o. chars o ++ begun bytes (characters text)) e ∙ ap (λ o. o ++ begun bytes (characters text)) chars-nil; boundary = refl; width = omega arith }
+pub none_over : (first : ℕ) (text : List ℕ) (bytes : ℕ) (over : List ℕ) → over ≡ [] → IsOver first text bytes over first text bytes
+none_over first text bytes over e = record { all = ap (λ o. chars o ++ begun bytes (characters text)) e ∙ ap (λ o. o ++ begun bytes (characters text)) chars-nil; boundary = refl; width = refl }
 
-chars_pushed : (old new : List ℕ) (code : ℕ) → IsUtf8 old → IsUtf8 new → new ≡ old ++ encode_utf8 code → chars new ≡ chars old ++ code ∷ []
+pub chars_pushed : (old new : List ℕ) (code : ℕ) → IsUtf8 old → IsUtf8 new → new ≡ old ++ encode_utf8 code → chars new ≡ chars old ++ code ∷ []
 chars_pushed old new code u v e =
     sym (chars_from_encodes (chars old ++ code ∷ []) new v
     (encodes-append (chars old) (code ∷ []) ∙ ap (λ o. o ++ encode_utf8_all (code ∷ [])) (encodes-chars old u) ∙ ap (λ o. old ++ o) (append-nil (encode_utf8 code)) ∙ sym e))
@@ -55,11 +57,11 @@ boundary_zero : (cs : List Character) → is_boundary 0 cs ≡ true
 boundary_zero [] = refl
 boundary_zero (c ∷ cs) = refl
 
-pub one_over : (text : List ℕ) (bytes : ℕ) (over new : List ℕ) (sum wider : ℕ) (rest after : List ℕ) (left code size : ℕ) → IsOver text bytes over sum rest left → IsFirst rest after code size →
-    IsUtf8 over → IsUtf8 new → new ≡ over ++ encode_utf8 code → wider ≡ sum + width_of code → 0 < left → size ≤ left → IsOver text bytes new wider after (left - size)
-one_over text bytes over new sum wider rest after left code size h first u v e w some fits =
+pub one_over : (first : ℕ) (text : List ℕ) (bytes : ℕ) (over new : List ℕ) (sum wider : ℕ) (rest after : List ℕ) (left code size : ℕ) → IsOver first text bytes over sum rest left → IsFirst rest after code size →
+    IsUtf8 over → IsUtf8 new → new ≡ over ++ encode_utf8 code → wider ≡ sum + width_of code → 0 < left → size ≤ left → IsOver first text bytes new wider after (left - size)
+one_over first text bytes over new sum wider rest after left code size h is u v e w some fits =
     let cs = characters after in
-    let step = characters_step rest after code size first in
+    let step = characters_step rest after code size is in
     let more : begun left (characters rest) ≡ code ∷ begun (left - size) cs = ap (begun left) step ∙ begun_more left code size cs some in
     let sums : widths (begun left (characters rest)) ≡ width_of code + widths (begun (left - size) cs) = ap widths more in
     record {
@@ -74,29 +76,38 @@ at_boundary text bytes e = rw e refl
 pub off_boundary : (text : List ℕ) (bytes : ℕ) → is_boundary bytes (characters text) ≡ false → column bytes (characters text) ≡ widths (begun bytes (characters text))
 off_boundary text bytes e = rw e refl
 
-pub over_at_zero : (text : List ℕ) (bytes : ℕ) (over : List ℕ) (sum : ℕ) (rest : List ℕ) (left result : ℕ) → IsOver text bytes over sum rest left → left ≡ 0 → result ≡ str_width false (chars over) →
-    result ≡ column bytes (characters text)
-over_at_zero text bytes over sum rest left result h zero r =
+pub behind_boundary : (place : Place) (text : List ℕ) (bytes : ℕ) → is_boundary bytes (characters text) ≡ true →
+    column_behind place bytes (characters text) ≡ place.column + str_width false (begun bytes (characters text))
+behind_boundary place text bytes e = rw e refl
+
+pub behind_other : (place : Place) (text : List ℕ) (bytes : ℕ) → is_boundary bytes (characters text) ≡ false →
+    column_behind place bytes (characters text) ≡ place.widths + widths (begun bytes (characters text))
+behind_other place text bytes e = rw e refl
+
+pub over_at_zero : (place : Place) (text : List ℕ) (bytes : ℕ) (over : List ℕ) (sum : ℕ) (rest : List ℕ) (left result : ℕ) → IsOver place.widths text bytes over sum rest left → left ≡ 0 →
+    result ≡ place.column + str_width false (chars over) → result ≡ column_behind place bytes (characters text)
+over_at_zero place text bytes over sum rest left result h zero r =
     let none : begun left (characters rest) ≡ [] = ap (λ k. begun k (characters rest)) zero ∙ begun_zero (characters rest) in
     let here : is_boundary bytes (characters text) ≡ true = sym h.boundary ∙ ap (λ k. is_boundary k (characters rest)) zero ∙ boundary_zero (characters rest) in
-    r ∙ ap (str_width false) (sym (append-nil (chars over)) ∙ ap (λ o. chars over ++ o) (sym none) ∙ h.all) ∙ sym (at_boundary text bytes here)
+    r ∙ ap (λ o. place.column + str_width false o) (sym (append-nil (chars over)) ∙ ap (λ o. chars over ++ o) (sym none) ∙ h.all) ∙ sym (behind_boundary place text bytes here)
 
-pub over_past_end : (text : List ℕ) (bytes : ℕ) (over : List ℕ) (sum : ℕ) (rest : List ℕ) (left : ℕ) → IsOver text bytes over sum rest left → 0 < left → rest ≡ [] → sum ≡ column bytes (characters text)
-over_past_end text bytes over sum rest left h some e =
+pub over_past_end : (place : Place) (text : List ℕ) (bytes : ℕ) (over : List ℕ) (sum : ℕ) (rest : List ℕ) (left : ℕ) → IsOver place.widths text bytes over sum rest left → 0 < left → rest ≡ [] →
+    sum ≡ column_behind place bytes (characters text)
+over_past_end place text bytes over sum rest left h some e =
     let end = characters_end rest e in
     let none : widths (begun left (characters rest)) ≡ 0 = ap (λ cs. widths (begun left cs)) end in
     let here : is_boundary bytes (characters text) ≡ false = sym h.boundary ∙ ap (is_boundary left) end ∙ nonzero left some in
-    let sums : sum ≡ widths (begun bytes (characters text)) = omega (arith, none, h.width) in
-    sums ∙ sym (off_boundary text bytes here)
+    let sums : sum ≡ place.widths + widths (begun bytes (characters text)) = omega (arith, none, h.width) in
+    sums ∙ sym (behind_other place text bytes here)
 
-pub over_inside : (text : List ℕ) (bytes : ℕ) (over : List ℕ) (sum wider : ℕ) (rest after : List ℕ) (left code size : ℕ) → IsOver text bytes over sum rest left → IsFirst rest after code size →
-    wider ≡ sum + width_of code → 0 < left → left < size → wider ≡ column bytes (characters text)
-over_inside text bytes over sum wider rest after left code size h first w some inside =
+pub over_inside : (place : Place) (text : List ℕ) (bytes : ℕ) (over : List ℕ) (sum wider : ℕ) (rest after : List ℕ) (left code size : ℕ) → IsOver place.widths text bytes over sum rest left → IsFirst rest after code size →
+    wider ≡ sum + width_of code → 0 < left → left < size → wider ≡ column_behind place bytes (characters text)
+over_inside place text bytes over sum wider rest after left code size h is w some inside =
     let cs = characters after in
-    let step = characters_step rest after code size first in
+    let step = characters_step rest after code size is in
     let zero : left - size ≡ 0 = omega arith in
     let more : begun left (characters rest) ≡ code ∷ [] = ap (begun left) step ∙ begun_more left code size cs some ∙ ap (λ k. code ∷ begun k cs) zero ∙ ap (λ o. code ∷ o) (begun_zero cs) in
     let here : is_boundary bytes (characters text) ≡ false = sym h.boundary ∙ ap (is_boundary left) step ∙ boundary_inside left code size cs some inside in
     let one : widths (begun left (characters rest)) ≡ width_of code + 0 = ap widths more in
-    let sums : wider ≡ widths (begun bytes (characters text)) = omega (arith, w, one, h.width) in
-    sums ∙ sym (off_boundary text bytes here)
+    let sums : wider ≡ place.widths + widths (begun bytes (characters text)) = omega (arith, w, one, h.width) in
+    sums ∙ sym (behind_other place text bytes here)

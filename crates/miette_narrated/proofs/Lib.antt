@@ -1,6 +1,8 @@
 pub mod Sizes
 pub mod Putting
 pub mod Columning
+pub mod Lone
+pub mod Placed
 pub mod PlainColumns
 pub mod Sweeps
 pub mod Lining

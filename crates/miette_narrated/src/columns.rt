@@ -1,14 +1,15 @@
 //! Characters of a line's text, and their columns.
 
-ghost use Rattle.std.specs.Prelude.{◌≡◌, ◌++◌, IfOk, OnOk, string_bytes};
+ghost use Rattle.std.specs.Prelude.{◌≡◌, ◌≤◌, ◌++◌, IfOk, OnOk, string_bytes};
 ghost use Rattle.miette_layout.specs.Cells.{characters};
 ghost use Rattle.miette_narrated.specs.Columns.{column};
 ghost use Rattle.miette_narrated.specs.Lines.{decoded_text};
+ghost use Rattle.miette_narrated.specs.Places.{IsPlace};
 
 use crate::line_text::LineText;
+use crate::places::{Place, column_after, place_before};
 use miette_layout::cells::{columns_of, first_character};
 use std::alloc::{AllocError, Global};
-use unicode_width::UnicodeWidthStr;
 
 /// Appends bytes as characters, U+FFFD for those that are none.
 pub(crate) fn push_decoded(out: &mut String, bytes: &[u8]) -> Result<(), AllocError>
@@ -25,24 +26,31 @@ pub(crate) fn push_decoded(out: &mut String, bytes: &[u8]) -> Result<(), AllocEr
 
 /// The column behind so many bytes of a line's text; past the largest `usize` it is refused as want of memory.
 ///
-/// In a text of printable ASCII characters each byte is a column, and no walk is made.
-pub(crate) fn column(alloc: Global, text: LineText<'_>, bytes: usize) -> Result<usize, AllocError>
+/// In a text of printable ASCII characters each byte is a column, and no walk is made. Else the walk begins at the last place of the text before.
+pub(crate) fn column(
+    alloc: Global,
+    text: LineText<'_, '_>,
+    bytes: usize,
+) -> Result<usize, AllocError>
     ensures { IfOk result (λ c. c ≡ column bytes (characters text.entry.bytes.now)) }
 {
     if text.is_plain {
         return Ok(bytes.min(text.bytes.len()));
     }
-    walked_column(alloc, text.bytes, bytes)
+    let from = place_before(text.bytes, text.places, bytes);
+    walked_column(alloc, text.bytes, from, bytes)
 }
 
-/// The same, by a walk over the characters.
-fn walked_column(alloc: Global, text: &[u8], bytes: usize) -> Result<usize, AllocError>
+/// The same, by a walk over the characters from a place on.
+fn walked_column(alloc: Global, text: &[u8], from: Place, bytes: usize) -> Result<usize, AllocError>
+    requires place { IsPlace text.now from }
+    requires before { from.bytes ≤ bytes }
     ensures { IfOk result (λ c. c ≡ column bytes (characters text.now)) }
 {
     let mut begun = String::new(alloc);
-    let mut widths: usize = 0;
-    let mut rest = text;
-    let mut left = bytes;
+    let mut widths = from.widths;
+    let mut rest = &text[from.bytes..];
+    let mut left = bytes - from.bytes;
     while left > 0 {
         if rest.is_empty() {
             return Ok(widths);
@@ -59,5 +67,6 @@ fn walked_column(alloc: Global, text: &[u8], bytes: usize) -> Result<usize, Allo
         left -= size;
         rest = &rest[size..];
     }
-    Ok(begun.as_str().width())
+    let column = column_after(from, begun.as_str())?;
+    Ok(column)
 }

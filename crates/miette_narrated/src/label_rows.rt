@@ -2,9 +2,13 @@
 
 ghost use Rattle.std.specs.Prelude.{◌≡◌, ◌++◌, IfOk, OnOk, string_bytes, option_copied};
 ghost use Rattle.miette_narrated.specs.Labels.{row, begins, begins_within, reaches_line, ends_before, first_number, last_number, columns_text, text_behind, whole_row, start_row, end_row, begun_row, reaching_row, label_row, label_rows};
+ghost use Rattle.std.specs.List.{All};
 ghost use Rattle.miette_narrated.specs.Made.{told_of, all_told, shown_of};
+ghost use Rattle.miette_narrated.specs.Places.{IsPlace};
 
 use crate::columns::column;
+use crate::line_text::LineText;
+use crate::places::{Place, places};
 use crate::shown::ShownLine;
 use crate::words::push_number;
 use miette_layout::sheet::text_of;
@@ -13,35 +17,35 @@ use miette_protocol::protocol::LabeledSpan;
 use std::alloc::{AllocError, Global};
 
 /// Whether a label begins on the line or behind it.
-fn begins(it: &ShownLine<'_>, label: &Placed) -> bool
+fn begins(it: &ShownLine<'_, '_>, label: &Placed) -> bool
     ensures { result ≡ begins (shown_of it.now) label.now.start }
 {
     it.line.start <= label.start
 }
 
 /// Whether a label begins before the text's end.
-fn begins_within(it: &ShownLine<'_>, label: &Placed) -> bool
+fn begins_within(it: &ShownLine<'_, '_>, label: &Placed) -> bool
     ensures { result ≡ begins_within (shown_of it.now) label.now.start }
 {
     label.start <= it.line.text_end
 }
 
 /// Whether a label reaches the line.
-fn reaches(it: &ShownLine<'_>, label: &Placed) -> bool
+fn reaches(it: &ShownLine<'_, '_>, label: &Placed) -> bool
     ensures { result ≡ reaches_line (shown_of it.now) label.now.after }
 {
     it.line.start <= label.after
 }
 
 /// Whether a label ends before the text's end; on a snippet's last line also one does that begins in the data or where they end.
-fn ends_before(it: &ShownLine<'_>, label: &Placed) -> bool
+fn ends_before(it: &ShownLine<'_, '_>, label: &Placed) -> bool
     ensures { result ≡ ends_before (shown_of it.now) label.now.start label.now.after }
 {
     label.after <= it.line.text_end || it.is_last && label.start <= it.data_end
 }
 
 /// The number of a label's first column.
-fn first_number(alloc: Global, it: &ShownLine<'_>, label: &Placed) -> Result<usize, AllocError>
+fn first_number(alloc: Global, it: &ShownLine<'_, '_>, label: &Placed) -> Result<usize, AllocError>
     ensures { IfOk result (λ n. n ≡ first_number (shown_of it.now) label.now.start) }
 {
     let before = column(alloc, it.text, label.start.saturating_sub(it.line.start))?;
@@ -52,7 +56,7 @@ fn first_number(alloc: Global, it: &ShownLine<'_>, label: &Placed) -> Result<usi
 }
 
 /// The number of its last column; an empty label has one column.
-fn last_number(alloc: Global, it: &ShownLine<'_>, label: &Placed) -> Result<usize, AllocError>
+fn last_number(alloc: Global, it: &ShownLine<'_, '_>, label: &Placed) -> Result<usize, AllocError>
     ensures { IfOk result (λ n. n ≡ last_number (shown_of it.now) label.now.start label.now.after) }
 {
     if label.start == label.after {
@@ -91,7 +95,7 @@ fn push_columns(out: &mut String, first: usize, last: usize) -> Result<(), Alloc
 fn push_whole(
     alloc: Global,
     out: &mut String,
-    it: &ShownLine<'_>,
+    it: &ShownLine<'_, '_>,
     labels: &[LabeledSpan],
     label: &Placed,
 ) -> Result<(), AllocError>
@@ -109,7 +113,7 @@ fn push_whole(
 fn push_start(
     alloc: Global,
     out: &mut String,
-    it: &ShownLine<'_>,
+    it: &ShownLine<'_, '_>,
     labels: &[LabeledSpan],
     label: &Placed,
 ) -> Result<(), AllocError>
@@ -126,7 +130,7 @@ fn push_start(
 fn push_ending(
     alloc: Global,
     out: &mut String,
-    it: &ShownLine<'_>,
+    it: &ShownLine<'_, '_>,
     labels: &[LabeledSpan],
     label: &Placed,
 ) -> Result<(), AllocError>
@@ -143,7 +147,7 @@ fn push_ending(
 fn push_begun(
     alloc: Global,
     out: &mut String,
-    it: &ShownLine<'_>,
+    it: &ShownLine<'_, '_>,
     labels: &[LabeledSpan],
     label: &Placed,
 ) -> Result<(), AllocError>
@@ -164,7 +168,7 @@ fn push_begun(
 fn push_reaching(
     alloc: Global,
     out: &mut String,
-    it: &ShownLine<'_>,
+    it: &ShownLine<'_, '_>,
     labels: &[LabeledSpan],
     label: &Placed,
 ) -> Result<(), AllocError>
@@ -181,7 +185,7 @@ fn push_reaching(
 fn push_label(
     alloc: Global,
     out: &mut String,
-    it: &ShownLine<'_>,
+    it: &ShownLine<'_, '_>,
     labels: &[LabeledSpan],
     label: &Placed,
 ) -> Result<(), AllocError>
@@ -198,11 +202,25 @@ fn push_label(
     Ok(())
 }
 
-/// The rows of labels under a line, in order.
-pub(crate) fn push_labels(
+// Places in a line's text for the columns of so many labels: none where each byte is a column, and none for one label.
+fn places_for(
+    alloc: Global,
+    text: LineText<'_, '_>,
+    labels: usize,
+) -> Result<Vec<Place>, AllocError>
+    ensures { IfOk result (λ made. All (IsPlace text.entry.bytes.now) made.items) }
+{
+    if text.is_plain || labels < 2 {
+        return Ok(Vec::new(alloc));
+    }
+    places(alloc, text.bytes)
+}
+
+// The rows of labels under a line, in order, from the line with the places of its text.
+fn push_each(
     alloc: Global,
     out: &mut String,
-    it: &ShownLine<'_>,
+    it: &ShownLine<'_, '_>,
     labels: &[LabeledSpan],
     placed: &[Placed],
 ) -> Result<(), AllocError>
@@ -211,5 +229,21 @@ pub(crate) fn push_labels(
     for label in placed {
         push_label(alloc, out, it, labels, label)?;
     }
+    Ok(())
+}
+
+/// The rows of labels under a line, in order.
+pub(crate) fn push_labels(
+    alloc: Global,
+    out: &mut String,
+    it: &ShownLine<'_, '_>,
+    labels: &[LabeledSpan],
+    placed: &[Placed],
+) -> Result<(), AllocError>
+    ensures { OnOk result (string_bytes out.new ≡ string_bytes out.old ++ label_rows (shown_of it.now) (all_told labels.now placed.now)) }
+{
+    let places = places_for(alloc, it.text, placed.len())?;
+    let marked = it.with_places(&places);
+    push_each(alloc, out, &marked, labels, placed)?;
     Ok(())
 }

@@ -22,7 +22,7 @@ use miette_protocol::source::MietteSpanContents;
 use std::alloc::{AllocError, Global};
 
 /// `snippet line 2:   text`
-fn push_line(out: &mut String, it: &ShownLine<'_>) -> Result<(), AllocError>
+fn push_line(out: &mut String, it: &ShownLine<'_, '_>) -> Result<(), AllocError>
     ensures { OnOk result (string_bytes out.new ≡ string_bytes out.old ++ line_row (shown_of it.now)) }
 {
     push_number(out, "snippet line ", it.number)?;
@@ -33,7 +33,7 @@ fn push_line(out: &mut String, it: &ShownLine<'_>) -> Result<(), AllocError>
 }
 
 /// Where the labels begin that may have a row on a line.
-fn last_start(it: &ShownLine<'_>) -> usize
+fn last_start(it: &ShownLine<'_, '_>) -> usize
     ensures { result ≡ last_start (shown_of it.now) }
 {
     if it.is_last {
@@ -47,7 +47,7 @@ fn last_start(it: &ShownLine<'_>) -> usize
 fn push_shown(
     alloc: Global,
     out: &mut String,
-    it: &ShownLine<'_>,
+    it: &ShownLine<'_, '_>,
     labels: &[LabeledSpan],
     placed: &[Placed],
     sweep: &mut Sweep,
@@ -69,7 +69,7 @@ fn shown_line<'a>(
     line: LineOfText,
     number: usize,
     is_last: bool,
-) -> ShownLine<'a>
+) -> ShownLine<'a, 'static>
     requires from { lent.now.span.offset ≤ line.start }
     requires text { line.start ≤ line.text_end }
     requires to { line.text_end ≤ lent.now.span.offset + length lent.now.bytes }

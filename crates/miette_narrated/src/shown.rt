@@ -1,14 +1,36 @@
 //! A line of a snippet.
 
+ghost use Rattle.std.specs.Prelude.{◌≡◌};
+ghost use Rattle.std.specs.List.{All};
+ghost use Rattle.miette_narrated.specs.Made.{shown_of};
+ghost use Rattle.miette_narrated.specs.Places.{IsPlace};
+
 use crate::line_text::LineText;
+use crate::places::Place;
 use miette_layout::sheet::LineOfText;
 
 /// A line of a snippet: where it lies, its number, whether it is the snippet's last, where the snippet's data end, and its text.
 #[derive(Clone, Copy)]
-pub(crate) struct ShownLine<'a> {
+pub(crate) struct ShownLine<'a, 'p> {
     pub(crate) line: LineOfText,
     pub(crate) number: usize,
     pub(crate) is_last: bool,
     pub(crate) data_end: usize,
-    pub(crate) text: LineText<'a>,
+    pub(crate) text: LineText<'a, 'p>,
+}
+
+impl<'a, 'p> ShownLine<'a, 'p> {
+    /// The same line, with places of its text from which a walk over its characters may go on.
+    pub(crate) fn with_places<'q>(&self, places: &'q [Place]) -> ShownLine<'a, 'q>
+        requires { All (IsPlace self.now.text.bytes.now) places.now }
+        ensures { shown_of result ≡ shown_of self.now }
+    {
+        ShownLine {
+            line: self.line,
+            number: self.number,
+            is_last: self.is_last,
+            data_end: self.data_end,
+            text: self.text.with_places(places),
+        }
+    }
 }

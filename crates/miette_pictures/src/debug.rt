@@ -1,46 +1,62 @@
 //! Debug reports.
 
+use crate::written::{M, Written, over, report_of, saying, told_why};
 use miette::handlers::{DebugReportHandler, ReportHandler};
 use miette::protocol::Severity;
 use miette::report::Report;
-use miette_protocol::diagnostic::MietteDiagnostic;
-use miette_protocol::protocol::LabeledSpan;
+use std::alloc::Global;
 use std::process::Abort;
 use std::test::Fail;
 
-#[test]
-fn fields(rt: HostRuntime) -> Result<(), Fail> {
-    let alloc = rt.alloc();
-    let diagnostic = MietteDiagnostic::new(alloc, "m")?
-        .with_code(alloc, "c")?
-        .with_severity(Severity::Warning);
-    let cause = Report::msg(alloc, "b")?;
-    let Ok(report) = Report::new(diagnostic).with_diagnostic_cause(alloc, cause) else {
-        return Err(Fail::from("no memory"));
-    };
-    let mut out = String::new(alloc);
-    let answer = DebugReportHandler::new().render_report(&report, &mut out);
-    assert_eq!(rt; answer, Ok(()));
-    assert_eq!(rt;
-        out.as_str(),
-        "Diagnostic { message: \"m\", code: \"c\", severity: \"Warning\", caused by: \"b\" }\n"
-    );
+/// The report's text behind what was there.
+fn told(alloc: Global, before: &str, report: &Report) -> Result<String, Fail> {
+    let mut out = String::from_str(alloc, before)?;
+    DebugReportHandler::new().render_report(report, &mut out)?;
+    Ok(out)
+}
+
+fn tells(
+    rt: &impl Abort,
+    alloc: Global,
+    before: &str,
+    report: &Report,
+    wanted: &str,
+) -> Result<(), Fail> {
+    let out = told(alloc, before, report)?;
+    assert_eq!(rt; out.as_str(), wanted);
     Ok(())
 }
 
 #[test]
-fn labels_and_texts(rt: HostRuntime) -> Result<(), Fail> {
+fn fields(rt: HostRuntime) -> Result<(), Fail> {
+    let outer = Written {
+        code: "c",
+        severity: Some(Severity::Warning),
+        ..M
+    };
     let alloc = rt.alloc();
-    let diagnostic = MietteDiagnostic::new(alloc, "m")?.with_label(
-        alloc,
-        LabeledSpan::underline((0, 1)),
-    )?;
-    let mut texts = Vec::new(alloc);
-    texts.push(String::from_str(alloc, "a\"b")?)?;
-    let report = Report::new(diagnostic).with_cause_texts(texts);
+    let report = over(alloc, &outer, &[saying("b")])?;
+    let wanted =
+        "Diagnostic { message: \"m\", code: \"c\", severity: \"Warning\", caused by: \"b\" }\n";
+    tells(&rt, alloc, "", &report, wanted)
+}
+
+/// What the handler gives as a `ReportHandler`.
+fn debugged(alloc: Global, report: &Report) -> Result<String, Fail> {
     let mut out = String::new(alloc);
-    let answer = DebugReportHandler::default().debug(&report, &mut out);
-    assert_eq!(rt; answer, Ok(()));
+    DebugReportHandler::default().debug(report, &mut out)?;
+    Ok(out)
+}
+
+#[test]
+fn labels_and_texts(rt: HostRuntime) -> Result<(), Fail> {
+    let labelled = Written {
+        labels: &[(0, 1, "")],
+        ..M
+    };
+    let alloc = rt.alloc();
+    let report = told_why(alloc, report_of(alloc, &labelled)?, &["a\"b"])?;
+    let out = debugged(alloc, &report)?;
     assert!(rt; out.as_str().contains(", labels: "));
     assert!(rt; out.as_str().ends_with(", caused by: \"a\\\"b\" }\n"));
     Ok(())
@@ -48,18 +64,14 @@ fn labels_and_texts(rt: HostRuntime) -> Result<(), Fail> {
 
 #[test]
 fn behind_a_text(rt: HostRuntime) -> Result<(), Fail> {
+    let advice = Written {
+        severity: Some(Severity::Advice),
+        url: "u",
+        help: "h",
+        ..M
+    };
     let alloc = rt.alloc();
-    let diagnostic = MietteDiagnostic::new(alloc, "m")?
-        .with_severity(Severity::Advice)
-        .with_url(alloc, "u")?
-        .with_help(alloc, "h")?;
-    let report = Report::new(diagnostic);
-    let mut out = String::from_str(alloc, "> ")?;
-    let answer = DebugReportHandler::new().render_report(&report, &mut out);
-    assert_eq!(rt; answer, Ok(()));
-    assert_eq!(rt;
-        out.as_str(),
-        "> Diagnostic { message: \"m\", severity: \"Advice\", url: \"u\", help: \"h\" }\n"
-    );
-    Ok(())
+    let report = report_of(alloc, &advice)?;
+    let wanted = "> Diagnostic { message: \"m\", severity: \"Advice\", url: \"u\", help: \"h\" }\n";
+    tells(&rt, alloc, "> ", &report, wanted)
 }

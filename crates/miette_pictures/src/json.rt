@@ -1,120 +1,160 @@
 //! Whole JSON texts, short forms, and sources that stop.
 ghost use Rattle.std.specs.Prelude.{Some, None, false};
 
-use miette::error::RenderError;
+use crate::written::{M, README, Written, caused, related, report_of, saying};
 use miette::handlers::{JSONReportHandler, ReportHandler};
+use miette::protocol::{Severity, SourceSpan};
 use miette::report::Report;
-use miette_protocol::diagnostic::MietteDiagnostic;
 use miette_protocol::error::MietteError;
-use miette_protocol::protocol::{LabeledSpan, Severity, SourceSpan};
 use miette_protocol::source::{MietteSpanContents, NamedSource, SourceCode};
-use miette_tree::report::OwnedSource;
-use std::alloc::{AllocError, Global};
+use std::alloc::Global;
 use std::io;
 use std::io::ErrorKind;
 use std::process::Abort;
 use std::test::Fail;
 
-fn expect(rt: &impl Abort, alloc: Global, report: &Report, wanted: &str) -> Result<(), Fail> {
+/// The report's text behind what was there.
+fn told(alloc: Global, report: &Report) -> Result<String, Fail> {
     let mut out = String::from_str(alloc, "> ")?;
-    let answer = JSONReportHandler::new().render_report(report, &mut out);
-    assert_eq!(rt; answer, Ok(()));
-    assert_eq!(rt; &out.as_str()[2..], wanted);
+    JSONReportHandler::new().render_report(report, &mut out)?;
+    Ok(out)
+}
 
-    let mut again = String::new(alloc);
-    let answer = JSONReportHandler::default().debug(report, &mut again);
-    assert_eq!(rt; answer, Ok(()));
-    assert_eq!(rt; again.as_str(), wanted);
+/// What the handler gives as a `ReportHandler`.
+fn debugged(alloc: Global, report: &Report) -> Result<String, Fail> {
+    let mut out = String::new(alloc);
+    JSONReportHandler::default().debug(report, &mut out)?;
+    Ok(out)
+}
+
+fn expect(rt: &impl Abort, alloc: Global, report: &Report, wanted: &str) -> Result<(), Fail> {
+    let out = told(alloc, report)?;
+    assert_eq!(rt; out.as_str().strip_prefix("> "), Some(wanted));
+    assert_eq!(rt; debugged(alloc, report)?.as_str(), wanted);
     Ok(())
+}
+
+/// The same of a report that is written.
+fn is_told(
+    rt: &impl Abort,
+    alloc: Global,
+    written: &Written<'_>,
+    wanted: &str,
+) -> Result<(), Fail> {
+    expect(rt, alloc, &report_of(alloc, written)?, wanted)
 }
 
 #[test]
 fn all_members(rt: HostRuntime) -> Result<(), Fail> {
-    let alloc = rt.alloc();
-    let label = LabeledSpan::at(alloc, (9, 4), "This bit here")?;
-    let diagnostic = MietteDiagnostic::new(alloc, "oops!")?
-        .with_code(alloc, "oops::my::bad")?
-        .with_help(alloc, "try doing it better next time?")?
-        .with_label(alloc, label)?;
-    let text = Vec::from_slice(alloc, b"source\n  text\n    here")?;
-    let source = OwnedSource::named(alloc, "bad_file.rs", None, text)?;
-    let report = Report::new(diagnostic).with_owned_source(source);
-    expect(
-        &rt,
-        alloc,
-        &report,
-        "{\"message\": \"oops!\",\"code\": \"oops::my::bad\",\"severity\": \"error\",\"causes\": [],\"help\": \"try doing it better next time?\",\"filename\": \"bad_file.rs\",\"labels\": [{\"label\": \"This bit here\",\"span\": {\"offset\": 9,\"length\": 4}}],\"related\": []}",
-    )
+    let oops = Written {
+        message: "oops!",
+        code: "oops::my::bad",
+        help: "try doing it better next time?",
+        labels: &[(9, 4, "This bit here")],
+        name: "bad_file.rs",
+        source: Some(README),
+        ..M
+    };
+    let wanted =
+        "{\"message\": \"oops!\",\"code\": \"oops::my::bad\",\"severity\": \"error\",\"causes\": [],\"help\": \"try doing it better next time?\",\"filename\": \"bad_file.rs\",\"labels\": [{\"label\": \"This bit here\",\"span\": {\"offset\": 9,\"length\": 4}}],\"related\": []}";
+    is_told(&rt, rt.alloc(), &oops, wanted)
 }
 
 #[test]
 fn escapes(rt: HostRuntime) -> Result<(), Fail> {
-    let alloc = rt.alloc();
-    let diagnostic = MietteDiagnostic::new(alloc, "a\u{1}b")?.with_url(alloc, "x\"y")?;
-    expect(
-        &rt,
-        alloc,
-        &Report::new(diagnostic),
-        "{\"message\": \"a\\u0001b\",\"severity\": \"error\",\"causes\": [],\"url\": \"x\\\"y\",\"labels\": [],\"related\": []}",
-    )?;
-    let message = "\\ \" \r\n\t\u{8}\u{c}\u{0}\u{1f}\u{7f}\u{2028}\u{6f22}";
-    expect(
-        &rt,
-        alloc,
-        &Report::msg(alloc, message)?,
-        "{\"message\": \"\\\\ \\\" \\r\\n\\t\\b\\f\\u0000\\u001f\u{7f}\u{2028}\u{6f22}\",\"severity\": \"error\",\"causes\": [],\"labels\": [],\"related\": []}",
-    )
+    let control = Written {
+        message: "a\u{1}b",
+        url: "x\"y",
+        ..M
+    };
+    let wanted =
+        "{\"message\": \"a\\u0001b\",\"severity\": \"error\",\"causes\": [],\"url\": \"x\\\"y\",\"labels\": [],\"related\": []}";
+    is_told(&rt, rt.alloc(), &control, wanted)?;
+    let all = Written {
+        message: "\\ \" \r\n\t\u{8}\u{c}\u{0}\u{1f}\u{7f}\u{2028}\u{6f22}",
+        ..M
+    };
+    let wanted =
+        "{\"message\": \"\\\\ \\\" \\r\\n\\t\\b\\f\\u0000\\u001f\u{7f}\u{2028}\u{6f22}\",\"severity\": \"error\",\"causes\": [],\"labels\": [],\"related\": []}";
+    is_told(&rt, rt.alloc(), &all, wanted)
+}
+
+/// The bytes as a boxed source with a name.
+fn boxed(alloc: Global, name: &str, bytes: &[u8]) -> Result<Box<dyn SourceCode>, Fail> {
+    let named = NamedSource::new(alloc, name, bytes.to_vec(alloc)?)?;
+    let source: Box<dyn SourceCode> = Box::new(alloc, named)?;
+    Ok(source)
 }
 
 #[test]
 fn a_related_report_inherits_the_source(rt: HostRuntime) -> Result<(), Fail> {
+    let inner = Written {
+        message: "r",
+        severity: Some(Severity::Advice),
+        labels: &[(9, 1, "x")],
+        ..M
+    };
+    let outer = Written {
+        labels: &[(0, 1, "")],
+        ..M
+    };
+    let wanted =
+        "{\"message\": \"m\",\"severity\": \"error\",\"causes\": [],\"filename\": \"f\",\"labels\": [{\"span\": {\"offset\": 0,\"length\": 1}}],\"related\": [{\"message\": \"r\",\"severity\": \"advice\",\"causes\": [],\"filename\": \"\",\"labels\": [{\"label\": \"x\",\"span\": {\"offset\": 9,\"length\": 1}}],\"related\": []}]}";
     let alloc = rt.alloc();
-    let far = LabeledSpan::at(alloc, (9, 1), "x")?;
-    let inner = MietteDiagnostic::new(alloc, "r")?
-        .with_severity(Severity::Advice)
-        .with_label(alloc, far)?;
-    let mut related = Vec::new(alloc);
-    related.push(Report::new(inner))?;
-    let near = LabeledSpan::underline((0, 1));
-    let outer = MietteDiagnostic::new(alloc, "m")?.with_label(alloc, near)?;
-    let bytes = Vec::from_slice(alloc, b"ab")?;
-    let named = NamedSource::new(alloc, "f", bytes)?;
-    let source: Box<dyn SourceCode> = Box::new(alloc, named)?;
-    let report = Report::new(outer)
-        .with_source_code(source)
-        .with_related(related);
-    expect(
-        &rt,
-        alloc,
-        &report,
-        "{\"message\": \"m\",\"severity\": \"error\",\"causes\": [],\"filename\": \"f\",\"labels\": [{\"span\": {\"offset\": 0,\"length\": 1}}],\"related\": [{\"message\": \"r\",\"severity\": \"advice\",\"causes\": [],\"filename\": \"\",\"labels\": [{\"label\": \"x\",\"span\": {\"offset\": 9,\"length\": 1}}],\"related\": []}]}",
-    )
+    let report = related(alloc, report_of(alloc, &outer)?, &[inner])?;
+    let report = report.with_source_code(boxed(alloc, "f", b"ab")?);
+    expect(&rt, alloc, &report, wanted)
+}
+
+/// The short form, or the chain, behind what was there.
+fn short(alloc: Global, chain: bool, report: &Report) -> Result<String, Fail> {
+    let mut out = String::from_str(alloc, "> ")?;
+    JSONReportHandler::new().display(report, chain, &mut out)?;
+    Ok(out)
+}
+
+fn is_short(
+    rt: &impl Abort,
+    alloc: Global,
+    chain: bool,
+    report: &Report,
+    wanted: &str,
+) -> Result<(), Fail> {
+    let out = short(alloc, chain, report)?;
+    assert_eq!(rt; out.as_str(), wanted);
+    Ok(())
+}
+
+/// The message `inner` with a label, and `outer` put in front.
+fn wrapped(alloc: Global) -> Result<Report, Fail> {
+    let inner = Written {
+        message: "inner",
+        labels: &[(0, 1, "")],
+        ..M
+    };
+    match report_of(alloc, &inner)?.wrap_err(alloc, "outer") {
+        Ok(report) => Ok(report),
+        Err(_) => Err(Fail::from("no memory")),
+    }
 }
 
 #[test]
 fn short_forms(rt: HostRuntime) -> Result<(), Fail> {
-    let alloc = rt.alloc();
-    let label = LabeledSpan::underline((0, 1));
-    let inner = Report::new(MietteDiagnostic::new(alloc, "inner")?.with_label(alloc, label)?);
-    let Ok(report) = inner.wrap_err(alloc, "outer") else {
-        return Err(Fail::from("no memory"));
-    };
-    let handler = JSONReportHandler::new();
-    let mut out = String::new(alloc);
-    assert_eq!(rt; handler.display(&report, true, &mut out), Ok(()));
-    assert_eq!(rt; out.as_str(), "outer: inner");
-    assert_eq!(rt; handler.display(&report, false, &mut out), Ok(()));
-    assert_eq!(rt; out.as_str(), "outer: innerouter");
+    let report = wrapped(rt.alloc())?;
+    is_short(&rt, rt.alloc(), true, &report, "> outer: inner")?;
+    is_short(&rt, rt.alloc(), false, &report, "> outer")
+}
 
-    let cause = Report::msg(alloc, "cause")?;
-    let Ok(deep) = Report::msg(alloc, "top")?.with_diagnostic_cause(alloc, report) else {
-        return Err(Fail::from("no memory"));
-    };
-    let mut out = String::new(alloc);
-    assert_eq!(rt; handler.display(&deep, true, &mut out), Ok(()));
-    assert_eq!(rt; out.as_str(), "top: outer: inner");
-    assert_eq!(rt; handler.display(&cause, true, &mut out), Ok(()));
-    Ok(())
+/// The message `top`, caused by the wrapped one.
+fn top(alloc: Global) -> Result<Report, Fail> {
+    caused(alloc, report_of(alloc, &saying("top"))?, wrapped(alloc)?)
+}
+
+#[test]
+fn short_forms_of_causes(rt: HostRuntime) -> Result<(), Fail> {
+    let report = top(rt.alloc())?;
+    is_short(&rt, rt.alloc(), true, &report, "> top: outer: inner")?;
+    is_short(&rt, rt.alloc(), false, &report, "> top")
 }
 
 /// Reads spans of at most four bytes, and none where it is told so.
@@ -140,22 +180,38 @@ impl SourceCode for Stopping {
     }
 }
 
+/// Six bytes named `f` that stop, as a boxed source.
+fn stops_early(alloc: Global) -> Result<Box<dyn SourceCode>, Fail> {
+    let stopping = Stopping {
+        bytes: Vec::from_slice(alloc, b"abcdef")?,
+        most: 4,
+    };
+    let source: Box<dyn SourceCode> = Box::new(alloc, NamedSource::new(alloc, "f", stopping)?)?;
+    Ok(source)
+}
+
+/// The message `m` with a label of this length over them.
+fn stopped(alloc: Global, length: usize) -> Result<Report, Fail> {
+    let written = Written {
+        labels: &[(0, length, "")],
+        ..M
+    };
+    let report = report_of(alloc, &written)?;
+    Ok(report.with_source_code(stops_early(alloc)?))
+}
+
+/// The name of the file that is told for a label of this length.
+fn names_it(rt: &impl Abort, alloc: Global, length: usize, name: &str) -> Result<(), Fail> {
+    let wanted = format!(in alloc;
+        "{{\"message\": \"m\",\"severity\": \"error\",\"causes\": [],\"filename\": \"{name}\",\"labels\": [{{\"span\": {{\"offset\": 0,\"length\": {length}}}}}],\"related\": []}}"
+    )?;
+    expect(rt, alloc, &stopped(alloc, length)?, wanted.as_str())
+}
+
 #[test]
 fn a_source_that_stops_gives_no_name(rt: HostRuntime) -> Result<(), Fail> {
-    let alloc = rt.alloc();
     for (length, name) in [(2, "f"), (5, "")] {
-        let stopping = Stopping {
-            bytes: Vec::from_slice(alloc, b"abcdef")?,
-            most: 4,
-        };
-        let source: Box<dyn SourceCode> = Box::new(alloc, NamedSource::new(alloc, "f", stopping)?)?;
-        let label = LabeledSpan::underline((0, length));
-        let diagnostic = MietteDiagnostic::new(alloc, "m")?.with_label(alloc, label)?;
-        let report = Report::new(diagnostic).with_source_code(source);
-        let wanted = format!(in alloc;
-            "{{\"message\": \"m\",\"severity\": \"error\",\"causes\": [],\"filename\": \"{name}\",\"labels\": [{{\"span\": {{\"offset\": 0,\"length\": {length}}}}}],\"related\": []}}"
-        )?;
-        expect(&rt, alloc, &report, wanted.as_str())?;
+        names_it(&rt, rt.alloc(), length, name)?;
     }
     Ok(())
 }

@@ -4,6 +4,8 @@
 #[cfg(test)]
 mod debug;
 #[cfg(test)]
+mod drawn;
+#[cfg(test)]
 mod json;
 #[cfg(test)]
 mod narrated;
@@ -11,3 +13,5 @@ mod narrated;
 mod reports;
 #[cfg(test)]
 mod snippets;
+#[cfg(test)]
+mod written;

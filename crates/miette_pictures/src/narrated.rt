@@ -1,138 +1,156 @@
 //! Whole narrated reports.
 
+use crate::written::{Label, M, README, Written, related, report_of, saying, told_why};
 use miette::error::RenderError;
 use miette::handlers::{NarratableReportHandler, ReportHandler};
+use miette::protocol::Severity;
 use miette::report::Report;
-use miette_protocol::diagnostic::MietteDiagnostic;
-use miette_protocol::protocol::{LabeledSpan, Severity};
-use miette_tree::report::OwnedSource;
-use std::alloc::{AllocError, Global};
+use std::alloc::Global;
 use std::process::Abort;
 use std::test::Fail;
 
-fn narrate(
-    rt: &impl Abort,
-    alloc: Global,
-    bytes: &[u8],
-    label: LabeledSpan,
-    wanted: &str,
-) -> Result<(), Fail> {
-    let source = OwnedSource::new(alloc, Vec::from_slice(alloc, bytes)?)?;
-    let diagnostic = MietteDiagnostic::new(alloc, "m")?.with_label(alloc, label)?;
-    let report = Report::new(diagnostic).with_owned_source(source);
+fn told(alloc: Global, report: &Report) -> Result<String, Fail> {
     let mut out = String::new(alloc);
-    let answer = NarratableReportHandler::new().render_report(&report, &mut out);
-    assert_eq!(rt; answer, Ok(()));
+    NarratableReportHandler::new().render_report(report, &mut out)?;
+    Ok(out)
+}
+
+fn tells(rt: &impl Abort, alloc: Global, report: &Report, wanted: &str) -> Result<(), Fail> {
+    let out = told(alloc, report)?;
     assert_eq!(rt; out.as_str(), wanted);
     Ok(())
 }
 
+/// The same of a report that is written.
+fn is_told(
+    rt: &impl Abort,
+    alloc: Global,
+    written: &Written<'_>,
+    wanted: &str,
+) -> Result<(), Fail> {
+    tells(rt, alloc, &report_of(alloc, written)?, wanted)
+}
+
 #[test]
 fn a_label_with_a_text(rt: HostRuntime) -> Result<(), Fail> {
-    let alloc = rt.alloc();
-    let label = LabeledSpan::at(alloc, (9, 4), "This bit here")?;
-    let diagnostic = MietteDiagnostic::new(alloc, "oops!")?
-        .with_code(alloc, "oops::my::bad")?
-        .with_help(alloc, "try doing it better next time?")?
-        .with_label(alloc, label)?;
-    let text = Vec::from_slice(alloc, b"source\n  text\n    here")?;
-    let source = OwnedSource::named(alloc, "bad_file.rs", None, text)?;
-    let report = Report::new(diagnostic).with_owned_source(source);
-    let mut out = String::new(alloc);
-    let answer = NarratableReportHandler::default().render_report(&report, &mut out);
-    assert_eq!(rt; answer, Ok(()));
-    assert_eq!(rt;
-        out.as_str(),
-        "oops!\n    Diagnostic severity: error\nBegin snippet for bad_file.rs starting at line 1, column 1\n\nsnippet line 1: source\nsnippet line 2:   text\n    label at line 2, columns 3 to 6: This bit here\nsnippet line 3:     here\ndiagnostic help: try doing it better next time?\ndiagnostic code: oops::my::bad\n"
-    );
-    Ok(())
+    let oops = Written {
+        message: "oops!",
+        code: "oops::my::bad",
+        help: "try doing it better next time?",
+        labels: &[(9, 4, "This bit here")],
+        name: "bad_file.rs",
+        source: Some(README),
+        ..M
+    };
+    let wanted =
+        "oops!\n    Diagnostic severity: error\nBegin snippet for bad_file.rs starting at line 1, column 1\n\nsnippet line 1: source\nsnippet line 2:   text\n    label at line 2, columns 3 to 6: This bit here\nsnippet line 3:     here\ndiagnostic help: try doing it better next time?\ndiagnostic code: oops::my::bad\n";
+    is_told(&rt, rt.alloc(), &oops, wanted)
+}
+
+/// A source, its labels, and the lines below the snippet's first.
+type Row<'a> = (&'a [u8], &'a [Label<'a>], &'a str);
+
+fn lines_are(rt: &impl Abort, alloc: Global, (bytes, labels, lines): Row<'_>) -> Result<(), Fail> {
+    let written = Written {
+        labels,
+        source: Some(bytes),
+        ..M
+    };
+    let wanted = format!(in alloc;
+        "m\n    Diagnostic severity: error\nBegin snippet starting at line 1, column 1\n\n{lines}"
+    )?;
+    is_told(rt, alloc, &written, wanted.as_str())
 }
 
 #[test]
 fn labels_on_lines(rt: HostRuntime) -> Result<(), Fail> {
-    let alloc = rt.alloc();
-    narrate(
-        &rt,
-        alloc,
-        b"a\nb\n",
-        LabeledSpan::underline((0, 2)),
-        "m\n    Diagnostic severity: error\nBegin snippet starting at line 1, column 1\n\nsnippet line 1: a\n    label starting at line 1, column 1\nsnippet line 2: b\n    label ending at line 2, column 0\n",
-    )?;
-    narrate(
-        &rt,
-        alloc,
-        "x漢y".as_bytes(),
-        LabeledSpan::underline((1, 3)),
-        "m\n    Diagnostic severity: error\nBegin snippet starting at line 1, column 1\n\nsnippet line 1: x漢y\n    label at line 1, columns 2 to 3\n",
-    )?;
-    narrate(
-        &rt,
-        alloc,
-        b"ab",
-        LabeledSpan::underline((1, 2)),
-        "m\n    Diagnostic severity: error\nBegin snippet starting at line 1, column 1\n\nsnippet line 1: ab\n    label at line 1, column 2\n",
-    )?;
-    narrate(
-        &rt,
-        alloc,
-        b"ab",
-        LabeledSpan::at(alloc, (2, 0), "end")?,
-        "m\n    Diagnostic severity: error\nBegin snippet starting at line 1, column 1\n\nsnippet line 1: ab\n    label at line 1, column 3: end\n",
-    )
+    let rows: [Row<'_>; 4] = [
+        (
+            b"a\nb\n",
+            &[(0, 2, "")],
+            "snippet line 1: a\n    label starting at line 1, column 1\nsnippet line 2: b\n    label ending at line 2, column 0\n",
+        ),
+        (
+            "x漢y".as_bytes(),
+            &[(1, 3, "")],
+            "snippet line 1: x漢y\n    label at line 1, columns 2 to 3\n",
+        ),
+        (
+            b"ab",
+            &[(1, 2, "")],
+            "snippet line 1: ab\n    label at line 1, column 2\n",
+        ),
+        (
+            b"ab",
+            &[(2, 0, "end")],
+            "snippet line 1: ab\n    label at line 1, column 3: end\n",
+        ),
+    ];
+    for row in rows {
+        lines_are(&rt, rt.alloc(), row)?;
+    }
+    Ok(())
+}
+
+/// Whether the report is refused, and what then stands behind what was there.
+fn answer(alloc: Global, report: &Report) -> Result<(bool, String), Fail> {
+    let mut out = String::from_str(alloc, "> ")?;
+    let answer = NarratableReportHandler::new().render_report(report, &mut out);
+    Ok((answer == Err(RenderError::Refused), out))
 }
 
 #[test]
 fn a_refused_label(rt: HostRuntime) -> Result<(), Fail> {
-    let alloc = rt.alloc();
-    let source = OwnedSource::new(alloc, Vec::from_slice(alloc, b"ab")?)?;
-    let diagnostic = MietteDiagnostic::new(alloc, "m")?.with_label(
-        alloc,
-        LabeledSpan::underline((3, 0)),
-    )?;
-    let report = Report::new(diagnostic).with_owned_source(source);
-    let mut out = String::from_str(alloc, "> ")?;
-    let answer = NarratableReportHandler::new().render_report(&report, &mut out);
-    assert_eq!(rt; answer, Err(RenderError::Refused));
+    let far = Written {
+        labels: &[(3, 0, "")],
+        source: Some(b"ab"),
+        ..M
+    };
+    let (is_refused, out) = answer(rt.alloc(), &report_of(rt.alloc(), &far)?)?;
+    assert!(rt; is_refused);
     assert_eq!(rt; out.as_str(), "> ");
     Ok(())
 }
 
 #[test]
 fn related_reports(rt: HostRuntime) -> Result<(), Fail> {
+    let warning = Written {
+        message: "rel",
+        severity: Some(Severity::Warning),
+        ..M
+    };
     let alloc = rt.alloc();
-    let inner = MietteDiagnostic::new(alloc, "rel")?.with_severity(Severity::Warning);
-    let mut related = Vec::new(alloc);
-    related.push(Report::new(inner))?;
-    let report = Report::msg(alloc, "top")?.with_related(related);
+    let top = report_of(alloc, &saying("top"))?;
+    let report = related(alloc, top, &[warning])?;
+    let wanted =
+        "top\n    Diagnostic severity: error\n\nWarning: rel\n    Diagnostic severity: warning\n\n";
+    tells(&rt, alloc, &report, wanted)
+}
+
+/// What a clone of a handler with the footer `bye` gives as a `ReportHandler`.
+fn footed(alloc: Global, report: &Report) -> Result<String, Fail> {
+    let footer = String::from_str(alloc, "bye")?;
+    let mut handler = NarratableReportHandler::new().with_footer(footer).clone()?;
     let mut out = String::new(alloc);
-    let answer = NarratableReportHandler::new().render_report(&report, &mut out);
-    assert_eq!(rt; answer, Ok(()));
-    assert_eq!(rt;
-        out.as_str(),
-        "top\n    Diagnostic severity: error\n\nWarning: rel\n    Diagnostic severity: warning\n\n"
-    );
-    Ok(())
+    handler.debug(report, &mut out)?;
+    Ok(out)
+}
+
+/// The messages of the chain.
+fn chain(alloc: Global, report: &Report) -> Result<String, Fail> {
+    let mut out = String::new(alloc);
+    NarratableReportHandler::new().display(report, true, &mut out)?;
+    Ok(out)
 }
 
 #[test]
 fn a_url_causes_and_a_footer(rt: HostRuntime) -> Result<(), Fail> {
     let alloc = rt.alloc();
-    let mut texts = Vec::new(alloc);
-    texts.push(String::from_str(alloc, "a")?)?;
-    texts.push(String::from_str(alloc, "b")?)?;
-    let diagnostic = MietteDiagnostic::new(alloc, "m")?.with_url(alloc, "u")?;
-    let report = Report::new(diagnostic).with_cause_texts(texts);
-    let footer = String::from_str(alloc, "bye")?;
-    let mut handler = NarratableReportHandler::new().with_footer(footer).clone()?;
-    let mut out = String::new(alloc);
-    let answer = handler.debug(&report, &mut out);
-    assert_eq!(rt; answer, Ok(()));
-    assert_eq!(rt;
-        out.as_str(),
-        "m\n    Diagnostic severity: error\n    Caused by: a\n    Caused by: b\nFor more details, see:\nu\nbye\n"
-    );
-    let mut chain = String::new(alloc);
-    assert_eq!(rt; handler.display(&report, true, &mut chain), Ok(()));
-    assert_eq!(rt; chain.as_str(), "m: a: b");
+    let linked = report_of(alloc, &Written { url: "u", ..M })?;
+    let report = told_why(alloc, linked, &["a", "b"])?;
+    let wanted =
+        "m\n    Diagnostic severity: error\n    Caused by: a\n    Caused by: b\nFor more details, see:\nu\nbye\n";
+    assert_eq!(rt; footed(alloc, &report)?.as_str(), wanted);
+    assert_eq!(rt; chain(alloc, &report)?.as_str(), "m: a: b");
     Ok(())
 }

@@ -1,54 +1,35 @@
-use miette::diagnostic::MietteDiagnostic;
-use miette::handlers::GraphicalReportHandler;
-use miette::protocol::LabeledSpan;
-use miette::report::{OwnedSource, Report};
-use miette::theme::GraphicalTheme;
-use std::alloc::Global;
-use std::test::Fail;
+//! Snippets of labels over sources.
 
-const README: &[u8] = b"source\n  text\n    here";
+use crate::drawn::{Asked, PLAIN, is_drawn};
+use crate::written::{Label, M, README, Written};
+use std::alloc::Global;
+use std::process::Abort;
+use std::test::Fail;
 
 const NINE: &[u8] = b"1\n2\n3\n4\n5\n6\n7\n8\n9\n";
 
-/// A label as a test writes it: offset, length, text (none where it is empty).
-type Label<'a> = (usize, usize, &'a str);
+/// A source without a name, its labels, and the rows in the frame.
+type Row<'a> = (&'a [u8], &'a [Label<'a>], &'a str);
 
-/// What is drawn of the message `m` with these labels over a source, with the name where there is one.
-fn drawn(
+/// These rows are drawn, in a frame with this first row.
+fn rows_are(
+    rt: &impl Abort,
     alloc: Global,
-    name: &str,
-    bytes: &[u8],
-    labels: &[Label<'_>],
-    lines: usize,
-) -> Result<String, Fail> {
-    let mut diagnostic = MietteDiagnostic::new(alloc, "m")?;
-    for (offset, len, text) in labels {
-        let text = if text.is_empty() {
-            None
-        } else {
-            Some(String::from_str(alloc, text)?)
-        };
-        diagnostic = diagnostic.and_label(alloc, LabeledSpan::new(text, *offset, *len))?;
-    }
-    let bytes = bytes.to_vec(alloc)?;
-    let source = if name.is_empty() {
-        OwnedSource::new(alloc, bytes)?
-    } else {
-        OwnedSource::named(alloc, name, None, bytes)?
+    head: &str,
+    (bytes, labels, body): Row<'_>,
+) -> Result<(), Fail> {
+    let wanted = format!(in alloc; "  × m\n{head}{body}   ╰────\n")?;
+    let written = Written {
+        labels,
+        source: Some(bytes),
+        ..M
     };
-    let report: Report = Report::new(diagnostic).with_owned_source(source);
-    let theme = GraphicalTheme::unicode_nocolor(alloc)?;
-    let mut handler = GraphicalReportHandler::new_themed(theme)
-        .with_width(80)
-        .with_context_lines(lines);
-    let mut out = String::new(alloc);
-    handler.render_report(&report, &mut out)?;
-    Ok(out)
+    is_drawn(rt, alloc, PLAIN, &written, wanted.as_str())
 }
 
 #[test]
 fn marks_and_texts(rt: HostRuntime) -> Result<(), Fail> {
-    let rows: [(&[u8], &[Label<'_>], &str); 7] = [
+    let rows: [Row<'_>; 7] = [
         (
             b"abcdef",
             &[(1, 3, "a"), (2, 3, "b")],
@@ -81,20 +62,33 @@ fn marks_and_texts(rt: HostRuntime) -> Result<(), Fail> {
         ),
         (b"ab\n", &[(1, 2, "")], " 1 │ ab\n   ·  ──\n"),
     ];
-    let alloc = rt.alloc();
-    for (bytes, labels, body) in rows {
-        let wanted = format!(in alloc; "  × m\n   ╭────\n{body}   ╰────\n")?;
-        assert_eq!(rt;
-            drawn(alloc, "", bytes, labels, 1)?.as_str(),
-            wanted.as_str()
-        );
+    for row in rows {
+        rows_are(&rt, rt.alloc(), "   ╭────\n", row)?;
     }
     Ok(())
 }
 
+/// A source's name, the source, its labels, and the rows below the message.
+type Framed<'a> = (&'a str, &'a [u8], &'a [Label<'a>], &'a str);
+
+fn frames_are(
+    rt: &impl Abort,
+    alloc: Global,
+    (name, bytes, labels, body): Framed<'_>,
+) -> Result<(), Fail> {
+    let wanted = format!(in alloc; "  × m\n{body}")?;
+    let written = Written {
+        labels,
+        name,
+        source: Some(bytes),
+        ..M
+    };
+    is_drawn(rt, alloc, PLAIN, &written, wanted.as_str())
+}
+
 #[test]
 fn frames(rt: HostRuntime) -> Result<(), Fail> {
-    let rows: [(&str, &[u8], &[Label<'_>], &str); 6] = [
+    let rows: [Framed<'_>; 6] = [
         (
             "",
             NINE,
@@ -127,20 +121,15 @@ fn frames(rt: HostRuntime) -> Result<(), Fail> {
             "   ╭─[f:3:1]\n 2 │ \n 3 │ b\n   · ─\n 4 │ c\n   ╰────\n",
         ),
     ];
-    let alloc = rt.alloc();
-    for (name, bytes, labels, body) in rows {
-        let wanted = format!(in alloc; "  × m\n{body}")?;
-        assert_eq!(rt;
-            drawn(alloc, name, bytes, labels, 1)?.as_str(),
-            wanted.as_str()
-        );
+    for row in rows {
+        frames_are(&rt, rt.alloc(), row)?;
     }
     Ok(())
 }
 
 #[test]
 fn long_labels(rt: HostRuntime) -> Result<(), Fail> {
-    let rows: [(&[u8], &[Label<'_>], &str); 5] = [
+    let rows: [Row<'_>; 5] = [
         (
             README,
             &[(0, 22, "whole")],
@@ -167,70 +156,74 @@ fn long_labels(rt: HostRuntime) -> Result<(), Fail> {
             " 1 │ ╭─▶ source\n 2 │ │     text\n 3 │ ╰─▶     here\n",
         ),
     ];
-    let alloc = rt.alloc();
-    for (bytes, labels, body) in rows {
-        let wanted = format!(in alloc; "  × m\n   ╭─[1:1]\n{body}   ╰────\n")?;
-        assert_eq!(rt;
-            drawn(alloc, "", bytes, labels, 1)?.as_str(),
-            wanted.as_str()
-        );
+    for row in rows {
+        rows_are(&rt, rt.alloc(), "   ╭─[1:1]\n", row)?;
     }
     Ok(())
 }
 
+/// The label can't be read, and a row says so, with this place.
+fn is_refused(rt: &impl Abort, alloc: Global, (bytes, labels, place): Row<'_>) -> Result<(), Fail> {
+    let wanted = format!(in alloc;
+        "  × m\n  [Failed to read contents for label `<none>` {place}: OutOfBounds]\n"
+    )?;
+    let written = Written {
+        labels,
+        source: Some(bytes),
+        ..M
+    };
+    is_drawn(rt, alloc, PLAIN, &written, wanted.as_str())
+}
+
 #[test]
 fn refused_labels(rt: HostRuntime) -> Result<(), Fail> {
-    let rows: [(&[u8], Label<'_>, &str); 3] = [
-        (b"a\n", (3, 1, ""), "(offset: 3, length: 1)"),
-        (b"", (1, 1, ""), "(offset: 1, length: 1)"),
+    let rows: [Row<'_>; 3] = [
+        (b"a\n", &[(3, 1, "")], "(offset: 3, length: 1)"),
+        (b"", &[(1, 1, "")], "(offset: 1, length: 1)"),
         (
             b"a",
-            (usize::MAX, usize::MAX, ""),
+            &[(usize::MAX, usize::MAX, "")],
             "(offset: 18446744073709551615, length: 18446744073709551615)",
         ),
     ];
-    let alloc = rt.alloc();
-    for (bytes, label, place) in rows {
-        let wanted = format!(in alloc;
-            "  × m\n  [Failed to read contents for label `<none>` {place}: OutOfBounds]\n"
-        )?;
-        assert_eq!(rt;
-            drawn(alloc, "", bytes, &[label], 1)?.as_str(),
-            wanted.as_str()
-        );
+    for row in rows {
+        is_refused(&rt, rt.alloc(), row)?;
     }
     Ok(())
 }
 
 #[test]
 fn lines_of_context(rt: HostRuntime) -> Result<(), Fail> {
-    let alloc = rt.alloc();
+    let text = Written {
+        labels: &[(9, 4, "t")],
+        source: Some(README),
+        ..M
+    };
     let none = "  × m\n   ╭────\n 2 │ text\n   · ──┬─\n   ·   ╰── t\n   ╰────\n";
-    assert_eq!(rt; drawn(alloc, "", README, &[(9, 4, "t")], 0)?.as_str(), none);
+    let without = Asked {
+        context: 0,
+        ..PLAIN
+    };
+    is_drawn(&rt, rt.alloc(), without, &text, none)?;
     let all =
         "  × m\n   ╭─[2:3]\n 1 │ source\n 2 │   text\n   ·   ──┬─\n   ·     ╰── t\n 3 │     here\n   ╰────\n";
-    assert_eq!(rt;
-        drawn(alloc, "", README, &[(9, 4, "t")], usize::MAX)?.as_str(),
-        all
-    );
-    Ok(())
+    let with = Asked {
+        context: usize::MAX,
+        ..PLAIN
+    };
+    is_drawn(&rt, rt.alloc(), with, &text, all)
 }
 
 #[test]
 fn bytes_that_are_no_text(rt: HostRuntime) -> Result<(), Fail> {
-    let rows: [(&[u8], Label<'_>, &str); 4] = [
-        (b"a\xffb", (1, 1, ""), " 1 │ a\u{FFFD}b\n   ·  ─\n"),
-        (b"e\xcc\x81x", (1, 2, ""), " 1 │ e\u{301}x\n   ·  ─\n"),
-        (b"a\x1b[31mb", (6, 1, ""), " 1 │ a\u{1B}[31mb\n   ·  ─\n"),
-        (b"\x1bab", (2, 1, ""), " 1 │ \u{1B}ab\n   · ─\n"),
+    let rows: [Row<'_>; 4] = [
+        (b"a\xffb", &[(1, 1, "")], " 1 │ a\u{FFFD}b\n   ·  ─\n"),
+        (b"e\xcc\x81x", &[(1, 2, "")], " 1 │ e\u{301}x\n   ·  ─\n"),
+        (b"a\x1b[31mb", &[(6, 1, "")], " 1 │ a\u{1B}[31mb\n   ·  ─\n"),
+        (b"\x1bab", &[(2, 1, "")], " 1 │ \u{1B}ab\n   · ─\n"),
     ];
-    let alloc = rt.alloc();
-    for (bytes, label, body) in rows {
-        let wanted = format!(in alloc; "  × m\n   ╭────\n{body}   ╰────\n")?;
-        assert_eq!(rt;
-            drawn(alloc, "", bytes, &[label], 1)?.as_str(),
-            wanted.as_str()
-        );
+    for row in rows {
+        rows_are(&rt, rt.alloc(), "   ╭────\n", row)?;
     }
     Ok(())
 }

@@ -1,6 +1,7 @@
 //! A diagnostic written by hand, called through a box.
 
 use miette_protocol::protocol::{Diagnostic, LabeledSpan, Severity};
+use std::alloc::Global;
 use std::test::Fail;
 
 /// An implementation by hand: its meaning in one record, and a method for each part of it.
@@ -42,18 +43,23 @@ impl Diagnostic for Missing {
     }
 }
 
+fn boxed_missing(alloc: Global) -> Result<Box<dyn Diagnostic>, Fail> {
+    let missing = Missing {
+        message: String::from_str(alloc, "a file is missing")?,
+        help: String::from_str(alloc, "make it")?,
+    };
+    let boxed: Box<dyn Diagnostic> = Box::new(alloc, missing)?;
+    Ok(boxed)
+}
+
 #[test]
 fn boxed(rt: HostRuntime) -> Result<(), Fail> {
-    let missing = Missing {
-        message: String::from_str(rt.alloc(), "a file is missing")?,
-        help: String::from_str(rt.alloc(), "make it")?,
-    };
-    let boxed: Box<dyn Diagnostic> = Box::new(rt.alloc(), missing)?;
-    assert_eq!(rt; boxed.message(), "a file is missing");
-    assert_eq!(rt; boxed.code(), None);
+    let boxed = boxed_missing(rt.alloc())?;
+    assert_eq!(rt;
+        (boxed.message(), boxed.code(), boxed.help(), boxed.url()),
+        ("a file is missing", None, Some("make it"), None)
+    );
     assert_eq!(rt; boxed.severity(), Some(Severity::Warning));
-    assert_eq!(rt; boxed.help(), Some("make it"));
-    assert_eq!(rt; boxed.url(), None);
     assert!(rt; boxed.labels().is_none());
     Ok(())
 }

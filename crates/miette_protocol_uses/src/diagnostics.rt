@@ -19,23 +19,36 @@ fn builders(rt: HostRuntime) -> Result<(), Fail> {
         .with_code(alloc, "a::b")?
         .with_severity(Severity::Warning)
         .with_help(alloc, "h")?
-        .with_url(alloc, "u")?
+        .with_url(alloc, "u")?;
+    assert_eq!(rt;
+        (made.message(), made.code(), made.help(), made.url()),
+        ("m", Some("a::b"), Some("h"), Some("u"))
+    );
+    assert_eq!(rt; made.severity(), Some(Severity::Warning));
+    Ok(())
+}
+
+#[test]
+fn builders_of_labels(rt: HostRuntime) -> Result<(), Fail> {
+    let alloc = rt.alloc();
+    let made = MietteDiagnostic::new(alloc, "m")?
         .with_label(alloc, LabeledSpan::underline(0))?
         .and_label(alloc, LabeledSpan::underline(1))?
         .and_labels(alloc, labels(alloc, 2)?)?;
-    assert_eq!(rt; made.message(), "m");
-    assert_eq!(rt; made.code(), Some("a::b"));
-    assert_eq!(rt; made.severity(), Some(Severity::Warning));
-    assert_eq!(rt; made.help(), Some("h"));
-    assert_eq!(rt; made.url(), Some("u"));
     let found = made.labels().ok_or("no labels")?;
     assert_eq!(rt; found.len(), 4);
     assert_eq!(rt; found[3].offset(), 3);
+    let made = made.with_labels(labels(alloc, 8)?);
+    assert_eq!(rt; made.labels().ok_or("no labels")?.len(), 2);
+    Ok(())
+}
+
+#[test]
+fn printed_and_cloned(rt: HostRuntime) -> Result<(), Fail> {
+    let alloc = rt.alloc();
+    let made = MietteDiagnostic::new(alloc, "m")?.with_labels(labels(alloc, 0)?);
     assert_eq!(rt; format!(in alloc; "{made}")?.as_str(), "m");
     assert!(rt; made.clone()? == made);
-    let made = made.with_labels(labels(alloc, 8)?);
-    let found = made.labels().ok_or("no labels")?;
-    assert_eq!(rt; found.len(), 2);
     Ok(())
 }
 
@@ -88,16 +101,37 @@ fn json_of_a_diagnostic(rt: HostRuntime) -> Result<(), Fail> {
     let made = MietteDiagnostic::new(alloc, "message")?;
     let text = serde_json::to_string(alloc, &made)?;
     assert_eq!(rt; text.as_str(), r#"{"message":"message"}"#);
-    let read: MietteDiagnostic = serde_json::from_str(alloc, text.as_str())?;
-    assert!(rt; read == made);
-    let null = r#"{"message":"message","code":null,"labels":null}"#;
+    let null =
+        r#"{"message":"message","code":null,"severity":null,"help":null,"url":null,"labels":null}"#;
     let read: MietteDiagnostic = serde_json::from_str(alloc, null)?;
     assert!(rt; read == made);
+    Ok(())
+}
+
+/// What is read back of the diagnostic's JSON.
+fn read_back(alloc: Global, made: &MietteDiagnostic) -> Result<MietteDiagnostic, Fail> {
+    let text = serde_json::to_string(alloc, made)?;
+    let read: MietteDiagnostic = serde_json::from_str(alloc, text.as_str())?;
+    Ok(read)
+}
+
+#[test]
+fn json_is_read_back(rt: HostRuntime) -> Result<(), Fail> {
+    let alloc = rt.alloc();
+    let made = MietteDiagnostic::new(alloc, "message")?;
+    assert!(rt; read_back(alloc, &made)? == made);
+    let label = LabeledSpan::at(alloc, 1..3, "t")?;
     let full = made
         .with_code(alloc, "c")?
-        .with_label(alloc, LabeledSpan::at(alloc, 1..3, "t")?)?;
+        .with_severity(Severity::Warning)
+        .with_help(alloc, "h")?
+        .with_url(alloc, "u")?
+        .with_label(alloc, label)?;
     let text = serde_json::to_string(alloc, &full)?;
-    let read: MietteDiagnostic = serde_json::from_str(alloc, text.as_str())?;
-    assert!(rt; read == full);
+    assert_eq!(rt;
+        text.as_str(),
+        r#"{"message":"message","code":"c","severity":"Warning","help":"h","url":"u","labels":[{"label":"t","span":{"offset":1,"length":2},"primary":false}]}"#
+    );
+    assert!(rt; read_back(alloc, &full)? == full);
     Ok(())
 }

@@ -3,43 +3,48 @@
 use miette_protocol::error::MietteError;
 use miette_protocol::protocol::Diagnostic;
 use std::io;
+use std::process::Abort;
 use std::test::Fail;
+
+/// The error has this message, code, help and url, and neither a severity nor labels.
+fn says(
+    rt: &impl Abort,
+    error: &MietteError,
+    wanted: (&str, Option<&str>, Option<&str>, Option<&str>),
+) {
+    assert_eq!(rt;
+        (error.message(), error.code(), error.help(), error.url()),
+        wanted
+    );
+    assert!(rt; error.severity().is_none() && error.labels().is_none());
+}
 
 #[test]
 fn out_of_bounds(rt: HostRuntime) -> Result<(), Fail> {
     let error = MietteError::OutOfBounds;
     let text = "The given offset is outside the bounds of its Source";
     assert_eq!(rt; format!(in rt.alloc(); "{error}")?.as_str(), text);
-    assert_eq!(rt; error.message(), text);
-    assert_eq!(rt; error.code(), Some("miette::span_out_of_bounds"));
-    assert_eq!(rt;
-        error.help(),
-        Some("Double-check your spans. Do you have an off-by-one error?")
+    let wanted = (
+        text,
+        Some("miette::span_out_of_bounds"),
+        Some("Double-check your spans. Do you have an off-by-one error?"),
+        Some("https://docs.rs/miette/7.6.0/miette/enum.MietteError.html#variant.OutOfBounds"),
     );
-    assert_eq!(rt;
-        error.url(),
-        Some("https://docs.rs/miette/7.6.0/miette/enum.MietteError.html#variant.OutOfBounds")
-    );
-    assert_eq!(rt; error.severity(), None);
-    assert!(rt; error.labels().is_none());
+    says(&rt, &error, wanted);
     Ok(())
 }
 
 #[test]
 fn io_error(rt: HostRuntime) -> Result<(), Fail> {
     let error = MietteError::from(io::Error::from(io::ErrorKind::NotFound));
-    assert_eq!(rt;
-        format!(in rt.alloc(); "{error}")?.as_str(),
-        "entity not found"
+    let text = format!(in rt.alloc(); "{error}")?;
+    assert_eq!(rt; text.as_str(), "entity not found");
+    let wanted = (
+        "a source could not be read",
+        Some("miette::io_error"),
+        None,
+        Some("https://docs.rs/miette/7.6.0/miette/enum.MietteError.html#variant.IoError"),
     );
-    assert_eq!(rt; error.message(), "a source could not be read");
-    assert_eq!(rt; error.code(), Some("miette::io_error"));
-    assert_eq!(rt; error.help(), None);
-    assert_eq!(rt;
-        error.url(),
-        Some("https://docs.rs/miette/7.6.0/miette/enum.MietteError.html#variant.IoError")
-    );
-    assert_eq!(rt; error.severity(), None);
-    assert!(rt; error.labels().is_none());
+    says(&rt, &error, wanted);
     Ok(())
 }

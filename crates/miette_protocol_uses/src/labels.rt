@@ -5,28 +5,46 @@ use std::test::Fail;
 
 #[test]
 fn labels(rt: HostRuntime) -> Result<(), Fail> {
-    let alloc = rt.alloc();
-    let text = String::from_str(alloc, "here")?;
+    let text = String::from_str(rt.alloc(), "here")?;
     let mut label = LabeledSpan::new(Some(text), 3, 4);
-    assert_eq!(rt; label.label(), Some("here"));
     assert_eq!(rt;
-        (label.offset(), label.len(), label.is_empty()),
-        (3, 4, false)
+        (
+            label.label(),
+            label.offset(),
+            label.len(),
+            label.is_empty(),
+            label.primary(),
+        ),
+        (Some("here"), 3, 4, false, false)
     );
     assert_eq!(rt; *label.inner(), SourceSpan::from((3, 4)));
-    assert!(rt; !label.primary());
     label.set_label(None);
     assert!(rt; label == LabeledSpan::new_with_span(None, (3, 4)));
+    Ok(())
+}
+
+#[test]
+fn labels_without_text(rt: HostRuntime) {
+    let label = LabeledSpan::new_with_span(None, (3, 4));
     assert!(rt; label == LabeledSpan::underline(3..7));
-    assert!(rt; label != LabeledSpan::new_primary_with_span(None, 3..7));
-    assert!(rt; LabeledSpan::new_primary_with_span(None, 3..7).primary());
+    let primary = LabeledSpan::new_primary_with_span(None, 3..7);
+    assert!(rt; label != primary);
+    assert!(rt; primary.primary());
     assert!(rt; LabeledSpan::underline(5).is_empty());
-    let label = LabeledSpan::at(alloc, 2..5, "x")?;
-    assert_eq!(rt; label.label(), Some("x"));
-    assert_eq!(rt; *label.inner(), SourceSpan::from(2..5));
-    let label = LabeledSpan::at_offset(alloc, 7, "y")?;
-    assert_eq!(rt; label.label(), Some("y"));
-    assert_eq!(rt; *label.inner(), SourceSpan::from(7));
+}
+
+#[test]
+fn labels_with_text(rt: HostRuntime) -> Result<(), Fail> {
+    let label = LabeledSpan::at(rt.alloc(), 2..5, "x")?;
+    assert_eq!(rt;
+        (label.label(), *label.inner()),
+        (Some("x"), SourceSpan::from(2..5))
+    );
+    let label = LabeledSpan::at_offset(rt.alloc(), 7, "y")?;
+    assert_eq!(rt;
+        (label.label(), *label.inner()),
+        (Some("y"), SourceSpan::from(7))
+    );
     assert!(rt; label.clone()? == label);
     Ok(())
 }

@@ -4,3 +4,5 @@ pub mod DeviceLemmas
 pub mod DescriptionSources
 pub mod FaultStatuses
 pub mod PictureSteps
+pub mod AlwaysRead
+pub mod ChosenSteps

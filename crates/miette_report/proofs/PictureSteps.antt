@@ -1,5 +1,5 @@
 -- Steps of making a picture and of writing it.
-use Rattle.std.proofs.Common.{◌≡◌, ℕ, List, [], ◌++◌, Option, Some, None, Result, Err, true, false, IfOk, IfSome, sym, ◌∙◌, ap, ap₂, subst, encode_utf8_all, string_bytes, String}
+use Rattle.std.proofs.Common.{◌≡◌, ℕ, Bool, List, [], ◌++◌, Option, Some, None, Result, Err, true, false, IfOk, IfSome, sym, ◌∙◌, ap, ap₂, subst, encode_utf8_all, string_bytes, String}
 use Rattle.miette_protocol.specs.declared.error.RenderError.{RenderError}
 use Rattle.miette_protocol.specs.declared.error.RenderError.TheVariants.{Refused}
 use Rattle.miette_tree.specs.Tree.{Tree}
@@ -7,33 +7,41 @@ use Rattle.miette_text.specs.Themes.{no_styles, styles_of, theme_of, unicode_cha
 use Rattle.miette_text.specs.declared.theme.GraphicalTheme.{GraphicalTheme}
 use Rattle.miette_handlers.specs.Answers.{unlisted}
 use Rattle.miette_handlers.specs.Printed.{all_read, printed}
-use Rattle.miette_handlers.specs.Settings.{Settings, default_settings}
+use Rattle.miette_handlers.specs.Handling.{Handling, draws_plain, without_highlighter}
+use Rattle.miette_handlers.specs.Settings.{default_settings}
 use Rattle.miette_handlers.specs.Snippets.{drawn_rows}
 use Rattle.miette_handlers.specs.Text.{report_text}
 use Rattle.miette_report.specs.Drawn.{draw_settings, drawn_tree, IsPicture, IsReadWhole, Pictures}
 
-abbrev narrow : Settings → Settings
-narrow s = record s { width = 80 }
+abbrev narrow : {H : Type 0} → Handling H → Handling H
+narrow h = record h { settings = record h.settings { width = 80 } }
 
 -- what the handler is made with
-pub plain-settings : (theme : GraphicalTheme) (made wide : Settings) → theme_of theme ≡ record { characters = unicode_characters; styles = no_styles }
-    → made ≡ default_settings theme.characters (styles_of theme.styles) → wide ≡ record made { width = 80 } → wide ≡ draw_settings theme.characters
-plain-settings theme made wide is m w = w ∙ ap narrow (m ∙ ap (λ t. default_settings theme.characters t.styles) is)
+pub plain-settings : {H : Type 0} (theme : GraphicalTheme) (made wide : Handling H) → theme_of theme ≡ record { characters = unicode_characters; styles = no_styles }
+    → made ≡ without_highlighter (default_settings theme.characters (styles_of theme.styles)) → wide ≡ record made { settings = record made.settings { width = 80 } }
+    → wide ≡ without_highlighter (draw_settings theme.characters)
+plain-settings theme made wide is m w = w ∙ ap narrow (m ∙ ap (λ t. without_highlighter (default_settings theme.characters t.styles)) is)
 
-reads-whole : (theme : GraphicalTheme) (s : Settings) (t : Tree) → s ≡ draw_settings theme.characters → IsReadWhole t → all_read (printed s t) ≡ true
-reads-whole theme s t same reads = ap (λ u. all_read (printed u t)) same ∙ reads theme.characters
+reads-whole : {H : Type 0} (theme : GraphicalTheme) (h : Handling H) (t : Tree) → h ≡ without_highlighter (draw_settings theme.characters) → IsReadWhole t → all_read (printed h.settings t) ≡ true
+reads-whole theme h t same reads = ap (λ u. all_read (printed u.settings t)) same ∙ reads theme.characters
 
-pub pictured : (theme : GraphicalTheme) (s : Settings) (t : Tree) (old new : List ℕ) → theme_of theme ≡ record { characters = unicode_characters; styles = no_styles }
-    → s ≡ draw_settings theme.characters → old ≡ [] → (all_read (printed s t) ≡ true → new ≡ old ++ encode_utf8_all (report_text drawn_rows s t unlisted))
+pub pictured : {H : Type 0} (is_blank : H → Bool) (theme : GraphicalTheme) (h : Handling H) (t : Tree) (old new : List ℕ) → theme_of theme ≡ record { characters = unicode_characters; styles = no_styles }
+    → h ≡ without_highlighter (draw_settings theme.characters) → old ≡ []
+    → (draws_plain is_blank h ≡ true → all_read (printed h.settings t) ≡ true → new ≡ old ++ encode_utf8_all (report_text drawn_rows h.settings t unlisted))
     → IsReadWhole t → IsPicture t new
-pictured theme s t old new is same none only reads =
-    (theme.characters, ap (λ u. u.characters) is, only (reads-whole theme s t same reads) ∙ ap₂ (λ o u. o ++ encode_utf8_all (report_text drawn_rows u t unlisted)) none same)
+pictured is_blank theme h t old new is same none only reads = (
+  theme.characters,
+  ap (λ u. u.characters) is,
+  only (ap (draws_plain is_blank) same) (reads-whole theme h t same reads)
+      ∙ ap₂ (λ o u. o ++ encode_utf8_all (report_text drawn_rows u.settings t unlisted)) none same,
+)
 
-pub unrefused : {A B : Type 0} (theme : GraphicalTheme) (s : Settings) (t : Tree) (r : Result A RenderError) (q : Result B RenderError) (e : RenderError) → s ≡ draw_settings theme.characters
-    → r ≡ Err e → q ≡ Err e → (r ≡ Err Refused → all_read (printed s t) ≡ false) → IsReadWhole t → q ≡ Err Refused → ⊥
-unrefused theme s t r q e same is kept refused reads p =
+pub unrefused : {H A B : Type 0} (theme : GraphicalTheme) (h : Handling H) (t : Tree) (r : Result A RenderError) (q : Result B RenderError) (e : RenderError)
+    → h ≡ without_highlighter (draw_settings theme.characters)
+    → r ≡ Err e → q ≡ Err e → (r ≡ Err Refused → all_read (printed h.settings t) ≡ false) → IsReadWhole t → q ≡ Err Refused → ⊥
+unrefused theme h t r q e same is kept refused reads p =
     let refusal : e ≡ Refused = cc in
-    let k : true ≡ false = sym (reads-whole theme s t same reads) ∙ refused (is ∙ ap Err refusal) in cc
+    let k : true ≡ false = sym (reads-whole theme h t same reads) ∙ refused (is ∙ ap Err refusal) in cc
 
 -- of a drawn tree every label is read
 pub reads-drawn : (t : Tree) (name : List ℕ) (offset length : ℕ) (label message input : List ℕ) → t ≡ drawn_tree name offset length label message input → IsReadWhole t

@@ -1,21 +1,56 @@
--- The text of a job: by the bytes that were read, and by the handler that was chosen.
-use Rattle.std.specs.Prelude.{ℕ, List, Option}
-use Rattle.std.specs.Prelude.{option_map, option_and_then}
+-- The text of a job: by the bytes that were read, and by what was asked for.
+use Rattle.std.specs.Prelude.{◌≡◌, ℕ, Bool, List, Option, Some, true, false, ⊤, IsUtf8, encode_utf8_all, option_and_then}
 use Rattle.serde_json.specs.Read.{read}
+use Rattle.miette.specs.Choice.{IsChosen, is_graphical}
+use Rattle.miette.specs.Options.{Options}
+use Rattle.miette.specs.declared.options.handler.MietteHandler.{MietteHandler}
+use Rattle.miette.specs.declared.options.handler.MietteHandler.TheVariants.{Graphical, Narrated}
+use Rattle.miette_text.specs.declared.theme.Terminal.{Terminal}
 use Rattle.miette_tree.specs.Tree.{Tree}
+use Rattle.miette_narrated.specs.Answered.{report_accepted}
+use Rattle.miette_narrated.specs.Report as narrated
+use Rattle.miette_handlers.specs.Answered.{IsTextOf}
+use Rattle.miette_handlers.specs.Answers.{unlisted}
+use Rattle.miette_handlers.specs.Handling.{draws_plain}
 use Rattle.miette_handlers.specs.Json.{json_text}
 use Rattle.miette_handlers.specs.JsonReport.{value_of}
+use Rattle.miette_handlers.specs.Snippets.{drawn_rows}
+use Rattle.miette_handlers.specs.Text.{report_text}
 use Rattle.miette_report.specs.Description.{described}
 use Rattle.miette_report.specs.declared.settings.Choice.{Choice}
-use Rattle.miette_report.specs.declared.settings.Choice.TheVariants.{Json}
+use Rattle.miette_report.specs.declared.settings.Choice.TheVariants.{Build, Json, Debug}
 
 -- the tree that the bytes describe, by the JSON value that is read from them (at most 127 deep)
 abbrev pub tree_for : List ℕ → Option Tree
 tree_for bytes = option_and_then described (read bytes)
 
--- what the chosen handler gives for a tree whose sources always read
-abbrev pub rendered : Choice → Tree → List ℕ
-rendered Json t = json_text (value_of t)
+-- A text that a handler gives for a tree whose sources always read: a picture, one alone where no highlighter or a blank one is set; a
+-- narrated text only where every label that is told is accepted.
+abbrev pub IsBuiltText : {H : Type 0} → (H → Bool) → MietteHandler H → Tree → List ℕ → Type 0
+IsBuiltText is_blank (Graphical it) t text =
+    IsTextOf drawn_rows it.settings (draws_plain is_blank it) t text
+    × (draws_plain is_blank it ≡ true → text ≡ encode_utf8_all (report_text drawn_rows it.settings t unlisted))
+IsBuiltText is_blank (Narrated it) t text = (report_accepted t ≡ true) × (text ≡ narrated.narrated it t narrated.unlisted)
 
-abbrev pub text_for : Choice → List ℕ → Option (List ℕ)
-text_for choice bytes = option_map (rendered choice) (tree_for bytes)
+-- the same by what was asked for; of the debug report nothing is said
+abbrev pub IsJobText : {H : Type 0} → (H → Bool) → Choice → Options H → Terminal → Tree → List ℕ → Type 0
+IsJobText {H} is_blank Build options terminal t text = (handler : MietteHandler H) × IsChosen options terminal handler × IsBuiltText is_blank handler t text
+IsJobText is_blank Json options terminal t text = text ≡ json_text (value_of t)
+IsJobText is_blank Debug options terminal t text = ⊤
+
+-- the bytes are a description, and this holds of its text
+abbrev pub Writes : {H : Type 0} → (H → Bool) → Choice → Options H → Terminal → List ℕ → (List ℕ → Type 0) → Type 0
+Writes is_blank choice options terminal bytes holds =
+    IsUtf8 bytes × ((t : Tree) × (tree_for bytes ≡ Some t) × ((text : List ℕ) × IsJobText is_blank choice options terminal t text × holds text))
+
+-- the bytes are a description
+abbrev pub IsDescription : List ℕ → Type 0
+IsDescription bytes = IsUtf8 bytes × ((t : Tree) × (tree_for bytes ≡ Some t))
+
+-- the bytes are a description, and a label that is told of its report isn't accepted
+abbrev pub IsRefused : List ℕ → Type 0
+IsRefused bytes = IsUtf8 bytes × ((t : Tree) × (tree_for bytes ≡ Some t) × (report_accepted t ≡ false))
+
+-- the report is narrated
+abbrev pub IsNarrating : {H : Type 0} → Choice → Options H → Terminal → Type 0
+IsNarrating choice options terminal = (choice ≡ Build) × (is_graphical options terminal ≡ false)

@@ -4,7 +4,9 @@ pub mod Words
 pub mod Members
 pub mod Description
 pub mod Built
+pub mod Asked
 pub mod Job
+pub mod Chosen
 pub mod Statuses
 pub mod Drawn
 pub mod Faults

@@ -1,12 +1,13 @@
 //! The program `bench`, which renders one report many times: speed is measured by it.
 
-ghost use Rattle.std.specs.Prelude.{◌≡◌, IfSome, IsSome, IsUtf8, OnErr, OnOk, None};
-ghost use Rattle.miette_report.specs.Job.{text_for, tree_for};
+ghost use Rattle.std.specs.Prelude.{◌≡◌, IfOk, IfSome, IsUtf8, OnOk, None, drop, map, string_bytes};
+ghost use Rattle.miette_report.specs.Asked.{choice_in};
+ghost use Rattle.miette_report.specs.Job.{tree_for, IsDescription, IsNarrating, IsRefused};
 ghost use Rattle.miette_report.specs.Statuses.{words_status};
 
 use crate::device::Device;
 use crate::run::{JobError, rendered_length};
-use crate::settings::Settings;
+use crate::settings::{Choice, Settings};
 use crate::statuses;
 use crate::whole::{ReadError, read_whole, write_whole};
 use crate::words::{WordsFault, number};
@@ -23,9 +24,10 @@ pub fn bench_with<R: Read + Drop, W: Write + Drop, F: Write + Drop>(
     writer: W,
     faults: F,
 ) -> u8
-    ensures done { result ≡ 0 → IfSome (R.remaining reader) (λ bytes. IsUtf8 bytes × IsSome (tree_for bytes)) }
+    ensures done { result ≡ 0 → IfSome (R.remaining reader) IsDescription }
     ensures description { result ≡ 3 → IfSome (R.remaining reader) (λ bytes. IsUtf8 bytes → tree_for bytes ≡ None) }
-    ensures accepted { ¬ (result ≡ 4) }
+    ensures refused { result ≡ 4 → IfSome (R.remaining reader) IsRefused }
+    ensures narrated { result ≡ 4 → choice_in Choice.Build (map string_bytes (drop 1 words.now)) ≡ Choice.Build }
 {
     let (times, settings) = match read_words(alloc, words) {
         Ok(asked) => asked,
@@ -46,7 +48,7 @@ pub fn refuse_words<F: Write + Drop>(fault: WordsFault, faults: F) -> u8
 
 /// How often to render, and by which settings.
 fn read_words(alloc: Global, words: &[String]) -> Result<(usize, Settings), WordsFault>
-    ensures { OnErr result (result ≡ Err WordsFault.Usage) }
+    ensures { IfOk result (λ it. it.1.choice ≡ choice_in Choice.Build (map string_bytes (drop 1 words.now))) }
 {
     let [times, options @ ..] = words else {
         return Err(WordsFault::Usage);
@@ -65,16 +67,16 @@ fn measure<R: Read + Drop, W: Write + Drop>(
     times: usize,
     settings: Settings,
 ) -> Result<(), JobError>
-    ensures described { OnOk result (IfSome (R.remaining reader) (λ bytes. IsUtf8 bytes × IsSome (text_for settings.choice bytes))) }
+    ensures described { OnOk result (IfSome (R.remaining reader) IsDescription) }
     ensures description { (result ≡ Err JobError.Description) → IfSome (R.remaining reader) (λ bytes. IsUtf8 bytes → tree_for bytes ≡ None) }
-    ensures refused { ¬ (result ≡ Err JobError.Refused) }
+    ensures refused { (result ≡ Err JobError.Refused) → IsNarrating settings.choice settings.options settings.terminal × IfSome (R.remaining reader) IsRefused }
 {
     let bytes = match read_whole(alloc, &mut Device::new(reader)) {
         Ok(bytes) => bytes,
         Err(ReadError::Memory) => return Err(JobError::Memory),
         Err(ReadError::Read) => return Err(JobError::Read),
     };
-    let length = rendered_length(alloc, bytes.as_slice(), times, settings.choice)?;
+    let length = rendered_length(alloc, bytes.as_slice(), times, settings)?;
     let Ok(text) = format!(in alloc; "{length}\n") else {
         return Err(JobError::Memory);
     };

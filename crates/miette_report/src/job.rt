@@ -1,7 +1,8 @@
 //! The program `job`, over any reader and writers.
 
-ghost use Rattle.std.specs.Prelude.{◌≡◌, IfSome, IsSome, IsUtf8, None};
-ghost use Rattle.miette_report.specs.Job.{tree_for};
+ghost use Rattle.std.specs.Prelude.{◌≡◌, IfSome, IsUtf8, None, map, string_bytes};
+ghost use Rattle.miette_report.specs.Asked.{choice_in};
+ghost use Rattle.miette_report.specs.Job.{tree_for, IsDescription, IsRefused};
 ghost use Rattle.miette_report.specs.Statuses.{words_status};
 
 use crate::device::Device;
@@ -23,9 +24,11 @@ pub fn job_with<R: Read + Drop, W: Write + Drop, F: Write + Drop>(
     writer: W,
     faults: F,
 ) -> u8
-    ensures done { result ≡ 0 → IfSome (R.remaining reader) (λ bytes. IsUtf8 bytes × IsSome (tree_for bytes)) }
+    ensures done { result ≡ 0 → IfSome (R.remaining reader) IsDescription }
     ensures description { result ≡ 3 → IfSome (R.remaining reader) (λ bytes. IsUtf8 bytes → tree_for bytes ≡ None) }
-    ensures accepted { ¬ (result ≡ 4) }
+    // Only a narrated report is refused, and only for a label that isn't accepted.
+    ensures refused { result ≡ 4 → IfSome (R.remaining reader) IsRefused }
+    ensures narrated { result ≡ 4 → choice_in Choice.Build (map string_bytes words.now) ≡ Choice.Build }
 {
     let settings = match Settings::read(alloc, words) {
         Ok(settings) => settings,

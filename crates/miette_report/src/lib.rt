@@ -2,6 +2,7 @@
 #![tactic(auto)]
 
 pub mod bench;
+mod chosen;
 mod description;
 pub mod description_laws;
 mod description_members;
@@ -10,6 +11,7 @@ mod description_parts;
 pub mod device;
 pub mod draw;
 pub mod job;
+mod option_words;
 mod picture;
 mod run;
 mod settings;

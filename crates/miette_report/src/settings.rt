@@ -1,40 +1,172 @@
 //! What a job is asked for.
 
-ghost use Rattle.std.specs.Prelude.{◌≡◌, OnErr};
+ghost use Rattle.std.specs.Prelude.{◌≡◌, IfOk, map, string_bytes};
+ghost use Rattle.miette_report.specs.Asked.{chosen_by, choice_in};
 
+use crate::option_words::{Asked, BuildAsked, OptionAsked, TerminalAsked, ThemeAsked, first_asked};
 use crate::words::WordsFault;
-use std::alloc::Global;
+use miette::options::MietteHandlerOpts;
+use miette::theme::{GraphicalTheme, Terminal};
+use miette::wrap::WordSplitter;
+use std::alloc::{AllocError, Global};
 
 /// Which handler gives the text.
 #[derive(Clone, Copy, Debug, PartialEq, Eq)]
 pub enum Choice {
+    /// The one that the options build: graphical or narrated.
+    Build,
     /// JSON.
     Json,
+    /// The debug report.
+    Debug,
 }
 
 /// What a job is asked for.
-#[derive(Clone, Copy, Debug, PartialEq, Eq)]
+#[derive(Drop)]
 pub struct Settings {
     /// Which handler gives the text.
     pub choice: Choice,
+    /// What the handler that is built is asked for.
+    pub options: MietteHandlerOpts,
+    /// What the text goes to. It has nothing that wasn't given.
+    pub terminal: Terminal,
 }
 
 impl Settings {
-    /// The settings that a program's words ask for, without the program's name. Today there is one word, `--json`, which has
-    /// to be there and may be repeated; what a later word copies will be taken from `_alloc`.
-    pub fn read(_alloc: Global, words: &[String]) -> Result<Settings, WordsFault>
-        ensures { OnErr result (result ≡ Err WordsFault.Usage) }
+    /// The settings that a program's words ask for, without the program's name. Of words that ask for the same the last one
+    /// counts; what no word asks for is left to the handler.
+    ///
+    /// # Errors
+    /// `Usage` where a word is none of those that there are, where a value is missing or isn't one that its word takes, and
+    /// for tabs of no columns; `Memory` where none is found for a text or a theme.
+    pub fn read(alloc: Global, words: &[String]) -> Result<Settings, WordsFault>
+        // The last of `--json` and `--debug` that is no value chooses the handler.
+        ensures choice { IfOk result (λ it. it.choice ≡ choice_in Choice.Build (map string_bytes words.now)) }
     {
-        if words.is_empty() {
-            return Err(WordsFault::Usage);
-        }
-        for word in words {
-            if word.as_str() != "--json" {
+        let mut settings = Settings::unasked();
+        let mut rest = words;
+        while !rest.is_empty() {
+            let Some((asked, more)) = first_asked(rest) else {
                 return Err(WordsFault::Usage);
-            }
+            };
+            settings = settings.with(alloc, asked)?;
+            rest = more;
         }
-        Ok(Settings {
-            choice: Choice::Json,
-        })
+        Ok(settings)
     }
+
+    /// Nothing is asked for, and the terminal has nothing.
+    fn unasked() -> Settings
+        ensures { result.choice ≡ Choice.Build }
+    {
+        Settings {
+            choice: Choice::Build,
+            options: MietteHandlerOpts::default(),
+            terminal: Terminal {
+                width: None,
+                color: None,
+                unicode: false,
+                hyperlinks: false,
+                stdout_terminal: false,
+                stderr_terminal: false,
+                no_graphics: None,
+                no_color: None,
+            },
+        }
+    }
+
+    /// The settings with what one word asks for.
+    fn with(self, alloc: Global, asked: Asked<'_>) -> Result<Settings, WordsFault>
+        ensures { IfOk result (λ it. it.choice ≡ chosen_by asked.entry self.choice) }
+    {
+        let Settings {
+            choice,
+            options,
+            terminal,
+        } = self;
+        match asked {
+            Asked::Choice(choice) => Ok(Settings {
+                choice,
+                options,
+                terminal,
+            }),
+            Asked::Build(BuildAsked::Option(asked)) => Ok(Settings {
+                choice,
+                options: options_with(alloc, options, asked)?,
+                terminal,
+            }),
+            Asked::Build(BuildAsked::Terminal(asked)) => Ok(Settings {
+                choice,
+                options,
+                terminal: terminal_with(alloc, terminal, asked)?,
+            }),
+        }
+    }
+}
+
+/// The options with one more.
+fn options_with(
+    alloc: Global,
+    options: MietteHandlerOpts,
+    asked: OptionAsked<'_>,
+) -> Result<MietteHandlerOpts, WordsFault> {
+    Ok(match asked {
+        OptionAsked::Narrated => options.force_narrated(true),
+        OptionAsked::Graphical => options.force_graphical(true),
+        OptionAsked::Width(width) => options.width(width),
+        OptionAsked::Context(lines) => options.context_lines(lines),
+        OptionAsked::Tab(0) => return Err(WordsFault::Usage),
+        OptionAsked::Tab(width) => options.tab_width(width),
+        OptionAsked::Theme(theme) => options.graphical_theme(theme_of(alloc, theme)?),
+        OptionAsked::Unicode(unicode) => options.unicode(unicode),
+        OptionAsked::Color(color) => options.color(color),
+        OptionAsked::Links(links) => options.terminal_links(links),
+        OptionAsked::Chain(true) => options.with_cause_chain(),
+        OptionAsked::Chain(false) => options.without_cause_chain(),
+        OptionAsked::Break(breaks) => options.break_words(breaks),
+        OptionAsked::Wrap(wraps) => options.wrap_lines(wraps),
+        OptionAsked::Hyphens(true) => options.word_splitter(WordSplitter::HyphenSplitter),
+        OptionAsked::Hyphens(false) => options.word_splitter(WordSplitter::NoHyphenation),
+        OptionAsked::Nested(true) => options.show_related_errors_as_nested(),
+        OptionAsked::Nested(false) => options.show_related_errors_as_siblings(),
+        OptionAsked::Rgb(colors) => options.rgb_colors(colors),
+        OptionAsked::Footer(text) => options.footer(String::from_str(alloc, text)?),
+    })
+}
+
+/// The theme of a name.
+fn theme_of(alloc: Global, theme: ThemeAsked) -> Result<GraphicalTheme, AllocError> {
+    match theme {
+        ThemeAsked::Ascii => GraphicalTheme::ascii(alloc),
+        ThemeAsked::Unicode => GraphicalTheme::unicode(alloc),
+        ThemeAsked::UnicodeNocolor => GraphicalTheme::unicode_nocolor(alloc),
+        ThemeAsked::None => GraphicalTheme::none(alloc),
+    }
+}
+
+/// The terminal with one thing that it is or has.
+fn terminal_with(
+    alloc: Global,
+    terminal: Terminal,
+    asked: TerminalAsked<'_>,
+) -> Result<Terminal, AllocError> {
+    Ok(match asked {
+        TerminalAsked::Width(width) => Terminal {
+            width: Some(width),
+            ..terminal
+        },
+        TerminalAsked::Color(color) => Terminal { color, ..terminal },
+        TerminalAsked::Unicode(unicode) => Terminal {
+            unicode,
+            ..terminal
+        },
+        TerminalAsked::Links(hyperlinks) => Terminal {
+            hyperlinks,
+            ..terminal
+        },
+        TerminalAsked::NoGraphics(text) => Terminal {
+            no_graphics: Some(String::from_str(alloc, text)?),
+            ..terminal
+        },
+    })
 }

@@ -2,7 +2,7 @@
 
 ghost use Rattle.miette_report.specs.Words.{IsReadAs};
 
-use std::alloc::Global;
+use std::alloc::{AllocError, Global};
 use std::env;
 use std::env::Env;
 use std::io::ErrorKind;
@@ -14,6 +14,17 @@ pub enum WordsFault {
     Usage,
     /// No memory was found for them.
     Memory,
+}
+
+impl From<AllocError> for WordsFault {
+    ghost use Rattle.std.specs.Prelude.{◌≡◌};
+    ghost use Rattle.miette_report.specs.declared.words.WordsFault.TheVariants.{Memory};
+
+    ghost from_gives = { λ _ fault. fault ≡ Memory };
+
+    fn from(_refused: AllocError) -> WordsFault {
+        WordsFault::Memory
+    }
 }
 
 /// The words after the program's name.

@@ -14,14 +14,16 @@ fn words_of(alloc: Global, words: &[&str]) -> Result<Vec<String>, AllocError> {
 #[test]
 fn the_length_of_one_rendering(rt: HostRuntime) -> Result<(), Fail> {
     let alloc = rt.alloc();
-    let rows = [
-        ("0", "0\n", 0, ""),
-        ("1", "76\n", 0, ""),
-        ("3", "76\n", 0, ""),
-        ("x", "", 2, "usage: bench N [OPTIONS]\n"),
+    let rows: [(&[&str], &str, u8, &str); 6] = [
+        (&["0", "--json"], "0\n", 0, ""),
+        (&["1", "--json"], "76\n", 0, ""),
+        (&["3", "--json"], "76\n", 0, ""),
+        (&["2"], "6\n", 0, ""),
+        (&["2", "--narrated"], "33\n", 0, ""),
+        (&["x", "--json"], "", 2, "usage: bench N [OPTIONS]\n"),
     ];
-    for (times, written, status, fault) in rows {
-        let words = words_of(alloc, &[times, "--json"])?;
+    for (words, written, status, fault) in rows {
+        let words = words_of(alloc, words)?;
         let mut out = Vec::new(alloc);
         let mut faults = Vec::new(alloc);
         let input = b"{\"message\":\"m\"}".as_slice();
@@ -30,6 +32,16 @@ fn the_length_of_one_rendering(rt: HostRuntime) -> Result<(), Fail> {
         assert_eq!(rt; out.as_slice(), written.as_bytes());
         assert_eq!(rt; faults.as_slice(), fault.as_bytes());
     }
+
+    let words = words_of(alloc, &["2", "--narrated"])?;
+    let mut out = Vec::new(alloc);
+    let mut faults = Vec::new(alloc);
+    let input =
+        b"{\"message\":\"m\",\"source\":{\"text\":\"ab\"},\"labels\":[{\"offset\":3,\"length\":0}]}".as_slice();
+    let status = bench_with(alloc, words.as_slice(), input, &mut out, &mut faults);
+    assert_eq!(rt; status, 4);
+    assert_eq!(rt; out.len(), 0);
+    assert_eq!(rt; faults.as_slice(), b"bench: report refused\n".as_slice());
 
     let words = words_of(alloc, &["1", "--json"])?;
     let mut faults = Vec::new(alloc);

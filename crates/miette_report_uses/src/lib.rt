@@ -1,4 +1,4 @@
-//! Callers of `miette_report` from a crate above: the programs over devices that work, that are slow, and that fail.
+//! Callers of `miette_report` from a crate above: the programs over devices that work, that are slow, and that fail; and reports with a highlighter.
 #![tactic(auto)]
 
 #[cfg(test)]
@@ -8,6 +8,12 @@ mod devices;
 #[cfg(test)]
 mod draw;
 #[cfg(test)]
+mod highlighting;
+#[cfg(test)]
 mod job;
+#[cfg(test)]
+mod job_words;
+#[cfg(test)]
+mod options;
 #[cfg(test)]
 mod words;

@@ -21,3 +21,8 @@ pub mod Steps
 pub mod Icons
 mod PieceLemmas
 pub mod Equality
+pub mod Parting
+pub mod FirstRow
+pub mod LineWise
+pub mod PlainRows
+pub mod Behind

@@ -1,5 +1,5 @@
 -- What runs and links print is tame, and without colours it is the same runs in plain styles.
-use Rattle.std.proofs.Common.{◌≡◌, ℕ, ◌+◌, ◌<◌, Bool, true, false, not, ◌&&◌, ◌||◌, ◌==◌, List, [], ◌∷◌, ◌++◌, map, refl, sym, ap, ap₂, ◌∙◌, arith, eqb-true, append_assoc, append-nil, if◌then◌else◌, decimal, codes, Option, Some, None, IfSome, ◌⊎◌, inl, inr, ◌^◌, ◌%◌}
+use Rattle.std.proofs.Common.{◌≡◌, ℕ, zero, suc, ◌/◌, ◌<◌, Bool, true, false, not, ◌&&◌, ◌||◌, ◌==◌, List, [], ◌∷◌, ◌++◌, map, refl, sym, ap, ap₂, ◌∙◌, arith, eqb-true, append_assoc, append-nil, if◌then◌else◌, decimal, codes, Option, Some, None, ◌⊎◌, inl, inr, ◌%◌}
 use Rattle.std.proofs.lemmas.Bool.{and_parts}
 use Rattle.std.proofs.lemmas.Bool.Decides.{nat_tests}
 use Rattle.miette_text.specs.Sequences.{Token, Character, Sequence, tokens, spell, erase, is_line_feed, is_escape, is_bell, is_parameter}
@@ -8,8 +8,8 @@ use Rattle.miette_text.specs.Styles.{plain}
 use Rattle.miette_text.specs.declared.style.Color.{Color}
 use Rattle.miette_text.specs.declared.style.Color.TheVariants.{Red, Green, Yellow, Blue, Magenta, Cyan, Rgb}
 use Rattle.miette_text.specs.declared.style.Style.{Style}
-use Rattle.miette_text.specs.Runs.{foreground, foreground_codes, flag, style_codes, separated, colour_start, colour_stop, Run, Styled, LinkTo, LinkEnd, printed_run, link_start, printed, print, IsColor, IsStyle, HaveNoEscape, plain_run, HasNoEscape, behind_separators}
-use Rattle.std.proofs.lemmas.Fmt.{decimal_by_steps}
+use Rattle.miette_text.specs.Runs.{foreground, foreground_codes, flag, style_codes, separated, colour_start, colour_stop, Run, Styled, LinkTo, LinkEnd, printed_run, link_start, printed, print, HaveNoEscape, plain_run, HasNoEscape, behind_separators}
+use Rattle.std.specs.Fmt.{digit_glyph, digits, digits_onto}
 use Rattle.miette_text.proofs.Parsing.{tokens-spell, erase-spell}
 use Rattle.miette_text.proofs.Closed.{run-append}
 use Rattle.miette_text.proofs.Erasing.{append-tame, erase-append}
@@ -150,24 +150,38 @@ parameters_end : (x : List ℕ) → parameters x ≡ true → is_colour_end (x +
 parameters_end [] h = refl
 parameters_end (c ∷ x) h = grind (arith, nat_tests, parameter_end c, parameters_end x)
 
-decimal_parameters : (n : ℕ) → n < 2 ^ 64 → parameters (decimal n) ≡ true
-decimal_parameters = decimal_by_steps (λ n ds. parameters ds ≡ true) (λ n h. grind (arith, nat_tests)) (λ n ds h e. parameters-append ds ((48 + n % 10) ∷ []) e (let k : n % 10 < 10 = omega arith in grind (arith, nat_tests, k)))
+-- a digit
+digit_parameter : (d : ℕ) → d < 10 → is_parameter (digit_glyph false d) ≡ true
+digit_parameter d h = grind (arith, nat_tests)
 
-foreground_parameters : (c : Color) → IsColor c → parameters (foreground c) ≡ true
-foreground_parameters Red h = refl
-foreground_parameters Green h = refl
-foreground_parameters Yellow h = refl
-foreground_parameters Blue h = refl
-foreground_parameters Magenta h = refl
-foreground_parameters Cyan h = refl
-foreground_parameters (Rgb r g b) h =
+digits_parameters : (k n : ℕ) (acc : List ℕ) → parameters acc ≡ true → parameters (digits_onto k 10 false n acc) ≡ true
+digits_parameters zero n acc h = h
+digits_parameters (suc k) n acc h =
+    let first : parameters (digit_glyph false (n % 10) ∷ acc) ≡ true = ap₂ (λ a b. a && b) (digit_parameter (n % 10) (omega arith)) h in
+    elim (n / 10 == 0) as (λ b. parameters (if b then digit_glyph false (n % 10) ∷ acc else digits_onto k 10 false (n / 10) (digit_glyph false (n % 10) ∷ acc)) ≡ true) [
+      | true ↦ first
+      | false ↦ digits_parameters k (n / 10) (digit_glyph false (n % 10) ∷ acc) first
+    ]
+
+decimal_parameters : (n : ℕ) → parameters (decimal n) ≡ true
+unfolding digits
+decimal_parameters n = digits_parameters 64 n [] refl
+
+foreground_parameters : (c : Color) → parameters (foreground c) ≡ true
+foreground_parameters Red = refl
+foreground_parameters Green = refl
+foreground_parameters Yellow = refl
+foreground_parameters Blue = refl
+foreground_parameters Magenta = refl
+foreground_parameters Cyan = refl
+foreground_parameters (Rgb r g b) =
     parameters-append (codes "38;2;" ++ decimal r ++ codes ";" ++ decimal g ++ codes ";") (decimal b)
     (parameters-append (codes "38;2;" ++ decimal r ++ codes ";" ++ decimal g) (codes ";")
     (parameters-append (codes "38;2;" ++ decimal r ++ codes ";") (decimal g)
-    (parameters-append (codes "38;2;" ++ decimal r) (codes ";") (parameters-append (codes "38;2;") (decimal r) refl (decimal_parameters r (omega arith))) refl)
-    (decimal_parameters g (omega arith)))
+    (parameters-append (codes "38;2;" ++ decimal r) (codes ";") (parameters-append (codes "38;2;") (decimal r) refl (decimal_parameters r)) refl)
+    (decimal_parameters g))
     refl)
-    (decimal_parameters b (omega arith))
+    (decimal_parameters b)
 
 abbrev each_parameters : List (List ℕ) → Bool
 each_parameters [] = true
@@ -193,22 +207,22 @@ flag-each : (b : Bool) (x : List ℕ) → parameters x ≡ true → each_paramet
 flag-each true x h = ap (λ v. v && true) h
 flag-each false x h = refl
 
-foreground-each : (c : Option Color) → IfSome c IsColor → each_parameters (foreground_codes c) ≡ true
-foreground-each None h = refl
-foreground-each (Some c) h = ap (λ v. v && true) (foreground_parameters c h)
+foreground-each : (c : Option Color) → each_parameters (foreground_codes c) ≡ true
+foreground-each None = refl
+foreground-each (Some c) = ap (λ v. v && true) (foreground_parameters c)
 
-style_parameters : (s : Style) → IsStyle s → each_parameters (style_codes s) ≡ true
-style_parameters s h =
+style_parameters : (s : Style) → each_parameters (style_codes s) ≡ true
+style_parameters s =
     each-append (foreground_codes s.fg ++ flag s.bold (codes "1") ++ flag s.dimmed (codes "2") ++ flag s.italic (codes "3")) (flag s.underline (codes "4"))
     (each-append (foreground_codes s.fg ++ flag s.bold (codes "1") ++ flag s.dimmed (codes "2")) (flag s.italic (codes "3"))
     (each-append (foreground_codes s.fg ++ flag s.bold (codes "1")) (flag s.dimmed (codes "2"))
-    (each-append (foreground_codes s.fg) (flag s.bold (codes "1")) (foreground-each s.fg h) (flag-each s.bold (codes "1") refl))
+    (each-append (foreground_codes s.fg) (flag s.bold (codes "1")) (foreground-each s.fg) (flag-each s.bold (codes "1") refl))
     (flag-each s.dimmed (codes "2") refl))
     (flag-each s.italic (codes "3") refl))
     (flag-each s.underline (codes "4") refl)
 
-start_colour : (s : Style) → IsStyle s → is_colour (colour_start s) ≡ true
-start_colour s h = parameters_end (separated (style_codes s)) (separated_parameters (style_codes s) (style_parameters s h))
+start_colour : (s : Style) → is_colour (colour_start s) ≡ true
+start_colour s = parameters_end (separated (style_codes s)) (separated_parameters (style_codes s) (style_parameters s))
 
 colour-run : (q : List ℕ) (ts : List Token) → is_colour q ≡ true → state_behind Free (Sequence q ∷ ts) ≡ state_behind Free ts
 colour-run q ts h = ap (λ (b : Bool). state_behind (if b || is_link q then Free else Broken) ts) h
@@ -224,40 +238,40 @@ colour-erase q h = spelled-erase q (Sequence q ∷ []) (colour-run q [] h) (appe
 
 -- ---- runs
 
-coloured-tame : (s : Style) (text : List ℕ) → IsStyle s → no_escape text ≡ true → IsTame (colour_start s ++ text ++ colour_stop)
-coloured-tame s text h k = append-tame (colour_start s ++ text) colour_stop (append-tame (colour_start s) text (colour-tame (colour_start s) (start_colour s h)) (plain-tame text k)) (colour-tame colour_stop refl)
+coloured-tame : (s : Style) (text : List ℕ) → no_escape text ≡ true → IsTame (colour_start s ++ text ++ colour_stop)
+coloured-tame s text k = append-tame (colour_start s ++ text) colour_stop (append-tame (colour_start s) text (colour-tame (colour_start s) (start_colour s)) (plain-tame text k)) (colour-tame colour_stop refl)
 
-coloured-erase : (s : Style) (text : List ℕ) → IsStyle s → no_escape text ≡ true → erase (colour_start s ++ text ++ colour_stop) ≡ text
-coloured-erase s text h k =
-    erase-append (colour_start s ++ text) colour_stop (append-tame (colour_start s) text (colour-tame (colour_start s) (start_colour s h)) (plain-tame text k)) (colour-tame colour_stop refl)
-    ∙ ap₂ (λ x y. x ++ y) (erase-append (colour_start s) text (colour-tame (colour_start s) (start_colour s h)) (plain-tame text k) ∙ ap₂ (λ x y. x ++ y) (colour-erase (colour_start s) (start_colour s h)) (plain-erase text k)) (colour-erase colour_stop refl)
+coloured-erase : (s : Style) (text : List ℕ) → no_escape text ≡ true → erase (colour_start s ++ text ++ colour_stop) ≡ text
+coloured-erase s text k =
+    erase-append (colour_start s ++ text) colour_stop (append-tame (colour_start s) text (colour-tame (colour_start s) (start_colour s)) (plain-tame text k)) (colour-tame colour_stop refl)
+    ∙ ap₂ (λ x y. x ++ y) (erase-append (colour_start s) text (colour-tame (colour_start s) (start_colour s)) (plain-tame text k) ∙ ap₂ (λ x y. x ++ y) (colour-erase (colour_start s) (start_colour s)) (plain-erase text k)) (colour-erase colour_stop refl)
     ∙ append-nil text
 
-styled-tame : (s : Style) (text : List ℕ) → IsStyle s → no_escape text ≡ true → IsTame (printed_run s text)
-styled-tame s [] h k = refl
-styled-tame s (c ∷ cs) h k = elim (style_codes s) as (λ xs. IsTame (elim xs as (λ _. List ℕ) [ [] ↦ c ∷ cs | y ∷ ys ↦ colour_start s ++ (c ∷ cs) ++ colour_stop ])) [
+styled-tame : (s : Style) (text : List ℕ) → no_escape text ≡ true → IsTame (printed_run s text)
+styled-tame s [] k = refl
+styled-tame s (c ∷ cs) k = elim (style_codes s) as (λ xs. IsTame (elim xs as (λ _. List ℕ) [ [] ↦ c ∷ cs | y ∷ ys ↦ colour_start s ++ (c ∷ cs) ++ colour_stop ])) [
   | [] ↦ plain-tame (c ∷ cs) k
-  | y ∷ ys ↦ coloured-tame s (c ∷ cs) h k
+  | y ∷ ys ↦ coloured-tame s (c ∷ cs) k
 ]
 
 plain-printed : (text : List ℕ) → printed_run plain text ≡ text
 plain-printed [] = refl
 plain-printed (c ∷ cs) = refl
 
-styled-erase : (s : Style) (text : List ℕ) → IsStyle s → no_escape text ≡ true → erase (printed_run s text) ≡ printed_run plain text
-styled-erase s [] h k = refl
-styled-erase s (c ∷ cs) h k = elim (style_codes s) as (λ xs. erase (elim xs as (λ _. List ℕ) [ [] ↦ c ∷ cs | y ∷ ys ↦ colour_start s ++ (c ∷ cs) ++ colour_stop ]) ≡ c ∷ cs) [
+styled-erase : (s : Style) (text : List ℕ) → no_escape text ≡ true → erase (printed_run s text) ≡ printed_run plain text
+styled-erase s [] k = refl
+styled-erase s (c ∷ cs) k = elim (style_codes s) as (λ xs. erase (elim xs as (λ _. List ℕ) [ [] ↦ c ∷ cs | y ∷ ys ↦ colour_start s ++ (c ∷ cs) ++ colour_stop ]) ≡ c ∷ cs) [
   | [] ↦ plain-erase (c ∷ cs) k
-  | y ∷ ys ↦ coloured-erase s (c ∷ cs) h k
+  | y ∷ ys ↦ coloured-erase s (c ∷ cs) k
 ]
 
 pub run-tame : (s : Run) → HasNoEscape s → IsTame (printed s)
-run-tame (Styled s text) h = styled-tame s text h.1 h.0
+run-tame (Styled s text) h = styled-tame s text h
 run-tame (LinkTo url) h = link-tame url h
 run-tame LinkEnd h = link-tame [] refl
 
 pub run-erase : (s : Run) → HasNoEscape s → erase (printed s) ≡ printed (plain_run s)
-run-erase (Styled s text) h = styled-erase s text h.1 h.0
+run-erase (Styled s text) h = styled-erase s text h
 run-erase (LinkTo url) h = link-erase url h
 run-erase LinkEnd h = link-erase [] refl
 

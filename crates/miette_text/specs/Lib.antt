@@ -7,6 +7,7 @@ pub mod PieceViews
 pub mod Printing
 pub mod Runs
 pub mod Sequences
+pub mod Sinks
 pub mod Styles
 pub mod Tame
 pub mod Views

@@ -1,5 +1,5 @@
 -- What a row prints: texts in styles, and links.
-use Rattle.std.specs.Prelude.{◌≡◌, ℕ, Bool, true, false, if◌then◌else◌, List, [], ◌∷◌, ◌++◌, decimal, codes, Option, Some, None, ◌<◌, IfSome}
+use Rattle.std.specs.Prelude.{◌≡◌, ℕ, Bool, true, if◌then◌else◌, List, [], ◌∷◌, ◌++◌, decimal, codes, Option, Some, None}
 use Rattle.miette_text.specs.Styles.{plain}
 use Rattle.miette_text.specs.Tame.{no_escape}
 use Rattle.miette_text.specs.declared.style.Color.{Color}
@@ -73,22 +73,9 @@ plain_run (Styled s text) = Styled plain text
 plain_run (LinkTo url) = LinkTo url
 plain_run LinkEnd = LinkEnd
 
--- its numbers are bytes
-abbrev pub IsColor : Color → Type 0
-IsColor (Rgb r g b) = (r < 256) × (g < 256) × (b < 256)
-IsColor Red = Unit {0}
-IsColor Green = Unit {0}
-IsColor Yellow = Unit {0}
-IsColor Blue = Unit {0}
-IsColor Magenta = Unit {0}
-IsColor Cyan = Unit {0}
-
-abbrev pub IsStyle : Style → Type 0
-IsStyle s = IfSome s.fg IsColor
-
 -- texts and urls that hold no escape
 abbrev pub HasNoEscape : Run → Type 0
-HasNoEscape (Styled s text) = (no_escape text ≡ true) × IsStyle s
+HasNoEscape (Styled s text) = no_escape text ≡ true
 HasNoEscape (LinkTo url) = no_escape url ≡ true
 HasNoEscape LinkEnd = Unit {0}
 

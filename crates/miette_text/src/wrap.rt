@@ -1,31 +1,30 @@
 //! Text, wrapped under indents.
 
-ghost use Rattle.std.specs.Prelude.{◌≡◌, ◌++◌, IfOk, OnErr, OnOk, chars, encode_utf8_all, false, min, string_bytes, true};
-ghost use Rattle.miette_text.specs.Filling.{AppendsErasing, AreColoured, cuts_hyphens, layout_of, layout_with, lines_from};
-ghost use Rattle.miette_text.specs.PieceViews.{view_pieces};
-ghost use Rattle.miette_text.specs.Printing.{view_lines};
+ghost use Rattle.std.specs.Prelude.{◌≡◌, ◌++◌, IfOk, OnErr, OnOk, chars, encode_utf8_all, string_bytes, true};
+ghost use Rattle.miette_text.specs.Filling.{AppendsErasing, AreColoured, cuts_hyphens, layout_of, layout_with};
 ghost use Rattle.miette_text.specs.Sequences.{erase, spell, tokens};
 ghost use Rattle.miette_text.specs.Tame.{colourless};
-ghost use Rattle.miette_text.specs.Views.{view_tokens};
 ghost use Rattle.miette_text.specs.Wrapping.{columns_of, filled, wrapped};
 
 pub mod cutting;
+mod ends;
 pub mod laws;
+mod lines;
 mod parts;
 mod pieces;
 mod rows;
 mod sequences;
+mod sink;
 mod whole;
 mod words;
 
-use crate::wrap::parts::split_words;
-use crate::wrap::pieces::{Piece, pieces};
-use crate::wrap::rows::{join, lines, rows};
-use crate::wrap::sequences::{Token, sequences, tokens};
+use crate::wrap::ends::Cuts;
+use crate::wrap::lines::{Under, push_filled};
+use crate::wrap::sequences::{sequence_at, stays_open};
+use crate::wrap::sink::Sink;
 use crate::wrap::whole::whole_codes;
-use crate::wrap::words::sum;
+use crate::wrap::words::{char_columns, sum};
 use std::alloc::{AllocError, Global};
-use unicode_width::UnicodeWidthChar;
 
 /// How words are told apart.
 #[derive(Clone, Copy, Debug, PartialEq, Eq)]
@@ -52,63 +51,80 @@ pub struct WrapOptions<'a> {
     pub splitter: WordSplitter,
 }
 
-fn indent_columns(tokens: &[Token]) -> Result<usize, AllocError>
-    ensures { IfOk result (λ n. n ≡ columns_of (view_tokens tokens.now)) }
+// How a text is to be wrapped: the indents, and how words are cut.
+#[derive(Clone, Copy)]
+struct Plan<'a> {
+    wraps: bool,
+    hyphens: bool,
+    breaks: bool,
+    width: usize,
+    first: &'a [char],
+    further: &'a [char],
+}
+
+fn codes_columns(codes: &[char]) -> Result<usize, AllocError>
+    ensures { IfOk result (λ n. n ≡ columns_of (tokens codes.now)) }
 {
     let mut total = 0;
-    for token in tokens {
-        if let Token::Character(c) = token {
-            total = sum(total, c.width().unwrap_or(0))?;
+    let mut i: usize = 0;
+    let mut unfinished = false;
+    'rest: while i < codes.len() {
+        let len = sequence_at(codes, i, unfinished);
+        if len == 0 {
+            total = sum(total, char_columns(codes[i]))?;
+            unfinished = stays_open(codes, i, unfinished);
+            i += 1;
+        } else {
+            i += len;
         }
     }
     Ok(total)
 }
 
-// The lines of all pieces.
-fn text_lines(
+fn push_filled_under<S: Sink>(
     alloc: Global,
-    hyphens: bool,
-    breaks: bool,
-    first: usize,
-    further: usize,
-    pieces: &[Piece<'_>],
-) -> Result<Vec<Vec<char>>, AllocError>
-    ensures { IfOk result (λ v. view_lines v.items ≡ lines_from hyphens breaks (min first further) first further (view_pieces pieces.now)) }
+    out: &mut S,
+    plan: Plan<'_>,
+    codes: &[char],
+) -> Result<(), AllocError>
+    ensures { OnOk result (S.holds out.new ≡ S.holds out.old ++ S.spells (spell (filled (layout_with true plan.entry.hyphens plan.entry.breaks plan.entry.width plan.entry.first.now plan.entry.further.now) (tokens codes.now)))) }
 {
-    let narrow = first.min(further);
-    let mut found = Vec::new(alloc);
-    let mut room = first;
-    for piece in pieces {
-        let split = split_words(alloc, hyphens, breaks, narrow, &piece.cells)?;
-        let filled = rows(alloc, room, further, &piece.cells, &split)?;
-        let mut more = lines(alloc, &filled, piece.rest)?;
-        found.append(&mut more)?;
-        room = further;
-    }
-    Ok(found)
+    let first_columns = codes_columns(plan.first)?;
+    let further_columns = codes_columns(plan.further)?;
+    let room = plan.width.saturating_sub(first_columns);
+    let further_room = plan.width.saturating_sub(further_columns);
+    let narrow = room.min(further_room);
+    let cuts = Cuts {
+        hyphens: plan.hyphens,
+        breaks: plan.breaks,
+        narrow,
+    };
+    let under = Under {
+        room,
+        further: plan.further,
+        further_room,
+    };
+    out.push_codes(plan.first)?;
+    push_filled(alloc, out, cuts, under, codes)?;
+    Ok(())
 }
 
-fn filled_codes(
+fn push_wrapped<S: Sink>(
     alloc: Global,
-    hyphens: bool,
-    breaks: bool,
-    width: usize,
-    first: &[char],
-    further: &[char],
+    out: &mut S,
+    plan: Plan<'_>,
     codes: &[char],
-) -> Result<Vec<char>, AllocError>
-    ensures { IfOk result (λ v. v.items ≡ spell (filled (layout_with true hyphens breaks width first.now further.now) (tokens codes.now))) }
+) -> Result<(), AllocError>
+    ensures { OnOk result (S.holds out.new ≡ S.holds out.old ++ S.spells (wrapped (layout_with plan.entry.wraps plan.entry.hyphens plan.entry.breaks plan.entry.width plan.entry.first.now plan.entry.further.now) codes.now)) }
 {
-    let first_columns = indent_columns(&tokens(alloc, first)?)?;
-    let further_columns = indent_columns(&tokens(alloc, further)?)?;
-    let marks = sequences(alloc, codes)?;
-    let found = pieces(alloc, codes, &marks)?;
-    let first_room = width.saturating_sub(first_columns);
-    let further_room = width.saturating_sub(further_columns);
-    let made = text_lines(alloc, hyphens, breaks, first_room, further_room, &found)?;
-    let mut out = Vec::new(alloc);
-    join(&mut out, first, further, &made)?;
-    Ok(out)
+    if plan.wraps {
+        push_filled_under(alloc, out, plan, codes)?;
+        Ok(())
+    } else {
+        let whole = whole_codes(alloc, plan.first, plan.further, codes)?;
+        out.push_codes(&whole)?;
+        Ok(())
+    }
 }
 
 /// The codes of a text, wrapped.
@@ -124,46 +140,56 @@ pub fn wrap_all(
 ) -> Result<Vec<char>, AllocError>
     ensures { IfOk result (λ v. v.items ≡ wrapped (layout_with wraps hyphens breaks width first.now further.now) codes.now) }
 {
-    if wraps {
-        filled_codes(alloc, hyphens, breaks, width, first, further, codes)
-    } else {
-        whole_codes(alloc, first, further, codes)
-    }
+    let plan = Plan {
+        wraps,
+        hyphens,
+        breaks,
+        width,
+        first,
+        further,
+    };
+    let mut out = Vec::with_capacity(alloc, codes.len())?;
+    push_wrapped(alloc, &mut out, plan, codes)?;
+    Ok(out)
 }
 
 /// How many columns a text has.
-pub fn columns_of(alloc: Global, codes: &[char]) -> Result<usize, AllocError>
+pub fn columns_of(_alloc: Global, codes: &[char]) -> Result<usize, AllocError>
     ensures { IfOk result (λ n. n ≡ columns_of (tokens codes.now)) }
 {
-    indent_columns(&tokens(alloc, codes)?)
+    codes_columns(codes)
 }
 
-fn wrap_codes(
+fn cuts_hyphens(splitter: WordSplitter) -> bool
+    ensures { result ≡ cuts_hyphens splitter }
+{
+    match splitter {
+        WordSplitter::NoHyphenation => false,
+        WordSplitter::HyphenSplitter => true,
+    }
+}
+
+fn wrapped_text(
     alloc: Global,
     options: &WrapOptions<'_>,
     first: &[char],
     further: &[char],
     codes: &[char],
-) -> Result<Vec<char>, AllocError>
-    ensures { IfOk result (λ v. v.items ≡ wrapped (layout_with options.now.wrap_lines (cuts_hyphens options.now.splitter) options.now.break_words options.now.width first.now further.now) codes.now) }
+) -> Result<String, AllocError>
+    ensures { IfOk result (λ s. string_bytes s ≡ encode_utf8_all (wrapped (layout_with options.now.wrap_lines (cuts_hyphens options.now.splitter) options.now.break_words options.now.width first.now further.now) codes.now)) }
 {
-    let hyphens = match options.splitter {
-        WordSplitter::NoHyphenation => false,
-        WordSplitter::HyphenSplitter => true,
+    let hyphens = cuts_hyphens(options.splitter);
+    let plan = Plan {
+        wraps: options.wrap_lines,
+        hyphens,
+        breaks: options.break_words,
+        width: options.width,
+        first,
+        further,
     };
-    if options.wrap_lines {
-        filled_codes(
-            alloc,
-            hyphens,
-            options.break_words,
-            options.width,
-            first,
-            further,
-            codes,
-        )
-    } else {
-        whole_codes(alloc, first, further, codes)
-    }
+    let mut text = String::with_capacity(alloc, codes.len())?;
+    push_wrapped(alloc, &mut text, plan, codes)?;
+    Ok(text)
 }
 
 /// The bytes of codes.
@@ -194,7 +220,6 @@ pub fn fill(text: &str, options: &WrapOptions<'_>, out: &mut String) -> Result<(
     let codes = codes_of(alloc, text)?;
     let first = codes_of(alloc, options.first_indent)?;
     let further = codes_of(alloc, options.further_indent)?;
-    let made = wrap_codes(alloc, options, &first, &further, &codes)?;
-    let wrapped = encode(alloc, &made)?;
+    let wrapped = wrapped_text(alloc, options, &first, &further, &codes)?;
     out.push_str(wrapped.as_str())
 }

@@ -63,7 +63,13 @@ fn highlights_through_a_box(rt: HostRuntime) -> Result<(), Fail> {
     let pieces = boxed.highlight_line(alloc, "äb")?;
     let red = Style::new().color(Color::Red);
     assert_eq!(rt; pieces.as_slice(), [(2, red), (1, Style::new())].as_slice());
+    Ok(())
+}
 
+#[test]
+fn a_blank_one_gives_one_plain_piece(rt: HostRuntime) -> Result<(), Fail> {
+    let alloc = rt.alloc();
+    let lines = ["äb", "cd", ""];
     let mut blank = BlankHighlighter::default();
     assert_eq!(rt; pieces_of(alloc, &mut blank, lines)?, [1, 1, 1]);
     let mut boxed: Box<dyn Highlighter> = Box::new(alloc, BlankHighlighter)?;

@@ -73,46 +73,70 @@ fn foreground(style: Style) -> (u8, u8, u8) {
 }
 
 #[test]
-fn styles_are_those_of_the_table(rt: HostRuntime) -> Result<(), Fail> {
-    let alloc = rt.alloc();
-    let rgb = ThemeStyles::rgb(alloc)?;
-    assert_eq!(rt; foreground(rgb.error), (255, 30, 30));
-    assert_eq!(rt; foreground(rgb.warning), (244, 191, 117));
-    assert_eq!(rt; foreground(rgb.advice), (106, 159, 181));
-    assert_eq!(rt; foreground(rgb.help), (106, 159, 181));
-    assert_eq!(rt; foreground(rgb.link), (92, 157, 255));
-    assert!(rt; rgb.link.bold && rgb.link.underline && !rgb.link.dimmed && !rgb.link.italic);
-    assert_eq!(rt; rgb.linum, Style::new().dimmed());
-    assert_eq!(rt; rgb.highlights.len(), 3);
-    for (style, wanted) in rgb
-        .highlights
-        .iter()
-        .zip([(246, 87, 248), (30, 201, 212), (145, 246, 111)])
-    {
-        assert_eq!(rt; foreground(*style), wanted);
-        assert!(rt; !style.bold);
+fn rgb_styles_are_those_of_the_table(rt: HostRuntime) -> Result<(), Fail> {
+    let rgb = ThemeStyles::rgb(rt.alloc())?;
+    let rows = [
+        (rgb.error, (255, 30, 30)),
+        (rgb.warning, (244, 191, 117)),
+        (rgb.advice, (106, 159, 181)),
+        (rgb.help, (106, 159, 181)),
+        (rgb.link, (92, 157, 255)),
+    ];
+    for (style, wanted) in rows {
+        assert_eq!(rt; foreground(style), wanted);
     }
+    let link = rgb.link;
+    assert!(rt; link.bold && link.underline && !link.dimmed && !link.italic);
+    assert_eq!(rt; rgb.linum, Style::new().dimmed());
+    Ok(())
+}
 
-    let ansi = ThemeStyles::ansi(alloc)?;
-    assert_eq!(rt; ansi.error, Style::new().color(Color::Red));
-    assert_eq!(rt; ansi.warning, Style::new().color(Color::Yellow));
-    assert_eq!(rt; ansi.advice, Style::new().color(Color::Cyan));
-    assert_eq!(rt; ansi.help, Style::new().color(Color::Cyan));
-    assert_eq!(rt;
-        ansi.link,
-        Style::new().color(Color::Cyan).bold().underline()
-    );
-    assert_eq!(rt; ansi.linum, Style::new().dimmed());
-    assert_eq!(rt; ansi.highlights.len(), 3);
-    for (style, colour) in ansi
-        .highlights
-        .iter()
-        .zip([Color::Magenta, Color::Yellow, Color::Green])
-    {
+#[test]
+fn rgb_highlights_are_those_of_the_table(rt: HostRuntime) -> Result<(), Fail> {
+    let rgb = ThemeStyles::rgb(rt.alloc())?;
+    let found = rgb.highlights.as_slice();
+    assert_eq!(rt; found.len(), 3);
+    let wanted = [(246, 87, 248), (30, 201, 212), (145, 246, 111)];
+    for (style, wanted) in found.iter().zip(wanted) {
+        assert_eq!(rt; (foreground(*style), style.bold), (wanted, false));
+    }
+    Ok(())
+}
+
+#[test]
+fn ansi_styles_are_those_of_the_table(rt: HostRuntime) -> Result<(), Fail> {
+    let ansi = ThemeStyles::ansi(rt.alloc())?;
+    let plain = Style::new();
+    let cyan = plain.color(Color::Cyan);
+    let rows = [
+        (ansi.error, plain.color(Color::Red)),
+        (ansi.warning, plain.color(Color::Yellow)),
+        (ansi.advice, cyan),
+        (ansi.help, cyan),
+        (ansi.link, cyan.bold().underline()),
+        (ansi.linum, plain.dimmed()),
+    ];
+    for (style, wanted) in rows {
+        assert_eq!(rt; style, wanted);
+    }
+    Ok(())
+}
+
+#[test]
+fn ansi_highlights_are_those_of_the_table(rt: HostRuntime) -> Result<(), Fail> {
+    let ansi = ThemeStyles::ansi(rt.alloc())?;
+    let found = ansi.highlights.as_slice();
+    assert_eq!(rt; found.len(), 3);
+    let wanted = [Color::Magenta, Color::Yellow, Color::Green];
+    for (style, colour) in found.iter().zip(wanted) {
         assert_eq!(rt; *style, Style::new().color(colour).bold());
     }
+    Ok(())
+}
 
-    let none = ThemeStyles::none(alloc)?;
+#[test]
+fn no_styles_are_plain(rt: HostRuntime) -> Result<(), Fail> {
+    let none = ThemeStyles::none(rt.alloc())?;
     for style in [
         none.error,
         none.warning,

@@ -23,34 +23,29 @@ fn filled(rt: &HostRuntime, text: &str, width: usize, hyphens: bool) -> Result<S
 
 #[test]
 fn hyphens(rt: HostRuntime) -> Result<(), Fail> {
-    assert_eq!(rt; filled(&rt, "ab-cd ef", 5, true)?.as_str(), "ab-cd\nef");
-    assert_eq!(rt; filled(&rt, "ab-cd ef", 4, true)?.as_str(), "ab-\ncd\nef");
-    assert_eq!(rt; filled(&rt, "ab-cd ef", 4, false)?.as_str(), "ab-c\nd ef");
+    let rows = [
+        (5, true, "ab-cd\nef"),
+        (4, true, "ab-\ncd\nef"),
+        (4, false, "ab-c\nd ef"),
+    ];
+    for (width, hyphens, wanted) in rows {
+        assert_eq!(rt; filled(&rt, "ab-cd ef", width, hyphens)?.as_str(), wanted);
+    }
     Ok(())
 }
 
 #[test]
 fn sequences(rt: HostRuntime) -> Result<(), Fail> {
-    assert_eq!(rt;
-        filled(&rt, "aa \u{1B}[31m bb", 3, true)?.as_str(),
-        "aa\u{1B}[31m\nbb"
-    );
-    assert_eq!(rt;
-        filled(&rt, "\u{1B}[31mred \u{1B}[0mx", 4, true)?.as_str(),
-        "\u{1B}[31mred\n\u{1B}[0mx"
-    );
-    assert_eq!(rt;
-        filled(&rt, "a-\u{1B}[31mb\u{1B}[0m", 2, true)?.as_str(),
-        "a-\n\u{1B}[31mb\u{1B}[0m"
-    );
-    assert_eq!(rt;
-        filled(&rt, "\u{1B}[31mab \u{1B}[0m", 5, true)?.as_str(),
-        "\u{1B}[31mab\u{1B}[0m"
-    );
-    assert_eq!(rt;
-        filled(&rt, "\u{1B}[31mabcd\u{1B}[0m", 2, true)?.as_str(),
-        "\u{1B}[31mab\ncd\u{1B}[0m"
-    );
+    let rows = [
+        ("aa \u{1B}[31m bb", 3, "aa\u{1B}[31m\nbb"),
+        ("\u{1B}[31mred \u{1B}[0mx", 4, "\u{1B}[31mred\n\u{1B}[0mx"),
+        ("a-\u{1B}[31mb\u{1B}[0m", 2, "a-\n\u{1B}[31mb\u{1B}[0m"),
+        ("\u{1B}[31mab \u{1B}[0m", 5, "\u{1B}[31mab\u{1B}[0m"),
+        ("\u{1B}[31mabcd\u{1B}[0m", 2, "\u{1B}[31mab\ncd\u{1B}[0m"),
+    ];
+    for (text, width, wanted) in rows {
+        assert_eq!(rt; filled(&rt, text, width, true)?.as_str(), wanted);
+    }
     Ok(())
 }
 

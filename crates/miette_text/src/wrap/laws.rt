@@ -1,7 +1,7 @@
 //! Laws of the definitions: deleting colours commutes with wrapping, with joining, with cutting line feeds and
 //! with what runs print.
 
-ghost use Rattle.std.specs.Prelude.{◌≡◌, ℕ, List, ◌++◌, map};
+ghost use Rattle.std.specs.Prelude.{◌≡◌, ℕ, List, ◌++◌, map, encode_utf8_all};
 ghost use Rattle.miette_text.specs.Cutting.{without_leading, without_trailing};
 ghost use Rattle.miette_text.specs.Runs.{HaveNoEscape, Run, plain_run, print};
 ghost use Rattle.miette_text.specs.Sequences.{erase, tokens};
@@ -33,6 +33,11 @@ pub fn cutting_law()
 pub fn printing_law()
     ensures tame { (runs : List Run) → HaveNoEscape runs → IsTame (print runs) }
     ensures erase { (runs : List Run) → HaveNoEscape runs → erase (print runs) ≡ print (map plain_run runs) }
+{}
+
+/// Colours can be deleted from a text's bytes as from its characters.
+pub fn encoding_law()
+    ensures { (text : List ℕ) → erase (encode_utf8_all text) ≡ encode_utf8_all (erase text) }
 {}
 
 /// Colours have no columns.

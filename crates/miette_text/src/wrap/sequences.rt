@@ -132,10 +132,12 @@ pub fn tokens(alloc: Global, codes: &[char]) -> Result<Vec<Token>, AllocError>
 {
     let mut found = Vec::new(alloc);
     let mut i: usize = 0;
+    let mut unfinished = false;
     while i < codes.len() {
-        let len = sequence_len(&codes[i..]);
+        let len = sequence_at(codes, i, unfinished);
         if len == 0 {
             found.push(Token::Character(codes[i]))?;
+            unfinished = stays_open(codes, i, unfinished);
             i += 1;
         } else {
             found.push(Token::Sequence(Vec::from_slice(alloc, &codes[i..i + len])?))?;

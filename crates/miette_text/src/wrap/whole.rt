@@ -1,9 +1,9 @@
 //! Text under indents, not wrapped.
 
-ghost use Rattle.std.specs.Prelude.{◌≡◌, ◌++◌, ◌∷◌, [], IfOk, OnOk, if◌then◌else◌};
+ghost use Rattle.std.specs.Prelude.{◌≡◌, ◌++◌, ◌∷◌, [], ℕ, IfOk, OnOk, drop, if◌then◌else◌, nat_le};
 ghost use Rattle.miette_text.specs.PieceViews.{view_cells, view_pieces};
 ghost use Rattle.miette_text.specs.Sequences.{spell, tokens};
-ghost use Rattle.miette_text.specs.Views.{view_tokens};
+ghost use Rattle.miette_text.specs.Views.{view_token, view_tokens};
 ghost use Rattle.miette_text.specs.WholeText.{indent_text, piece_text, whole_text};
 ghost use Rattle.miette_text.specs.Wrapping.{all_white, only_spaces, pieces, trimmed, whole_pieces};
 
@@ -12,29 +12,49 @@ use crate::wrap::rows::{push_marks, push_piece};
 use crate::wrap::sequences::{Token, sequences, tokens};
 use std::alloc::{AllocError, Global};
 
-fn only_spaces(tokens: &[Token]) -> bool
-    ensures { result ≡ only_spaces (view_tokens tokens.now) }
+// Whether a token is a space, or no character.
+fn is_space(token: &Token) -> bool
+    ensures { result ≡ only_spaces (view_token token.now ∷ []) }
 {
-    for token in tokens {
-        if let Token::Character(c) = token {
-            if *c != ' ' {
-                return false;
-            }
-        }
+    match token {
+        Token::Sequence(_) => true,
+        Token::Character(c) => *c == ' ',
     }
-    true
+}
+
+// Where the spaces and sequences at the end begin.
+fn spaces_begin(tokens: &[Token]) -> usize
+    ensures { (k : ℕ) → only_spaces (view_tokens (drop k tokens.now)) ≡ nat_le result k }
+{
+    let mut n = tokens.len();
+    'rest: while 0 < n {
+        if !is_space(&tokens[n - 1]) {
+            return n;
+        }
+        n -= 1;
+    }
+    0
+}
+
+// Whether the tokens from an index on are dropped, where it is known from where on they are.
+fn is_behind(begin: usize, i: usize, tokens: &[Token]) -> bool
+    requires { only_spaces (view_tokens (drop i tokens.now)) ≡ nat_le begin i }
+    ensures { result ≡ only_spaces (view_tokens (drop i tokens.now)) }
+{
+    begin <= i
 }
 
 // An indent without its last spaces.
 fn trimmed(alloc: Global, tokens: &[Token]) -> Result<Vec<char>, AllocError>
     ensures { IfOk result (λ v. v.items ≡ spell (trimmed (view_tokens tokens.now))) }
 {
+    let end = spaces_begin(tokens);
     let mut found = Vec::new(alloc);
     for (i, token) in tokens.iter().enumerate() {
         match token {
             Token::Sequence(s) => found.extend_from_slice(s)?,
             Token::Character(c) => {
-                if *c != ' ' || !only_spaces(&tokens[i + 1..]) {
+                if *c != ' ' || !is_behind(end, i + 1, tokens) {
                     found.push(*c)?;
                 }
             }

@@ -19,8 +19,8 @@ returns c =
       print-erase = c.printing_law.ensures.erase;
       erase-columns = c.columns_law.ensures;
     } in record {
-      erase = λ rows s t a law h k i. (fades-report laws rows law s t a h k i).same;
-      tame = λ rows s t a law h k i. (fades-report laws rows law s t a h k i).tame;
-      alike = λ rows s u t a b law h j k i l e d.
-          (fades-report laws rows law s t a h k i).same ∙ ap₂ (λ v o. report_text rows v t o) e d ∙ sym (fades-report laws rows law u t b j k l).same;
+      erase = λ rows s t a law h k. (fades-report laws rows law s t a h k).same;
+      tame = λ rows s t a law h k. (fades-report laws rows law s t a h k).tame;
+      alike = λ rows s u t a b law h j k e d.
+          (fades-report laws rows law s t a h k).same ∙ ap₂ (λ v o. report_text rows v t o) e d ∙ sym (fades-report laws rows law u t b j k).same;
     }

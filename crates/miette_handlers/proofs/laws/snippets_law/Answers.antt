@@ -1,7 +1,7 @@
 use Rattle.std.proofs.Common.{List, [], ◌∷◌, Option, Some, None, IfSome, ap}
 use Rattle.std.specs.List.{AllByRecursion}
 use Rattle.miette_layout.specs.Contexts.{contents}
-use Rattle.miette_handlers.specs.Answers.{nothing_listed}
+use Rattle.miette_handlers.specs.Answers.{pieces_listed}
 use Rattle.miette_handlers.specs.Headline.{LinesAreShown, MarksAreApart, TextsHang, SnippetHangs, drawn_labels, groups_of, shown_lines}
 use Rattle.miette_handlers.specs.Parts.{list_of}
 use Rattle.miette_handlers.specs.Printed.{printed}
@@ -22,7 +22,7 @@ returns-clause-lines c = λ s t. each (LinesAreShown s) (λ p.
     let labels = list_of p.meaning.labels in
     if_some _ (λ source reads accepted context.
     let maximal = c.runs_are_maximal.ensures (shown_lines s source labels) in record {
-      rows = ap (λ rows. shown_rows rows) (c.snippets_draw_runs.ensures (layout_settings s) source labels nothing_listed context accepted none_listed);
+      rows = λ pieces. ap (λ rows. shown_rows rows) (c.snippets_draw_runs.ensures (layout_settings s) source labels (pieces_listed pieces) context accepted (none_listed pieces));
       groups = c.groups_are_runs.ensures s.context source [] labels context tt;
       whole = maximal.0;
       consecutive = maximal.1;
@@ -40,5 +40,5 @@ pub returns-clause-texts : goal.returns-clause-texts
 returns-clause-texts c = λ s t. each (TextsHang s) (λ p.
     let labels = list_of p.meaning.labels in
     if_some _ (λ source narrow. each (SnippetHangs s source labels)
-    (λ group few. c.texts_hang.ensures (layout_settings s) (drawn_labels s source labels) source.bytes (contents s.context source group) [] narrow few)
+    (λ group few pieces. c.texts_hang.ensures (layout_settings s) (drawn_labels s source labels) source.bytes (contents s.context source group) pieces narrow few)
     (groups_of s source labels)) p.source) (printed s t)

@@ -4,8 +4,8 @@ use Rattle.miette_tree.specs.Report.{tree_of}
 use Rattle.miette_handlers.proofs.Sizes.{tree_size, cause_size, trees_size}
 use Rattle.miette_handlers.proofs.report.+report.Given as goal
 
-abbrev pub decreases-causes_text : goal.decreases-causes_text
-decreases-causes_text g l = cause_size (cause_of (tree_of g.D.Diagnostic.meaning g.S.SourceCode.source l.report.now))
+abbrev pub decreases-push_causes : goal.decreases-push_causes
+decreases-push_causes g l = cause_size (cause_of (tree_of g.D.Diagnostic.meaning g.S.SourceCode.source l.report.now))
 
 abbrev pub decreases-inner_text : goal.decreases-inner_text
 decreases-inner_text g l = suc (trees_size (related_of (tree_of g.D.Diagnostic.meaning g.S.SourceCode.source l.report.now)))
@@ -16,8 +16,8 @@ decreases-sibling_text g l = tree_size (tree_of g.D.Diagnostic.meaning g.S.Sourc
 abbrev pub decreases-one_related : goal.decreases-one_related
 decreases-one_related g l = suc (tree_size (tree_of g.D.Diagnostic.meaning g.S.SourceCode.source l.report.now))
 
-abbrev pub decreases-related_text : goal.decreases-related_text
-decreases-related_text g l = trees_size (trees (map (tree_of g.D.Diagnostic.meaning g.S.SourceCode.source) l.reports.now))
+abbrev pub decreases-push_related : goal.decreases-push_related
+decreases-push_related g l = trees_size (trees (map (tree_of g.D.Diagnostic.meaning g.S.SourceCode.source) l.reports.now))
 
 abbrev pub decreases-one_cause : goal.decreases-one_cause
 decreases-one_cause g l = suc (suc (trees_size (related_of (tree_of g.D.Diagnostic.meaning g.S.SourceCode.source l.cause.now))))

@@ -1,6 +1,7 @@
 use Rattle.std.proofs.Common.{◌++◌, ap, ◌∙◌, subst}
 use Rattle.miette_tree.specs.Owned.{shown_source}
 use Rattle.miette_layout.specs.Drawn.{RefusesWith}
+use Rattle.miette_layout.specs.Highlighted.{leaves_plain}
 use Rattle.miette_handlers.specs.Snippets.{layout_settings}
 use Rattle.miette_handlers.specs.Printing.{page_text}
 use Rattle.miette_handlers.specs.Views.{settings_of}
@@ -9,10 +10,10 @@ use Rattle.miette_handlers.proofs.report.drawn.Goals as goal
 
 pub returns-in-Err-Refused-clause-refused : goal.returns-in-Err-Refused-clause-refused
 returns-in-Err-Refused-clause-refused g c = λ h.
-    refused_page (settings_of c.args.layout) (shown_source g.S.SourceCode.source c.args.source) c.args.labels.now
-    (subst (λ e. RefusesWith (layout_settings (settings_of c.args.layout)) (shown_source g.S.SourceCode.source c.args.source) c.args.labels.now e) c.in-Err-Refused.field-0-is c.in-Err-Refused.ensures)
+    refused_page (settings_of c.args.layout) (shown_source g.S.SourceCode.source c.args.source) c.args.labels.now (leaves_plain g.H.Highlighter.is_blank c.args.pen.now.highlighter)
+    (subst (λ e. RefusesWith (layout_settings (settings_of c.args.layout)) (shown_source g.S.SourceCode.source c.args.source) c.args.labels.now (leaves_plain g.H.Highlighter.is_blank c.args.pen.now.highlighter) e) c.in-Err-Refused.field-0-is c.in-Err-Refused.ensures.gives)
 
 pub returns-clause-ok : goal.returns-clause-ok
 returns-clause-ok g c =
-    drawn_page (settings_of c.args.layout) (shown_source g.S.SourceCode.source c.args.source) c.args.labels.now c.in-Ok.page c.push_page.new.out.items c.in-Ok.ensures
+    drawn_page (settings_of c.args.layout) (shown_source g.S.SourceCode.source c.args.source) c.args.labels.now (leaves_plain g.H.Highlighter.is_blank c.args.pen.now.highlighter) c.in-Ok.page c.push_page.new.out.items c.in-Ok.ensures.gives
     (c.in_ok-push_page.ensures ∙ ap (λ o. o ++ page_text c.in-Ok.page) c.new-text.ensures.items)

@@ -1,5 +1,7 @@
-use Rattle.std.proofs.Common.{◌≡◌, ◌++◌, ap, ◌∙◌, encode_utf8_all, string_bytes}
+use Rattle.std.proofs.Common.{◌≡◌, ◌++◌, refl, ap, ◌∙◌, subst, encode_utf8_all, string_bytes}
 use Rattle.miette_tree.specs.Report.{tree_of}
+use Rattle.miette_layout.specs.Highlighted.{leaves_plain}
+use Rattle.miette_handlers.specs.Answered.{IsReport}
 use Rattle.miette_handlers.specs.Answers.{unlisted}
 use Rattle.miette_handlers.specs.Snippets.{drawn_rows}
 use Rattle.miette_handlers.specs.Text.{report_text}
@@ -8,10 +10,32 @@ use Rattle.miette_handlers.proofs.Only.{same-report}
 use Rattle.miette_handlers.proofs.report.render.Goals as goal
 
 pub returns-clause-only : goal.returns-clause-only
-returns-clause-only g c = λ h.
+returns-clause-only g c = λ b h.
     let s = settings_of c.args.layout in
     let value = tree_of g.D.Diagnostic.meaning g.S.SourceCode.source c.args.report.now in
-    let answered = c.in_ok-codes.ensures.ok in
+    let answered = subst (λ k. IsReport drawn_rows s k value c.in_ok-codes.codes.items) b c.in_ok-codes.ensures.ok in
     let only : c.in_ok-codes.codes.items ≡ report_text drawn_rows s value unlisted = answered.2 ∙ same-report drawn_rows s value answered.0 answered.1 h in
     c.in_ok-push_str.ensures.bytes
     ∙ ap (λ t. string_bytes c.args.out.now ++ t) (c.as_str.ensures.value ∙ c.in_ok-text.ensures ∙ ap encode_utf8_all (c.deref.ensures.value ∙ only))
+
+pub returns-clause-colours : goal.returns-clause-colours
+returns-clause-colours g c = λ settings tree.
+    let blank = leaves_plain g.H.Highlighter.is_blank c.args.pen.now.highlighter in
+    let s = settings_of c.args.layout in
+    let value = tree_of g.D.Diagnostic.meaning g.S.SourceCode.source c.args.report.now in
+    let bytes = encode_utf8_all c.in_ok-codes.codes.items in record {
+      text = bytes;
+      is_given = c.erasing_law.ensures.text s blank value bytes settings tree (c.in_ok-codes.codes.items, c.in_ok-codes.ensures.ok, refl);
+      appended = c.in_ok-push_str.ensures.bytes ∙ ap (λ t. string_bytes c.args.out.now ++ t) (c.as_str.ensures.value ∙ c.in_ok-text.ensures ∙ ap encode_utf8_all c.deref.ensures.value);
+    }
+
+pub returns-clause-colourless : goal.returns-clause-colourless
+returns-clause-colourless g c = λ reads settings tree.
+    let blank = leaves_plain g.H.Highlighter.is_blank c.args.pen.now.highlighter in
+    let s = settings_of c.args.layout in
+    let value = tree_of g.D.Diagnostic.meaning g.S.SourceCode.source c.args.report.now in
+    let bytes = encode_utf8_all c.in_ok-codes.codes.items in (
+      bytes,
+      c.in_ok-push_str.ensures.bytes ∙ ap (λ t. string_bytes c.args.out.now ++ t) (c.as_str.ensures.value ∙ c.in_ok-text.ensures ∙ ap encode_utf8_all c.deref.ensures.value),
+      c.erasing_law.ensures.only s blank value bytes settings tree (c.in_ok-codes.codes.items, c.in_ok-codes.ensures.ok, refl) reads,
+    )

@@ -1,4 +1,5 @@
 use Rattle.std.proofs.Common.{sym, subst, option_map}
+use Rattle.miette_layout.specs.Highlighted.{leaves_plain}
 use Rattle.miette_tree.specs.Owned.{shown_source}
 use Rattle.miette_tree.specs.Report.{tree_of}
 use Rattle.miette_tree.specs.Tree.{head}
@@ -10,7 +11,8 @@ use Rattle.miette_handlers.proofs.report.snippet_rows.Goals as goal
 
 pub returns-in-None-clause-ok : goal.returns-in-None-clause-ok
 returns-in-None-clause-ok g c =
+    let blank = leaves_plain g.H.Highlighter.is_blank c.args.pen.now.highlighter in
     let s = settings_of c.args.layout in
     let m = head (tree_of g.D.Diagnostic.meaning g.S.SourceCode.source c.args.report.now) in
-    subst (λ o. IsDrawn drawn_rows s (option_map (shown_source g.S.SourceCode.source) o) m c.new.result.items) (sym c.in-None.is)
-    (drawn_nowhere s m c.new.result.items c.new.ensures.items)
+    subst (λ o. IsDrawn drawn_rows s blank (option_map (shown_source g.S.SourceCode.source) o) m c.new.result.items) (sym c.in-None.is)
+    (drawn_nowhere s blank m c.new.result.items c.new.ensures.items)

@@ -1,10 +1,13 @@
 use Rattle.miette_layout.specs.Given.{settings_of}
+use Rattle.std.proofs.Common.{◌≡◌}
+use Rattle.miette_layout.specs.Highlighted.{leaves_plain}
 use Rattle.miette_layout.specs.Sweeping.{IsAt}
 use Rattle.miette_layout.proofs.Progressing.{AreDrawn}
 use Rattle.miette_layout.proofs.snippets.read_snippets.Given as goal
 
 abbrev pub invariant-loop-group : goal.invariant-loop-group
 invariant-loop-group g l = record {
-  drawn : AreDrawn (settings_of l.fn.theme l.fn.options) (g.S.SourceCode.source l.fn.source) l.fn.labels l.group-items l.group-index l.page;
+  drawn : AreDrawn (settings_of l.fn.theme l.fn.options) (g.S.SourceCode.source l.fn.source) l.fn.labels (leaves_plain g.H.Highlighter.is_blank l.initial.highlighter) l.group-items l.group-index l.page;
   state : IsAt l.placed.items l.at l.sweep.next l.sweep.running.items;
+  stays : leaves_plain g.H.Highlighter.is_blank l.highlighter ≡ leaves_plain g.H.Highlighter.is_blank l.initial.highlighter;
 }

@@ -1,0 +1,343 @@
+//! What a user may ask of a handler, and the handler that comes of it.
+
+ghost use Rattle.std.specs.Prelude.{◌≡◌, ◌↔◌, ◌≤◌, IsTrue, None, Some, false, string_bytes, true};
+ghost use Rattle.miette_handlers.specs.Modes.{splits};
+ghost use Rattle.miette_text.specs.Themes.{theme_of};
+ghost use Rattle.miette.specs.Options.{no_options};
+
+mod building;
+mod handler;
+
+pub use crate::options::handler::MietteHandler;
+use miette_text::highlight::Highlighter;
+use miette_text::theme::GraphicalTheme;
+pub use miette_text::theme::Terminal;
+use miette_text::wrap::{WordSeparator, WordSplitter};
+use std::marker::Model;
+
+/// Which colours a report takes, where it takes any.
+#[derive(Clone, Copy, Debug, PartialEq, Eq, Default)]
+pub enum RgbColors {
+    /// Colours by their red, green and blue parts, whatever the terminal has.
+    Always,
+    /// The same where the terminal has 16 million colours; else its own colours.
+    Preferred,
+    /// The terminal's own colours.
+    #[default]
+    Never,
+}
+
+/// What comparing, cloning and the default of `RgbColors` say: equal where they are the same, a clone is the same, and the
+/// default is `Never`.
+pub fn rgb_colors_law()
+    ensures equal { (a b : RgbColors) → IsTrue (⟦<RgbColors as PartialEq>⟧.eq a b) ↔ (a ≡ b) }
+    ensures cloned { (a b : RgbColors) → ⟦<RgbColors as Clone>⟧.is_clone a b → b ≡ a }
+    ensures default { (it : RgbColors) → ⟦<RgbColors as Default>⟧.is_default it → it ≡ RgbColors.Never }
+{}
+
+/// What a user asks of a handler. An option that is set twice counts as it was set last; of one that isn't set the terminal
+/// decides, or the handler's own default stays.
+///
+/// Users write `MietteHandlerOpts`; the parameter is the box in which a highlighter is given. All calls but `build` take no memory.
+#[derive(Drop)]
+pub struct MietteHandlerOpts<H = Box<dyn Highlighter>> {
+    force_narrated: Option<bool>,
+    force_graphical: Option<bool>,
+    width: Option<usize>,
+    links: Option<bool>,
+    theme: Option<GraphicalTheme>,
+    unicode: Option<bool>,
+    color: Option<bool>,
+    rgb_colors: RgbColors,
+    footer: Option<String>,
+    context_lines: Option<usize>,
+    cause_chain: Option<bool>,
+    tab_width: Option<usize>,
+    related_as_nested: Option<bool>,
+    wrap_lines: Option<bool>,
+    break_words: Option<bool>,
+    word_separator: Option<WordSeparator>,
+    word_splitter: Option<WordSplitter>,
+    highlighter: Option<H>,
+}
+
+impl<H> Model for MietteHandlerOpts<H> {
+    ghost use Rattle.std.specs.Prelude.{◌≤◌, option_map, string_bytes, unwrap_or};
+    ghost use Rattle.miette_handlers.specs.Modes.{splits};
+    ghost use Rattle.miette_text.specs.Themes.{theme_of};
+    ghost use Rattle.miette.specs.Options.{Options};
+
+    ghost Value = { Options H };
+
+    ghost view = { λ it. record {
+      narrated = it.force_narrated;
+      graphical = it.force_graphical;
+      width = it.width;
+      links = it.links;
+      theme = option_map theme_of it.theme;
+      unicode = it.unicode;
+      color = it.color;
+      rgb = it.rgb_colors;
+      footer = option_map string_bytes it.footer;
+      context = it.context_lines;
+      chain = it.cause_chain;
+      tab = it.tab_width;
+      nested = it.related_as_nested;
+      wraps = it.wrap_lines;
+      breaks = it.break_words;
+      hyphens = option_map splits it.word_splitter;
+      highlighter = it.highlighter;
+    } };
+
+    ghost invariant = { λ it. 1 ≤ unwrap_or it.tab_width 1 };
+}
+
+impl<H> Default for MietteHandlerOpts<H> {
+    fn default() -> Self
+        ensures { result ≡ no_options }
+    {
+        MietteHandlerOpts {
+            force_narrated: None,
+            force_graphical: None,
+            width: None,
+            links: None,
+            theme: None,
+            unicode: None,
+            color: None,
+            rgb_colors: RgbColors::Never,
+            footer: None,
+            context_lines: None,
+            cause_chain: None,
+            tab_width: None,
+            related_as_nested: None,
+            wrap_lines: None,
+            break_words: None,
+            word_separator: None,
+            word_splitter: None,
+            highlighter: None,
+        }
+    }
+}
+
+impl MietteHandlerOpts {
+    /// Nothing is asked for.
+    pub fn new() -> Self
+        ensures { result ≡ no_options }
+    {
+        Self::default()
+    }
+}
+
+impl<H: Highlighter> MietteHandlerOpts<H> {
+    /// Whether a url becomes a link around the code, or a text behind it; else as the terminal shows links.
+    pub fn terminal_links(self, links: bool) -> Self
+        ensures { result ≡ record self { links = Some links } }
+    {
+        MietteHandlerOpts {
+            links: Some(links),
+            ..self
+        }
+    }
+
+    /// Pictures are drawn with this theme, whatever is said of colours and characters.
+    pub fn graphical_theme(self, theme: GraphicalTheme) -> Self
+        ensures { result ≡ record self { theme = Some (theme_of theme) } }
+    {
+        MietteHandlerOpts {
+            theme: Some(theme),
+            ..self
+        }
+    }
+
+    /// Styles the lines of sources in pictures by this highlighter, where pictures have colours.
+    pub fn with_syntax_highlighting(self, highlighter: H) -> Self
+        ensures { result ≡ record self { highlighter = Some highlighter } }
+    {
+        MietteHandlerOpts {
+            highlighter: Some(highlighter),
+            ..self
+        }
+    }
+
+    /// Leaves the lines of sources plain.
+    pub fn without_syntax_highlighting(self) -> Self
+        ensures { result ≡ record self { highlighter = None } }
+    {
+        let highlighter = None;
+        MietteHandlerOpts {
+            highlighter,
+            ..self
+        }
+    }
+
+    /// How many columns a wrapped row may have; else as many as the terminal has, or 80.
+    pub fn width(self, width: usize) -> Self
+        ensures { result ≡ record self { width = Some width } }
+    {
+        MietteHandlerOpts {
+            width: Some(width),
+            ..self
+        }
+    }
+
+    /// Whether rows are wrapped to the width.
+    pub fn wrap_lines(self, wrap_lines: bool) -> Self
+        ensures { result ≡ record self { wraps = Some wrap_lines } }
+    {
+        MietteHandlerOpts {
+            wrap_lines: Some(wrap_lines),
+            ..self
+        }
+    }
+
+    /// Whether a word that is wider than its row is broken.
+    pub fn break_words(self, break_words: bool) -> Self
+        ensures { result ≡ record self { breaks = Some break_words } }
+    {
+        MietteHandlerOpts {
+            break_words: Some(break_words),
+            ..self
+        }
+    }
+
+    /// How words are told apart. There is one way.
+    pub fn word_separator(self, word_separator: WordSeparator) -> Self
+        ensures { result ≡ self }
+    {
+        MietteHandlerOpts {
+            word_separator: Some(word_separator),
+            ..self
+        }
+    }
+
+    /// Where words may be cut.
+    pub fn word_splitter(self, word_splitter: WordSplitter) -> Self
+        ensures { result ≡ record self { hyphens = Some (splits word_splitter) } }
+    {
+        MietteHandlerOpts {
+            word_splitter: Some(word_splitter),
+            ..self
+        }
+    }
+
+    /// The causes of the report are shown, by either handler.
+    pub fn with_cause_chain(self) -> Self
+        ensures { result ≡ record self { chain = Some true } }
+    {
+        MietteHandlerOpts {
+            cause_chain: Some(true),
+            ..self
+        }
+    }
+
+    /// The causes of the report are not shown, by either handler.
+    pub fn without_cause_chain(self) -> Self
+        ensures { result ≡ record self { chain = Some false } }
+    {
+        MietteHandlerOpts {
+            cause_chain: Some(false),
+            ..self
+        }
+    }
+
+    /// Related reports stand one after another.
+    pub fn show_related_errors_as_siblings(self) -> Self
+        ensures { result ≡ record self { nested = Some false } }
+    {
+        MietteHandlerOpts {
+            related_as_nested: Some(false),
+            ..self
+        }
+    }
+
+    /// Related reports stand under arrows, as causes do.
+    pub fn show_related_errors_as_nested(self) -> Self
+        ensures { result ≡ record self { nested = Some true } }
+    {
+        MietteHandlerOpts {
+            related_as_nested: Some(true),
+            ..self
+        }
+    }
+
+    /// Whether pictures have colours, whatever the terminal has; else where it has some.
+    pub fn color(self, color: bool) -> Self
+        ensures { result ≡ record self { color = Some color } }
+    {
+        MietteHandlerOpts {
+            color: Some(color),
+            ..self
+        }
+    }
+
+    /// Which colours pictures have, where they have any.
+    pub fn rgb_colors(self, colors: RgbColors) -> Self
+        ensures { result ≡ record self { rgb = colors } }
+    {
+        MietteHandlerOpts {
+            rgb_colors: colors,
+            ..self
+        }
+    }
+
+    /// Whether pictures have characters of Unicode, or of ASCII alone; else as the terminal draws them.
+    pub fn unicode(self, unicode: bool) -> Self
+        ensures { result ≡ record self { unicode = Some unicode } }
+    {
+        MietteHandlerOpts {
+            unicode: Some(unicode),
+            ..self
+        }
+    }
+
+    /// Whether reports are pictures or narrated, whatever the terminal's user says of graphics.
+    pub fn force_graphical(self, force: bool) -> Self
+        ensures { result ≡ record self { graphical = Some force } }
+    {
+        MietteHandlerOpts {
+            force_graphical: Some(force),
+            ..self
+        }
+    }
+
+    /// Whether reports are narrated or pictures. This counts before all else that is said of it.
+    pub fn force_narrated(self, force: bool) -> Self
+        ensures { result ≡ record self { narrated = Some force } }
+    {
+        MietteHandlerOpts {
+            force_narrated: Some(force),
+            ..self
+        }
+    }
+
+    /// A text under each outermost report, by either handler.
+    pub fn footer(self, footer: String) -> Self
+        ensures { result ≡ record self { footer = Some (string_bytes footer) } }
+    {
+        MietteHandlerOpts {
+            footer: Some(footer),
+            ..self
+        }
+    }
+
+    /// How many lines of context are shown around a label, by either handler.
+    pub fn context_lines(self, lines: usize) -> Self
+        ensures { result ≡ record self { context = Some lines } }
+    {
+        MietteHandlerOpts {
+            context_lines: Some(lines),
+            ..self
+        }
+    }
+
+    /// Tabs go on to the next multiple of so many columns. At least 1 is the caller's condition.
+    pub fn tab_width(self, width: usize) -> Self
+        requires { 1 ≤ width }
+        ensures { result ≡ record self { tab = Some width } }
+    {
+        MietteHandlerOpts {
+            tab_width: Some(width),
+            ..self
+        }
+    }
+}

@@ -1,0 +1,57 @@
+//! The handler that options and a terminal choose.
+
+ghost use Rattle.std.specs.Prelude.{IfOk};
+ghost use Rattle.miette.specs.Choice.{IsChosen};
+ghost use Rattle.miette.specs.Options.{no_options};
+
+use crate::options::{MietteHandlerOpts, Terminal};
+use miette_handlers::handlers::{GraphicalReportHandler, NarratableReportHandler, ReportHandler};
+use miette_protocol::error::RenderError;
+use miette_protocol::protocol::Diagnostic;
+use miette_protocol::source::SourceCode;
+use miette_text::highlight::Highlighter;
+use miette_tree::report::Report;
+use std::alloc::{AllocError, Global};
+
+/// A handler that draws reports or one that narrates them. Users write `MietteHandler`; the parameter is the box in which a highlighter is
+/// given.
+#[derive(Drop)]
+pub enum MietteHandler<H = Box<dyn Highlighter>> {
+    /// Reports are pictures.
+    Graphical(GraphicalReportHandler<H>),
+    /// Reports are rows of plain words.
+    Narrated(NarratableReportHandler),
+}
+
+impl MietteHandler {
+    /// The handler for a terminal whose user asks for nothing more.
+    ///
+    /// # Errors
+    /// Where no memory is found for the theme.
+    pub fn new(alloc: Global, terminal: &Terminal) -> Result<Self, AllocError>
+        ensures { IfOk result (IsChosen no_options terminal.now) }
+    {
+        MietteHandlerOpts::new().build(alloc, terminal)
+    }
+}
+
+impl<H: Highlighter> ReportHandler for MietteHandler<H> {
+    ghost use Rattle.miette.specs.Handler.{Gives, Keeps, Refuses};
+
+    ghost gives = { Gives H.is_blank };
+
+    ghost refuses = { Refuses };
+
+    ghost keeps = { Keeps H.is_blank };
+
+    fn debug<D: Diagnostic, S: SourceCode>(
+        &mut self,
+        report: &Report<D, S>,
+        out: &mut String,
+    ) -> Result<(), RenderError> {
+        match self {
+            MietteHandler::Graphical(handler) => handler.debug(report, out),
+            MietteHandler::Narrated(handler) => handler.debug(report, out),
+        }
+    }
+}

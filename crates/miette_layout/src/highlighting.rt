@@ -1,0 +1,68 @@
+//! What a highlighter answers for the lines of a snippet.
+
+ghost use Rattle.std.specs.Prelude.{◌≡◌, ℕ, List, true, map, IfOk};
+ghost use Rattle.miette_layout.specs.Highlighted.{ArePieces, decoded_text, leaves_plain};
+ghost use Rattle.miette_layout.specs.Walking.{highlight_of};
+ghost use Rattle.miette_text.specs.Pieces.{CutsLine, plain_pieces};
+
+use crate::page::PLAIN;
+use bstr::ByteSlice;
+use miette_protocol::source::MietteSpanContents;
+use miette_text::highlight::Highlighter;
+use miette_text::style::Style;
+use std::alloc::{AllocError, Global};
+
+/// Begins a new snippet, of what its read lent.
+pub fn restart<H: Highlighter>(highlighter: &mut Option<H>, lent: &MietteSpanContents<'_>)
+    ensures { leaves_plain H.is_blank highlighter.new ≡ leaves_plain H.is_blank highlighter.old }
+{
+    match highlighter {
+        Some(highlighter) => highlighter.restart(lent),
+        None => {}
+    }
+}
+
+// A highlighter's pieces for the bytes of a line's text, which it is given decoded.
+fn answered<H: Highlighter>(
+    alloc: Global,
+    highlighter: &mut H,
+    text: &[u8],
+) -> Result<Vec<(usize, Style)>, AllocError>
+    ensures cut { IfOk result (λ pieces. CutsLine (decoded_text text.now) pieces.items) }
+    ensures plain { H.is_blank highlighter.old ≡ true → IfOk result (λ pieces. pieces.items ≡ plain_pieces (decoded_text text.now)) }
+    ensures stays { H.is_blank highlighter.new ≡ H.is_blank highlighter.old }
+{
+    let line = text.to_str_lossy(alloc)?;
+    highlighter.highlight_line(alloc, line.as_str())
+}
+
+// Whether a line is left in one plain piece.
+fn is_plain(pieces: &[(usize, Style)]) -> bool
+    ensures { (line : List ℕ) → pieces.now ≡ plain_pieces line → result ≡ true }
+{
+    match pieces {
+        [piece] => piece.1 == PLAIN,
+        _ => false,
+    }
+}
+
+/// A highlighter's pieces for the bytes of a line's text; none where it leaves the line plain, and where there is no highlighter.
+pub fn pieces_of<H: Highlighter>(
+    alloc: Global,
+    highlighter: &mut Option<H>,
+    text: &[u8],
+) -> Result<Vec<(usize, Style)>, AllocError>
+    ensures pieces { IfOk result (λ pieces. ArePieces (leaves_plain H.is_blank highlighter.old) (decoded_text text.now) (map highlight_of pieces.items)) }
+    ensures stays { leaves_plain H.is_blank highlighter.new ≡ leaves_plain H.is_blank highlighter.old }
+{
+    match highlighter {
+        Some(highlighter) => {
+            let pieces = answered(alloc, highlighter, text)?;
+            if is_plain(&pieces) {
+                return Ok(Vec::new(alloc));
+            }
+            Ok(pieces)
+        }
+        None => Ok(Vec::new(alloc)),
+    }
+}

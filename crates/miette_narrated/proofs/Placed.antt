@@ -1,0 +1,92 @@
+-- Places of a line's text from which a walk over its characters goes on.
+use Rattle.std.proofs.Common.{ℕ, ◌+◌, ◌-◌, ◌<◌, ◌≤◌, ◌≡◌, true, false, List, [], ◌∷◌, ◌++◌, length, take, drop, refl, sym, ap, subst, ◌∙◌, append_assoc, arith}
+use Rattle.std.specs.Prelude.{IsUtf8, chars, encode_utf8}
+use Rattle.std.proofs.lemmas.List.{drop-drop}
+use Rattle.unicode_width.specs.Width.{str_width}
+use Rattle.miette_layout.specs.Cells.{characters}
+use Rattle.miette_layout.specs.Given.{width_of}
+use Rattle.miette_layout.proofs.Stepping.{IsFirst}
+use Rattle.miette_narrated.specs.declared.places.Place.{Place}
+use Rattle.miette_narrated.specs.Columns.{begun, is_boundary, widths, column}
+use Rattle.miette_narrated.specs.Places.{column_behind, IsPlace, is_lone}
+use Rattle.miette_narrated.proofs.Columning.{IsOver, none_over, one_over, chars_pushed, at_boundary, off_boundary, behind_boundary, behind_other}
+use Rattle.miette_narrated.proofs.Lone.{adds_up}
+use Rattle.miette_narrated.proofs.Sweeps.{by_cases}
+
+pub first_place : (text : List ℕ) (place : Place) → place.bytes ≡ 0 → place.column ≡ 0 → place.widths ≡ 0 → IsPlace text place
+first_place text place b c w = (
+  omega (arith, b),
+  λ more.
+      let cs = characters (drop place.bytes text) in
+      let same : drop place.bytes text ≡ text = ap (λ k. drop k text) b in
+      let at : place.bytes + more ≡ more = omega (arith, b) in
+      ap (λ k. column k (characters text)) at ∙ ap (λ t. column more (characters t)) (sym same)
+      ∙ by_cases {C = column more cs ≡ column_behind place more cs} (is_boundary more cs)
+      (λ y. let none : str_width false (begun more cs) ≡ place.column + str_width false (begun more cs) = omega (arith, c) in at_boundary (drop place.bytes text) more y ∙ none ∙ sym (behind_boundary place (drop place.bytes text) more y))
+      (λ n. let none : widths (begun more cs) ≡ place.widths + widths (begun more cs) = omega (arith, w) in off_boundary (drop place.bytes text) more n ∙ none ∙ sym (behind_other place (drop place.bytes text) more n)),
+)
+
+-- the column of an offset that lies behind a place
+pub column_from : (text : List ℕ) (place : Place) (bytes result : ℕ) → IsPlace text place → place.bytes ≤ bytes → result ≡ column_behind place (bytes - place.bytes) (characters (drop place.bytes text)) →
+    result ≡ column bytes (characters text)
+column_from text place bytes result is le h =
+    let at : place.bytes + (bytes - place.bytes) ≡ bytes = omega arith in
+    h ∙ sym (is.1 (bytes - place.bytes)) ∙ ap (λ k. column k (characters text)) at
+
+-- ---- from one place to the next
+
+-- so many bytes of a text are over since a place
+pub record IsSince (text : List ℕ) (from : Place) (over : List ℕ) (sum bytes : ℕ) : Type 0 where
+  pub behind : from.bytes ≤ bytes
+  pub within : bytes ≤ length text
+  pub each : (more : ℕ) → IsOver from.widths (drop from.bytes text) ((bytes - from.bytes) + more) over sum (drop bytes text) more
+
+pub none_since : (text : List ℕ) (from : Place) (over : List ℕ) → from.bytes ≤ length text → over ≡ [] → IsSince text from over from.widths from.bytes
+none_since text from over le e =
+    record {
+      behind = omega arith;
+      within = le;
+      each = λ more.
+          let at : more ≡ (from.bytes - from.bytes) + more = omega arith in
+          subst (λ k. IsOver from.widths (drop from.bytes text) k over from.widths (drop from.bytes text) more) at (none_over from.widths (drop from.bytes text) more over e);
+    }
+
+pub one_since : (text : List ℕ) (from : Place) (over new : List ℕ) (sum wider bytes later code size : ℕ) → IsSince text from over sum bytes → IsFirst (drop bytes text) (drop size (drop bytes text)) code size →
+    IsUtf8 over → IsUtf8 new → new ≡ over ++ encode_utf8 code → wider ≡ sum + width_of code → 0 < size → later ≡ bytes + size → later ≤ length text → IsSince text from new wider later
+one_since text from over new sum wider bytes later code size h is u v e w some to le =
+    record {
+      behind = omega (arith, h.behind, to);
+      within = le;
+      each = λ more.
+          let start = drop from.bytes text in
+          let left : (size + more) - size ≡ more = omega arith in
+          let at : (bytes - from.bytes) + (size + more) ≡ (later - from.bytes) + more = omega (arith, h.behind, to) in
+          let rest : drop size (drop bytes text) ≡ drop later text = drop-drop size bytes text ∙ ap (λ k. drop k text) (omega (arith, to)) in
+          let step = one_over from.widths start ((bytes - from.bytes) + (size + more)) over new sum wider (drop bytes text) (drop size (drop bytes text)) (size + more) code size
+          (h.each (size + more)) is u v e w (omega (arith, some)) (omega arith) in
+          subst (λ k. IsOver from.widths start k new wider (drop later text) more) at
+          (subst (λ r. IsOver from.widths start ((bytes - from.bytes) + (size + more)) new wider r more) rest
+          (subst (λ k. IsOver from.widths start ((bytes - from.bytes) + (size + more)) new wider (drop size (drop bytes text)) k) left step));
+    }
+
+-- behind a character that joins nothing is a place
+pub next_place : (text : List ℕ) (from place : Place) (over new : List ℕ) (code : ℕ) → IsPlace text from → IsSince text from new place.widths place.bytes → IsUtf8 over → IsUtf8 new → new ≡ over ++ encode_utf8 code →
+    is_lone code ≡ true → place.column ≡ from.column + str_width false (chars new) → IsPlace text place
+next_place text from place over new code is h u v e lone c = (
+  h.within,
+  λ more.
+      let start = drop from.bytes text in
+      let cs = characters (drop place.bytes text) in
+      let k = (place.bytes - from.bytes) + more in
+      let it = h.each more in
+      let at : place.bytes + more ≡ from.bytes + k = omega (arith, h.behind) in
+      let pushed = chars_pushed over new code u v e in
+      let wide : str_width false (begun k (characters start)) ≡ str_width false (chars new) + str_width false (begun more cs) =
+      ap (str_width false) (sym it.all ∙ ap (λ o. o ++ begun more cs) pushed ∙ append_assoc (chars over) (code ∷ []) (begun more cs))
+      ∙ adds_up (chars over) (begun more cs) code lone ∙ ap (λ o. str_width false o + str_width false (begun more cs)) (sym pushed) in
+      ap (λ n. column n (characters text)) at ∙ is.1 k
+      ∙ by_cases {C = column_behind from k (characters start) ≡ column_behind place more cs} (is_boundary more cs)
+      (λ y. let sums : from.column + str_width false (begun k (characters start)) ≡ place.column + str_width false (begun more cs) = omega (arith, wide, c) in
+      behind_boundary from start k (sym it.boundary ∙ y) ∙ sums ∙ sym (behind_boundary place (drop place.bytes text) more y))
+      (λ n. behind_other from start k (sym it.boundary ∙ n) ∙ sym it.width ∙ sym (behind_other place (drop place.bytes text) more n)),
+)

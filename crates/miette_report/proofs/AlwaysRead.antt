@@ -1,0 +1,137 @@
+-- Of a report whose sources always read, each read of a handler is determined.
+use Rattle.std.proofs.Common.{◌≡◌, ℕ, ◌+◌, Bool, true, false, List, [], ◌∷◌, ◌++◌, length, Option, Some, None, IfSome, refl, ap, ◌∙◌}
+use Rattle.std.proofs.lemmas.Bool.{le-leb}
+use Rattle.std.specs.List.{list_all}
+use Rattle.std.specs.Prelude.{◌&&◌, ◌||◌, if◌then◌else◌}
+use Rattle.miette_protocol.specs.Meaning.{Label, Meaning}
+use Rattle.miette_protocol.specs.Reading.{Source, Span, IsAccepted}
+use Rattle.miette_layout.specs.Contexts.{end_of_span, is_accepted}
+use Rattle.miette_layout.specs.Groups.{in_order, AreAccepted}
+use Rattle.miette_text.specs.Tame.{is_nil}
+use Rattle.miette_tree.specs.Tree.{Tree, tree, Cause, diagnostic, texts, Trees, no_trees, more_trees, effective}
+use Rattle.miette_handlers.specs.Parts.{list_of}
+use Rattle.miette_handlers.specs.Printed.{Printed, over, printed, printed_causes, printed_related, source_reads, always_reads, all_read}
+use Rattle.miette_handlers.specs.Reads.{AlwaysReads, CauseAlwaysReads, AllAlwaysRead}
+use Rattle.miette_handlers.specs.Settings.{Settings}
+use Rattle.miette_narrated.specs.Answered as told
+use Rattle.miette_narrated.specs.Report.{Answers, RelatedAnswers, related_answers, first_answers, later_answers}
+
+abbrev Reads : Option Source → Type 0
+Reads source = IfSome source (λ s. s.always_reads ≡ true)
+
+effective_reads : (own inherited : Option Source) → Reads own → Reads inherited → Reads (effective own inherited)
+effective_reads None inherited p q = q
+effective_reads (Some s) inherited p q = p
+
+-- ---- a graphical report
+
+reads_here : (source : Option Source) → Reads source → source_reads source ≡ true
+reads_here None p = refl
+reads_here (Some s) p = p
+
+unless_nil : (b c : Bool) → c ≡ true → (if b then true else c) ≡ true
+unless_nil true c p = refl
+unless_nil false c p = p
+
+one_read : (source : Option Source) (m : Meaning) → Reads source → always_reads source m ≡ true
+one_read source m p = unless_nil (is_nil (list_of m.labels)) (source_reads source) (reads_here source p)
+
+both : (a b : Bool) → a ≡ true → b ≡ true → (a && b) ≡ true
+both a b p q = ap (λ x. x && b) p ∙ q
+
+parts : (a b : Bool) → (a && b) ≡ true → (a ≡ true) × (b ≡ true)
+parts true b p = (refl, p)
+parts false b p = cc
+
+all_of_both : (ps qs : List Printed) → all_read ps ≡ true → all_read qs ≡ true → all_read (ps ++ qs) ≡ true
+all_of_both [] qs p q = q
+all_of_both (x ∷ ps) qs p q =
+    let h = parts (always_reads x.source x.meaning) (all_read ps) p in
+    both (always_reads x.source x.meaning) (all_read (ps ++ qs)) h.0 (all_of_both ps qs h.1 q)
+
+unless_nested : (nested : Bool) (ps : List Printed) → all_read ps ≡ true → all_read (if nested then [] else ps) ≡ true
+unless_nested true ps p = refl
+unless_nested false ps p = p
+
+if_shown : (chain : Bool) (ps : List Printed) → all_read ps ≡ true → all_read (if chain then ps else []) ≡ true
+if_shown true ps p = p
+if_shown false ps p = refl
+
+mutual
+  causes_read : (nested : Bool) (inherited : Option Source) (c : Cause) → Reads inherited → CauseAlwaysReads c → all_read (printed_causes nested inherited c) ≡ true
+  causes_read nested inherited (texts ts) p q = refl
+  causes_read nested inherited (diagnostic (tree m own c r)) p q =
+      let source = effective own inherited in
+      let here : Reads source = effective_reads own inherited q.0 p in
+      all_of_both (over source m ∷ printed_related nested source r) (printed_causes nested inherited c)
+      (both (always_reads source m) (all_read (printed_related nested source r)) (one_read source m here) (related_read nested source r here q.2))
+      (causes_read nested inherited c p q.1)
+
+  related_read : (nested : Bool) (inherited : Option Source) (r : Trees) → Reads inherited → AllAlwaysRead r → all_read (printed_related nested inherited r) ≡ true
+  related_read nested inherited no_trees p q = refl
+  related_read nested inherited (more_trees (tree m own c r) ts) p q =
+      let source = effective own inherited in
+      let here : Reads source = effective_reads own inherited q.0.0 p in
+      let causes = if nested then [] else printed_causes nested source c in
+      all_of_both (over source m ∷ (causes ++ printed_related nested source r)) (printed_related nested inherited ts)
+      (both (always_reads source m) (all_read (causes ++ printed_related nested source r)) (one_read source m here)
+      (all_of_both causes (printed_related nested source r) (unless_nested nested (printed_causes nested source c) (causes_read nested source c here q.0.1)) (related_read nested source r here q.0.2)))
+      (related_read nested inherited ts p q.1)
+
+pub printed-reads : (s : Settings) (t : Tree) → AlwaysReads t → all_read (printed s t) ≡ true
+printed-reads s (tree m own c r) q =
+    let causes = if s.chain then printed_causes s.nested own c else [] in
+    both (always_reads own m) (all_read (causes ++ printed_related s.nested own r)) (one_read own m q.0)
+    (all_of_both causes (printed_related s.nested own r) (if_shown s.chain (printed_causes s.nested own c) (causes_read s.nested own c q.0 q.1)) (related_read s.nested own r q.0 q.2))
+
+-- ---- a narrated report
+
+either : (a b : Bool) → b ≡ true → (a || b) ≡ true
+either true b p = refl
+either false b p = p
+
+one_told : (source : Option Source) (labels : List Label) → Reads source → told.always_reads source labels ≡ true
+one_told None labels p = refl
+one_told (Some s) labels p = either (told.is_nil labels) s.always_reads p
+
+mutual
+  tree_told : (inherited : Option Source) (t : Tree) → Reads inherited → AlwaysReads t → told.holds_of told.always_reads inherited t ≡ true
+  tree_told inherited (tree m own c r) p q =
+      let source = effective own inherited in
+      let here : Reads source = effective_reads own inherited q.0 p in
+      both _ _ (one_told source _ here) (trees_told source r here q.2)
+
+  trees_told : (inherited : Option Source) (ts : Trees) → Reads inherited → AllAlwaysRead ts → told.holds_of_all told.always_reads inherited ts ≡ true
+  trees_told inherited no_trees p q = refl
+  trees_told inherited (more_trees t ts) p q = both _ _ (tree_told inherited t p q.0) (trees_told inherited ts p q.1)
+
+pub told-reads : (t : Tree) → AlwaysReads t → told.report_reads t ≡ true
+told-reads t q = tree_told None t tt q
+
+-- ---- and each label that is told is accepted, where the report is
+
+accepted_is : (bytes : List ℕ) (span : Span) → IsAccepted bytes span → is_accepted bytes span ≡ true
+accepted_is bytes span h = both _ _ (le-leb span.offset (length bytes) h.begins) (le-leb (end_of_span span) (length bytes + 1) h.ends)
+
+accept_all : (bytes : List ℕ) (labels : List Label) → AreAccepted bytes labels → list_all (λ label. is_accepted bytes label.span) labels ≡ true
+accept_all bytes [] h = refl
+accept_all bytes (l ∷ ls) h = both _ _ (accepted_is bytes l.span h.0) (accept_all bytes ls h.1)
+
+one_accepted : (source : Option Source) (labels : List Label) (fails : List Bool) → Reads source → told.IsAnswered source labels fails → told.accepts source labels ≡ true
+one_accepted None labels fails p a = refl
+one_accepted (Some s) labels fails p a = both _ _ (accept_all s.bytes (in_order labels) a.accepted) (either (told.is_nil labels) s.always_reads p)
+
+mutual
+  tree_accepted : (inherited : Option Source) (a : Answers) (t : Tree) → Reads inherited → AlwaysReads t → told.AreAnswers inherited a t → told.holds_of told.accepts inherited t ≡ true
+  tree_accepted inherited a (tree m own c r) p q k =
+      let source = effective own inherited in
+      let here : Reads source = effective_reads own inherited q.0 p in
+      both _ _ (one_accepted source _ _ here k.0) (trees_accepted source (related_answers a) r here q.2 k.1)
+
+  trees_accepted : (inherited : Option Source) (more : RelatedAnswers) (ts : Trees) → Reads inherited → AllAlwaysRead ts → told.AllAnswers inherited more ts → told.holds_of_all told.accepts inherited ts ≡ true
+  trees_accepted inherited more no_trees p q k = refl
+  trees_accepted inherited more (more_trees t ts) p q k =
+      both _ _ (tree_accepted inherited (first_answers more) t p q.0 k.0) (trees_accepted inherited (later_answers more) ts p q.1 k.1)
+
+pub told-accepted : (t : Tree) (a : Answers) → AlwaysReads t → told.AreAnswers None a t → told.report_accepted t ≡ true
+told-accepted t a q k = tree_accepted None a t tt q k

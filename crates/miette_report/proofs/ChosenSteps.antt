@@ -1,0 +1,131 @@
+-- Steps from the handler that was chosen to the text that the settings ask for.
+use Rattle.std.proofs.Common.{◌≡◌, ℕ, Bool, List, length, ◌++◌, ◌∙◌, Option, None, Some, IfSome, Result, Ok, Err, IfOk, OnOk, IsUtf8, String, string_bytes, true, false, encode_utf8_all, refl, sym, subst}
+use Rattle.std.proofs.lemmas.List.{append_cancel_left}
+use Rattle.miette.specs.Options.{Options}
+use Rattle.miette.specs.declared.options.handler.MietteHandler.TheVariants as handler
+use Rattle.miette_text.specs.declared.theme.Terminal.{Terminal}
+use Rattle.miette_tree.specs.Tree.{Tree}
+use Rattle.miette_narrated.specs.Answered.{report_accepted, report_reads, Appends}
+use Rattle.miette_narrated.specs.Report as narrated
+use Rattle.miette_handlers.specs.Answers.{unlisted}
+use Rattle.miette_handlers.specs.Handler.{AppendsOne}
+use Rattle.miette_handlers.specs.Printed.{all_read, printed}
+use Rattle.miette_handlers.specs.Reads.{AlwaysReads}
+use Rattle.miette_handlers.specs.Answered as drawn
+use Rattle.miette_handlers.specs.Handling.{Handling, draws_plain}
+use Rattle.miette_handlers.specs.Snippets.{drawn_rows}
+use Rattle.miette_handlers.specs.Text.{report_text}
+use Rattle.miette_report.specs.Chosen.{IsAsked, IsGiven, MayRefuse, Stays}
+use Rattle.miette_report.specs.Job.{tree_for, IsBuiltText, IsJobText, IsNarrating, IsRefused, Writes}
+use Rattle.miette_report.specs.declared.chosen.Chosen.{Chosen}
+use Rattle.miette_report.specs.declared.chosen.Chosen.TheVariants as chosen
+use Rattle.miette_report.specs.declared.settings.Choice.{Choice}
+use Rattle.miette_report.proofs.AlwaysRead.{printed-reads, told-reads, told-accepted}
+
+-- ---- what a handler of the library appends
+
+pub graphical-given : {A E H : Type 0} (is_blank : H → Bool) (h : Chosen H) (it : Handling H) (t : Tree) (old new : List ℕ) (r : Result A E) → h ≡ chosen.Built (handler.Graphical it) → AlwaysReads t
+    → OnOk r (drawn.Appends drawn_rows it.settings (draws_plain is_blank it) t old new)
+    → OnOk r (draws_plain is_blank it ≡ true → all_read (printed it.settings t) ≡ true → new ≡ old ++ encode_utf8_all (report_text drawn_rows it.settings t unlisted)) → OnOk r (AppendsOne (IsGiven is_blank h t) old new)
+graphical-given is_blank h it t old new (Err e) is reads ok only = tt
+graphical-given is_blank h it t old new (Ok x) is reads ok only =
+    let one : AppendsOne (IsGiven is_blank (chosen.Built (handler.Graphical it)) t) old new =
+    record {
+      text = ok.text;
+      is_given = (ok.is_given, λ plain. append_cancel_left old ok.text (encode_utf8_all (report_text drawn_rows it.settings t unlisted)) (sym ok.appended ∙ only plain (printed-reads it.settings t reads)));
+      appended = ok.appended;
+    } in
+    subst (λ k. AppendsOne (IsGiven is_blank k t) old new) (sym is) one
+
+-- no label of such a report is refused
+pub graphical-accepts : {H : Type 0} (h : Chosen H) (it : Handling H) (t : Tree) → AlwaysReads t → all_read (printed it.settings t) ≡ false → MayRefuse h t
+graphical-accepts h it t reads refused = let no : true ≡ false = sym (printed-reads it.settings t reads) ∙ refused in cc
+
+pub narrated-given : {A E H : Type 0} (is_blank : H → Bool) (h : Chosen H) (s : narrated.Settings) (t : Tree) (old new : List ℕ) (r : Result A E) → h ≡ chosen.Built (handler.Narrated s) → AlwaysReads t
+    → OnOk r (Appends s t old new) → OnOk r (report_reads t ≡ true → new ≡ old ++ narrated.narrated s t narrated.unlisted) → OnOk r (AppendsOne (IsGiven is_blank h t) old new)
+narrated-given is_blank h s t old new (Err e) is reads text only = tt
+narrated-given is_blank h s t old new (Ok x) is reads text only =
+    let one : AppendsOne (IsGiven is_blank (chosen.Built (handler.Narrated s)) t) old new =
+    record {
+      text = narrated.narrated s t narrated.unlisted;
+      is_given = (told-accepted t text.is_narrated.answers reads text.is_narrated.possible, refl);
+      appended = only (told-reads t reads);
+    } in
+    subst (λ k. AppendsOne (IsGiven is_blank k t) old new) (sym is) one
+
+-- ---- what was asked for
+
+asked-text : {H : Type 0} (is_blank : H → Bool) (c : Choice) (o : Options H) (l : Terminal) (h : Chosen H) (t : Tree) (text : List ℕ) → IsAsked c o l h → IsGiven is_blank h t text → IsJobText is_blank c o l t text
+asked-text is_blank c o l chosen.Json t text is given = subst (λ k. IsJobText is_blank k o l t text) (sym is) given
+asked-text is_blank c o l chosen.Debug t text is given = subst (λ k. IsJobText is_blank k o l t text) (sym is) given
+asked-text is_blank c o l (chosen.Built it) t text is given = subst (λ k. IsJobText is_blank k o l t text) (sym is.0) (it, is.1, given)
+
+pub render-writes : {E Z H : Type 0} (is_blank : H → Bool) (c : Choice) (o : Options H) (l : Terminal) (h : Chosen H) (bytes : List ℕ) (t : Tree) (r : Result (String Z) E) → IsAsked c o l h
+    → (IsUtf8 bytes × (tree_for bytes ≡ Some t)) → IfOk r (λ text. IsGiven is_blank h t (string_bytes text)) → IfOk r (λ text. Writes is_blank c o l bytes (λ given. string_bytes text ≡ given))
+render-writes is_blank c o l h bytes t (Err e) is read given = tt
+render-writes is_blank c o l h bytes t (Ok text) is read given = (read.0, (t, read.1, (string_bytes text, asked-text is_blank c o l h t (string_bytes text) is given, refl)))
+
+asked-refusal : {H : Type 0} (c : Choice) (o : Options H) (l : Terminal) (h : Chosen H) (t : Tree) → IsAsked c o l h → MayRefuse h t → IsNarrating c o l × (report_accepted t ≡ false)
+asked-refusal c o l chosen.Json t is refused = absurd refused
+asked-refusal c o l chosen.Debug t is refused = absurd refused
+asked-refusal c o l (chosen.Built (handler.Graphical it)) t is refused = absurd refused
+asked-refusal c o l (chosen.Built (handler.Narrated it)) t is refused = ((is.0, is.1.0), refused)
+
+pub render-refuses : {H : Type 0} (c : Choice) (o : Options H) (l : Terminal) (h : Chosen H) (bytes : List ℕ) (t : Tree) → IsAsked c o l h → (IsUtf8 bytes × (tree_for bytes ≡ Some t)) → MayRefuse h t → IsNarrating c o l × IsRefused bytes
+render-refuses c o l h bytes t is read refused = let told = asked-refusal c o l h t is refused in (told.0, (read.0, (t, read.1, told.1)))
+
+-- ---- where the handler was called before
+
+pub stays-itself : {H : Type 0} (is_blank : H → Bool) (h : Chosen H) → Stays is_blank h h
+stays-itself is_blank chosen.Json = refl
+stays-itself is_blank chosen.Debug = refl
+stays-itself is_blank (chosen.Built (handler.Graphical it)) = (refl, refl)
+stays-itself is_blank (chosen.Built (handler.Narrated it)) = refl
+
+pub stays-on : {H : Type 0} (is_blank : H → Bool) (h k m : Chosen H) → Stays is_blank h k → Stays is_blank k m → Stays is_blank h m
+stays-on is_blank chosen.Json k m p q = subst (λ x. Stays is_blank x m) p q
+stays-on is_blank chosen.Debug k m p q = subst (λ x. Stays is_blank x m) p q
+stays-on is_blank (chosen.Built h) chosen.Json m p q = absurd p
+stays-on is_blank (chosen.Built h) chosen.Debug m p q = absurd p
+stays-on is_blank (chosen.Built h) (chosen.Built k) chosen.Json p q = absurd q
+stays-on is_blank (chosen.Built h) (chosen.Built k) chosen.Debug p q = absurd q
+stays-on is_blank (chosen.Built (handler.Graphical h)) (chosen.Built (handler.Graphical k)) (chosen.Built (handler.Graphical m)) p q = (q.0 ∙ p.0, q.1 ∙ p.1)
+stays-on is_blank (chosen.Built (handler.Graphical h)) (chosen.Built (handler.Graphical k)) (chosen.Built (handler.Narrated m)) p q = absurd q
+stays-on is_blank (chosen.Built (handler.Graphical h)) (chosen.Built (handler.Narrated k)) (chosen.Built m) p q = absurd p
+stays-on is_blank (chosen.Built (handler.Narrated h)) (chosen.Built (handler.Narrated k)) (chosen.Built (handler.Narrated m)) p q = q ∙ p
+stays-on is_blank (chosen.Built (handler.Narrated h)) (chosen.Built (handler.Narrated k)) (chosen.Built (handler.Graphical m)) p q = absurd q
+stays-on is_blank (chosen.Built (handler.Narrated h)) (chosen.Built (handler.Graphical k)) (chosen.Built m) p q = absurd p
+
+-- what it gives then, it might have given at first
+pub given-before : {H : Type 0} (is_blank : H → Bool) (h k : Chosen H) (t : Tree) (text : List ℕ) → Stays is_blank h k → IsGiven is_blank k t text → IsGiven is_blank h t text
+given-before is_blank chosen.Json k t text stays given = subst (λ x. IsGiven is_blank x t text) stays given
+given-before is_blank chosen.Debug k t text stays given = tt
+given-before is_blank (chosen.Built h) chosen.Json t text stays given = absurd stays
+given-before is_blank (chosen.Built h) chosen.Debug t text stays given = absurd stays
+given-before is_blank (chosen.Built (handler.Graphical h)) (chosen.Built (handler.Graphical k)) t text stays given =
+    subst (λ b. drawn.IsTextOf drawn_rows h.settings b t text × (b ≡ true → text ≡ encode_utf8_all (report_text drawn_rows h.settings t unlisted))) stays.1
+    (subst (λ s. drawn.IsTextOf drawn_rows s (draws_plain is_blank k) t text × (draws_plain is_blank k ≡ true → text ≡ encode_utf8_all (report_text drawn_rows s t unlisted))) stays.0 given)
+given-before is_blank (chosen.Built (handler.Narrated h)) (chosen.Built (handler.Narrated k)) t text stays given = subst (λ s. IsBuiltText is_blank (handler.Narrated s) t text) stays given
+given-before is_blank (chosen.Built (handler.Graphical h)) (chosen.Built (handler.Narrated k)) t text stays given = absurd stays
+given-before is_blank (chosen.Built (handler.Narrated h)) (chosen.Built (handler.Graphical k)) t text stays given = absurd stays
+
+pub refused-before : {H : Type 0} (is_blank : H → Bool) (h k : Chosen H) (t : Tree) → Stays is_blank h k → MayRefuse k t → MayRefuse h t
+refused-before is_blank chosen.Json k t stays refused = subst (λ x. MayRefuse x t) stays refused
+refused-before is_blank chosen.Debug k t stays refused = subst (λ x. MayRefuse x t) stays refused
+refused-before is_blank (chosen.Built h) chosen.Json t stays refused = absurd refused
+refused-before is_blank (chosen.Built h) chosen.Debug t stays refused = absurd refused
+refused-before is_blank (chosen.Built h) (chosen.Built (handler.Graphical k)) t stays refused = absurd refused
+refused-before is_blank (chosen.Built (handler.Narrated h)) (chosen.Built (handler.Narrated k)) t stays refused = refused
+refused-before is_blank (chosen.Built (handler.Graphical h)) (chosen.Built (handler.Narrated k)) t stays refused = absurd stays
+
+pub length-written : {H : Type 0} (is_blank : H → Bool) (c : Choice) (o : Options H) (l : Terminal) (h : Chosen H) (bytes : List ℕ) (t : Tree) (text : List ℕ) (n : ℕ) → IsAsked c o l h
+    → (IsUtf8 bytes × (tree_for bytes ≡ Some t)) → IsGiven is_blank h t text → n ≡ length text → Writes is_blank c o l bytes (λ given. n ≡ length given)
+length-written is_blank c o l h bytes t text n is read given same = (read.0, (t, read.1, (text, asked-text is_blank c o l h t text is given, same)))
+
+-- ---- what a writer took
+
+pub written : {H : Type 0} (is_blank : H → Bool) (c : Choice) (o : Options H) (l : Terminal) (told : Option (List ℕ)) (bytes slice text sent : List ℕ) (holds : List ℕ → Type 0) → IfSome told (λ b. bytes ≡ b) → slice ≡ bytes
+    → Writes is_blank c o l slice (λ given. text ≡ given) → sent ≡ text → holds sent → IfSome told (λ b. Writes is_blank c o l b holds)
+written is_blank c o l None bytes slice text sent holds told same writes as_sent h = tt
+written is_blank c o l (Some b) bytes slice text sent holds told same writes as_sent h =
+    subst (λ x. Writes is_blank c o l x holds) (same ∙ told) (writes.0, (writes.1.0, writes.1.1, (writes.1.2.0, writes.1.2.1, subst holds (as_sent ∙ writes.1.2.2) h)))

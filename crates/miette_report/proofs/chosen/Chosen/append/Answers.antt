@@ -1,0 +1,16 @@
+use Rattle.std.proofs.Common.{ap, ◌∙◌}
+use Rattle.miette_report.specs.declared.chosen.Chosen.TheVariants as chosen
+use Rattle.miette_report.proofs.ChosenSteps.{graphical-given, graphical-accepts, narrated-given}
+use Rattle.miette_report.proofs.chosen.Chosen.append.Goals as goal
+
+pub returns-in-Built-Graphical-clause-ok : goal.returns-in-Built-Graphical-clause-ok
+returns-in-Built-Graphical-clause-ok g c =
+    graphical-given _ _ c.in-Built-Graphical.handler _ _ _ _ (c.in-Built-Graphical.is ∙ ap chosen.Built c.in-Built-Graphical.field-0-is) c.requires.reads c.render_report-in-Built-Graphical.ensures.ok c.render_report-in-Built-Graphical.ensures.only
+
+pub returns-in-Built-Graphical-clause-refused : goal.returns-in-Built-Graphical-clause-refused
+returns-in-Built-Graphical-clause-refused g c =
+    λ refused. graphical-accepts _ c.in-Built-Graphical.handler _ c.requires.reads (c.render_report-in-Built-Graphical.ensures.refused refused)
+
+pub returns-in-Built-Narrated-clause-ok : goal.returns-in-Built-Narrated-clause-ok
+returns-in-Built-Narrated-clause-ok g c =
+    narrated-given _ _ c.in-Built-Narrated.handler _ _ _ _ (c.in-Built-Narrated.is ∙ ap chosen.Built c.in-Built-Narrated.field-0-is) c.requires.reads c.render_report-in-Built-Narrated.ensures.text c.render_report-in-Built-Narrated.ensures.only

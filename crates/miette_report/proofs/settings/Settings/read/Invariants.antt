@@ -1,0 +1,11 @@
+use Rattle.std.proofs.Common.{◌≡◌, length, map, string_bytes}
+use Rattle.miette_report.specs.Asked.{choice_in}
+use Rattle.miette_report.specs.declared.settings.Choice.TheVariants.{Build}
+use Rattle.miette_report.proofs.settings.Settings.read.Given as goal
+
+-- the words that are left choose from what those before chose
+abbrev pub invariant-loop-rest : goal.invariant-loop-rest
+invariant-loop-rest g l = choice_in Build (map string_bytes l.words) ≡ choice_in l.settings.choice (map string_bytes l.rest)
+
+abbrev pub decreases-loop-rest : goal.decreases-loop-rest
+decreases-loop-rest g l = length l.rest

@@ -1,0 +1,175 @@
+//! What each word asks for that a job may be called with.
+
+ghost use Rattle.std.specs.Prelude.{◌≡◌, ◌<◌, length, true, false, IfSome, IsNone, map, string_bytes};
+ghost use Rattle.miette_report.specs.Asked.{chosen_by, choice_in, is_alone, named_choice};
+
+use crate::settings::Choice;
+use crate::words::number;
+use miette::options::RgbColors;
+
+/// What one word asks for, with its value.
+#[derive(Clone, Copy)]
+pub(crate) enum Asked<'a> {
+    /// A handler.
+    Choice(Choice),
+    /// Something of the handler that is built.
+    Build(BuildAsked<'a>),
+}
+
+/// What the handler that is built goes by.
+#[derive(Clone, Copy)]
+pub(crate) enum BuildAsked<'a> {
+    /// Something of how it writes.
+    Option(OptionAsked<'a>),
+    /// Something that the terminal is or has.
+    Terminal(TerminalAsked<'a>),
+}
+
+/// What is asked for of the handler that is built.
+#[derive(Clone, Copy)]
+pub(crate) enum OptionAsked<'a> {
+    Narrated,
+    Graphical,
+    Width(usize),
+    Context(usize),
+    Tab(usize),
+    Theme(ThemeAsked),
+    Unicode(bool),
+    Color(bool),
+    Links(bool),
+    Chain(bool),
+    Break(bool),
+    Wrap(bool),
+    Hyphens(bool),
+    Nested(bool),
+    Rgb(RgbColors),
+    Footer(&'a str),
+}
+
+/// What is said of the terminal.
+#[derive(Clone, Copy)]
+pub(crate) enum TerminalAsked<'a> {
+    Width(usize),
+    /// Whether it has 16 million colours; nothing where it has none.
+    Color(Option<bool>),
+    Unicode(bool),
+    Links(bool),
+    NoGraphics(&'a str),
+}
+
+/// A theme by its name.
+#[derive(Clone, Copy)]
+pub(crate) enum ThemeAsked {
+    Ascii,
+    Unicode,
+    UnicodeNocolor,
+    None,
+}
+
+/// What the first of the words ask for, and the words behind them. Nothing, where they ask for nothing that there is.
+pub(crate) fn first_asked<'a>(words: &'a [String]) -> Option<(Asked<'a>, &'a [String])>
+    ensures fewer { IfSome result (λ first. length first.1.now < length words.now) }
+    ensures choice { IfSome result (λ first. (choice : Choice) →
+        choice_in choice (map string_bytes words.now) ≡ choice_in (chosen_by first.0 choice) (map string_bytes first.1.now)) }
+{
+    let [word, rest @ ..] = words else {
+        return None;
+    };
+    if let Some(asked) = alone(word.as_str()) {
+        return Some((asked, rest));
+    }
+    let [value, rest @ ..] = rest else {
+        return None;
+    };
+    let asked = with_value(word.as_str(), value.as_str())?;
+    Some((Asked::Build(asked), rest))
+}
+
+/// What a word without a value asks for.
+fn alone<'a>(word: &str) -> Option<Asked<'a>>
+    ensures some { IfSome result (λ asked. (is_alone word.now ≡ true) × ((choice : Choice) → chosen_by asked choice ≡ named_choice choice word.now)) }
+    ensures none { IsNone result → is_alone word.now ≡ false }
+{
+    match word {
+        "--json" => Some(Asked::Choice(Choice::Json)),
+        "--debug" => Some(Asked::Choice(Choice::Debug)),
+        "--narrated" => Some(Asked::Build(BuildAsked::Option(OptionAsked::Narrated))),
+        "--graphical" => Some(Asked::Build(BuildAsked::Option(OptionAsked::Graphical))),
+        _ => None,
+    }
+}
+
+/// What a word asks for with the word behind it as its value.
+fn with_value<'a>(word: &str, value: &'a str) -> Option<BuildAsked<'a>> {
+    if let Some(asked) = text(word, value) {
+        return Some(asked);
+    }
+    if let Some(number) = number(value) {
+        return with_number(word, number);
+    }
+    match value {
+        "yes" => with_answer(word, true),
+        "no" => with_answer(word, false),
+        _ => with_name(word, value),
+    }
+}
+
+/// The words whose value is any text.
+fn text<'a>(word: &str, value: &'a str) -> Option<BuildAsked<'a>> {
+    match word {
+        "--footer" => Some(BuildAsked::Option(OptionAsked::Footer(value))),
+        "--no-graphics" => Some(BuildAsked::Terminal(TerminalAsked::NoGraphics(value))),
+        _ => None,
+    }
+}
+
+/// The words whose value is a number.
+fn with_number<'a>(word: &str, number: usize) -> Option<BuildAsked<'a>> {
+    match word {
+        "--width" => Some(BuildAsked::Option(OptionAsked::Width(number))),
+        "--context" => Some(BuildAsked::Option(OptionAsked::Context(number))),
+        "--tab" => Some(BuildAsked::Option(OptionAsked::Tab(number))),
+        "--term-width" => Some(BuildAsked::Terminal(TerminalAsked::Width(number))),
+        _ => None,
+    }
+}
+
+/// The words whose value is `yes` or `no`.
+fn with_answer<'a>(word: &str, yes: bool) -> Option<BuildAsked<'a>> {
+    let asked = match word {
+        "--unicode" => OptionAsked::Unicode(yes),
+        "--color" => OptionAsked::Color(yes),
+        "--links" => OptionAsked::Links(yes),
+        "--chain" => OptionAsked::Chain(yes),
+        "--break" => OptionAsked::Break(yes),
+        "--wrap" => OptionAsked::Wrap(yes),
+        "--hyphens" => OptionAsked::Hyphens(yes),
+        "--nested" => OptionAsked::Nested(yes),
+        "--term-unicode" => return Some(BuildAsked::Terminal(TerminalAsked::Unicode(yes))),
+        "--term-links" => return Some(BuildAsked::Terminal(TerminalAsked::Links(yes))),
+        _ => return None,
+    };
+    Some(BuildAsked::Option(asked))
+}
+
+/// The words whose value is a name.
+fn with_name<'a>(word: &str, name: &str) -> Option<BuildAsked<'a>> {
+    let asked = match (word, name) {
+        ("--theme", "ascii") => OptionAsked::Theme(ThemeAsked::Ascii),
+        ("--theme", "unicode") => OptionAsked::Theme(ThemeAsked::Unicode),
+        ("--theme", "unicode_nocolor") => OptionAsked::Theme(ThemeAsked::UnicodeNocolor),
+        ("--theme", "none") => OptionAsked::Theme(ThemeAsked::None),
+        ("--rgb", "always") => OptionAsked::Rgb(RgbColors::Always),
+        ("--rgb", "preferred") => OptionAsked::Rgb(RgbColors::Preferred),
+        ("--rgb", "never") => OptionAsked::Rgb(RgbColors::Never),
+        ("--term-color", "none") => return Some(BuildAsked::Terminal(TerminalAsked::Color(None))),
+        ("--term-color", "ansi") => {
+            return Some(BuildAsked::Terminal(TerminalAsked::Color(Some(false))));
+        }
+        ("--term-color", "rgb") => {
+            return Some(BuildAsked::Terminal(TerminalAsked::Color(Some(true))));
+        }
+        _ => return None,
+    };
+    Some(BuildAsked::Option(asked))
+}

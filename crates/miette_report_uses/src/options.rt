@@ -1,0 +1,172 @@
+//! What options and a terminal choose. The words of `job` try each option; here stand the calls that it doesn't make.
+
+use crate::highlighting::FirstRed;
+use miette::diagnostic::MietteDiagnostic;
+use miette::handlers::{GraphicalReportHandler, ReportHandler};
+use miette::options::{MietteHandler, MietteHandlerOpts, Terminal};
+use miette::protocol::LabeledSpan;
+use miette::report::{OwnedSource, Report};
+use miette::theme::GraphicalTheme;
+use miette::wrap::WordSeparator;
+use std::alloc::{AllocError, Global};
+use std::process::Abort;
+use std::test::Fail;
+
+/// A terminal of which nothing is known.
+fn bare() -> Terminal {
+    Terminal {
+        width: None,
+        color: None,
+        unicode: false,
+        hyperlinks: false,
+        stdout_terminal: false,
+        stderr_terminal: false,
+        no_graphics: None,
+        no_color: None,
+    }
+}
+
+/// The options make this text of the message `m` on a terminal of which nothing is known.
+fn make(
+    rt: &impl Abort,
+    alloc: Global,
+    options: MietteHandlerOpts,
+    wanted: &str,
+) -> Result<(), Fail> {
+    let mut out = String::new(alloc);
+    let mut handler = options.build(alloc, &bare())?;
+    handler.debug(&Report::msg(alloc, "m")?, &mut out)?;
+    assert_eq!(rt; out.as_str(), wanted);
+    Ok(())
+}
+
+#[test]
+fn nothing_asked(rt: HostRuntime) -> Result<(), Fail> {
+    make(&rt, rt.alloc(), MietteHandlerOpts::new(), "  x m\n")
+}
+
+#[test]
+fn by_default(rt: HostRuntime) -> Result<(), Fail> {
+    make(&rt, rt.alloc(), MietteHandlerOpts::default(), "  x m\n")
+}
+
+#[test]
+fn narrated(rt: HostRuntime) -> Result<(), Fail> {
+    let asked = MietteHandlerOpts::new().force_narrated(true);
+    make(
+        &rt,
+        rt.alloc(),
+        asked,
+        "m\n    Diagnostic severity: error\n",
+    )
+}
+
+#[test]
+fn separated_by_spaces(rt: HostRuntime) -> Result<(), Fail> {
+    let asked = MietteHandlerOpts::new().word_separator(WordSeparator::AsciiSpace);
+    make(&rt, rt.alloc(), asked, "  x m\n")
+}
+
+/// The handler of a terminal whose user wants no graphics narrates.
+fn told_without_graphics(alloc: Global) -> Result<String, Fail> {
+    let terminal = Terminal {
+        no_graphics: Some(String::from_str(alloc, "1")?),
+        ..bare()
+    };
+    let mut out = String::new(alloc);
+    MietteHandler::new(alloc, &terminal)?.debug(&Report::msg(alloc, "m")?, &mut out)?;
+    Ok(out)
+}
+
+#[test]
+fn the_handler_of_a_terminal(rt: HostRuntime) -> Result<(), Fail> {
+    let told = told_without_graphics(rt.alloc())?;
+    assert_eq!(rt; told.as_str(), "m\n    Diagnostic severity: error\n");
+    Ok(())
+}
+
+fn displayed(alloc: Global) -> Result<String, Fail> {
+    let mut out = String::new(alloc);
+    MietteHandler::new(alloc, &bare())?.display(&Report::msg(alloc, "m")?, true, &mut out)?;
+    Ok(out)
+}
+
+#[test]
+fn display(rt: HostRuntime) -> Result<(), Fail> {
+    assert_eq!(rt; displayed(rt.alloc())?.as_str(), "m");
+    Ok(())
+}
+
+/// The message `m`, drawn for a terminal.
+fn drawn_for(alloc: Global, terminal: &Terminal) -> Result<String, Fail> {
+    let mut out = String::new(alloc);
+    let mut handler = GraphicalReportHandler::new(alloc, terminal)?;
+    handler.render_report(&Report::msg(alloc, "m")?, &mut out)?;
+    Ok(out)
+}
+
+#[test]
+fn pictures_for_a_terminal(rt: HostRuntime) -> Result<(), Fail> {
+    assert_eq!(rt; drawn_for(rt.alloc(), &bare())?.as_str(), "  x m\n");
+    let terminal = Terminal {
+        stdout_terminal: true,
+        stderr_terminal: true,
+        unicode: true,
+        ..bare()
+    };
+    let wanted = "  \u{1b}[31m×\u{1b}[0m m\n";
+    assert_eq!(rt; drawn_for(rt.alloc(), &terminal)?.as_str(), wanted);
+    Ok(())
+}
+
+/// A label on the first byte of `ab`.
+fn labelled(alloc: Global) -> Result<Report, AllocError> {
+    let label = LabeledSpan::new(None, 0, 1);
+    let made = MietteDiagnostic::new(alloc, "m")?.with_label(alloc, label)?;
+    let source = OwnedSource::new(alloc, b"ab".to_vec(alloc)?)?;
+    Ok(Report::new(made).with_owned_source(source))
+}
+
+/// What the options draw of that label, without a style of a theme.
+fn drawn(alloc: Global, options: MietteHandlerOpts) -> Result<String, Fail> {
+    let theme = GraphicalTheme::unicode_nocolor(alloc)?;
+    let mut out = String::new(alloc);
+    let mut handler = options.graphical_theme(theme).build(alloc, &bare())?;
+    handler.debug(&labelled(alloc)?, &mut out)?;
+    Ok(out)
+}
+
+const PLAIN: &str = "  × m\n   ╭────\n 1 │ ab\n   · ─\n   ╰────\n";
+
+const STYLED: &str = "  × m\n   ╭────\n 1 │ \u{1b}[31ma\u{1b}[0mb\n   · ─\n   ╰────\n";
+
+#[test]
+fn a_highlighter_where_colours_are_asked_for(rt: HostRuntime) -> Result<(), Fail> {
+    let first_red = Box::new(rt.alloc(), FirstRed)?;
+    let asked = MietteHandlerOpts::new()
+        .color(true)
+        .with_syntax_highlighting(first_red);
+    assert_eq!(rt; drawn(rt.alloc(), asked)?.as_str(), STYLED);
+    Ok(())
+}
+
+#[test]
+fn a_highlighter_where_none_are(rt: HostRuntime) -> Result<(), Fail> {
+    let first_red = Box::new(rt.alloc(), FirstRed)?;
+    let asked = MietteHandlerOpts::new()
+        .color(false)
+        .with_syntax_highlighting(first_red);
+    assert_eq!(rt; drawn(rt.alloc(), asked)?.as_str(), PLAIN);
+    Ok(())
+}
+
+#[test]
+fn a_highlighter_that_is_taken_back(rt: HostRuntime) -> Result<(), Fail> {
+    let first_red = Box::new(rt.alloc(), FirstRed)?;
+    let asked = MietteHandlerOpts::new()
+        .color(true)
+        .with_syntax_highlighting(first_red)
+        .without_syntax_highlighting();
+    assert_eq!(rt; drawn(rt.alloc(), asked)?.as_str(), PLAIN);
+    Ok(())
+}

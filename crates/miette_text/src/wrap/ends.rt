@@ -1,0 +1,119 @@
+//! Where parts of words end, and rows.
+
+ghost use Rattle.std.specs.Prelude.{◌≡◌, ◌≤◌, ◌<◌, ◌==◌, ◌&&◌, IfOk, length, take};
+ghost use Rattle.miette_text.specs.Ends.{IsFirstRow, begins_word, code_columns, gap_len, part_len};
+ghost use Rattle.miette_text.specs.Wrapping.{is_alphanumeric};
+
+use crate::wrap::words::{char_columns, sum};
+use std::alloc::AllocError;
+
+/// How words are cut: behind hyphens, and where they are wider than the narrower of the rows.
+#[derive(Clone, Copy)]
+pub struct Cuts {
+    pub hyphens: bool,
+    pub breaks: bool,
+    pub narrow: usize,
+}
+
+/// The first part of a word: how many letters it has, and how many columns they take.
+#[derive(Clone, Copy)]
+struct Part {
+    len: usize,
+    columns: usize,
+}
+
+fn is_alphanumeric(c: char) -> bool
+    ensures { result ≡ is_alphanumeric c }
+{
+    ('0' <= c && c <= '9') || ('A' <= c && c <= 'Z') || ('a' <= c && c <= 'z')
+}
+
+fn begins_word(codes: &[char]) -> bool
+    ensures { result ≡ begins_word codes.now }
+{
+    match codes {
+        [] => false,
+        [c, ..] => is_alphanumeric(*c),
+    }
+}
+
+// Whether a word is cut behind a code, with another code before it.
+fn is_cut(cuts: Cuts, before: char, code: char, codes: &[char]) -> bool
+    ensures { result ≡ (cuts.hyphens && ((code == 45) && is_alphanumeric before && begins_word codes.now)) }
+{
+    cuts.hyphens && code == '-' && is_alphanumeric(before) && begins_word(codes)
+}
+
+// The part at the front.
+fn first_part(cuts: Cuts, first: char, codes: &[char]) -> Result<Part, AllocError>
+    ensures len { IfOk result (λ p. p.len ≡ part_len cuts.hyphens cuts.breaks cuts.narrow first 0 codes.now) }
+    ensures columns { IfOk result (λ p. p.columns ≡ code_columns (take p.len codes.now)) }
+    ensures within { IfOk result (λ p. p.len ≤ length codes.now) }
+{
+    let mut used = 0;
+    let mut before = first;
+    for (i, code) in codes.iter().enumerate() {
+        let code = *code;
+        if code == ' ' {
+            return Ok(Part {
+                len: i,
+                columns: used,
+            });
+        }
+        let both = sum(used, char_columns(code))?;
+        if cuts.breaks && 0 < used && cuts.narrow < both {
+            return Ok(Part {
+                len: i,
+                columns: used,
+            });
+        }
+        used = both;
+        if is_cut(cuts, before, code, &codes[i + 1..]) {
+            return Ok(Part {
+                len: i + 1,
+                columns: used,
+            });
+        }
+        before = code;
+    }
+    Ok(Part {
+        len: codes.len(),
+        columns: used,
+    })
+}
+
+// How many spaces there are at the front.
+fn gap_len(codes: &[char]) -> usize
+    ensures value { result ≡ gap_len codes.now }
+    ensures within { result ≤ length codes.now }
+{
+    for (i, code) in codes.iter().enumerate() {
+        if *code != ' ' {
+            return i;
+        }
+    }
+    codes.len()
+}
+
+/// How many codes the first row has, of those that are left of a line behind one.
+pub fn row_len(cuts: Cuts, room: usize, first: char, codes: &[char]) -> Result<usize, AllocError>
+    ensures value { IfOk result (λ n. IsFirstRow cuts.hyphens cuts.breaks cuts.narrow first room codes.now n) }
+    ensures some { IfOk result (λ n. 0 < length codes.now → 0 < n) }
+    ensures within { IfOk result (λ n. n ≤ length codes.now) }
+{
+    let mut end: usize = 0;
+    let mut used = 0;
+    let mut before = first;
+    'rest: while end < codes.len() {
+        let part = first_part(cuts, before, &codes[end..])?;
+        let spaces = gap_len(&codes[end + part.len..]);
+        let wide = sum(used, part.columns)?;
+        if 0 < end && room < wide {
+            return Ok(end);
+        }
+        used = sum(wide, spaces)?;
+        end = end + part.len + spaces;
+        before = codes[end - 1];
+    }
+    Ok(end)
+}
