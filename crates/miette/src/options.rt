@@ -38,7 +38,7 @@ pub fn rgb_colors_law()
 /// What a user asks of a handler. An option that is set twice counts as it was set last; of one that isn't set the terminal
 /// decides, or the handler's own default stays.
 ///
-/// Users write `MietteHandlerOpts`; the parameter is the box in which a highlighter is given. All calls but `build` take no memory.
+/// Users write `MietteHandlerOpts`; the parameter is the type of the highlighter that is used. All calls but `build` take no memory.
 #[derive(Drop)]
 pub struct MietteHandlerOpts<H = Box<dyn Highlighter>> {
     force_narrated: Option<bool>,
@@ -320,7 +320,7 @@ impl<H: Highlighter> MietteHandlerOpts<H> {
         }
     }
 
-    /// How many lines of context are shown around a label, by either handler.
+    /// How many lines of context are shown around a label that has no number of its own, by either handler.
     pub fn context_lines(self, lines: usize) -> Self
         ensures { result ≡ record self { context = Some lines } }
     {

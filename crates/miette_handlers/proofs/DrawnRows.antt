@@ -1,5 +1,5 @@
 -- The rows of snippets under answers: where nothing fails, they are those in which nothing is listed.
-use Rattle.std.proofs.Common.{◌≡◌, ◌≢◌, ℕ, Bool, true, false, ◌||◌, if◌then◌else◌, ◌⊎◌, inl, inr, List, [], ◌∷◌, refl, sym, ap, ap₂, ◌∙◌, subst, Option, Some, None, is_some, option_map, codes, length, ◌<◌, ◌≤◌, arith}
+use Rattle.std.proofs.Common.{◌≡◌, ◌≢◌, ℕ, Bool, true, false, ◌&&◌, ◌||◌, if◌then◌else◌, ◌⊎◌, inl, inr, List, [], ◌∷◌, refl, sym, ap, ap₂, ◌∙◌, subst, Option, Some, None, is_some, option_map, codes, length, ◌<◌, ◌≤◌, arith}
 use Rattle.miette_protocol.specs.Meaning.{Label, Meaning}
 use Rattle.miette_protocol.specs.Reading.{Source, Span}
 use Rattle.miette_text.specs.Tame.{is_nil}
@@ -8,9 +8,10 @@ use Rattle.miette_layout.specs.Contexts.{is_accepted, contents, lines_of_content
 use Rattle.miette_layout.specs.Drawn.{MayGive}
 use Rattle.miette_layout.specs.Frames as frames
 use Rattle.miette_layout.specs.Frames.{refused_row}
-use Rattle.miette_layout.specs.Groups.{refusal, joins_before, joined, groups_from, groups_answered, in_order, spans_of}
+use Rattle.miette_layout.specs.Around.{has_own, group_context}
+use Rattle.miette_layout.specs.Groups.{refusal, joins_before, joined, groups_from, groups_answered, own_groups, groups_of, some_fails, groups_fail, in_order, spans_of}
 use Rattle.miette_layout.specs.Highlighted.{EachHasPieces, SnippetsHavePieces, texts_of}
-use Rattle.miette_layout.specs.Layout.{snippet_rows, rows_unless, rows_of_groups, all_snippets, some_fails}
+use Rattle.miette_layout.specs.Layout.{snippet_rows, rows_unless, rows_of_groups, settings_around, all_snippets}
 use Rattle.miette_layout.specs.Rows.{Row}
 use Rattle.miette_layout.specs.Told.{Token, told_rows}
 use Rattle.miette_handlers.specs.Answers.{Answer, nothing_listed, pieces_listed}
@@ -57,13 +58,26 @@ places_none : (fails : List Bool) (groups : List Span) → NoneFails fails → s
 places_none fails [] h = refl
 places_none fails (group ∷ groups) h = ap₂ (λ a b. a || b) (next_none fails h) (places_none (later_answers fails) groups (later_none fails h))
 
+grouped_none : (context : ℕ) (source : Source) (fails : List Bool) (labels : List Label) → NoneFails fails →
+    groups_of context source fails labels ≡ groups_of context source [] labels
+grouped_none context source fails labels h =
+    ap (λ gs. if has_own labels then own_groups context source labels else gs) (answered_none context source fails (spans_of labels) h)
+
+and_none : (a b : Bool) → b ≡ false → (a && b) ≡ false
+and_none true b h = h
+and_none false b h = refl
+
+unread_none : (context : ℕ) (source : Source) (fails : List Bool) (labels : List Label) → NoneFails fails → groups_fail context source fails labels ≡ false
+unread_none context source fails labels h = and_none (has_own labels) (some_fails fails (groups_of context source fails labels)) (places_none fails (groups_of context source fails labels) h)
+
 -- the rows of groups where nothing fails
 groups_given : (s : frames.Settings) (source : Source) (labels : List Label) (a : Answer) → AlwaysReads a →
-    rows_of_groups s source labels a (groups_answered s.context source a.join_fails (spans_of labels))
-    ≡ Some (all_snippets s source labels a.pieces (groups_answered s.context source [] (spans_of labels)))
+    rows_of_groups s source labels a (groups_of s.context source a.join_fails labels)
+    ≡ Some (all_snippets (settings_around s labels) source labels a.pieces (groups_of s.context source [] labels))
 groups_given s source labels a h =
-    ap (λ g. rows_of_groups s source labels a g) (answered_none s.context source a.join_fails (spans_of labels) h.joins)
-    ∙ ap (λ b. if b then None else Some (all_snippets s source labels a.pieces (groups_answered s.context source [] (spans_of labels)))) (places_none a.place_fails (groups_answered s.context source [] (spans_of labels)) h.places)
+    ap (λ g. rows_of_groups s source labels a g) (grouped_none s.context source a.join_fails labels h.joins)
+    ∙ ap₂ (λ x y. if x || y then None else Some (all_snippets (settings_around s labels) source labels a.pieces (groups_of s.context source [] labels)))
+    (unread_none s.context source a.join_fails labels h.joins) (places_none a.place_fails (groups_of s.context source [] labels) h.places)
 
 pub none_listed : (pieces : List (List (List Highlight))) → AlwaysReads (pieces_listed pieces)
 none_listed pieces = record { labels = tt; joins = tt; places = tt }
@@ -109,7 +123,7 @@ none_have context blank source (group ∷ groups) =
 
 no_pieces : (s : frames.Settings) (blank : Bool) (source : Option Source) (labels : List Label) → HasPieces s blank source labels nothing_listed
 no_pieces s blank None labels = tt
-no_pieces s blank (Some source) labels = none_have s.context blank source (groups_answered s.context source [] (spans_of (in_order labels)))
+no_pieces s blank (Some source) labels = none_have (group_context s.context (in_order labels)) blank source (groups_of s.context source [] (in_order labels))
 
 -- where nothing is listed, nothing failed
 pub unlisted_is : (s : frames.Settings) (blank : Bool) (source : Option Source) (labels : List Label) (reads : Bool) → IsAnswerOf s blank source labels reads nothing_listed
@@ -143,7 +157,7 @@ drawn_page s source labels blank page text g e =
         record {
           read = λ h. refl;
           plain = g.plain;
-          pieces = subst (λ groups. SnippetsHavePieces l.context blank source groups a.pieces) (answered_none l.context source a.join_fails (spans_of (in_order labels)) (g.always reads).joins) g.pieces;
+          pieces = subst (λ groups. SnippetsHavePieces (group_context l.context (in_order labels)) blank source groups a.pieces) (grouped_none l.context source a.join_fails (in_order labels) (g.always reads).joins) g.pieces;
           rows = always_rows l (Some source) labels a.pieces;
         },
         shown ∙ ap (λ r. rows_text (shown_rows r)) (rows_same l source labels a (g.always reads)),

@@ -15,3 +15,4 @@ pub mod Only
 pub mod Printed
 pub mod DrawnRows
 pub mod SnippetsFading
+pub mod Styled

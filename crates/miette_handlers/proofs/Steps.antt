@@ -1,7 +1,8 @@
 -- Printing a report, step by step: the answers of a whole are put together from those of its parts.
-use Rattle.std.proofs.Common.{◌≡◌, ◌≤◌, ◌<◌, Bool, true, false, List, [], ◌∷◌, ◌++◌, ℕ, length, map, drop, take, ◌-◌, get_or, refl, sym, subst, ap, ap₂, ◌∙◌, append_assoc, append-nil, arith, Option, MatchBool, if◌then◌else◌}
+use Rattle.std.proofs.Common.{◌≡◌, ◌≤◌, ◌<◌, Bool, true, false, ◌&&◌, List, [], ◌∷◌, ◌++◌, ℕ, length, map, drop, take, ◌-◌, get_or, refl, sym, subst, ap, ap₂, ◌∙◌, append_assoc, append-nil, arith, Option, MatchBool, if◌then◌else◌}
 use Rattle.std.proofs.lemmas.List.{take_rest}
-use Rattle.miette_text.specs.Cutting.{without_trailing}
+use Rattle.miette_text.specs.Cutting.{without_leading, without_trailing}
+use Rattle.miette_text.specs.Runs.{print}
 use Rattle.miette_protocol.specs.Meaning.{Meaning}
 use Rattle.miette_protocol.specs.Reading.{Source}
 use Rattle.miette_tree.specs.Tree.{Tree, tree, Cause, diagnostic, texts, Trees, no_trees, more_trees, head, source_of, cause_of, related_of, trees}
@@ -9,7 +10,7 @@ use Rattle.miette_protocol.specs.declared.protocol.Severity.{Severity}
 use Rattle.miette_handlers.specs.Settings.{Settings}
 use Rattle.miette_handlers.specs.Answers.{Answers, unlisted, listed, no_more, and_more, own_answer, cause_answers, related_answers}
 use Rattle.miette_handlers.specs.Indents.{narrowed}
-use Rattle.miette_handlers.specs.Parts.{SnippetRows, rows_text, under_arrow, title_text, list_of}
+use Rattle.miette_handlers.specs.Parts.{SnippetRows, rows_text, under_arrow, header, message_text, help_text, footer_text, title_text, list_of}
 use Rattle.miette_handlers.specs.Text.{cause_texts, ends_there, are_last, body, body_over, inner_over, inner_text, causes_text, related_text, report_over, only_if}
 use Rattle.miette_tree.specs.Tree.{effective}
 use Rattle.miette_layout.specs.Frames as frames
@@ -18,7 +19,7 @@ use Rattle.miette_handlers.specs.Snippets.{layout_settings}
 use Rattle.miette_handlers.proofs.DrawnRows.{unlisted_is}
 use Rattle.miette_handlers.proofs.Lists.{first_fails, later_fails}
 use Rattle.miette_handlers.specs.Handler.{AppendsOne}
-use Rattle.miette_handlers.specs.Answered.{IsAnswer, AreCauseAnswers, AreRelatedAnswers, IsDrawn, AreCauses, AreRelated, IsInner, IsSibling, IsOneCause, IsNested, IsOneRelated, AreRootCauses, IsReport}
+use Rattle.miette_handlers.specs.Answered.{IsAnswer, AreCauseAnswers, AreRelatedAnswers, IsDrawn, AreCauses, AreRelated, IsInner, IsSibling, IsOneCause, IsNested, IsOneRelated, AreRootCauses, IsBelow, IsReport}
 
 pub not_last : {R : Type 0} (value : R → Tree) (rs : List R) → 1 ≤ length rs → false ≡ are_last (trees (map value rs))
 not_last value [] h = absurd (omega arith)
@@ -127,29 +128,83 @@ root_step rows s blank (tree m own c r) drawn causes related p q k =
 
 -- ---- texts that are appended
 
--- behind nothing a text is appended alone
-pub alone : (P : List ℕ → Type 0) (old new : List ℕ) → old ≡ [] → AppendsOne P old new → P new
-alone P old new e q = subst P (sym (q.appended ∙ ap (λ o. o ++ q.text) e)) q.is_given
+-- one text behind another
+pub behind : (old mid new first more : List ℕ) → mid ≡ old ++ first → new ≡ mid ++ more → new ≡ old ++ (first ++ more)
+behind old mid new first more p q = q ∙ ap (λ x. x ++ more) p ∙ append_assoc old first more
+
+pub nothing_behind : (P : List ℕ → Type 0) (old : List ℕ) → P [] → AppendsOne P old old
+nothing_behind P old p = record { text = []; is_given = p; appended = sym (append-nil old) }
 
 pub cause_texts_behind : (rows : SnippetRows) (s : Settings) (blank : Bool) (outer : Option Severity) (inherited : Option Source) (ts : List (List ℕ)) (old new : List ℕ) →
     new ≡ old ++ cause_texts s outer ts → AppendsOne (AreCauses rows s blank outer inherited (texts ts)) old new
 cause_texts_behind rows s blank outer inherited ts old new e = record { text = cause_texts s outer ts; is_given = causes_none rows s blank outer inherited ts (cause_texts s outer ts) refl; appended = e }
 
-pub cause_behind : (rows : SnippetRows) (s : Settings) (blank : Bool) (outer : Option Severity) (inherited : Option Source) (t : Tree) (one old mid new : List ℕ) →
-    IsOneCause rows s blank outer inherited t one → mid ≡ old ++ one → AppendsOne (AreCauses rows s blank outer inherited (cause_of t)) mid new →
+pub cause_behind : (rows : SnippetRows) (s : Settings) (blank : Bool) (outer : Option Severity) (inherited : Option Source) (t : Tree) (old mid new : List ℕ) →
+    AppendsOne (IsOneCause rows s blank outer inherited t) old mid → AppendsOne (AreCauses rows s blank outer inherited (cause_of t)) mid new →
     AppendsOne (AreCauses rows s blank outer inherited (diagnostic t)) old new
-cause_behind rows s blank outer inherited t one old mid new p e q =
-    record { text = one ++ q.text; is_given = cause_step rows s blank outer inherited t one q.text p q.is_given; appended = q.appended ∙ ap (λ m. m ++ q.text) e ∙ append_assoc old one q.text }
+cause_behind rows s blank outer inherited t old mid new p q =
+    record { text = p.text ++ q.text; is_given = cause_step rows s blank outer inherited t p.text q.text p.is_given q.is_given; appended = behind old mid new p.text q.text p.appended q.appended }
 
 pub no_related_behind : {R : Type 0} (rows : SnippetRows) (s : Settings) (blank : Bool) (outer : Option Severity) (inherited : Option Source) (value : R → Tree) (rs : List R) (old : List ℕ) →
     length rs < 1 → AppendsOne (AreRelated rows s blank outer inherited (trees (map value rs))) old old
-no_related_behind rows s blank outer inherited value rs old h = record { text = []; is_given = none_related rows s blank outer inherited value rs [] h refl; appended = sym (append-nil old) }
+no_related_behind rows s blank outer inherited value rs old h =
+    nothing_behind (AreRelated rows s blank outer inherited (trees (map value rs))) old (none_related rows s blank outer inherited value rs [] h refl)
 
-pub related_behind : (rows : SnippetRows) (s : Settings) (blank : Bool) (outer : Option Severity) (inherited : Option Source) (t : Tree) (ts : Trees) (one old mid new : List ℕ) →
-    IsOneRelated rows s blank outer (effective (source_of t) inherited) (are_last ts) t one → mid ≡ old ++ one → AppendsOne (AreRelated rows s blank outer inherited ts) mid new →
+pub related_behind : (rows : SnippetRows) (s : Settings) (blank : Bool) (outer : Option Severity) (inherited : Option Source) (t : Tree) (ts : Trees) (old mid new : List ℕ) →
+    AppendsOne (IsOneRelated rows s blank outer (effective (source_of t) inherited) (are_last ts) t) old mid → AppendsOne (AreRelated rows s blank outer inherited ts) mid new →
     AppendsOne (AreRelated rows s blank outer inherited (more_trees t ts)) old new
-related_behind rows s blank outer inherited t ts one old mid new p e q =
-    record { text = one ++ q.text; is_given = related_step rows s blank outer inherited t ts one q.text p q.is_given; appended = q.appended ∙ ap (λ m. m ++ q.text) e ∙ append_assoc old one q.text }
+related_behind rows s blank outer inherited t ts old mid new p q =
+    record { text = p.text ++ q.text; is_given = related_step rows s blank outer inherited t ts p.text q.text p.is_given q.is_given; appended = behind old mid new p.text q.text p.appended q.appended }
+
+pub below_behind : (rows : SnippetRows) (s : Settings) (blank : Bool) (source : Option Source) (t : Tree) (old drawn helped new : List ℕ) →
+    AppendsOne (IsDrawn rows s blank source (head t)) old drawn → helped ≡ drawn ++ help_text s (head t).help →
+    AppendsOne (AreRelated rows s blank (head t).severity source (related_of t)) helped new → AppendsOne (IsBelow rows s blank source t) old new
+below_behind rows s blank source t old drawn helped new p e q = record {
+  text = p.text ++ help_text s (head t).help ++ q.text;
+  is_given = (p.text, q.text, p.is_given, q.is_given, refl);
+  appended = behind old helped new (p.text ++ help_text s (head t).help) q.text (behind old drawn helped p.text (help_text s (head t).help) p.appended e) q.appended;
+}
+
+regrouped : (a b c d : List ℕ) → a ++ (b ++ c ++ d) ≡ a ++ b ++ c ++ d
+regrouped a b c d = sym (append_assoc a (b ++ c) d) ∙ ap (λ x. x ++ d) (sym (append_assoc a b c))
+
+-- message, causes, and what stands below them
+body_behind : (s : Settings) (m : Meaning) (old told caused new drawn causes related below : List ℕ) → told ≡ old ++ message_text s m → caused ≡ told ++ causes → new ≡ caused ++ below →
+    below ≡ drawn ++ help_text s m.help ++ related → new ≡ old ++ body_over s m drawn causes related
+body_behind s m old told caused new drawn causes related below p q r e =
+    behind old caused new (message_text s m ++ causes) below (behind old told caused (message_text s m) causes p q) r
+    ∙ ap (λ x. old ++ x) (ap (λ x. message_text s m ++ causes ++ x) e ∙ regrouped (message_text s m ++ causes) drawn (help_text s m.help) related)
+
+pub inner_whole : (rows : SnippetRows) (s : Settings) (blank : Bool) (source : Option Source) (t : Tree) (old headed told new text : List ℕ) →
+    old ≡ [] → headed ≡ old ++ print (header s (head t)) → told ≡ headed ++ message_text s (head t) → AppendsOne (IsBelow rows s blank source t) told new →
+    text ≡ without_leading new → IsInner rows s blank source t text
+inner_whole rows s blank source t old headed told new text n h m p e =
+    let below = p.is_given in
+    let body : new ≡ headed ++ body_over s (head t) below.0 [] below.1 = body_behind s (head t) headed told told new below.0 [] below.1 p.text m (sym (append-nil told)) p.appended below.4 in
+    subst (λ x. IsInner rows s blank source t x)
+    (sym (e ∙ ap without_leading (body ∙ ap (λ x. x ++ body_over s (head t) below.0 [] below.1) (h ∙ ap (λ x. x ++ print (header s (head t))) n))))
+    (inner_step rows s blank source t below.0 below.1 below.2 below.3)
+
+pub sibling_behind : (rows : SnippetRows) (s : Settings) (blank : Bool) (source : Option Source) (t : Tree) (old titled told caused new : List ℕ) →
+    titled ≡ old ++ title_text s (head t) → told ≡ titled ++ message_text s (head t) → AppendsOne (AreCauses rows s blank (head t).severity source (cause_of t)) told caused →
+    AppendsOne (IsBelow rows s blank source t) caused new → AppendsOne (IsSibling rows s blank source t) old new
+sibling_behind rows s blank source t old titled told caused new h m c p =
+    let below = p.is_given in record {
+      text = title_text s (head t) ++ body_over s (head t) below.0 c.text below.1;
+      is_given = sibling_step rows s blank source t below.0 c.text below.1 below.2 c.is_given below.3;
+      appended = behind old titled new (title_text s (head t)) (body_over s (head t) below.0 c.text below.1) h
+          (body_behind s (head t) titled told caused new below.0 c.text below.1 p.text m c.appended p.appended below.4);
+    }
+
+pub report_whole : (rows : SnippetRows) (s : Settings) (blank : Bool) (t : Tree) (old headed told caused drawn text : List ℕ) →
+    old ≡ [] → headed ≡ old ++ print (header s (head t)) → told ≡ headed ++ message_text s (head t) → AppendsOne (AreRootCauses rows s blank t) told caused →
+    AppendsOne (IsBelow rows s blank (source_of t) t) caused drawn → text ≡ drawn ++ footer_text s → IsReport rows s blank t text
+report_whole rows s blank t old headed told caused drawn text n h m c p e =
+    let below = p.is_given in
+    let body : drawn ≡ headed ++ body_over s (head t) below.0 c.text below.1 = body_behind s (head t) headed told caused drawn below.0 c.text below.1 p.text m c.appended p.appended below.4 in
+    subst (λ x. IsReport rows s blank t x)
+    (sym (e ∙ ap (λ x. x ++ footer_text s) (body ∙ ap (λ x. x ++ body_over s (head t) below.0 c.text below.1) (h ∙ ap (λ x. x ++ print (header s (head t))) n))))
+    (root_step rows s blank t below.0 c.text below.1 below.2 c.is_given below.3)
 
 -- ---- refusals
 
@@ -165,18 +220,26 @@ pub inner_related_fail : (nested : Bool) (source : Option Source) (t : Tree) →
     all_read (printed_inner nested source t) ≡ false
 inner_related_fail nested source (tree m own c r) h = later_fails (over source m ∷ []) (printed_related nested source r) h
 
+and_later : (a b c : Bool) → (b ≡ false → c ≡ false) → (a && b) ≡ false → (a && c) ≡ false
+and_later true b c f h = f h
+and_later false b c f h = refl
+
+pub inner_rows_fail : (nested : Bool) (source : Option Source) (t : Tree) → always_reads source (head t) ≡ false → all_read (printed_inner nested source t) ≡ false
+inner_rows_fail nested source (tree m own c r) h = ap (λ b. b && all_read (printed_related nested source r)) h
+
+pub sibling_below_fails : (nested : Bool) (source : Option Source) (t : Tree) → all_read (printed_inner nested source t) ≡ false → all_read (printed_sibling nested source t) ≡ false
+sibling_below_fails nested source (tree m own c r) h =
+    and_later (always_reads source m) (all_read (printed_related nested source r)) (all_read (printed_causes nested source c ++ printed_related nested source r)) (later_fails (printed_causes nested source c) (printed_related nested source r)) h
+
+pub root_below_fails : (s : Settings) (t : Tree) → all_read (printed_inner s.nested (source_of t) t) ≡ false → all_read (printed s t) ≡ false
+root_below_fails s (tree m own c r) h =
+    let causes = printed_root_causes s.chain s.nested (tree m own c r) in
+    and_later (always_reads own m) (all_read (printed_related s.nested own r)) (all_read (causes ++ printed_related s.nested own r)) (later_fails causes (printed_related s.nested own r)) h
+
 pub sibling_causes_fail : (nested : Bool) (source : Option Source) (t : Tree) → all_read (printed_causes nested source (cause_of t)) ≡ false →
     all_read (printed_sibling nested source t) ≡ false
 sibling_causes_fail nested source (tree m own c r) h =
     later_fails (over source m ∷ []) (printed_causes nested source c ++ printed_related nested source r) (first_fails (printed_causes nested source c) (printed_related nested source r) h)
-
-pub sibling_related_fail : (nested : Bool) (source : Option Source) (t : Tree) → all_read (printed_related nested source (related_of t)) ≡ false →
-    all_read (printed_sibling nested source t) ≡ false
-sibling_related_fail nested source (tree m own c r) h = later_fails (over source m ∷ printed_causes nested source c) (printed_related nested source r) h
-
-pub one_inner_fails : (nested : Bool) (source : Option Source) (t : Tree) → nested ≡ true → all_read (printed_inner nested source t) ≡ false → all_read (printed_one nested source t) ≡ false
-one_inner_fails true source t n h = h
-one_inner_fails false source t n h = absurd (cc)
 
 pub one_related_fails : (nested : Bool) (inherited : Option Source) (t : Tree) (ts : Trees) → all_read (printed_one nested (effective (source_of t) inherited) t) ≡ false →
     all_read (printed_related nested inherited (more_trees t ts)) ≡ false
@@ -192,6 +255,3 @@ pub root_causes_fail : (s : Settings) (t : Tree) → all_read (printed_root_caus
 root_causes_fail s (tree m own c r) h =
     later_fails (over own m ∷ []) (printed_root_causes s.chain s.nested (tree m own c r) ++ printed_related s.nested own r)
     (first_fails (printed_root_causes s.chain s.nested (tree m own c r)) (printed_related s.nested own r) h)
-
-pub root_related_fail : (s : Settings) (t : Tree) → all_read (printed_related s.nested (source_of t) (related_of t)) ≡ false → all_read (printed s t) ≡ false
-root_related_fail s (tree m own c r) h = later_fails (over own m ∷ printed_root_causes s.chain s.nested (tree m own c r)) (printed_related s.nested own r) h

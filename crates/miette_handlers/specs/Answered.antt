@@ -3,14 +3,15 @@ use Rattle.std.specs.Prelude.{◌≡◌, ℕ, Bool, true, List, [], ◌++◌, Op
 use Rattle.miette_text.specs.Cutting.{without_trailing}
 use Rattle.miette_protocol.specs.Meaning.{Meaning, Label}
 use Rattle.miette_protocol.specs.Reading.{Source}
-use Rattle.miette_tree.specs.Tree.{Tree, tree, Cause, diagnostic, texts, Trees, no_trees, more_trees, source_of, cause_of}
+use Rattle.miette_tree.specs.Tree.{Tree, tree, Cause, diagnostic, texts, Trees, no_trees, more_trees, head, source_of, cause_of, related_of}
 use Rattle.miette_protocol.specs.declared.protocol.Severity.{Severity}
 use Rattle.miette_handlers.specs.Settings.{Settings}
 use Rattle.miette_handlers.specs.Answers.{Answer, Answers, RelatedAnswers, pieces_listed, own_answer, cause_answers, related_answers, first_answers, later_answers}
 use Rattle.miette_handlers.specs.Indents.{narrowed}
-use Rattle.miette_handlers.specs.Parts.{SnippetRows, rows_text, title_text, under_arrow, list_of}
+use Rattle.miette_handlers.specs.Parts.{SnippetRows, rows_text, title_text, help_text, under_arrow, list_of}
 use Rattle.miette_layout.specs.Frames as frames
-use Rattle.miette_layout.specs.Groups.{in_order, spans_of, groups_answered}
+use Rattle.miette_layout.specs.Around.{group_context}
+use Rattle.miette_layout.specs.Groups.{in_order, groups_of}
 use Rattle.miette_layout.specs.Highlighted.{SnippetsHavePieces}
 use Rattle.miette_layout.specs.Layout.{snippet_rows}
 use Rattle.miette_handlers.specs.Handler.{AppendsOne}
@@ -30,7 +31,7 @@ HasRows l (Some source) labels a = is_some (snippet_rows l source labels a) ≡ 
 -- the pieces are of the lines of the snippets
 abbrev pub HasPieces : frames.Settings → Bool → Option Source → List Label → Answer → Type 0
 HasPieces l blank None labels a = Unit {0}
-HasPieces l blank (Some source) labels a = SnippetsHavePieces l.context blank source (groups_answered l.context source a.join_fails (spans_of (in_order labels))) a.pieces
+HasPieces l blank (Some source) labels a = SnippetsHavePieces (group_context l.context (in_order labels)) blank source (groups_of l.context source a.join_fails (in_order labels)) a.pieces
 
 -- of labels over a source; are lines left plain, and does every read succeed?
 pub record IsAnswerOf (l : frames.Settings) (blank : Bool) (source : Option Source) (labels : List Label) (reads : Bool) (a : Answer) : Type 0 where
@@ -83,6 +84,12 @@ AreCauses rows s blank outer inherited c text = (a : Answers) × AreCauseAnswers
 -- its related reports
 abbrev pub AreRelated : SnippetRows → Settings → Bool → Option Severity → Option Source → Trees → List ℕ → Type 0
 AreRelated rows s blank outer inherited ts text = (more : RelatedAnswers) × AreRelatedAnswers (layout_settings s) blank inherited ts more × (text ≡ related_text rows s outer inherited ts more)
+
+-- what stands below a tree's causes, over its effective source: the rows of its snippets, its help, and its related reports
+abbrev pub IsBelow : SnippetRows → Settings → Bool → Option Source → Tree → List ℕ → Type 0
+IsBelow rows s blank source t text =
+    (drawn : List ℕ) × (related : List ℕ) × IsDrawn rows s blank source (head t) drawn × AreRelated rows s blank (head t).severity source (related_of t) related
+    × (text ≡ drawn ++ help_text s (head t).help ++ related)
 
 -- a tree as an inner report, over its effective source
 abbrev pub IsInner : SnippetRows → Settings → Bool → Option Source → Tree → List ℕ → Type 0

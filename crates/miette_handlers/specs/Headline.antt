@@ -1,16 +1,19 @@
 -- What holds of the snippets of each printed diagnostic, over its effective source and by its labels.
-use Rattle.std.specs.Prelude.{◌≡◌, ℕ, ◌+◌, ◌<◌, ◌≤◌, ◌^◌, true, List, [], ◌∷◌, length, Some, IfSome}
+use Rattle.std.specs.Prelude.{◌≡◌, ℕ, ◌+◌, ◌<◌, ◌^◌, true, List, [], ◌∷◌, length, Some, IfSome}
 use Rattle.std.specs.List.{AllByRecursion, concat}
 use Rattle.miette_protocol.specs.Lines.{lines_of}
 use Rattle.miette_protocol.specs.Meaning.{Label}
 use Rattle.miette_protocol.specs.Reading.{Source, Span, Contents}
 use Rattle.miette_layout.specs.Answers.{Highlight}
+use Rattle.miette_layout.specs.Around.{HaveContext}
 use Rattle.miette_layout.specs.Contexts.{contents, lines_of_contents}
 use Rattle.miette_layout.specs.Drawing.{IsNarrow}
+use Rattle.miette_layout.specs.Frames as frames
 use Rattle.miette_layout.specs.Given.{width_of}
-use Rattle.miette_layout.specs.Groups.{AreAccepted, in_order, spans_of, groups_answered, lines_of_groups}
+use Rattle.miette_layout.specs.Groups as grouping
+use Rattle.miette_layout.specs.Groups.{AreAccepted, in_order, lines_of_groups}
 use Rattle.miette_layout.specs.Labels.{DrawnLabel, drawn_from}
-use Rattle.miette_layout.specs.Layout.{cells_of}
+use Rattle.miette_layout.specs.Layout.{cells_of, settings_around}
 use Rattle.miette_layout.specs.Marks.{Mark, anchor, marks_at, AreApart}
 use Rattle.miette_layout.specs.Numbers.{runs, IsRun, AreParted}
 use Rattle.miette_layout.specs.Pictures.{BodyShows, marks_of_line}
@@ -26,26 +29,30 @@ use Rattle.miette_handlers.specs.Snippets.{layout_settings, shown_rows, drawn_ro
 
 -- the numbers of the lines in the context of some label
 abbrev pub shown_lines : Settings → Source → List Label → List ℕ
-shown_lines s source labels = shown s.context source.bytes (spans_of labels)
+shown_lines s source labels = shown s.context source.bytes labels
 
 -- the groups of labels, of which each is drawn as one snippet
 abbrev pub groups_of : Settings → Source → List Label → List Span
-groups_of s source labels = groups_answered s.context source [] (spans_of (in_order labels))
+groups_of s source labels = grouping.groups_of s.context source [] (in_order labels)
+
+-- the settings of the layout, with the lines of context with which these groups are read
+abbrev pub group_settings : Settings → List Label → frames.Settings
+group_settings s labels = settings_around (layout_settings s) (in_order labels)
 
 -- The snippets show the lines in the context of some label, once and in order, each with its number: the rows are those of the maximal
 -- runs of these lines, each line with its own cells, in whatever pieces, each run in a frame; and a group shows the lines of one run.
 pub record ShowsRuns (s : Settings) (source : Source) (labels : List Label) : Type 0 where
   pub rows : (pieces : List (List (List Highlight))) → drawn_rows s (Some source) labels (pieces_listed pieces) ≡ shown_rows (Some (framed_runs (layout_settings s) source labels (pieces_listed pieces)))
-  pub groups : lines_of_groups s.context source (groups_of s source labels) ≡ snippets s.context source.bytes (spans_of labels)
+  pub groups : lines_of_groups (group_settings s labels).context source (groups_of s source labels) ≡ snippets s.context source.bytes labels
   pub whole : concat (runs (shown_lines s source labels)) ≡ shown_lines s source labels
   pub consecutive : AllByRecursion IsRun (runs (shown_lines s source labels))
   pub parted : AreParted (runs (shown_lines s source labels))
 
--- a diagnostic whose source always reads and accepts its labels, where there is at least one line of context
+-- a diagnostic whose source always reads and accepts its labels, where there is at least one line of context for each label
 abbrev pub LinesAreShown : Settings → Printed → Type 0
 LinesAreShown s p =
     IfSome p.source (λ source.
-    source.always_reads ≡ true → AreAccepted source.bytes (list_of p.meaning.labels) → 1 ≤ s.context → ShowsRuns s source (list_of p.meaning.labels))
+    source.always_reads ≡ true → AreAccepted source.bytes (list_of p.meaning.labels) → HaveContext s.context (list_of p.meaning.labels) → ShowsRuns s source (list_of p.meaning.labels))
 
 -- ---- the marks under a line
 
@@ -76,8 +83,8 @@ HasFewLines read = read.line + length (lines_of_contents read) < 2 ^ 64
 -- in the rows of a snippet, in whatever pieces its lines are, each text of a label that lies on one line hangs from its own mark's anchor
 abbrev pub SnippetHangs : Settings → Source → List Label → Span → Type 0
 SnippetHangs s source labels group =
-    HasFewLines (contents s.context source group) → (pieces : List (List Highlight)) →
-    BodyShows (layout_settings s) (drawn_labels s source labels) source.bytes (contents s.context source group) pieces
+    HasFewLines (contents (group_settings s labels).context source group) → (pieces : List (List Highlight)) →
+    BodyShows (group_settings s labels) (drawn_labels s source labels) source.bytes (contents (group_settings s labels).context source group) pieces
 
 -- in each snippet of a diagnostic, where the theme's characters are one column wide
 abbrev pub TextsHang : Settings → Printed → Type 0

@@ -1,20 +1,9 @@
 -- What the code's values stand for.
-use Rattle.std.specs.Prelude.{List, map, chars, option_map}
-use Rattle.miette_text.specs.Runs as runs
+use Rattle.std.specs.Prelude.{chars, option_map}
 use Rattle.miette_text.specs.Themes.{styles_of}
 use Rattle.miette_handlers.specs.Settings as values
-use Rattle.miette_handlers.specs.declared.runs.Run.{Run}
-use Rattle.miette_handlers.specs.declared.runs.Run.TheVariants.{Styled, LinkTo, LinkEnd}
 use Rattle.miette_handlers.specs.Modes.{urls_of, splits}
 use Rattle.miette_handlers.specs.declared.settings.Layout.{Layout}
-
-abbrev pub run_of : Run → runs.Run
-run_of (Styled s text) = runs.Styled s text.items
-run_of (LinkTo url) = runs.LinkTo url.items
-run_of LinkEnd = runs.LinkEnd
-
-abbrev pub runs_of : List Run → List runs.Run
-runs_of = map run_of
 
 abbrev pub settings_of : Layout → values.Settings
 settings_of l = record {

@@ -37,7 +37,7 @@ use std::marker::Model;
 /// Draws reports: a message under an icon, causes under arrows, source lines in frames with marks under the text that the
 /// labels speak of.
 ///
-/// Users write `GraphicalReportHandler`; the parameter is the box in which a highlighter is given. All calls but `new` and `render_report`
+/// Users write `GraphicalReportHandler`; the parameter is the type of the highlighter that is used. All calls but `new` and `render_report`
 /// take no memory.
 #[derive(Drop)]
 pub struct GraphicalReportHandler<H = Box<dyn Highlighter>> {
@@ -271,7 +271,7 @@ impl<H: Highlighter> GraphicalReportHandler<H> {
         }
     }
 
-    /// How many lines of context are shown around a label.
+    /// How many lines of context are shown around a label that has no number of its own.
     pub fn with_context_lines(self, lines: usize) -> Self
         ensures { result ≡ record self { settings = record self.settings { context = lines } } }
     {

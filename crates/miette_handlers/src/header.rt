@@ -1,94 +1,117 @@
 //! Headers: a code, and a url as a link or as a text.
 
-ghost use Rattle.std.specs.Prelude.{◌≡◌, ◌++◌, ◌∷◌, [], IfOk, OnOk, option_map};
+ghost use Rattle.std.specs.Prelude.{◌≡◌, ◌++◌, [], IfOk, OnOk, chars, not, option_map};
+ghost use Rattle.miette_text.specs.Runs.{print, printed_run};
+ghost use Rattle.miette_text.specs.Sequences.{spell};
+ghost use Rattle.miette_text.specs.Tame.{is_nil};
 ghost use Rattle.miette_handlers.specs.Parts as parts;
 ghost use Rattle.miette_handlers.specs.Modes.{urls_of};
-ghost use Rattle.miette_handlers.specs.Views.{settings_of, runs_of};
+ghost use Rattle.miette_handlers.specs.Views.{settings_of};
 
-use crate::runs::{Run, bare};
 use crate::settings::{Layout, UrlMode};
+use miette_layout::page::PLAIN;
 use miette_protocol::protocol::Severity;
+use miette_text::runs::Runs;
 use miette_text::style::Style;
-use miette_text::wrap::codes_of;
-use std::alloc::{AllocError, Global};
+use std::alloc::AllocError;
 
-fn link_header(
-    alloc: Global,
+/// Ends the row, and leaves a blank one.
+fn push_blank_row(out: &mut Runs) -> Result<(), AllocError>
+    ensures { OnOk result (spell out.new ≡ spell out.old ++ print parts.blank_row) }
+{
+    out.push_chars(&['\n', '\n'])
+}
+
+/// Appends the code of a link, and a space behind it.
+fn push_linked_code(style: Style, code: &str, out: &mut Runs) -> Result<(), AllocError>
+    ensures { OnOk result (spell out.new ≡ spell out.old ++ print (parts.linked_code style (Some code.now))) }
+{
+    if style == PLAIN {
+        out.push_str(code)?;
+        return out.push(' ');
+    }
+    out.begin(style)?;
+    out.push_str(code)?;
+    out.push(' ')?;
+    out.end()
+}
+
+fn push_link_header(
     layout: Layout<'_>,
     style: Style,
     url: &str,
     code: Option<&str>,
-) -> Result<Vec<Run>, AllocError>
-    ensures { IfOk result (λ v. runs_of v.items ≡ parts.link_header (settings_of layout.entry) style url.now (option_map (λ t. t.now) code.entry)) }
+    out: &mut Runs,
+) -> Result<(), AllocError>
+    ensures { OnOk result (spell out.new ≡ spell out.old ++ print (parts.link_header (settings_of layout.entry) style url.now (option_map (λ t. t.now) code.entry))) }
 {
-    let mut list = Vec::new(alloc);
-    list.push(Run::LinkTo(codes_of(alloc, url)?))?;
+    out.push_link(url)?;
     if let Some(code) = code {
-        let mut text = codes_of(alloc, code)?;
-        text.push(' ')?;
-        list.push(Run::Styled(style, text))?;
+        push_linked_code(style, code, out)?;
     }
-    let text = codes_of(alloc, layout.link_text)?;
-    list.push(Run::Styled(layout.theme.styles.link, text))?;
-    list.push(Run::LinkEnd)?;
-    list.push(bare(alloc, "\n\n")?)?;
-    Ok(list)
+    out.push_run(layout.theme.styles.link, layout.link_text)?;
+    out.push_link_end()?;
+    push_blank_row(out)
 }
 
-fn code_header(
-    alloc: Global,
+/// Appends a url in parentheses.
+fn push_url_behind(layout: Layout<'_>, url: &str, out: &mut Runs) -> Result<(), AllocError>
+    ensures { OnOk result (spell out.new ≡ spell out.old ++ print (parts.url_behind (settings_of layout.entry) (Some url.now))) }
+{
+    out.push_chars(&[' ', '('])?;
+    out.push_run(layout.theme.styles.link, url)?;
+    out.push(')')
+}
+
+fn push_code_header(
     layout: Layout<'_>,
     style: Style,
-    code: Option<&str>,
+    code: &str,
     url: Option<&str>,
-) -> Result<Vec<Run>, AllocError>
-    ensures { IfOk result (λ v. runs_of v.items ≡ parts.code_header style (option_map (λ t. t.now) code.entry) (parts.url_behind (settings_of layout.entry) (option_map (λ t. t.now) url.entry))) }
+    out: &mut Runs,
+) -> Result<(), AllocError>
+    ensures { OnOk result (spell out.new ≡ spell out.old ++ print (parts.code_header style (Some code.now) (parts.url_behind (settings_of layout.entry) (option_map (λ t. t.now) url.entry)))) }
 {
-    let mut list = Vec::new(alloc);
-    let Some(code) = code else {
-        return Ok(list);
-    };
-    list.push(Run::Styled(style, codes_of(alloc, code)?))?;
+    out.push_run(style, code)?;
     if let Some(url) = url {
-        list.push(bare(alloc, " (")?)?;
-        list.push(Run::Styled(layout.theme.styles.link, codes_of(alloc, url)?))?;
-        list.push(bare(alloc, ")")?)?;
+        push_url_behind(layout, url, out)?;
     }
-    list.push(bare(alloc, "\n\n")?)?;
-    Ok(list)
+    push_blank_row(out)
 }
 
-pub fn header(
-    alloc: Global,
+/// Appends a header, and says whether there is one.
+pub fn push_header(
     layout: Layout<'_>,
     style: Style,
     url: Option<&str>,
     code: Option<&str>,
-) -> Result<Vec<Run>, AllocError>
-    ensures { IfOk result (λ v. runs_of v.items ≡ parts.header_by (urls_of layout.entry.urls) (settings_of layout.entry) style (option_map (λ t. t.now) url.entry) (option_map (λ t. t.now) code.entry)) }
+    out: &mut Runs,
+) -> Result<bool, AllocError>
+    ensures text { OnOk result (spell out.new ≡ spell out.old ++ print (parts.header_by (urls_of layout.entry.urls) (settings_of layout.entry) style (option_map (λ t. t.now) url.entry) (option_map (λ t. t.now) code.entry))) }
+    ensures shown { IfOk result (λ shown. shown ≡ not (is_nil (parts.header_by (urls_of layout.entry.urls) (settings_of layout.entry) style (option_map (λ t. t.now) url.entry) (option_map (λ t. t.now) code.entry)))) }
 {
-    match layout.urls {
-        UrlMode::Links => match url {
-            Some(url) => link_header(alloc, layout, style, url, code),
-            None => code_header(alloc, layout, style, code, None),
-        },
-        UrlMode::Text => code_header(alloc, layout, style, code, url),
-        UrlMode::Hidden => code_header(alloc, layout, style, code, None),
-    }
+    let behind = match layout.urls {
+        UrlMode::Links => {
+            if let Some(url) = url {
+                push_link_header(layout, style, url, code, out)?;
+                return Ok(true);
+            }
+            None
+        }
+        UrlMode::Text => url,
+        UrlMode::Hidden => None,
+    };
+    let Some(code) = code else {
+        return Ok(false);
+    };
+    push_code_header(layout, style, code, behind, out)?;
+    Ok(true)
 }
 
-/// With the end of the row where there is no header.
-pub fn or_end(alloc: Global, mut list: Vec<Run>) -> Result<Vec<Run>, AllocError>
-    ensures { IfOk result (λ v. runs_of v.items ≡ parts.header_or_end (runs_of list.items)) }
-{
-    if list.is_empty() {
-        list.push(bare(alloc, "\n")?)?;
-    }
-    Ok(list)
-}
-
+/// What names a severity; that of an error where there is none.
+#[tactic(auto, using(crate::proofs::Styled::advice_text, crate::proofs::Styled::warning_text, crate::proofs::Styled::error_text))]
 pub fn severity_title(severity: Option<Severity>) -> &'static str
-    ensures { result.now ≡ parts.severity_title severity }
+    ensures { chars result.now ≡ parts.severity_title severity }
 {
     match severity {
         Some(Severity::Advice) => "Advice: ",

@@ -16,5 +16,4 @@ mod pen;
 mod printing;
 mod report;
 mod report_handler;
-mod runs;
 mod settings;

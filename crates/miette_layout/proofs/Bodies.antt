@@ -1,9 +1,7 @@
 -- Snippets draw the maximal runs of shown lines.
-use Rattle.std.proofs.Common.{ℕ, zero, suc, ◌+◌, ◌-◌, ◌<◌, ◌≤◌, ◌≡◌, ◌⊎◌, inl, inr, min, Bool, true, false, cond, leb, List, [], ◌∷◌, ◌++◌, ◌&&◌, ◌||◌, length, map, drop, Some, None, refl, sym, ap, ◌∙◌, arith}
+use Rattle.std.proofs.Common.{ℕ, zero, suc, ◌+◌, ◌-◌, ◌<◌, ◌≤◌, ◌≡◌, ◌⊎◌, inl, inr, min, Bool, true, false, leb, List, [], ◌∷◌, ◌++◌, ◌&&◌, length, map, drop, None, refl, sym, ap, ◌∙◌, arith}
 use Rattle.std.specs.Prelude.{decimal, slice_range}
-use Rattle.std.specs.Option.{option_map}
 use Rattle.std.proofs.lemmas.List.{length-drop, length-take}
-use Rattle.std.proofs.lemmas.List.Elements.{filter_agree}
 use Rattle.std.proofs.lemmas.Bool.{le-leb, and_from}
 use Rattle.std.proofs.lemmas.List.FromFn.{length-map-range_with_len}
 use Rattle.std.specs.List.{range_with_len, filter}
@@ -12,18 +10,18 @@ use Rattle.miette_protocol.specs.Lines.{Line, lines_of}
 use Rattle.miette_protocol.specs.Meaning.{Label}
 use Rattle.miette_protocol.specs.Reading as R
 use Rattle.miette_protocol.specs.Reading.{Span, Source, IsAccepted}
-use Rattle.miette_layout.specs.Numbers.{last_of, runs}
-use Rattle.miette_layout.specs.Answers.{Answers, Highlight, next_answer, later_answers, first_of, later_of, NoneFails, AlwaysReads}
+use Rattle.miette_layout.specs.Numbers.{last_of}
+use Rattle.miette_layout.specs.Answers.{Highlight, next_answer, later_answers, first_of, later_of, NoneFails}
 use Rattle.miette_layout.specs.Contexts as C
 use Rattle.miette_layout.specs.Contexts.{contents, lines_of_contents, is_accepted}
 use Rattle.miette_layout.specs.Groups as G
-use Rattle.miette_layout.specs.Groups.{joins_before, joined, groups_from, groups_answered, in_order, spans_of, put_label, refusal, AreAccepted}
+use Rattle.miette_layout.specs.Groups.{joins_before, joined, groups_from, groups_answered, in_order, spans_of, put_label, refusal, some_fails, AreAccepted}
 use Rattle.miette_layout.specs.Snippets as N
 use Rattle.miette_layout.specs.Labels.{DrawnLabel, drawn_from}
 use Rattle.miette_layout.specs.Gutters.{gutter_columns}
-use Rattle.miette_layout.specs.Frames.{Settings, refused_row, width_of_lines}
-use Rattle.miette_layout.specs.Layout.{rows_of_lines, body_rows, line_rows, cells_of, snippet, all_snippets, some_fails, rows_unless, snippet_rows}
-use Rattle.miette_layout.specs.Shown.{line_at, numbered_rows, run_width, run_rows, rows_of_runs, bodies, framed, framed_runs}
+use Rattle.miette_layout.specs.Frames.{Settings, width_of_lines}
+use Rattle.miette_layout.specs.Layout.{rows_of_lines, body_rows, line_rows, cells_of, snippet, all_snippets}
+use Rattle.miette_layout.specs.Shown.{line_at, numbered_rows, run_width, run_rows, rows_of_runs, bodies, framed}
 use Rattle.miette_layout.proofs.Sources.{lines, start_of, end_of, first_line, last_line, read, lines_in}
 use Rattle.miette_layout.proofs.Joining as J
 use Rattle.miette_layout.proofs.Joining.{joins, groups, by_offset, put_by_offset, lines_of_groups}
@@ -53,14 +51,14 @@ rows_are s w columns labels source low (suc many) pieces =
     (rows_are s w columns labels source (low + 1) many (later_of pieces))
 
 -- bytes that are none have no lines
-no_lines : (at : ℕ) (bytes : List ℕ) → length bytes ≡ 0 → P.lines_from at bytes ≡ []
+pub no_lines : (at : ℕ) (bytes : List ℕ) → length bytes ≡ 0 → P.lines_from at bytes ≡ []
 no_lines at [] h = refl
 no_lines at (b ∷ bs) h = absurd (omega (arith, h))
 
-no-part : (bytes : List ℕ) (from to : ℕ) → length bytes ≡ 0 → length (slice_range bytes from to) ≡ 0
+pub no-part : (bytes : List ℕ) (from to : ℕ) → length bytes ≡ 0 → length (slice_range bytes from to) ≡ 0
 no-part bytes from to h = omega (arith, h, length-take (to - from) (drop from bytes), length-drop from bytes)
 
-no-old : (bytes : List ℕ) → length bytes ≡ 0 → lines bytes ≡ []
+pub no-old : (bytes : List ℕ) → length bytes ≡ 0 → lines bytes ≡ []
 no-old bytes h = sym (lines_same 0 bytes) ∙ no_lines 0 bytes h
 
 -- how many lines a context has
@@ -102,7 +100,7 @@ pub lines_are : (c : ℕ) (source : Source) (span : Span) → 1 ≤ c →
     lines_of_contents (contents c source span) ≡ map (line_at (lines_of source.bytes)) (range_with_len (first_line c source.bytes span) (many_of c source.bytes span))
 lines_are c source span one = lines_by c source span one (none_or_some (length source.bytes))
 
-body_from : (s : Settings) (labels : List DrawnLabel) (source : List ℕ) (pieces : List (List Highlight)) (low many : ℕ) (ls : List Line) → ls ≡ map (line_at (lines_of source)) (range_with_len low many) →
+pub body_from : (s : Settings) (labels : List DrawnLabel) (source : List ℕ) (pieces : List (List Highlight)) (low many : ℕ) (ls : List Line) → ls ≡ map (line_at (lines_of source)) (range_with_len low many) →
     rows_of_lines s (width_of_lines low ls) (gutter_columns labels ls) labels source (low + 1) pieces ls ≡ run_rows s labels source pieces (range_with_len low many)
 body_from s labels source pieces low many ls e =
     let mapped : List Line = map (line_at (lines_of source)) (range_with_len low many) in
@@ -167,33 +165,17 @@ order_same (label ∷ labels) = put_same label (in_order labels) ∙ ap (put_by_
 
 -- shown lines
 
-context_same : (c : ℕ) (bytes : List ℕ) (k : ℕ) (span : Span) → N.is_in_context c bytes k span ≡ J.is_in_context c bytes k span
+pub context_same : (c : ℕ) (bytes : List ℕ) (k : ℕ) (span : Span) → N.is_in_context c bytes k span ≡ J.is_in_context c bytes k span
 context_same c bytes k span =
     ap (λ n. leb n k && leb k (C.last_line c bytes span)) (first_same c bytes span)
     ∙ ap (λ n. leb (first_line c bytes span) k && leb k n) (last_same c bytes span)
 
-any_same : (c : ℕ) (bytes : List ℕ) (k : ℕ) (spans : List Span) → N.is_shown c bytes spans k ≡ J.is_shown c bytes spans k
-any_same c bytes k [] = refl
-any_same c bytes k (span ∷ spans) =
-    ap (λ b. b || N.is_shown c bytes spans k) (context_same c bytes k span) ∙ ap (λ b. J.is_in_context c bytes k span || b) (any_same c bytes k spans)
-
-shown_same : (c : ℕ) (bytes : List ℕ) (spans : List Span) → N.shown c bytes spans ≡ J.shown c bytes spans
-shown_same c bytes spans =
-    ap (λ ls. filter (N.is_shown c bytes spans) (range_with_len 0 (length ls))) (lines_same 0 bytes)
-    ∙ filter_agree (N.is_shown c bytes spans) (J.is_shown c bytes spans) (λ k. any_same c bytes k spans) (range_with_len 0 (length (lines bytes)))
-
-snippets_same : (c : ℕ) (bytes : List ℕ) (spans : List Span) → N.snippets c bytes spans ≡ J.snippets c bytes spans
-snippets_same c [] [] = refl
-snippets_same c [] (span ∷ spans) = refl
-snippets_same c (byte ∷ bytes) spans = ap runs (shown_same c (byte ∷ bytes) spans)
-
 -- the lines that the answered groups show, in the proofs' form
 runs_answered : (c : ℕ) (source : Source) (fails : List Bool) (labels : List Label) → 1 ≤ c → NoneFails fails →
-    lines_of_groups c source.bytes (groups_answered c source fails (spans_of (in_order labels))) ≡ N.snippets c source.bytes (map (λ l. l.span) labels)
+    lines_of_groups c source.bytes (groups_answered c source fails (spans_of (in_order labels))) ≡ J.snippets c source.bytes (map (λ l. l.span) labels)
 runs_answered c source fails labels one none =
     ap (lines_of_groups c source.bytes) (same_groups c source fails (spans_of (in_order labels)) one none ∙ ap (groups c source.bytes) (order_same labels))
     ∙ M.groups_are_runs c source.bytes (map (λ l. l.span) labels) one
-    ∙ sym (snippets_same c source.bytes (map (λ l. l.span) labels))
 
 pub end-of-data : (c : ℕ) (source : Source) (span : Span) → 1 ≤ c → 0 < length source.bytes →
     C.end_of_span (contents c source span).span ≡ (read c source.bytes span).end
@@ -204,7 +186,7 @@ end-of-data c source span one some =
     let lt : low < length (lines bytes) = first-lt c bytes span one some in
     omega (arith, begin_same c source span one some, end_data_same c source span one, start-le-end 0 (length bytes) low (lines bytes) (cut bytes) lt, end-mono 0 (length bytes) low high (lines bytes) (cut bytes) (first-le-last c bytes span))
 
-in_same : (bytes : List ℕ) (begin end k : ℕ) → k < length (lines bytes) →
+pub in_same : (bytes : List ℕ) (begin end k : ℕ) → k < length (lines bytes) →
     (leb begin (P.line_start bytes k) && leb (P.line_end bytes k) end) ≡ (leb begin (start_of (lines bytes) k) && leb (end_of (length bytes) (lines bytes) k) end)
 in_same bytes begin end k lt =
     ap (λ a. leb begin a && leb (P.line_end bytes k) end) (start_same bytes k lt)
@@ -231,22 +213,22 @@ groups_same c source (span ∷ spans) one =
     ap (λ r. r ∷ G.lines_of_groups c source spans) (lines_in_by c source span one (none_or_some (length source.bytes)))
     ∙ ap (λ r. lines_in source.bytes (read c source.bytes span) ∷ r) (groups_same c source spans one)
 
--- Where no read fails, groups show the maximal runs.
-pub groups_runs : (c : ℕ) (source : Source) (fails : List Bool) (labels : List Label) → 1 ≤ c → NoneFails fails →
-    G.lines_of_groups c source (groups_answered c source fails (spans_of (in_order labels))) ≡ N.snippets c source.bytes (map (λ l. l.span) labels)
-groups_runs c source fails labels one none =
+-- Where no read fails, joined groups show the maximal runs.
+pub joined_runs : (c : ℕ) (source : Source) (fails : List Bool) (labels : List Label) → 1 ≤ c → NoneFails fails →
+    G.lines_of_groups c source (groups_answered c source fails (spans_of (in_order labels))) ≡ J.snippets c source.bytes (map (λ l. l.span) labels)
+joined_runs c source fails labels one none =
     groups_same c source (groups_answered c source fails (spans_of (in_order labels))) one ∙ runs_answered c source fails labels one none
 
 -- the rows between the frames' rows are those of the maximal runs of shown lines, each with its number and its own cells
-pub bodies_are_runs : (s : Settings) (source : Source) (labels : List Label) (drawn : List DrawnLabel) (fails : List Bool) (pieces : List (List (List Highlight))) → 1 ≤ s.context → NoneFails fails →
-    bodies s drawn source pieces (groups_answered s.context source fails (spans_of (in_order labels))) ≡ rows_of_runs s drawn source.bytes pieces (N.snippets s.context source.bytes (map (λ l. l.span) labels))
-bodies_are_runs s source labels drawn fails pieces one none =
+pub joined_bodies : (s : Settings) (source : Source) (labels : List Label) (drawn : List DrawnLabel) (fails : List Bool) (pieces : List (List (List Highlight))) → 1 ≤ s.context → NoneFails fails →
+    bodies s drawn source pieces (groups_answered s.context source fails (spans_of (in_order labels))) ≡ rows_of_runs s drawn source.bytes pieces (J.snippets s.context source.bytes (map (λ l. l.span) labels))
+joined_bodies s source labels drawn fails pieces one none =
     bodies_are s drawn source pieces (groups_answered s.context source fails (spans_of (in_order labels))) one
     ∙ ap (rows_of_runs s drawn source.bytes pieces) (runs_answered s.context source fails labels one none)
 
 -- whole snippets
 
-all_framed : (s : Settings) (source : Source) (labels : List Label) (pieces : List (List (List Highlight))) (groups : List Span) →
+pub all_framed : (s : Settings) (source : Source) (labels : List Label) (pieces : List (List (List Highlight))) (groups : List Span) →
     all_snippets s source labels pieces groups ≡ framed s source labels groups (bodies s (drawn_from s.styles.highlights (length source.bytes) 0 labels) source pieces groups)
 all_framed s source labels pieces [] = refl
 all_framed s source labels pieces (group ∷ groups) =
@@ -263,7 +245,7 @@ put_accepted source label (next ∷ labels) own h =
     by_cases {C = AreAccepted source (put_label label (next ∷ labels))} (leb label.span.offset next.span.offset)
     (λ t. rw t (own, h)) (λ f. rw f (h.0, put_accepted source label labels own h.1))
 
-ordered_accepted : (source : List ℕ) (labels : List Label) → AreAccepted source labels → AreAccepted source (in_order labels)
+pub ordered_accepted : (source : List ℕ) (labels : List Label) → AreAccepted source labels → AreAccepted source (in_order labels)
 ordered_accepted source [] h = tt
 ordered_accepted source (label ∷ labels) h = put_accepted source label (in_order labels) h.0 (ordered_accepted source labels h.1)
 
@@ -276,14 +258,3 @@ none_refused source fails (label ∷ labels) h k =
     let next : next_answer fails ≡ false = next_none fails h in
     let own : is_accepted source label.span ≡ true = accepted_is source label.span k.0 in
     rw (next, own) (none_refused source (later_answers fails) labels (later_none fails h) k.1)
-
-pub snippets_are_runs : (s : Settings) (source : Source) (labels : List Label) (answers : Answers) → 1 ≤ s.context → AreAccepted source.bytes labels → AlwaysReads answers →
-    snippet_rows s source labels answers ≡ Some (framed_runs s source labels answers)
-snippets_are_runs s source labels answers one accepted always =
-    let ls : List Label = in_order labels in
-    let gs : List Span = groups_answered s.context source answers.join_fails (spans_of ls) in
-    let drawn : List DrawnLabel = drawn_from s.styles.highlights (length source.bytes) 0 ls in
-    ap (λ r. rows_unless s source ls answers (option_map (refused_row s) r)) (none_refused source.bytes answers.label_fails ls always.labels (ordered_accepted source.bytes labels accepted))
-    ∙ ap (λ b. cond b None (Some (all_snippets s source ls answers.pieces gs))) (some_none answers.place_fails gs always.places)
-    ∙ ap Some (all_framed s source ls answers.pieces gs
-    ∙ ap (framed s source ls gs) (bodies_are_runs s source labels drawn answers.join_fails answers.pieces one always.joins))

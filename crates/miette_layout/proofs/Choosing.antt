@@ -1,5 +1,5 @@
 -- The primary label among labels that were read, and the rows of groups one after the other.
-use Rattle.std.proofs.Common.{ℕ, suc, ◌≡◌, true, false, cond, List, [], ◌∷◌, map, Option, Some, None, refl, sym, ap, ◌∙◌, subst, arith, All}
+use Rattle.std.proofs.Common.{ℕ, Bool, suc, ◌≡◌, true, false, cond, List, [], ◌∷◌, map, Option, Some, None, refl, sym, ap, ◌∙◌, subst, arith, All}
 use Rattle.std.specs.List.{filter}
 use Rattle.std.specs.Option.{option_map}
 use Rattle.miette_protocol.specs.Meaning.{Label}
@@ -7,6 +7,7 @@ use Rattle.miette_protocol.specs.Reading.{Span, Source, IsAccepted}
 use Rattle.miette_layout.specs.declared.primary.Place.{Place as Found}
 use Rattle.miette_layout.specs.declared.primary.Place.TheVariants as places
 use Rattle.miette_layout.specs.declared.reading.ReadLabel.{ReadLabel}
+use Rattle.miette_layout.specs.Around.{has_own}
 use Rattle.miette_layout.specs.Contexts.{contents}
 use Rattle.miette_layout.specs.Frames.{Place}
 use Rattle.miette_layout.specs.Given.{label_at}
@@ -34,46 +35,46 @@ marked_primary (l ∷ ls) =
 tail_all : {X : Type 0} (P : X → Type 0) (x : X) (xs : List X) → All P (x ∷ xs) → All P xs
 tail_all P x xs h = λ k d lt. h (suc k) d (omega arith)
 
-chosen_marked : (context : ℕ) (source : Source) (labels : List Label) (group : Span) (first : Option Span) (reads : List ReadLabel) → All (IsRead context source labels) reads →
-    chosen group first reads ≡ marked first (filter (is_within group) (map (read_of labels) reads))
-chosen_marked context source labels group first [] h = refl
-chosen_marked context source labels group first (r ∷ rs) h =
-    let own : IsRead context source labels r = h 0 r (omega arith) in
+chosen_marked : (context : ℕ) (source : Source) (labels : List Label) (own : Bool) (group : Span) (first : Option Span) (reads : List ReadLabel) → All (IsRead context source labels) reads →
+    chosen own group first reads ≡ marked first (filter (is_within own group) (map (read_of labels) reads))
+chosen_marked context source labels own group first [] h = refl
+chosen_marked context source labels own group first (r ∷ rs) h =
+    let mine : IsRead context source labels r = h 0 r (omega arith) in
     let later : All (IsRead context source labels) rs = tail_all (IsRead context source labels) r rs h in
     let l : Label = label_at labels r.index in
-    let within : is_within group l ≡ lies_within group r.span = ap (lies_within group) (sym own.span) in
-    by_cases {C = chosen group first (r ∷ rs) ≡ marked first (filter (is_within group) (map (read_of labels) (r ∷ rs)))} (lies_within group r.span)
-    (λ t. let u : is_within group l ≡ true = within ∙ t in
-    rw (t, u) (ap (λ b. cond b (Some r.span) (chosen group (Some (or_else first r.span)) rs)) own.primary
-    ∙ ap (λ s. cond l.primary (Some s) (chosen group (Some (or_else first s)) rs)) own.span
-    ∙ ap (cond l.primary (Some l.span)) (chosen_marked context source labels group (Some (or_else first l.span)) rs later)))
-    (λ f. let u : is_within group l ≡ false = within ∙ f in rw (f, u) (chosen_marked context source labels group first rs later))
+    let within : is_within own group l ≡ lies_within own group r.span = ap (lies_within own group) (sym mine.span) in
+    by_cases {C = chosen own group first (r ∷ rs) ≡ marked first (filter (is_within own group) (map (read_of labels) (r ∷ rs)))} (lies_within own group r.span)
+    (λ t. let u : is_within own group l ≡ true = within ∙ t in
+    rw (t, u) (ap (λ b. cond b (Some r.span) (chosen own group (Some (or_else first r.span)) rs)) mine.primary
+    ∙ ap (λ s. cond l.primary (Some s) (chosen own group (Some (or_else first s)) rs)) mine.span
+    ∙ ap (cond l.primary (Some l.span)) (chosen_marked context source labels own group (Some (or_else first l.span)) rs later)))
+    (λ f. let u : is_within own group l ≡ false = within ∙ f in rw (f, u) (chosen_marked context source labels own group first rs later))
 
 -- the chosen span is that of the primary label
-pub chosen_is : (context : ℕ) (source : Source) (labels : List Label) (group : Span) (reads : List ReadLabel) → All (IsRead context source labels) reads →
-    chosen group None reads ≡ option_map (λ l. l.span) (primary_of (filter (is_within group) (map (read_of labels) reads)))
-chosen_is context source labels group reads h =
-    chosen_marked context source labels group None reads h ∙ marked_primary (filter (is_within group) (map (read_of labels) reads))
+pub chosen_is : (context : ℕ) (source : Source) (labels : List Label) (own : Bool) (group : Span) (reads : List ReadLabel) → All (IsRead context source labels) reads →
+    chosen own group None reads ≡ option_map (λ l. l.span) (primary_of (filter (is_within own group) (map (read_of labels) reads)))
+chosen_is context source labels own group reads h =
+    chosen_marked context source labels own group None reads h ∙ marked_primary (filter (is_within own group) (map (read_of labels) reads))
 
 abbrev IfAccepted : List ℕ → Option Span → Type 0
 IfAccepted bytes None = Unit {0}
 IfAccepted bytes (Some span) = IsAccepted bytes span
 
 accepted_else : (bytes : List ℕ) (first : Option Span) (span : Span) → IfAccepted bytes first → IsAccepted bytes span → IsAccepted bytes (or_else first span)
-accepted_else bytes None span h own = own
-accepted_else bytes (Some first) span h own = h
+accepted_else bytes None span h mine = mine
+accepted_else bytes (Some first) span h mine = h
 
-chosen_accepted : (context : ℕ) (source : Source) (labels : List Label) (group : Span) (first : Option Span) (reads : List ReadLabel) → IfAccepted source.bytes first → All (IsRead context source labels) reads →
-    IfAccepted source.bytes (chosen group first reads)
-chosen_accepted context source labels group first [] k h = k
-chosen_accepted context source labels group first (r ∷ rs) k h =
-    let own : IsRead context source labels r = h 0 r (omega arith) in
+chosen_accepted : (context : ℕ) (source : Source) (labels : List Label) (own : Bool) (group : Span) (first : Option Span) (reads : List ReadLabel) → IfAccepted source.bytes first → All (IsRead context source labels) reads →
+    IfAccepted source.bytes (chosen own group first reads)
+chosen_accepted context source labels own group first [] k h = k
+chosen_accepted context source labels own group first (r ∷ rs) k h =
+    let mine : IsRead context source labels r = h 0 r (omega arith) in
     let later : All (IsRead context source labels) rs = tail_all (IsRead context source labels) r rs h in
-    by_cases {C = IfAccepted source.bytes (chosen group first (r ∷ rs))} (lies_within group r.span)
-    (λ t. by_cases {C = IfAccepted source.bytes (chosen group first (r ∷ rs))} r.primary
-    (λ u. rw (t, u) own.accepted)
-    (λ g. rw (t, g) (chosen_accepted context source labels group (Some (or_else first r.span)) rs (accepted_else source.bytes first r.span k own.accepted) later)))
-    (λ f. rw f (chosen_accepted context source labels group first rs k later))
+    by_cases {C = IfAccepted source.bytes (chosen own group first (r ∷ rs))} (lies_within own group r.span)
+    (λ t. by_cases {C = IfAccepted source.bytes (chosen own group first (r ∷ rs))} r.primary
+    (λ u. rw (t, u) mine.accepted)
+    (λ g. rw (t, g) (chosen_accepted context source labels own group (Some (or_else first r.span)) rs (accepted_else source.bytes first r.span k mine.accepted) later)))
+    (λ f. rw f (chosen_accepted context source labels own group first rs k later))
 
 -- a place that can't be read is one of a source that may fail
 unread_of : (source : Source) (span : Option Span) (found : Found) → IfAccepted source.bytes span → PointsTo source span found → is_unread found ≡ true → source.always_reads ≡ false
@@ -82,10 +83,10 @@ unread_of source (Some span) places.Nowhere k p u = absurd p
 unread_of source (Some span) (places.At line column) k p u = cc
 unread_of source (Some span) places.Unread k p u = p k
 
-pub unread_fails : (context : ℕ) (source : Source) (labels : List Label) (group : Span) (reads : List ReadLabel) (found : Found) → All (IsRead context source labels) reads →
-    PointsTo source (chosen group None reads) found → is_unread found ≡ true → source.always_reads ≡ false
-unread_fails context source labels group reads found h p u =
-    unread_of source (chosen group None reads) found (chosen_accepted context source labels group None reads tt h) p u
+pub unread_fails : (context : ℕ) (source : Source) (labels : List Label) (own : Bool) (group : Span) (reads : List ReadLabel) (found : Found) → All (IsRead context source labels) reads →
+    PointsTo source (chosen own group None reads) found → is_unread found ≡ true → source.always_reads ≡ false
+unread_fails context source labels own group reads found h p u =
+    unread_of source (chosen own group None reads) found (chosen_accepted context source labels own group None reads tt h) p u
 
 -- a place that was read is that of the definition
 abbrev pub framed_place : Found → Option Place
@@ -98,8 +99,9 @@ place_from source (Some label) (places.At line column) p u =
     ap (λ n. Some (record { line = n; column = column })) p.1 ∙ ap (λ n. Some (record { line = (contents 0 source label.span).line; column = n })) p.2
 place_from source (Some label) places.Unread p u = cc
 
-pub place_is : (context : ℕ) (source : Source) (labels : List Label) (group : Span) (reads : List ReadLabel) (found : Found) → All (IsRead context source labels) reads →
-    PointsTo source (chosen group None reads) found → is_unread found ≡ false → framed_place found ≡ place_of source group (map (read_of labels) reads)
-place_is context source labels group reads found h p u =
-    place_from source (primary_of (filter (is_within group) (map (read_of labels) reads))) found
-    (subst (λ (o : Option Span). PointsTo source o found) (chosen_is context source labels group reads h) p) u
+pub place_is : (context : ℕ) (source : Source) (labels : List Label) (own : Bool) (group : Span) (reads : List ReadLabel) (found : Found) → own ≡ has_own (map (read_of labels) reads) → All (IsRead context source labels) reads →
+    PointsTo source (chosen own group None reads) found → is_unread found ≡ false → framed_place found ≡ place_of source group (map (read_of labels) reads)
+place_is context source labels own group reads found which h p u =
+    place_from source (primary_of (filter (is_within own group) (map (read_of labels) reads))) found
+    (subst (λ (o : Option Span). PointsTo source o found) (chosen_is context source labels own group reads h) p) u
+    ∙ ap (λ b. option_map (begins_at source) (primary_of (filter (is_within b group) (map (read_of labels) reads)))) which

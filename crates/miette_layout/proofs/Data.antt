@@ -58,7 +58,7 @@ read-sum c source s one some =
     omega (arith, a, b, terminators (start_of ls low) (end_of n ls high) ls le)
 
 -- whether line k begins at or after line low, for a test
-starts : (source : List ℕ) (low k : ℕ) → low < length (lines source) → k < length (lines source) → low ≤ k → start_of (lines source) low ≤ start_of (lines source) k
+pub starts : (source : List ℕ) (low k : ℕ) → low < length (lines source) → k < length (lines source) → low ≤ k → start_of (lines source) low ≤ start_of (lines source) k
 starts source low k l m le =
     ⊎_elim {C = start_of (lines source) low ≤ start_of (lines source) k}
     (λ lt. let e : low ≡ k = omega (arith, line-mono (start_of (lines source) k) (start_of (lines source) low) (lines source) (omega arith), line-start 0 (length source) k (lines source) (cut source) m, line-start 0 (length source) low (lines source) (cut source) l) in rw e (omega arith))

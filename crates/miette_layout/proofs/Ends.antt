@@ -1,5 +1,5 @@
 -- A label's end, cut to the end of what its read lent, is cut to the source's end. So labels are drawn as the definition says.
-use Rattle.std.proofs.Common.{ℕ, zero, suc, ◌+◌, ◌-◌, ◌<◌, ◌≤◌, ◌≡◌, ◌⊎◌, inl, inr, min, max, true, false, cond, ltb, leb, ◌&&◌, List, [], ◌∷◌, length, map, refl, ap, ◌∙◌, ⊎_elim, arith, All}
+use Rattle.std.proofs.Common.{ℕ, zero, suc, ◌+◌, ◌-◌, ◌<◌, ◌≤◌, ◌≡◌, ◌⊎◌, inl, inr, min, max, true, false, cond, ltb, leb, ◌&&◌, List, [], ◌∷◌, length, map, refl, ap, ◌∙◌, ⊎_elim, subst, arith, All}
 use Rattle.std.proofs.lemmas.Bool.{leb-false, ltb-false, cases_lt}
 use Rattle.miette_protocol.specs.Lines as P
 use Rattle.miette_protocol.specs.Lines.{Line}
@@ -8,6 +8,7 @@ use Rattle.miette_protocol.specs.Reading as R
 use Rattle.miette_protocol.specs.Reading.{Span, Source, Contents, IsAccepted}
 use Rattle.miette_text.specs.declared.style.Style.{Style}
 use Rattle.miette_layout.specs.declared.reading.ReadLabel.{ReadLabel}
+use Rattle.miette_layout.specs.Around.{lines_around}
 use Rattle.miette_layout.specs.Contexts as C
 use Rattle.miette_layout.specs.Contexts.{contents}
 use Rattle.miette_layout.specs.Labels.{drawn_from, drawn_label, style_at, parts_of}
@@ -53,10 +54,10 @@ covered c bytes span o le own =
 cut-by : (n e d : ℕ) → d ≤ n → min e n ≤ d → min e d ≡ min e n
 cut-by n e d le ge = omega arith
 
-empty-end : (bytes : List ℕ) (k : ℕ) → length bytes ≡ 0 → end_of (length bytes) (lines bytes) k ≡ 0
+pub empty-end : (bytes : List ℕ) (k : ℕ) → length bytes ≡ 0 → end_of (length bytes) (lines bytes) k ≡ 0
 empty-end bytes k none = omega (arith, none, end-in 0 (length bytes) k (lines bytes) (cut bytes))
 
-empty-start : (bytes : List ℕ) (k : ℕ) → length bytes ≡ 0 → P.line_start bytes k ≡ 0
+pub empty-start : (bytes : List ℕ) (k : ℕ) → length bytes ≡ 0 → P.line_start bytes k ≡ 0
 unfolding P.line_start
 empty-start [] k none = refl
 empty-start (b ∷ bs) k none = absurd (omega (arith, none))
@@ -86,16 +87,17 @@ zero_cut source span h =
     zero_by (length source.bytes) span.offset span.len (R.reading_end source.bytes span) h.begins h.ends
     (omega (arith, reading_same source.bytes span, end-le-reading source.bytes (end_of_span span)))
 
-cut_is : (c : ℕ) (source : Source) (span : Span) → IsAccepted source.bytes span → min (end_of_span span) (C.end_of_span (contents c source span).span) ≡ min (end_of_span span) (length source.bytes)
+pub cut_is : (c : ℕ) (source : Source) (span : Span) → IsAccepted source.bytes span → min (end_of_span span) (C.end_of_span (contents c source span).span) ≡ min (end_of_span span) (length source.bytes)
 cut_is zero source span h = zero_cut source span h
 cut_is (suc c) source span h = context_cut (suc c) source span (omega arith) (none_or_some (length source.bytes))
 
 pub end_is : (context : ℕ) (source : Source) (labels : List Label) (r : ReadLabel) → IsRead context source labels r →
     end_drawn r ≡ max (label_at labels r.index).span.offset (min (end_of_span (label_at labels r.index).span) (length source.bytes))
 end_is context source labels r h =
-    ap (λ it. max r.span.offset (min (end_of_span r.span) (C.end_of_span it.span))) h.contents_are
-    ∙ ap (max r.span.offset) (cut_is context source r.span h.accepted)
-    ∙ ap (λ s. max s.offset (min (end_of_span s) (length source.bytes))) h.span
+    let l : Label = label_at labels r.index in
+    ap (λ s. max s.offset (min (end_of_span s) (C.end_of_span r.contents.span))) h.span
+    ∙ ap (λ it. max l.span.offset (min (end_of_span l.span) (C.end_of_span it.span))) h.contents_are
+    ∙ ap (max l.span.offset) (cut_is (lines_around context labels l) source l.span (subst (λ (s : Span). IsAccepted source.bytes s) h.span h.accepted))
 
 text_is : (labels : List Label) (i : ℕ) → text_at labels i ≡ (label_at labels i).text
 text_is [] i = refl

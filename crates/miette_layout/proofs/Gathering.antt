@@ -11,7 +11,7 @@ use Rattle.miette_layout.specs.declared.grouping.Group.{Group}
 use Rattle.miette_layout.specs.declared.reading.ReadLabel.{ReadLabel}
 use Rattle.miette_layout.specs.Answers.{NoneFails, next_answer, later_answers}
 use Rattle.miette_layout.specs.Groups.{joined, joins_before, groups_from, groups_answered}
-use Rattle.miette_layout.specs.Read.{IsLent, AreGroups}
+use Rattle.miette_layout.specs.Read.{IsLent, AreJoined}
 use Rattle.miette_layout.proofs.Numbers.{by_cases}
 
 -- the groups of what is left, in front of which some are done
@@ -112,9 +112,9 @@ gathered_next context source spans span rest done more before next h failed at o
     (λ f. gathered_apart context source spans span rest done before next h f at own))
 
 pub gathered_all : (context : ℕ) (source : Source) (spans : List Span) (done more : List Group) (before : Group) → AreGathered context source spans [] done before → more ≡ done ++ before ∷ [] →
-    AreGroups context source spans more
+    AreJoined context source spans more
 gathered_all context source spans done more before h e =
-    subst (λ (d : List Group). AreGroups context source spans d) (sym e)
+    subst (λ (d : List Group). AreJoined context source spans d) (sym e)
     (record {
       fails = h.fails;
       always = h.always;
@@ -177,14 +177,14 @@ loop_next context source labels rest item i done more before next lt is h failed
     (own_lent context source item next own at lent) e
 
 pub loop_end : (context : ℕ) (source : Source) (labels rest : List ReadLabel) (i : ℕ) (done more : List Group) (before : Group) → length rest ≤ i →
-    AreGathered context source (spans_read labels) (spans_read (drop i rest)) done before → more ≡ done ++ before ∷ [] → AreGroups context source (spans_read labels) more
+    AreGathered context source (spans_read labels) (spans_read (drop i rest)) done before → more ≡ done ++ before ∷ [] → AreJoined context source (spans_read labels) more
 loop_end context source labels rest i done more before le h e =
     gathered_all context source (spans_read labels) done more before
     (subst (λ (xs : List Span). AreGathered context source (spans_read labels) xs done before) (ap spans_read (drop_all i rest le)) h) e
 
-pub no_groups : (context : ℕ) (source : Source) (labels : List ReadLabel) (groups : List Group) → length labels ≡ 0 → groups ≡ [] → AreGroups context source (spans_read labels) groups
+pub no_groups : (context : ℕ) (source : Source) (labels : List ReadLabel) (groups : List Group) → length labels ≡ 0 → groups ≡ [] → AreJoined context source (spans_read labels) groups
 no_groups context source [] groups none e =
-    subst (λ (d : List Group). AreGroups context source [] d) (sym e) (record { fails = []; always = λ a. tt; are = refl; lent = λ k d lt. absurd (omega (arith, lt)) })
+    subst (λ (d : List Group). AreJoined context source [] d) (sym e) (record { fails = []; always = λ a. tt; are = refl; lent = λ k d lt. absurd (omega (arith, lt)) })
 no_groups context source (l ∷ ls) groups none e = absurd (omega (arith, none))
 
 -- what `extended` says

@@ -1,4 +1,5 @@
 pub mod Apart
+pub mod Belonging
 pub mod Beneath
 pub mod Bleaching
 pub mod Bodies
@@ -6,7 +7,9 @@ pub mod Bridge
 pub mod Choosing
 pub mod CleanTexts
 pub mod Closing
+pub mod Collecting
 pub mod Columns
+pub mod Combined
 pub mod Compared
 pub mod Data
 pub mod Ends
@@ -24,6 +27,7 @@ pub mod Maximal
 pub mod Merging
 pub mod Nearing
 pub mod Numbers
+pub mod Owning
 pub mod Paging
 pub mod PaleSnippets
 pub mod Paling
@@ -33,9 +37,11 @@ pub mod Plaining
 pub mod Printing
 pub mod Progressing
 pub mod Refusing
+pub mod Reread
 pub mod Segments
 pub mod Sorting
 pub mod Sources
+pub mod Spreading
 pub mod Stepping
 pub mod Stroking
 pub mod Styling

@@ -1,5 +1,5 @@
 -- Labels by offset that begin in a span or where it ends: all others lie outside of it.
-use Rattle.std.proofs.Common.{ℕ, zero, suc, ◌+◌, ◌-◌, ◌<◌, ◌≤◌, ◌≡◌, true, false, leb, ltb, List, [], ◌∷◌, length, map, take, drop, get_or, Option, Some, None, refl, sym, ap, ◌∙◌, subst, arith, All}
+use Rattle.std.proofs.Common.{ℕ, zero, suc, ◌+◌, ◌-◌, ◌<◌, ◌≤◌, ◌≡◌, Bool, true, false, leb, ltb, List, [], ◌∷◌, length, map, take, drop, get_or, Option, Some, None, refl, sym, ap, ◌∙◌, subst, arith, All}
 use Rattle.std.proofs.lemmas.Bool.Decides.{nat_tests}
 use Rattle.std.specs.List.Sorted.{IsNonDecreasingBy}
 use Rattle.miette_protocol.specs.Meaning.{Label}
@@ -8,7 +8,7 @@ use Rattle.miette_layout.specs.declared.reading.ReadLabel.{ReadLabel}
 use Rattle.miette_layout.specs.Contexts.{end_of_span}
 use Rattle.miette_layout.specs.Given.{label_at}
 use Rattle.miette_layout.specs.Groups.{in_order, spans_of}
-use Rattle.miette_layout.specs.Primary.{lies_within, or_else, chosen}
+use Rattle.miette_layout.specs.Primary.{end_within, lies_within, or_else, chosen}
 use Rattle.miette_layout.specs.Read.{IsRead}
 use Rattle.miette_layout.proofs.Numbers.{by_cases}
 use Rattle.miette_layout.proofs.Bodies.{order_same}
@@ -22,48 +22,52 @@ later_not : (a b n : ℕ) → leb a n ≡ false → a ≤ b → leb b n ≡ fals
 later_not a b n h le = grind (arith, nat_tests)
 
 -- a label that begins before a span lies outside of it, and so does one that begins behind its end
-begins_before : (group span : Span) → ltb span.offset group.offset ≡ true → lies_within group span ≡ false
-begins_before group span h = rw (lt_not span.offset group.offset h) refl
+begins_before : (own : Bool) (group span : Span) → ltb span.offset group.offset ≡ true → lies_within own group span ≡ false
+begins_before own group span h = rw (lt_not span.offset group.offset h) refl
 
-begins_behind : (group span : Span) → leb span.offset (end_of_span group) ≡ false → lies_within group span ≡ false
-begins_behind group span h =
-    let f : leb (end_of_span span) (end_of_span group) ≡ false = later_not span.offset (end_of_span span) (end_of_span group) h (omega arith) in
-    by_cases {C = lies_within group span ≡ false} (leb group.offset span.offset) (λ t. rw (t, f) refl) (λ g. rw g refl)
+ends_behind : (own : Bool) (span : Span) → span.offset ≤ end_within own span
+ends_behind true span = omega arith
+ends_behind false span = omega arith
 
-abbrev pub IsOutside : Span → ReadLabel → Type 0
-IsOutside group read = lies_within group read.span ≡ false
+begins_behind : (own : Bool) (group span : Span) → leb span.offset (end_of_span group) ≡ false → lies_within own group span ≡ false
+begins_behind own group span h =
+    let f : leb (end_within own span) (end_of_span group) ≡ false = later_not span.offset (end_within own span) (end_of_span group) h (ends_behind own span) in
+    by_cases {C = lies_within own group span ≡ false} (leb group.offset span.offset) (λ t. rw (t, f) refl) (λ g. rw g refl)
 
-none_chosen : (group : Span) (first : Option Span) (reads : List ReadLabel) → ((j : ℕ) (d : ReadLabel) → j < length reads → IsOutside group (get_or reads j d)) → chosen group first reads ≡ first
-none_chosen group first [] h = refl
-none_chosen group first (r ∷ rs) h = rw (h 0 r (omega arith)) (none_chosen group first rs (λ j d lt. h (suc j) d (omega (arith, lt))))
+abbrev pub IsOutside : Bool → Span → ReadLabel → Type 0
+IsOutside own group read = lies_within own group read.span ≡ false
 
-front_chosen : (group : Span) (first : Option Span) (n : ℕ) (reads : List ReadLabel) → ((j : ℕ) (d : ReadLabel) → n ≤ j → j < length reads → IsOutside group (get_or reads j d)) →
-    chosen group first (take n reads) ≡ chosen group first reads
-front_chosen group first zero reads h = sym (none_chosen group first reads (λ j d lt. h j d (omega arith) lt))
-front_chosen group first (suc n) [] h = refl
-front_chosen group first (suc n) (r ∷ rs) h =
-    let later : (j : ℕ) (d : ReadLabel) → n ≤ j → j < length rs → IsOutside group (get_or rs j d) = λ j d le lt. h (suc j) d (omega (arith, le)) (omega (arith, lt)) in
-    by_cases {C = chosen group first (r ∷ take n rs) ≡ chosen group first (r ∷ rs)} (lies_within group r.span)
-    (λ t. by_cases {C = chosen group first (r ∷ take n rs) ≡ chosen group first (r ∷ rs)} r.primary
+none_chosen : (own : Bool) (group : Span) (first : Option Span) (reads : List ReadLabel) → ((j : ℕ) (d : ReadLabel) → j < length reads → IsOutside own group (get_or reads j d)) → chosen own group first reads ≡ first
+none_chosen own group first [] h = refl
+none_chosen own group first (r ∷ rs) h = rw (h 0 r (omega arith)) (none_chosen own group first rs (λ j d lt. h (suc j) d (omega (arith, lt))))
+
+front_chosen : (own : Bool) (group : Span) (first : Option Span) (n : ℕ) (reads : List ReadLabel) → ((j : ℕ) (d : ReadLabel) → n ≤ j → j < length reads → IsOutside own group (get_or reads j d)) →
+    chosen own group first (take n reads) ≡ chosen own group first reads
+front_chosen own group first zero reads h = sym (none_chosen own group first reads (λ j d lt. h j d (omega arith) lt))
+front_chosen own group first (suc n) [] h = refl
+front_chosen own group first (suc n) (r ∷ rs) h =
+    let later : (j : ℕ) (d : ReadLabel) → n ≤ j → j < length rs → IsOutside own group (get_or rs j d) = λ j d le lt. h (suc j) d (omega (arith, le)) (omega (arith, lt)) in
+    by_cases {C = chosen own group first (r ∷ take n rs) ≡ chosen own group first (r ∷ rs)} (lies_within own group r.span)
+    (λ t. by_cases {C = chosen own group first (r ∷ take n rs) ≡ chosen own group first (r ∷ rs)} r.primary
     (λ u. rw (t, u) refl)
-    (λ g. rw (t, g) (front_chosen group (Some (or_else first r.span)) n rs later)))
-    (λ f. rw f (front_chosen group first n rs later))
+    (λ g. rw (t, g) (front_chosen own group (Some (or_else first r.span)) n rs later)))
+    (λ f. rw f (front_chosen own group first n rs later))
 
-between_chosen : (group : Span) (first : Option Span) (m n : ℕ) (reads : List ReadLabel) → ((j : ℕ) (d : ReadLabel) → j < m → j < length reads → IsOutside group (get_or reads j d)) →
-    ((j : ℕ) (d : ReadLabel) → m + n ≤ j → j < length reads → IsOutside group (get_or reads j d)) → chosen group first (take n (drop m reads)) ≡ chosen group first reads
-between_chosen group first zero n reads low high = front_chosen group first n reads (λ j d le lt. high j d (omega (arith, le)) lt)
-between_chosen group first (suc m) n [] low high = front_chosen group first n [] (λ j d le lt. absurd (omega (arith, lt)))
-between_chosen group first (suc m) n (r ∷ rs) low high =
+between_chosen : (own : Bool) (group : Span) (first : Option Span) (m n : ℕ) (reads : List ReadLabel) → ((j : ℕ) (d : ReadLabel) → j < m → j < length reads → IsOutside own group (get_or reads j d)) →
+    ((j : ℕ) (d : ReadLabel) → m + n ≤ j → j < length reads → IsOutside own group (get_or reads j d)) → chosen own group first (take n (drop m reads)) ≡ chosen own group first reads
+between_chosen own group first zero n reads low high = front_chosen own group first n reads (λ j d le lt. high j d (omega (arith, le)) lt)
+between_chosen own group first (suc m) n [] low high = front_chosen own group first n [] (λ j d le lt. absurd (omega (arith, lt)))
+between_chosen own group first (suc m) n (r ∷ rs) low high =
     rw (low 0 r (omega arith) (omega arith))
-    (between_chosen group first m n rs (λ j d lm lt. low (suc j) d (omega (arith, lm)) (omega (arith, lt))) (λ j d le lt. high (suc j) d (omega (arith, le)) (omega (arith, lt))))
+    (between_chosen own group first m n rs (λ j d lm lt. low (suc j) d (omega (arith, lm)) (omega (arith, lt))) (λ j d le lt. high (suc j) d (omega (arith, le)) (omega (arith, lt))))
 
 -- the labels from the first one that doesn't begin before a span, up to the first one that begins behind its end
-pub near_chosen : (group : Span) (a b m : ℕ) (reads : List ReadLabel) → m ≤ a → m ≤ b → b ≤ length reads → ((j : ℕ) (d : ReadLabel) → j < a → ltb (get_or reads j d).span.offset group.offset ≡ true) →
-    ((j : ℕ) (d : ReadLabel) → b ≤ j → j < length reads → leb (get_or reads j d).span.offset (end_of_span group) ≡ false) → chosen group None (take (b - m) (drop m reads)) ≡ chosen group None reads
-near_chosen group a b m reads ma mb bl low high =
-    between_chosen group None m (b - m) reads
-    (λ j d lm lt. begins_before group (get_or reads j d).span (low j d (omega (arith, lm, ma))))
-    (λ j d le lt. begins_behind group (get_or reads j d).span (high j d (omega (arith, le, mb)) lt))
+pub near_chosen : (own : Bool) (group : Span) (a b m : ℕ) (reads : List ReadLabel) → m ≤ a → m ≤ b → b ≤ length reads → ((j : ℕ) (d : ReadLabel) → j < a → ltb (get_or reads j d).span.offset group.offset ≡ true) →
+    ((j : ℕ) (d : ReadLabel) → b ≤ j → j < length reads → leb (get_or reads j d).span.offset (end_of_span group) ≡ false) → chosen own group None (take (b - m) (drop m reads)) ≡ chosen own group None reads
+near_chosen own group a b m reads ma mb bl low high =
+    between_chosen own group None m (b - m) reads
+    (λ j d lm lt. begins_before own group (get_or reads j d).span (low j d (omega (arith, lm, ma))))
+    (λ j d le lt. begins_behind own group (get_or reads j d).span (high j d (omega (arith, le, mb)) lt))
 
 -- labels that were read in order come by offset
 

@@ -1,5 +1,5 @@
 -- The rows of snippets in their styles, and the same rows in plain ones: frames, lines and whole snippets.
-use Rattle.std.proofs.Common.{◌≡◌, ℕ, ◌+◌, ◌-◌, Bool, true, false, ◌&&◌, not, if◌then◌else◌, List, [], ◌∷◌, ◌++◌, map, length, replicate, decimal, codes, chars, Option, Some, None, IfSome, option_map, refl, sym, ap, ap₂, ◌∙◌, subst, append-nil}
+use Rattle.std.proofs.Common.{◌≡◌, ℕ, ◌+◌, ◌-◌, Bool, true, false, ◌&&◌, ◌||◌, not, if◌then◌else◌, List, [], ◌∷◌, ◌++◌, map, length, replicate, decimal, codes, chars, Option, Some, None, IfSome, option_map, refl, sym, ap, ap₂, ◌∙◌, subst, append-nil}
 use Rattle.std.specs.Prelude.{nat_lt, slice_range}
 use Rattle.std.specs.List.{AllByRecursion}
 use Rattle.miette_protocol.specs.Lines.{Line}
@@ -12,10 +12,10 @@ use Rattle.miette_layout.specs.Contexts.{contents, lines_of_contents, is_accepte
 use Rattle.miette_layout.specs.Drawing.{marked_rows}
 use Rattle.miette_layout.specs.Fading.{colourless, unhighlighted, IsPlainRow}
 use Rattle.miette_layout.specs.Frames.{Settings, Place, text_or_none, refused_row, number_start, other_start, place_text, location, location_of, top_row_of, bottom_row, number_width}
-use Rattle.miette_layout.specs.Groups.{Refusal, refusal, in_order, spans_of, groups_answered}
+use Rattle.miette_layout.specs.Groups.{Refusal, refusal, in_order, groups_of, some_fails, groups_fail}
 use Rattle.miette_layout.specs.Gutters.{number_gutter, other_gutter, closing_rows, gutter_columns}
 use Rattle.miette_layout.specs.Labels.{DrawnLabel, drawn_from, one_line, multi_line, closing, is_one_line, is_multi_line, ends_on, starts_on}
-use Rattle.miette_layout.specs.Layout.{text_of_cells, cells_of, before_each, line_rows_of, line_rows, rows_of_lines, body_rows, place_of, snippet, all_snippets, some_fails, rows_unless, snippet_rows}
+use Rattle.miette_layout.specs.Layout.{text_of_cells, cells_of, before_each, line_rows_of, line_rows, rows_of_lines, body_rows, place_of, snippet, all_snippets, settings_around, rows_unless, snippet_rows}
 use Rattle.miette_layout.specs.Marks.{marks}
 use Rattle.miette_layout.specs.Rows.{Run, Row, pieces_of, plain, unstyled}
 use Rattle.miette_layout.proofs.Bleaching.{filter_bleached, all_filter, marks_bleached, marks_clean, gutter_bleached, drawn_bleached, drawn_clean, ordered_clean}
@@ -221,16 +221,19 @@ module _ (P : Type 0) (s : Settings) (clean : P → AreCleanDrawings s.character
   given_unless true h = record { same = refl; plain = tt; clean = λ p. tt }
   given_unless false h = given h
 
+-- the rows of groups, with the lines of context with which they are read
+module _ (P : Type 0) (s : Settings) (clean : P → AreCleanDrawings s.characters) where
   pale_unless : (source : Source) (labels : List Label) (answers : Answers) (refused : Option Refusal) →
       (P → IsCleanSource source) → (P → AllByRecursion IsCleanLabel labels) → (P → IfSome refused IsCleanRefusal) →
       PaleGiven P (rows_unless (colourless s) source labels (unhighlighted answers) (option_map (refused_row (colourless s)) refused)) (rows_unless s source labels answers (option_map (refused_row s) refused))
-  pale_unless source labels answers (Some refused) h k j = given (rows_cons P (pale_refused refused j) (rows_nil P))
+  pale_unless source labels answers (Some refused) h k j = given P s clean (rows_cons P (pale_refused P s clean refused j) (rows_nil P))
   pale_unless source labels answers None h k j =
-      let groups = groups_answered s.context source answers.join_fails (spans_of labels) in
-      given_unless (some_fails answers.place_fails groups) (pale_all source labels answers.pieces groups h k)
+      let groups = groups_of s.context source answers.join_fails labels in
+      given_unless P s clean (groups_fail s.context source answers.join_fails labels || some_fails answers.place_fails groups)
+      (pale_all P (settings_around s labels) clean source labels answers.pieces groups h k)
 
   pub pale_snippets : (source : Source) (labels : List Label) (answers : Answers) → (P → IsCleanSource source) → (P → AllByRecursion IsCleanLabel labels) →
       PaleGiven P (snippet_rows (colourless s) source labels (unhighlighted answers)) (snippet_rows s source labels answers)
   pale_snippets source labels answers h k =
       pale_unless source (in_order labels) answers (refusal source.bytes answers.label_fails (in_order labels)) h (λ p. ordered_clean labels (k p))
-      (λ p. refusal_clean source.bytes answers.label_fails (in_order labels) (ordered_clean labels (k p)))
+      (λ p. refusal_clean P s clean source.bytes answers.label_fails (in_order labels) (ordered_clean labels (k p)))

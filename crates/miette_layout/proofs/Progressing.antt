@@ -1,8 +1,9 @@
 -- Snippets one after the other, and what the whole gives.
-use Rattle.std.proofs.Common.{ℕ, zero, suc, ◌+◌, ◌<◌, ◌≤◌, ◌≡◌, Bool, true, false, cond, List, [], ◌∷◌, ◌++◌, length, map, drop, get_or, Option, Some, None, refl, sym, ap, ◌∙◌, subst, arith, All, append_assoc, append-nil}
+use Rattle.std.proofs.Common.{ℕ, zero, suc, ◌+◌, ◌<◌, ◌≤◌, ◌≡◌, Bool, true, false, cond, List, [], ◌∷◌, ◌++◌, length, map, drop, get_or, Option, Some, None, ◌||◌, refl, sym, ap, ap₂, ◌∙◌, subst, arith, All, append_assoc, append-nil}
 use Rattle.std.specs.Option.{option_map}
 use Rattle.std.specs.Str.{chars}
 use Rattle.std.proofs.lemmas.List.{drop_all, length-map}
+use Rattle.miette_protocol.specs.Lines.{Line}
 use Rattle.miette_protocol.specs.Meaning.{Label}
 use Rattle.miette_protocol.specs.Reading.{Span, Source, Contents}
 use Rattle.miette_text.specs.declared.style.Style.{Style}
@@ -15,25 +16,28 @@ use Rattle.miette_layout.specs.declared.reading.Refusal.{Refusal}
 use Rattle.miette_layout.specs.declared.reading.Refusal.TheVariants as reasons
 use Rattle.miette_layout.specs.declared.sweep.Placed.{Placed}
 use Rattle.miette_layout.specs.Rows.{Row}
-use Rattle.miette_layout.specs.Answers.{Answers, Highlight}
+use Rattle.miette_layout.specs.Answers.{Answers, Highlight, first_of, later_of}
+use Rattle.miette_layout.specs.Around.{has_own, group_context}
 use Rattle.miette_layout.specs.Contexts.{contents, lines_of_contents}
 use Rattle.miette_layout.specs.Drawn.{MayGive}
 use Rattle.miette_layout.specs.Frames.{Settings, Place, refused_row, top_row, bottom_row, number_width}
 use Rattle.miette_layout.specs.Given.{drawn_of, label_at}
-use Rattle.miette_layout.specs.Groups.{in_order, spans_of, refusal, groups_answered, AreAccepted}
+use Rattle.miette_layout.specs.Gutters.{gutter_columns}
+use Rattle.miette_layout.specs.Groups.{in_order, refusal, groups_of, some_fails, AreAccepted}
 use Rattle.miette_layout.specs.Highlighted.{EachHasPieces, SnippetsHavePieces, texts_of}
 use Rattle.miette_layout.specs.Labels.{DrawnLabel, drawn_from}
-use Rattle.miette_layout.specs.Layout.{snippet, all_snippets, some_fails, rows_unless, place_of, body_rows}
-use Rattle.miette_layout.specs.Lent.{lent_snippet, PutsRows}
+use Rattle.miette_layout.specs.Layout.{snippet, all_snippets, line_rows, settings_around, rows_unless, place_of, body_rows}
+use Rattle.miette_layout.specs.Lent.{cells_in, lent_rows, lent_snippet, PutsRows}
 use Rattle.miette_layout.specs.Placing.{placed_from}
 use Rattle.miette_layout.specs.Primary.{chosen, PointsTo, is_unread}
-use Rattle.miette_layout.specs.Read.{IsRead, IsLent, AreGroups, AreRead, name_of}
+use Rattle.miette_layout.specs.Read.{IsRead, IsLent, AreGroups, AreGrouped, IsUnread, AreRead, name_of}
 use Rattle.miette_layout.specs.Told.{Token, told_rows}
 use Rattle.miette_layout.proofs.Bodies.{none_refused, some_none}
 use Rattle.miette_layout.proofs.Choosing.{framed_place, place_is, unread_fails}
 use Rattle.miette_layout.proofs.Ends.{placed_drawn}
 use Rattle.miette_layout.proofs.Styling.{none_have, snippets_plain}
 use Rattle.miette_layout.proofs.Lending.{told_rows-append, lent_body, lent_texts, lent_texts_are}
+use Rattle.miette_layout.proofs.Owning.{own_ordered}
 use Rattle.miette_layout.proofs.Refusing.{read_of, all_accepted}
 use Rattle.miette_layout.proofs.Sorting.{label_got}
 
@@ -59,6 +63,26 @@ snippet_same s source labels span drawn lent place pieces d l p =
     ∙ ap (λ c. lent_snippet s drawn (contents s.context source span) c pieces) p
     ∙ ap (λ rows. top_row s (contents s.context source span) (place_of source span labels) ∷ rows ++ bottom_row s (number_width (contents s.context source span)) ∷ []) (lent_body s drawn s.context source span pieces)
     ∙ ap (λ c. top_row s (contents s.context source span) (place_of source span labels) ∷ body_rows s c source.bytes (contents s.context source span) pieces ++ bottom_row s (number_width (contents s.context source span)) ∷ []) d
+
+-- the lines of context don't matter to rows of what was lent
+rows_around : (s : Settings) (c w columns : ℕ) (drawn : List DrawnLabel) (start : ℕ) (bytes : List ℕ) (number : ℕ) (pieces : List (List Highlight)) (lines : List Line) →
+    lent_rows (record s { context = c }) w columns drawn start bytes number pieces lines ≡ lent_rows s w columns drawn start bytes number pieces lines
+rows_around s c w columns drawn start bytes number pieces [] = refl
+rows_around s c w columns drawn start bytes number pieces (line ∷ lines) =
+    ap (λ r. line_rows s w columns drawn line number (cells_in s start bytes line) (first_of pieces) ++ r) (rows_around s c w columns drawn start bytes (number + 1) (later_of pieces) lines)
+
+snippet_around : (s : Settings) (c : ℕ) (drawn : List DrawnLabel) (lent : Contents) (place : Option Place) (pieces : List (List Highlight)) → lent_snippet (record s { context = c }) drawn lent place pieces ≡ lent_snippet s drawn lent place pieces
+snippet_around s c drawn lent place pieces =
+    ap (λ rows. top_row s lent place ∷ rows ++ bottom_row s (number_width lent) ∷ [])
+    (rows_around s c (number_width lent) (gutter_columns drawn (lines_of_contents lent)) drawn lent.span.offset lent.bytes (lent.line + 1) pieces (lines_of_contents lent))
+
+pub puts_around : (s : Settings) (c : ℕ) (blank : Bool) (texts : List (List ℕ)) (drawn : List DrawnLabel) (lent : Contents) (place : Option Place) (page more : List Token) →
+    PutsRows blank texts (lent_snippet s drawn lent place) page more → PutsRows blank texts (lent_snippet (record s { context = c }) drawn lent place) page more
+puts_around s c blank texts drawn lent place page more h = record {
+  pieces = h.pieces;
+  are = h.are;
+  is = h.is ∙ ap (λ rows. page ++ told_rows rows) (sym (snippet_around s c drawn lent place h.pieces));
+}
 
 drop_at : {X : Type 0} (xs : List X) (i : ℕ) (d : X) → i < length xs → drop i xs ≡ get_or xs i d ∷ drop (i + 1) xs
 drop_at [] i d lt = absurd (omega (arith, lt))
@@ -118,42 +142,30 @@ all_drawn s source labels blank groups i page h le =
     unless_plain s source labels blank groups page all.0 all.1
     (sym (append-nil page) ∙ ap (λ gs. page ++ told_rows (all_snippets s source (in_order labels) [] (spans_grouped gs))) (sym none) ∙ all.2)
 
--- the labels' spans
+-- the labels' groups
 
-spans_same : (context : ℕ) (source : Source) (labels : List Label) (reads : List ReadLabel) → All (IsRead context source labels) reads → map (λ r. r.span) reads ≡ spans_of (map (read_of labels) reads)
-spans_same context source labels [] h = refl
-spans_same context source labels (r ∷ rs) h =
-    let own : IsRead context source labels r = h 0 r (omega arith) in
-    ap (λ s. s ∷ map (λ k. k.span) rs) own.span ∙ ap (λ ss. (label_at labels r.index).span ∷ ss) (spans_same context source labels rs (λ k d lt. h (suc k) d (omega arith)))
-
-pub lent_all : (context : ℕ) (source : Source) (labels : List Label) (reads : List ReadLabel) → All (IsRead context source labels) reads → All (λ label. IsLent context source label.span label.contents) reads
-lent_all context source labels reads h = λ k d lt. let own : IsRead context source labels (get_or reads k d) = h k d lt in record { accepted = own.accepted; is = own.contents_are }
-
-grouped_is : (s : Settings) (source : Source) (labels : List Label) (reads : List ReadLabel) (groups : List Group) → map (read_of labels) reads ≡ in_order labels → All (IsRead s.context source labels) reads →
-    (g : AreGroups s.context source (map (λ r. r.span) reads) groups) → groups_answered s.context source g.fails (spans_of (in_order labels)) ≡ spans_grouped groups
-grouped_is s source labels reads groups order h g =
-    ap (λ ss. groups_answered s.context source g.fails ss) (sym (spans_same s.context source labels reads h ∙ ap spans_of order)) ∙ sym g.are
-
-none_refused_here : (s : Settings) (source : Source) (labels : List Label) (reads : List ReadLabel) → map (read_of labels) reads ≡ in_order labels → All (IsRead s.context source labels) reads →
+none_refused_here : (context : ℕ) (source : Source) (labels : List Label) (reads : List ReadLabel) → map (read_of labels) reads ≡ in_order labels → All (IsRead context source labels) reads →
     refusal source.bytes [] (in_order labels) ≡ None
-none_refused_here s source labels reads order h =
-    none_refused source.bytes [] (in_order labels) tt (subst (λ (ls : List Label). AreAccepted source.bytes ls) order (all_accepted s.context source labels reads h))
+none_refused_here context source labels reads order h =
+    none_refused source.bytes [] (in_order labels) tt (subst (λ (ls : List Label). AreAccepted source.bytes ls) order (all_accepted context source labels reads h))
 
 -- all snippets were drawn
 pub gives_rows : (s : Settings) (source : Source) (labels : List Label) (blank : Bool) (reads : List ReadLabel) (groups : List Group) (page : List Token) → map (read_of labels) reads ≡ in_order labels →
-    All (IsRead s.context source labels) reads → AreGroups s.context source (map (λ r. r.span) reads) groups → IsWhole s source labels blank groups page →
+    All (IsRead s.context source labels) reads → AreGroups s.context source (in_order labels) groups → IsWhole (settings_around s (in_order labels)) source labels blank groups page →
     MayGive s source labels blank (Some page)
 gives_rows s source labels blank reads groups page order h g e =
     let ls : List Label = in_order labels in
+    let s' : Settings = settings_around s ls in
     let answers : Answers = record { label_fails = []; join_fails = g.fails; place_fails = []; pieces = e.pieces } in
+    let spans : List Span = groups_of s.context source g.fails ls in
     record {
       answers = answers;
       always = λ a. record { labels = tt; joins = g.always a; places = tt };
-      pieces = subst (λ (gs : List Span). SnippetsHavePieces s.context blank source gs e.pieces) (sym (grouped_is s source labels reads groups order h g)) e.have;
+      pieces = subst (λ (gs : List Span). SnippetsHavePieces s'.context blank source gs e.pieces) g.are e.have;
       plain = e.plain;
-      is = ap Some (e.is ∙ ap (λ gs. told_rows (all_snippets s source ls e.pieces gs)) (sym (grouped_is s source labels reads groups order h g)))
-          ∙ sym (ap (λ b. option_map told_rows (cond b None (Some (all_snippets s source ls e.pieces (groups_answered s.context source g.fails (spans_of ls)))))) (some_none [] (groups_answered s.context source g.fails (spans_of ls)) tt))
-          ∙ sym (ap (λ r. option_map told_rows (rows_unless s source ls answers (option_map (refused_row s) r))) (none_refused_here s source labels reads order h));
+      is = ap Some (e.is ∙ ap (λ gs. told_rows (all_snippets s' source ls e.pieces gs)) g.are)
+          ∙ sym (ap₂ (λ a b. option_map told_rows (cond (a || b) None (Some (all_snippets s' source ls e.pieces spans)))) g.read (some_none [] spans tt))
+          ∙ sym (ap (λ r. option_map told_rows (rows_unless s source ls answers (option_map (refused_row s) r))) (none_refused_here s.context source labels reads order h));
     }
 
 -- the answers up to a place that can't be read
@@ -167,22 +179,40 @@ one_fails zero (g ∷ gs) lt = refl
 one_fails (suc i) (g ∷ gs) lt = one_fails i gs (omega (arith, lt))
 
 -- a place can't be read
-pub gives_none : (s : Settings) (source : Source) (labels : List Label) (blank : Bool) (reads : List ReadLabel) (groups : List Group) (i : ℕ) (span : Span) (found : Found) → map (read_of labels) reads ≡ in_order labels →
-    All (IsRead s.context source labels) reads → AreGroups s.context source (map (λ r. r.span) reads) groups → i < length groups →
-    PointsTo source (chosen span None reads) found → is_unread found ≡ true → MayGive s source labels blank None
-gives_none s source labels blank reads groups i span found order h g lt p u =
+pub gives_none : (s : Settings) (source : Source) (labels : List Label) (blank own : Bool) (reads : List ReadLabel) (groups : List Group) (i : ℕ) (span : Span) (found : Found) → map (read_of labels) reads ≡ in_order labels →
+    All (IsRead s.context source labels) reads → AreGroups s.context source (in_order labels) groups → i < length groups →
+    PointsTo source (chosen own span None reads) found → is_unread found ≡ true → MayGive s source labels blank None
+gives_none s source labels blank own reads groups i span found order h g lt p u =
     let ls : List Label = in_order labels in
+    let s' : Settings = settings_around s ls in
     let answers : Answers = record { label_fails = []; join_fails = g.fails; place_fails = fails_at i; pieces = [] } in
-    let spans : List Span = groups_answered s.context source g.fails (spans_of ls) in
-    let failed : source.always_reads ≡ false = unread_fails s.context source labels span reads found h p u in
-    let many : i < length spans = omega (arith, lt, ap length (grouped_is s source labels reads groups order h g), length-map groups (λ (group : Group). group.span)) in
+    let spans : List Span = groups_of s.context source g.fails ls in
+    let failed : source.always_reads ≡ false = unread_fails s.context source labels own span reads found h p u in
+    let many : i < length spans = omega (arith, lt, ap length g.are, length-map groups (λ (group : Group). group.span)) in
     record {
       answers = answers;
       always = λ a. cc;
-      pieces = none_have s.context blank source spans;
+      pieces = none_have s'.context blank source spans;
       plain = λ b. refl;
-      is = sym (ap (λ b. option_map told_rows (cond b None (Some (all_snippets s source ls [] spans)))) (one_fails i spans many))
-          ∙ sym (ap (λ r. option_map told_rows (rows_unless s source ls answers (option_map (refused_row s) r))) (none_refused_here s source labels reads order h));
+      is = sym (ap₂ (λ a b. option_map told_rows (cond (a || b) None (Some (all_snippets s' source ls [] spans)))) g.read (one_fails i spans many))
+          ∙ sym (ap (λ r. option_map told_rows (rows_unless s source ls answers (option_map (refused_row s) r))) (none_refused_here s.context source labels reads order h));
+    }
+
+-- the read of a group failed
+pub gives_unread : (s : Settings) (source : Source) (labels : List Label) (blank : Bool) (reads : List ReadLabel) → map (read_of labels) reads ≡ in_order labels → All (IsRead s.context source labels) reads →
+    IsUnread s.context source (in_order labels) → MayGive s source labels blank None
+gives_unread s source labels blank reads order h g =
+    let ls : List Label = in_order labels in
+    let s' : Settings = settings_around s ls in
+    let answers : Answers = record { label_fails = []; join_fails = g.fails; place_fails = []; pieces = [] } in
+    let spans : List Span = groups_of s.context source g.fails ls in
+    record {
+      answers = answers;
+      always = λ a. let no : source.always_reads ≡ false = g.always in cc;
+      pieces = none_have s'.context blank source spans;
+      plain = λ b. refl;
+      is = sym (ap (λ b. option_map told_rows (cond (b || some_fails [] spans) None (Some (all_snippets s' source ls [] spans)))) g.unread)
+          ∙ sym (ap (λ r. option_map told_rows (rows_unless s source ls answers (option_map (refused_row s) r))) (none_refused_here s.context source labels reads order h));
     }
 
 -- the labels as they are drawn, in order
@@ -191,9 +221,10 @@ pub drawn_is : (styles : List Style) (context : ℕ) (source : Source) (labels :
 drawn_is styles context source labels reads placed order h e =
     ap (map (drawn_of labels)) e ∙ placed_drawn styles context source labels 0 reads h ∙ ap (drawn_from styles (length source.bytes) 0) order
 
-pub place_ordered : (context : ℕ) (source : Source) (labels : List Label) (group : Span) (reads : List ReadLabel) (found : Found) → map (read_of labels) reads ≡ in_order labels → All (IsRead context source labels) reads →
-    PointsTo source (chosen group None reads) found → is_unread found ≡ false → framed_place found ≡ place_of source group (in_order labels)
-place_ordered context source labels group reads found order h p u = place_is context source labels group reads found h p u ∙ ap (place_of source group) order
+pub place_ordered : (context : ℕ) (source : Source) (labels : List Label) (own : Bool) (group : Span) (reads : List ReadLabel) (found : Found) → own ≡ has_own labels → map (read_of labels) reads ≡ in_order labels →
+    All (IsRead context source labels) reads → PointsTo source (chosen own group None reads) found → is_unread found ≡ false → framed_place found ≡ place_of source group (in_order labels)
+place_ordered context source labels own group reads found which order h p u =
+    place_is context source labels own group reads found (which ∙ sym (own_ordered labels) ∙ ap has_own (sym order)) h p u ∙ ap (place_of source group) order
 
 -- the characters of a reason's name
 named : (reason : Refusal) → chars (name_of reason) ≡ name_of reason
@@ -218,12 +249,20 @@ gives_refused s source labels order blank read index reason label text before pa
     record {
       answers = answers;
       always = λ a. record { labels = k.1 a; joins = tt; places = tt };
-      pieces = none_have s.context blank source (groups_answered s.context source [] (spans_of ls));
+      pieces = none_have (group_context s.context ls) blank source (groups_of s.context source [] ls);
       plain = λ b. refl;
       is = ap Some (e ∙ ap (λ b. b ++ told_rows (refused_row s (record { label = label; name = name }) ∷ [])) none)
           ∙ sym (ap (λ r. option_map told_rows (rows_unless s source ls answers (option_map (refused_row s) r))) refused);
     }
 
-pub groups_lent : (context : ℕ) (source : Source) (spans : List Span) (groups : List Group) (i : ℕ) (group : Group) → AreGroups context source spans groups → i < length groups → group ≡ get_or groups i group →
-    IsLent context source group.span group.contents
-groups_lent context source spans groups i group h lt is = subst (λ (g : Group). IsLent context source g.span g.contents) (sym is) (h.lent i group lt)
+pub groups_lent : (context : ℕ) (source : Source) (labels : List Label) (groups : List Group) (i : ℕ) (group : Group) → AreGroups context source labels groups → i < length groups → group ≡ get_or groups i group →
+    IsLent (group_context context labels) source group.span group.contents
+groups_lent context source labels groups i group h lt is = subst (λ (g : Group). IsLent (group_context context labels) source g.span g.contents) (sym is) (h.lent i group lt)
+
+-- groups that there are
+pub are_grouped : (context : ℕ) (source : Source) (labels : List Label) (r : Option (List Group)) (groups got : List Group) → AreGrouped context source labels r → r ≡ Some groups → got ≡ groups → AreGroups context source labels got
+are_grouped context source labels r groups got h is e =
+    subst (λ (gs : List Group). AreGroups context source labels gs) (sym e) (subst (λ (o : Option (List Group)). AreGrouped context source labels o) is h)
+
+pub none_grouped : (context : ℕ) (source : Source) (labels : List Label) (r : Option (List Group)) → AreGrouped context source labels r → r ≡ None → IsUnread context source labels
+none_grouped context source labels r h is = subst (λ (o : Option (List Group)). AreGrouped context source labels o) is h

@@ -1,6 +1,6 @@
 -- Labels that were read so far, and the first one that is refused.
-use Rattle.std.proofs.Common.{ℕ, suc, ◌+◌, ◌<◌, ◌≡◌, Bool, true, false, leb, List, [], ◌∷◌, ◌++◌, length, map, take, drop, get_or, Some, refl, sym, ap, ◌∙◌, subst, arith, All, append_assoc, take-append-drop}
-use Rattle.std.specs.Prelude.{codes}
+use Rattle.std.proofs.Common.{ℕ, suc, ◌+◌, ◌<◌, ◌≡◌, max, Bool, true, false, cond, leb, List, [], ◌∷◌, ◌++◌, length, map, take, drop, get_or, Some, refl, sym, ap, ◌∙◌, subst, arith, All, append_assoc, take-append-drop}
+use Rattle.std.specs.Prelude.{codes, unwrap_or}
 use Rattle.std.proofs.lemmas.Bool.{leb-true, and_left, and_right}
 use Rattle.std.proofs.lemmas.List.{map-append, get_or-map, take_more, length-map}
 use Rattle.std.proofs.lemmas.List.Elements.{All-push}
@@ -13,6 +13,7 @@ use Rattle.miette_layout.specs.declared.order.Turn.{Turn}
 use Rattle.miette_layout.specs.declared.reading.ReadLabel.{ReadLabel}
 use Rattle.miette_layout.specs.declared.reading.ReadLabels.TheVariants as reads
 use Rattle.miette_layout.specs.declared.reading.Refusal.{Refusal}
+use Rattle.miette_layout.specs.Around.{has_own, contents_around}
 use Rattle.miette_layout.specs.Contexts.{contents, is_accepted}
 use Rattle.miette_layout.specs.Given.{label_at}
 use Rattle.miette_layout.specs.Groups.{refusal, AreAccepted}
@@ -53,17 +54,20 @@ read_more context source labels order i read more d r h lt same own e =
     (record { are = are; each = All-push (IsRead context source labels) read r h.each own })
 
 -- the label that is read, as the loop finds it
-pub own_read : (context : ℕ) (source : Source) (labels : List Label) (index : ℕ) (label : Label) (span : Span) (r : ReadLabel) → index < length labels → label ≡ get_or labels index label →
-    r.index ≡ index → r.span ≡ label.span → r.primary ≡ label.primary → span ≡ label.span → IsAccepted source.bytes span → r.contents ≡ contents context source span → IsRead context source labels r
-own_read context source labels index label span r lt is same own primary asked accepted contents_are =
+pub own_read : (context : ℕ) (source : Source) (labels : List Label) (index : ℕ) (label : Label) (span : Span) (r : ReadLabel) (lines : ℕ) (own : Bool) → index < length labels → label ≡ get_or labels index label →
+    r.index ≡ index → r.span ≡ label.span → r.primary ≡ label.primary → span ≡ label.span → IsAccepted source.bytes span → r.contents ≡ contents lines source span →
+    lines ≡ unwrap_or label.context (cond own (max 1 context) context) → own ≡ has_own labels → IsRead context source labels r
+own_read context source labels index label span r lines own lt is same at_span primary asked accepted contents_are around which =
     let at : label_at labels r.index ≡ label = ap (label_at labels) same ∙ label_got labels index label lt ∙ sym is in
-    let spans : span ≡ r.span = asked ∙ sym own in
+    let spans : span ≡ r.span = asked ∙ sym at_span in
     record {
       inside = rw same lt;
-      span = own ∙ ap (λ l. l.span) (sym at);
+      span = at_span ∙ ap (λ l. l.span) (sym at);
       primary = primary ∙ ap (λ l. l.primary) (sym at);
       accepted = subst (λ (s : Span). IsAccepted source.bytes s) spans accepted;
-      contents_are = contents_are ∙ ap (contents context source) spans;
+      contents_are = contents_are ∙ ap (contents lines source) asked
+          ∙ ap (λ n. contents n source label.span) (around ∙ ap (λ b. unwrap_or label.context (cond b (max 1 context) context)) which)
+          ∙ ap (λ l. contents_around context source labels l) (sym at);
     }
 
 -- the answers up to a read that fails

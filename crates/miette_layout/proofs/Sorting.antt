@@ -154,7 +154,7 @@ pub map_label : {X : Type 0} (f : X → Label) (xs : List X) (x : X) (labels : L
 map_label f xs x labels i e h lt = map-append f xs (x ∷ []) ∙ ap (λ r. r ++ f x ∷ []) e ∙ ap (λ y. take i labels ++ y ∷ []) h ∙ sym (take_label labels i lt)
 
 pub label_there : (labels : List Label) (i : ℕ) (l : Label) → slice_get labels i ≡ Some l → label_at labels i ≡ l
-label_there labels i l e = ap (λ o. unwrap_or o (record { text = None; span = record { offset = 0; len = 0 }; primary = false })) e
+label_there labels i l e = ap (λ o. unwrap_or o (record { text = None; span = record { offset = 0; len = 0 }; primary = false; context = None })) e
 
 pub label_got : (labels : List Label) (i : ℕ) (d : Label) → i < length labels → label_at labels i ≡ get_or labels i d
 label_got [] i d lt = absurd (omega (arith, lt))

@@ -6,8 +6,9 @@ use Rattle.miette_protocol.specs.Reading.{Source}
 use Rattle.miette_protocol.specs.declared.error.RenderError.{RenderError}
 use Rattle.miette_protocol.specs.declared.error.RenderError.TheVariants as errors
 use Rattle.miette_layout.specs.Answers.{Answers, AlwaysReads}
+use Rattle.miette_layout.specs.Around.{group_context}
 use Rattle.miette_layout.specs.Frames.{Settings}
-use Rattle.miette_layout.specs.Groups.{in_order, spans_of, groups_answered}
+use Rattle.miette_layout.specs.Groups.{in_order, groups_of}
 use Rattle.miette_layout.specs.Highlighted.{SnippetsHavePieces}
 use Rattle.miette_layout.specs.Layout.{snippet_rows}
 use Rattle.miette_layout.specs.Told.{Token, told_rows}
@@ -17,7 +18,7 @@ use Rattle.miette_layout.specs.Told.{Token, told_rows}
 pub record MayGive (s : Settings) (source : Source) (labels : List Label) (blank : Bool) (page : Option (List Token)) : Type 0 where
   pub answers : Answers
   pub always : source.always_reads ≡ true → AlwaysReads answers
-  pub pieces : SnippetsHavePieces s.context blank source (groups_answered s.context source answers.join_fails (spans_of (in_order labels))) answers.pieces
+  pub pieces : SnippetsHavePieces (group_context s.context (in_order labels)) blank source (groups_of s.context source answers.join_fails (in_order labels)) answers.pieces
   pub plain : blank ≡ true → answers.pieces ≡ []
   pub is : page ≡ option_map told_rows (snippet_rows s source labels answers)
 

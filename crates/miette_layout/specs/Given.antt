@@ -38,4 +38,4 @@ drawn_of labels p = record { start = p.start; after = p.after; style = p.style; 
 
 -- the i-th label
 abbrev pub label_at : List Label → ℕ → Label
-label_at labels i = unwrap_or (slice_get labels i) (record { text = None; span = record { offset = 0; len = 0 }; primary = false })
+label_at labels i = unwrap_or (slice_get labels i) (record { text = None; span = record { offset = 0; len = 0 }; primary = false; context = None })

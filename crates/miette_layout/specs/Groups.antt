@@ -1,9 +1,10 @@
 -- Labels by offset, the first one that is refused, and the groups in which they are drawn.
-use Rattle.std.specs.Prelude.{ℕ, ◌+◌, ◌-◌, max, List, [], ◌∷◌, map, codes, Option, Some, None, Bool, if◌then◌else◌, nat_le}
+use Rattle.std.specs.Prelude.{ℕ, ◌+◌, ◌-◌, max, List, [], ◌∷◌, map, codes, Option, Some, None, Bool, false, ◌&&◌, ◌||◌, if◌then◌else◌, nat_le}
 use Rattle.std.specs.List.{AllByRecursion}
 use Rattle.miette_protocol.specs.Meaning.{Label}
 use Rattle.miette_protocol.specs.Reading.{Span, Source, IsAccepted}
 use Rattle.miette_layout.specs.Answers.{next_answer, later_answers}
+use Rattle.miette_layout.specs.Around.{has_own, contents_around}
 use Rattle.miette_layout.specs.Contexts.{end_of_span, is_accepted, contents, lines_in}
 
 -- a label comes before the first one that doesn't begin before it
@@ -60,6 +61,51 @@ abbrev pub groups_answered : ℕ → Source → List Bool → List Span → List
 groups_answered context source fails [] = []
 groups_answered context source fails (span ∷ spans) = groups_from context source span fails spans
 
--- the lines that the groups show
+-- ---- groups where some label has its own number of context lines
+
+-- the place of the data that the read of a label lends
+abbrev pub stretch : ℕ → Source → List Label → Label → Span
+stretch context source labels label = (contents_around context source labels label).span
+
+-- a stretch comes before the first one that doesn't begin before it
+abbrev pub put_stretch : Span → List Span → List Span
+put_stretch span [] = span ∷ []
+put_stretch span (next ∷ spans) = if nat_le span.offset next.offset then span ∷ next ∷ spans else next ∷ put_stretch span spans
+
+-- stretches by where they begin, ties as given
+abbrev pub by_begin : List Span → List Span
+by_begin [] = []
+by_begin (span ∷ spans) = put_stretch span (by_begin spans)
+
+-- a stretch is joined to those before it where it begins at or before their end
+abbrev pub stretches_from : Span → List Span → List Span
+stretches_from before [] = before ∷ []
+stretches_from before (span ∷ spans) =
+    if nat_le span.offset (end_of_span before) then stretches_from (joined before span) spans else before ∷ stretches_from span spans
+
+abbrev pub joined_stretches : List Span → List Span
+joined_stretches [] = []
+joined_stretches (span ∷ spans) = stretches_from span spans
+
+-- the groups of labels, each as the span of its bytes
+abbrev pub own_groups : ℕ → Source → List Label → List Span
+own_groups context source labels = joined_stretches (by_begin (map (stretch context source labels) labels))
+
+-- ---- the groups of a diagnostic's labels by offset
+
+abbrev pub groups_of : ℕ → Source → List Bool → List Label → List Span
+groups_of context source fails labels =
+    if has_own labels then own_groups context source labels else groups_answered context source fails (spans_of labels)
+
+-- whether some read of these fails
+abbrev pub some_fails : List Bool → List Span → Bool
+some_fails fails [] = false
+some_fails fails (span ∷ spans) = next_answer fails || some_fails (later_answers fails) spans
+
+-- whether the read of some group fails: each is read again where some label has its own number
+abbrev pub groups_fail : ℕ → Source → List Bool → List Label → Bool
+groups_fail context source fails labels = has_own labels && some_fails fails (groups_of context source fails labels)
+
+-- the lines that groups show which are read with so many lines of context
 abbrev pub lines_of_groups : ℕ → Source → List Span → List (List ℕ)
 lines_of_groups context source groups = map (λ group. lines_in source.bytes (contents context source group)) groups

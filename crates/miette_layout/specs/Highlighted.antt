@@ -1,5 +1,5 @@
 -- What a highlighter may have answered for the lines of snippets.
-use Rattle.std.specs.Prelude.{ℕ, ◌≡◌, ◌≢◌, ◌-◌, true, List, [], ◌∷◌, map, slice_range, encode_utf8_all, Option, Bool}
+use Rattle.std.specs.Prelude.{ℕ, ◌≡◌, ◌≢◌, true, List, [], ◌∷◌, map, slice_range, encode_utf8_all, Option, Bool}
 use Rattle.std.specs.Option.{option_map_or}
 use Rattle.bstr.specs.Utf8.{lossy_chars}
 use Rattle.miette_protocol.specs.Lines.{Line}

@@ -6,9 +6,10 @@ use Rattle.miette_protocol.specs.Lines.{Line}
 use Rattle.miette_protocol.specs.Meaning.{Label}
 use Rattle.miette_protocol.specs.Reading.{Span, Source, Contents}
 use Rattle.miette_layout.specs.Rows.{Row}
-use Rattle.miette_layout.specs.Answers.{Answers, Highlight, next_answer, later_answers, first_of, later_of}
+use Rattle.miette_layout.specs.Answers.{Answers, Highlight, first_of, later_of}
+use Rattle.miette_layout.specs.Around.{has_own, group_context}
 use Rattle.miette_layout.specs.Contexts.{end_of_span, contents, lines_of_contents}
-use Rattle.miette_layout.specs.Groups.{in_order, spans_of, refusal, groups_answered}
+use Rattle.miette_layout.specs.Groups.{in_order, refusal, groups_of, some_fails, groups_fail}
 use Rattle.miette_layout.specs.Cells.{Cell, characters, cells_from, cells_width, line_runs}
 use Rattle.miette_layout.specs.Labels.{DrawnLabel, drawn_from, one_line, multi_line, closing}
 use Rattle.miette_layout.specs.Marks.{Text, marks}
@@ -49,9 +50,12 @@ abbrev pub body_rows : Settings → List DrawnLabel → List ℕ → Contents �
 body_rows s labels source read pieces =
     rows_of_lines s (number_width read) (gutter_columns labels (lines_of_contents read)) labels source (read.line + 1) pieces (lines_of_contents read)
 
--- the primary label of a snippet: the first one marked so within its span, else the first within it
-abbrev pub is_within : Span → Label → Bool
-is_within group label = nat_le group.offset label.span.offset && nat_le (end_of_span label.span) (end_of_span group)
+-- Whether a label belongs to a group: its span lies within the group's; or, where labels have their own numbers of context lines, it
+-- begins in the group's bytes or at their end.
+abbrev pub is_within : Bool → Span → Label → Bool
+is_within own group label = nat_le group.offset label.span.offset && nat_le (if own then label.span.offset else end_of_span label.span) (end_of_span group)
+
+-- the primary label of a group: the first one marked so that belongs to it, else the first that does
 
 abbrev pub first_marked : Label → List Label → Label
 first_marked first [] = first
@@ -67,7 +71,7 @@ begins_at source label = record { line = (contents 0 source label.span).line; co
 
 -- where a snippet's frame points to
 abbrev pub place_of : Source → Span → List Label → Option Place
-place_of source group labels = option_map (begins_at source) (primary_of (filter (is_within group) labels))
+place_of source group labels = option_map (begins_at source) (primary_of (filter (is_within (has_own labels) group) labels))
 
 abbrev pub snippet : Settings → Source → List Label → Span → List (List Highlight) → List Row
 snippet s source labels group pieces =
@@ -79,20 +83,22 @@ abbrev pub all_snippets : Settings → Source → List Label → List (List (Lis
 all_snippets s source labels pieces [] = []
 all_snippets s source labels pieces (group ∷ groups) = snippet s source labels group (first_of pieces) ++ all_snippets s source labels (later_of pieces) groups
 
--- whether the read of some snippet's place fails
-abbrev pub some_fails : List Bool → List Span → Bool
-some_fails fails [] = false
-some_fails fails (group ∷ groups) = next_answer fails || some_fails (later_answers fails) groups
+-- the settings with the lines of context with which the groups of these labels are read
+abbrev pub settings_around : Settings → List Label → Settings
+settings_around s labels = record s { context = group_context s.context labels }
 
+-- none where the read of a group fails, or that of a snippet's place
 abbrev pub rows_of_groups : Settings → Source → List Label → Answers → List Span → Option (List Row)
 rows_of_groups s source labels answers groups =
-    if some_fails answers.place_fails groups then None else Some (all_snippets s source labels answers.pieces groups)
+    if groups_fail s.context source answers.join_fails labels || some_fails answers.place_fails groups then None
+    else Some (all_snippets (settings_around s labels) source labels answers.pieces groups)
 
 abbrev pub rows_unless : Settings → Source → List Label → Answers → Option Row → Option (List Row)
 rows_unless s source labels answers (Some row) = Some (row ∷ [])
-rows_unless s source labels answers None = rows_of_groups s source labels answers (groups_answered s.context source answers.join_fails (spans_of labels))
+rows_unless s source labels answers None = rows_of_groups s source labels answers (groups_of s.context source answers.join_fails labels)
 
--- The rows of a diagnostic's snippets, or none where the place of one can't be read: labels by offset, and one row if one of them is refused.
+-- The rows of a diagnostic's snippets, or none where a group or the place of one can't be read: labels by offset, and one row if one of them
+-- is refused.
 abbrev pub snippet_rows : Settings → Source → List Label → Answers → Option (List Row)
 snippet_rows s source labels answers =
     rows_unless s source (in_order labels) answers (option_map (refused_row s) (refusal source.bytes answers.label_fails (in_order labels)))

@@ -1,4 +1,6 @@
 pub mod Answers
+pub mod Around
+pub mod Belonging
 pub mod Cells
 pub mod Clean
 pub mod Contexts

@@ -6,19 +6,23 @@ use Rattle.miette_layout.specs.declared.primary.Place.TheVariants as places
 use Rattle.miette_layout.specs.declared.reading.ReadLabel.{ReadLabel}
 use Rattle.miette_layout.specs.Contexts.{end_of_span, contents}
 
-abbrev pub lies_within : Span → Span → Bool
-lies_within group span = nat_le group.offset span.offset && nat_le (end_of_span span) (end_of_span group)
+-- the end of a label that must lie in its group: its beginning where labels have their own numbers of context lines
+abbrev pub end_within : Bool → Span → ℕ
+end_within own span = if own then span.offset else end_of_span span
+
+abbrev pub lies_within : Bool → Span → Span → Bool
+lies_within own group span = nat_le group.offset span.offset && nat_le (end_within own span) (end_of_span group)
 
 abbrev pub or_else : Option Span → Span → Span
 or_else None span = span
 or_else (Some first) span = first
 
--- the first label within a group that is marked as primary, else the first within it that was found
-abbrev pub chosen : Span → Option Span → List ReadLabel → Option Span
-chosen group first [] = first
-chosen group first (read ∷ reads) =
-    if lies_within group read.span then (if read.primary then Some read.span else chosen group (Some (or_else first read.span)) reads)
-    else chosen group first reads
+-- the first label of a group that is marked as primary, else the first of it that was found
+abbrev pub chosen : Bool → Span → Option Span → List ReadLabel → Option Span
+chosen own group first [] = first
+chosen own group first (read ∷ reads) =
+    if lies_within own group read.span then (if read.primary then Some read.span else chosen own group (Some (or_else first read.span)) reads)
+    else chosen own group first reads
 
 -- a place is where a read without context of this label begins; where there is a label, it isn't nowhere
 abbrev pub PointsTo : Source → Option Span → Place → Type 0

@@ -8,11 +8,11 @@ use Rattle.miette_layout.specs.Rows.{Row}
 use Rattle.miette_layout.specs.Snippets.{snippets}
 use Rattle.miette_layout.specs.Answers.{Answers, Highlight, first_of, later_of}
 use Rattle.miette_layout.specs.Contexts.{contents}
-use Rattle.miette_layout.specs.Groups.{in_order, spans_of, groups_answered}
+use Rattle.miette_layout.specs.Groups.{in_order, groups_of}
 use Rattle.miette_layout.specs.Labels.{DrawnLabel, drawn_from}
 use Rattle.miette_layout.specs.Gutters.{gutter_columns}
 use Rattle.miette_layout.specs.Frames.{Settings, top_row, bottom_row, number_width}
-use Rattle.miette_layout.specs.Layout.{cells_of, line_rows, body_rows, place_of}
+use Rattle.miette_layout.specs.Layout.{cells_of, line_rows, body_rows, place_of, settings_around}
 
 -- line k
 abbrev pub line_at : List Line → ℕ → Line
@@ -58,5 +58,6 @@ framed s source labels (group ∷ groups) (body ∷ more) =
 -- The rows of snippets, by the shown lines: each maximal run of them in the frame of its group.
 abbrev pub framed_runs : Settings → Source → List Label → Answers → List Row
 framed_runs s source labels answers =
-    framed s source (in_order labels) (groups_answered s.context source answers.join_fails (spans_of (in_order labels)))
-    (rows_of_runs s (drawn_from s.styles.highlights (length source.bytes) 0 (in_order labels)) source.bytes answers.pieces (snippets s.context source.bytes (spans_of labels)))
+    framed (settings_around s (in_order labels)) source (in_order labels) (groups_of s.context source answers.join_fails (in_order labels))
+    (rows_of_runs (settings_around s (in_order labels)) (drawn_from s.styles.highlights (length source.bytes) 0 (in_order labels)) source.bytes answers.pieces
+    (snippets s.context source.bytes labels))

@@ -2,13 +2,16 @@
 
 ghost use Rattle.std.specs.Prelude.{◌≡◌, ◌+◌, nat_le, true, false, ℕ, List, map, length, IfOk, MatchOption};
 ghost use Rattle.std.specs.List.{All};
+ghost use Rattle.std.specs.Option.{option_map};
 ghost use Rattle.miette_protocol.specs.Reading.{IsAccepted};
 ghost use Rattle.miette_layout.specs.Contexts.{contents, end_of_span};
-ghost use Rattle.miette_layout.specs.Groups.{joined, joins_before};
-ghost use Rattle.miette_layout.specs.Read.{IsLent, AreGroups};
+ghost use Rattle.miette_layout.specs.Given.{label_at};
+ghost use Rattle.miette_layout.specs.Groups.{in_order, joined, joins_before};
+ghost use Rattle.miette_layout.specs.Read.{IsLent, IsRead, AreJoined, AreGrouped};
 
-use crate::reading::ReadLabel;
-use miette_protocol::protocol::{SourceOffset, SourceSpan};
+use crate::reading::{ReadLabel, some_own};
+use crate::stretches::own_groups;
+use miette_protocol::protocol::{LabeledSpan, SourceOffset, SourceSpan};
 use miette_protocol::source::{MietteSpanContents, SourceCode};
 use std::alloc::{AllocError, Global};
 use std::mem;
@@ -31,7 +34,7 @@ pub fn end_of(span: &SourceSpan) -> Result<usize, AllocError>
 }
 
 // From the first offset to the greater end.
-fn join(before: &SourceSpan, label: &SourceSpan) -> Result<SourceSpan, AllocError>
+pub(crate) fn join(before: &SourceSpan, label: &SourceSpan) -> Result<SourceSpan, AllocError>
     ensures { IfOk result (λ span. span ≡ joined before.now label.now) }
 {
     let end = end_of(before)?.max(end_of(label)?);
@@ -70,16 +73,16 @@ fn extended<'a, S: SourceCode>(
     }
 }
 
-/// The groups of labels that come by offset. A label joins the group before it where their lines touch; that group is read again, and
-/// where this read fails the two stay apart.
-pub fn groups<'a, S: SourceCode>(
+// The groups of labels that come by offset, all read with so many lines of context. A label joins the group before it where their lines
+// touch; that group is read again, and where this read fails the two stay apart.
+fn joined_groups<'a, S: SourceCode>(
     alloc: Global,
     source: &'a S,
     context: usize,
     labels: &[ReadLabel<'a>],
 ) -> Result<Vec<Group<'a>>, AllocError>
     requires { All (λ label. IsLent context (S.source source.now) label.span label.contents) labels.now }
-    ensures { IfOk result (λ groups. AreGroups context (S.source source.now) (map (λ label. label.span) labels.now) groups.items) }
+    ensures { IfOk result (λ groups. AreJoined context (S.source source.now) (map (λ label. label.span) labels.now) groups.items) }
 {
     let mut done = Vec::new(alloc);
     let Some((first, rest)) = labels.split_first() else {
@@ -105,4 +108,28 @@ fn own_group<'a>(label: &ReadLabel<'a>) -> Result<Group<'a>, AllocError>
         span: label.span,
         contents: label.contents.clone()?,
     })
+}
+
+/// The groups of labels that were read by offset; none where the read of one fails.
+///
+/// A label joins the group before it where their lines touch; that group is read again, and where this read fails the two stay apart.
+/// Where some label has its own number of context lines, the labels are joined by where the data of their reads begin, and each group's
+/// bytes are read again without context.
+pub fn groups<'a, S: SourceCode>(
+    alloc: Global,
+    source: &'a S,
+    context: usize,
+    labels: &[LabeledSpan],
+    reads: &[ReadLabel<'a>],
+) -> Result<Option<Vec<Group<'a>>>, AllocError>
+    requires order { map (λ read. label_at labels.now read.index) reads.now ≡ in_order labels.now }
+    requires each { All (IsRead context (S.source source.now) labels.now) reads.now }
+    ensures { IfOk result (λ groups. AreGrouped context (S.source source.now) (in_order labels.now) (option_map (λ v. v.items) groups)) }
+{
+    if some_own(labels) {
+        let groups = own_groups(alloc, source, reads)?;
+        return Ok(groups);
+    }
+    let groups = joined_groups(alloc, source, context, reads)?;
+    Ok(Some(groups))
 }

@@ -6,12 +6,14 @@ ghost use Rattle.std.specs.List.{AllByRecursion, concat};
 ghost use Rattle.miette_layout.specs.Numbers.{runs, IsRun, AreParted};
 ghost use Rattle.miette_protocol.specs.Meaning.{Label};
 ghost use Rattle.miette_protocol.specs.Reading.{Source, Contents, Span};
+ghost use Rattle.miette_layout.specs.Belonging.{HasOneGroup};
 ghost use Rattle.miette_layout.specs.Clean.{AreCleanDrawings, IsCleanLabel, IsCleanRow, IsCleanSource};
 ghost use Rattle.miette_layout.specs.Contexts.{lines_of_contents};
 ghost use Rattle.miette_layout.specs.Fading.{IsPlainRow, colourless, unhighlighted};
 ghost use Rattle.miette_layout.specs.Rows.{pieces_of};
 ghost use Rattle.miette_layout.specs.Answers.{Answers, AlwaysReads, Highlight, NoneFails};
-ghost use Rattle.miette_layout.specs.Groups.{AreAccepted, in_order, spans_of, groups_answered, lines_of_groups};
+ghost use Rattle.miette_layout.specs.Around.{HaveContext, group_context};
+ghost use Rattle.miette_layout.specs.Groups.{AreAccepted, in_order, groups_of, lines_of_groups};
 ghost use Rattle.miette_layout.specs.Snippets.{snippets};
 ghost use Rattle.miette_layout.specs.Labels.{DrawnLabel};
 ghost use Rattle.miette_layout.specs.Marks.{Text, marks, anchor, marks_at, AreApart};
@@ -21,11 +23,11 @@ ghost use Rattle.miette_layout.specs.Layout.{snippet_rows};
 ghost use Rattle.miette_layout.specs.Pictures.{BodyShows};
 ghost use Rattle.miette_layout.specs.Shown.{framed_runs};
 
-/// Where no read fails, and there is at least one line of context, the lines that the groups of labels show are the maximal runs of
-/// all lines that lie in the context of a label.
+/// Where no read fails, and there is at least one line of context for each label, the lines that the groups of labels show are the
+/// maximal runs of all lines that lie in the context of a label.
 pub fn groups_are_runs()
-    ensures { (context : ℕ) (source : Source) (fails : List Bool) (labels : List Label) → 1 ≤ context → NoneFails fails →
-        lines_of_groups context source (groups_answered context source fails (spans_of (in_order labels))) ≡ snippets context source.bytes (spans_of labels) }
+    ensures { (context : ℕ) (source : Source) (fails : List Bool) (labels : List Label) → HaveContext context labels → NoneFails fails →
+        lines_of_groups (group_context context (in_order labels)) source (groups_of context source fails (in_order labels)) ≡ snippets context source.bytes labels }
 {}
 
 /// The runs of a list hold its numbers, in order and once. Each is consecutive, and none goes on into the next.
@@ -33,10 +35,16 @@ pub fn runs_are_maximal()
     ensures { (ks : List ℕ) → (concat (runs ks) ≡ ks) × AllByRecursion IsRun (runs ks) × AreParted (runs ks) }
 {}
 
-/// Where the source always reads and accepts the labels, the rows of the snippets are those of the maximal runs of the shown lines:
-/// each line once, with its number and its own cells, each run in a frame.
+/// Where labels have their own numbers of context lines, each belongs to the one group that holds the data of its read.
+pub fn labels_have_one_group()
+    ensures { (context : ℕ) (source : Source) (labels : List Label) → AreAccepted source.bytes labels →
+        AllByRecursion (HasOneGroup context source labels) labels }
+{}
+
+/// Where the source always reads and accepts the labels, and there is at least one line of context for each label, the rows of the
+/// snippets are those of the maximal runs of the shown lines: each line once, with its number and its own cells, each run in a frame.
 pub fn snippets_draw_runs()
-    ensures { (s : Settings) (source : Source) (labels : List Label) (answers : Answers) → 1 ≤ s.context → AreAccepted source.bytes labels → AlwaysReads answers →
+    ensures { (s : Settings) (source : Source) (labels : List Label) (answers : Answers) → HaveContext s.context labels → AreAccepted source.bytes labels → AlwaysReads answers →
         snippet_rows s source labels answers ≡ Some (framed_runs s source labels answers) }
 {}
 

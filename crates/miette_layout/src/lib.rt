@@ -22,6 +22,7 @@ pub mod reading;
 pub mod sheet;
 pub mod snippet;
 pub mod snippets;
+mod stretches;
 pub mod strokes;
 pub mod sweep;
 pub mod texts;

@@ -5,7 +5,7 @@
 pub struct LayoutOptions {
     /// A tab goes on to the next multiple of so many columns; at least 1.
     pub tab_width: usize,
-    /// How many lines are shown before and after each label.
+    /// How many lines are shown before and after each label that has no number of its own.
     pub context_lines: usize,
     /// Whether a frame shows where its primary label begins.
     pub primary_start: bool,

@@ -2,7 +2,7 @@
 
 ghost use Rattle.std.specs.Prelude.{◌≡◌, ℕ, List, None, IfOk};
 ghost use Rattle.std.specs.List.Sorted.{IsNonDecreasingBy};
-ghost use Rattle.miette_layout.specs.Primary.{chosen, PointsTo};
+ghost use Rattle.miette_layout.specs.Primary.{chosen, end_within as end_of_label, PointsTo};
 
 use crate::grouping::end_of;
 use crate::reading::ReadLabel;
@@ -45,15 +45,29 @@ impl Place {
     }
 }
 
-// The first label within a span that is marked as primary, else the first one within it.
-fn primary(span: &SourceSpan, reads: &[ReadLabel<'_>]) -> Result<Option<SourceSpan>, AllocError>
-    ensures { IfOk result (λ r. r ≡ chosen span.now None reads.now) }
+// The end of a label that must lie in its group: its beginning where labels have their own numbers of context lines.
+fn end_within(own: bool, span: &SourceSpan) -> Result<usize, AllocError>
+    ensures { IfOk result (λ end. end ≡ end_of_label own span.now) }
+{
+    if own {
+        return Ok(span.offset());
+    }
+    end_of(span)
+}
+
+// The first label of a group that is marked as primary, else the first one of it.
+fn primary(
+    own: bool,
+    span: &SourceSpan,
+    reads: &[ReadLabel<'_>],
+) -> Result<Option<SourceSpan>, AllocError>
+    ensures { IfOk result (λ r. r ≡ chosen own span.now None reads.now) }
 {
     let start = span.offset();
     let end = end_of(span)?;
     let mut first = None;
     for read in reads {
-        if start <= read.span.offset() && end_of(&read.span)? <= end {
+        if start <= read.span.offset() && end_within(own, &read.span)? <= end {
             if read.primary {
                 return Ok(Some(read.span));
             }
@@ -67,11 +81,12 @@ fn primary(span: &SourceSpan, reads: &[ReadLabel<'_>]) -> Result<Option<SourceSp
 
 // Of labels by offset those that begin in a span or where it ends, found by halving: the span's primary label is among them.
 pub(crate) fn near<'r, 'a>(
+    own: bool,
     span: &SourceSpan,
     reads: &'r [ReadLabel<'a>],
 ) -> Result<&'r [ReadLabel<'a>], AllocError>
     requires { IsNonDecreasingBy (λ read. read.span.offset) reads.now }
-    ensures { IfOk result (λ near. chosen span.now None near.now ≡ chosen span.now None reads.now) }
+    ensures { IfOk result (λ near. chosen own span.now None near.now ≡ chosen own span.now None reads.now) }
 {
     let start = span.offset();
     let end = end_of(span)?;
@@ -80,15 +95,17 @@ pub(crate) fn near<'r, 'a>(
     Ok(&reads[first.min(after)..after])
 }
 
-/// Where the primary label of a snippet with this span begins, by a read without context.
+/// Where the primary label of a group with this span begins, by a read without context. A label belongs to the group where its span lies
+/// within the group's; or, where labels have their `own` numbers of context lines, where it begins in the group's bytes or at their end.
 pub fn place_of<S: SourceCode>(
     source: &S,
+    own: bool,
     span: &SourceSpan,
     reads: &[ReadLabel<'_>],
 ) -> Result<Place, AllocError>
-    ensures { IfOk result (λ place. PointsTo (S.source source.now) (chosen span.now None reads.now) place) }
+    ensures { IfOk result (λ place. PointsTo (S.source source.now) (chosen own span.now None reads.now) place) }
 {
-    let Some(label) = primary(span, reads)? else {
+    let Some(label) = primary(own, span, reads)? else {
         return Ok(Place::Nowhere);
     };
     match source.read_span(&label, 0, 0) {

@@ -1,7 +1,8 @@
 //! Each label read with its context.
 
-ghost use Rattle.std.specs.Prelude.{◌≡◌, ◌<◌, ℕ, List, map, length, IfOk};
+ghost use Rattle.std.specs.Prelude.{◌≡◌, ◌<◌, ℕ, List, map, length, IfOk, unwrap_or, if◌then◌else◌, max};
 ghost use Rattle.std.specs.List.{All};
+ghost use Rattle.miette_layout.specs.Around.{has_own};
 ghost use Rattle.miette_layout.specs.Given.{label_at};
 ghost use Rattle.miette_layout.specs.Read.{AreRead, Reason};
 
@@ -47,7 +48,31 @@ fn reason_of(error: &MietteError) -> Refusal
     }
 }
 
-/// Reads the labels in this order, each with so many lines of context, up to the first one that is refused.
+/// Whether some label has its own number of context lines.
+pub fn some_own(labels: &[LabeledSpan]) -> bool
+    ensures { result ≡ has_own labels.now }
+{
+    for label in labels {
+        if label.context_lines().is_some() {
+            return true;
+        }
+    }
+    false
+}
+
+// The lines around a label: its own number, else this one, which counts as at least 1 where some label has its own.
+fn lines_around(context: usize, own: bool, label: &LabeledSpan) -> usize
+    ensures { result ≡ unwrap_or label.now.context (if own then max 1 context else context) }
+{
+    match label.context_lines() {
+        Some(lines) => lines,
+        None if own => context.max(1),
+        None => context,
+    }
+}
+
+/// Reads the labels in this order, each with its own number of context lines or with this one, up to the first one that is refused.
+/// Where some label has its own number, this one counts as at least 1.
 pub fn read_labels<'a, S: SourceCode>(
     alloc: Global,
     source: &'a S,
@@ -58,10 +83,12 @@ pub fn read_labels<'a, S: SourceCode>(
     requires { All (λ turn. turn.index < length labels.now) order.now }
     ensures { IfOk result (λ read. AreRead context (S.source source.now) labels.now (map (λ turn. label_at labels.now turn.index) order.now) read) }
 {
+    let own = some_own(labels);
     let mut reads = Vec::new(alloc);
     for turn in order {
         let label = &labels[turn.index];
-        match source.read_span(label.inner(), context, context) {
+        let lines = lines_around(context, own, label);
+        match source.read_span(label.inner(), lines, lines) {
             Ok(contents) => reads.push(ReadLabel {
                 index: turn.index,
                 span: *label.inner(),

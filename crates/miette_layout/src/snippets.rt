@@ -15,7 +15,7 @@ use crate::options::LayoutOptions;
 use crate::order::by_offset;
 use crate::page::Page;
 use crate::primary::{near, place_of};
-use crate::reading::{ReadLabel, ReadLabels, Refusal, read_labels};
+use crate::reading::{ReadLabel, ReadLabels, Refusal, read_labels, some_own};
 use crate::snippet::push_snippet;
 use crate::sweep::Sweep;
 use miette_protocol::error::RenderError;
@@ -35,7 +35,7 @@ fn name_of(refusal: Refusal) -> &'static str
     }
 }
 
-// The snippets of labels that were read, or none where the read of some place failed.
+// The snippets of labels that were read, or none where the read of a group or of some place failed.
 fn read_snippets<'a, 'b, S: SourceCode, H: Highlighter>(
     alloc: Global,
     highlighter: &mut Option<H>,
@@ -51,7 +51,10 @@ fn read_snippets<'a, 'b, S: SourceCode, H: Highlighter>(
     ensures stays { leaves_plain H.is_blank highlighter.new ≡ leaves_plain H.is_blank highlighter.old }
 {
     let placed = placed(alloc, &theme.styles.highlights, labels, reads)?;
-    let groups = groups(alloc, source, options.context_lines, reads)?;
+    let Some(groups) = groups(alloc, source, options.context_lines, labels, reads)? else {
+        return Ok(None);
+    };
+    let own = some_own(labels);
     let mut page = Page::new(alloc);
     let mut sweep = Sweep {
         running: Vec::new(alloc),
@@ -59,8 +62,8 @@ fn read_snippets<'a, 'b, S: SourceCode, H: Highlighter>(
     };
     let mut at = 0;
     for group in &groups {
-        let near = near(&group.span, reads)?;
-        let place = place_of(source, &group.span, near)?;
+        let near = near(own, &group.span, reads)?;
+        let place = place_of(source, own, &group.span, near)?;
         if place.is_unread() {
             return Ok(None);
         }
@@ -81,7 +84,7 @@ fn read_snippets<'a, 'b, S: SourceCode, H: Highlighter>(
     Ok(Some(page))
 }
 
-// All snippets, or the one row of a label that is refused; none where the read of some place failed.
+// All snippets, or the one row of a label that is refused; none where the read of a group or of some place failed.
 fn all_snippets<'b, S: SourceCode, H: Highlighter>(
     alloc: Global,
     highlighter: &mut Option<H>,
@@ -113,8 +116,9 @@ fn all_snippets<'b, S: SourceCode, H: Highlighter>(
 
 /// The rows of a diagnostic's snippets, whose labels are given over its source: frames, numbered lines, marks and the labels' texts; or
 /// the one row of the first label that is refused. A highlighter styles the lines: it is restarted for each snippet with the contents of
-/// the snippet's read, and is then given the text of each line in order, decoded. Fails with `Refused` where a label's place can't be
-/// read, which a source that always reads never does, and with `Memory` where memory is refused, to the highlighter too.
+/// the snippet's read, and is then given the text of each line in order, decoded. Fails with `Refused` where a group of labels with their
+/// own numbers of context lines or a label's place can't be read, which a source that always reads never does, and with `Memory` where
+/// memory is refused, to the highlighter too.
 pub fn snippets<'b, S: SourceCode, H: Highlighter>(
     alloc: Global,
     highlighter: &mut Option<H>,

@@ -4,4 +4,6 @@
 #[cfg(test)]
 mod lines;
 #[cfg(test)]
+mod own_context;
+#[cfg(test)]
 mod snippets;

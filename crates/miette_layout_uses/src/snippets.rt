@@ -13,13 +13,13 @@ use std::alloc::{AllocError, Global};
 use std::io::{self, ErrorKind};
 use std::test::Fail;
 
-const OPTIONS: LayoutOptions = LayoutOptions {
+pub(crate) const OPTIONS: LayoutOptions = LayoutOptions {
     tab_width: 4,
     context_lines: 1,
     primary_start: true,
 };
 
-fn plain_theme(alloc: Global) -> Result<GraphicalTheme, AllocError> {
+pub(crate) fn plain_theme(alloc: Global) -> Result<GraphicalTheme, AllocError> {
     Ok(GraphicalTheme {
         characters: ThemeCharacters {
             hbar: '─',
@@ -57,7 +57,7 @@ fn plain_theme(alloc: Global) -> Result<GraphicalTheme, AllocError> {
 }
 
 // The text of a page, with an LF behind each row.
-fn text_of(alloc: Global, page: &Page) -> Result<String, AllocError> {
+pub(crate) fn text_of(alloc: Global, page: &Page) -> Result<String, AllocError> {
     let mut text = String::new(alloc);
     let mut parts = page.parts();
     for _turn in 0..1000 {
@@ -71,7 +71,7 @@ fn text_of(alloc: Global, page: &Page) -> Result<String, AllocError> {
     Ok(text)
 }
 
-fn draw<S: SourceCode>(
+pub(crate) fn draw<S: SourceCode>(
     alloc: Global,
     source: &S,
     labels: &[LabeledSpan],
@@ -136,10 +136,10 @@ fn a_label_that_is_refused(rt: HostRuntime) -> Result<(), Fail> {
 
 /// Reads spans of so many bytes at most, and none without context where it is told so.
 #[derive(Drop)]
-struct Stopping<'a> {
-    text: &'a str,
-    most: usize,
-    without_context: bool,
+pub(crate) struct Stopping<'a> {
+    pub(crate) text: &'a str,
+    pub(crate) most: usize,
+    pub(crate) without_context: bool,
 }
 
 impl<'a> SourceCode for Stopping<'a> {
@@ -193,9 +193,9 @@ fn reads_that_fail(rt: HostRuntime) -> Result<(), Fail> {
 
 /// Tells of each read the number of its first line and how many bytes it has, and the text of each line.
 #[derive(Drop)]
-struct Telling {
-    reads: Vec<(usize, usize)>,
-    lines: String,
+pub(crate) struct Telling {
+    pub(crate) reads: Vec<(usize, usize)>,
+    pub(crate) lines: String,
 }
 
 impl Highlighter for Telling {

@@ -10,7 +10,7 @@ use Rattle.miette_layout.proofs.Stepping.{IsFirst, made, characters_step, charac
 use Rattle.miette_narrated.specs.Columns.{begun, is_boundary, widths, column}
 use Rattle.miette_narrated.specs.Lines.{decoded_text}
 use Rattle.miette_narrated.specs.declared.places.Place.{Place}
-use Rattle.miette_narrated.specs.Places.{column_behind, IsPlace}
+use Rattle.miette_narrated.specs.Places.{column_behind}
 
 pub decoded_more : (old new rest left : List ℕ) (code size : ℕ) (goal : List ℕ) → IsFirst rest left code size → new ≡ old ++ encode_utf8 code →
     old ++ decoded_text (characters rest) ≡ goal → new ++ decoded_text (characters left) ≡ goal

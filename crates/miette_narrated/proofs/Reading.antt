@@ -16,10 +16,11 @@ use Rattle.miette_layout.specs.declared.reading.ReadLabels.TheVariants as reads
 use Rattle.miette_layout.specs.Answers.{NoneFails}
 use Rattle.miette_layout.specs.Contexts.{contents, end_of_span, is_accepted}
 use Rattle.miette_layout.specs.Given.{label_at}
-use Rattle.miette_layout.specs.Groups.{put_label, in_order, spans_of, refusal, AreAccepted, groups_answered}
+use Rattle.miette_layout.specs.Around.{has_own, lines_around, group_context}
+use Rattle.miette_layout.specs.Groups.{put_label, in_order, refusal, AreAccepted, groups_of, some_fails}
 use Rattle.miette_layout.specs.Groups as groups
 use Rattle.miette_layout.specs.Placing.{placed_one, placed_from}
-use Rattle.miette_layout.specs.Read.{IsRead, AreRead, IsLent, AreGroups}
+use Rattle.miette_layout.specs.Read.{IsRead, AreRead, IsLent, AreGroups, AreGrouped, IsUnread}
 use Rattle.miette_narrated.specs.Labels.{Told, told}
 use Rattle.miette_narrated.specs.Made.{told_of, all_told}
 use Rattle.miette_narrated.specs.Snippets.{snippet, snippets_of}
@@ -37,7 +38,7 @@ Reaches = (source : Source) → (span : Span) → (before after : ℕ) → IsAcc
 abbrev pub label_of_read : List Label → ReadLabel → Label
 label_of_read labels r = label_at labels r.index
 
-text_there : (o : Option Label) → option_map_or (λ label. label.text) o None ≡ (unwrap_or o (record { text = None; span = record { offset = 0; len = 0 }; primary = false })).text
+text_there : (o : Option Label) → option_map_or (λ label. label.text) o None ≡ (unwrap_or o (record { text = None; span = record { offset = 0; len = 0 }; primary = false; context = None })).text
 text_there None = refl
 text_there (Some label) = refl
 
@@ -46,9 +47,10 @@ told_one : (context : ℕ) (source : Source) (labels : List Label) (i : ℕ) (r 
 told_one context source labels i r law h =
     let l = label_of_read labels r in
     let n = length source.bytes in
-    let ends : end_of_span r.contents.span ≡ end_of_span (contents context source r.span).span = ap (λ c. end_of_span c.span) h.contents_are in
+    let around = lines_around context labels l in
+    let ends : end_of_span r.contents.span ≡ end_of_span (contents around source r.span).span = ap (λ c. end_of_span c.span) (h.contents_are ∙ ap (contents around source) (sym h.span)) in
     let cut : min (end_of_span r.span) (end_of_span r.contents.span) ≡ min (end_of_span r.span) n =
-    ap (min (end_of_span r.span)) ends ∙ sym (law source r.span context context h.accepted) in
+    ap (min (end_of_span r.span)) ends ∙ sym (law source r.span around around h.accepted) in
     ap₂ (λ e t. the r.span.offset (max r.span.offset e) t) cut (text_there (slice_get labels r.index))
     ∙ ap (λ s. the s.offset (max s.offset (min (end_of_span s) n)) l.text) h.span where
       the : ℕ → ℕ → Option (List ℕ) → Told
@@ -114,10 +116,11 @@ accepted_reads context source labels (r ∷ rs) h =
 
 -- ---- groups, one after the other
 
-pub groups_more : (context : ℕ) (source : Source) (labels : List Told) (spans : List Span) (gs : List Group) (i : ℕ) (d : Group) (out new goal : List ℕ) → AreGroups context source spans gs → i < length gs → d ≡ get_or gs i d →
-    new ≡ out ++ snippet labels d.contents → out ++ snippets_of context source labels (map (λ g. g.span) (drop i gs)) ≡ goal →
-    new ++ snippets_of context source labels (map (λ g. g.span) (drop (i + 1) gs)) ≡ goal
-groups_more context source labels spans gs i d out new goal are lt is e h =
+pub groups_more : (handlers : ℕ) (source : Source) (labels : List Told) (ls : List Label) (gs : List Group) (i : ℕ) (d : Group) (out new goal : List ℕ) → AreGroups handlers source ls gs → i < length gs → d ≡ get_or gs i d →
+    new ≡ out ++ snippet labels d.contents → out ++ snippets_of (group_context handlers ls) source labels (map (λ g. g.span) (drop i gs)) ≡ goal →
+    new ++ snippets_of (group_context handlers ls) source labels (map (λ g. g.span) (drop (i + 1) gs)) ≡ goal
+groups_more handlers source labels ls gs i d out new goal are lt is e h =
+    let context : ℕ = group_context handlers ls in
     let later = snippets_of context source labels (map (λ g. g.span) (drop (suc i) gs)) in
     let lent : d.contents ≡ contents context source d.span = (subst (λ (g : Group). IsLent context source g.span g.contents) (sym is) (are.lent i d lt)).is in
     let left : drop i gs ≡ d ∷ drop (suc i) gs = drop-cons gs i d lt ∙ ap (λ x. x ∷ drop (suc i) gs) (sym is) in
@@ -131,23 +134,37 @@ pub groups_end : (context : ℕ) (source : Source) (labels : List Told) (gs : Li
 groups_end context source labels gs i out goal le h =
     sym (append-nil out) ∙ ap (λ xs. out ++ snippets_of context source labels (map (λ g. g.span) xs)) (sym (none_left gs i le)) ∙ h
 
-spans_read : (context : ℕ) (source : Source) (labels : List Label) (rs : List ReadLabel) → All (IsRead context source labels) rs → map (λ r. r.span) rs ≡ spans_of (map (label_of_read labels) rs)
-spans_read context source labels [] h = refl
-spans_read context source labels (r ∷ rs) h =
-    ap₂ (λ x xs. x ∷ xs) (All-head (IsRead context source labels) r rs h).span (spans_read context source labels rs (All-tail (IsRead context source labels) r rs h))
-
 pub snippets_told : (context : ℕ) (source : Source) (labels : List Label) (rs : List ReadLabel) (ps : List Placed) (gs : List Group) (old new : List ℕ) → Reaches → All (IsRead context source labels) rs →
-    map (label_of_read labels) rs ≡ in_order labels → ps ≡ placed_from [] labels 0 rs → AreGroups context source (map (λ r. r.span) rs) gs →
-    new ≡ old ++ snippets_of context source (all_told labels ps) (map (λ g. g.span) gs) → AppendsSnippets context (Some source) labels old new
+    map (label_of_read labels) rs ≡ in_order labels → ps ≡ placed_from [] labels 0 rs → AreGroups context source (in_order labels) gs →
+    new ≡ old ++ snippets_of (group_context context (in_order labels)) source (all_told labels ps) (map (λ g. g.span) gs) → AppendsSnippets context (Some source) labels old new
 snippets_told context source labels rs ps gs old new law h order e are text =
     let fails = are.fails in
-    let spans : map (λ g. g.span) gs ≡ groups_answered context source fails (spans_of (in_order labels)) =
-    are.are ∙ ap (groups_answered context source fails) (spans_read context source labels rs h ∙ ap spans_of order) in
     record {
       fails = fails;
       possible = record { accepted = subst (λ (ls : List Label). AreAccepted source.bytes ls) order (accepted_reads context source labels rs h); always = are.always };
-      appended = text ∙ ap₂ (λ ts ss. old ++ snippets_of context source ts ss) (told_in_order context source labels rs ps law h order e) spans;
+      appended = text ∙ ap₂ (λ ts ss. old ++ snippets_of (group_context context (in_order labels)) source ts ss) (told_in_order context source labels rs ps law h order e) are.are;
     }
+
+-- ---- a group that can't be read
+
+own_some : (labels : List Label) → has_own (in_order labels) ≡ true → is_nil labels ≡ false
+own_some [] h = cc
+own_some (l ∷ ls) h = refl
+
+not_all : (a n r : Bool) → n ≡ false → r ≡ false → (a && (n || r)) ≡ false
+not_all true n r e f = ap₂ (λ x y. x || y) e f
+not_all false n r e f = refl
+
+pub unread_group : (context : ℕ) (source : Source) (labels : List Label) (r : Option (List Group)) → AreGrouped context source (in_order labels) r → r ≡ None → accepts (Some source) labels ≡ false
+unread_group context source labels r h is =
+    let none : IsUnread context source (in_order labels) = subst (λ (o : Option (List Group)). AreGrouped context source (in_order labels) o) is h in
+    let own = and_parts (has_own (in_order labels)) (some_fails none.fails (groups_of context source none.fails (in_order labels))) none.unread in
+    not_all (list_all (λ l. is_accepted source.bytes l.span) (in_order labels)) (is_nil labels) source.always_reads (own_some labels own.0) none.always
+
+-- groups that there are
+pub are_grouped : (context : ℕ) (source : Source) (labels : List Label) (r : Option (List Group)) (groups got : List Group) → AreGrouped context source labels r → r ≡ Some groups → got ≡ groups → AreGroups context source labels got
+are_grouped context source labels r groups got h is e =
+    subst (λ (gs : List Group). AreGroups context source labels gs) (sym e) (subst (λ (o : Option (List Group)). AreGrouped context source labels o) is h)
 
 -- ---- a refused label
 

@@ -1,12 +1,13 @@
 -- The text and the answers of a tree, put together from those of its parts.
-use Rattle.std.proofs.Common.{◌≡◌, ℕ, suc, zero, ◌+◌, ◌<◌, ◌≤◌, List, [], ◌∷◌, ◌++◌, length, get_or, map, drop, add-one, Bool, true, false, ◌&&◌, Option, Some, None, refl, sym, ap, ap₂, subst, ◌∙◌, append_assoc, append-nil, arith}
+use Rattle.std.proofs.Common.{◌≡◌, ℕ, suc, zero, ◌+◌, ◌<◌, ◌≤◌, List, [], ◌∷◌, ◌++◌, length, get_or, map, drop, add-one, Bool, true, false, cond, ◌&&◌, Option, Some, None, refl, sym, ap, ap₂, subst, ◌∙◌, append_assoc, append-nil, arith}
 use Rattle.std.proofs.Math.Seq.{drop-cons}
 use Rattle.std.proofs.lemmas.Bool.{and_parts}
 use Rattle.miette_protocol.specs.Reading.{Source, Span}
 use Rattle.miette_protocol.specs.Meaning.{Label}
 use Rattle.miette_tree.specs.Tree.{Tree, tree, Trees, no_trees, more_trees, trees, effective, head, source_of, cause_of, causes_of, related_of}
 use Rattle.miette_layout.specs.Answers.{NoneFails}
-use Rattle.miette_layout.specs.Groups.{groups_from, groups_answered, joins_before, joined, in_order, spans_of}
+use Rattle.miette_layout.specs.Around.{has_own, group_context}
+use Rattle.miette_layout.specs.Groups.{groups_from, groups_answered, own_groups, groups_of, joins_before, joined, in_order, spans_of}
 use Rattle.miette_narrated.specs.Labels.{told}
 use Rattle.miette_narrated.specs.Snippets.{snippets_of}
 use Rattle.miette_narrated.specs.Report.{Settings, Answers, unlisted, listed, RelatedAnswers, no_more, and_more, own_answer, related_answers, first_answers, later_answers, head_rows, titled_rows, cause_rows, causes_if, advice_rows, row_if, given_labels, snippet_rows, blank_before, related_report, related_reports, narrated}
@@ -138,12 +139,15 @@ same_groups : (context : ℕ) (source : Source) (fails : List Bool) (spans : Lis
 same_groups context source fails [] none = refl
 same_groups context source fails (span ∷ spans) none = same_from context source span fails spans none
 
+same_of : (context : ℕ) (source : Source) (fails : List Bool) (labels : List Label) → NoneFails fails → groups_of context source fails labels ≡ groups_of context source [] labels
+same_of context source fails labels none = ap (λ gs. cond (has_own labels) (own_groups context source labels) gs) (same_groups context source fails (spans_of labels) none)
+
 same_snippets : (context : ℕ) (source : Option Source) (fails : List Bool) (labels : List Label) → IsAnswered source labels fails → always_reads source labels ≡ true →
     snippet_rows context source fails labels ≡ snippet_rows context source [] labels
 same_snippets context None fails labels h e = refl
 same_snippets context (Some source) fails [] h e = refl
 same_snippets context (Some source) fails (l ∷ ls) h e =
-    ap (snippets_of context source (map (told (length source.bytes)) (in_order (l ∷ ls)))) (same_groups context source fails (spans_of (in_order (l ∷ ls))) (h.always e))
+    ap (snippets_of (group_context context (in_order (l ∷ ls))) source (map (told (length source.bytes)) (in_order (l ∷ ls)))) (same_of context source fails (in_order (l ∷ ls)) (h.always e))
 
 mutual
   same_report : (context : ℕ) (inherited : Option Source) (a : Answers) (t : Tree) → AreAnswers inherited a t → holds_of always_reads inherited t ≡ true → related_report context inherited a t ≡ related_report context inherited unlisted t

@@ -3,7 +3,8 @@ use Rattle.std.specs.Prelude.{ℕ, ◌+◌, List, [], ◌∷◌, ◌++◌, map, 
 use Rattle.miette_protocol.specs.Meaning.{Label}
 use Rattle.miette_protocol.specs.Reading.{Span, Source, Contents}
 use Rattle.miette_layout.specs.Contexts.{contents, lines_of_contents}
-use Rattle.miette_layout.specs.Groups.{in_order, spans_of, groups_answered}
+use Rattle.miette_layout.specs.Around.{group_context}
+use Rattle.miette_layout.specs.Groups.{in_order, groups_of}
 use Rattle.miette_narrated.specs.Labels.{Told, told, row}
 use Rattle.miette_narrated.specs.Lines.{rows_of_lines}
 
@@ -29,4 +30,4 @@ snippets_of context source labels (group ∷ groups) = snippet labels (contents 
 -- the snippets of labels over a source, where these reads of groups fail: labels by offset, in the groups of the layout
 abbrev pub snippets : ℕ → Source → List Bool → List Label → List ℕ
 snippets context source fails labels =
-    snippets_of context source (map (told (length source.bytes)) (in_order labels)) (groups_answered context source fails (spans_of (in_order labels)))
+    snippets_of (group_context context (in_order labels)) source (map (told (length source.bytes)) (in_order labels)) (groups_of context source fails (in_order labels))

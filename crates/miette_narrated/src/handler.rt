@@ -109,7 +109,7 @@ impl NarratableReportHandler {
         }
     }
 
-    /// How many lines of context are told around a label.
+    /// How many lines of context are told around a label that has no number of its own.
     pub fn with_context_lines(self, lines: usize) -> Self
         ensures { result ≡ record self { context = lines } }
     {

@@ -94,7 +94,8 @@ fn push_snippet(
     Ok(())
 }
 
-/// The snippets of labels that were read.
+/// The snippets of labels that were read. Fails with `Refused` where a group of them can't be read, and with `Memory` where memory is
+/// refused.
 fn push_read<'a, S: SourceCode>(
     alloc: Global,
     out: &mut String,
@@ -102,14 +103,17 @@ fn push_read<'a, S: SourceCode>(
     source: &'a S,
     labels: &[LabeledSpan],
     reads: &[ReadLabel<'a>],
-) -> Result<(), AllocError>
+) -> Result<(), RenderError>
     requires order { map (λ read. label_at labels.now read.index) reads.now ≡ in_order labels.now }
     requires each { All (IsRead context (S.source source.now) labels.now) reads.now }
-    ensures { OnOk result (AppendsSnippets context (Some (S.source source.now)) labels.now (string_bytes out.old) (string_bytes out.new)) }
+    ensures text { OnOk result (AppendsSnippets context (Some (S.source source.now)) labels.now (string_bytes out.old) (string_bytes out.new)) }
+    ensures refused { (result ≡ Err RenderError.Refused) → accepts (Some (S.source source.now)) labels.now ≡ false }
 {
     data_reach_the_span();
     let placed = placed(alloc, &[], labels, reads)?;
-    let groups = groups(alloc, source, context, reads)?;
+    let Some(groups) = groups(alloc, source, context, labels, reads)? else {
+        return Err(RenderError::Refused);
+    };
     let mut sweep = Sweep {
         at: 0,
         next: 0,
@@ -122,7 +126,7 @@ fn push_read<'a, S: SourceCode>(
 }
 
 /// The snippets of a diagnostic whose labels are given over a source. Fails with `Refused` where a label isn't accepted or can't be read,
-/// and with `Memory` where memory is refused.
+/// or a group can't, and with `Memory` where memory is refused.
 pub(crate) fn push_snippets<S: SourceCode>(
     alloc: Global,
     out: &mut String,

@@ -54,7 +54,8 @@ pub(crate) fn handler_of(alloc: Global, asked: Asked) -> Result<GraphicalReportH
     )
 }
 
-fn told(
+/// What the handler draws of the report.
+pub(crate) fn told(
     alloc: Global,
     mut handler: GraphicalReportHandler,
     report: &Report,

@@ -92,6 +92,34 @@ fn labels_on_lines(rt: HostRuntime) -> Result<(), Fail> {
     Ok(())
 }
 
+/// A tab, wide characters, an accent, words, a byte that is no text, an emoji of three people, digits, a flag, and more words.
+const LONG: &[u8] =
+    b"\t\xe6\xbc\xa2\xe5\xad\x97e\xcc\x81the quick brown fox jumps over the lazy dog, \xff\xf0\x9f\x91\xa8\xe2\x80\x8d\xf0\x9f\x91\xa9\xe2\x80\x8d\xf0\x9f\x91\xa70123456789012345678901234567890123456789012345678901234567890123456789\xf0\x9f\x87\xa9\xf0\x9f\x87\xaa\xc3\xa9 then a tail of plain words that goes on well past all of that, end\n";
+
+#[test]
+fn labels_on_a_long_line(rt: HostRuntime) -> Result<(), Fail> {
+    let labels: &[Label<'_>] = &[
+        (0, 221, "whole"),
+        (1, 6, "wide"),
+        (2, 3, "inside both"),
+        (8, 2, "the accent"),
+        (9, 0, "inside it"),
+        (26, 3, "fox"),
+        (55, 1, "no text"),
+        (56, 18, "people"),
+        (58, 10, "inside two of them"),
+        (63, 4, "one of them"),
+        (100, 10, "digits"),
+        (148, 4, "half a flag"),
+        (152, 2, "a letter"),
+        (218, 3, "end"),
+        (221, 1, "the line feed"),
+    ];
+    let lines =
+        "snippet line 1: \t漢字e\u{301}the quick brown fox jumps over the lazy dog, \u{FFFD}\u{1F468}\u{200D}\u{1F469}\u{200D}\u{1F467}0123456789012345678901234567890123456789012345678901234567890123456789\u{1F1E9}\u{1F1EA}é then a tail of plain words that goes on well past all of that, end\n    label at line 1, columns 1 to 194: whole\n    label at line 1, columns 2 to 5: wide\n    label at line 1, columns 3 to 4: inside both\n    label at line 1, columns 7 to 6: the accent\n    label at line 1, column 6: inside it\n    label at line 1, columns 23 to 25: fox\n    label at line 1, column 52: no text\n    label at line 1, columns 53 to 54: people\n    label at line 1, columns 54 to 55: inside two of them\n    label at line 1, columns 55 to 54: one of them\n    label at line 1, columns 81 to 90: digits\n    label at line 1, column 126: half a flag\n    label at line 1, column 127: a letter\n    label at line 1, columns 192 to 194: end\n    label at line 1, columns 195 to 197: the line feed\n";
+    lines_are(&rt, rt.alloc(), (LONG, labels, lines))
+}
+
 /// Whether the report is refused, and what then stands behind what was there.
 fn answer(alloc: Global, report: &Report) -> Result<(bool, String), Fail> {
     let mut out = String::from_str(alloc, "> ")?;
@@ -99,17 +127,28 @@ fn answer(alloc: Global, report: &Report) -> Result<(bool, String), Fail> {
     Ok((answer == Err(RenderError::Refused), out))
 }
 
+/// The report that is written is refused, and nothing is put behind what was there.
+fn is_refused(rt: &impl Abort, alloc: Global, written: &Written<'_>) -> Result<(), Fail> {
+    let (refused, out) = answer(alloc, &report_of(alloc, written)?)?;
+    assert!(rt; refused);
+    assert_eq!(rt; out.as_str(), "> ");
+    Ok(())
+}
+
 #[test]
 fn a_refused_label(rt: HostRuntime) -> Result<(), Fail> {
-    let far = Written {
+    let past_the_end = Written {
         labels: &[(3, 0, "")],
         source: Some(b"ab"),
         ..M
     };
-    let (is_refused, out) = answer(rt.alloc(), &report_of(rt.alloc(), &far)?)?;
-    assert!(rt; is_refused);
-    assert_eq!(rt; out.as_str(), "> ");
-    Ok(())
+    is_refused(&rt, rt.alloc(), &past_the_end)?;
+    let past_the_line_feed = Written {
+        labels: &[(3, 1, "")],
+        source: Some(b"a\n"),
+        ..M
+    };
+    is_refused(&rt, rt.alloc(), &past_the_line_feed)
 }
 
 #[test]

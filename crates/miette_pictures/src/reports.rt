@@ -69,18 +69,20 @@ fn urls(rt: HostRuntime) -> Result<(), Fail> {
     is_drawn(&rt, rt.alloc(), PLAIN, &linked, link)
 }
 
+/// A cause with a link and a help, wider than a narrow row.
+pub(crate) const LINKED: Written<'static> = Written {
+    message: "in-ner text here",
+    code: "c::d",
+    url: "http://a-b/ c",
+    help: "try it",
+    ..M
+};
+
 #[test]
 fn a_linked_cause(rt: HostRuntime) -> Result<(), Fail> {
-    let cause = Written {
-        message: "in-ner text here",
-        code: "c::d",
-        url: "http://a-b/ c",
-        help: "try it",
-        ..M
-    };
     let wanted =
         "  × outer\n  ╰─▶ \u{1B}]8;;http://a-b/ c\u{1B}\\c::d (link)\u{1B}]8;;\u{1B}\\\n      \n        × in-ner\n        │ text\n        │ here\n        help: try\n              it\n      \n";
-    is_drawn_over(&rt, rt.alloc(), 20, (&saying("outer"), &[cause]), wanted)
+    is_drawn_over(&rt, rt.alloc(), 20, (&saying("outer"), &[LINKED]), wanted)
 }
 
 #[test]

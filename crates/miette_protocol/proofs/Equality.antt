@@ -9,7 +9,7 @@ use Rattle.std.specs.String.{string_eq}
 use Rattle.std.proofs.Common.{String, Global}
 use Rattle.std.specs.Prelude.{string_bytes}
 use Rattle.std.proofs.lemmas.Slice.Eq.{slice_eq-Decides}
-use Rattle.miette_protocol.specs.Meaning.{Meaning}
+use Rattle.miette_protocol.specs.Meaning.{Meaning, Label}
 
 inner_same : {A : Type 0} (x y : A) → Some x ≡ Some y → x ≡ y
 inner_same x y e = ap (λ o. unwrap_or o x) e
@@ -53,3 +53,15 @@ same_meaning m n e = λ i. record {
 
 pub same_parts : (m n : Meaning) → m ≡ n → (m.message ≡ n.message) × ((m.code ≡ n.code) × ((m.severity ≡ n.severity) × ((m.help ≡ n.help) × ((m.url ≡ n.url) × (m.labels ≡ n.labels)))))
 same_parts m n e = (ap (λ x. x.message) e, (ap (λ x. x.code) e, (ap (λ x. x.severity) e, (ap (λ x. x.help) e, (ap (λ x. x.url) e, ap (λ x. x.labels) e)))))
+
+-- of labels, part by part
+pub same_label : (k l : Label) → (k.text ≡ l.text) × ((k.span.offset ≡ l.span.offset) × ((k.span.len ≡ l.span.len) × ((k.primary ≡ l.primary) × (k.context ≡ l.context)))) → k ≡ l
+same_label k l e = λ i. record {
+  text = e.0 i;
+  span = record { offset = e.1.0 i; len = e.1.1.0 i };
+  primary = e.1.1.1.0 i;
+  context = e.1.1.1.1 i;
+}
+
+pub same_label_parts : (k l : Label) → k ≡ l → (k.text ≡ l.text) × ((k.span.offset ≡ l.span.offset) × ((k.span.len ≡ l.span.len) × ((k.primary ≡ l.primary) × (k.context ≡ l.context))))
+same_label_parts k l e = (ap (λ x. x.text) e, (ap (λ x. x.span.offset) e, (ap (λ x. x.span.len) e, (ap (λ x. x.primary) e, ap (λ x. x.context) e))))

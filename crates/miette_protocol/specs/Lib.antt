@@ -6,6 +6,7 @@ pub mod Named
 pub mod Index
 pub mod Texts
 pub mod Meaning
+pub mod ContextLines
 pub mod Diagnostic
 pub mod Location
 pub mod Cutting

@@ -1,26 +1,30 @@
 //! Labels: spans with a text, as in the crate miette 7.6.0.
 
-ghost use Rattle.std.specs.Prelude.{◌≡◌, ◌==◌, Some, None, IfOk, true, false, string_bytes};
-ghost use Rattle.std.specs.Option.{option_map, option_copied};
+ghost use Rattle.std.specs.Prelude.{◌≡◌, ◌==◌, ◌≤◌, Some, None, IfOk, true, false, string_bytes};
+ghost use Rattle.std.specs.Option.{option_map, option_copied, ForSome};
 
 use crate::span::{ByteOffset, SourceOffset, SourceSpan};
 use serde::{Deserialize, Serialize};
 use std::alloc::{AllocError, Global};
 use std::marker::Model;
+use std::num::NonZeroUsize;
 
 /// A span of a source, with a text where there is one. It may be marked as the primary label of
-/// its diagnostic.
+/// its diagnostic, and may ask for its own number of context lines.
 #[derive(Debug, Drop, Serialize, Deserialize)]
 pub struct LabeledSpan {
     #[serde(skip_serializing_if = "Option::is_none")]
     label: Option<String>,
     span: SourceSpan,
     primary: bool,
+    #[serde(default, skip_serializing_if = "Option::is_none", with = "crate::context_lines")]
+    context_lines: Option<NonZeroUsize>,
 }
 
 impl Model for LabeledSpan {
     ghost use Rattle.std.specs.Prelude.{string_bytes};
     ghost use Rattle.std.specs.Option.{option_map};
+    ghost use Rattle.std.specs.Int.NonZero.{non_zero_usize_get};
     ghost use Rattle.miette_protocol.specs.Meaning.{Label};
 
     ghost Value = { Label };
@@ -29,10 +33,11 @@ impl Model for LabeledSpan {
       text = option_map string_bytes it.label;
       span = it.span;
       primary = it.primary;
+      context = option_map non_zero_usize_get it.context_lines;
     } };
 }
 
-/// Two labels are equal where text, span and mark are.
+/// Two labels are equal where text, span, mark and number of context lines are.
 impl PartialEq for LabeledSpan {
     ghost use Rattle.std.specs.Prelude.{◌==◌};
     ghost use Rattle.std.proofs.Common.{rules};
@@ -44,12 +49,16 @@ impl PartialEq for LabeledSpan {
 
     ghost eq = { eq_of_both (on (λ it. it.text) (option_eq (pointwise ◌==◌)))
         (eq_of_both (on (λ it. it.span.offset) ◌==◌)
-        (eq_of_both (on (λ it. it.span.len) ◌==◌) (on (λ it. it.primary) beq))) };
+        (eq_of_both (on (λ it. it.span.len) ◌==◌)
+        (eq_of_both (on (λ it. it.primary) beq) (on (λ it. it.context) (option_eq ◌==◌))))) };
 
     ghost laws = { Prim.search (comparing, rules) depth 12 };
 
     fn eq(&self, other: &LabeledSpan) -> bool {
-        self.label == other.label && self.span == other.span && self.primary == other.primary
+        self.label == other.label
+            && self.span == other.span
+            && self.primary == other.primary
+            && self.context_lines() == other.context_lines()
     }
 }
 
@@ -75,6 +84,7 @@ impl Clone for LabeledSpan {
             label,
             span: self.span,
             primary: self.primary,
+            context_lines: self.context_lines,
         })
     }
 }
@@ -86,6 +96,7 @@ impl LabeledSpan {
           text = option_map string_bytes label;
           span = record { offset = offset; len = len };
           primary = false;
+          context = None;
         } }
     {
         LabeledSpan::new_with_span(label, (offset, len))
@@ -96,11 +107,13 @@ impl LabeledSpan {
         ensures text { result.text ≡ option_map string_bytes label }
         ensures span { S.converts span result.span }
         ensures primary { result.primary ≡ false }
+        ensures context { result.context ≡ None }
     {
         LabeledSpan {
             label,
             span: span.into(),
             primary: false,
+            context_lines: None,
         }
     }
 
@@ -109,11 +122,13 @@ impl LabeledSpan {
         ensures text { result.text ≡ option_map string_bytes label }
         ensures span { S.converts span result.span }
         ensures primary { result.primary ≡ true }
+        ensures context { result.context ≡ None }
     {
         LabeledSpan {
             label,
             span: span.into(),
             primary: true,
+            context_lines: None,
         }
     }
 
@@ -125,6 +140,7 @@ impl LabeledSpan {
         ensures text { IfOk result (λ it. it.text ≡ Some label.now) }
         ensures span { IfOk result (λ it. S.converts span it.span) }
         ensures primary { IfOk result (λ it. it.primary ≡ false) }
+        ensures context { IfOk result (λ it. it.context ≡ None) }
     {
         let unlabeled = LabeledSpan::underline(span);
         let label = String::from_str(alloc, label)?;
@@ -143,6 +159,7 @@ impl LabeledSpan {
           text = Some label.now;
           span = record { offset = offset; len = 0 };
           primary = false;
+          context = None;
         }) }
     {
         LabeledSpan::at(alloc, offset, label)
@@ -153,6 +170,7 @@ impl LabeledSpan {
         ensures text { result.text ≡ None }
         ensures span { S.converts span result.span }
         ensures primary { result.primary ≡ false }
+        ensures context { result.context ≡ None }
     {
         LabeledSpan::new_with_span(None, span)
     }
@@ -162,6 +180,29 @@ impl LabeledSpan {
         ensures { self.new ≡ record self.old { text = option_map string_bytes label } }
     {
         self.label = label;
+    }
+
+    /// The label with its own number of context lines: so many lines before and after it are shown,
+    /// whatever the handler's number is.
+    pub fn with_context_lines(self, lines: usize) -> Self
+        requires { 1 ≤ lines }
+        ensures { result ≡ record self { context = Some lines } }
+    {
+        LabeledSpan {
+            context_lines: NonZeroUsize::new(lines),
+            ..self
+        }
+    }
+
+    /// Its own number of context lines, where it has one.
+    pub fn context_lines(&self) -> Option<usize>
+        ensures own { result ≡ self.now.context }
+        ensures positive { ForSome result (λ n. 1 ≤ n) }
+    {
+        match self.context_lines {
+            Some(lines) => Some(lines.get()),
+            None => None,
+        }
     }
 
     /// The text, where there is one.

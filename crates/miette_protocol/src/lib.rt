@@ -3,6 +3,7 @@
 #![tactic(auto)]
 
 mod contents;
+mod context_lines;
 pub mod diagnostic;
 pub mod error;
 mod find;

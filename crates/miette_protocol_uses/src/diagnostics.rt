@@ -96,6 +96,63 @@ fn json_of_a_label(rt: HostRuntime) -> Result<(), Fail> {
 }
 
 #[test]
+fn json_of_a_label_with_its_own_context(rt: HostRuntime) -> Result<(), Fail> {
+    let alloc = rt.alloc();
+    let label = LabeledSpan::underline(1..3).with_context_lines(2);
+    let text = serde_json::to_string(alloc, &label)?;
+    assert_eq!(rt;
+        text.as_str(),
+        r#"{"span":{"offset":1,"length":2},"primary":false,"context_lines":2}"#
+    );
+    let read: LabeledSpan = serde_json::from_str(alloc, text.as_str())?;
+    assert!(rt; read == label);
+    assert_eq!(rt; read.context_lines(), Some(2));
+    Ok(())
+}
+
+/// A label's JSON with this number of context lines.
+fn json_with_lines(alloc: Global, lines: &str) -> Result<String, Fail> {
+    let mut text = String::from_str(
+        alloc,
+        r#"{"span":{"offset":1,"length":2},"primary":false,"context_lines":"#,
+    )?;
+    text.push_str(lines)?;
+    text.push_str("}")?;
+    Ok(text)
+}
+
+#[test]
+fn json_without_context_lines(rt: HostRuntime) -> Result<(), Fail> {
+    let alloc = rt.alloc();
+    let plain = LabeledSpan::underline(1..3);
+    for lines in ["0", "null"] {
+        let text = json_with_lines(alloc, lines)?;
+        let read: LabeledSpan = serde_json::from_str(alloc, text.as_str())?;
+        assert_eq!(rt; read.context_lines(), None);
+        assert!(rt; read == plain);
+        let again = serde_json::to_string(alloc, &read)?;
+        assert_eq!(rt;
+            again.as_str(),
+            r#"{"span":{"offset":1,"length":2},"primary":false}"#
+        );
+    }
+    Ok(())
+}
+
+#[test]
+fn json_with_other_context_lines(rt: HostRuntime) -> Result<(), Fail> {
+    let alloc = rt.alloc();
+    for lines in ["-1", "1.5", "\"2\"", "true", "[]", "18446744073709551616"] {
+        let text = json_with_lines(alloc, lines)?;
+        assert!(rt; serde_json::from_str::<LabeledSpan>(alloc, text.as_str()).is_err());
+    }
+    let text = json_with_lines(alloc, "18446744073709551615")?;
+    let read: LabeledSpan = serde_json::from_str(alloc, text.as_str())?;
+    assert_eq!(rt; read.context_lines(), Some(usize::MAX));
+    Ok(())
+}
+
+#[test]
 fn json_of_a_diagnostic(rt: HostRuntime) -> Result<(), Fail> {
     let alloc = rt.alloc();
     let made = MietteDiagnostic::new(alloc, "message")?;

@@ -48,3 +48,19 @@ fn labels_with_text(rt: HostRuntime) -> Result<(), Fail> {
     assert!(rt; label.clone()? == label);
     Ok(())
 }
+
+#[test]
+fn labels_with_their_own_context(rt: HostRuntime) -> Result<(), Fail> {
+    let plain = LabeledSpan::at(rt.alloc(), 2..5, "x")?;
+    assert_eq!(rt; plain.context_lines(), None);
+    let own = plain.clone()?.with_context_lines(3);
+    assert_eq!(rt;
+        (own.context_lines(), own.label(), *own.inner()),
+        (Some(3), Some("x"), SourceSpan::from(2..5))
+    );
+    assert!(rt; own != plain);
+    assert!(rt; own.clone()? == own);
+    let wider = own.with_context_lines(4);
+    assert_eq!(rt; wider.context_lines(), Some(4));
+    Ok(())
+}

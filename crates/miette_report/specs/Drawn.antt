@@ -19,7 +19,7 @@ label_text [] = None
 label_text (b ∷ bs) = Some (b ∷ bs)
 
 abbrev pub drawn_label : ℕ → ℕ → List ℕ → Label
-drawn_label offset length text = record { text = label_text text; span = record { offset = offset; len = length }; primary = false }
+drawn_label offset length text = record { text = label_text text; span = record { offset = offset; len = length }; primary = false; context = None }
 
 -- the message with one label, over the input under a name
 abbrev pub drawn_tree : List ℕ → ℕ → ℕ → List ℕ → List ℕ → List ℕ → Tree

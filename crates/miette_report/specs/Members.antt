@@ -3,7 +3,7 @@ use Rattle.std.specs.Prelude.{ℕ, List, [], ◌∷◌, Option, Some, None, opti
 use Rattle.serde_json.specs.Data.{Data, Items, no_items, item}
 use Rattle.serde_json.specs.Find.{get, as_null, as_bool, as_number, as_str, as_array, as_u64}
 use Rattle.miette_protocol.specs.Reading.{Source, plain_source, named}
-use Rattle.miette_protocol.specs.Meaning.{Label, Meaning}
+use Rattle.miette_protocol.specs.Meaning.{Label, counted, Meaning}
 use Rattle.miette_protocol.specs.declared.protocol.Severity.{Severity}
 use Rattle.miette_protocol.specs.declared.protocol.Severity.TheVariants.{Advice, Warning, Error}
 
@@ -45,13 +45,18 @@ named_severity name =
 abbrev pub severity_of : Data → Option Severity
 severity_of d = given (as_str d) named_severity
 
+-- a number of context lines, which is at least 1
+abbrev pub lines_of : Data → Option ℕ
+lines_of d = counted (whole d)
+
 abbrev pub label_of : Data → Option Label
 label_of d =
     given (given (at_key (codes "offset") d) whole) (λ offset.
     given (given (at_key (codes "length") d) whole) (λ length.
     given (typed as_str (at_key (codes "label") d)) (λ text.
     given (typed as_bool (at_key (codes "primary") d)) (λ primary.
-    Some (record { text = text; span = record { offset = offset; len = length }; primary = unwrap_or primary false })))))
+    given (typed lines_of (at_key (codes "context") d)) (λ context.
+    Some (record { text = text; span = record { offset = offset; len = length }; primary = unwrap_or primary false; context = context }))))))
 
 -- bytes, with a name where there is one; a language without a name is ignored
 abbrev pub source_named : List ℕ → Option (List ℕ) → Option (List ℕ) → Source

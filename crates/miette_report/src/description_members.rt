@@ -1,10 +1,10 @@
 //! The members of a description, by their types.
 
-ghost use Rattle.std.specs.Prelude.{◌≡◌, Option, Some, None, option_map};
+ghost use Rattle.std.specs.Prelude.{◌≡◌, ◌≤◌, ℕ, Option, Some, None, option_map};
 ghost use Rattle.std.specs.Option.{option_copied};
 ghost use Rattle.serde_json.specs.Find.{as_bool, as_str};
 ghost use Rattle.serde_json.specs.View.{view};
-ghost use Rattle.miette_report.specs.Members.{given, at_key, typed, whole};
+ghost use Rattle.miette_report.specs.Members.{given, at_key, typed, whole, lines_of};
 
 use serde_json::Value;
 
@@ -52,6 +52,20 @@ pub(crate) fn truth_at(value: &Value, key: &str) -> Option<Option<bool>>
         Some(found) => match found.as_bool() {
             Some(b) => Some(Some(b)),
             None => None,
+        },
+    }
+}
+
+/// A number of context lines that may be absent; `None` where it is no number from 1.
+pub(crate) fn lines_at(value: &Value, key: &str) -> Option<Option<u64>>
+    ensures read { result ≡ typed lines_of (at_key key.now (view value.now)) }
+    ensures positive { (n : ℕ) → result ≡ Some (Some n) → 1 ≤ n }
+{
+    match member_at(value, key) {
+        None => Some(None),
+        Some(found) => match found.as_u64() {
+            None | Some(0) => None,
+            Some(lines) => Some(Some(lines)),
         },
     }
 }

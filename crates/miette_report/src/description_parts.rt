@@ -9,7 +9,9 @@ ghost use Rattle.miette_tree.specs.Owned.{owned_source};
 ghost use Rattle.miette_report.specs.Members.{given, at_key, typed, all_of, list_of, severity_of, label_of, source_of, meaning_in};
 
 use crate::description::BuildError;
-use crate::description_members::{member_at, needed_text_at, text_at, truth_at, whole_at};
+use crate::description_members::{
+    lines_at, member_at, needed_text_at, text_at, truth_at, whole_at,
+};
 use miette_protocol::diagnostic::MietteDiagnostic;
 use miette_protocol::protocol::{LabeledSpan, Severity};
 use miette_tree::report::OwnedSource;
@@ -41,12 +43,19 @@ fn label_from(alloc: Global, value: &Value) -> Result<LabeledSpan, BuildError>
     let Some(primary) = truth_at(value, "primary") else {
         return Err(BuildError::Description);
     };
+    let Some(lines) = lines_at(value, "context") else {
+        return Err(BuildError::Description);
+    };
     let text = copied(alloc, text)?;
     let span = (offset as usize, length as usize);
-    if primary.unwrap_or(false) {
-        Ok(LabeledSpan::new_primary_with_span(text, span))
+    let label = if primary.unwrap_or(false) {
+        LabeledSpan::new_primary_with_span(text, span)
     } else {
-        Ok(LabeledSpan::new_with_span(text, span))
+        LabeledSpan::new_with_span(text, span)
+    };
+    match lines {
+        Some(lines) => Ok(label.with_context_lines(lines as usize)),
+        None => Ok(label),
     }
 }
 

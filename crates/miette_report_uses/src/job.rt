@@ -106,6 +106,41 @@ fn descriptions_and_their_texts(rt: HostRuntime) -> Result<(), Fail> {
     Ok(())
 }
 
+// the JSON report doesn't show a label's own number of context lines
+#[test]
+fn labels_with_their_own_context(rt: HostRuntime) -> Result<(), Fail> {
+    let alloc = rt.alloc();
+    let rows = [
+        "{\"message\":\"m\",\"labels\":[{\"offset\":0,\"length\":1,\"context\":1}]}",
+        "{\"message\":\"m\",\"labels\":[{\"offset\":0,\"length\":1,\"context\":18446744073709551615}]}",
+        "{\"message\":\"m\",\"labels\":[{\"offset\":0,\"length\":1,\"context\":null}]}",
+    ];
+    let text =
+        "{\"message\": \"m\",\"severity\": \"error\",\"causes\": [],\"labels\": [{\"span\": {\"offset\": 0,\"length\": 1}}],\"related\": []}";
+    for description in rows {
+        expect(&rt, alloc, description.as_bytes(), Ok(text))?;
+    }
+    Ok(())
+}
+
+#[test]
+fn bad_contexts_of_labels(rt: HostRuntime) -> Result<(), Fail> {
+    let alloc = rt.alloc();
+    let rows: [&[u8]; 7] = [
+        b"{\"message\":\"m\",\"labels\":[{\"offset\":0,\"length\":1,\"context\":0}]}",
+        b"{\"message\":\"m\",\"labels\":[{\"offset\":0,\"length\":1,\"context\":-1}]}",
+        b"{\"message\":\"m\",\"labels\":[{\"offset\":0,\"length\":1,\"context\":1.5}]}",
+        b"{\"message\":\"m\",\"labels\":[{\"offset\":0,\"length\":1,\"context\":18446744073709551616}]}",
+        b"{\"message\":\"m\",\"labels\":[{\"offset\":0,\"length\":1,\"context\":\"1\"}]}",
+        b"{\"message\":\"m\",\"labels\":[{\"offset\":0,\"length\":1,\"context\":true}]}",
+        b"{\"message\":\"m\",\"labels\":[{\"offset\":0,\"length\":1,\"context\":[1]}]}",
+    ];
+    for description in rows {
+        expect(&rt, alloc, description, Err(JobError::Description))?;
+    }
+    Ok(())
+}
+
 #[test]
 fn what_describes_no_report(rt: HostRuntime) -> Result<(), Fail> {
     let alloc = rt.alloc();

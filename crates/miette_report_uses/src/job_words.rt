@@ -22,7 +22,7 @@ fn words_of(alloc: Global, words: &[&str]) -> Result<Vec<String>, AllocError> {
 }
 
 /// What `job_with` writes for these words and a description, its status and its fault.
-fn expect(
+pub(crate) fn expect(
     rt: &impl Abort,
     alloc: Global,
     (words, description): (&[&str], &str),

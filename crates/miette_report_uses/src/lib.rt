@@ -8,6 +8,8 @@ mod devices;
 #[cfg(test)]
 mod draw;
 #[cfg(test)]
+mod gallery;
+#[cfg(test)]
 mod highlighting;
 #[cfg(test)]
 mod job;

@@ -1,37 +1,8 @@
--- Lines, as the code makes them and as the rows spell them.
-use Rattle.std.proofs.Common.{◌≡◌, ℕ, suc, zero, ◌+◌, ◌<◌, ◌≤◌, true, false, not, ◌&&◌, List, [], ◌∷◌, ◌++◌, map, flat_map, length, drop, get_or, refl, sym, ap, ap₂, ◌∙◌, append_assoc, append-nil, if◌then◌else◌, arith, length-drop, Bor}
-use Rattle.std.proofs.lemmas.List.{drop_more}
+-- What the rows of the rules spell.
+use Rattle.std.proofs.Common.{◌≡◌, ℕ, true, false, not, ◌&&◌, List, [], ◌∷◌, ◌++◌, map, flat_map, refl, sym, ap, ap₂, ◌∙◌, append_assoc, append-nil, if◌then◌else◌}
 use Rattle.miette_text.specs.Sequences.{flat, Token, Character, Sequence, spell, spelling}
 use Rattle.miette_text.specs.Wrapping.{Cell, Word, is_space, cell_tokens, trimmed, only_spaces, row_tokens, with_rest, joined, line_feed}
-use Rattle.miette_text.specs.Printing.{all_spaces, shown, lines_of, behind, joined_lines, row_cells, view_rows}
-use Rattle.miette_text.specs.PieceViews.{view_cells}
-use Rattle.miette_text.specs.declared.wrap.pieces.Cell as code
-
-drop_end : {A : Type 0} (xs : List A) (i : ℕ) → length xs ≤ i → drop i xs ≡ []
-drop_end [] zero h = refl
-drop_end [] (suc i) h = refl
-drop_end (c ∷ cs) zero h = absurd (omega arith)
-drop_end (c ∷ cs) (suc i) h = drop_end cs i (omega arith)
-
-lines_tail : (rest : List (List ℕ)) (r : List Cell) (xs : List (Bor (List code.Cell))) → 0 < length xs → lines_of rest (r ∷ view_rows xs) ≡ shown r ∷ lines_of rest (view_rows xs)
-lines_tail rest r [] h = absurd (omega arith)
-lines_tail rest r (x ∷ xs) h = refl
-
-pub lines_more : (front : List (List ℕ)) (rest : List (List ℕ)) (rows : List (Bor (List code.Cell))) (i : ℕ) (row : Bor (List code.Cell)) → i + 1 < length rows → row ≡ get_or rows i row →
-    (front ++ shown (view_cells row.now) ∷ []) ++ lines_of rest (view_rows (drop (i + 1) rows)) ≡ front ++ lines_of rest (view_rows (drop i rows))
-lines_more front rest rows i row h e =
-    let d : drop i rows ≡ row ∷ drop (i + 1) rows = drop_more rows i row (omega arith) ∙ ap (λ x. x ∷ drop (i + 1) rows) (sym e) in
-    append_assoc front (shown (view_cells row.now) ∷ []) (lines_of rest (view_rows (drop (i + 1) rows)))
-    ∙ ap (λ us. front ++ us) (sym (ap (λ xs. lines_of rest (view_rows xs)) d ∙ lines_tail rest (view_cells row.now) (drop (i + 1) rows) (omega (arith, length-drop {A = Bor (List code.Cell)} (i + 1) rows))))
-
-pub lines_last : (front : List (List ℕ)) (rest : List (List ℕ)) (rows : List (Bor (List code.Cell))) (i : ℕ) (row : Bor (List code.Cell)) → i + 1 ≡ length rows → row ≡ get_or rows i row →
-    (front ++ (shown (view_cells row.now) ++ flat rest) ∷ []) ++ lines_of rest (view_rows (drop (i + 1) rows)) ≡ front ++ lines_of rest (view_rows (drop i rows))
-lines_last front rest rows i row h e =
-    let z : drop (i + 1) rows ≡ [] = drop_end rows (i + 1) (omega arith) in
-    let d : drop i rows ≡ row ∷ [] = drop_more rows i row (omega arith) ∙ ap (λ x. x ∷ drop (i + 1) rows) (sym e) ∙ ap (λ xs. row ∷ xs) z in
-    ap (λ xs. (front ++ (shown (view_cells row.now) ++ flat rest) ∷ []) ++ lines_of rest (view_rows xs)) z
-    ∙ append-nil (front ++ (shown (view_cells row.now) ++ flat rest) ∷ [])
-    ∙ ap (λ us. front ++ us) (sym (ap (λ xs. lines_of rest (view_rows xs)) d))
+use Rattle.miette_text.specs.Printing.{all_spaces, shown, lines_of, behind, joined_lines, row_cells}
 
 -- ---- what rows spell
 

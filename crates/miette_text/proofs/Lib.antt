@@ -7,7 +7,6 @@ pub mod Printing
 pub mod Cuts
 pub mod Coloured
 pub mod Counting
-pub mod Gathering
 pub mod Packing
 pub mod Joining
 pub mod Simple
@@ -15,14 +14,20 @@ pub mod Unique
 pub mod Encoding
 pub mod FilledColours
 pub mod Ending
-pub mod Laying
 pub mod Opened
-pub mod Steps
 pub mod Icons
 mod PieceLemmas
 pub mod Equality
 pub mod Parting
 pub mod FirstRow
 pub mod LineWise
-pub mod PlainRows
-pub mod Behind
+pub mod Appending
+pub mod WovenCells
+pub mod WovenRows
+pub mod WovenColumns
+pub mod WovenWhole
+pub mod WovenCuts
+pub mod Weaving
+pub mod Growing
+pub mod Painting
+pub mod Settled

@@ -221,7 +221,8 @@ style_parameters s =
     (flag-each s.italic (codes "3") refl))
     (flag-each s.underline (codes "4") refl)
 
-start_colour : (s : Style) → is_colour (colour_start s) ≡ true
+-- what begins a style is a colour
+pub start_colour : (s : Style) → is_colour (colour_start s) ≡ true
 start_colour s = parameters_end (separated (style_codes s)) (separated_parameters (style_codes s) (style_parameters s))
 
 colour-run : (q : List ℕ) (ts : List Token) → is_colour q ≡ true → state_behind Free (Sequence q ∷ ts) ≡ state_behind Free ts

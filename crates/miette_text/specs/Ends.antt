@@ -1,9 +1,9 @@
 -- Where the first word, the first part of a word, the first row, and a row without its last spaces end.
-use Rattle.std.specs.Prelude.{◌≡◌, ℕ, zero, suc, ◌+◌, Bool, true, false, not, ◌&&◌, ◌==◌, nat_lt, List, [], ◌∷◌, ◌++◌, if◌then◌else◌, map, flat_map, take, drop, sum_by}
-use Rattle.miette_text.specs.Filling.{maybe_broken, maybe_hyphenated, parts_with}
+use Rattle.std.specs.Prelude.{◌≡◌, ℕ, zero, suc, ◌+◌, Bool, false, ◌&&◌, ◌==◌, nat_lt, List, [], ◌∷◌, ◌++◌, if◌then◌else◌, map, flat_map, take, drop, sum_by}
+use Rattle.miette_text.specs.Filling.{maybe_broken, parts_with}
 use Rattle.miette_text.specs.Printing.{all_spaces, row_cells}
 use Rattle.miette_text.specs.Sequences.{flat, is_line_feed}
-use Rattle.miette_text.specs.Wrapping.{Cell, Word, width, is_space, is_alphanumeric, begins_alphanumeric, hyphen_parts, rows, with_spaces, words}
+use Rattle.miette_text.specs.Wrapping.{Cell, Word, width, is_space, is_alphanumeric, hyphen_parts, rows, with_spaces, words}
 
 abbrev pub letters_len : List Cell → ℕ
 letters_len [] = 0
@@ -12,20 +12,6 @@ letters_len (c ∷ cs) = if is_space c.code then 0 else suc (letters_len cs)
 abbrev pub spaces_len : List Cell → ℕ
 spaces_len [] = 0
 spaces_len (c ∷ cs) = if is_space c.code then suc (spaces_len cs) else 0
-
-abbrev pub hyphen_end : ℕ → List Cell → ℕ
-hyphen_end before [] = 0
-hyphen_end before (c ∷ cs) = if (c.code == 45) && is_alphanumeric before && begins_alphanumeric cs then 1 else suc (hyphen_end c.code cs)
-
-abbrev pub broken_end : ℕ → ℕ → List Cell → ℕ
-broken_end room used [] = 0
-broken_end room used (c ∷ cs) = if nat_lt 0 used && nat_lt room (used + width c.code) then 0 else suc (broken_end room (used + width c.code) cs)
-
-abbrev pub narrow_words : Bool → ℕ → List Cell → List Cell → List Word
-narrow_words breaks room spaces letters = with_spaces spaces (maybe_broken breaks room letters)
-
-abbrev pub part_words : Bool → Bool → ℕ → List Cell → List Cell → List Word
-part_words hyphens breaks room spaces letters = with_spaces spaces (flat_map (maybe_broken breaks room) (maybe_hyphenated hyphens letters))
 
 -- without the last spaces
 abbrev pub bare_len : List Cell → ℕ
@@ -90,7 +76,7 @@ IsFirstRow hyphens breaks narrow before room codes n =
     map row_cells (rows room further (words_behind hyphens breaks narrow before cells))
     ≡ take n cells ∷ rows_left hyphens breaks narrow (code_behind before n codes) further (drop n cells)
 
--- ---- lines, and text without sequences
+-- ---- lines, and characters alone
 
 abbrev pub line_len : List ℕ → ℕ
 line_len [] = 0
@@ -101,8 +87,3 @@ plain_cell c = record { marks = []; code = c }
 
 abbrev pub plain_cells : List ℕ → List Cell
 plain_cells = map plain_cell
-
--- no line feed in it
-abbrev pub plain_line : List ℕ → Bool
-plain_line [] = true
-plain_line (c ∷ cs) = not (is_line_feed c) && plain_line cs

@@ -1,9 +1,9 @@
 -- Wrapping, in the steps of the code.
-use Rattle.std.specs.Prelude.{◌≡◌, ℕ, Bool, true, false, List, [], ◌∷◌, ◌++◌, map, flat_map, chars, if◌then◌else◌}
-use Rattle.miette_text.specs.Sequences.{erase}
+use Rattle.std.specs.Prelude.{◌≡◌, ℕ, ◌-◌, min, Bool, true, false, List, [], ◌∷◌, ◌++◌, map, flat_map, chars, if◌then◌else◌}
+use Rattle.miette_text.specs.Sequences.{Token, erase, spell}
 use Rattle.miette_text.specs.Tame.{IsColoured}
-use Rattle.miette_text.specs.Wrapping.{Layout, Cell, Word, Piece, rows, words, with_spaces, hyphen_parts, broken}
-use Rattle.miette_text.specs.Printing.{lines_of, row_cells}
+use Rattle.miette_text.specs.Wrapping.{Layout, Cell, Word, Piece, broken, columns_of, hyphen_parts, pieces, rows, whole_pieces, with_spaces, words}
+use Rattle.miette_text.specs.Printing.{joined_lines, lines_of, row_cells}
 use Rattle.miette_text.specs.declared.wrap.WrapOptions.{WrapOptions}
 use Rattle.miette_text.specs.declared.wrap.WordSplitter.{WordSplitter}
 use Rattle.miette_text.specs.declared.wrap.WordSplitter.TheVariants.{NoHyphenation, HyphenSplitter}
@@ -33,6 +33,25 @@ lines_from hyphens breaks narrow room further [] = []
 lines_from hyphens breaks narrow room further (p ∷ ps) =
     lines_of p.rest (map row_cells (rows room further (flat_map (parts_with hyphens breaks narrow) (words p.cells))))
     ++ lines_from hyphens breaks narrow further further ps
+
+-- ---- of tokens as they are
+
+-- the columns that an indent leaves
+abbrev pub room_under : ℕ → List Token → ℕ
+room_under width indent = width - columns_of indent
+
+-- each row under its indent
+abbrev pub filled_under : Bool → Bool → ℕ → List Token → List Token → List Token → List ℕ
+filled_under hyphens breaks width first further text =
+    joined_lines (spell first) (spell further)
+    (lines_from hyphens breaks (min (room_under width first) (room_under width further)) (room_under width first) (room_under width further) (pieces text))
+
+-- what the text prints, wrapped
+abbrev pub laid_out : Bool → Bool → Bool → ℕ → List Token → List Token → List Token → List ℕ
+laid_out wraps hyphens breaks width first further text =
+    if wraps then filled_under hyphens breaks width first further text else spell (whole_pieces first further (pieces text))
+
+-- ---- of colours
 
 -- what is appended, without its colours, is that
 abbrev pub AppendsErasing : List ℕ → List ℕ → List ℕ → Type 0

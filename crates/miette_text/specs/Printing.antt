@@ -1,17 +1,7 @@
 -- What rows print, row by row.
-use Rattle.std.specs.Prelude.{ℕ, Bool, true, ◌&&◌, not, if◌then◌else◌, List, [], ◌∷◌, ◌++◌, map, flat_map, Vec}
-use Rattle.std.specs.Borrow.{Bor}
-use Rattle.std.proofs.Common.{Global}
+use Rattle.std.specs.Prelude.{ℕ, Bool, true, ◌&&◌, not, if◌then◌else◌, List, [], ◌∷◌, ◌++◌, flat_map}
 use Rattle.miette_text.specs.Sequences.{flat}
 use Rattle.miette_text.specs.Wrapping.{Cell, Word, is_space, word_cells}
-use Rattle.miette_text.specs.PieceViews.{view_cells}
-use Rattle.miette_text.specs.declared.wrap.pieces.Cell as code
-
-abbrev pub view_rows : List (Bor (List code.Cell)) → List (List Cell)
-view_rows = map (λ (b : Bor (List code.Cell)). view_cells b.now)
-
-abbrev pub view_lines : List (Vec ℕ Global) → List (List ℕ)
-view_lines = map (λ (v : Vec ℕ Global). v.items)
 
 abbrev pub row_cells : List Word → List Cell
 row_cells = flat_map word_cells

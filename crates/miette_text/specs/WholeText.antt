@@ -1,7 +1,7 @@
 -- Text under indents that is not wrapped, in the steps of the code.
 use Rattle.std.specs.Prelude.{ℕ, Bool, not, ◌||◌, List, [], ◌∷◌, ◌++◌, if◌then◌else◌}
 use Rattle.miette_text.specs.Sequences.{flat}
-use Rattle.miette_text.specs.Wrapping.{Cell, Piece, all_white}
+use Rattle.miette_text.specs.Wrapping.{Cell, all_white}
 use Rattle.miette_text.specs.Tame.{is_nil}
 
 abbrev pub piece_text : List Cell → List ℕ
@@ -11,9 +11,3 @@ piece_text (c ∷ cs) = (flat c.marks ++ c.code ∷ []) ++ piece_text cs
 -- nothing before what stands behind the last line feed where it has no character
 abbrev pub indent_text : Bool → List ℕ → List ℕ → List Cell → List ℕ
 indent_text last indent short cells = if not last || not (is_nil cells) then (if all_white cells then short else indent) else []
-
-abbrev pub whole_text : List ℕ → List ℕ → List ℕ → List ℕ → List Piece → List ℕ
-whole_text indent short further further_short [] = []
-whole_text indent short further further_short (p ∷ ps) =
-    ((indent_text (is_nil ps) indent short p.cells ++ piece_text p.cells) ++ flat p.rest)
-    ++ ((if is_nil ps then [] else 10 ∷ []) ++ whole_text further further_short further further_short ps)

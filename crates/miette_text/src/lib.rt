@@ -3,6 +3,7 @@
 
 pub mod highlight;
 pub mod laws;
+pub mod runs;
 pub mod style;
 pub mod theme;
 pub mod wrap;

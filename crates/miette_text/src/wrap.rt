@@ -1,96 +1,88 @@
 //! Text, wrapped under indents.
 
 ghost use Rattle.std.specs.Prelude.{◌≡◌, ◌++◌, IfOk, OnErr, OnOk, chars, encode_utf8_all, string_bytes, true};
-ghost use Rattle.miette_text.specs.Filling.{AppendsErasing, AreColoured, cuts_hyphens, layout_of, layout_with};
+ghost use Rattle.miette_text.specs.Filling.{AppendsErasing, AreColoured, cuts_hyphens, filled_under, laid_out, layout_of, layout_with};
 ghost use Rattle.miette_text.specs.Sequences.{erase, spell, tokens};
 ghost use Rattle.miette_text.specs.Tame.{colourless};
-ghost use Rattle.miette_text.specs.Wrapping.{columns_of, filled, wrapped};
+ghost use Rattle.miette_text.specs.Wrapping.{wrapped};
 
 pub mod cutting;
 mod ends;
 pub mod laws;
 mod lines;
-mod parts;
-mod pieces;
-mod rows;
-mod sequences;
-mod sink;
+pub(crate) mod sequences;
 mod whole;
-mod words;
+pub(crate) mod words;
 
+use crate::runs::Runs;
+use crate::runs::cells::push_all;
+use crate::runs::reading::{is_settled, read_text, reread};
+use crate::runs::sink::Sink;
 use crate::wrap::ends::Cuts;
 use crate::wrap::lines::{Under, push_filled};
-use crate::wrap::sequences::{sequence_at, stays_open};
-use crate::wrap::sink::Sink;
-use crate::wrap::whole::whole_codes;
-use crate::wrap::words::{char_columns, sum};
+use crate::wrap::whole::push_whole;
+use crate::wrap::words::token_columns;
 use std::alloc::{AllocError, Global};
 
 /// How words are told apart.
 #[derive(Clone, Copy, Debug, PartialEq, Eq)]
 pub enum WordSeparator {
+    /// Behind each run of spaces (U+0020).
     AsciiSpace,
 }
 
 /// Where words may be cut.
 #[derive(Clone, Copy, Debug, PartialEq, Eq)]
 pub enum WordSplitter {
+    /// Nowhere.
     NoHyphenation,
+    /// Behind each `-` between two ASCII letters or digits.
     HyphenSplitter,
 }
 
 /// How a text is wrapped.
 #[derive(Clone, Copy)]
 pub struct WrapOptions<'a> {
+    /// The columns of a row, its indent among them.
     pub width: usize,
+    /// What stands before the first row.
     pub first_indent: &'a str,
+    /// What stands before each other row.
     pub further_indent: &'a str,
+    /// Whether words that are wider than a row are cut.
     pub break_words: bool,
+    /// Whether rows are filled; without, each line stays whole under its indent.
     pub wrap_lines: bool,
+    /// How words are told apart.
     pub separator: WordSeparator,
+    /// Where words may be cut.
     pub splitter: WordSplitter,
 }
 
-// How a text is to be wrapped: the indents, and how words are cut.
+/// How runs are wrapped.
 #[derive(Clone, Copy)]
-struct Plan<'a> {
-    wraps: bool,
-    hyphens: bool,
-    breaks: bool,
-    width: usize,
-    first: &'a [char],
-    further: &'a [char],
+pub struct Plan<'a> {
+    /// Whether rows are filled; without, each line stays whole under its indent.
+    pub wraps: bool,
+    /// Whether words are cut behind hyphens.
+    pub hyphens: bool,
+    /// Whether words that are too wide are cut.
+    pub breaks: bool,
+    /// The columns of a row, its indent among them.
+    pub width: usize,
+    /// The indent of the first row.
+    pub first: &'a Runs,
+    /// The indent of the others.
+    pub further: &'a Runs,
 }
 
-fn codes_columns(codes: &[char]) -> Result<usize, AllocError>
-    ensures { IfOk result (λ n. n ≡ columns_of (tokens codes.now)) }
+fn push_filled_under<S: Sink>(out: &mut S, plan: Plan<'_>, text: &Runs) -> Result<(), AllocError>
+    ensures { OnOk result (S.holds out.new ≡ S.holds out.old ++ S.spells (filled_under plan.entry.hyphens plan.entry.breaks plan.entry.width plan.entry.first.now plan.entry.further.now text.now)) }
 {
-    let mut total = 0;
-    let mut i: usize = 0;
-    let mut unfinished = false;
-    'rest: while i < codes.len() {
-        let len = sequence_at(codes, i, unfinished);
-        if len == 0 {
-            total = sum(total, char_columns(codes[i]))?;
-            unfinished = stays_open(codes, i, unfinished);
-            i += 1;
-        } else {
-            i += len;
-        }
-    }
-    Ok(total)
-}
-
-fn push_filled_under<S: Sink>(
-    alloc: Global,
-    out: &mut S,
-    plan: Plan<'_>,
-    codes: &[char],
-) -> Result<(), AllocError>
-    ensures { OnOk result (S.holds out.new ≡ S.holds out.old ++ S.spells (spell (filled (layout_with true plan.entry.hyphens plan.entry.breaks plan.entry.width plan.entry.first.now plan.entry.further.now) (tokens codes.now)))) }
-{
-    let first_columns = codes_columns(plan.first)?;
-    let further_columns = codes_columns(plan.further)?;
+    let first = plan.first.parts();
+    let further = plan.further.parts();
+    let first_columns = token_columns(first)?;
+    let further_columns = token_columns(further)?;
     let room = plan.width.saturating_sub(first_columns);
     let further_room = plan.width.saturating_sub(further_columns);
     let narrow = room.min(further_room);
@@ -101,63 +93,57 @@ fn push_filled_under<S: Sink>(
     };
     let under = Under {
         room,
-        further: plan.further,
+        further,
         further_room,
     };
-    out.push_codes(plan.first)?;
-    push_filled(alloc, out, cuts, under, codes)?;
+    push_all(out, first)?;
+    push_filled(out, cuts, under, text.parts())?;
     Ok(())
 }
 
-fn push_wrapped<S: Sink>(
-    alloc: Global,
-    out: &mut S,
-    plan: Plan<'_>,
-    codes: &[char],
-) -> Result<(), AllocError>
-    ensures { OnOk result (S.holds out.new ≡ S.holds out.old ++ S.spells (wrapped (layout_with plan.entry.wraps plan.entry.hyphens plan.entry.breaks plan.entry.width plan.entry.first.now plan.entry.further.now) codes.now)) }
+// Runs, wrapped, each sign as it is.
+fn push_wrapped<S: Sink>(out: &mut S, plan: Plan<'_>, text: &Runs) -> Result<(), AllocError>
+    ensures { OnOk result (S.holds out.new ≡ S.holds out.old ++ S.spells (laid_out plan.entry.wraps plan.entry.hyphens plan.entry.breaks plan.entry.width plan.entry.first.now plan.entry.further.now text.now)) }
 {
     if plan.wraps {
-        push_filled_under(alloc, out, plan, codes)?;
+        push_filled_under(out, plan, text)?;
         Ok(())
     } else {
-        let whole = whole_codes(alloc, plan.first, plan.further, codes)?;
-        out.push_codes(&whole)?;
+        push_whole(out, plan.first.parts(), plan.further.parts(), text.parts())?;
         Ok(())
     }
 }
 
-/// The codes of a text, wrapped.
-pub fn wrap_all(
-    alloc: Global,
-    wraps: bool,
-    hyphens: bool,
-    breaks: bool,
-    width: usize,
-    first: &[char],
-    further: &[char],
-    codes: &[char],
-) -> Result<Vec<char>, AllocError>
-    ensures { IfOk result (λ v. v.items ≡ wrapped (layout_with wraps hyphens breaks width first.now further.now) codes.now) }
+// Whether what the runs print is cut into the very same characters and signs.
+fn are_settled(plan: Plan<'_>, text: &Runs) -> bool
+    ensures first { result ≡ true → tokens (spell plan.entry.first.now) ≡ plan.entry.first.now }
+    ensures further { result ≡ true → tokens (spell plan.entry.further.now) ≡ plan.entry.further.now }
+    ensures text { result ≡ true → tokens (spell text.now) ≡ text.now }
 {
-    let plan = Plan {
-        wraps,
-        hyphens,
-        breaks,
-        width,
-        first,
-        further,
-    };
-    let mut out = Vec::with_capacity(alloc, codes.len())?;
-    push_wrapped(alloc, &mut out, plan, codes)?;
-    Ok(out)
+    is_settled(plan.first.parts()) && is_settled(plan.further.parts()) && is_settled(text.parts())
 }
 
-/// How many columns a text has.
-pub fn columns_of(_alloc: Global, codes: &[char]) -> Result<usize, AllocError>
-    ensures { IfOk result (λ n. n ≡ columns_of (tokens codes.now)) }
+/// Appends the runs, wrapped, as the text that they print is.
+///
+/// # Errors
+/// `AllocError` where memory is refused, or a row has more columns than a `usize` counts. What `out` holds is then open.
+pub fn wrap(alloc: Global, plan: Plan<'_>, text: &Runs, out: &mut Runs) -> Result<(), AllocError>
+    ensures { OnOk result (spell out.new ≡ spell out.old ++ wrapped (layout_with plan.entry.wraps plan.entry.hyphens plan.entry.breaks plan.entry.width (spell plan.entry.first.now) (spell plan.entry.further.now)) (spell text.now)) }
 {
-    codes_columns(codes)
+    if are_settled(plan, text) {
+        push_wrapped(out, plan, text)?;
+        return Ok(());
+    }
+    let first = reread(alloc, plan.first)?;
+    let further = reread(alloc, plan.further)?;
+    let text = reread(alloc, text)?;
+    let read = Plan {
+        first: &first,
+        further: &further,
+        ..plan
+    };
+    push_wrapped(out, read, &text)?;
+    Ok(())
 }
 
 fn cuts_hyphens(splitter: WordSplitter) -> bool
@@ -169,57 +155,35 @@ fn cuts_hyphens(splitter: WordSplitter) -> bool
     }
 }
 
-fn wrapped_text(
-    alloc: Global,
-    options: &WrapOptions<'_>,
-    first: &[char],
-    further: &[char],
-    codes: &[char],
-) -> Result<String, AllocError>
-    ensures { IfOk result (λ s. string_bytes s ≡ encode_utf8_all (wrapped (layout_with options.now.wrap_lines (cuts_hyphens options.now.splitter) options.now.break_words options.now.width first.now further.now) codes.now)) }
+fn wrapped_text(alloc: Global, options: &WrapOptions<'_>, text: &str) -> Result<String, AllocError>
+    ensures { IfOk result (λ s. string_bytes s ≡ encode_utf8_all (wrapped (layout_of options.now) (chars text.now))) }
 {
+    let first = read_text(alloc, options.first_indent)?;
+    let further = read_text(alloc, options.further_indent)?;
+    let read = read_text(alloc, text)?;
     let hyphens = cuts_hyphens(options.splitter);
     let plan = Plan {
         wraps: options.wrap_lines,
         hyphens,
         breaks: options.break_words,
         width: options.width,
-        first,
-        further,
+        first: &first,
+        further: &further,
     };
-    let mut text = String::with_capacity(alloc, codes.len())?;
-    push_wrapped(alloc, &mut text, plan, codes)?;
-    Ok(text)
+    let mut out = String::with_capacity(alloc, text.len())?;
+    push_wrapped(&mut out, plan, &read)?;
+    Ok(out)
 }
 
-/// The bytes of codes.
-pub fn encode(alloc: Global, codes: &[char]) -> Result<String, AllocError>
-    ensures { IfOk result (λ s. string_bytes s ≡ encode_utf8_all codes.now) }
-{
-    let mut text = String::with_capacity(alloc, codes.len())?;
-    for c in codes {
-        text.push(*c)?;
-    }
-    Ok(text)
-}
-
-/// The codes of a text.
-pub fn codes_of(alloc: Global, text: &str) -> Result<Vec<char>, AllocError>
-    ensures { IfOk result (λ v. v.items ≡ chars text.now) }
-{
-    text.chars().collect(alloc)
-}
-
-/// Appends the text, wrapped. After an error `out` is as before.
+/// Appends the text, wrapped. The rules are this project's own; the original uses the crate textwrap.
+///
+/// # Errors
+/// `AllocError` where memory is refused, or a row has more columns than a `usize` counts. `out` is then as before.
 pub fn fill(text: &str, options: &WrapOptions<'_>, out: &mut String) -> Result<(), AllocError>
     ensures ok { OnOk result (string_bytes out.new ≡ string_bytes out.old ++ encode_utf8_all (wrapped (layout_of options.now) (chars text.now))) }
     ensures colours { OnOk result (AreColoured (layout_of options.now) (chars text.now) → AppendsErasing (string_bytes out.old) (string_bytes out.new) (encode_utf8_all (wrapped (colourless (layout_of options.now)) (erase (chars text.now))))) }
     ensures err { OnErr result (string_bytes out.new ≡ string_bytes out.old) }
 {
-    let alloc = *out.allocator();
-    let codes = codes_of(alloc, text)?;
-    let first = codes_of(alloc, options.first_indent)?;
-    let further = codes_of(alloc, options.further_indent)?;
-    let wrapped = wrapped_text(alloc, options, &first, &further, &codes)?;
+    let wrapped = wrapped_text(*out.allocator(), options, text)?;
     out.push_str(wrapped.as_str())
 }

@@ -1,34 +1,31 @@
 //! Lines, wrapped and printed row by row.
 
-ghost use Rattle.std.specs.Prelude.{◌≡◌, ◌≤◌, ◌++◌, ◌∷◌, [], IfOk, OnOk, flat_map, length, map, true};
-ghost use Rattle.miette_text.specs.Ends.{bare_len, line_len, plain_cells, plain_line};
+ghost use Rattle.std.specs.Prelude.{◌≡◌, ◌≤◌, ◌++◌, ◌∷◌, [], IfOk, OnOk, drop, flat_map, length, map};
+ghost use Rattle.miette_text.specs.Ends.{bare_len, line_len, plain_cells};
 ghost use Rattle.miette_text.specs.Filling.{lines_from, parts_with};
-ghost use Rattle.miette_text.specs.PieceViews.{view_pieces};
-ghost use Rattle.miette_text.specs.Printing.{joined_lines, lines_of, row_cells, view_lines};
-ghost use Rattle.miette_text.specs.Sequences.{tokens};
-ghost use Rattle.miette_text.specs.Tame.{no_escape};
+ghost use Rattle.miette_text.specs.Printing.{joined_lines, lines_of, row_cells, shown};
+ghost use Rattle.miette_text.specs.Sequences.{spell};
+ghost use Rattle.miette_text.specs.Woven.{cells_at, left_at, woven};
 ghost use Rattle.miette_text.specs.Wrapping.{pieces, rows, words};
 
+use crate::runs::Parts;
+use crate::runs::cells::{push_all, push_cells, push_marks, push_signs};
+use crate::runs::sink::Sink;
 use crate::wrap::ends::{Cuts, row_len};
-use crate::wrap::parts::split_words;
-use crate::wrap::pieces::{Piece, pieces};
-use crate::wrap::rows::{join, lines, rows};
-use crate::wrap::sequences::sequences;
-use crate::wrap::sink::Sink;
-use std::alloc::{AllocError, Global};
+use std::alloc::AllocError;
 
 /// What rows stand under: the columns of the first, and the indent of the others with the columns that it leaves.
 #[derive(Clone, Copy)]
-pub struct Under<'a> {
-    pub room: usize,
-    pub further: &'a [char],
-    pub further_room: usize,
+pub(crate) struct Under<'a> {
+    pub(crate) room: usize,
+    pub(crate) further: Parts<'a>,
+    pub(crate) further_room: usize,
 }
 
-// ---- a line without sequences
+// ---- rows
 
 // How many codes there are without the last spaces.
-fn bare_len(row: &[char]) -> usize
+pub fn bare_len(row: &[char]) -> usize
     ensures value { result ≡ bare_len (plain_cells row.now) }
     ensures within { result ≤ length row.now }
 {
@@ -43,85 +40,67 @@ fn bare_len(row: &[char]) -> usize
 }
 
 // A line feed and the indent below it.
-fn push_break<S: Sink>(out: &mut S, further: &[char]) -> Result<(), AllocError>
-    ensures { OnOk result (S.holds out.new ≡ S.holds out.old ++ S.spells (10 ∷ further.now)) }
+fn push_break<S: Sink>(out: &mut S, further: Parts<'_>) -> Result<(), AllocError>
+    ensures { OnOk result (S.holds out.new ≡ S.holds out.old ++ S.spells (10 ∷ spell (woven 0 further.entry.codes.now further.entry.marks.now))) }
 {
     out.push_codes(&['\n'])?;
-    out.push_codes(further)?;
+    push_all(out, further)?;
     Ok(())
 }
 
-fn push_plain<S: Sink>(
+// A row, from a place in the text up to the end of what is given, without its last spaces. How many marks are used.
+fn push_row<S: Sink>(out: &mut S, start: usize, row: Parts<'_>) -> Result<usize, AllocError>
+    requires { start ≤ length row.codes.now }
+    ensures text { OnOk result (S.holds out.new ≡ S.holds out.old ++ S.spells (shown (cells_at start (drop start row.entry.codes.now) row.entry.marks.now))) }
+    ensures left { IfOk result (λ n. drop n row.entry.marks.now ≡ left_at start (drop start row.entry.codes.now) row.entry.marks.now) }
+    ensures within { IfOk result (λ n. n ≤ length row.entry.marks.now) }
+{
+    let codes = &row.codes[start..];
+    let bare = bare_len(codes);
+    let used = push_cells(out, start, &codes[..bare], row.marks)?;
+    let dropped = push_signs(out, start + bare, &codes[bare..], &row.marks[used..])?;
+    Ok(used + dropped)
+}
+
+// The rows of a line, from a place in the text up to the end of what is given. How many marks are used.
+fn push_rows<S: Sink>(
     out: &mut S,
     cuts: Cuts,
     under: Under<'_>,
-    line: &[char],
-) -> Result<(), AllocError>
-    ensures { OnOk result (S.holds out.new ≡ S.holds out.old ++ S.spells (joined_lines [] under.entry.further.now (lines_of [] (map row_cells (rows under.entry.room under.entry.further_room (flat_map (parts_with cuts.hyphens cuts.breaks cuts.narrow) (words (plain_cells line.now)))))))) }
+    first: usize,
+    line: Parts<'_>,
+) -> Result<usize, AllocError>
+    requires { first ≤ length line.codes.now }
+    ensures text { OnOk result (S.holds out.new ≡ S.holds out.old ++ S.spells (joined_lines [] (spell (woven 0 under.entry.further.codes.now under.entry.further.marks.now)) (lines_of [] (map row_cells (rows under.entry.room under.entry.further_room (flat_map (parts_with cuts.hyphens cuts.breaks cuts.narrow) (words (cells_at first (drop first line.entry.codes.now) line.entry.marks.now)))))))) }
+    ensures left { IfOk result (λ n. drop n line.entry.marks.now ≡ left_at first (drop first line.entry.codes.now) line.entry.marks.now) }
+    ensures within { IfOk result (λ n. n ≤ length line.entry.marks.now) }
 {
-    let mut start: usize = 0;
+    let mut start = first;
+    let mut used: usize = 0;
     let mut before = '\0';
     let mut room = under.room;
     'rest: loop {
-        let n = row_len(cuts, room, before, &line[start..])?;
+        let n = row_len(cuts, room, before, &line.codes[start..])?;
         let end = start + n;
-        let row = &line[start..end];
-        let bare = bare_len(row);
-        out.push_codes(&row[..bare])?;
-        if end == line.len() {
-            return Ok(());
+        let row = Parts {
+            codes: &line.codes[..end],
+            marks: &line.marks[used..],
+        };
+        let more = push_row(out, start, row)?;
+        used += more;
+        if end == line.codes.len() {
+            return Ok(used);
         }
         push_break(out, under.further)?;
-        before = line[end - 1];
+        before = line.codes[end - 1];
         start = end;
         room = under.further_room;
     }
 }
 
-// ---- a line with sequences
-
-// The lines of all pieces.
-fn text_lines(
-    alloc: Global,
-    cuts: Cuts,
-    first: usize,
-    further: usize,
-    pieces: &[Piece<'_>],
-) -> Result<Vec<Vec<char>>, AllocError>
-    ensures { IfOk result (λ v. view_lines v.items ≡ lines_from cuts.hyphens cuts.breaks cuts.narrow first further (view_pieces pieces.now)) }
-{
-    let mut found = Vec::new(alloc);
-    let mut room = first;
-    for piece in pieces {
-        let split = split_words(alloc, cuts.hyphens, cuts.breaks, cuts.narrow, &piece.cells)?;
-        let filled = rows(alloc, room, further, &piece.cells, &split)?;
-        let mut more = lines(alloc, &filled, piece.rest)?;
-        found.append(&mut more)?;
-        room = further;
-    }
-    Ok(found)
-}
-
-// What the rows of a line print.
-fn marked_text(
-    alloc: Global,
-    cuts: Cuts,
-    under: Under<'_>,
-    line: &[char],
-) -> Result<Vec<char>, AllocError>
-    ensures { IfOk result (λ v. v.items ≡ joined_lines [] under.entry.further.now (lines_from cuts.hyphens cuts.breaks cuts.narrow under.entry.room under.entry.further_room (pieces (tokens line.now)))) }
-{
-    let marks = sequences(alloc, line)?;
-    let found = pieces(alloc, line, &marks)?;
-    let made = text_lines(alloc, cuts, under.room, under.further_room, &found)?;
-    let mut text = Vec::new(alloc);
-    join(&mut text, &[], under.further, &made)?;
-    Ok(text)
-}
-
 // ---- lines
 
-fn line_len(codes: &[char]) -> usize
+pub fn line_len(codes: &[char]) -> usize
     ensures value { result ≡ line_len codes.now }
     ensures within { result ≤ length codes.now }
 {
@@ -133,57 +112,34 @@ fn line_len(codes: &[char]) -> usize
     codes.len()
 }
 
-fn has_no_escape(codes: &[char]) -> bool
-    ensures { result ≡ no_escape codes.now }
-{
-    for code in codes {
-        if *code == '\u{1B}' {
-            return false;
-        }
-    }
-    true
-}
-
-fn push_line<S: Sink>(
-    alloc: Global,
-    out: &mut S,
-    cuts: Cuts,
-    under: Under<'_>,
-    line: &[char],
-) -> Result<(), AllocError>
-    requires { plain_line line.now ≡ true }
-    ensures { OnOk result (S.holds out.new ≡ S.holds out.old ++ S.spells (joined_lines [] under.entry.further.now (lines_from cuts.hyphens cuts.breaks cuts.narrow under.entry.room under.entry.further_room (pieces (tokens line.now))))) }
-{
-    if has_no_escape(line) {
-        push_plain(out, cuts, under, line)?;
-        Ok(())
-    } else {
-        let text = marked_text(alloc, cuts, under, line)?;
-        out.push_codes(&text)?;
-        Ok(())
-    }
-}
-
 /// A text, wrapped, its first row under an indent of its own.
-pub fn push_filled<S: Sink>(
-    alloc: Global,
+pub(crate) fn push_filled<S: Sink>(
     out: &mut S,
     cuts: Cuts,
     under: Under<'_>,
-    codes: &[char],
+    text: Parts<'_>,
 ) -> Result<(), AllocError>
-    ensures { OnOk result (S.holds out.new ≡ S.holds out.old ++ S.spells (joined_lines [] under.entry.further.now (lines_from cuts.hyphens cuts.breaks cuts.narrow under.entry.room under.entry.further_room (pieces (tokens codes.now))))) }
+    ensures { OnOk result (S.holds out.new ≡ S.holds out.old ++ S.spells (joined_lines [] (spell (woven 0 under.entry.further.codes.now under.entry.further.marks.now)) (lines_from cuts.hyphens cuts.breaks cuts.narrow under.entry.room under.entry.further_room (pieces (woven 0 text.entry.codes.now text.entry.marks.now))))) }
 {
     let mut start: usize = 0;
+    let mut used: usize = 0;
     let mut room = under.room;
     'rest: loop {
-        let n = line_len(&codes[start..]);
+        let n = line_len(&text.codes[start..]);
         let end = start + n;
         let place = Under { room, ..under };
-        push_line(alloc, out, cuts, place, &codes[start..end])?;
-        if end == codes.len() {
+        let line = Parts {
+            codes: &text.codes[..end],
+            marks: &text.marks[used..],
+        };
+        let inside = push_rows(out, cuts, place, start, line)?;
+        used += inside;
+        if end == text.codes.len() {
+            push_marks(out, &text.marks[used..])?;
             return Ok(());
         }
+        let behind = push_signs(out, end, &['\n'], &text.marks[used..])?;
+        used += behind;
         push_break(out, under.further)?;
         start = end + 1;
         room = under.further_room;

@@ -1,24 +1,13 @@
-//! Sequences for the terminal, and the characters between them.
+//! Sequences for the terminal: how long they are.
 
-ghost use Rattle.std.specs.Prelude.{◌≡◌, ◌≤◌, ◌<◌, ◌+◌, true, length, drop, IfOk, IsTrue, map};
-ghost use Rattle.miette_text.specs.Marks.{marks_of, view_marks};
-ghost use Rattle.miette_text.specs.Sequences.{begins_command, begins_terminator, command_len, control_len, sequence_len, tokens};
-ghost use Rattle.miette_text.specs.Views.{view_tokens};
-
-use std::alloc::{AllocError, Global};
+ghost use Rattle.std.specs.Prelude.{◌≡◌, ◌≤◌, ◌<◌, ◌+◌, true, length, drop, IsTrue};
+ghost use Rattle.miette_text.specs.Sequences.{begins_command, begins_terminator, command_len, control_len, sequence_len};
 
 const LINE_FEED: char = '\n';
 
 const BELL: char = '\u{7}';
 
 const ESCAPE: char = '\u{1B}';
-
-/// A character that is in no sequence, or a whole sequence.
-#[derive(Drop)]
-pub enum Token {
-    Character(char),
-    Sequence(Vec<char>),
-}
 
 // Behind `ESC [`: how many codes there are up to the last one of the sequence, 0 where it isn't finished.
 fn control_len(codes: &[char]) -> usize
@@ -124,45 +113,4 @@ pub fn stays_open(codes: &[char], i: usize, unfinished: bool) -> bool
         return true;
     }
     unfinished
-}
-
-/// Cuts a text into tokens.
-pub fn tokens(alloc: Global, codes: &[char]) -> Result<Vec<Token>, AllocError>
-    ensures { IfOk result (λ v. view_tokens v.items ≡ tokens codes.now) }
-{
-    let mut found = Vec::new(alloc);
-    let mut i: usize = 0;
-    let mut unfinished = false;
-    while i < codes.len() {
-        let len = sequence_at(codes, i, unfinished);
-        if len == 0 {
-            found.push(Token::Character(codes[i]))?;
-            unfinished = stays_open(codes, i, unfinished);
-            i += 1;
-        } else {
-            found.push(Token::Sequence(Vec::from_slice(alloc, &codes[i..i + len])?))?;
-            i += len;
-        }
-    }
-    Ok(found)
-}
-
-/// The sequences of a text, in order.
-pub fn sequences<'a>(alloc: Global, codes: &'a [char]) -> Result<Vec<&'a [char]>, AllocError>
-    ensures { IfOk result (λ v. view_marks v.items ≡ marks_of (tokens codes.now)) }
-{
-    let mut found = Vec::new(alloc);
-    let mut i: usize = 0;
-    let mut unfinished = false;
-    while i < codes.len() {
-        let len = sequence_at(codes, i, unfinished);
-        if len == 0 {
-            unfinished = stays_open(codes, i, unfinished);
-            i += 1;
-        } else {
-            found.push(&codes[i..i + len])?;
-            i += len;
-        }
-    }
-    Ok(found)
 }

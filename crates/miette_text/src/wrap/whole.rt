@@ -1,156 +1,93 @@
 //! Text under indents, not wrapped.
 
-ghost use Rattle.std.specs.Prelude.{◌≡◌, ◌++◌, ◌∷◌, [], ℕ, IfOk, OnOk, drop, if◌then◌else◌, nat_le};
-ghost use Rattle.miette_text.specs.PieceViews.{view_cells, view_pieces};
-ghost use Rattle.miette_text.specs.Sequences.{spell, tokens};
-ghost use Rattle.miette_text.specs.Views.{view_token, view_tokens};
-ghost use Rattle.miette_text.specs.WholeText.{indent_text, piece_text, whole_text};
-ghost use Rattle.miette_text.specs.Wrapping.{all_white, only_spaces, pieces, trimmed, whole_pieces};
+ghost use Rattle.std.specs.Prelude.{◌≡◌, ◌++◌, OnOk};
+ghost use Rattle.miette_text.specs.Ends.{plain_cells};
+ghost use Rattle.miette_text.specs.Sequences.{spell};
+ghost use Rattle.miette_text.specs.WholeText.{indent_text};
+ghost use Rattle.miette_text.specs.Woven.{woven};
+ghost use Rattle.miette_text.specs.Wrapping.{all_white, pieces, trimmed, whole_pieces};
 
-use crate::wrap::pieces::{Cell, Piece, pieces};
-use crate::wrap::rows::{push_marks, push_piece};
-use crate::wrap::sequences::{Token, sequences, tokens};
-use std::alloc::{AllocError, Global};
+use crate::runs::Parts;
+use crate::runs::cells::{push_all, push_cells, push_marks};
+use crate::runs::marks::upto_len;
+use crate::runs::sink::Sink;
+use crate::wrap::lines::{bare_len, line_len};
+use std::alloc::AllocError;
 
-// Whether a token is a space, or no character.
-fn is_space(token: &Token) -> bool
-    ensures { result ≡ only_spaces (view_token token.now ∷ []) }
+// An indent without its last spaces; its signs stay.
+fn trimmed(indent: Parts<'_>) -> Parts<'_>
+    ensures { woven 0 result.codes.now result.marks.now ≡ trimmed (woven 0 indent.entry.codes.now indent.entry.marks.now) }
 {
-    match token {
-        Token::Sequence(_) => true,
-        Token::Character(c) => *c == ' ',
+    let bare = bare_len(indent.codes);
+    Parts {
+        codes: &indent.codes[..bare],
+        marks: indent.marks,
     }
 }
 
-// Where the spaces and sequences at the end begin.
-fn spaces_begin(tokens: &[Token]) -> usize
-    ensures { (k : ℕ) → only_spaces (view_tokens (drop k tokens.now)) ≡ nat_le result k }
+fn all_white(line: &[char]) -> bool
+    ensures { result ≡ all_white (plain_cells line.now) }
 {
-    let mut n = tokens.len();
-    'rest: while 0 < n {
-        if !is_space(&tokens[n - 1]) {
-            return n;
-        }
-        n -= 1;
-    }
-    0
-}
-
-// Whether the tokens from an index on are dropped, where it is known from where on they are.
-fn is_behind(begin: usize, i: usize, tokens: &[Token]) -> bool
-    requires { only_spaces (view_tokens (drop i tokens.now)) ≡ nat_le begin i }
-    ensures { result ≡ only_spaces (view_tokens (drop i tokens.now)) }
-{
-    begin <= i
-}
-
-// An indent without its last spaces.
-fn trimmed(alloc: Global, tokens: &[Token]) -> Result<Vec<char>, AllocError>
-    ensures { IfOk result (λ v. v.items ≡ spell (trimmed (view_tokens tokens.now))) }
-{
-    let end = spaces_begin(tokens);
-    let mut found = Vec::new(alloc);
-    for (i, token) in tokens.iter().enumerate() {
-        match token {
-            Token::Sequence(s) => found.extend_from_slice(s)?,
-            Token::Character(c) => {
-                if *c != ' ' || !is_behind(end, i + 1, tokens) {
-                    found.push(*c)?;
-                }
-            }
-        }
-    }
-    Ok(found)
-}
-
-fn all_white(cells: &[Cell<'_>]) -> bool
-    ensures { result ≡ all_white (view_cells cells.now) }
-{
-    for cell in cells {
-        if !cell.code.is_whitespace() {
+    for code in line {
+        if !code.is_whitespace() {
             return false;
         }
     }
     true
 }
 
-// The indent of a piece; the short one where it is white, none where nothing is behind the last line feed.
-fn push_indent(
-    out: &mut Vec<char>,
+// The indent of a line; the short one where it is white, none where nothing is behind the last line feed.
+fn push_indent<S: Sink>(
+    out: &mut S,
     last: bool,
-    indent: &[char],
-    short: &[char],
-    cells: &[Cell<'_>],
+    indent: Parts<'_>,
+    short: Parts<'_>,
+    line: &[char],
 ) -> Result<(), AllocError>
-    ensures { OnOk result (out.new.items ≡ out.old.items ++ indent_text last indent.now short.now (view_cells cells.now)) }
+    ensures { OnOk result (S.holds out.new ≡ S.holds out.old ++ S.spells (indent_text last (spell (woven 0 indent.entry.codes.now indent.entry.marks.now)) (spell (woven 0 short.entry.codes.now short.entry.marks.now)) (plain_cells line.now))) }
 {
-    if last && cells.is_empty() {
+    if last && line.is_empty() {
         return Ok(());
     }
-    if all_white(cells) {
-        out.extend_from_slice(short)
+    if all_white(line) {
+        push_all(out, short)
     } else {
-        out.extend_from_slice(indent)
+        push_all(out, indent)
     }
 }
 
-fn push_feed(out: &mut Vec<char>, last: bool) -> Result<(), AllocError>
-    ensures { OnOk result (out.new.items ≡ out.old.items ++ (if last then [] else 10 ∷ [])) }
-{
-    if !last {
-        out.push('\n')?;
-    }
-    Ok(())
-}
-
-/// The pieces of a text, each whole under its indent.
-pub fn whole_codes(
-    alloc: Global,
-    first: &[char],
-    further: &[char],
-    codes: &[char],
-) -> Result<Vec<char>, AllocError>
-    ensures { IfOk result (λ v. v.items ≡ spell (whole_pieces (tokens first.now) (tokens further.now) (pieces (tokens codes.now)))) }
-{
-    let first_short = trimmed(alloc, &tokens(alloc, first)?)?;
-    let further_short = trimmed(alloc, &tokens(alloc, further)?)?;
-    let marks = sequences(alloc, codes)?;
-    let found = pieces(alloc, codes, &marks)?;
-    let mut out = Vec::new(alloc);
-    push_whole(
-        &mut out,
-        first,
-        &first_short,
-        further,
-        &further_short,
-        &found,
-    )?;
-    Ok(out)
-}
-
-// Each piece under its indent, or under the short one where it is white.
-fn push_whole(
-    out: &mut Vec<char>,
-    first: &[char],
-    first_short: &[char],
-    further: &[char],
-    further_short: &[char],
-    pieces: &[Piece<'_>],
+/// The lines of a text, each whole under its indent. A white line has the indent without its last spaces, and nothing
+/// is before what stands behind the last line feed where that has no character.
+pub(crate) fn push_whole<S: Sink>(
+    out: &mut S,
+    first: Parts<'_>,
+    further: Parts<'_>,
+    text: Parts<'_>,
 ) -> Result<(), AllocError>
-    ensures { OnOk result (out.new.items ≡ out.old.items ++ whole_text first.now first_short.now further.now further_short.now (view_pieces pieces.now)) }
+    ensures { OnOk result (S.holds out.new ≡ S.holds out.old ++ S.spells (spell (whole_pieces (woven 0 first.entry.codes.now first.entry.marks.now) (woven 0 further.entry.codes.now further.entry.marks.now) (pieces (woven 0 text.entry.codes.now text.entry.marks.now))))) }
 {
+    let further_short = trimmed(further);
     let mut indent = first;
-    let mut short = first_short;
-    let mut left = pieces;
-    'rest: while let [piece, below @ ..] = left {
-        let last = below.is_empty();
-        push_indent(out, last, indent, short, &piece.cells)?;
-        push_piece(out, &piece.cells)?;
-        push_marks(out, piece.rest)?;
-        push_feed(out, last)?;
+    let mut short = trimmed(first);
+    let mut start: usize = 0;
+    let mut marks = text.marks;
+    'rest: loop {
+        let end = start + line_len(&text.codes[start..]);
+        let last = end == text.codes.len();
+        let line = &text.codes[start..end];
+        push_indent(out, last, indent, short, line)?;
+        let used = push_cells(out, start, line, marks)?;
+        let (_, left) = marks.split_at(used);
+        if last {
+            push_marks(out, left)?;
+            return Ok(());
+        }
+        let (before, behind) = left.split_at(upto_len(end, left));
+        push_marks(out, before)?;
+        out.push_codes(&['\n'])?;
+        marks = behind;
+        start = end + 1;
         indent = further;
         short = further_short;
-        left = below;
     }
-    Ok(())
 }

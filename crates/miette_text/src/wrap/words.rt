@@ -1,46 +1,12 @@
-//! Words, with the spaces behind them.
+//! Columns.
 
-ghost use Rattle.std.specs.Prelude.{◌≡◌, ◌≤◌, ◌+◌, IfOk, length};
-ghost use Rattle.miette_text.specs.Ends.{letters_len, spaces_len};
-ghost use Rattle.miette_text.specs.PieceViews.{view_cells};
-ghost use Rattle.miette_text.specs.Wrapping.{columns, width};
+ghost use Rattle.std.specs.Prelude.{◌≡◌, ◌+◌, IfOk};
+ghost use Rattle.miette_text.specs.Wrapping.{columns_of, width};
+ghost use Rattle.miette_text.specs.Woven.{woven};
 
-use crate::wrap::pieces::Cell;
+use crate::runs::Parts;
 use std::alloc::AllocError;
 use unicode_width::UnicodeWidthChar;
-
-/// A word, with the spaces behind it.
-#[derive(Clone, Copy)]
-pub struct Word<'a> {
-    pub letters: &'a [Cell<'a>],
-    pub spaces: &'a [Cell<'a>],
-}
-
-/// How many characters there are up to the next space.
-pub fn letters_len(cells: &[Cell<'_>]) -> usize
-    ensures value { result ≡ letters_len (view_cells cells.now) }
-    ensures within { result ≤ length cells.now }
-{
-    for (i, cell) in cells.iter().enumerate() {
-        if cell.code == ' ' {
-            return i;
-        }
-    }
-    cells.len()
-}
-
-/// How many spaces there are at the front.
-pub fn spaces_len(cells: &[Cell<'_>]) -> usize
-    ensures value { result ≡ spaces_len (view_cells cells.now) }
-    ensures within { result ≤ length cells.now }
-{
-    for (i, cell) in cells.iter().enumerate() {
-        if cell.code != ' ' {
-            return i;
-        }
-    }
-    cells.len()
-}
 
 /// A sum; one past the largest number is no room.
 pub fn sum(a: usize, b: usize) -> Result<usize, AllocError>
@@ -61,13 +27,13 @@ pub fn char_columns(c: char) -> usize
     }
 }
 
-/// How many columns the characters take.
-pub fn columns(cells: &[Cell<'_>]) -> Result<usize, AllocError>
-    ensures { IfOk result (λ n. n ≡ columns (view_cells cells.now)) }
+/// How many columns runs take.
+pub(crate) fn token_columns(runs: Parts<'_>) -> Result<usize, AllocError>
+    ensures { IfOk result (λ n. n ≡ columns_of (woven 0 runs.entry.codes.now runs.entry.marks.now)) }
 {
     let mut total = 0;
-    for cell in cells {
-        total = sum(total, char_columns(cell.code))?;
+    for code in runs.codes {
+        total = sum(total, char_columns(*code))?;
     }
     Ok(total)
 }

@@ -2,7 +2,7 @@ use Rattle.std.proofs.Common.{List, [], ◌∷◌, Option, Some, None, IfSome, a
 use Rattle.std.specs.List.{AllByRecursion}
 use Rattle.miette_layout.specs.Contexts.{contents}
 use Rattle.miette_handlers.specs.Answers.{pieces_listed}
-use Rattle.miette_handlers.specs.Headline.{LinesAreShown, MarksAreApart, TextsHang, SnippetHangs, drawn_labels, groups_of, shown_lines}
+use Rattle.miette_handlers.specs.Headline.{LinesAreShown, MarksAreApart, TextsHang, SnippetHangs, drawn_labels, groups_of, group_settings, shown_lines}
 use Rattle.miette_handlers.specs.Parts.{list_of}
 use Rattle.miette_handlers.specs.Printed.{printed}
 use Rattle.miette_handlers.specs.Snippets.{layout_settings, shown_rows}
@@ -40,5 +40,5 @@ pub returns-clause-texts : goal.returns-clause-texts
 returns-clause-texts c = λ s t. each (TextsHang s) (λ p.
     let labels = list_of p.meaning.labels in
     if_some _ (λ source narrow. each (SnippetHangs s source labels)
-    (λ group few pieces. c.texts_hang.ensures (layout_settings s) (drawn_labels s source labels) source.bytes (contents s.context source group) pieces narrow few)
+    (λ group few pieces. c.texts_hang.ensures (group_settings s labels) (drawn_labels s source labels) source.bytes (contents (group_settings s labels).context source group) pieces narrow few)
     (groups_of s source labels)) p.source) (printed s t)

@@ -1,4 +1,5 @@
 use Rattle.std.proofs.Common.{◌≡◌, ◌++◌, refl, ap, ◌∙◌, subst, encode_utf8_all, string_bytes}
+use Rattle.miette_text.specs.Sequences.{spell}
 use Rattle.miette_tree.specs.Report.{tree_of}
 use Rattle.miette_layout.specs.Highlighted.{leaves_plain}
 use Rattle.miette_handlers.specs.Answered.{IsReport}
@@ -13,20 +14,20 @@ pub returns-clause-only : goal.returns-clause-only
 returns-clause-only g c = λ b h.
     let s = settings_of c.args.layout in
     let value = tree_of g.D.Diagnostic.meaning g.S.SourceCode.source c.args.report.now in
-    let answered = subst (λ k. IsReport drawn_rows s k value c.in_ok-codes.codes.items) b c.in_ok-codes.ensures.ok in
-    let only : c.in_ok-codes.codes.items ≡ report_text drawn_rows s value unlisted = answered.2 ∙ same-report drawn_rows s value answered.0 answered.1 h in
+    let answered = subst (λ k. IsReport drawn_rows s k value (spell c.in_ok-runs.runs)) b c.in_ok-runs.ensures.ok in
+    let only : (spell c.in_ok-runs.runs) ≡ report_text drawn_rows s value unlisted = answered.2 ∙ same-report drawn_rows s value answered.0 answered.1 h in
     c.in_ok-push_str.ensures.bytes
-    ∙ ap (λ t. string_bytes c.args.out.now ++ t) (c.as_str.ensures.value ∙ c.in_ok-text.ensures ∙ ap encode_utf8_all (c.deref.ensures.value ∙ only))
+    ∙ ap (λ t. string_bytes c.args.out.now ++ t) (c.as_str.ensures.value ∙ c.in_ok-text.ensures ∙ ap encode_utf8_all only)
 
 pub returns-clause-colours : goal.returns-clause-colours
 returns-clause-colours g c = λ settings tree.
     let blank = leaves_plain g.H.Highlighter.is_blank c.args.pen.now.highlighter in
     let s = settings_of c.args.layout in
     let value = tree_of g.D.Diagnostic.meaning g.S.SourceCode.source c.args.report.now in
-    let bytes = encode_utf8_all c.in_ok-codes.codes.items in record {
+    let bytes = encode_utf8_all (spell c.in_ok-runs.runs) in record {
       text = bytes;
-      is_given = c.erasing_law.ensures.text s blank value bytes settings tree (c.in_ok-codes.codes.items, c.in_ok-codes.ensures.ok, refl);
-      appended = c.in_ok-push_str.ensures.bytes ∙ ap (λ t. string_bytes c.args.out.now ++ t) (c.as_str.ensures.value ∙ c.in_ok-text.ensures ∙ ap encode_utf8_all c.deref.ensures.value);
+      is_given = c.erasing_law.ensures.text s blank value bytes settings tree ((spell c.in_ok-runs.runs), c.in_ok-runs.ensures.ok, refl);
+      appended = c.in_ok-push_str.ensures.bytes ∙ ap (λ t. string_bytes c.args.out.now ++ t) (c.as_str.ensures.value ∙ c.in_ok-text.ensures);
     }
 
 pub returns-clause-colourless : goal.returns-clause-colourless
@@ -34,8 +35,8 @@ returns-clause-colourless g c = λ reads settings tree.
     let blank = leaves_plain g.H.Highlighter.is_blank c.args.pen.now.highlighter in
     let s = settings_of c.args.layout in
     let value = tree_of g.D.Diagnostic.meaning g.S.SourceCode.source c.args.report.now in
-    let bytes = encode_utf8_all c.in_ok-codes.codes.items in (
+    let bytes = encode_utf8_all (spell c.in_ok-runs.runs) in (
       bytes,
-      c.in_ok-push_str.ensures.bytes ∙ ap (λ t. string_bytes c.args.out.now ++ t) (c.as_str.ensures.value ∙ c.in_ok-text.ensures ∙ ap encode_utf8_all c.deref.ensures.value),
-      c.erasing_law.ensures.only s blank value bytes settings tree (c.in_ok-codes.codes.items, c.in_ok-codes.ensures.ok, refl) reads,
+      c.in_ok-push_str.ensures.bytes ∙ ap (λ t. string_bytes c.args.out.now ++ t) (c.as_str.ensures.value ∙ c.in_ok-text.ensures),
+      c.erasing_law.ensures.only s blank value bytes settings tree ((spell c.in_ok-runs.runs), c.in_ok-runs.ensures.ok, refl) reads,
     )

@@ -1,3 +1,5 @@
+use Rattle.miette_layout.specs.Groups.{in_order}
+use Rattle.miette_layout.specs.Layout.{settings_around}
 use Rattle.miette_layout.specs.Given.{settings_of}
 use Rattle.std.proofs.Common.{◌≡◌}
 use Rattle.miette_layout.specs.Highlighted.{leaves_plain}
@@ -7,7 +9,7 @@ use Rattle.miette_layout.proofs.snippets.read_snippets.Given as goal
 
 abbrev pub invariant-loop-group : goal.invariant-loop-group
 invariant-loop-group g l = record {
-  drawn : AreDrawn (settings_of l.fn.theme l.fn.options) (g.S.SourceCode.source l.fn.source) l.fn.labels (leaves_plain g.H.Highlighter.is_blank l.initial.highlighter) l.group-items l.group-index l.page;
+  drawn : AreDrawn (settings_around (settings_of l.fn.theme l.fn.options) (in_order l.fn.labels)) (g.S.SourceCode.source l.fn.source) l.fn.labels (leaves_plain g.H.Highlighter.is_blank l.initial.highlighter) l.group-items l.group-index l.page;
   state : IsAt l.placed.items l.at l.sweep.next l.sweep.running.items;
   stays : leaves_plain g.H.Highlighter.is_blank l.highlighter ≡ leaves_plain g.H.Highlighter.is_blank l.initial.highlighter;
 }

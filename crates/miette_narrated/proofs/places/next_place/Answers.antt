@@ -1,4 +1,4 @@
-use Rattle.std.proofs.Common.{◌≡◌, ◌+◌, ◌-◌, ◌<◌, ◌≤◌, true, false, drop, length, string_bytes, ap, subst, ◌∙◌, refl, rules, arith, length-drop}
+use Rattle.std.proofs.Common.{◌≡◌, ◌+◌, ◌-◌, true, false, drop, length, string_bytes, ap, subst, ◌∙◌, refl, rules, arith, length-drop}
 use Rattle.std.specs.Prelude.{chars}
 use Rattle.std.proofs.lemmas.List.{take_rest}
 use Rattle.std.proofs.lemmas.Str.{IsUtf8-string_bytes}
@@ -6,7 +6,7 @@ use Rattle.unicode_width.specs.Width.{str_width}
 use Rattle.miette_layout.specs.Given.{width_of}
 use Rattle.miette_layout.proofs.Stepping.{IsFirst}
 use Rattle.miette_narrated.specs.Places.{is_lone}
-use Rattle.miette_narrated.proofs.Placed.{IsSince, none_since, one_since, next_place}
+use Rattle.miette_narrated.proofs.Placed.{none_since, one_since, next_place}
 use Rattle.miette_narrated.proofs.places.next_place.Goals as goal
 
 pub loop-bytes-init : goal.loop-bytes-init

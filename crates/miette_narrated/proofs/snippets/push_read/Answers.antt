@@ -1,11 +1,13 @@
-use Rattle.std.proofs.Common.{ap, sym, ◌∙◌, ◌++◌, map, List, string_bytes, subst}
-use Rattle.miette_layout.specs.declared.grouping.Group.{Group}
+use Rattle.std.proofs.Common.{ap, ◌∙◌, ◌++◌, List, string_bytes, subst}
+use Rattle.std.specs.Option.{option_map}
+use Rattle.miette_layout.specs.Around.{group_context}
+use Rattle.miette_layout.specs.Groups.{in_order}
 use Rattle.miette_layout.specs.declared.sweep.Placed.{Placed}
 use Rattle.miette_layout.specs.Read.{AreGroups}
 use Rattle.miette_narrated.specs.Made.{all_told}
 use Rattle.miette_narrated.specs.Snippets.{snippet}
 use Rattle.miette_narrated.specs.Sweeping.{IsAt}
-use Rattle.miette_narrated.proofs.Reading.{placed_ordered, groups_more, groups_end, snippets_told}
+use Rattle.miette_narrated.proofs.Reading.{placed_ordered, groups_more, groups_end, snippets_told, are_grouped, unread_group}
 use Rattle.miette_narrated.proofs.snippets.push_read.Goals as goal
 
 pub push_snippet-requires-clause-ordered : goal.push_snippet-requires-clause-ordered
@@ -17,22 +19,26 @@ loop-group-preserved g c =
     let source = g.S.SourceCode.source c.args.source.now in
     let l = c.loop-group in
     let placed = c.in_ok-placed.placed.items in
-    let grouped : AreGroups c.args.context source (map (λ read. read.span) c.args.reads.now) c.deref-group-items.result.now =
-    subst (λ (gs : List Group). AreGroups c.args.context source (map (λ read. read.span) c.args.reads.now) gs) (sym c.deref-group-items.ensures.value) c.in_ok-groups.ensures in
+    let grouped : AreGroups c.args.context source (in_order c.args.labels.now) c.deref-group-items.result.now =
+    are_grouped c.args.context source (in_order c.args.labels.now) _ c.in-Some.groups.items c.deref-group-items.result.now c.in_ok-groups.ensures (ap (option_map (λ v. v.items)) c.in-Some.is) c.deref-group-items.ensures.value in
     let text = c.in_ok-push_snippet.ensures.rows ∙ ap (λ (ps : List Placed). string_bytes l.out ++ snippet (all_told c.args.labels.now ps) c.group-item.result.contents) c.deref.ensures.value in
     record {
-      rows = groups_more c.args.context source (all_told c.args.labels.now placed) (map (λ read. read.span) c.args.reads.now) c.deref-group-items.result.now l.group-index c.group-item.result
+      rows = groups_more c.args.context source (all_told c.args.labels.now placed) (in_order c.args.labels.now) c.deref-group-items.result.now l.group-index c.group-item.result
           (string_bytes l.out) (string_bytes c.push_snippet.new.out) _ grouped c.loop-group-test.true c.group-item.is text l.invariant.rows;
       at = subst (λ (ps : List Placed). IsAt ps c.push_snippet.new.sweep.at c.push_snippet.new.sweep.next c.push_snippet.new.sweep.running.items) c.deref.ensures.value c.in_ok-push_snippet.ensures.at;
     }
 
-pub returns : goal.returns
-returns g c =
+pub returns-clause-text : goal.returns-clause-text
+returns-clause-text g c =
     let source = g.S.SourceCode.source c.args.source.now in
     let l = c.loop-group in
     let placed = c.in_ok-placed.placed.items in
     let groups = c.deref-group-items.result.now in
-    let grouped : AreGroups c.args.context source (map (λ read. read.span) c.args.reads.now) groups =
-    subst (λ (gs : List Group). AreGroups c.args.context source (map (λ read. read.span) c.args.reads.now) gs) (sym c.deref-group-items.ensures.value) c.in_ok-groups.ensures in
+    let grouped : AreGroups c.args.context source (in_order c.args.labels.now) groups =
+    are_grouped c.args.context source (in_order c.args.labels.now) _ c.in-Some.groups.items groups c.in_ok-groups.ensures (ap (option_map (λ v. v.items)) c.in-Some.is) c.deref-group-items.ensures.value in
     snippets_told c.args.context source c.args.labels.now c.args.reads.now placed groups _ _ c.data_reach_the_span.ensures c.requires.each c.requires.order c.in_ok-placed.ensures grouped
-    (groups_end c.args.context source (all_told c.args.labels.now placed) groups l.group-index (string_bytes l.out) _ c.loop-group-test.false l.invariant.rows)
+    (groups_end (group_context c.args.context (in_order c.args.labels.now)) source (all_told c.args.labels.now placed) groups l.group-index (string_bytes l.out) _ c.loop-group-test.false l.invariant.rows)
+
+pub returns-in_default-clause-refused : goal.returns-in_default-clause-refused
+returns-in_default-clause-refused g c = λ e.
+    unread_group c.args.context (g.S.SourceCode.source c.args.source.now) c.args.labels.now _ c.in_ok-groups.ensures (ap (option_map (λ v. v.items)) c.in_default.is)

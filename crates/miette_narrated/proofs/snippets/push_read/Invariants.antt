@@ -1,3 +1,5 @@
+use Rattle.miette_layout.specs.Around.{group_context}
+use Rattle.miette_layout.specs.Groups.{in_order}
 use Rattle.std.proofs.Common.{◌≡◌, ◌++◌, string_bytes, drop, map}
 use Rattle.miette_narrated.specs.Made.{all_told}
 use Rattle.miette_narrated.specs.Snippets.{snippets_of}
@@ -6,7 +8,7 @@ use Rattle.miette_narrated.proofs.snippets.push_read.Given as goal
 
 abbrev pub invariant-loop-group : goal.invariant-loop-group
 invariant-loop-group g l = record {
-  rows : string_bytes l.out ++ snippets_of l.context (g.S.SourceCode.source l.source) (all_told l.labels l.placed.items) (map (λ x. x.span) (drop l.group-index l.group-items))
-      ≡ string_bytes l.fn.out ++ snippets_of l.context (g.S.SourceCode.source l.source) (all_told l.labels l.placed.items) (map (λ x. x.span) l.group-items);
+  rows : string_bytes l.out ++ snippets_of (group_context l.context (in_order l.labels)) (g.S.SourceCode.source l.source) (all_told l.labels l.placed.items) (map (λ x. x.span) (drop l.group-index l.group-items))
+      ≡ string_bytes l.fn.out ++ snippets_of (group_context l.context (in_order l.labels)) (g.S.SourceCode.source l.source) (all_told l.labels l.placed.items) (map (λ x. x.span) l.group-items);
   at : IsAt l.placed.items l.sweep.at l.sweep.next l.sweep.running.items;
 }

@@ -1,69 +1,96 @@
-use Rattle.std.proofs.Common.{◌≡◌, ◌∙◌, ◌+◌, ◌-◌, ◌<◌, ◌≤◌, ◌++◌, ◌∷◌, ap, ap₂, arith, drop, drop-drop, length, length-drop, sym, take}
-use Rattle.std.proofs.lemmas.List.{take_rest}
-use Rattle.miette_text.specs.Ends.{line_len, plain_line}
-use Rattle.miette_text.proofs.LineWise.{line-plain, text-at, text_of}
-use Rattle.miette_text.proofs.PlainRows.{appended}
+use Rattle.std.proofs.Common.{◌≡◌, ◌∙◌, ◌+◌, ◌-◌, ◌<◌, ◌≤◌, ◌++◌, ◌∷◌, [], ap, ap₂, arith, drop, drop-drop, length, length-drop, map, sym, take}
+use Rattle.std.proofs.lemmas.List.{drop-take, take_rest}
+use Rattle.miette_text.specs.Ends.{line_len, marks_text}
+use Rattle.miette_text.specs.Sequences.{flat, spell}
+use Rattle.miette_text.specs.Woven.{beyond, cells_at, left_at, mark_text, marks_spelled, upto, woven}
+use Rattle.miette_text.proofs.LineWise.{last-line, line-at, line_text, text_of}
+use Rattle.miette_text.proofs.WovenCells.{feed-marks}
+use Rattle.miette_text.proofs.Appending.{appended}
 use Rattle.miette_text.proofs.wrap.lines.push_filled.Goals as goal
 
-pub push_line-requires : goal.push_line-requires
-push_line-requires g c =
-    let cs = c.args.codes.now in
-    let s = c.rest.start in
-    let n = c.line_len-n.result in
-    let q : n ≡ line_len (drop s cs) = c.line_len-n.ensures.value ∙ ap line_len (take_rest cs s) in
-    ap (λ k. plain_line (take k (drop s cs))) (omega arith) ∙ line-plain (drop s cs)
-
-pub returns-then-end-codes : goal.returns-then-end-codes
-returns-then-end-codes g c =
+pub returns-then-end-text : goal.returns-then-end-text
+returns-then-end-text g c =
     let u = c.args.cuts in
     let under = c.args.under in
-    let cs = c.args.codes.now in
+    let further = spell (woven 0 under.further.codes.now under.further.marks.now) in
+    let room = under.further_room in
+    let cs = c.args.text.codes.now in
+    let all = c.args.text.marks.now in
     let s = c.rest.start in
     let n = c.line_len-n.result in
+    let k = c.rest.used in
+    let m = c.in_ok-inside.inside in
+    let ms = take (length all - k) (drop k all) in
+    let mq : ms ≡ drop k all = take_rest all k in
     let o = g.S.Sink.holds c.rest.out in
-    let line = take ((s + n) - s) (drop s cs) in
-    let e : g.S.Sink.holds c.push_line.new.out ≡ o ++ g.S.Sink.spells (text_of u.hyphens u.breaks u.narrow under.further.now c.rest.room under.further_room line) = c.in_ok-push_line.ensures in
-    let all : line ≡ drop s cs = ap (λ k. take k (drop s cs)) (omega (arith, c.if-end-codes.true)) ∙ take_rest cs s in
-    e ∙ ap (λ us. o ++ g.S.Sink.spells (text_of u.hyphens u.breaks u.narrow under.further.now c.rest.room under.further_room us)) all ∙ c.rest.invariant.printed
-
-pub rest-smaller : goal.rest-smaller
-rest-smaller g c =
-    let cs = c.args.codes.now in
-    let s = c.rest.start in
-    let n = c.line_len-n.result in
-    let not_all = c.if-end-codes.false in
-    let inside = c.line_len-n.ensures.within in
-    let l = c.rest.invariant.within in
-    omega (arith, ap length (take_rest cs s), length-drop s cs)
+    let q : n ≡ line_len (drop s cs) = c.line_len-n.ensures.value ∙ ap line_len (take_rest cs s) in
+    let ends = c.if-end-text.true in
+    let whole : drop s (take (s + n) cs) ≡ drop s cs = drop-take s n cs ∙ ap (λ i. take i (drop s cs)) (omega arith) ∙ take_rest cs s in
+    let text = line_text u.hyphens u.breaks u.narrow further c.rest.room room s (drop s cs) (drop k all) in
+    let e : g.S.Sink.holds c.push_rows.new.out ≡ o ++ g.S.Sink.spells (line_text u.hyphens u.breaks u.narrow further c.rest.room room s (drop s (take (s + n) cs)) ms) = c.in_ok-inside.ensures.text in
+    let said : drop m ms ≡ left_at s (drop s (take (s + n) cs)) ms = c.in_ok-inside.ensures.left in
+    let rest = take (length all - (k + m)) (drop (k + m) all) in
+    let left : rest ≡ left_at s (drop s cs) (drop k all) =
+    take_rest all (k + m) ∙ sym (drop-drop m k all) ∙ ap (drop m) (sym mq) ∙ said ∙ ap₂ (left_at s) whole mq in
+    let f : g.S.Sink.holds c.push_marks.new.out ≡ g.S.Sink.holds c.push_rows.new.out ++ g.S.Sink.spells (marks_spelled rest) = c.in_ok-push_marks.ensures in
+    f
+    ∙ ap₂ (λ us vs. us ++ g.S.Sink.spells (marks_spelled vs)) (e ∙ ap₂ (λ us vs. o ++ g.S.Sink.spells (line_text u.hyphens u.breaks u.narrow further c.rest.room room s us vs)) whole mq) left
+    ∙ appended g.S.Sink.spells g.met.S.Sink.joins o text (marks_spelled (left_at s (drop s cs) (drop k all)))
+    ∙ ap (λ us. o ++ g.S.Sink.spells us) (sym (last-line u.hyphens u.breaks u.narrow further c.rest.room room n s (drop s cs) (drop k all) q (omega (arith, length-drop s cs))))
+    ∙ c.rest.invariant.printed
 
 pub rest-preserved : goal.rest-preserved
 rest-preserved g c =
     let u = c.args.cuts in
     let under = c.args.under in
-    let cs = c.args.codes.now in
+    let further = spell (woven 0 under.further.codes.now under.further.marks.now) in
+    let room = under.further_room in
+    let cs = c.args.text.codes.now in
+    let all = c.args.text.marks.now in
     let s = c.rest.start in
     let n = c.line_len-n.result in
+    let k = c.rest.used in
+    let m = c.in_ok-inside.inside in
+    let j = c.in_ok-behind.behind in
+    let ms = take (length all - k) (drop k all) in
+    let mq : ms ≡ drop k all = take_rest all k in
+    let rest = take (length all - (k + m)) (drop (k + m) all) in
+    let rq : rest ≡ drop (k + m) all = take_rest all (k + m) in
     let o = g.S.Sink.holds c.rest.out in
-    let line = take ((s + n) - s) (drop s cs) in
-    let text = text_of u.hyphens u.breaks u.narrow under.further.now c.rest.room under.further_room line in
-    let next = text_of u.hyphens u.breaks u.narrow under.further.now under.further_room under.further_room (drop ((s + n) + 1) cs) in
-    let e : g.S.Sink.holds c.push_line.new.out ≡ o ++ g.S.Sink.spells (text_of u.hyphens u.breaks u.narrow under.further.now c.rest.room under.further_room line) = c.in_ok-push_line.ensures in
-    let f : g.S.Sink.holds c.push_break.new.out ≡ g.S.Sink.holds c.push_line.new.out ++ g.S.Sink.spells (10 ∷ under.further.now) = c.in_ok-push_break.ensures in
     let q : n ≡ line_len (drop s cs) = c.line_len-n.ensures.value ∙ ap line_len (take_rest cs s) in
-    let not_all = c.if-end-codes.false in
+    let not_all = c.if-end-text.false in
     let inside : n ≤ length (take (length cs - s) (drop s cs)) = c.line_len-n.ensures.within in
-    let l = c.rest.invariant.within in
+    let within = c.rest.invariant.within in
+    let marked = c.rest.invariant.marked in
     let less : n < length (drop s cs) = omega (arith, ap length (take_rest cs s), length-drop s cs) in
-    let d : drop (n + 1) (drop s cs) ≡ drop ((s + n) + 1) cs = drop-drop (n + 1) s cs ∙ ap (λ k. drop k cs) (omega arith) in
-    let t : take n (drop s cs) ≡ line = ap (λ k. take k (drop s cs)) (omega arith) in
+    let line : drop s (take (s + n) cs) ≡ take n (drop s cs) = drop-take s n cs in
+    let text = line_text u.hyphens u.breaks u.narrow further c.rest.room room s (take n (drop s cs)) (drop k all) in
+    let e : g.S.Sink.holds c.push_rows.new.out ≡ o ++ g.S.Sink.spells (line_text u.hyphens u.breaks u.narrow further c.rest.room room s (drop s (take (s + n) cs)) ms) = c.in_ok-inside.ensures.text in
+    let said : drop m ms ≡ left_at s (drop s (take (s + n) cs)) ms = c.in_ok-inside.ensures.left in
+    let left : rest ≡ left_at s (take n (drop s cs)) (drop k all) =
+    rq ∙ sym (drop-drop m k all) ∙ ap (drop m) (sym mq) ∙ said ∙ ap₂ (left_at s) line mq in
+    let signs = flat (map mark_text (upto (s + n) (left_at s (take n (drop s cs)) (drop k all)))) in
+    let f : g.S.Sink.holds c.push_signs.new.out ≡ g.S.Sink.holds c.push_rows.new.out ++ g.S.Sink.spells (marks_text (cells_at (s + n) (10 ∷ []) rest)) = c.in_ok-behind.ensures.text in
+    let told : drop j rest ≡ beyond (s + n) rest = c.in_ok-behind.ensures.left in
+    let below : drop ((k + m) + j) all ≡ beyond (s + n) (left_at s (take n (drop s cs)) (drop k all)) =
+    sym (drop-drop j (k + m) all) ∙ ap (drop j) (sym rq) ∙ told ∙ ap (beyond (s + n)) left in
+    let b : g.S.Sink.holds c.push_break.new.out ≡ g.S.Sink.holds c.push_signs.new.out ++ g.S.Sink.spells (10 ∷ further) = c.in_ok-push_break.ensures in
+    let next = text_of u.hyphens u.breaks u.narrow further room room (woven ((s + n) + 1) (drop ((s + n) + 1) cs) (drop ((k + m) + j) all)) in
+    let d : drop (n + 1) (drop s cs) ≡ drop ((s + n) + 1) cs = drop-drop (n + 1) s cs ∙ ap (λ i. drop i cs) (omega arith) in
+    let printed : text_of u.hyphens u.breaks u.narrow further c.rest.room room (woven s (drop s cs) (drop k all)) ≡ (text ++ signs) ++ ((10 ∷ further) ++ next) =
+    line-at u.hyphens u.breaks u.narrow further c.rest.room room n s (drop s cs) (drop k all) q less
+    ∙ ap₂ (λ us vs. (text ++ signs) ++ ((10 ∷ further) ++ text_of u.hyphens u.breaks u.narrow further room room (woven ((s + n) + 1) us vs))) d (sym below) in
+    let row : g.S.Sink.holds c.push_rows.new.out ≡ o ++ g.S.Sink.spells text = e ∙ ap₂ (λ us vs. o ++ g.S.Sink.spells (line_text u.hyphens u.breaks u.narrow further c.rest.room room s us vs)) line mq in
+    let both : g.S.Sink.holds c.push_signs.new.out ≡ o ++ g.S.Sink.spells (text ++ signs) =
+    f ∙ ap₂ (λ us vs. us ++ g.S.Sink.spells vs) row (feed-marks (s + n) rest ∙ ap (λ us. flat (map mark_text (upto (s + n) us))) left)
+    ∙ appended g.S.Sink.spells g.met.S.Sink.joins o text signs in
     record {
       printed =
-          ap (λ us. us ++ g.S.Sink.spells next) (f ∙ ap (λ us. us ++ g.S.Sink.spells (10 ∷ under.further.now)) e)
-          ∙ appended g.S.Sink.spells g.met.S.Sink.joins (o ++ g.S.Sink.spells text) (10 ∷ under.further.now) next
-          ∙ appended g.S.Sink.spells g.met.S.Sink.joins o text ((10 ∷ under.further.now) ++ next)
-          ∙ ap (λ us. o ++ g.S.Sink.spells us)
-          (ap₂ (λ ys zs. text_of u.hyphens u.breaks u.narrow under.further.now c.rest.room under.further_room ys ++ ((10 ∷ under.further.now) ++ text_of u.hyphens u.breaks u.narrow under.further.now under.further_room under.further_room zs)) (sym t) (sym d)
-          ∙ sym (text-at u.hyphens u.breaks u.narrow under.further.now c.rest.room under.further_room n (drop s cs) q less))
+          ap (λ us. us ++ g.S.Sink.spells next) (b ∙ ap (λ us. us ++ g.S.Sink.spells (10 ∷ further)) both)
+          ∙ appended g.S.Sink.spells g.met.S.Sink.joins (o ++ g.S.Sink.spells (text ++ signs)) (10 ∷ further) next
+          ∙ appended g.S.Sink.spells g.met.S.Sink.joins o (text ++ signs) ((10 ∷ further) ++ next)
+          ∙ ap (λ us. o ++ g.S.Sink.spells us) (sym printed)
           ∙ c.rest.invariant.printed;
       within = omega (arith, length-drop s cs);
+      marked = omega (arith, c.in_ok-inside.ensures.within, c.in_ok-behind.ensures.within, ap length mq, ap length rq, length-drop k all, length-drop (k + m) all);
     }

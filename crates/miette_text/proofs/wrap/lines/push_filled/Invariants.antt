@@ -1,13 +1,16 @@
 use Rattle.std.proofs.Common.{◌≡◌, ◌≤◌, ◌-◌, ◌++◌, drop, length}
+use Rattle.miette_text.specs.Sequences.{spell}
+use Rattle.miette_text.specs.Woven.{woven}
 use Rattle.miette_text.proofs.LineWise.{text_of}
 use Rattle.miette_text.proofs.wrap.lines.push_filled.Given as goal
 
 abbrev pub invariant-rest : goal.invariant-rest
 invariant-rest g l = record {
-  printed : g.S.Sink.holds l.out ++ g.S.Sink.spells (text_of l.cuts.hyphens l.cuts.breaks l.cuts.narrow l.under.further.now l.room l.under.further_room (drop l.start l.codes))
-      ≡ g.S.Sink.holds l.fn.out ++ g.S.Sink.spells (text_of l.cuts.hyphens l.cuts.breaks l.cuts.narrow l.under.further.now l.under.room l.under.further_room l.codes);
-  within : l.start ≤ length l.codes;
+  printed : g.S.Sink.holds l.out ++ g.S.Sink.spells (text_of l.cuts.hyphens l.cuts.breaks l.cuts.narrow (spell (woven 0 l.under.further.codes.now l.under.further.marks.now)) l.room l.under.further_room (woven l.start (drop l.start l.text.codes.now) (drop l.used l.text.marks.now)))
+      ≡ g.S.Sink.holds l.fn.out ++ g.S.Sink.spells (text_of l.cuts.hyphens l.cuts.breaks l.cuts.narrow (spell (woven 0 l.under.further.codes.now l.under.further.marks.now)) l.under.room l.under.further_room (woven 0 l.text.codes.now l.text.marks.now));
+  within : l.start ≤ length l.text.codes.now;
+  marked : l.used ≤ length l.text.marks.now;
 }
 
 abbrev pub decreases-rest : goal.decreases-rest
-decreases-rest g l = length l.codes - l.start
+decreases-rest g l = length l.text.codes.now - l.start

@@ -1,7 +1,7 @@
 use Rattle.std.proofs.Common.{◌≡◌, drop}
-use Rattle.miette_text.specs.PieceViews.{view_cells}
+use Rattle.miette_text.specs.Ends.{plain_cells}
 use Rattle.miette_text.specs.Wrapping.{all_white}
 use Rattle.miette_text.proofs.wrap.whole.all_white.Given as goal
 
-abbrev pub invariant-loop-cell : goal.invariant-loop-cell
-invariant-loop-cell l = all_white (view_cells (drop l.cell-index l.cells)) ≡ all_white (view_cells l.cells)
+abbrev pub invariant-loop-code : goal.invariant-loop-code
+invariant-loop-code l = all_white (plain_cells (drop l.code-index l.line)) ≡ all_white (plain_cells l.line)

@@ -1,5 +1,10 @@
-use Rattle.std.proofs.Common.{◌+◌}
+use Rattle.std.proofs.Common.{◌∙◌, ap, sym, take}
+use Rattle.miette_text.specs.Woven.{woven}
+use Rattle.miette_text.proofs.WovenWhole.{trimmed-woven}
 use Rattle.miette_text.proofs.wrap.whole.trimmed.Goals as goal
 
-pub is_behind-requires : goal.is_behind-requires
-is_behind-requires c = c.spaces_begin-end.ensures (c.loop-i.i + 1)
+pub returns : goal.returns
+returns c =
+    let cs = c.args.indent.codes.now in
+    let ms = c.args.indent.marks.now in
+    ap (λ n. woven 0 (take n cs) ms) c.bare_len-bare.ensures.value ∙ sym (trimmed-woven 0 cs ms)

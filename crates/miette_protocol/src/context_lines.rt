@@ -1,0 +1,45 @@
+//! A label's own number of context lines, as `serde` writes and reads it.
+
+ghost use Rattle.std.specs.Prelude.{◌≡◌, IfOk, OnOk};
+ghost use Rattle.std.specs.Option.{option_map};
+ghost use Rattle.std.specs.Int.NonZero.{non_zero_usize_get};
+ghost use Rattle.miette_protocol.specs.ContextLines.{ReadsLines, WritesLines};
+ghost use Rattle.miette_protocol.specs.Meaning.{counted};
+
+use serde::{Deserialize, Deserializer, Format, Serialize, Serializer};
+use std::alloc::Global;
+use std::num::NonZeroUsize;
+
+/// Writes the number that is there.
+pub(crate) fn serialize<S: Serializer>(
+    lines: &Option<NonZeroUsize>,
+    out: &mut S,
+) -> Result<(), S::Error>
+    ensures { OnOk result (WritesLines (option_map non_zero_usize_get lines.now) (S.written out.old) (S.written out.new)) }
+{
+    match lines {
+        Some(number) => number.get().serialize(out),
+        None => out.unit(),
+    }
+}
+
+/// Reads a number. `null` and 0 are none.
+pub(crate) fn deserialize<F: Format>(
+    alloc: Global,
+    from: &mut Deserializer<'_, '_, F>,
+) -> Result<Option<NonZeroUsize>, F::Error>
+    ensures { IfOk result (λ o. ReadsLines F.gives F.stays from.old (option_map non_zero_usize_get o) from.new) }
+{
+    if from.take_none()? {
+        return Ok(None);
+    }
+    let number = usize::deserialize(alloc, from)?;
+    Ok(nonzero(number))
+}
+
+/// The number, unless it is 0.
+fn nonzero(number: usize) -> Option<NonZeroUsize>
+    ensures { option_map non_zero_usize_get result ≡ counted (Some number) }
+{
+    NonZeroUsize::new(number)
+}

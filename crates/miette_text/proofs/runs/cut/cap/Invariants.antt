@@ -1,0 +1,6 @@
+use Rattle.std.proofs.Common.{◌≡◌, ◌++◌, drop, map, take}
+use Rattle.miette_text.specs.Feeds.{capped}
+use Rattle.miette_text.proofs.runs.cut.cap.Given as goal
+
+abbrev pub invariant-loop-i : goal.invariant-loop-i
+invariant-loop-i l = l.marks ≡ map (capped l.at) (take l.i l.fn.marks) ++ drop l.i l.fn.marks

@@ -1,0 +1,7 @@
+use Rattle.std.proofs.Common.{◌∙◌, ap, sym}
+use Rattle.miette_text.specs.Woven.{is_whole, sign_text}
+use Rattle.miette_text.proofs.Settled.{start-whole}
+use Rattle.miette_text.proofs.runs.reading.is_whole_sign.Goals as goal
+
+pub returns-in-Begin : goal.returns-in-Begin
+returns-in-Begin c = sym (ap (λ s. is_whole (sign_text s)) c.in-Begin.is ∙ start-whole c.in-Begin.field-0)

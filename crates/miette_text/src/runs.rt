@@ -1,0 +1,270 @@
+//! Runs: texts in styles, links, and the sequences that a text brought along, kept apart from the characters
+//! between them until they are printed.
+
+ghost use Rattle.std.specs.Prelude.{◌≡◌, ◌++◌, ◌∷◌, [], List, IfOk, OnOk, chars, map, true};
+ghost use Rattle.miette_text.specs.Runs.{colour_start, colour_stop, link_start, printed_run};
+ghost use Rattle.miette_text.specs.Sequences.{Character, Sequence, Token, spell};
+ghost use Rattle.miette_text.specs.Woven.{is_whole, sign_text, woven};
+
+pub(crate) mod cells;
+mod colours;
+mod cut;
+pub(crate) mod marks;
+pub mod reading;
+pub mod sign;
+pub mod sink;
+
+use crate::runs::colours::{begun_style, is_plain};
+use crate::runs::sign::{Mark, Sign};
+use crate::style::Style;
+use crate::wrap::sequences::sequence_at;
+use std::alloc::{AllocError, Global};
+use std::marker::Model;
+
+/// Characters, and in order the signs that stand between them, each with how many characters are before it.
+///
+/// A run in a style is what stands between the sign that begins the style and the one that ends it. Where memory is wanting, what
+/// the runs hold is open: they are to be dropped.
+#[derive(Debug, Drop)]
+pub struct Runs {
+    codes: Vec<char>,
+    marks: Vec<Mark>,
+}
+
+impl Model for Runs {
+    ghost use Rattle.std.specs.Prelude.{List, length};
+    ghost use Rattle.miette_text.specs.Sequences.{Token};
+    ghost use Rattle.miette_text.specs.Woven.{AreWithin, woven};
+
+    ghost Value = { List Token };
+
+    ghost view = { λ r. woven 0 r.codes.items r.marks.items };
+
+    ghost invariant = { λ r. AreWithin (length r.codes.items) r.marks.items };
+}
+
+impl Runs {
+    /// No runs.
+    pub fn new(alloc: Global) -> Self
+        ensures { result ≡ [] }
+    {
+        Runs {
+            codes: Vec::new(alloc),
+            marks: Vec::new(alloc),
+        }
+    }
+
+    /// Characters alone.
+    pub(crate) fn of_characters(alloc: Global, codes: Vec<char>) -> Self
+        ensures { result ≡ map Character codes.items }
+    {
+        Runs {
+            codes,
+            marks: Vec::new(alloc),
+        }
+    }
+
+    /// Appends a character.
+    pub fn push(&mut self, c: char) -> Result<(), AllocError>
+        ensures tokens { OnOk result (self.new ≡ self.old ++ Character c ∷ []) }
+        ensures text { OnOk result (spell self.new ≡ spell self.old ++ c ∷ []) }
+    {
+        self.codes.push(c)?;
+        Ok(())
+    }
+
+    /// Appends characters.
+    pub fn push_chars(&mut self, codes: &[char]) -> Result<(), AllocError>
+        ensures tokens { OnOk result (self.new ≡ self.old ++ map Character codes.now) }
+        ensures text { OnOk result (spell self.new ≡ spell self.old ++ codes.now) }
+    {
+        self.codes.extend_from_slice(codes)?;
+        Ok(())
+    }
+
+    /// Appends the characters of a text.
+    pub fn push_str(&mut self, text: &str) -> Result<(), AllocError>
+        ensures tokens { OnOk result (self.new ≡ self.old ++ map Character (chars text.now)) }
+        ensures text { OnOk result (spell self.new ≡ spell self.old ++ chars text.now) }
+    {
+        for c in text.chars() {
+            self.push(c)?;
+        }
+        Ok(())
+    }
+
+    // A sign that is its own.
+    fn push_own(&mut self, sign: Sign) -> Result<(), AllocError>
+        ensures tokens { OnOk result (self.new ≡ self.old ++ Sequence (sign_text sign) ∷ []) }
+        ensures text { OnOk result (spell self.new ≡ spell self.old ++ sign_text sign) }
+    {
+        let at = self.codes.len();
+        self.marks.push(Mark { at, sign })?;
+        Ok(())
+    }
+
+    /// Appends a copy of a sign.
+    pub(crate) fn push_sign(&mut self, sign: &Sign) -> Result<(), AllocError>
+        ensures tokens { OnOk result (self.new ≡ self.old ++ Sequence (sign_text sign.now) ∷ []) }
+        ensures text { OnOk result (spell self.new ≡ spell self.old ++ sign_text sign.now) }
+    {
+        let copy = match sign {
+            Sign::Begin(style) => Sign::Begin(*style),
+            Sign::End => Sign::End,
+            Sign::Sequence(codes) => {
+                Sign::Sequence(Vec::from_slice(*self.codes.allocator(), codes)?)
+            }
+        };
+        self.push_own(copy)?;
+        Ok(())
+    }
+
+    /// Appends codes as one sign.
+    pub(crate) fn push_codes_as_sign(&mut self, codes: &[char]) -> Result<(), AllocError>
+        ensures tokens { OnOk result (self.new ≡ self.old ++ Sequence codes.now ∷ []) }
+        ensures text { OnOk result (spell self.new ≡ spell self.old ++ codes.now) }
+    {
+        if is_end(codes) {
+            return self.push_own(Sign::End);
+        }
+        if let Some(style) = begun_style(codes) {
+            return self.push_own(Sign::Begin(style));
+        }
+        let alloc = *self.codes.allocator();
+        let copy = Vec::from_slice(alloc, codes)?;
+        self.push_own(Sign::Sequence(copy))
+    }
+
+    /// Begins a style, in which what is appended next is printed.
+    pub fn begin(&mut self, style: Style) -> Result<(), AllocError>
+        ensures tokens { OnOk result (self.new ≡ self.old ++ Sequence (colour_start style) ∷ []) }
+        ensures text { OnOk result (spell self.new ≡ spell self.old ++ colour_start style) }
+    {
+        self.push_own(Sign::Begin(style))
+    }
+
+    /// Ends the style.
+    pub fn end(&mut self) -> Result<(), AllocError>
+        ensures tokens { OnOk result (self.new ≡ self.old ++ Sequence colour_stop ∷ []) }
+        ensures text { OnOk result (spell self.new ≡ spell self.old ++ colour_stop) }
+    {
+        self.push_own(Sign::End)
+    }
+
+    /// Appends a text in a style.
+    pub fn push_run(&mut self, style: Style, text: &str) -> Result<(), AllocError>
+        ensures text { OnOk result (spell self.new ≡ spell self.old ++ printed_run style (chars text.now)) }
+    {
+        if text.is_empty() || is_plain(style) {
+            self.push_str(text)?;
+            return Ok(());
+        }
+        self.begin(style)?;
+        self.push_str(text)?;
+        self.end()?;
+        Ok(())
+    }
+
+    /// Appends characters in a style.
+    pub fn push_run_chars(&mut self, style: Style, text: &[char]) -> Result<(), AllocError>
+        ensures text { OnOk result (spell self.new ≡ spell self.old ++ printed_run style text.now) }
+    {
+        if text.is_empty() || is_plain(style) {
+            return self.push_chars(text);
+        }
+        self.begin(style)?;
+        self.push_chars(text)?;
+        self.end()
+    }
+
+    // A sequence as a sign, or its characters where it isn't a whole one.
+    fn push_sequence(&mut self, codes: Vec<char>) -> Result<(), AllocError>
+        ensures text { OnOk result (spell self.new ≡ spell self.old ++ codes.items) }
+    {
+        if is_whole(&codes) {
+            self.push_own(Sign::Sequence(codes))
+        } else {
+            self.push_chars(&codes)
+        }
+    }
+
+    /// Begins a link to a URL.
+    pub fn push_link(&mut self, url: &str) -> Result<(), AllocError>
+        ensures text { OnOk result (spell self.new ≡ spell self.old ++ link_start (chars url.now)) }
+    {
+        let alloc = *self.codes.allocator();
+        self.push_sequence(link_codes(alloc, url)?)
+    }
+
+    /// Ends the link.
+    pub fn push_link_end(&mut self) -> Result<(), AllocError>
+        ensures text { OnOk result (spell self.new ≡ spell self.old ++ link_start []) }
+    {
+        self.push_link("")?;
+        Ok(())
+    }
+
+    /// Appends other runs.
+    pub fn append(&mut self, more: &Runs) -> Result<(), AllocError>
+        ensures tokens { OnOk result (self.new ≡ self.old ++ more.now) }
+        ensures text { OnOk result (spell self.new ≡ spell self.old ++ spell more.now) }
+    {
+        let parts = more.parts();
+        let mut start: usize = 0;
+        for mark in parts.marks {
+            let rest = &parts.codes[start..];
+            let gap = mark.at.saturating_sub(start).min(rest.len());
+            self.push_chars(&rest[..gap])?;
+            self.push_sign(&mark.sign)?;
+            start += gap;
+        }
+        self.push_chars(&parts.codes[start..])?;
+        Ok(())
+    }
+
+    /// The characters, and the signs between them.
+    pub(crate) fn parts(&self) -> Parts<'_>
+        ensures { woven 0 result.codes.now result.marks.now ≡ self.now }
+    {
+        Parts {
+            codes: self.codes.as_slice(),
+            marks: self.marks.as_slice(),
+        }
+    }
+}
+
+// What begins a link.
+fn link_codes(alloc: Global, url: &str) -> Result<Vec<char>, AllocError>
+    ensures { IfOk result (λ v. v.items ≡ link_start (chars url.now)) }
+{
+    let mut codes = Vec::from_slice(alloc, &['\u{1B}', ']', '8', ';', ';'])?;
+    for c in url.chars() {
+        codes.push(c)?;
+    }
+    codes.extend_from_slice(&['\u{1B}', '\\'])?;
+    Ok(codes)
+}
+
+// Whether codes end a style.
+fn is_end(codes: &[char]) -> bool
+    ensures { result ≡ true → codes.now ≡ colour_stop }
+{
+    match codes {
+        [a, b, c, d] => *a == '\u{1B}' && *b == '[' && *c == '0' && *d == 'm',
+        _ => false,
+    }
+}
+
+/// Whether codes are one whole sequence.
+pub(crate) fn is_whole(codes: &[char]) -> bool
+    ensures { result ≡ is_whole codes.now }
+{
+    !codes.is_empty() && sequence_at(codes, 0, false) == codes.len()
+}
+
+/// The characters of runs, and the signs between them.
+#[derive(Clone, Copy)]
+pub(crate) struct Parts<'a> {
+    pub(crate) codes: &'a [char],
+    pub(crate) marks: &'a [Mark],
+}

@@ -1,0 +1,120 @@
+//! Styles, printed.
+
+ghost use Rattle.std.specs.Prelude.{◌≡◌, ◌++◌, ◌∷◌, ◌||◌, [], IfOk, IfSome, OnOk, decimal, false, is_some, string_bytes};
+ghost use Rattle.miette_text.specs.Runs.{colour_start, flag, foreground, foreground_codes, style_codes};
+ghost use Rattle.miette_text.specs.Tame.{is_nil};
+ghost use Rattle.miette_text.specs.Woven.{further_codes};
+
+use crate::style::{Color, Style};
+use itoa::Buffer;
+use std::alloc::AllocError;
+
+/// Whether nothing is set in a style.
+pub(crate) fn is_plain(style: Style) -> bool
+    ensures { result ≡ is_nil (style_codes style) }
+{
+    style.fg.is_none() && !style.bold && !style.dimmed && !style.italic && !style.underline
+}
+
+fn push_number(out: &mut String, number: u8) -> Result<(), AllocError>
+    ensures { OnOk result (string_bytes out.new ≡ string_bytes out.old ++ decimal number) }
+{
+    let mut digits = Buffer::new();
+    out.push_str(digits.format(number))
+}
+
+fn push_foreground(out: &mut String, color: Color) -> Result<(), AllocError>
+    ensures { OnOk result (string_bytes out.new ≡ string_bytes out.old ++ foreground color) }
+{
+    match color {
+        Color::Red => out.push_str("31"),
+        Color::Green => out.push_str("32"),
+        Color::Yellow => out.push_str("33"),
+        Color::Blue => out.push_str("34"),
+        Color::Magenta => out.push_str("35"),
+        Color::Cyan => out.push_str("36"),
+        Color::Rgb(r, g, b) => {
+            out.push_str("38;2;")?;
+            push_number(out, r)?;
+            out.push_str(";")?;
+            push_number(out, g)?;
+            out.push_str(";")?;
+            push_number(out, b)
+        }
+    }
+}
+
+// The code of the colour, where there is one; gives whether there is.
+fn push_color(out: &mut String, color: Option<Color>) -> Result<bool, AllocError>
+    ensures text { OnOk result (string_bytes out.new ≡ string_bytes out.old ++ further_codes false (foreground_codes color)) }
+    ensures some { IfOk result (λ b. b ≡ is_some color) }
+{
+    match color {
+        None => Ok(false),
+        Some(color) => {
+            push_foreground(out, color)?;
+            Ok(true)
+        }
+    }
+}
+
+// The code, where it is on, behind a `;` where another one stands before it; gives whether any stands there now.
+fn push_flag(out: &mut String, some: bool, on: bool, code: &str) -> Result<bool, AllocError>
+    ensures text { OnOk result (string_bytes out.new ≡ string_bytes out.old ++ further_codes some (flag on code.now)) }
+    ensures some { IfOk result (λ b. b ≡ (some || on)) }
+{
+    if !on {
+        return Ok(some);
+    }
+    if some {
+        out.push_str(";")?;
+    }
+    out.push_str(code)?;
+    Ok(true)
+}
+
+/// Appends what begins a style.
+pub(crate) fn push_style(out: &mut String, style: Style) -> Result<(), AllocError>
+    ensures { OnOk result (string_bytes out.new ≡ string_bytes out.old ++ colour_start style) }
+{
+    out.push_str("\u{1B}[")?;
+    let some = push_color(out, style.fg)?;
+    let some = push_flag(out, some, style.bold, "1")?;
+    let some = push_flag(out, some, style.dimmed, "2")?;
+    let some = push_flag(out, some, style.italic, "3")?;
+    push_flag(out, some, style.underline, "4")?;
+    out.push_str("m")?;
+    Ok(())
+}
+
+// One of the terminal's own colours, by the digit behind the `3` of its code.
+fn own_color(digit: char) -> Option<Color>
+    ensures { IfSome result (λ color. foreground color ≡ 51 ∷ digit ∷ []) }
+{
+    match digit {
+        '1' => Some(Color::Red),
+        '2' => Some(Color::Green),
+        '3' => Some(Color::Yellow),
+        '4' => Some(Color::Blue),
+        '5' => Some(Color::Magenta),
+        '6' => Some(Color::Cyan),
+        _ => None,
+    }
+}
+
+/// The style that codes begin, where it is one of the terminal's own colours and nothing else.
+pub(crate) fn begun_style(codes: &[char]) -> Option<Style>
+    ensures { IfSome result (λ style. colour_start style ≡ codes.now) }
+{
+    let [a, b, c, d, e] = codes else {
+        return None;
+    };
+    if *a != '\u{1B}' || *b != '[' || *c != '3' || *e != 'm' {
+        return None;
+    }
+    let color = own_color(*d)?;
+    Some(Style {
+        fg: Some(color),
+        ..Style::new()
+    })
+}

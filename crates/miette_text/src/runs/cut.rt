@@ -1,0 +1,88 @@
+//! Runs without the line feeds at an end.
+
+ghost use Rattle.std.specs.Prelude.{◌≡◌, ◌≤◌, length, map};
+ghost use Rattle.miette_text.specs.Cutting.{cut_end, cut_front};
+ghost use Rattle.miette_text.specs.Feeds.{capped, feeds_len, kept_len, lowered};
+
+use crate::runs::Runs;
+use crate::runs::marks::{are_colours, upto_len};
+use crate::runs::sign::Mark;
+
+// How many line feeds at the front have only colours before and between them.
+fn feeds_len(codes: &[char], marks: &[Mark]) -> usize
+    ensures value { result ≡ feeds_len 0 codes.now marks.now }
+    ensures within { result ≤ length codes.now }
+{
+    let mut left = marks;
+    for (i, code) in codes.iter().enumerate() {
+        let (before, behind) = left.split_at(upto_len(i, left));
+        if *code != '\n' || !are_colours(before) {
+            return i;
+        }
+        left = behind;
+    }
+    codes.len()
+}
+
+// How many characters are before the line feeds and colours at the end.
+fn kept_len(codes: &[char], marks: &[Mark]) -> usize
+    ensures value { result ≡ kept_len 0 codes.now marks.now }
+    ensures within { result ≤ length codes.now }
+{
+    let mut left = marks;
+    let mut kept: usize = 0;
+    for (i, code) in codes.iter().enumerate() {
+        let (before, behind) = left.split_at(upto_len(i, left));
+        if *code != '\n' {
+            kept = i + 1;
+        } else if !are_colours(before) {
+            kept = i;
+        }
+        left = behind;
+    }
+    if are_colours(left) { kept } else { codes.len() }
+}
+
+// So many characters less are before each mark.
+fn lower(marks: &mut [Mark], by: usize)
+    ensures { marks.new ≡ map (lowered by) marks.old }
+{
+    for i in 0..marks.len() {
+        let mark = &mut marks[i];
+        mark.at = mark.at.saturating_sub(by);
+    }
+}
+
+// No more than so many characters are before each mark.
+fn cap(marks: &mut [Mark], at: usize)
+    ensures { marks.new ≡ map (capped at) marks.old }
+{
+    for i in 0..marks.len() {
+        let mark = &mut marks[i];
+        mark.at = mark.at.min(at);
+    }
+}
+
+impl Runs {
+    /// Cuts the line feeds at the front; colours before and between them stay.
+    pub(crate) fn cut_front(&mut self)
+        ensures { self.new ≡ cut_front self.old }
+    {
+        let n = feeds_len(&self.codes, &self.marks);
+        if 0 < n {
+            self.codes.drain(..n);
+            lower(&mut self.marks, n);
+        }
+    }
+
+    /// Cuts the line feeds at the end; colours behind and between them stay.
+    pub(crate) fn cut_end(&mut self)
+        ensures { self.new ≡ cut_end self.old }
+    {
+        let n = kept_len(&self.codes, &self.marks);
+        if n < self.codes.len() {
+            self.codes.truncate(n);
+            cap(&mut self.marks, n);
+        }
+    }
+}

@@ -1,0 +1,79 @@
+//! Marks in order: which stand before a character, and whether they are colours.
+
+ghost use Rattle.std.specs.Prelude.{◌≡◌, ◌≤◌, drop, length, take};
+ghost use Rattle.miette_text.specs.Feeds.{are_colours};
+ghost use Rattle.miette_text.specs.Sequences.{is_parameter};
+ghost use Rattle.miette_text.specs.Tame.{is_colour, is_colour_end};
+ghost use Rattle.miette_text.specs.Woven.{beyond, sign_text, upto};
+
+use crate::runs::sign::{Mark, Sign};
+
+/// How many marks at the front stand before the character at a place.
+pub(crate) fn upto_len(at: usize, marks: &[Mark]) -> usize
+    ensures before { take result marks.now ≡ upto at marks.now }
+    ensures behind { drop result marks.now ≡ beyond at marks.now }
+    ensures within { result ≤ length marks.now }
+{
+    for (i, mark) in marks.iter().enumerate() {
+        if at < mark.at {
+            return i;
+        }
+    }
+    marks.len()
+}
+
+fn is_parameter(c: char) -> bool
+    ensures { result ≡ is_parameter c }
+{
+    ('0' <= c && c <= '9') || c == ';'
+}
+
+// Digits and `;`, and then one `m`.
+fn is_colour_end(codes: &[char]) -> bool
+    ensures { result ≡ is_colour_end codes.now }
+{
+    match codes {
+        [] => false,
+        [c, rest @ ..] => {
+            if *c == 'm' {
+                rest.is_empty()
+            } else {
+                is_parameter(*c) && is_colour_end(rest)
+            }
+        }
+    }
+}
+
+fn is_colour(codes: &[char]) -> bool
+    ensures { result ≡ is_colour codes.now }
+{
+    match codes {
+        [escape, bracket, rest @ ..] => {
+            *escape == '\u{1B}' && *bracket == '[' && is_colour_end(rest)
+        }
+        _ => false,
+    }
+}
+
+// Whether a sign is a colour: what begins or ends a style always is.
+fn is_colour_sign(sign: &Sign) -> bool
+    ensures { result ≡ is_colour (sign_text sign.now) }
+{
+    match sign {
+        Sign::Begin(_) => true,
+        Sign::End => true,
+        Sign::Sequence(codes) => is_colour(codes),
+    }
+}
+
+/// Whether all of the marks are colours.
+pub(crate) fn are_colours(marks: &[Mark]) -> bool
+    ensures { result ≡ are_colours marks.now }
+{
+    for mark in marks {
+        if !is_colour_sign(&mark.sign) {
+            return false;
+        }
+    }
+    true
+}

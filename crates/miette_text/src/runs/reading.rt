@@ -1,0 +1,135 @@
+//! Texts read into runs, and runs printed.
+
+ghost use Rattle.std.specs.Prelude.{◌≡◌, IfOk, chars, encode_utf8_all, string_bytes, true};
+ghost use Rattle.miette_text.specs.Sequences.{spell, tokens};
+ghost use Rattle.miette_text.specs.Tame.{no_escape};
+ghost use Rattle.miette_text.specs.Woven.{are_whole, is_whole, sign_text, woven};
+ghost use Rattle.miette_text.specs.Wrapping.{columns_of};
+
+use crate::runs::cells::push_all;
+use crate::runs::sign::{Mark, Sign};
+use crate::runs::{Parts, Runs, is_whole};
+use crate::wrap::sequences::{sequence_at, stays_open};
+use crate::wrap::words::token_columns;
+use std::alloc::{AllocError, Global};
+
+fn codes_of(alloc: Global, text: &str) -> Result<Vec<char>, AllocError>
+    ensures { IfOk result (λ v. v.items ≡ chars text.now) }
+{
+    text.chars().collect(alloc)
+}
+
+fn has_no_escape(codes: &[char]) -> bool
+    ensures { result ≡ no_escape codes.now }
+{
+    for code in codes {
+        if *code == '\u{1B}' {
+            return false;
+        }
+    }
+    true
+}
+
+// Cuts a text into characters and sequences.
+fn cut(alloc: Global, codes: &[char]) -> Result<Runs, AllocError>
+    ensures { IfOk result (λ r. r ≡ tokens codes.now) }
+{
+    let mut found = Runs::new(alloc);
+    let mut i: usize = 0;
+    let mut unfinished = false;
+    'rest: while i < codes.len() {
+        let len = sequence_at(codes, i, unfinished);
+        if len == 0 {
+            found.push(codes[i])?;
+            unfinished = stays_open(codes, i, unfinished);
+            i += 1;
+        } else {
+            found.push_codes_as_sign(&codes[i..i + len])?;
+            i += len;
+        }
+    }
+    Ok(found)
+}
+
+/// The runs that characters spell: each whole sequence in them is a sign.
+pub fn read(alloc: Global, codes: Vec<char>) -> Result<Runs, AllocError>
+    ensures tokens { IfOk result (λ r. r ≡ tokens codes.items) }
+    ensures text { IfOk result (λ r. spell r ≡ codes.items) }
+{
+    if has_no_escape(&codes) {
+        return Ok(Runs::of_characters(alloc, codes));
+    }
+    let found = cut(alloc, &codes)?;
+    Ok(found)
+}
+
+/// The runs that a text spells.
+pub fn read_text(alloc: Global, text: &str) -> Result<Runs, AllocError>
+    ensures tokens { IfOk result (λ r. r ≡ tokens (chars text.now)) }
+    ensures text { IfOk result (λ r. spell r ≡ chars text.now) }
+{
+    let codes = codes_of(alloc, text)?;
+    read(alloc, codes)
+}
+
+// Whether a sign prints one whole sequence.
+fn is_whole_sign(sign: &Sign) -> bool
+    ensures { result ≡ is_whole (sign_text sign.now) }
+{
+    match sign {
+        Sign::Begin(_) => true,
+        Sign::End => true,
+        Sign::Sequence(codes) => is_whole(codes),
+    }
+}
+
+fn are_whole(marks: &[Mark]) -> bool
+    ensures { result ≡ are_whole marks.now }
+{
+    for mark in marks {
+        if !is_whole_sign(&mark.sign) {
+            return false;
+        }
+    }
+    true
+}
+
+/// Whether what runs print surely reads as these runs again.
+pub(crate) fn is_settled(runs: Parts<'_>) -> bool
+    ensures { result ≡ true → tokens (spell (woven 0 runs.entry.codes.now runs.entry.marks.now)) ≡ woven 0 runs.entry.codes.now runs.entry.marks.now }
+{
+    has_no_escape(runs.codes) && are_whole(runs.marks)
+}
+
+/// The runs that what runs print reads as.
+pub(crate) fn reread(alloc: Global, runs: &Runs) -> Result<Runs, AllocError>
+    ensures { IfOk result (λ r. r ≡ tokens (spell runs.now)) }
+{
+    let text = print(alloc, runs)?;
+    let found = read_text(alloc, text.as_str())?;
+    Ok(found)
+}
+
+/// What runs print.
+pub fn print(alloc: Global, runs: &Runs) -> Result<String, AllocError>
+    ensures { IfOk result (λ s. string_bytes s ≡ encode_utf8_all (spell runs.now)) }
+{
+    let parts = runs.parts();
+    let mut text = String::with_capacity(alloc, parts.codes.len())?;
+    push_all(&mut text, parts)?;
+    Ok(text)
+}
+
+/// How many columns runs have, as they are printed.
+pub fn columns_of(alloc: Global, runs: &Runs) -> Result<usize, AllocError>
+    ensures { IfOk result (λ n. n ≡ columns_of (tokens (spell runs.now))) }
+{
+    let parts = runs.parts();
+    if is_settled(parts) {
+        let columns = token_columns(parts)?;
+        return Ok(columns);
+    }
+    let again = reread(alloc, runs)?;
+    let columns = token_columns(again.parts())?;
+    Ok(columns)
+}

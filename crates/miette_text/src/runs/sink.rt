@@ -1,0 +1,76 @@
+//! What runs are appended to: a text, which prints them, or runs again.
+
+ghost use Rattle.std.specs.Prelude.{◌≡◌, ◌++◌, ℕ, List, [], OnOk, encode_utf8_all, refl, string_bytes};
+ghost use Rattle.miette_text.specs.Sequences.{spell};
+ghost use Rattle.miette_text.specs.Sinks.{encode-joins};
+ghost use Rattle.miette_text.specs.Woven.{sign_text};
+
+use crate::runs::Runs;
+use crate::runs::colours::push_style;
+use crate::runs::sign::Sign;
+use std::alloc::AllocError;
+
+/// What characters and signs are appended to.
+pub trait Sink {
+    ghost holds: { Self → List ℕ };
+
+    ghost spells: { List ℕ → List ℕ };
+
+    /// Appends characters; after an error some of them.
+    fn push_codes(&mut self, codes: &[char]) -> Result<(), AllocError>
+        ensures { OnOk result (holds self.new ≡ holds self.old ++ spells codes.now) };
+
+    /// Appends a sign; after an error a beginning of it.
+    fn push_sign(&mut self, sign: &Sign) -> Result<(), AllocError>
+        ensures { OnOk result (holds self.new ≡ holds self.old ++ spells (sign_text sign.now)) };
+
+    ghost nothing: { spells [] ≡ [] };
+
+    ghost joins: { (a b : List ℕ) → spells (a ++ b) ≡ spells a ++ spells b };
+}
+
+impl Sink for String {
+    ghost holds = { string_bytes };
+
+    ghost spells = { encode_utf8_all };
+
+    ghost nothing = { refl };
+
+    ghost joins = { encode-joins };
+
+    fn push_codes(&mut self, codes: &[char]) -> Result<(), AllocError> {
+        for code in codes {
+            self.push(*code)?;
+        }
+        Ok(())
+    }
+
+    fn push_sign(&mut self, sign: &Sign) -> Result<(), AllocError> {
+        match sign {
+            Sign::Begin(style) => {
+                push_style(self, *style)?;
+                Ok(())
+            }
+            Sign::End => self.push_str("\u{1B}[0m"),
+            Sign::Sequence(codes) => self.push_codes(codes),
+        }
+    }
+}
+
+impl Sink for Runs {
+    ghost holds = { spell };
+
+    ghost spells = { λ codes. codes };
+
+    ghost nothing = { refl };
+
+    ghost joins = { λ a b. refl };
+
+    fn push_codes(&mut self, codes: &[char]) -> Result<(), AllocError> {
+        self.push_chars(codes)
+    }
+
+    fn push_sign(&mut self, sign: &Sign) -> Result<(), AllocError> {
+        Runs::push_sign(self, sign)
+    }
+}
