@@ -14,9 +14,10 @@ use Rattle.miette_handlers.specs.Indents.{narrowed}
 use Rattle.miette_handlers.specs.Parts.{SnippetRows, rows_text, under_arrow, title_text, list_of}
 use Rattle.miette_handlers.specs.Printed.{always_reads, all_read, printed, printed_causes, printed_related, printed_inner, printed_sibling}
 use Rattle.miette_handlers.specs.Snippets.{layout_settings}
-use Rattle.miette_handlers.specs.Text.{ends_there, are_last, only_if, body, inner_text, causes_text, related_text, report_text, report_over}
+use Rattle.miette_handlers.specs.Text.{ends_there, are_last, only_if, body, inner_text, causes_text, related_text, report_text}
 use Rattle.miette_handlers.specs.Answered.{IsAnswer, AreCauseAnswers, AreRelatedAnswers, AreAnswers}
 use Rattle.miette_handlers.proofs.Lists.{both_read}
+use Rattle.miette_handlers.proofs.Outermost.{report_over}
 
 -- ---- the parts of such answers
 

@@ -9,10 +9,12 @@ pub mod PartFading
 pub mod ReportFading
 pub mod Sizes
 pub mod Lists
+pub mod Outermost
 pub mod Steps
 pub mod TextLaws
 pub mod Only
 pub mod Printed
+pub mod Paths
 pub mod DrawnRows
 pub mod SnippetsFading
 pub mod Styled

@@ -11,13 +11,14 @@ use Rattle.miette_handlers.specs.Settings.{Settings}
 use Rattle.miette_handlers.specs.Answers.{Answers, unlisted, listed, no_more, and_more, own_answer, cause_answers, related_answers}
 use Rattle.miette_handlers.specs.Indents.{narrowed}
 use Rattle.miette_handlers.specs.Parts.{SnippetRows, rows_text, under_arrow, header, message_text, help_text, footer_text, title_text, list_of}
-use Rattle.miette_handlers.specs.Text.{cause_texts, ends_there, are_last, body, body_over, inner_over, inner_text, causes_text, related_text, report_over, only_if}
+use Rattle.miette_handlers.specs.Text.{cause_texts, ends_there, are_last, body, body_over, inner_over, inner_text, causes_text, related_text, only_if}
 use Rattle.miette_tree.specs.Tree.{effective}
 use Rattle.miette_layout.specs.Frames as frames
 use Rattle.miette_handlers.specs.Printed.{all_read, always_reads, over, printed, printed_causes, printed_related, printed_inner, printed_sibling, printed_one, printed_root_causes}
 use Rattle.miette_handlers.specs.Snippets.{layout_settings}
 use Rattle.miette_handlers.proofs.DrawnRows.{unlisted_is}
 use Rattle.miette_handlers.proofs.Lists.{first_fails, later_fails}
+use Rattle.miette_handlers.proofs.Outermost.{report_over}
 use Rattle.miette_handlers.specs.Handler.{AppendsOne}
 use Rattle.miette_handlers.specs.Answered.{IsAnswer, AreCauseAnswers, AreRelatedAnswers, IsDrawn, AreCauses, AreRelated, IsInner, IsSibling, IsOneCause, IsNested, IsOneRelated, AreRootCauses, IsBelow, IsReport}
 

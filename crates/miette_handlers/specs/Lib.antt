@@ -16,6 +16,7 @@ pub mod Clean
 pub mod Colourless
 pub mod Views
 pub mod Printed
+pub mod Paths
 pub mod Answered
 pub mod Snippets
 pub mod Printing

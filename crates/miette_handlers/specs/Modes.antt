@@ -1,7 +1,7 @@
 -- What the modes of the code stand for.
-use Rattle.std.specs.Prelude.{Bool, true, false}
+use Rattle.std.specs.Prelude.{Bool}
 use Rattle.miette_text.specs.declared.wrap.WordSplitter.{WordSplitter}
-use Rattle.miette_text.specs.declared.wrap.WordSplitter.TheVariants.{NoHyphenation, HyphenSplitter}
+use Rattle.miette_text.specs.Filling.{cuts_hyphens}
 use Rattle.miette_handlers.specs.Settings as values
 use Rattle.miette_handlers.specs.declared.settings.UrlMode.{UrlMode}
 use Rattle.miette_handlers.specs.declared.settings.UrlMode.TheVariants.{Links, Text, Hidden}
@@ -13,5 +13,4 @@ urls_of Hidden = values.Hidden
 
 -- whether words are also cut behind hyphens
 abbrev pub splits : WordSplitter → Bool
-splits NoHyphenation = false
-splits HyphenSplitter = true
+splits splitter = cuts_hyphens splitter

@@ -69,10 +69,6 @@ abbrev mutual
       (related_text rows s m.severity (effective own inherited) r (related_answers (first_answers more))))
       ++ related_text rows s outer inherited ts (later_answers more)
 
--- the outermost report: header, body, footer
-abbrev pub report_over : Settings → Meaning → List ℕ → List ℕ → List ℕ → List ℕ
-report_over s m drawn causes related = print (header s m) ++ body_over s m drawn causes related ++ footer_text s
-
 -- The text of a report, by settings, tree and answers: header, message, causes where the chain is on, snippets, help, related, and
 -- the footer.
 abbrev pub report_text : SnippetRows → Settings → Tree → Answers → List ℕ

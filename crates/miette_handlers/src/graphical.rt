@@ -37,8 +37,8 @@ use std::marker::Model;
 /// Draws reports: a message under an icon, causes under arrows, source lines in frames with marks under the text that the
 /// labels speak of.
 ///
-/// Users write `GraphicalReportHandler`; the parameter is the type of the highlighter that is used. All calls but `new` and `render_report`
-/// take no memory.
+/// Users write `GraphicalReportHandler`; the parameter is the type of the highlighter that is used. All calls but `new`, `render_report`,
+/// `debug` and `display` take no memory.
 #[derive(Drop)]
 pub struct GraphicalReportHandler<H = Box<dyn Highlighter>> {
     theme: GraphicalTheme,
@@ -390,7 +390,8 @@ impl<H: Highlighter> GraphicalReportHandler<H> {
 
     /// Appends the picture of a report. The highlighter is restarted before each snippet with the contents of the snippet's read, and is
     /// then given the text of each line in order. After an error `out` is as before: `Memory` where memory was refused, to the highlighter
-    /// too; `Refused` where a printed diagnostic has labels over a source that doesn't always read, and the place of a snippet was refused.
+    /// too; `Refused` where a printed diagnostic has labels over a source that doesn't always read, and that source refused the place of a
+    /// snippet, or a group of labels of which one has its own number of context lines, which is read again.
     pub fn render_report(&mut self, report: &Report, out: &mut String) -> Result<(), RenderError>
         ensures settings { self.new.settings ≡ self.old.settings }
         // a blank highlighter stays blank, and one that isn't blank doesn't become so

@@ -5,14 +5,16 @@ ghost use Rattle.miette_handlers.specs.Indents as indents;
 ghost use Rattle.miette_handlers.specs.Parts as parts;
 ghost use Rattle.miette_handlers.specs.Modes.{splits};
 ghost use Rattle.miette_handlers.specs.Views.{settings_of};
+ghost use Rattle.miette_text.specs.Filling.{layout_with};
 ghost use Rattle.miette_text.specs.Runs.{print};
 ghost use Rattle.miette_text.specs.Sequences.{spell};
+ghost use Rattle.miette_text.specs.Wrapping.{wrapped};
 
 use crate::settings::{Layout, icon, severity_style};
 use miette_protocol::protocol::Severity;
 use miette_text::runs::Runs;
 use miette_text::runs::reading::{columns_of, read_text};
-use miette_text::wrap::{Plan, WordSplitter, wrap};
+use miette_text::wrap::{Plan, cuts_hyphens, wrap};
 use std::alloc::{AllocError, Global};
 
 /// How a cause or a nested report hangs under another one: in the style of that one's severity, and as the last one or not.
@@ -20,16 +22,6 @@ use std::alloc::{AllocError, Global};
 pub struct Branch {
     pub outer: Option<Severity>,
     pub is_last: bool,
-}
-
-/// Are words also cut behind hyphens?
-fn splits_words(layout: Layout<'_>) -> bool
-    ensures { result ≡ splits layout.entry.splitter }
-{
-    match layout.splitter {
-        WordSplitter::NoHyphenation => false,
-        WordSplitter::HyphenSplitter => true,
-    }
 }
 
 /// How a text is wrapped under a first and a further indent.
@@ -43,7 +35,7 @@ fn plan<'a>(layout: Layout<'_>, first: &'a Runs, further: &'a Runs) -> Plan<'a>
 {
     Plan {
         wraps: layout.wraps,
-        hyphens: splits_words(layout),
+        hyphens: cuts_hyphens(layout.splitter),
         breaks: layout.breaks,
         width: layout.width.saturating_sub(2),
         first,
@@ -51,18 +43,16 @@ fn plan<'a>(layout: Layout<'_>, first: &'a Runs, further: &'a Runs) -> Plan<'a>
     }
 }
 
-/// Appends a text wrapped under a first and a further indent, and a line feed.
+/// Appends a text, wrapped, and a line feed.
 fn push_wrapped(
     alloc: Global,
-    layout: Layout<'_>,
-    first: &Runs,
-    further: &Runs,
+    plan: Plan<'_>,
     text: &Runs,
     out: &mut Runs,
 ) -> Result<(), AllocError>
-    ensures { OnOk result (spell out.new ≡ spell out.old ++ (indents.wrapped_behind (settings_of layout.entry) (spell first.now) (spell further.now) (spell text.now) ++ parts.line_feed)) }
+    ensures { OnOk result (spell out.new ≡ spell out.old ++ (wrapped (layout_with plan.entry.wraps plan.entry.hyphens plan.entry.breaks plan.entry.width (spell plan.entry.first.now) (spell plan.entry.further.now)) (spell text.now) ++ parts.line_feed)) }
 {
-    wrap(alloc, plan(layout, first, further), text, out)?;
+    wrap(alloc, plan, text, out)?;
     out.push('\n')
 }
 
@@ -154,7 +144,7 @@ pub fn push_under_arrow(
 {
     let first = arrow_indent(alloc, layout, branch)?;
     let further = stem_indent(alloc, layout, branch)?;
-    push_wrapped(alloc, layout, &first, &further, text, out)
+    push_wrapped(alloc, plan(layout, &first, &further), text, out)
 }
 
 /// Appends a message behind its icon.
@@ -170,7 +160,7 @@ pub fn push_message(
     let first = icon_indent(alloc, layout, severity)?;
     let further = bar_indent(alloc, layout, severity)?;
     let message = read_text(alloc, message)?;
-    push_wrapped(alloc, layout, &first, &further, &message, out)
+    push_wrapped(alloc, plan(layout, &first, &further), &message, out)
 }
 
 // `  help: `
@@ -206,7 +196,7 @@ pub fn push_help(
     let first = help_indent(alloc, layout)?;
     let further = blank_indent(alloc, &[' '; 8])?;
     let help = read_text(alloc, help)?;
-    push_wrapped(alloc, layout, &first, &further, &help, out)
+    push_wrapped(alloc, plan(layout, &first, &further), &help, out)
 }
 
 /// Appends a blank row and the footer, where there is one.
@@ -219,5 +209,5 @@ pub fn push_footer(alloc: Global, layout: Layout<'_>, out: &mut Runs) -> Result<
     let indent = blank_indent(alloc, &[' ', ' '])?;
     let footer = read_text(alloc, footer)?;
     out.push('\n')?;
-    push_wrapped(alloc, layout, &indent, &indent, &footer, out)
+    push_wrapped(alloc, plan(layout, &indent, &indent), &footer, out)
 }

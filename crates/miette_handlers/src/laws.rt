@@ -1,14 +1,15 @@
 //! What holds of the definition of a report's text: of its colours, and of the snippets of each diagnostic that it prints.
 
-ghost use Rattle.std.specs.Prelude.{◌≡◌, ℕ, Bool, List, encode_utf8_all, true};
+ghost use Rattle.std.specs.Prelude.{◌≡◌, ℕ, Bool, List, Some, encode_utf8_all, true};
 ghost use Rattle.miette_handlers.specs.Answered.{IsTextOf};
 ghost use Rattle.miette_handlers.specs.Answers.{Answers, unlisted};
 ghost use Rattle.miette_handlers.specs.Clean.{AreCleanSettings, IsCleanTree};
 ghost use Rattle.miette_handlers.specs.Colourless.{AreSnippets, IsColouredText, colourless, unhighlighted};
-ghost use Rattle.std.specs.List.{AllByRecursion};
+ghost use Rattle.std.specs.List.{AllByRecursion, Contains};
 ghost use Rattle.miette_handlers.specs.Headline.{LinesAreShown, MarksAreApart, TextsHang};
 ghost use Rattle.miette_handlers.specs.Parts.{SnippetRows};
-ghost use Rattle.miette_handlers.specs.Printed.{all_read, printed};
+ghost use Rattle.miette_handlers.specs.Paths.{HasPath, Step, printed_at};
+ghost use Rattle.miette_handlers.specs.Printed.{Printed, all_read, printed};
 ghost use Rattle.miette_handlers.specs.Settings.{Settings};
 ghost use Rattle.miette_handlers.specs.Snippets.{drawn_rows};
 ghost use Rattle.miette_handlers.specs.Text.{report_text};
@@ -75,3 +76,10 @@ pub fn snippets_law()
     marks_are_apart();
     texts_hang();
 }
+
+/// The printed diagnostics are those that stand at a path from the outermost one: by steps to a cause where causes are shown, and to
+/// a related report by its number.
+pub fn paths_law()
+    ensures named { (s : Settings) (t : Tree) (p : Printed) → Contains (printed s t) p → HasPath s t p }
+    ensures only { (s : Settings) (t : Tree) (path : List Step) (p : Printed) → printed_at s t path ≡ Some p → Contains (printed s t) p }
+{}

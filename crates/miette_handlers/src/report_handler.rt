@@ -24,7 +24,8 @@ pub trait ReportHandler {
     /// What a call keeps of the handler: all of it, unless the handler has a state of its own.
     ghost keeps: { Self → Self → Type 0 } = { λ old new. new ≡ old };
 
-    /// Appends the report's text; the handler's settings stay. After an error `out` is as before.
+    /// Appends the report's text; the handler's settings stay. After an error `out` is as before: `Memory` where memory was refused,
+    /// `Refused` where a read of a source was refused for which the text has no row. The JSON and the debug report are never `Refused`.
     fn debug<D: Diagnostic, S: SourceCode>(
         &mut self,
         report: &Report<D, S>,

@@ -18,13 +18,17 @@ use Rattle.miette_layout.specs.Drawing.{IsNarrow, blank, mark_runs, rows_below, 
 use Rattle.miette_layout.specs.Gutters.{most_labels, gutter_columns, number_gutter, other_gutter, closing_rows, ending_corner, arrow}
 use Rattle.miette_layout.specs.Frames.{Settings, other_start, number_start}
 use Rattle.miette_layout.specs.Layout.{line_rows, before_each, text_of_cells}
-use Rattle.miette_layout.specs.Pictures.{mark_at, marks_end, Hangs, AreMarked, ShowMarks, marks_of_line, text_start, HasText, HasRoom}
+use Rattle.miette_layout.specs.Pictures.{mark_at, marks_end, Hangs, AreMarked, ShowMarks, marks_of_line, text_start, HasText}
 use Rattle.miette_layout.proofs.Numbers.{by_cases}
 use Rattle.miette_layout.proofs.Apart.{marks_apart}
 use Rattle.miette_layout.proofs.Columns.{columns_of-append, code_at-append}
 use Rattle.miette_layout.proofs.Unstyled.{mark_row, plain_below}
 use Rattle.miette_layout.proofs.Hanging.{mark_row-at, plain_hang, all_beside, all_more}
 use Rattle.miette_layout.proofs.Flat.{pieces_of-append, flat_marks, flat_below}
+
+-- the gutter has room for the labels of several lines that lie on a line
+abbrev pub HasRoom : List DrawnLabel → Line → ℕ → Type 0
+HasRoom labels line columns = length (multi_line line labels) ≤ columns - 2
 
 pub columns_of-copies : (width : ℕ → ℕ) (code many : ℕ) → width code ≡ 1 → columns_of (map (drawn width) (replicate many code)) ≡ many
 columns_of-copies width code zero h = refl

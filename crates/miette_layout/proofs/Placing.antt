@@ -18,6 +18,9 @@ use Rattle.miette_layout.specs.Made.{AreSortedCells, mark_of}
 abbrev pub some_cell : MadeCell
 some_cell = record { code = 0; start = 0; after = 0; from = 0; until = 0 }
 
+abbrev pub no_mark : MadeMark
+no_mark = record { from = 0; until = 0; label = nothing }
+
 not_le : (a b : ℕ) → leb a b ≡ false → ltb b a ≡ true
 not_le a b h = grind (arith, nat_tests)
 

@@ -13,8 +13,8 @@ use Rattle.miette_layout.specs.Drawing.{IsNarrow}
 use Rattle.miette_layout.specs.Gutters.{gutter_columns}
 use Rattle.miette_layout.specs.Frames.{Settings, width_of_lines}
 use Rattle.miette_layout.specs.Layout.{cells_of}
-use Rattle.miette_layout.specs.Pictures.{HasRoom, LinesShow, BodyShows}
-use Rattle.miette_layout.proofs.Beneath.{line_shows, line_begins, all_room}
+use Rattle.miette_layout.specs.Pictures.{LinesShow, BodyShows}
+use Rattle.miette_layout.proofs.Beneath.{HasRoom, line_shows, line_begins, all_room}
 
 -- a smaller number has no more digits
 pub decimal-mono : (a b : ℕ) → a ≤ b → b < 2 ^ 64 → length (decimal a) ≤ length (decimal b)

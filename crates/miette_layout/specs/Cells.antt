@@ -1,6 +1,6 @@
 -- The characters of a line's text, with their bytes and their columns.
-use Rattle.std.specs.Prelude.{ℕ, ◌+◌, ◌-◌, ◌%◌, ◌<◌, ◌≤◌, ◌≡◌, ◌≢◌, Some, List, [], map, ◌∷◌, ◌++◌, replicate, Bool, not, ◌&&◌, ◌||◌, if◌then◌else◌, ◌==◌, nat_lt, nat_le}
-use Rattle.miette_layout.specs.Rows.{Piece, Run, plain, code_at}
+use Rattle.std.specs.Prelude.{ℕ, ◌+◌, ◌-◌, ◌%◌, List, [], map, ◌∷◌, ◌++◌, replicate, Bool, not, ◌&&◌, ◌||◌, if◌then◌else◌, ◌==◌, nat_lt, nat_le}
+use Rattle.miette_layout.specs.Rows.{Piece, Run, plain}
 use Rattle.miette_layout.specs.Answers.{Highlight}
 use Rattle.bstr.specs.Utf8.{pieces, or_replacement}
 
@@ -80,8 +80,3 @@ cells_beyond bytes (cell ∷ cells) = if bytes == 0 then cell ∷ cells else cel
 abbrev pub line_runs : List Highlight → List Cell → List Run
 line_runs [] cells = record { style = plain; pieces = printed_cells cells } ∷ []
 line_runs (h ∷ hs) cells = record { style = h.style; pieces = printed_cells (cells_within h.bytes cells) } ∷ line_runs hs (cells_beyond h.bytes cells)
-
--- where a cell shows in a row: a tab as spaces in all its columns, any other character with width in its first column
-abbrev pub ShowsAt : List Piece → Cell → Type 0
-ShowsAt row cell = (column : ℕ) → cell.from ≤ column → column < cell.until →
-    (cell.code ≡ 9 → code_at row column ≡ Some 32) × (cell.code ≢ 9 → column ≡ cell.from → code_at row column ≡ Some cell.code)

@@ -6,7 +6,6 @@ use Rattle.miette_layout.specs.declared.cells.Cell.{Cell}
 use Rattle.miette_layout.specs.declared.marks.Mark.{Mark as MadeMark}
 use Rattle.miette_layout.specs.Marks.{Mark}
 use Rattle.miette_layout.specs.Given.{drawn_of}
-use Rattle.miette_layout.specs.Sweeping.{nothing}
 
 abbrev pub mark_of : List Label → MadeMark → Mark
 mark_of labels m = record { from = m.from; until = m.until; label = drawn_of labels m.label }
@@ -14,6 +13,3 @@ mark_of labels m = record { from = m.from; until = m.until; label = drawn_of lab
 -- the cells come by offset
 abbrev pub AreSortedCells : List Cell → Type 0
 AreSortedCells cells = IsNonDecreasingBy (λ c. c.start) cells × IsNonDecreasingBy (λ c. c.after) cells
-
-abbrev pub no_mark : MadeMark
-no_mark = record { from = 0; until = 0; label = nothing }

@@ -1,11 +1,11 @@
 -- What the rows of a line show at their columns, and what it means that a text hangs from its mark.
-use Rattle.std.specs.Prelude.{ℕ, ◌+◌, ◌-◌, ◌<◌, ◌≤◌, ◌≡◌, ◌⊎◌, List, [], ◌∷◌, map, length, Some, ◌&&◌, if◌then◌else◌, nat_lt, nat_le}
+use Rattle.std.specs.Prelude.{ℕ, ◌+◌, ◌<◌, ◌≡◌, ◌⊎◌, List, [], ◌∷◌, map, Some, ◌&&◌, if◌then◌else◌, nat_lt, nat_le}
 use Rattle.std.specs.List.{AllByRecursion}
 use Rattle.miette_text.specs.declared.theme.ThemeCharacters.{ThemeCharacters}
 use Rattle.miette_layout.specs.Rows.{Piece, Row, pieces_of, drawn, code_at, Begins}
 use Rattle.miette_protocol.specs.Lines.{Line}
 use Rattle.miette_layout.specs.Cells.{Cell, line_runs}
-use Rattle.miette_layout.specs.Labels.{DrawnLabel, one_line, multi_line}
+use Rattle.miette_layout.specs.Labels.{DrawnLabel, one_line}
 use Rattle.miette_layout.specs.Marks.{Mark, marks, anchor}
 use Rattle.miette_layout.specs.Drawing.{mark_code}
 use Rattle.miette_layout.specs.Frames.{Settings, number_width}
@@ -68,10 +68,6 @@ ShowMarks s start (mark ∷ marks) rows = Below (AreMarked s start (mark ∷ mar
 abbrev pub HasText : ℕ → Row → List Row → Type 0
 HasText start text [] = ⊥
 HasText start text (row ∷ rows) = Begins (pieces_of row) start (pieces_of text)
-
--- the gutter has room for the labels of several lines that lie on a line
-abbrev pub HasRoom : List DrawnLabel → Line → ℕ → Type 0
-HasRoom labels line columns = length (multi_line line labels) ≤ columns - 2
 
 -- The rows of lines, numbered from here on: in each line's rows the text begins at one column, and the texts of the labels that lie on it alone hang from their marks.
 abbrev pub LinesShow : Settings → ℕ → ℕ → List DrawnLabel → List ℕ → ℕ → List (List Highlight) → List Line → Type 0

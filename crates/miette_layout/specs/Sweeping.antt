@@ -1,5 +1,5 @@
 -- What a sweep over labels by offset knows at a place between two lines.
-use Rattle.std.specs.Prelude.{ℕ, ◌<◌, ◌≤◌, ◌≡◌, List, [], ◌∷◌, length, take, Bool, false, not, if◌then◌else◌, nat_lt, slice_index_or}
+use Rattle.std.specs.Prelude.{ℕ, ◌<◌, ◌≤◌, ◌≡◌, List, [], ◌∷◌, length, take, Bool, false, if◌then◌else◌, nat_lt, slice_index_or}
 use Rattle.std.specs.List.{filter}
 use Rattle.miette_layout.specs.declared.sweep.Placed.{Placed}
 use Rattle.miette_layout.specs.declared.sweep.Bounds.{Bounds}
@@ -18,9 +18,6 @@ line_of_bounds b = record { start = b.start; text_end = b.after; end = b.after }
 -- whether a label goes on past a place
 abbrev pub passes : ℕ → Placed → Bool
 passes place p = nat_lt place (reach (label_of p))
-
-abbrev pub ends_by : ℕ → Placed → Bool
-ends_by place p = not (passes place p)
 
 abbrev pub is_one : Line → Placed → Bool
 is_one line p = is_one_line line (label_of p)

@@ -14,10 +14,15 @@ use unicode_width::UnicodeWidthChar;
 /// The columns are counted from where the text begins. A tab is a cell that prints as spaces.
 #[derive(Clone, Copy, Debug, PartialEq, Eq, Drop)]
 pub struct Cell {
+    /// The character; U+FFFD for bytes that are none.
     pub code: char,
+    /// The offset of its first byte in the source.
     pub start: usize,
+    /// The offset behind its last byte.
     pub after: usize,
+    /// Its first column, counted from 0.
     pub from: usize,
+    /// The column behind its last one; `from` where it has none.
     pub until: usize,
 }
 

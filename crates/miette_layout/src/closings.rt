@@ -109,7 +109,8 @@ fn push_closing(page: &mut Page, sheet: &Sheet, label: &Placed) -> Result<(), Al
     Ok(())
 }
 
-/// The rows of the texts of the labels of several lines that end on the sheet's line, in order.
+/// The rows of the texts of the labels of several lines that end on the sheet's line, in order. `AllocError` where memory is refused, or
+/// `number_width + 2` is past the largest `usize`.
 pub fn push_closings(page: &mut Page, sheet: &Sheet) -> Result<(), AllocError>
     ensures { OnOk result (page.new ≡ page.old ++ told_rows (before_each (other_start (settings sheet.now) sheet.now.number_width)
         (closing_rows (settings sheet.now).width (settings sheet.now).characters (line_of_text sheet.now.line) sheet.now.gutter (multi_labels sheet.now)

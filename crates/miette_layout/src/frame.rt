@@ -164,6 +164,7 @@ fn push_location(
 /// The row over a snippet's lines: `   ╭─[name:2:3]`.
 ///
 /// `several` says whether the snippet has more than one line; `place` is where its primary label begins, line and column counted from 0.
+/// `AllocError` where memory is refused, or `number_width + 2` or a number counted from 1 is past the largest `usize`.
 pub fn push_top_row(
     page: &mut Page,
     frame: &Frame,
@@ -179,7 +180,7 @@ pub fn push_top_row(
     Ok(())
 }
 
-/// The row under a snippet's lines: `   ╰────`.
+/// The row under a snippet's lines: `   ╰────`. `AllocError` where memory is refused, or `number_width + 2` is past the largest `usize`.
 pub fn push_bottom_row(page: &mut Page, frame: &Frame) -> Result<(), AllocError>
     ensures { OnOk result (page.new ≡ page.old ++ told_rows (bottom_row (settings_of frame.now.theme.now frame.now.options) frame.now.number_width ∷ [])) }
 {
@@ -218,6 +219,7 @@ fn push_refused_text(page: &mut Page, frame: &Frame, label: &LabeledSpan) -> Res
 }
 
 /// The row in place of snippets where a label is refused, with the refusal's name: "  [Failed to read contents for label `TEXT` (offset: O, length: N): NAME]".
+/// `AllocError` where memory is refused.
 pub fn push_refused_row(
     page: &mut Page,
     frame: &Frame,

@@ -19,7 +19,9 @@ use std::mem;
 /// Labels that are drawn as one snippet: the span that was read for them, and what that read lent.
 #[derive(Debug, Drop)]
 pub struct Group<'a> {
+    /// The span that was read, in bytes of the source.
     pub span: SourceSpan,
+    /// What the read lent.
     pub contents: MietteSpanContents<'a>,
 }
 
@@ -114,7 +116,7 @@ fn own_group<'a>(label: &ReadLabel<'a>) -> Result<Group<'a>, AllocError>
 ///
 /// A label joins the group before it where their lines touch; that group is read again, and where this read fails the two stay apart.
 /// Where some label has its own number of context lines, the labels are joined by where the data of their reads begin, and each group's
-/// bytes are read again without context.
+/// bytes are read again without context. `AllocError` where memory is refused, or a span ends past the largest `usize`.
 pub fn groups<'a, S: SourceCode>(
     alloc: Global,
     source: &'a S,

@@ -43,7 +43,7 @@ fn corner_at_end(sheet: &Sheet, label: &Placed) -> char
 }
 
 /// The gutter of a row that isn't the number row, in so many columns: a bar for each label that goes on,
-/// then a corner for the first one that ends on the line: `│╰───`.
+/// then a corner for the first one that ends on the line: `│╰───`. `AllocError` where memory is refused.
 pub fn push_other_gutter(page: &mut Page, sheet: &Sheet, columns: usize) -> Result<(), AllocError>
     ensures { OnOk result (page.new ≡ page.old ++ told (other_gutter (settings sheet.now).width (settings sheet.now).characters (line_of_text sheet.now.line) columns (multi_labels sheet.now))) }
 {
@@ -66,7 +66,7 @@ pub fn push_other_gutter(page: &mut Page, sheet: &Sheet, columns: usize) -> Resu
     Ok(())
 }
 
-/// The same with spaces in place of the corner: `│    `.
+/// The same with spaces in place of the corner: `│    `. `AllocError` where memory is refused.
 pub fn push_open_gutter(page: &mut Page, sheet: &Sheet, columns: usize) -> Result<(), AllocError>
     ensures { OnOk result (page.new ≡ page.old ++ told (open_gutter (settings sheet.now).width (settings sheet.now).characters (line_of_text sheet.now.line) columns (multi_labels sheet.now))) }
 {
@@ -102,6 +102,7 @@ fn push_arrow(
 }
 
 /// The gutter of the number row: a bar for each label that runs through, an arrow for the first one that starts or ends on the line: `│╭─▶ `.
+/// `AllocError` where memory is refused.
 pub fn push_number_gutter(page: &mut Page, sheet: &Sheet) -> Result<(), AllocError>
     ensures { OnOk result (page.new ≡ page.old ++ told (number_gutter (settings sheet.now).width (settings sheet.now).characters (line_of_text sheet.now.line) sheet.now.gutter (multi_labels sheet.now))) }
 {

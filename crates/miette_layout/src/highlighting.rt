@@ -46,7 +46,8 @@ fn is_plain(pieces: &[(usize, Style)]) -> bool
     }
 }
 
-/// A highlighter's pieces for the bytes of a line's text; none where it leaves the line plain, and where there is no highlighter.
+/// A highlighter's pieces for the bytes of a line's text; none where it leaves the line plain, and where there is no highlighter. Each is a
+/// length in bytes of the decoded text, and a style. `AllocError` where memory is refused, to the highlighter too.
 pub fn pieces_of<H: Highlighter>(
     alloc: Global,
     highlighter: &mut Option<H>,

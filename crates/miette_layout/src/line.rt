@@ -173,7 +173,7 @@ fn push_one_line_labels(
 /// the labels that lie on it alone, and the texts of the labels of several lines that end there.
 ///
 /// `one` are the labels that lie on the line alone, by offset; `pieces` are a highlighter's, each a length in bytes and a style.
-/// Columns past the largest `usize` are refused as want of memory.
+/// `AllocError` where memory is refused, or a column is past the largest `usize`.
 pub fn push_line_rows(
     alloc: Global,
     page: &mut Page,

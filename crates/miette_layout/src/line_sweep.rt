@@ -14,7 +14,9 @@ use std::alloc::{AllocError, Global};
 /// A line, and which labels lie on it.
 #[derive(Debug, Drop)]
 pub struct SweptLine {
+    /// Where the line lies in the source.
     pub line: LineOfText,
+    /// The labels that lie on it.
     pub on: OnLine,
 }
 
@@ -62,6 +64,7 @@ fn first_line(bytes: &[u8]) -> FirstLine
 }
 
 /// The lines of some bytes of a source, which begin at this offset, with the labels that lie on each. The sweep comes to where they end.
+/// `AllocError` where memory is refused, or the bytes end past the largest `usize`; where the sweep then is, is open.
 pub fn swept_lines(
     alloc: Global,
     bytes: &[u8],

@@ -42,7 +42,8 @@ impl<'a> Model for Columns<'a> {
 }
 
 impl<'a> Columns<'a> {
-    /// The columns of a line's text, whose bytes are given, with tabs of so many columns.
+    /// The columns of a line's text, whose bytes are given, with tabs of so many columns. `AllocError` where memory is refused, or the
+    /// text has more columns than a `usize` counts.
     pub fn new(
         alloc: Global,
         line: &LineOfText,
@@ -105,7 +106,7 @@ impl<'a> Columns<'a> {
         self.column_at_end(offset)
     }
 
-    /// The same, rounded up.
+    /// The same, rounded up: `AllocError` too where that is past the largest `usize`.
     pub fn last_column(&self, offset: usize) -> Result<usize, AllocError>
         ensures { IfOk result (λ column. column ≡ last_of_cells self.now.cells self.now.text_end self.now.width offset) }
     {
@@ -124,8 +125,11 @@ impl<'a> Columns<'a> {
 /// A mark: its columns from the one up to the other, and its label.
 #[derive(Clone, Copy, Debug, PartialEq, Eq, Drop)]
 pub struct Mark {
+    /// Its first column, counted from 0 where the line's text begins.
     pub from: usize,
+    /// The column behind its last one.
     pub until: usize,
+    /// The label that it marks.
     pub label: Placed,
 }
 
@@ -173,6 +177,7 @@ fn marks_in(
 
 /// The marks of the labels that lie on a line alone, by offset, where the line's text has these bytes and tabs so many columns.
 /// Each has at least one column, and begins at its label's first column or where the mark before it ends, whichever is later.
+/// `AllocError` where memory is refused, or a column is past the largest `usize`.
 pub fn marks_on(
     alloc: Global,
     line: &LineOfText,

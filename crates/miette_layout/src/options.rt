@@ -3,7 +3,7 @@
 /// How snippets are laid out.
 #[derive(Clone, Copy, Debug, PartialEq, Eq, Drop)]
 pub struct LayoutOptions {
-    /// A tab goes on to the next multiple of so many columns; at least 1.
+    /// A tab goes on to the next multiple of so many columns; at 0 it has no columns.
     pub tab_width: usize,
     /// How many lines are shown before and after each label that has no number of its own.
     pub context_lines: usize,

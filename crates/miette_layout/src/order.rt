@@ -11,7 +11,9 @@ use std::alloc::{AllocError, Global};
 /// Which label stands at a place of the order, by its number in the list as given, and its offset in bytes.
 #[derive(Clone, Copy, Debug, PartialEq, Eq, Drop)]
 pub struct Turn {
+    /// The label's number in the list as given, counted from 0.
     pub index: usize,
+    /// The label's offset in bytes.
     pub offset: usize,
 }
 
@@ -29,7 +31,7 @@ fn turns(alloc: Global, labels: &[LabeledSpan]) -> Result<Vec<Turn>, AllocError>
     Ok(turns)
 }
 
-/// The labels by offset, ties as given: the number of each in the list as given.
+/// The labels by offset, ties as given: the number of each in the list as given. `AllocError` where memory is refused.
 pub fn by_offset(alloc: Global, labels: &[LabeledSpan]) -> Result<Vec<Turn>, AllocError>
     ensures order { IfOk result (λ v. map (λ turn. label_at labels.now turn.index) v.items ≡ in_order labels.now) }
     ensures inside { IfOk result (λ v. All (λ turn. turn.index < length labels.now) v.items) }

@@ -58,7 +58,7 @@ impl Page {
         }
     }
 
-    /// Begins a run in a style.
+    /// Begins a run in a style. `AllocError` where memory is refused.
     pub fn begin(&mut self, style: Style) -> Result<(), AllocError>
         ensures { OnOk result (self.new ≡ self.old ++ begins style ∷ []) }
     {
@@ -70,7 +70,7 @@ impl Page {
         Ok(())
     }
 
-    /// Ends a row.
+    /// Ends a row. `AllocError` where memory is refused.
     pub fn end_row(&mut self) -> Result<(), AllocError>
         ensures { OnOk result (self.new ≡ self.old ++ row_end ∷ []) }
     {
@@ -79,7 +79,7 @@ impl Page {
         Ok(())
     }
 
-    /// Puts a character behind the run's text.
+    /// Puts a character behind the run's text. `AllocError` where memory is refused.
     pub fn push(&mut self, character: char) -> Result<(), AllocError>
         ensures { OnOk result (self.new ≡ self.old ++ bytes_told (encode_utf8 character)) }
     {
@@ -87,7 +87,7 @@ impl Page {
         Ok(())
     }
 
-    /// Puts a text behind the run's text.
+    /// Puts a text behind the run's text. `AllocError` where memory is refused.
     pub fn push_str(&mut self, text: &str) -> Result<(), AllocError>
         ensures bytes { OnOk result (self.new ≡ self.old ++ bytes_told text.now) }
         ensures chars { OnOk result (self.new ≡ self.old ++ text_told (chars text.now)) }
@@ -96,7 +96,7 @@ impl Page {
         Ok(())
     }
 
-    /// Puts copies of a character behind the run's text. Where the memory for them can't be had, none is put.
+    /// Puts copies of a character behind the run's text. `AllocError` where the memory for them is refused; none is then put.
     pub fn push_copies(&mut self, character: char, many: usize) -> Result<(), AllocError>
         ensures { OnOk result (self.new ≡ self.old ++ text_told (replicate many character)) }
     {
@@ -111,7 +111,7 @@ impl Page {
         Ok(())
     }
 
-    /// A run of spaces: `····`.
+    /// A run of spaces: `····`. `AllocError` where memory is refused.
     pub fn push_blank(&mut self, many: usize) -> Result<(), AllocError>
         ensures { OnOk result (self.new ≡ self.old ++ run_told PLAIN (replicate many 32)) }
     {
@@ -120,7 +120,7 @@ impl Page {
         Ok(())
     }
 
-    /// A run of a character and copies of another: `╰────`.
+    /// A run of a character and copies of another: `╰────`. `AllocError` where memory is refused.
     pub fn push_line(
         &mut self,
         style: Style,
@@ -136,7 +136,7 @@ impl Page {
         Ok(())
     }
 
-    /// Puts characters behind the run's text.
+    /// Puts characters behind the run's text. `AllocError` where memory is refused.
     pub fn push_chars(&mut self, characters: &[char]) -> Result<(), AllocError>
         ensures { OnOk result (self.new ≡ self.old ++ text_told characters.now) }
     {
@@ -146,7 +146,7 @@ impl Page {
         Ok(())
     }
 
-    /// Puts a number behind the run's text, its digits behind the spaces that fill so many columns: `  12`.
+    /// Puts a number behind the run's text, its digits behind the spaces that fill so many columns: `  12`. `AllocError` where memory is refused.
     pub fn push_right(&mut self, number: usize, columns: usize) -> Result<(), AllocError>
         ensures { OnOk result (self.new ≡ self.old ++ text_told (replicate (columns - length (decimal number)) 32 ++ decimal number)) }
     {
@@ -157,7 +157,7 @@ impl Page {
         Ok(())
     }
 
-    /// Puts a number behind the run's text, in decimal digits.
+    /// Puts a number behind the run's text, in decimal digits. `AllocError` where memory is refused.
     pub fn push_number(&mut self, number: usize) -> Result<(), AllocError>
         ensures { OnOk result (self.new ≡ self.old ++ text_told (decimal number)) }
     {

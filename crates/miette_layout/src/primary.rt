@@ -97,6 +97,7 @@ pub(crate) fn near<'r, 'a>(
 
 /// Where the primary label of a group with this span begins, by a read without context. A label belongs to the group where its span lies
 /// within the group's; or, where labels have their `own` numbers of context lines, where it begins in the group's bytes or at their end.
+/// `AllocError` where the group's span or a label's ends past the largest `usize`; a read that fails is the place `Unread`.
 pub fn place_of<S: SourceCode>(
     source: &S,
     own: bool,

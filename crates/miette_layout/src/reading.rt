@@ -15,9 +15,13 @@ use std::alloc::{AllocError, Global};
 /// A label that was read: its number in the list as given, its span, whether it is marked as primary, and what the read lent.
 #[derive(Debug, Drop)]
 pub struct ReadLabel<'a> {
+    /// Its number in the list as given, counted from 0.
     pub index: usize,
+    /// Its span as given, in bytes of the source.
     pub span: SourceSpan,
+    /// Whether it is marked as primary.
     pub primary: bool,
+    /// What its read with the lines around it lent.
     pub contents: MietteSpanContents<'a>,
 }
 
@@ -72,7 +76,7 @@ fn lines_around(context: usize, own: bool, label: &LabeledSpan) -> usize
 }
 
 /// Reads the labels in this order, each with its own number of context lines or with this one, up to the first one that is refused.
-/// Where some label has its own number, this one counts as at least 1.
+/// Where some label has its own number, this one counts as at least 1. `AllocError` where memory is refused.
 pub fn read_labels<'a, S: SourceCode>(
     alloc: Global,
     source: &'a S,

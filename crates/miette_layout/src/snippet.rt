@@ -175,7 +175,8 @@ fn push_swept<'a, H: Highlighter>(
 
 /// The rows of a snippet from what its read lent: its frame, which points to this line and column, and its lines, in the pieces of the
 /// highlighter, which is restarted. The sweep over the labels comes from an offset to the one where the lent bytes end, which is handed
-/// back.
+/// back. `AllocError` where memory is refused, to the highlighter too, or an offset, a line's number or a column is past the largest
+/// `usize`.
 pub fn push_snippet<'a, H: Highlighter>(
     alloc: Global,
     highlighter: &mut Option<H>,

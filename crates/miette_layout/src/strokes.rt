@@ -54,7 +54,7 @@ fn push_mark(page: &mut Page, sheet: &Sheet, mark: &Mark) -> Result<(), AllocErr
     Ok(())
 }
 
-/// The marks, each behind the spaces before it: `  ──┬── ▲ ─┬─`.
+/// The marks, each behind the spaces before it: `  ──┬── ▲ ─┬─`. `AllocError` where memory is refused.
 pub fn push_marks(page: &mut Page, sheet: &Sheet, marks: &[Mark]) -> Result<(), AllocError>
     requires { All (λ mark. mark.from < mark.until) marks.now }
     ensures { OnOk result (page.new ≡ page.old ++ told (mark_runs (settings sheet.now).width (settings sheet.now).characters 0 (map (mark_of sheet.now.labels.now) marks.now))) }

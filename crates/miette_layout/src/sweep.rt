@@ -2,7 +2,7 @@
 
 ghost use Rattle.std.specs.Prelude.{◌≡◌, ◌<◌, ◌≤◌, nat_lt, ℕ, List, length, take, OnOk, IfOk};
 ghost use Rattle.std.specs.List.{filter};
-ghost use Rattle.miette_layout.specs.Sweeping.{label_of, passes, ends_by, is_one, is_multi, IsAt, AreSorted, line_of_bounds};
+ghost use Rattle.miette_layout.specs.Sweeping.{label_of, passes, is_one, is_multi, IsAt, AreSorted, line_of_bounds};
 
 use miette_text::style::Style;
 use std::alloc::{AllocError, Global};
@@ -10,31 +10,42 @@ use std::alloc::{AllocError, Global};
 /// A label up to its drawn end, with its style, whether it has a text, and which label it is.
 #[derive(Clone, Copy, Debug, PartialEq, Eq, Drop)]
 pub struct Placed {
+    /// The offset where it begins, in bytes of the source.
     pub start: usize,
+    /// The offset of its drawn end: its own end, or that of what its read lent where this comes first.
     pub after: usize,
+    /// The style that it is drawn in.
     pub style: Style,
+    /// Whether it has a text.
     pub has_text: bool,
+    /// Its number in the list as given, counted from 0.
     pub index: usize,
 }
 
 /// Where a line begins, and where it ends with its terminator.
 #[derive(Clone, Copy, Debug, PartialEq, Eq, Drop)]
 pub struct Bounds {
+    /// The offset of its first byte in the source.
     pub start: usize,
+    /// The offset behind its last byte.
     pub after: usize,
 }
 
 /// The labels that began before a place and go on past it, and how many began before it.
 #[derive(Debug, Drop)]
 pub struct Sweep {
+    /// The labels that began before the place and go on past it, by offset.
     pub running: Vec<Placed>,
+    /// How many labels began before the place, which is the index of the next one by offset.
     pub next: usize,
 }
 
 /// The labels that lie on a line alone, and those of several lines that lie on it.
 #[derive(Debug, Drop)]
 pub struct OnLine {
+    /// The labels that lie on the line alone, by offset.
     pub one: Vec<Placed>,
+    /// The labels of several lines that lie on the line, by offset.
     pub multi: Vec<Placed>,
 }
 
@@ -72,7 +83,8 @@ fn copied(alloc: Global, labels: &[Placed]) -> Result<Vec<Placed>, AllocError>
     Ok(copy)
 }
 
-/// Goes on to the end of the next line, and answers which labels lie on it.
+/// Goes on to the end of the next line, and answers which labels lie on it. `AllocError` where memory is refused; the sweep is then as
+/// before.
 pub fn advance(
     alloc: Global,
     labels: &[Placed],

@@ -19,7 +19,8 @@ use crate::sheet::{Sheet, text_of};
 use crate::strokes::anchor_of;
 use std::alloc::AllocError;
 
-/// What stands before the gutter of a row that isn't the number row: `   · `.
+/// What stands before the gutter of a row that isn't the number row: `   · `. `AllocError` where memory is refused, or
+/// `number_width + 2` is past the largest `usize`.
 pub fn push_other_start(page: &mut Page, sheet: &Sheet) -> Result<(), AllocError>
     ensures { OnOk result (page.new ≡ page.old ++ told (other_start (settings sheet.now) sheet.now.number_width)) }
 {
@@ -31,7 +32,7 @@ pub fn push_other_start(page: &mut Page, sheet: &Sheet) -> Result<(), AllocError
     Ok(())
 }
 
-/// What stands before the marks and the texts under a line: `   · │╰──`.
+/// What stands before the marks and the texts under a line: `   · │╰──`. It fails as `push_other_start` does.
 pub fn push_before_marks(page: &mut Page, sheet: &Sheet) -> Result<(), AllocError>
     ensures { OnOk result (page.new ≡ page.old ++ told (before_marks sheet.now)) }
 {
@@ -142,7 +143,7 @@ fn push_text(
     Ok(())
 }
 
-/// The rows of the texts of all marks.
+/// The rows of the texts of all marks, the last one's first. It fails as `push_other_start` does.
 pub fn push_texts(page: &mut Page, sheet: &Sheet, marks: &[Mark]) -> Result<(), AllocError>
     requires { All (λ mark. mark.from < mark.until) marks.now }
     ensures { OnOk result (page.new ≡ page.old ++ told_rows (before_each (before_marks sheet.now)

@@ -24,7 +24,7 @@ pub(crate) struct Settings<'a> {
 
 /// Tells a report in rows of plain words, for people who hear it read: no pictures, no colours, no wrapping.
 ///
-/// All calls but `render_report`, `render` and `clone` take no memory.
+/// All calls but `render_report`, `render` and `clone`, and `debug` and `display` of a `ReportHandler`, take no memory.
 #[derive(Debug, Drop)]
 pub struct NarratableReportHandler {
     cause_chain: bool,
@@ -139,7 +139,8 @@ impl NarratableReportHandler {
     }
 
     /// Appends the narrated text of a report. After an error `out` is as before: `Memory` where memory was refused, `Refused` where a
-    /// label isn't accepted, or a source that doesn't always read refused it.
+    /// label that is told isn't accepted, or where a source that doesn't always read refused one, or a group of labels of which one has
+    /// its own number of context lines, which is read again.
     pub fn render_report(&self, report: &Report, out: &mut String) -> Result<(), RenderError>
         // a text for answers that the sources can have given
         ensures text { OnOk result (Appends self.now (tree_of ⟦<Box<dyn Diagnostic> as Diagnostic>⟧.meaning ⟦<Box<dyn SourceCode> as SourceCode>⟧.source report.now) (string_bytes out.old) (string_bytes out.new)) }
@@ -152,7 +153,7 @@ impl NarratableReportHandler {
         self.render(report, out)
     }
 
-    /// The same of a report of diagnostics and sources of any kind.
+    /// The same of a report of diagnostics and sources of any kind, with the same errors.
     pub fn render<D: Diagnostic, S: SourceCode>(
         &self,
         report: &Report<D, S>,

@@ -181,7 +181,7 @@ impl SourceCode for Stopping {
 }
 
 /// Six bytes named `f` that stop, as a boxed source.
-fn stops_early(alloc: Global) -> Result<Box<dyn SourceCode>, Fail> {
+pub(crate) fn stops_early(alloc: Global) -> Result<Box<dyn SourceCode>, Fail> {
     let stopping = Stopping {
         bytes: Vec::from_slice(alloc, b"abcdef")?,
         most: 4,

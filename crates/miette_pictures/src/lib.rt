@@ -8,9 +8,13 @@ mod debug;
 #[cfg(test)]
 mod drawn;
 #[cfg(test)]
+mod edges;
+#[cfg(test)]
 mod json;
 #[cfg(test)]
 mod narrated;
+#[cfg(test)]
+mod own_context;
 #[cfg(test)]
 mod reports;
 #[cfg(test)]

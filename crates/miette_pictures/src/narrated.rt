@@ -15,7 +15,13 @@ fn told(alloc: Global, report: &Report) -> Result<String, Fail> {
     Ok(out)
 }
 
-fn tells(rt: &impl Abort, alloc: Global, report: &Report, wanted: &str) -> Result<(), Fail> {
+/// The narrated text of the report is this.
+pub(crate) fn tells(
+    rt: &impl Abort,
+    alloc: Global,
+    report: &Report,
+    wanted: &str,
+) -> Result<(), Fail> {
     let out = told(alloc, report)?;
     assert_eq!(rt; out.as_str(), wanted);
     Ok(())

@@ -50,7 +50,14 @@ fn colours(rt: HostRuntime) -> Result<(), Fail> {
 fn a_narrow_message(rt: HostRuntime) -> Result<(), Fail> {
     let narrow = Asked { width: 10, ..PLAIN };
     let wanted = "  × alph\n  │ a\n  │ beta\n";
-    is_drawn(&rt, rt.alloc(), narrow, &saying("alpha beta"), wanted)
+    is_drawn(&rt, rt.alloc(), narrow, &saying("alpha beta"), wanted)?;
+    let coloured = Asked {
+        theme: Theme::Coloured,
+        ..narrow
+    };
+    let wanted =
+        "  \u{1B}[31m×\u{1B}[0m alph\n  \u{1B}[31m│\u{1B}[0m a\n  \u{1B}[31m│\u{1B}[0m beta\n";
+    is_drawn(&rt, rt.alloc(), coloured, &saying("alpha beta"), wanted)
 }
 
 #[test]

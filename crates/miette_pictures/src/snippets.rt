@@ -216,11 +216,12 @@ fn lines_of_context(rt: HostRuntime) -> Result<(), Fail> {
 
 #[test]
 fn bytes_that_are_no_text(rt: HostRuntime) -> Result<(), Fail> {
-    let rows: [Row<'_>; 4] = [
+    let rows: [Row<'_>; 5] = [
         (b"a\xffb", &[(1, 1, "")], " 1 │ a\u{FFFD}b\n   ·  ─\n"),
         (b"e\xcc\x81x", &[(1, 2, "")], " 1 │ e\u{301}x\n   ·  ─\n"),
         (b"a\x1b[31mb", &[(6, 1, "")], " 1 │ a\u{1B}[31mb\n   ·  ─\n"),
         (b"\x1bab", &[(2, 1, "")], " 1 │ \u{1B}ab\n   · ─\n"),
+        (b"\x1b\tmab", &[(3, 1, "")], " 1 │ \u{1B}mab\n   · ─\n"),
     ];
     for row in rows {
         rows_are(&rt, rt.alloc(), "   ╭────\n", row)?;

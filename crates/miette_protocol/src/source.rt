@@ -22,12 +22,14 @@ pub trait SourceCode: Drop {
     /// Reads a span with so many lines of context before and after it. The contents lend the source's own
     /// bytes at the span that they report.
     ///
-    /// A line ends with LF, CRLF or a CR that no LF follows. With no context the data are the span, a CRLF
-    /// at its end whole, and an empty span at 0 as one byte. With context they are whole lines.
+    /// A line ends with LF, CRLF or a CR that no LF follows. On a side without context the data begin or end
+    /// as the span does, a CRLF at its end whole, and an empty span at 0 as one byte. On a side with context
+    /// they begin or end where a line does; with context on both sides they are whole lines.
     ///
     /// # Errors
-    /// `OutOfBounds` for exactly the spans that begin after the end of the source or end more than one byte
-    /// past it. `IoError` only from a source that doesn't always read.
+    /// `OutOfBounds` only for a span that begins after the end of the source or ends more than one byte past
+    /// it; such a span is always refused. `IoError` only from a source that doesn't always read, which may
+    /// answer it for any span.
     fn read_span(
         &self,
         span: &SourceSpan,

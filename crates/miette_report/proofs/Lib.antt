@@ -6,3 +6,5 @@ pub mod FaultStatuses
 pub mod PictureSteps
 pub mod AlwaysRead
 pub mod ChosenSteps
+pub mod FindingSteps
+pub mod LintSteps

@@ -1,5 +1,6 @@
 -- Steps of making a picture and of writing it.
-use Rattle.std.proofs.Common.{◌≡◌, ℕ, Bool, List, [], ◌++◌, Option, Some, None, Result, Err, true, false, IfOk, IfSome, sym, ◌∙◌, ap, ap₂, subst, encode_utf8_all, string_bytes, String}
+use Rattle.std.proofs.Common.{◌≡◌, ℕ, Bool, List, [], ◌++◌, Option, Some, None, Result, Err, true, false, IfOk, IfSome, refl, sym, ◌∙◌, ap, ap₂, subst, encode_utf8_all, string_bytes, String}
+use Rattle.miette_protocol.specs.Meaning.{Meaning}
 use Rattle.miette_protocol.specs.declared.error.RenderError.{RenderError}
 use Rattle.miette_protocol.specs.declared.error.RenderError.TheVariants.{Refused}
 use Rattle.miette_tree.specs.Tree.{Tree}
@@ -11,7 +12,8 @@ use Rattle.miette_handlers.specs.Handling.{Handling, draws_plain, without_highli
 use Rattle.miette_handlers.specs.Settings.{default_settings}
 use Rattle.miette_handlers.specs.Snippets.{drawn_rows}
 use Rattle.miette_handlers.specs.Text.{report_text}
-use Rattle.miette_report.specs.Drawn.{draw_settings, drawn_tree, IsPicture, IsReadWhole, Pictures}
+use Rattle.miette_report.proofs.AlwaysRead.{printed-reads}
+use Rattle.miette_report.specs.Drawn.{draw_settings, drawn_tree, over_input, IsPicture, IsReadWhole, Pictures}
 
 abbrev narrow : {H : Type 0} → Handling H → Handling H
 narrow h = record h { settings = record h.settings { width = 80 } }
@@ -43,9 +45,12 @@ unrefused theme h t r q e same is kept refused reads p =
     let refusal : e ≡ Refused = cc in
     let k : true ≡ false = sym (reads-whole theme h t same reads) ∙ refused (is ∙ ap Err refusal) in cc
 
--- of a drawn tree every label is read
-pub reads-drawn : (t : Tree) (name : List ℕ) (offset length : ℕ) (label message input : List ℕ) → t ≡ drawn_tree name offset length label message input → IsReadWhole t
-reads-drawn t name offset length label message input same = λ c. ap (λ u. all_read (printed (draw_settings c) u)) same
+-- of a diagnostic over an input every label is read
+pub reads-over : (t : Tree) (name : List ℕ) (m : Meaning) (input : List ℕ) → t ≡ over_input name m input → IsReadWhole t
+reads-over t name m input same = λ c. ap (λ u. all_read (printed (draw_settings c) u)) same ∙ printed-reads (draw_settings c) (over_input name m input) (refl, tt, tt)
+
+pub over-same : {E Z : Type 0} (r : Result (String Z) E) (name : List ℕ) (m n : Meaning) (input : List ℕ) → m ≡ n → IfOk r (λ text. IsPicture (over_input name m input) (string_bytes text)) → IfOk r (λ text. IsPicture (over_input name n input) (string_bytes text))
+over-same r name m n input same is = subst (λ v. IfOk r (λ text. IsPicture (over_input name v input) (string_bytes text))) same is
 
 pub IfOk-same : {E Z : Type 0} (r : Result (String Z) E) (t u : Tree) → t ≡ u → IfOk r (λ text. IsPicture t (string_bytes text)) → IfOk r (λ text. IsPicture u (string_bytes text))
 IfOk-same r t u same is = subst (λ v. IfOk r (λ text. IsPicture v (string_bytes text))) same is

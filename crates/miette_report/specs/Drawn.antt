@@ -1,7 +1,7 @@
 -- What the program `draw` reports.
 use Rattle.std.specs.Prelude.{◌≡◌, ℕ, List, [], ◌∷◌, Option, Some, None, true, false, encode_utf8_all}
 use Rattle.miette.specs.Diagnostic.{message_alone}
-use Rattle.miette.specs.Meaning.{Label}
+use Rattle.miette.specs.Meaning.{Label, Meaning}
 use Rattle.miette.specs.Reading.{named, plain_source}
 use Rattle.miette.specs.Tree.{Tree, alone, with_source}
 use Rattle.miette_text.specs.Themes.{characters_of, no_styles, unicode_characters}
@@ -21,10 +21,16 @@ label_text (b ∷ bs) = Some (b ∷ bs)
 abbrev pub drawn_label : ℕ → ℕ → List ℕ → Label
 drawn_label offset length text = record { text = label_text text; span = record { offset = offset; len = length }; primary = false; context = None }
 
--- the message with one label, over the input under a name
+-- the message with one label
+abbrev pub drawn_meaning : ℕ → ℕ → List ℕ → List ℕ → Meaning
+drawn_meaning offset length label message = record (message_alone message) { labels = Some (drawn_label offset length label ∷ []) }
+
+-- a diagnostic alone, over the input under a name
+abbrev pub over_input : List ℕ → Meaning → List ℕ → Tree
+over_input name meaning input = with_source (named (plain_source input) name None) (alone meaning)
+
 abbrev pub drawn_tree : List ℕ → ℕ → ℕ → List ℕ → List ℕ → List ℕ → Tree
-drawn_tree name offset length label message input =
-    with_source (named (plain_source input) name None) (alone (record (message_alone message) { labels = Some (drawn_label offset length label ∷ []) }))
+drawn_tree name offset length label message input = over_input name (drawn_meaning offset length label message) input
 
 -- plain, and 80 columns wide
 abbrev pub draw_settings : ThemeCharacters → Settings

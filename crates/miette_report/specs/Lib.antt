@@ -10,3 +10,5 @@ pub mod Chosen
 pub mod Statuses
 pub mod Drawn
 pub mod Faults
+pub mod Findings
+pub mod Linted

@@ -18,3 +18,13 @@ pub record AreDrawWords (words : List (List ℕ)) (name : List ℕ) (offset leng
 -- no reading of the words is one of `draw`'s
 abbrev pub IsNoDrawCall : List (List ℕ) → Type 0
 IsNoDrawCall words = (name : List ℕ) (offset length : ℕ) (label message : List ℕ) → ¬ (AreDrawWords words name offset length label message)
+
+-- two words, the second of which is a number
+pub record AreLintWords (words : List (List ℕ)) (name : List ℕ) (width : ℕ) : Type 0 where
+  pub width_word : List ℕ
+  pub two : words ≡ name ∷ width_word ∷ []
+  pub width_is : IsReadAs width_word (Some width)
+
+-- no reading of the words is one of `lint`'s
+abbrev pub IsNoLintCall : List (List ℕ) → Type 0
+IsNoLintCall words = (name : List ℕ) (width : ℕ) → ¬ (AreLintWords words name width)

@@ -11,6 +11,8 @@ mod description_parts;
 pub mod device;
 pub mod draw;
 pub mod job;
+pub mod lint;
+mod lint_lines;
 mod option_words;
 mod picture;
 mod run;

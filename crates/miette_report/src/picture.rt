@@ -1,10 +1,11 @@
-//! The report of one label on a source, and its picture.
+//! The picture of a diagnostic over a source, and that of one label.
 
 ghost use Rattle.std.specs.Prelude.{◌≡◌, ◌↔◌, ◌⊎◌, false, string_bytes, IsTrue, IfOk, OnOk, OnErr, IfSome};
 ghost use Rattle.std.specs.Io.KnownBytes.{Appends};
+ghost use Rattle.miette.specs.Diagnostic.{meaning_of};
 ghost use Rattle.miette.specs.Report.{tree_of};
 ghost use Rattle.miette_report.specs.Device.{TakesBeginning};
-ghost use Rattle.miette_report.specs.Drawn.{drawn_label, drawn_tree, IsPicture, IsReadWhole, Pictures};
+ghost use Rattle.miette_report.specs.Drawn.{drawn_label, drawn_meaning, drawn_tree, over_input, IsPicture, IsReadWhole, Pictures};
 
 use crate::device::Device;
 use crate::draw::DrawWords;
@@ -33,18 +34,25 @@ fn label(alloc: Global, offset: usize, length: usize, text: &str) -> Result<Labe
     Ok(LabeledSpan::new(Some(text), offset, length))
 }
 
-// The message with the label, over the input under its name.
-fn report<D: Diagnostic, S: SourceCode>(
-    alloc: Global,
-    words: &DrawWords<'_>,
-    input: Vec<u8>,
-) -> Result<Report<D, S>, AllocError>
-    ensures { IfOk result (λ it. tree_of D.meaning S.source it
-        ≡ drawn_tree words.now.name.now words.now.offset words.now.length words.now.label.now words.now.message.now input.items) }
+// The message with the label.
+fn diagnostic(alloc: Global, words: &DrawWords<'_>) -> Result<MietteDiagnostic, AllocError>
+    ensures { IfOk result (λ it. meaning_of it ≡ drawn_meaning words.now.offset words.now.length words.now.label.now words.now.message.now) }
 {
     let label = label(alloc, words.offset, words.length, words.label)?;
     let diagnostic = MietteDiagnostic::new(alloc, words.message)?.with_label(alloc, label)?;
-    let source = OwnedSource::named(alloc, words.name, None, input)?;
+    Ok(diagnostic)
+}
+
+// The report of a diagnostic over the input under its name.
+fn report<D: Diagnostic, S: SourceCode>(
+    alloc: Global,
+    name: &str,
+    diagnostic: MietteDiagnostic,
+    input: Vec<u8>,
+) -> Result<Report<D, S>, AllocError>
+    ensures { IfOk result (λ it. tree_of D.meaning S.source it ≡ over_input name.now (meaning_of diagnostic) input.items) }
+{
+    let source = OwnedSource::named(alloc, name, None, input)?;
     Ok(Report::built(diagnostic).with_owned_source(source))
 }
 
@@ -66,10 +74,30 @@ fn draw(alloc: Global, report: &Report) -> Result<String, RenderError>
     }
 }
 
-/// The text that the program `draw` writes for its words and its input.
+/// The picture of a diagnostic over the input under its name, in plain characters: what the programs `draw` and `lint` write.
 ///
 /// # Errors
 /// Where no memory is found. The source always reads, so nothing else is refused.
+pub(crate) fn picture_over(
+    alloc: Global,
+    name: &str,
+    diagnostic: MietteDiagnostic,
+    input: Vec<u8>,
+) -> Result<String, RenderError>
+    ensures ok { IfOk result (λ text. IsPicture (over_input name.now (meaning_of diagnostic) input.items) (string_bytes text)) }
+    ensures accepted { ¬ (result ≡ Err RenderError.Refused) }
+{
+    let report: Report = match report(alloc, name, diagnostic, input) {
+        Ok(report) => report,
+        Err(_) => return Err(RenderError::Memory),
+    };
+    draw(alloc, &report)
+}
+
+/// The text that the program `draw` writes for its words and its input.
+///
+/// # Errors
+/// Where no memory is found.
 pub(crate) fn picture(
     alloc: Global,
     words: &DrawWords<'_>,
@@ -78,11 +106,11 @@ pub(crate) fn picture(
     ensures ok { IfOk result (λ text. IsPicture (drawn_tree words.now.name.now words.now.offset words.now.length words.now.label.now words.now.message.now input.items) (string_bytes text)) }
     ensures accepted { ¬ (result ≡ Err RenderError.Refused) }
 {
-    let report: Report = match report(alloc, words, input) {
-        Ok(report) => report,
+    let diagnostic = match diagnostic(alloc, words) {
+        Ok(diagnostic) => diagnostic,
         Err(_) => return Err(RenderError::Memory),
     };
-    draw(alloc, &report)
+    picture_over(alloc, words.name, diagnostic, input)
 }
 
 /// Why `write_picture` ended without its text.
@@ -97,6 +125,10 @@ pub enum DrawError {
 }
 
 /// Reads all, and writes the picture of the words' label on it, and nothing else.
+///
+/// # Errors
+/// `Read` exactly where a call of the reader failed. `Write` exactly where one of the writer failed, or took nothing: it has then taken a
+/// beginning of the picture. `Memory` where memory is refused. After all but `Write` nothing was written.
 pub fn write_picture<R: Read, W: Write>(
     alloc: Global,
     words: &DrawWords<'_>,

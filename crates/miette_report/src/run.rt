@@ -116,6 +116,11 @@ pub(crate) fn rendered_length(
 }
 
 /// Reads all, and writes the text that the settings ask for and nothing else.
+///
+/// # Errors
+/// `Read` exactly where a call of the reader failed. `Write` exactly where one of the writer failed, or took nothing: it has then taken a
+/// beginning of the text. `Description` where what was read describes no report. `Refused` only of a narrated report, where a label that
+/// it tells isn't accepted. `Memory` where memory is refused. After all but `Write` nothing was written.
 pub fn run<R: Read, W: Write>(
     alloc: Global,
     reader: &mut Device<R>,

@@ -11,7 +11,9 @@ use std::io::{Read, Write};
 /// Why a reader was not read to its end.
 #[derive(Clone, Copy, Debug, PartialEq, Eq)]
 pub enum ReadError {
+    /// Memory was refused.
     Memory,
+    /// The reader failed.
     Read,
 }
 

@@ -6,7 +6,7 @@ use std::test::Fail;
 
 const USAGE: &str = "usage: draw NAME OFFSET LENGTH LABEL MESSAGE\n";
 
-fn owned(alloc: Global, words: &[&str]) -> Result<Vec<String>, AllocError> {
+pub(crate) fn owned(alloc: Global, words: &[&str]) -> Result<Vec<String>, AllocError> {
     let mut owned = Vec::new(alloc);
     for word in words {
         owned.push(String::from_str(alloc, word)?)?;

@@ -16,6 +16,8 @@ mod job;
 #[cfg(test)]
 mod job_words;
 #[cfg(test)]
+mod lint;
+#[cfg(test)]
 mod options;
 #[cfg(test)]
 mod words;

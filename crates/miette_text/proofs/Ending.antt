@@ -4,9 +4,17 @@ use Rattle.miette_text.specs.Sequences.{flat}
 use Rattle.miette_text.specs.Wrapping.{Cell, Word, words, with_space, with_letter, is_space}
 use Rattle.miette_text.specs.Printing.{all_spaces, shown}
 use Rattle.miette_text.specs.WholeText.{piece_text}
-use Rattle.miette_text.specs.Ends.{letters_len, spaces_len, bare_len, marks_text}
+use Rattle.miette_text.specs.Ends.{bare_len, marks_text}
 
 -- ---- the first word
+
+abbrev pub letters_len : List Cell → ℕ
+letters_len [] = 0
+letters_len (c ∷ cs) = if is_space c.code then 0 else suc (letters_len cs)
+
+abbrev pub spaces_len : List Cell → ℕ
+spaces_len [] = 0
+spaces_len (c ∷ cs) = if is_space c.code then suc (spaces_len cs) else 0
 
 abbrev cut : ℕ → ℕ → List Cell → List Word
 cut n m cs = record { letters = take n cs; spaces = take m (drop n cs) } ∷ words (drop m (drop n cs))

@@ -2,8 +2,9 @@
 use Rattle.std.proofs.Common.{◌≡◌, ℕ, zero, suc, List, [], ◌∷◌, ◌++◌, take, refl, sym, ap, ap₂, ◌∙◌, arith, append_assoc}
 use Rattle.std.proofs.lemmas.Bool.Decides.{nat_tests}
 use Rattle.miette_text.specs.Sequences.{Token, Character, Sequence, tokens, tokens_behind, spell, spelling, erase, sequence_len}
-use Rattle.miette_text.specs.Tame.{State, Free, Escaped, Opened, Waiting, Broken, step, state_behind, AreTame, IsTame, erased, colourless, AllTame}
+use Rattle.miette_text.specs.Tame.{State, Free, Escaped, Opened, Waiting, Broken, step, state_behind, AreTame, IsTame, colourless, AllTame}
 use Rattle.miette_text.specs.Wrapping.{Layout, wrapped_tokens, wrapped}
+use Rattle.miette_text.proofs.Erased.{erased}
 use Rattle.miette_text.proofs.Parsing.{broken_stays, tokens-spell, erase-spell}
 use Rattle.miette_text.proofs.Commuting.{Bleaches, wrapped-erased, erased-append}
 use Rattle.miette_text.proofs.Closed.{wrapped_tokens-tame, run-append}

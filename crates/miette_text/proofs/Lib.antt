@@ -2,6 +2,7 @@ pub mod Examples
 pub mod Parsing
 pub mod Commuting
 pub mod Closed
+pub mod Erased
 pub mod Erasing
 pub mod Printing
 pub mod Cuts
@@ -11,6 +12,7 @@ pub mod Packing
 pub mod Joining
 pub mod Simple
 pub mod Unique
+pub mod RowEnds
 pub mod Encoding
 pub mod FilledColours
 pub mod Ending

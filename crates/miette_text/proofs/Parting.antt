@@ -4,8 +4,8 @@ use Rattle.std.proofs.lemmas.Bool.Decides.{nat_tests}
 use Rattle.std.proofs.lemmas.List.{drop-map}
 use Rattle.miette_text.specs.Wrapping.{Cell, Word, width, onto, words, is_space, is_alphanumeric, begins_alphanumeric, broken, with_spaces}
 use Rattle.miette_text.specs.Filling.{maybe_broken, parts_with}
-use Rattle.miette_text.specs.Ends.{letters_len, spaces_len, codes_of, begins_word, part_len, gap_len, code_behind, hyphenated_behind, words_behind}
-use Rattle.miette_text.proofs.Ending.{words-first}
+use Rattle.miette_text.specs.Ends.{codes_of, begins_word, part_len, gap_len, code_behind, hyphenated_behind, words_behind}
+use Rattle.miette_text.proofs.Ending.{letters_len, spaces_len, words-first}
 
 -- ---- cuts at hyphens, and where a part is too wide, in one recursion
 

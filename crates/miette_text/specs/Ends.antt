@@ -1,17 +1,9 @@
--- Where the first word, the first part of a word, the first row, and a row without its last spaces end.
+-- Where the first part of a word, the first row, and a row without its last spaces end.
 use Rattle.std.specs.Prelude.{◌≡◌, ℕ, zero, suc, ◌+◌, Bool, false, ◌&&◌, ◌==◌, nat_lt, List, [], ◌∷◌, ◌++◌, if◌then◌else◌, map, flat_map, take, drop, sum_by}
 use Rattle.miette_text.specs.Filling.{maybe_broken, parts_with}
 use Rattle.miette_text.specs.Printing.{all_spaces, row_cells}
 use Rattle.miette_text.specs.Sequences.{flat, is_line_feed}
 use Rattle.miette_text.specs.Wrapping.{Cell, Word, width, is_space, is_alphanumeric, hyphen_parts, rows, with_spaces, words}
-
-abbrev pub letters_len : List Cell → ℕ
-letters_len [] = 0
-letters_len (c ∷ cs) = if is_space c.code then 0 else suc (letters_len cs)
-
-abbrev pub spaces_len : List Cell → ℕ
-spaces_len [] = 0
-spaces_len (c ∷ cs) = if is_space c.code then suc (spaces_len cs) else 0
 
 -- without the last spaces
 abbrev pub bare_len : List Cell → ℕ

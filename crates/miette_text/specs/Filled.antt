@@ -1,6 +1,7 @@
--- Which rows a list of words fills, by what holds of them.
-use Rattle.std.specs.Prelude.{ℕ, ◌+◌, ◌<◌, ◌≤◌, List, [], ◌∷◌, ◌++◌}
-use Rattle.miette_text.specs.Wrapping.{Word, columns, word_cells}
+-- Which rows a list of words fills, and what is printed of a row, by what holds of them.
+use Rattle.std.specs.Prelude.{◌≡◌, ℕ, ◌+◌, ◌<◌, ◌≤◌, Bool, true, false, not, List, [], ◌∷◌, ◌++◌}
+use Rattle.miette_text.specs.Sequences.{Token, Character, Sequence}
+use Rattle.miette_text.specs.Wrapping.{Word, columns, is_space, only_spaces, word_cells}
 
 abbrev pub all_words : List (List Word) → List Word
 all_words [] = []
@@ -39,3 +40,29 @@ abbrev pub IsFilled : ℕ → ℕ → List (List Word) → Type 0
 IsFilled room further [] = ⊥
 IsFilled room further ([] ∷ rs) = elim rs [ [] ↦ Unit {0} | q ∷ qs ↦ ⊥ ]
 IsFilled room further ((w ∷ ws) ∷ rs) = IsRow room (w ∷ ws) × Below room further (row_used (w ∷ ws)) rs
+
+-- ---- without the last spaces
+
+abbrev pub sequences_of : List Token → List Token
+sequences_of [] = []
+sequences_of (Character c ∷ ts) = sequences_of ts
+sequences_of (Sequence s ∷ ts) = Sequence s ∷ sequences_of ts
+
+-- a character that is no space
+abbrev pub is_letter : Token → Bool
+is_letter (Character c) = not (is_space c)
+is_letter (Sequence s) = false
+
+-- where there is anything, a letter is the last
+abbrev pub ends_with_letter : List Token → Bool
+ends_with_letter [] = true
+ends_with_letter (t ∷ ts) = elim ts [ [] ↦ is_letter t | u ∷ us ↦ ends_with_letter ts ]
+
+-- The row up to its last letter, and the sequences behind it: nothing but spaces is missing.
+pub record IsTrimmed (row found : List Token) : Type 0 where
+  pub kept : List Token
+  pub dropped : List Token
+  pub whole : row ≡ kept ++ dropped
+  pub letter : ends_with_letter kept ≡ true
+  pub spaces : only_spaces dropped ≡ true
+  pub printed : found ≡ kept ++ sequences_of dropped

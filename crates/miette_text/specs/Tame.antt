@@ -76,12 +76,6 @@ AreTame ts = state_behind Free ts ≡ Free
 abbrev pub IsTame : List ℕ → Type 0
 IsTame text = AreTame (tokens text)
 
--- without the colours
-abbrev pub erased : List Token → List Token
-erased [] = []
-erased (Character c ∷ ts) = Character c ∷ erased ts
-erased (Sequence s ∷ ts) = if is_colour s then erased ts else Sequence s ∷ erased ts
-
 abbrev pub colourless : Layout → Layout
 colourless l = record l { first = erase l.first; further = erase l.further }
 

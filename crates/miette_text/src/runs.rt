@@ -8,16 +8,18 @@ ghost use Rattle.miette_text.specs.Woven.{is_whole, sign_text, woven};
 
 pub(crate) mod cells;
 mod colours;
+pub(crate) mod columns;
 mod cut;
 pub(crate) mod marks;
 pub mod reading;
-pub mod sign;
-pub mod sink;
+mod sequences;
+pub(crate) mod sign;
+pub(crate) mod sink;
 
 use crate::runs::colours::{begun_style, is_plain};
+use crate::runs::sequences::sequence_at;
 use crate::runs::sign::{Mark, Sign};
 use crate::style::Style;
-use crate::wrap::sequences::sequence_at;
 use std::alloc::{AllocError, Global};
 use std::marker::Model;
 
@@ -65,6 +67,9 @@ impl Runs {
     }
 
     /// Appends a character.
+    ///
+    /// # Errors
+    /// `AllocError` where memory is refused.
     pub fn push(&mut self, c: char) -> Result<(), AllocError>
         ensures tokens { OnOk result (self.new ≡ self.old ++ Character c ∷ []) }
         ensures text { OnOk result (spell self.new ≡ spell self.old ++ c ∷ []) }
@@ -74,6 +79,9 @@ impl Runs {
     }
 
     /// Appends characters.
+    ///
+    /// # Errors
+    /// `AllocError` where memory is refused.
     pub fn push_chars(&mut self, codes: &[char]) -> Result<(), AllocError>
         ensures tokens { OnOk result (self.new ≡ self.old ++ map Character codes.now) }
         ensures text { OnOk result (spell self.new ≡ spell self.old ++ codes.now) }
@@ -83,6 +91,9 @@ impl Runs {
     }
 
     /// Appends the characters of a text.
+    ///
+    /// # Errors
+    /// `AllocError` where memory is refused.
     pub fn push_str(&mut self, text: &str) -> Result<(), AllocError>
         ensures tokens { OnOk result (self.new ≡ self.old ++ map Character (chars text.now)) }
         ensures text { OnOk result (spell self.new ≡ spell self.old ++ chars text.now) }
@@ -136,6 +147,9 @@ impl Runs {
     }
 
     /// Begins a style, in which what is appended next is printed.
+    ///
+    /// # Errors
+    /// `AllocError` where memory is refused.
     pub fn begin(&mut self, style: Style) -> Result<(), AllocError>
         ensures tokens { OnOk result (self.new ≡ self.old ++ Sequence (colour_start style) ∷ []) }
         ensures text { OnOk result (spell self.new ≡ spell self.old ++ colour_start style) }
@@ -144,6 +158,9 @@ impl Runs {
     }
 
     /// Ends the style.
+    ///
+    /// # Errors
+    /// `AllocError` where memory is refused.
     pub fn end(&mut self) -> Result<(), AllocError>
         ensures tokens { OnOk result (self.new ≡ self.old ++ Sequence colour_stop ∷ []) }
         ensures text { OnOk result (spell self.new ≡ spell self.old ++ colour_stop) }
@@ -152,6 +169,9 @@ impl Runs {
     }
 
     /// Appends a text in a style.
+    ///
+    /// # Errors
+    /// `AllocError` where memory is refused.
     pub fn push_run(&mut self, style: Style, text: &str) -> Result<(), AllocError>
         ensures text { OnOk result (spell self.new ≡ spell self.old ++ printed_run style (chars text.now)) }
     {
@@ -166,6 +186,9 @@ impl Runs {
     }
 
     /// Appends characters in a style.
+    ///
+    /// # Errors
+    /// `AllocError` where memory is refused.
     pub fn push_run_chars(&mut self, style: Style, text: &[char]) -> Result<(), AllocError>
         ensures text { OnOk result (spell self.new ≡ spell self.old ++ printed_run style text.now) }
     {
@@ -189,6 +212,9 @@ impl Runs {
     }
 
     /// Begins a link to a URL.
+    ///
+    /// # Errors
+    /// `AllocError` where memory is refused.
     pub fn push_link(&mut self, url: &str) -> Result<(), AllocError>
         ensures text { OnOk result (spell self.new ≡ spell self.old ++ link_start (chars url.now)) }
     {
@@ -197,6 +223,9 @@ impl Runs {
     }
 
     /// Ends the link.
+    ///
+    /// # Errors
+    /// `AllocError` where memory is refused.
     pub fn push_link_end(&mut self) -> Result<(), AllocError>
         ensures text { OnOk result (spell self.new ≡ spell self.old ++ link_start []) }
     {
@@ -205,6 +234,9 @@ impl Runs {
     }
 
     /// Appends other runs.
+    ///
+    /// # Errors
+    /// `AllocError` where memory is refused.
     pub fn append(&mut self, more: &Runs) -> Result<(), AllocError>
         ensures tokens { OnOk result (self.new ≡ self.old ++ more.now) }
         ensures text { OnOk result (spell self.new ≡ spell self.old ++ spell more.now) }

@@ -2,15 +2,22 @@
 
 ghost use Rattle.std.specs.Prelude.{◌≡◌, Some, true};
 
-/// A colour of the foreground: one of the terminal's own, or its red, green and blue parts.
+/// A colour of the foreground: one of the terminal's own, or its red, green and blue parts. Codes stand between `ESC [` and `m`.
 #[derive(Clone, Copy, Debug, PartialEq, Eq)]
 pub enum Color {
+    /// The terminal's red: code 31.
     Red,
+    /// The terminal's green: code 32.
     Green,
+    /// The terminal's yellow: code 33.
     Yellow,
+    /// The terminal's blue: code 34.
     Blue,
+    /// The terminal's magenta: code 35.
     Magenta,
+    /// The terminal's cyan: code 36.
     Cyan,
+    /// The red, the green and the blue part: codes `38;2;R;G;B`.
     Rgb(u8, u8, u8),
 }
 
@@ -19,9 +26,13 @@ pub enum Color {
 pub struct Style {
     /// The colour of the characters, or the terminal's own.
     pub fg: Option<Color>,
+    /// Whether they are bold: code 1.
     pub bold: bool,
+    /// Whether they are dimmed: code 2.
     pub dimmed: bool,
+    /// Whether they are italic: code 3.
     pub italic: bool,
+    /// Whether they are underlined: code 4.
     pub underline: bool,
 }
 

@@ -6,26 +6,48 @@ use std::alloc::{AllocError, Global};
 /// The characters of a drawing, and the icon before a message for each severity.
 #[derive(Debug, PartialEq, Eq, Drop)]
 pub struct ThemeCharacters {
+    /// The line of frames, of arrows, and from a corner to a label's text.
     pub hbar: char,
+    /// The bar behind a line's number, beside the lines of a label, down to texts below, and under icons and arrows.
     pub vbar: char,
+    /// Drawn nowhere.
     pub xbar: char,
+    /// The bar in place of `vbar` on the rows under a line, which have no number.
     pub vbar_break: char,
+    /// The mark of an empty label.
     pub uarrow: char,
+    /// The head of arrows.
     pub rarrow: char,
+    /// The upper corner of a frame, and where a label of several lines starts.
     pub ltop: char,
+    /// Drawn nowhere.
     pub mtop: char,
+    /// Drawn nowhere.
     pub rtop: char,
+    /// The lower corner of a frame, where a label of several lines ends, before a label's text, and of the arrow to the last cause or related
+    /// report.
     pub lbot: char,
+    /// Drawn nowhere.
     pub rbot: char,
+    /// Drawn nowhere.
     pub mbot: char,
+    /// Drawn nowhere.
     pub lbox: char,
+    /// Drawn nowhere.
     pub rbox: char,
+    /// The corner of each other such arrow, and on the last line of a label of several lines whose text stands below.
     pub lcross: char,
+    /// What stands before the first part of a label's text of several parts.
     pub rcross: char,
+    /// The middle of the mark of a label that has a text and isn't empty.
     pub underbar: char,
+    /// All other columns of marks.
     pub underline: char,
+    /// The icon of an error, and where there is no severity.
     pub error: String,
+    /// The icon of a warning.
     pub warning: String,
+    /// The icon of an advice.
     pub advice: String,
 }
 
@@ -136,12 +158,19 @@ impl Clone for ThemeCharacters {
 /// The styles of a graphical report. In order of offset, the labels take the styles of `highlights` in turn.
 #[derive(Debug, Drop)]
 pub struct ThemeStyles {
+    /// The code, icon, bars and arrows of an error, and where there is no severity; the first words of a refused label's row.
     pub error: Style,
+    /// Those of a warning; the refusal's name in that row.
     pub warning: Style,
+    /// Those of an advice.
     pub advice: Style,
+    /// What stands before a help text: `  help: `.
     pub help: Style,
+    /// The text of a link, a url that is text, what a named frame has in brackets; text, offset and length in a refused label's row.
     pub link: Style,
+    /// The number of a line, with the spaces that pad it.
     pub linum: Style,
+    /// The gutters, marks and texts of labels; where the list is empty they are plain.
     pub highlights: Vec<Style>,
 }
 
@@ -251,7 +280,9 @@ pub struct Terminal {
 /// How a graphical report looks: its characters and its styles.
 #[derive(Debug, Drop)]
 pub struct GraphicalTheme {
+    /// The characters of lines, arrows and marks, and the icons.
     pub characters: ThemeCharacters,
+    /// The styles of a report's parts, and of its labels.
     pub styles: ThemeStyles,
 }
 

@@ -10,18 +10,16 @@ pub mod cutting;
 mod ends;
 pub mod laws;
 mod lines;
-pub(crate) mod sequences;
 mod whole;
-pub(crate) mod words;
 
 use crate::runs::Runs;
 use crate::runs::cells::push_all;
+use crate::runs::columns::token_columns;
 use crate::runs::reading::{is_settled, read_text, reread};
 use crate::runs::sink::Sink;
 use crate::wrap::ends::Cuts;
 use crate::wrap::lines::{Under, push_filled};
 use crate::wrap::whole::push_whole;
-use crate::wrap::words::token_columns;
 use std::alloc::{AllocError, Global};
 
 /// How words are told apart.
@@ -146,7 +144,8 @@ pub fn wrap(alloc: Global, plan: Plan<'_>, text: &Runs, out: &mut Runs) -> Resul
     Ok(())
 }
 
-fn cuts_hyphens(splitter: WordSplitter) -> bool
+/// Whether words are cut behind hyphens.
+pub fn cuts_hyphens(splitter: WordSplitter) -> bool
     ensures { result ≡ cuts_hyphens splitter }
 {
     match splitter {

@@ -1,8 +1,10 @@
-//! Callers of `miette_text` from a crate above: wrapped texts, the tables of themes, styles, highlighters.
+//! Callers of `miette_text` from a crate above: wrapped texts and runs, the tables of themes, styles, highlighters.
 #![tactic(auto)]
 
 #[cfg(test)]
 mod highlighters;
+#[cfg(test)]
+mod runs;
 #[cfg(test)]
 mod styles;
 #[cfg(test)]

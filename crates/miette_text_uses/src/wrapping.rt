@@ -103,3 +103,76 @@ fn ends(rt: HostRuntime) -> Result<(), Fail> {
     assert_eq!(rt; out.as_str(), ">\u{A0}\t\n. a\n\u{1B}[0m");
     Ok(())
 }
+
+fn filled_under(
+    rt: &HostRuntime,
+    text: &str,
+    width: usize,
+    indents: (&str, &str),
+    wrap_lines: bool,
+) -> Result<String, AllocError> {
+    let (first_indent, further_indent) = indents;
+    let options = WrapOptions {
+        width,
+        first_indent,
+        further_indent,
+        break_words: true,
+        wrap_lines,
+        separator: WordSeparator::AsciiSpace,
+        splitter: WordSplitter::HyphenSplitter,
+    };
+    let mut out = String::new(rt.alloc());
+    fill(text, &options, &mut out)?;
+    Ok(out)
+}
+
+#[test]
+fn spaces_of_indents(rt: HostRuntime) -> Result<(), Fail> {
+    // wrapped, an indent keeps its spaces, also where nothing else is left in the row
+    let rows = [
+        ("", 80, "> "),
+        ("a\n\nb", 80, "> a\n. \n. b"),
+        ("   a", 4, "> \n. a"),
+        ("ab c", 1, "> a\n. b\n. c"),
+        ("a b", usize::MAX, "> a b"),
+    ];
+    for (text, width, wanted) in rows {
+        assert_eq!(rt;
+            filled_under(&rt, text, width, ("> ", ". "), true)?.as_str(),
+            wanted
+        );
+    }
+    Ok(())
+}
+
+#[test]
+fn narrow_rows(rt: HostRuntime) -> Result<(), Fail> {
+    let rows = [
+        ("漢a", 0, "漢\na"),
+        ("漢\u{301}", 1, "漢\n\u{301}"),
+        ("\u{301}漢", 1, "\u{301}漢"),
+    ];
+    for (text, width, wanted) in rows {
+        assert_eq!(rt; filled(&rt, text, width, true)?.as_str(), wanted);
+    }
+    Ok(())
+}
+
+#[test]
+fn nothing_to_indent(rt: HostRuntime) -> Result<(), Fail> {
+    // without wrapping: no text, sequences alone, white space under an indent with sequences among its spaces
+    let indents = ("|\u{1B}[31m \u{1B}[0m ", ". ");
+    let rows = [
+        ("", ""),
+        ("\u{1B}[31m\u{1B}[0m", "\u{1B}[31m\u{1B}[0m"),
+        ("\t", "|\u{1B}[31m\u{1B}[0m\t"),
+        ("a\n\t", "|\u{1B}[31m \u{1B}[0m a\n.\t"),
+    ];
+    for (text, wanted) in rows {
+        assert_eq!(rt;
+            filled_under(&rt, text, 80, indents, false)?.as_str(),
+            wanted
+        );
+    }
+    Ok(())
+}

@@ -44,7 +44,7 @@ where
         Report::from_innermost(Innermost::Boxed(diagnostic))
     }
 
-    /// The report of a message alone.
+    /// The report of a message alone. `AllocError` where memory for the copy is refused.
     pub fn msg(alloc: Global, text: &str) -> Result<Report<D, S>, AllocError>
         ensures tree { IfOk result (λ r. tree_of D.meaning S.source r ≡ alone (message_alone text.now)) }
         ensures kind { IfOk result (λ r. kind_of r ≡ message) }

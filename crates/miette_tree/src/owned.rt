@@ -26,7 +26,8 @@ pub struct OwnedSource {
 impl OwnedSource {
     ghost use Rattle.miette_tree.specs.Owned.{owned_source};
 
-    /// These bytes, with no name and no language.
+    /// These bytes, with no name and no language. `AllocError` where there is no memory for the index; the bytes
+    /// are then let go.
     pub fn new(alloc: Global, bytes: Vec<u8>) -> Result<OwnedSource, AllocError>
         ensures { IfOk result (λ it. owned_source it ≡ plain_source bytes.items) }
     {
@@ -35,7 +36,8 @@ impl OwnedSource {
         })
     }
 
-    /// These bytes, with a name, and with a language where one is given.
+    /// These bytes, with a name, and with a language where one is given. `AllocError` where there is no memory
+    /// for the index, the name or the language; the bytes are then let go.
     pub fn named(
         alloc: Global,
         name: &str,
@@ -110,7 +112,8 @@ impl<'a, S: SourceCode> SourceRef<'a, S> {
     ghost use Rattle.miette_tree.specs.Owned.{shown_source};
 
     /// Reads a span of the source with so many lines of context before it and after it. Takes memory
-    /// only where the source does. The data, name and language are lent by the report.
+    /// only where the source does. The data, name and language are lent by the report. The errors are those
+    /// of `SourceCode::read_span`; an owned source never answers `IoError`.
     pub fn read_span(
         self,
         span: &SourceSpan,

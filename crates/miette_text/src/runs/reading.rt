@@ -7,10 +7,10 @@ ghost use Rattle.miette_text.specs.Woven.{are_whole, is_whole, sign_text, woven}
 ghost use Rattle.miette_text.specs.Wrapping.{columns_of};
 
 use crate::runs::cells::push_all;
+use crate::runs::columns::token_columns;
+use crate::runs::sequences::{sequence_at, stays_open};
 use crate::runs::sign::{Mark, Sign};
 use crate::runs::{Parts, Runs, is_whole};
-use crate::wrap::sequences::{sequence_at, stays_open};
-use crate::wrap::words::token_columns;
 use std::alloc::{AllocError, Global};
 
 fn codes_of(alloc: Global, text: &str) -> Result<Vec<char>, AllocError>
@@ -52,6 +52,9 @@ fn cut(alloc: Global, codes: &[char]) -> Result<Runs, AllocError>
 }
 
 /// The runs that characters spell: each whole sequence in them is a sign.
+///
+/// # Errors
+/// `AllocError` where memory is refused. The characters are then let go.
 pub fn read(alloc: Global, codes: Vec<char>) -> Result<Runs, AllocError>
     ensures tokens { IfOk result (λ r. r ≡ tokens codes.items) }
     ensures text { IfOk result (λ r. spell r ≡ codes.items) }
@@ -64,6 +67,9 @@ pub fn read(alloc: Global, codes: Vec<char>) -> Result<Runs, AllocError>
 }
 
 /// The runs that a text spells.
+///
+/// # Errors
+/// `AllocError` where memory is refused.
 pub fn read_text(alloc: Global, text: &str) -> Result<Runs, AllocError>
     ensures tokens { IfOk result (λ r. r ≡ tokens (chars text.now)) }
     ensures text { IfOk result (λ r. spell r ≡ chars text.now) }
@@ -111,6 +117,9 @@ pub(crate) fn reread(alloc: Global, runs: &Runs) -> Result<Runs, AllocError>
 }
 
 /// What runs print.
+///
+/// # Errors
+/// `AllocError` where memory is refused.
 pub fn print(alloc: Global, runs: &Runs) -> Result<String, AllocError>
     ensures { IfOk result (λ s. string_bytes s ≡ encode_utf8_all (spell runs.now)) }
 {
@@ -121,6 +130,9 @@ pub fn print(alloc: Global, runs: &Runs) -> Result<String, AllocError>
 }
 
 /// How many columns runs have, as they are printed.
+///
+/// # Errors
+/// `AllocError` where memory is refused, or they have more columns than a `usize` counts.
 pub fn columns_of(alloc: Global, runs: &Runs) -> Result<usize, AllocError>
     ensures { IfOk result (λ n. n ≡ columns_of (tokens (spell runs.now))) }
 {

@@ -4,7 +4,7 @@ use crate::style::Style;
 
 /// Where a style begins or ends, or another whole sequence for the terminal. A sign has no columns.
 #[derive(Debug, Drop)]
-pub enum Sign {
+pub(crate) enum Sign {
     /// A style begins.
     Begin(Style),
     /// The style ends.

@@ -11,7 +11,7 @@ use crate::runs::sign::Sign;
 use std::alloc::AllocError;
 
 /// What characters and signs are appended to.
-pub trait Sink {
+pub(crate) trait Sink {
     ghost holds: { Self → List ℕ };
 
     ghost spells: { List ℕ → List ℕ };

@@ -20,6 +20,9 @@ fn settled(alloc: Global, runs: Runs) -> Result<Runs, AllocError>
 }
 
 /// Without the line feeds at the beginning; colours before and between them stay.
+///
+/// # Errors
+/// `AllocError` where memory is refused. The runs are then let go.
 pub fn without_leading(alloc: Global, runs: Runs) -> Result<Runs, AllocError>
     ensures { IfOk result (λ r. spell r ≡ without_leading (spell runs)) }
 {
@@ -29,6 +32,9 @@ pub fn without_leading(alloc: Global, runs: Runs) -> Result<Runs, AllocError>
 }
 
 /// Without the line feeds at the end; colours behind and between them stay.
+///
+/// # Errors
+/// `AllocError` where memory is refused. The runs are then let go.
 pub fn without_trailing(alloc: Global, runs: Runs) -> Result<Runs, AllocError>
     ensures { IfOk result (λ r. spell r ≡ without_trailing (spell runs)) }
 {

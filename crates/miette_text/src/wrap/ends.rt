@@ -4,15 +4,15 @@ ghost use Rattle.std.specs.Prelude.{◌≡◌, ◌≤◌, ◌<◌, ◌==◌, ◌
 ghost use Rattle.miette_text.specs.Ends.{IsFirstRow, begins_word, code_columns, gap_len, part_len};
 ghost use Rattle.miette_text.specs.Wrapping.{is_alphanumeric};
 
-use crate::wrap::words::{char_columns, sum};
+use crate::runs::columns::{char_columns, sum};
 use std::alloc::AllocError;
 
 /// How words are cut: behind hyphens, and where they are wider than the narrower of the rows.
 #[derive(Clone, Copy)]
-pub struct Cuts {
-    pub hyphens: bool,
-    pub breaks: bool,
-    pub narrow: usize,
+pub(crate) struct Cuts {
+    pub(crate) hyphens: bool,
+    pub(crate) breaks: bool,
+    pub(crate) narrow: usize,
 }
 
 /// The first part of a word: how many letters it has, and how many columns they take.
@@ -96,7 +96,12 @@ fn gap_len(codes: &[char]) -> usize
 }
 
 /// How many codes the first row has, of those that are left of a line behind one.
-pub fn row_len(cuts: Cuts, room: usize, first: char, codes: &[char]) -> Result<usize, AllocError>
+pub(crate) fn row_len(
+    cuts: Cuts,
+    room: usize,
+    first: char,
+    codes: &[char],
+) -> Result<usize, AllocError>
     ensures value { IfOk result (λ n. IsFirstRow cuts.hyphens cuts.breaks cuts.narrow first room codes.now n) }
     ensures some { IfOk result (λ n. 0 < length codes.now → 0 < n) }
     ensures within { IfOk result (λ n. n ≤ length codes.now) }

@@ -4,10 +4,10 @@
 ghost use Rattle.std.specs.Prelude.{◌≡◌, ℕ, List, ◌++◌, map, encode_utf8_all};
 ghost use Rattle.miette_text.specs.Cutting.{without_leading, without_trailing};
 ghost use Rattle.miette_text.specs.Runs.{HaveNoEscape, Run, plain_run, print};
-ghost use Rattle.miette_text.specs.Sequences.{erase, tokens};
+ghost use Rattle.miette_text.specs.Sequences.{Token, erase, tokens};
 ghost use Rattle.miette_text.specs.Tame.{AllTame, IsColoured, IsTame, colourless};
-ghost use Rattle.miette_text.specs.Filled.{IsFilled, all_words};
-ghost use Rattle.miette_text.specs.Wrapping.{Layout, Word, columns_of, rows, wrapped};
+ghost use Rattle.miette_text.specs.Filled.{IsFilled, IsTrimmed, all_words};
+ghost use Rattle.miette_text.specs.Wrapping.{Layout, Word, columns_of, rows, trimmed, wrapped};
 
 /// Wrapping tame parts gives a tame text, and colours can be deleted before or after.
 pub fn wrapping_law()
@@ -51,8 +51,12 @@ pub fn colours_law()
 {}
 
 /// The rows that words fill, by what holds of them: they hold the words in order, and each word begins a row exactly
-/// where it doesn't fit behind those before it. No other rows are such.
+/// where it doesn't fit behind those before it. No other rows are such. What is printed of a row is all but its last
+/// spaces, and nothing else is.
 pub fn rows_law()
+    ensures words { (room further : ℕ) (words : List Word) → all_words (rows room further words) ≡ words }
     ensures filled { (room further : ℕ) (words : List Word) → IsFilled room further (rows room further words) }
     ensures only { (room further : ℕ) (found : List (List Word)) → IsFilled room further found → found ≡ rows room further (all_words found) }
+    ensures spaces { (row : List Token) → IsTrimmed row (trimmed row) }
+    ensures only_spaces { (row found : List Token) → IsTrimmed row found → found ≡ trimmed row }
 {}

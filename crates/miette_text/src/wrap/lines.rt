@@ -24,8 +24,8 @@ pub(crate) struct Under<'a> {
 
 // ---- rows
 
-// How many codes there are without the last spaces.
-pub fn bare_len(row: &[char]) -> usize
+/// How many codes there are without the last spaces.
+pub(crate) fn bare_len(row: &[char]) -> usize
     ensures value { result ≡ bare_len (plain_cells row.now) }
     ensures within { result ≤ length row.now }
 {
@@ -100,7 +100,8 @@ fn push_rows<S: Sink>(
 
 // ---- lines
 
-pub fn line_len(codes: &[char]) -> usize
+/// How many codes there are up to the first line feed, or to the end.
+pub(crate) fn line_len(codes: &[char]) -> usize
     ensures value { result ≡ line_len codes.now }
     ensures within { result ≤ length codes.now }
 {

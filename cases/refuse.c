@@ -1,0 +1,31 @@
+/* Loaded before the C library: refuses the growth whose number stands in REFUSED_GROWTH, counting from 1, and then writes one
+   byte to the file number in REFUSED_REPORT. All other growths are the C library's. */
+#include <stdlib.h>
+#include <unistd.h>
+
+extern void *__libc_malloc(size_t);
+extern void *__libc_realloc(void *, size_t);
+
+static long number_of(const char *name)
+{
+    const char *text = getenv(name);
+    return text ? strtol(text, 0, 10) : 0;
+}
+
+static int is_refused(void)
+{
+    static long growths;
+    if (++growths != number_of("REFUSED_GROWTH"))
+        return 0;
+    return write((int)number_of("REFUSED_REPORT"), "r", 1) == 1;
+}
+
+void *malloc(size_t size)
+{
+    return is_refused() ? 0 : __libc_malloc(size);
+}
+
+void *realloc(void *block, size_t size)
+{
+    return is_refused() ? 0 : __libc_realloc(block, size);
+}

@@ -1,0 +1,19 @@
+//! Labels what is amiss in the lines of a source from standard input.
+#![tactic(auto)]
+
+use miette_report::lint::{lint_with, refuse_words};
+use miette_report::words::program_words;
+use std::process::ExitCode;
+
+fn main(rt: HostRuntime) -> ExitCode {
+    ExitCode::from(match program_words(&rt) {
+        Ok(words) => lint_with(
+            rt.alloc(),
+            words.as_slice(),
+            rt.stdin(),
+            rt.stdout(),
+            rt.stderr(),
+        ),
+        Err(fault) => refuse_words(fault, rt.stderr()),
+    })
+}

@@ -1,0 +1,215 @@
+//! The program `lint` over any reader and writers.
+
+ghost use Rattle.std.specs.Prelude.{◌≡◌, ◌↔◌, ◌<◌, false, true, IfOk, IfSome, IsNone, IsTrue, map, string_bytes};
+ghost use Rattle.std.specs.Io.KnownBytes.{Appends};
+ghost use Rattle.miette.specs.Diagnostic.{meaning_of};
+ghost use Rattle.miette_report.specs.Linted.{counted, warning, CallIsClean, CallLints, IsClean, IsLinted, Lints};
+ghost use Rattle.miette_report.specs.Words.{AreLintWords, IsNoLintCall};
+
+use crate::device::Device;
+pub use crate::lint_lines::findings;
+use crate::picture::picture_over;
+use crate::whole::{ReadError, read_whole, write_whole};
+use crate::words::{WordsFault, number};
+use itoa::Buffer;
+use miette::diagnostic::MietteDiagnostic;
+use miette::protocol::{LabeledSpan, Severity};
+use std::alloc::{AllocError, Global};
+use std::io::{Read, Write};
+use thiserror::Error;
+
+/// What the words ask for.
+#[derive(Clone, Copy, Debug, PartialEq, Eq)]
+pub struct LintWords<'a> {
+    /// The source's name.
+    pub name: &'a str,
+    /// How many columns a line may have.
+    pub width: usize,
+}
+
+impl<'a> LintWords<'a> {
+    /// Reads the words after the program's name. Nothing, where there are not two, or where the second is no number.
+    pub fn read(words: &'a [String]) -> Option<Self>
+        ensures some { IfSome result (λ it. AreLintWords (map string_bytes words.now) it.name.now it.width) }
+        ensures none { IsNone result → IsNoLintCall (map string_bytes words.now) }
+    {
+        let [name, width] = words else {
+            return None;
+        };
+        Some(LintWords {
+            name: name.as_str(),
+            width: number(width.as_str())?,
+        })
+    }
+}
+
+// What ends a run early.
+#[derive(Debug, Drop, Error)]
+enum Fault {
+    #[error("usage: lint NAME WIDTH")]
+    Usage,
+    #[error("lint: out of memory")]
+    Memory,
+    #[error("lint: read fault")]
+    Read,
+    #[error("lint: write fault")]
+    Write,
+}
+
+impl Fault {
+    // Prints the text and a line feed, and gives the status.
+    fn end<F: Write + Drop>(self, mut faults: F) -> u8
+        ensures { result ≡ 2 }
+    {
+        let _ = writeln!(faults, "{self}");
+        2
+    }
+}
+
+impl From<AllocError> for Fault {
+    ghost use Rattle.std.specs.Prelude.{◌≡◌};
+    ghost use Rattle.miette_report.specs.declared.lint.Fault.TheVariants.{Memory};
+
+    ghost from_gives = { λ _ fault. fault ≡ Memory };
+
+    fn from(_refused: AllocError) -> Self {
+        Fault::Memory
+    }
+}
+
+// `3 findings`
+fn count_text(alloc: Global, count: usize) -> Result<String, AllocError>
+    ensures { IfOk result (λ text. string_bytes text ≡ counted count) }
+{
+    let mut text = String::from_str(alloc, Buffer::new().format(count))?;
+    text.push_str(" findings")?;
+    Ok(text)
+}
+
+// Whether nothing is found.
+fn is_clean(found: &Vec<LabeledSpan>) -> bool
+    ensures { IsClean found.now.items result }
+{
+    found.as_slice().is_empty()
+}
+
+// One warning with the labels.
+fn diagnostic(alloc: Global, found: Vec<LabeledSpan>) -> Result<MietteDiagnostic, AllocError>
+    ensures { IfOk result (λ it. meaning_of it ≡ warning found.items) }
+{
+    let message = count_text(alloc, found.len())?;
+    let diagnostic = MietteDiagnostic::new(alloc, message.as_str())?;
+    Ok(
+        diagnostic
+            .with_severity(Severity::Warning)
+            .with_labels(found),
+    )
+}
+
+// The text for what is found in the input: nothing where that is nothing.
+fn text_of(
+    alloc: Global,
+    name: &str,
+    found: Vec<LabeledSpan>,
+    input: Vec<u8>,
+) -> Result<String, AllocError>
+    ensures { IfOk result (λ text. IsLinted name.now input.items found.items (string_bytes text)) }
+{
+    if is_clean(&found) {
+        return Ok(String::new(alloc));
+    }
+    let diagnostic = diagnostic(alloc, found)?;
+    match picture_over(alloc, name, diagnostic, input) {
+        Ok(text) => Ok(text),
+        Err(_) => Err(AllocError),
+    }
+}
+
+// Reads all, and writes the text for what is found in it, and nothing else. Whether nothing is found.
+fn write_findings<R: Read, W: Write>(
+    alloc: Global,
+    words: &LintWords<'_>,
+    reader: &mut Device<R>,
+    writer: &mut Device<W>,
+) -> Result<bool, Fault>
+    requires reader_unmarked { reader.old.failed ≡ false }
+    requires writer_unmarked { writer.old.failed ≡ false }
+    ensures ok { IfOk result (λ clean. IfSome (R.remaining reader.old.inner) (λ bytes.
+        Lints words.now.name.now words.now.width bytes clean (Appends (W.contents writer.old.inner) (W.contents writer.new.inner)))) }
+    ensures called { ¬ (result ≡ Err Fault.Usage) }
+    ensures read_mark { IsTrue reader.new.failed ↔ (result ≡ Err Fault.Read) }
+    ensures write_mark { IsTrue writer.new.failed ↔ (result ≡ Err Fault.Write) }
+{
+    let input = match read_whole(alloc, reader) {
+        Ok(input) => input,
+        Err(ReadError::Memory) => return Err(Fault::Memory),
+        Err(ReadError::Read) => return Err(Fault::Read),
+    };
+    let found = findings(alloc, input.as_slice(), words.width)?;
+    let clean = is_clean(&found);
+    let text = text_of(alloc, words.name, found, input)?;
+    match write_whole(writer, text.as_bytes()) {
+        Ok(()) => Ok(clean),
+        Err(_) => Err(Fault::Write),
+    }
+}
+
+// Checks the words before anything is read, and then writes what is found. Whether nothing is.
+fn run<R: Read, W: Write>(
+    alloc: Global,
+    words: &[String],
+    reader: &mut Device<R>,
+    writer: &mut Device<W>,
+) -> Result<bool, Fault>
+    requires reader_unmarked { reader.old.failed ≡ false }
+    requires writer_unmarked { writer.old.failed ≡ false }
+    // All that the reader had left is the source, and the writer took the text for what is found in it and nothing else.
+    ensures ok { IfOk result (λ clean. IfSome (R.remaining reader.old.inner) (λ bytes.
+        CallLints (map string_bytes words.now) bytes clean (Appends (W.contents writer.old.inner) (W.contents writer.new.inner)))) }
+    ensures clean { IfOk result (λ clean. IfSome (R.remaining reader.old.inner) (λ bytes. CallIsClean (map string_bytes words.now) bytes clean)) }
+    ensures usage { (result ≡ Err Fault.Usage) ↔ IsNoLintCall (map string_bytes words.now) }
+    ensures read_mark { IsTrue reader.new.failed ↔ (result ≡ Err Fault.Read) }
+    ensures write_mark { IsTrue writer.new.failed ↔ (result ≡ Err Fault.Write) }
+    ensures unread { (result ≡ Err Fault.Usage) → (reader.new ≡ reader.old) × (writer.new ≡ writer.old) }
+{
+    let Some(words) = LintWords::read(words) else {
+        return Err(Fault::Usage);
+    };
+    write_findings(alloc, &words, reader, writer)
+}
+
+/// The program `lint`: in go the words after its name, out comes the status. The words are checked first, then all input
+/// is read, then the report is made, then written.
+///
+/// The status is 0 where nothing is found; 1 where something is; 2 where the words are wrong, or where memory, the reader
+/// or the writer failed. A fault's text and a line feed go to `faults`, whose own faults are ignored.
+pub fn lint_with<R: Read + Drop, W: Write + Drop, F: Write + Drop>(
+    alloc: Global,
+    words: &[String],
+    reader: R,
+    writer: W,
+    faults: F,
+) -> u8
+    ensures status { result < 3 }
+    ensures clean { result ≡ 0 → IfSome (R.remaining reader) (λ bytes. CallIsClean (map string_bytes words.now) bytes true) }
+    ensures found { result ≡ 1 → IfSome (R.remaining reader) (λ bytes. CallIsClean (map string_bytes words.now) bytes false) }
+    ensures usage { IsNoLintCall (map string_bytes words.now) → result ≡ 2 }
+{
+    let mut reader = Device::new(reader);
+    let mut writer = Device::new(writer);
+    match run(alloc, words, &mut reader, &mut writer) {
+        Ok(true) => 0,
+        Ok(false) => 1,
+        Err(fault) => fault.end(faults),
+    }
+}
+
+/// Ends the program `lint` where its words could not be had: prints the fault's text and a line feed, and gives the status.
+pub fn refuse_words<F: Write + Drop>(fault: WordsFault, faults: F) -> u8
+    ensures { result ≡ 2 }
+{
+    match fault {
+        WordsFault::Usage => Fault::Usage.end(faults),
+        WordsFault::Memory => Fault::Memory.end(faults),
+    }
+}

@@ -1,0 +1,279 @@
+//! What `lint` finds in the lines of a source.
+
+ghost use Rattle.std.specs.Prelude.{◌≡◌, ◌+◌, ◌++◌, ◌<◌, ◌≤◌, ◌^◌, ◌∷◌, [], nat_lt, length, map, decimal, flat_map, position, ◌==◌, slice_range, take_while, find, IfOk, IfSome, OnOk, Some, None, None as Nothing, string_bytes};
+ghost use Rattle.std.specs.List.{All, last_or};
+ghost use Rattle.std.specs.Option.{option_map};
+ghost use Rattle.miette_protocol.specs.Lines.{lines_of};
+ghost use Rattle.miette_layout.specs.Sheets.{line_of_text};
+ghost use Rattle.miette_layout.specs.Swept.{LiesIn};
+ghost use Rattle.miette_layout.specs.Walking.{cell_of};
+ghost use Rattle.miette_report.specs.Findings.{cells_of, ending_blanks, finding, findings_of, is_blank, line_findings, misplaced_tab, overlong, tab_after_space, tab_behind, too_wide, trailing, unended};
+
+use itoa::Buffer;
+use miette_layout::cells::{Cell, Walk};
+use miette_layout::line_sweep::{SweptLine, swept_lines};
+use miette_layout::sheet::LineOfText;
+use miette_layout::sweep::Sweep;
+use miette_protocol::protocol::LabeledSpan;
+use std::alloc::{AllocError, Global};
+use std::ops::Range;
+
+// How many columns a tab goes on to a multiple of.
+const TAB: usize = 4;
+
+// Whether a byte is a space or a tab.
+fn is_blank(byte: u8) -> bool
+    ensures { result ≡ is_blank byte }
+{
+    byte == b' ' || byte == b'\t'
+}
+
+// How many blanks end a text.
+fn ending_blanks(text: &[u8]) -> usize
+    ensures count { result ≡ ending_blanks text.now }
+    ensures within { result ≤ length text.now }
+{
+    text.iter().rev().take_while(|b| is_blank(**b)).count()
+}
+
+// How many blanks begin a text.
+fn beginning_count(text: &[u8]) -> usize
+    ensures count { result ≡ length (take_while is_blank text.now) }
+    ensures within { result ≤ length text.now }
+{
+    text.iter().take_while(|b| is_blank(**b)).count()
+}
+
+// The blanks that begin a text.
+fn beginning_blanks(text: &[u8]) -> &[u8]
+    ensures blanks { result.now ≡ take_while is_blank text.now }
+    ensures within { length result.now ≤ length text.now }
+{
+    &text[..beginning_count(text)]
+}
+
+// Where a byte stands first.
+fn first_of(bytes: &[u8], byte: u8) -> Option<usize>
+    ensures at { result ≡ position (λ b. b == byte) bytes.now }
+    ensures within { IfSome result (λ at. at < length bytes.now) }
+{
+    bytes.iter().position(|b| *b == byte)
+}
+
+// The first tab from a space on.
+fn tab_behind(blanks: &[u8], space: usize) -> Option<usize>
+    requires within { space < length blanks.now }
+    ensures at { result ≡ tab_behind blanks.now space }
+    ensures within { IfSome result (λ at. at < length blanks.now) }
+{
+    match first_of(&blanks[space..], b'\t') {
+        Some(tab) => Some(space + tab),
+        None => None,
+    }
+}
+
+// The first tab after a space.
+fn tab_after_space(blanks: &[u8]) -> Option<usize>
+    ensures at { result ≡ tab_after_space blanks.now }
+    ensures within { IfSome result (λ at. at < length blanks.now) }
+{
+    match first_of(blanks, b' ') {
+        Some(space) => tab_behind(blanks, space),
+        None => None,
+    }
+}
+
+// The first cell of a text that goes past a width.
+fn first_past(text: &[u8], start: usize, width: usize) -> Result<Option<Cell>, AllocError>
+    requires { start + length text.now < 2 ^ 64 }
+    ensures { IfOk result (λ cell. option_map cell_of cell ≡ find (λ c. nat_lt width c.until) (cells_of start text.now)) }
+{
+    let mut walk = Walk::new(text, start, TAB);
+    while let Some(cell) = walk.next()? {
+        if cell.until > width {
+            return Ok(Some(cell));
+        }
+    }
+    Ok(None)
+}
+
+// The last cell of a text.
+fn last_cell(text: &[u8], start: usize) -> Result<Option<Cell>, AllocError>
+    requires { start + length text.now < 2 ^ 64 }
+    ensures { IfOk result (λ cell. option_map cell_of cell ≡ last_or Nothing (cells_of start text.now)) }
+{
+    let mut walk = Walk::new(text, start, TAB);
+    let mut last = None;
+    while let Some(cell) = walk.next()? {
+        last = Some(cell);
+    }
+    Ok(last)
+}
+
+// One more label, of these bytes of the source.
+fn push_finding(
+    found: &mut Vec<LabeledSpan>,
+    text: String,
+    at: Range<usize>,
+) -> Result<(), AllocError>
+    ensures { OnOk result (found.new.items ≡ found.old.items ++ finding (string_bytes text) at.start at.end ∷ []) }
+{
+    found.push(LabeledSpan::new_with_span(Some(text), at))?;
+    Ok(())
+}
+
+// The same, with a copy of the text.
+fn push_words(
+    alloc: Global,
+    found: &mut Vec<LabeledSpan>,
+    text: &str,
+    at: Range<usize>,
+) -> Result<(), AllocError>
+    ensures { OnOk result (found.new.items ≡ found.old.items ++ finding text.now at.start at.end ∷ []) }
+{
+    let text = String::from_str(alloc, text)?;
+    push_finding(found, text, at)
+}
+
+// `trailing blanks`, where blanks end the text, which ends there
+fn push_trailing(
+    alloc: Global,
+    found: &mut Vec<LabeledSpan>,
+    text: &[u8],
+    end: usize,
+) -> Result<(), AllocError>
+    requires within { length text.now ≤ end }
+    ensures { OnOk result (found.new.items ≡ found.old.items ++ trailing end text.now) }
+{
+    let blanks = ending_blanks(text);
+    if blanks == 0 {
+        return Ok(());
+    }
+    push_words(alloc, found, "trailing blanks", end - blanks..end)
+}
+
+// `tab after space`, where the blanks that begin the text have one
+fn push_tab(
+    alloc: Global,
+    found: &mut Vec<LabeledSpan>,
+    text: &[u8],
+    start: usize,
+) -> Result<(), AllocError>
+    requires within { start + length text.now < 2 ^ 64 }
+    ensures { OnOk result (found.new.items ≡ found.old.items ++ misplaced_tab start text.now) }
+{
+    match tab_after_space(beginning_blanks(text)) {
+        Some(at) => push_words(alloc, found, "tab after space", start + at..start + at + 1),
+        None => Ok(()),
+    }
+}
+
+// The text of the label for lines that are wider than this.
+fn wide_text(alloc: Global, width: usize) -> Result<String, AllocError>
+    ensures { IfOk result (λ text. string_bytes text ≡ too_wide width) }
+{
+    let mut text = String::from_str(alloc, "wider than ")?;
+    text.push_str(Buffer::new().format(width))?;
+    text.push_str(" columns")?;
+    Ok(text)
+}
+
+// `wider than 80 columns`, from the first character that goes past the width to the end of the line's text
+fn push_overlong(
+    alloc: Global,
+    found: &mut Vec<LabeledSpan>,
+    text: &[u8],
+    line: LineOfText,
+    width: usize,
+) -> Result<(), AllocError>
+    requires within { line.start + length text.now < 2 ^ 64 }
+    ensures { OnOk result (found.new.items ≡ found.old.items ++ overlong width line.text_end (cells_of line.start text.now)) }
+{
+    match first_past(text, line.start, width)? {
+        Some(cell) => {
+            let words = wide_text(alloc, width)?;
+            push_finding(found, words, cell.start..line.text_end)
+        }
+        None => Ok(()),
+    }
+}
+
+// `no final terminator`, on the last character of a line that has none
+fn push_unended(
+    alloc: Global,
+    found: &mut Vec<LabeledSpan>,
+    text: &[u8],
+    line: LineOfText,
+) -> Result<(), AllocError>
+    requires within { line.start + length text.now < 2 ^ 64 }
+    ensures { OnOk result (found.new.items ≡ found.old.items ++ unended (line_of_text line) (cells_of line.start text.now)) }
+{
+    if line.text_end < line.end {
+        return Ok(());
+    }
+    match last_cell(text, line.start)? {
+        Some(cell) => push_words(alloc, found, "no final terminator", cell.start..cell.after),
+        None => Ok(()),
+    }
+}
+
+// All that is found in a line.
+fn push_line(
+    alloc: Global,
+    found: &mut Vec<LabeledSpan>,
+    source: &[u8],
+    line: LineOfText,
+    width: usize,
+) -> Result<(), AllocError>
+    requires text { line.start ≤ line.text_end }
+    requires within { line.text_end ≤ length source.now }
+    ensures { OnOk result (found.new.items ≡ found.old.items ++ line_findings source.now width (line_of_text line)) }
+{
+    let text = &source[line.start..line.text_end];
+    push_trailing(alloc, found, text, line.text_end)?;
+    push_tab(alloc, found, text, line.start)?;
+    push_overlong(alloc, found, text, line, width)?;
+    push_unended(alloc, found, text, line)
+}
+
+// The lines of a source.
+fn lines_of(alloc: Global, source: &[u8]) -> Result<Vec<SweptLine>, AllocError>
+    ensures lines { IfOk result (λ lines. map (λ l. line_of_text l.line) lines.items ≡ lines_of source.now) }
+    ensures inside { IfOk result (λ lines. All (LiesIn 0 (length source.now)) lines.items) }
+{
+    let mut sweep = Sweep {
+        running: Vec::new(alloc),
+        next: 0,
+    };
+    swept_lines(alloc, source, 0, &[], &mut sweep)
+}
+
+// What is found in these lines of a source.
+fn push_lines(
+    alloc: Global,
+    found: &mut Vec<LabeledSpan>,
+    source: &[u8],
+    lines: &[SweptLine],
+    width: usize,
+) -> Result<(), AllocError>
+    requires inside { All (LiesIn 0 (length source.now)) lines.now }
+    ensures { OnOk result (found.new.items ≡ found.old.items ++ flat_map (line_findings source.now width) (map (λ l. line_of_text l.line) lines.now)) }
+{
+    for swept in lines {
+        push_line(alloc, found, source, swept.line, width)?;
+    }
+    Ok(())
+}
+
+/// All that `lint` finds in a source, in order: a label for each finding.
+///
+/// # Errors
+/// Where no memory is found.
+pub fn findings(alloc: Global, source: &[u8], width: usize) -> Result<Vec<LabeledSpan>, AllocError>
+    ensures { IfOk result (λ found. found.items ≡ findings_of source.now width) }
+{
+    let lines = lines_of(alloc, source)?;
+    let mut found = Vec::new(alloc);
+    push_lines(alloc, &mut found, source, &lines, width)?;
+    Ok(found)
+}

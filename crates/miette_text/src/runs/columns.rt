@@ -1,0 +1,39 @@
+//! Columns.
+
+ghost use Rattle.std.specs.Prelude.{◌≡◌, ◌+◌, IfOk};
+ghost use Rattle.miette_text.specs.Wrapping.{columns_of, width};
+ghost use Rattle.miette_text.specs.Woven.{woven};
+
+use crate::runs::Parts;
+use std::alloc::AllocError;
+use unicode_width::UnicodeWidthChar;
+
+/// A sum; one past the largest number is no room.
+pub(crate) fn sum(a: usize, b: usize) -> Result<usize, AllocError>
+    ensures { IfOk result (λ n. n ≡ a + b) }
+{
+    a.checked_add(b).ok_or(AllocError)
+}
+
+/// How many columns a character takes.
+#[inline]
+pub(crate) fn char_columns(c: char) -> usize
+    ensures { result ≡ width c }
+{
+    if ' ' <= c && c < '\u{7F}' {
+        1
+    } else {
+        c.width().unwrap_or(0)
+    }
+}
+
+/// How many columns runs take.
+pub(crate) fn token_columns(runs: Parts<'_>) -> Result<usize, AllocError>
+    ensures { IfOk result (λ n. n ≡ columns_of (woven 0 runs.entry.codes.now runs.entry.marks.now)) }
+{
+    let mut total = 0;
+    for code in runs.codes {
+        total = sum(total, char_columns(*code))?;
+    }
+    Ok(total)
+}
