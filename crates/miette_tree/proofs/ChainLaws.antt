@@ -1,5 +1,5 @@
 -- Calls of an iterator from both of its ends, where its state shows the list of what is left.
-use Rattle.std.proofs.Common.{◌≡◌, List, [], ◌∷◌, ◌++◌, Option, Some, None, map, reverse, refl, sym, ap, ◌∙◌, append-nil, append_assoc}
+use Rattle.std.proofs.Common.{◌≡◌, List, [], ◌∷◌, ◌++◌, None, map, reverse, sym, ap, ◌∙◌, append-nil, append_assoc}
 use Rattle.std.specs.Iterator.{YieldsFirstBy, YieldsLastBy, Yields}
 use Rattle.std.proofs.lemmas.List.{reverse-append}
 use Rattle.miette_tree.specs.Laws.{Taken, in_front, behind, Gives, front_of, back_of}

@@ -1,5 +1,5 @@
 -- Calls of an iterator from both of its ends.
-use Rattle.std.specs.Prelude.{◌≡◌, ℕ, List, [], ◌∷◌, ◌++◌, Option, Some}
+use Rattle.std.specs.Prelude.{◌≡◌, List, [], ◌∷◌, ◌++◌, Option, Some}
 
 -- an item, and the end that gave it
 pub data Taken (A : Type 0) : Type 0 where

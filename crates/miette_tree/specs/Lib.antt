@@ -1,6 +1,7 @@
 pub mod Tree
 pub mod Owned
 pub mod Kind
+pub mod CauseTexts
 pub mod Report
 pub mod Chain
 pub mod Left

@@ -1,5 +1,4 @@
 -- What an owned source means, and what the place means where a report keeps its source.
-use Rattle.std.specs.Prelude.{Option, Some, None}
 use Rattle.miette_protocol.specs.Reading.{Source, plain_source, named}
 use Rattle.miette_protocol.specs.Named.{inner_of, name_of, given_language}
 use Rattle.miette_tree.specs.declared.owned.Bytes.{Bytes}

@@ -3,6 +3,7 @@ use Rattle.std.specs.Prelude.{ℕ, ◌<◌, List, [], Option, Some, None, length
 use Rattle.miette_protocol.specs.Meaning.{Meaning}
 use Rattle.miette_protocol.specs.Reading.{Source}
 use Rattle.miette_protocol.specs.Diagnostic.{meaning_of, message_alone}
+use Rattle.miette_tree.specs.CauseTexts.{texts_in}
 use Rattle.miette_tree.specs.Owned.{kept_source}
 use Rattle.miette_tree.specs.Tree.{Tree, tree, Cause, diagnostic, texts, Trees, no_trees, trees}
 use Rattle.miette_tree.specs.declared.innermost.Innermost.{Innermost}
@@ -11,7 +12,7 @@ use Rattle.miette_tree.specs.declared.report.KeptCause.{KeptCause}
 use Rattle.miette_tree.specs.declared.report.KeptCause.TheVariants as kept
 use Rattle.miette_tree.specs.declared.report.Cause as shown
 use Rattle.miette_tree.specs.declared.report.Cause.TheVariants as seen
-use Rattle.miette_tree.specs.declared.report.Report.{Report, out-Report}
+use Rattle.miette_tree.specs.declared.report.Report.{Report}
 use Rattle.miette_tree.specs.declared.report.Report.TheOpen.{Report-F}
 use Rattle.miette_tree.specs.declared.report.Report.TheFolds.{fold-Report}
 
@@ -34,7 +35,7 @@ fronted (Some message) m = record m { message = message }
 abbrev pub kept_cause : KeptCause Tree → Cause
 kept_cause kept.None = texts []
 kept_cause (kept.Diagnostic b) = diagnostic b.value
-kept_cause (kept.Texts list) = texts (map string_bytes list.items)
+kept_cause (kept.Texts list) = texts (texts_in list)
 
 abbrev pub trees_from : Option (List Tree) → Trees
 trees_from None = no_trees
@@ -52,15 +53,6 @@ tree_step means is r =
 -- the whole tree, given what its boxed diagnostics and sources mean
 abbrev pub tree_of : {D S : Type 0} → (D → Meaning) → (S → Source) → Report D S → Tree
 tree_of {D} {S} means is = fold-Report D S Tree (tree_step means is)
-
--- the texts that a report keeps as its cause
-abbrev pub kept_texts : {R : Type 0} → KeptCause R → List (List ℕ)
-kept_texts kept.None = []
-kept_texts (kept.Diagnostic b) = []
-kept_texts (kept.Texts list) = map string_bytes list.items
-
-abbrev pub own_texts : {D S : Type 0} → Report D S → List (List ℕ)
-own_texts {D} {S} r = kept_texts (out-Report D S r).cause
 
 -- the cause that a getter shows
 abbrev pub cause_shown : {D S : Type 0} → (D → Meaning) → (S → Source) → shown.Cause D S → Cause

@@ -1,6 +1,7 @@
 //! Reports: errors with their messages, places, sources and causes, kept in a tree.
 #![tactic(auto)]
 
+mod cause_texts;
 mod chain;
 mod constructors;
 mod innermost;

@@ -1,7 +1,8 @@
 //! Reports: an error with its message, places, source and causes, and reports that are related to it.
-ghost use Rattle.std.specs.Prelude.{◌≡◌, ◌≤◌, ◌+◌, ◌++◌, IfOk, IfErr, length, map, string_bytes, vec_len, vec_capacity};
+ghost use Rattle.std.specs.Prelude.{◌≡◌, IfOk, IfErr, OnOk, OnErr, map, string_bytes};
 ghost use Rattle.std.specs.Option.{option_copied, option_map};
 
+use crate::cause_texts::CauseTexts;
 pub use crate::chain::Chain;
 pub use crate::constructors::UsualBoxes;
 use crate::innermost::Innermost;
@@ -35,7 +36,7 @@ pub struct Report<D = Box<dyn Diagnostic>, S = Box<dyn SourceCode>> {
 enum KeptCause<R> {
     None,
     Diagnostic(Box<R>),
-    Texts(Vec<String>),
+    Texts(CauseTexts),
 }
 
 /// The cause of a report.
@@ -64,7 +65,7 @@ impl<'a, D, S> Copy for Cause<'a, D, S> {}
 impl<D: Diagnostic, S: SourceCode> Report<D, S> {
     ghost use Rattle.miette_protocol.specs.Diagnostic.{meaning_of, message_alone};
     ghost use Rattle.miette_tree.specs.Tree.{alone, texts, diagnostic, trees, wrapped, with_source, with_cause, with_related, chain_of};
-    ghost use Rattle.miette_tree.specs.Report.{tree_of, innermost_meaning, own_texts};
+    ghost use Rattle.miette_tree.specs.Report.{tree_of, innermost_meaning};
     ghost use Rattle.miette_tree.specs.Owned.{owned_source, kept_source};
     ghost use Rattle.miette_tree.specs.Kind.{kind_of, innermost_kind, built, message};
     ghost use Rattle.miette_tree.specs.WrapErr.{Prints};
@@ -151,7 +152,7 @@ impl<D: Diagnostic, S: SourceCode> Report<D, S> {
         ensures kind { kind_of result ≡ kind_of self }
     {
         Report {
-            cause: KeptCause::Texts(list),
+            cause: KeptCause::Texts(CauseTexts::new(list)),
             ..self
         }
     }
@@ -210,28 +211,14 @@ impl<D: Diagnostic, S: SourceCode> Report<D, S> {
         ensures kind { IfOk result (λ r. kind_of r ≡ kind_of self) }
         ensures err { IfErr result (λ r. r ≡ self) }
     {
-        let Ok(mut causes) = self.texts_but_own(alloc) else {
-            return Err(self);
-        };
-        let Report {
-            front: _,
-            innermost,
-            source,
-            cause,
-            related,
-        } = self;
-        if let KeptCause::Texts(mut own) = cause
-            && causes.append(&mut own).is_err()
-        {
-            unreachable!();
+        let mut report = self;
+        match report.chain_becomes_causes(alloc) {
+            Ok(()) => Ok(Report {
+                front: Some(front),
+                ..report
+            }),
+            Err(_) => Err(report),
         }
-        Ok(Report {
-            front: Some(front),
-            innermost,
-            source,
-            cause: KeptCause::Texts(causes),
-            related,
-        })
     }
 
     /// As `wrap_err`.
@@ -243,20 +230,18 @@ impl<D: Diagnostic, S: SourceCode> Report<D, S> {
         self.wrap_err(alloc, message)
     }
 
-    /// The texts of the chain, copied, but for the texts that are the report's own cause: for those there
-    /// is room at the end.
-    fn texts_but_own(&self, alloc: Global) -> Result<Vec<String>, AllocError>
-        ensures texts { IfOk result (λ list. map string_bytes list.items ++ own_texts self.now ≡ chain_of (tree_of D.meaning S.source self.now)) }
-        ensures room { IfOk result (λ list. vec_len list + length (own_texts self.now) ≤ vec_capacity list) }
+    /// The texts of the chain in place of the cause. Where they are the cause already but for the message, that alone is copied.
+    fn chain_becomes_causes(&mut self, alloc: Global) -> Result<(), AllocError>
+        ensures tree { OnOk result (tree_of D.meaning S.source self.new ≡ with_cause (texts (chain_of (tree_of D.meaning S.source self.old))) (tree_of D.meaning S.source self.old)) }
+        ensures kind { OnOk result (kind_of self.new ≡ kind_of self.old) }
+        ensures err { OnErr result (self.new ≡ self.old) }
     {
-        match &self.cause {
-            KeptCause::Texts(own) => {
-                let mut list = Vec::with_capacity(alloc, own.len() + 1)?;
-                list.push(String::from_str(alloc, self.message())?)?;
-                Ok(list)
-            }
-            _ => self.chain_texts(alloc),
+        let message = String::from_str(alloc, self.message())?;
+        if let KeptCause::Texts(texts) = &mut self.cause {
+            return texts.push_front(alloc, message);
         }
+        self.cause = KeptCause::Texts(CauseTexts::new(self.chain_texts(alloc)?));
+        Ok(())
     }
 
     /// The texts of the chain, copied.
@@ -271,7 +256,7 @@ impl<D: Diagnostic, S: SourceCode> Report<D, S> {
             list.push(String::from_str(alloc, at.message())?)?;
         }
         if let KeptCause::Texts(texts) = &at.cause {
-            for text in texts {
+            for text in texts.as_slice() {
                 list.push(String::from_str(alloc, text.as_str())?)?;
             }
         }
@@ -351,10 +336,11 @@ impl<D: Diagnostic, S: SourceCode> Report<D, S> {
             KeptCause::None => Cause::None,
             KeptCause::Diagnostic(report) => Cause::Diagnostic(report),
             KeptCause::Texts(list) => {
+                let list = list.as_slice();
                 if list.is_empty() {
                     Cause::None
                 } else {
-                    Cause::Texts(list.as_slice())
+                    Cause::Texts(list)
                 }
             }
         }

@@ -1,0 +1,9 @@
+use Rattle.std.proofs.Common.{◌≡◌, ◌+◌, ◌≤◌, vec_len, vec_capacity}
+use Rattle.miette_tree.proofs.cause_texts.empty_texts.Given as goal
+
+-- so many texts as calls so far, and the room that there was at first
+abbrev pub invariant-loop : goal.invariant-loop
+invariant-loop l = record {
+  count : vec_len l.list ≡ l.counter;
+  room : l.count + l.more ≤ vec_capacity l.list;
+}
