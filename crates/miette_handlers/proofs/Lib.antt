@@ -11,6 +11,7 @@ pub mod Sizes
 pub mod Lists
 pub mod Outermost
 pub mod Steps
+pub mod Remaining
 pub mod TextLaws
 pub mod Only
 pub mod Printed

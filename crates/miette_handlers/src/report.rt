@@ -23,6 +23,7 @@ ghost use Rattle.miette_text.specs.Tame.{is_nil};
 
 use crate::header::{push_header, severity_title};
 use crate::indents::{Branch, narrowed, push_footer, push_help, push_message, push_under_arrow};
+use crate::json_report::cause_texts;
 use crate::laws::erasing_law;
 use crate::pen::Pen;
 use crate::printing::push_page;
@@ -195,18 +196,17 @@ fn push_cause_texts(
 ) -> Result<(), AllocError>
     ensures { OnOk result (spell out.new ≡ spell out.old ++ texts.cause_texts (settings_of layout.entry) outer (map string_bytes list.now)) }
 {
-    match list {
-        [] => Ok(()),
-        [text, more @ ..] => {
-            let branch = Branch {
-                outer,
-                is_last: is_nil(more),
-            };
-            let cause = read_text(alloc, text.as_str())?;
-            push_under_arrow(alloc, layout, branch, &cause, out)?;
-            push_cause_texts(alloc, layout, outer, more, out)
-        }
+    let mut rest = list;
+    while let [text, more @ ..] = rest {
+        let branch = Branch {
+            outer,
+            is_last: is_nil(more),
+        };
+        let cause = read_text(alloc, text.as_str())?;
+        push_under_arrow(alloc, layout, branch, &cause, out)?;
+        rest = more;
     }
+    Ok(())
 }
 
 fn ends_there<D: Diagnostic, S: SourceCode>(report: &Report<D, S>) -> bool
@@ -242,18 +242,13 @@ fn push_causes<D: Diagnostic, S: SourceCode, H: Highlighter>(
     ensures refused { (result ≡ Err RenderError.Refused) → all_read (printed_causes layout.entry.nested (option_map (shown_source S.source) inherited.entry) (cause_of (tree_of D.meaning S.source report.now))) ≡ false }
     ensures stays { leaves_plain H.is_blank pen.new.highlighter ≡ leaves_plain H.is_blank pen.old.highlighter }
 {
-    match report.cause() {
-        Cause::None => Ok(()),
-        Cause::Texts(list) => {
-            push_cause_texts(pen.alloc, layout, outer, list, out)?;
-            Ok(())
-        }
-        Cause::Diagnostic(cause) => {
-            push_one_cause(pen, layout, outer, inherited, cause, out)?;
-            push_causes(pen, layout, outer, inherited, cause, out)?;
-            Ok(())
-        }
+    let mut at = report;
+    while let Cause::Diagnostic(next) = at.cause() {
+        push_one_cause(pen, layout, outer, inherited, next, out)?;
+        at = next;
     }
+    push_cause_texts(pen.alloc, layout, outer, cause_texts(at), out)?;
+    Ok(())
 }
 
 /// Appends a diagnostic cause under its arrow.
@@ -396,19 +391,17 @@ fn push_related<D: Diagnostic, S: SourceCode, H: Highlighter>(
     ensures refused { (result ≡ Err RenderError.Refused) → all_read (printed_related layout.entry.nested (option_map (shown_source S.source) inherited.entry) (trees (map (tree_of D.meaning S.source) reports.now))) ≡ false }
     ensures stays { leaves_plain H.is_blank pen.new.highlighter ≡ leaves_plain H.is_blank pen.old.highlighter }
 {
-    match reports {
-        [] => Ok(()),
-        [report, more @ ..] => {
-            let branch = Branch {
-                outer,
-                is_last: are_last(more),
-            };
-            let source = own_or(report, inherited);
-            push_one_related(pen, layout, branch, source, report, out)?;
-            push_related(pen, layout, outer, inherited, more, out)?;
-            Ok(())
-        }
+    let mut rest = reports;
+    while let [report, more @ ..] = rest {
+        let branch = Branch {
+            outer,
+            is_last: are_last(more),
+        };
+        let source = own_or(report, inherited);
+        push_one_related(pen, layout, branch, source, report, out)?;
+        rest = more;
     }
+    Ok(())
 }
 
 /// Appends the causes of the outermost report, where they are shown.

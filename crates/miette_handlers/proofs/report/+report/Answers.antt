@@ -1,11 +1,11 @@
-use Rattle.std.proofs.Common.{◌≡◌, sym, ◌++◌, ◌-◌, length, take, drop, get_or, ap, ◌∙◌, subst, map, option_map, false, [], refl, string_bytes, append-nil, rules}
+use Rattle.std.proofs.Common.{◌≡◌, ◌≤◌, ◌<◌, suc, sym, ◌++◌, ◌-◌, length, take, drop, get_or, ap, ◌∙◌, subst, map, option_map, false, refl, string_bytes, arith, rules}
 use Rattle.miette_text.specs.Cutting.{without_trailing}
 use Rattle.miette_text.specs.Sequences.{spell}
-use Rattle.miette_tree.specs.Tree.{effective, head, trees, cause_of, related_of, source_of}
+use Rattle.miette_tree.specs.Tree.{effective, head, texts, trees, cause_of, related_of, source_of}
 use Rattle.miette_tree.specs.Report.{tree_of}
 use Rattle.miette_layout.specs.Highlighted.{leaves_plain}
 use Rattle.miette_tree.specs.Owned.{shown_source}
-use Rattle.miette_handlers.specs.Answered.{IsBelow, AreCauses, AreRelated, IsInner, IsOneRelated}
+use Rattle.miette_handlers.specs.Answered.{IsBelow, AreCauses, AreRelated, IsInner, IsOneCause, IsOneRelated}
 use Rattle.miette_handlers.specs.Handler.{AppendsOne}
 use Rattle.miette_handlers.specs.Printed.{all_read, printed_causes, printed_inner, printed_one, printed_related}
 use Rattle.miette_handlers.specs.Snippets.{drawn_rows}
@@ -13,54 +13,63 @@ use Rattle.miette_handlers.specs.Indents.{narrowed}
 use Rattle.miette_handlers.specs.Parts.{help_text, under_arrow}
 use Rattle.miette_handlers.specs.Text.{are_last, ends_there}
 use Rattle.miette_handlers.specs.Views.{settings_of}
-use Rattle.miette_handlers.proofs.Steps.{cause_texts_behind, cause_behind, no_related_behind, related_behind, below_behind, inner_whole, sibling_behind, first_and_more, later_cause_fails, one_cause_fails, inner_rows_fail, inner_related_fail, sibling_causes_fail, sibling_below_fails, one_related_fails, later_related_fails}
+use Rattle.miette_handlers.proofs.Remaining.{CausesRemain, RelatedRemain, all_remain, cause_printed, related_printed, first_falls, texts_shown}
+use Rattle.miette_handlers.proofs.Sizes.{tree_size, cause_size, trees_size, related_falls}
+use Rattle.miette_handlers.proofs.Steps.{cause_texts_behind, no_related_behind, below_behind, inner_whole, sibling_behind, first_and_more, one_cause_fails, inner_rows_fail, inner_related_fail, sibling_causes_fail, sibling_below_fails, one_related_fails}
 use Rattle.miette_handlers.proofs.report.+report.Goals as goal
 
-pub push_causes-returns-in_err-push_one_cause-in-Diagnostic-clause-refused : goal.push_causes-returns-in_err-push_one_cause-in-Diagnostic-clause-refused
-push_causes-returns-in_err-push_one_cause-in-Diagnostic-clause-refused g t c = λ h.
-    let inherited = option_map (shown_source g.S.SourceCode.source) c.args.inherited in
-    let cause = tree_of g.D.Diagnostic.meaning g.S.SourceCode.source c.in-Diagnostic.cause.now in
-    let one : all_read (printed_inner c.args.layout.nested (effective (source_of cause) inherited) cause) ≡ false = c.in_err-push_one_cause-in-Diagnostic.ensures.refused (search rules) in
-    subst (λ x. all_read (printed_causes c.args.layout.nested inherited x) ≡ false) c.in-Diagnostic.ensures.value (one_cause_fails c.args.layout.nested inherited cause one)
+pub push_causes-loop-next-init : goal.push_causes-loop-next-init
+push_causes-loop-next-init g t c = (all_remain _ _ _ _ _, refl)
 
-pub push_causes-returns-in_err-push_causes-in-Diagnostic-clause-refused : goal.push_causes-returns-in_err-push_causes-in-Diagnostic-clause-refused
-push_causes-returns-in_err-push_causes-in-Diagnostic-clause-refused g t c = λ h.
-    let inherited = option_map (shown_source g.S.SourceCode.source) c.args.inherited in
-    let cause = tree_of g.D.Diagnostic.meaning g.S.SourceCode.source c.in-Diagnostic.cause.now in
-    let below : all_read (printed_causes c.args.layout.nested inherited (cause_of cause)) ≡ false = c.in_err-push_causes-in-Diagnostic.ensures.refused (search rules) in
-    subst (λ x. all_read (printed_causes c.args.layout.nested inherited x) ≡ false) c.in-Diagnostic.ensures.value (later_cause_fails c.args.layout.nested inherited cause below)
+pub push_causes-push_one_cause-requires : goal.push_causes-push_one_cause-requires
+push_causes-push_one_cause-requires g t c =
+    let value = tree_of g.D.Diagnostic.meaning g.S.SourceCode.source in
+    let cause = value c.in-Diagnostic.next.now in
+    let left = cause_of (value c.loop-next.at.now) in
+    let all = cause_of (value c.args.report.now) in
+    let first : tree_size cause ≡ cause_size left = ap cause_size c.in-Diagnostic.ensures.value in
+    let fits : cause_size left ≤ cause_size all = c.loop-next.invariant.0.fits in
+    let small : suc (suc (suc (trees_size (related_of cause)))) < cause_size all = omega (arith, related_falls cause, first, fits) in
+    search rules
 
-pub push_causes-returns-in-None-clause-ok : goal.push_causes-returns-in-None-clause-ok
-push_causes-returns-in-None-clause-ok g t c =
+pub push_causes-loop-next-preserved : goal.push_causes-loop-next-preserved
+push_causes-loop-next-preserved g t c =
     let blank = leaves_plain g.H.Highlighter.is_blank c.args.pen.now.highlighter in
     let s = settings_of c.args.layout in
+    let outer = c.args.outer in
     let inherited = option_map (shown_source g.S.SourceCode.source) c.args.inherited in
+    let value = tree_of g.D.Diagnostic.meaning g.S.SourceCode.source in
+    let all = cause_of (value c.args.report.now) in
+    let cause = value c.in-Diagnostic.next.now in
     let old = spell c.args.out.now in
-    subst (λ x. AppendsOne (AreCauses drawn_rows s blank c.args.outer inherited x) old old) c.in-None.ensures.value
-    (cause_texts_behind drawn_rows s blank c.args.outer inherited [] old old (sym (append-nil old)))
+    let now = spell c.loop-next.out in
+    let new = spell c.push_one_cause.new.out in
+    let remain = subst (λ x. CausesRemain drawn_rows s blank outer inherited all x old now) (sym c.in-Diagnostic.ensures.value) c.loop-next.invariant.0 in
+    let one = subst (λ b. AppendsOne (IsOneCause drawn_rows s b outer inherited cause) now new) c.loop-next.invariant.1 c.in_ok-push_one_cause.ensures.ok in
+    (cause_printed drawn_rows s blank outer inherited all cause old now new remain one, c.push_one_cause.ensures.stays ∙ c.loop-next.invariant.1)
 
-pub push_causes-returns-in_ok-push_cause_texts-in-Texts-clause-ok : goal.push_causes-returns-in_ok-push_cause_texts-in-Texts-clause-ok
-push_causes-returns-in_ok-push_cause_texts-in-Texts-clause-ok g t c =
+pub push_causes-returns-in_err-push_one_cause-clause-refused : goal.push_causes-returns-in_err-push_one_cause-clause-refused
+push_causes-returns-in_err-push_one_cause-clause-refused g t c = λ h.
+    let inherited = option_map (shown_source g.S.SourceCode.source) c.args.inherited in
+    let cause = tree_of g.D.Diagnostic.meaning g.S.SourceCode.source c.in-Diagnostic.next.now in
+    let nested = c.args.layout.nested in
+    let one : all_read (printed_inner nested (effective (source_of cause) inherited) cause) ≡ false = c.in_err-push_one_cause.ensures.refused (search rules) in
+    c.loop-next.invariant.0.fails (subst (λ x. all_read (printed_causes nested inherited x) ≡ false) c.in-Diagnostic.ensures.value (one_cause_fails nested inherited cause one))
+
+pub push_causes-returns-clause-ok : goal.push_causes-returns-clause-ok
+push_causes-returns-clause-ok g t c =
     let blank = leaves_plain g.H.Highlighter.is_blank c.args.pen.now.highlighter in
     let s = settings_of c.args.layout in
+    let outer = c.args.outer in
     let inherited = option_map (shown_source g.S.SourceCode.source) c.args.inherited in
-    let old = spell c.args.out.now in
+    let left = cause_of (tree_of g.D.Diagnostic.meaning g.S.SourceCode.source c.loop-next.at.now) in
+    let ts = map string_bytes c.cause_texts.result.now in
+    let now = spell c.loop-next.out in
     let new = spell c.push_cause_texts.new.out in
-    subst (λ x. AppendsOne (AreCauses drawn_rows s blank c.args.outer inherited x) old new) c.in-Texts.ensures.value
-    (cause_texts_behind drawn_rows s blank c.args.outer inherited (map string_bytes c.in-Texts.list.now) old new c.in_ok-push_cause_texts-in-Texts.ensures)
-
-pub push_causes-returns-in_ok-push_causes-in-Diagnostic-clause-ok : goal.push_causes-returns-in_ok-push_causes-in-Diagnostic-clause-ok
-push_causes-returns-in_ok-push_causes-in-Diagnostic-clause-ok g t c =
-    let blank = leaves_plain g.H.Highlighter.is_blank c.args.pen.now.highlighter in
-    let s = settings_of c.args.layout in
-    let inherited = option_map (shown_source g.S.SourceCode.source) c.args.inherited in
-    let cause = tree_of g.D.Diagnostic.meaning g.S.SourceCode.source c.in-Diagnostic.cause.now in
-    let old = spell c.args.out.now in
-    let mid = spell c.push_one_cause.new.out in
-    let new = spell c.push_causes.new.out in
-    subst (λ x. AppendsOne (AreCauses drawn_rows s blank c.args.outer inherited x) old new) c.in-Diagnostic.ensures.value
-    (cause_behind drawn_rows s blank c.args.outer inherited cause old mid new c.in_ok-push_one_cause-in-Diagnostic.ensures.ok
-    (subst (λ b. AppendsOne (AreCauses drawn_rows s b c.args.outer inherited (cause_of cause)) mid new) c.push_one_cause.ensures.stays c.in_ok-push_causes-in-Diagnostic.ensures.ok))
+    let last : texts ts ≡ left =
+    ap texts c.cause_texts.ensures ∙ texts_shown g.D.Diagnostic.meaning g.S.SourceCode.source c.cause.result left c.cause.ensures.value c.in_default.not-Diagnostic in
+    c.loop-next.invariant.0.appends new
+    (subst (λ x. AppendsOne (AreCauses drawn_rows s blank outer inherited x) now new) last (cause_texts_behind drawn_rows s blank outer inherited ts now new c.in_ok-push_cause_texts.ensures))
 
 pub push_one_cause-returns-clause-ok : goal.push_one_cause-returns-clause-ok
 push_one_cause-returns-clause-ok g t c =
@@ -159,55 +168,61 @@ push_nested-returns-clause-ok g t c =
       appended = c.in_ok-push_under_arrow.ensures ∙ ap (λ x. spell c.args.out.now ++ under_arrow s outer last x) c.in_ok-cut.ensures;
     }
 
-pub push_related-returns-in-empty-clause-ok : goal.push_related-returns-in-empty-clause-ok
-push_related-returns-in-empty-clause-ok g t c =
-    let blank = leaves_plain g.H.Highlighter.is_blank c.args.pen.now.highlighter in
-    no_related_behind drawn_rows (settings_of c.args.layout) blank c.args.outer (option_map (shown_source g.S.SourceCode.source) c.args.inherited)
-    (tree_of g.D.Diagnostic.meaning g.S.SourceCode.source) c.args.reports.now (spell c.args.out.now) c.in-empty.len_below
+pub push_related-loop-rest-init : goal.push_related-loop-rest-init
+push_related-loop-rest-init g t c = (all_remain _ _ _ _ _, refl)
 
-pub push_related-returns-in_err-push_related-in-len1-up-clause-refused : goal.push_related-returns-in_err-push_related-in-len1-up-clause-refused
-push_related-returns-in_err-push_related-in-len1-up-clause-refused g t c = λ h.
-    let inherited = option_map (shown_source g.S.SourceCode.source) c.args.inherited in
+pub push_related-push_one_related-requires : goal.push_related-push_one_related-requires
+push_related-push_one_related-requires g t c =
     let value = tree_of g.D.Diagnostic.meaning g.S.SourceCode.source in
-    let rs = c.args.reports.now in
-    let more = take (length rs - 1) (drop 1 rs) in
-    let below : all_read (printed_related c.args.layout.nested inherited (trees (map value more))) ≡ false = c.in_err-push_related-in-len1-up.ensures.refused (search rules) in
-    subst (λ ts. all_read (printed_related c.args.layout.nested inherited ts) ≡ false) (first_and_more value rs c.report-item.result c.in-len1-up.len_at_least)
-    (later_related_fails c.args.layout.nested inherited (value (get_or rs 0 c.report-item.result)) (trees (map value more)) below)
+    let left = trees (map value c.loop-rest.rest.now) in
+    let all = trees (map value c.args.reports.now) in
+    let first : suc (tree_size (value c.report-item.result)) < trees_size left = first_falls value c.loop-rest.rest.now c.report-item.result c.in-len1-up.len_at_least c.report-item.is in
+    let fits : trees_size left ≤ trees_size all = c.loop-rest.invariant.0.fits in
+    let small : suc (tree_size (value c.report-item.result)) < trees_size all = omega (arith, first, fits) in
+    search rules
 
-pub push_related-returns-in_err-push_one_related-in-len1-up-clause-refused : goal.push_related-returns-in_err-push_one_related-in-len1-up-clause-refused
-push_related-returns-in_err-push_one_related-in-len1-up-clause-refused g t c = λ h.
-    let inherited = option_map (shown_source g.S.SourceCode.source) c.args.inherited in
-    let value = tree_of g.D.Diagnostic.meaning g.S.SourceCode.source in
-    let nested = c.args.layout.nested in
-    let rs = c.args.reports.now in
-    let more = take (length rs - 1) (drop 1 rs) in
-    let item = c.report-item.result in
-    let one : all_read (printed_one nested (option_map (shown_source g.S.SourceCode.source) c.own_or-source.result) (value item)) ≡ false = c.in_err-push_one_related-in-len1-up.ensures.refused (search rules) in
-    subst (λ ts. all_read (printed_related nested inherited ts) ≡ false) (first_and_more value rs item c.in-len1-up.len_at_least)
-    (one_related_fails nested inherited (value (get_or rs 0 item)) (trees (map value more))
-    (subst (λ r. all_read (printed_one nested (effective (source_of (value r)) inherited) (value r)) ≡ false) c.report-item.is
-    (subst (λ o. all_read (printed_one nested o (value item)) ≡ false) c.own_or-source.ensures one)))
-
-pub push_related-returns-in_ok-push_related-in-len1-up-clause-ok : goal.push_related-returns-in_ok-push_related-in-len1-up-clause-ok
-push_related-returns-in_ok-push_related-in-len1-up-clause-ok g t c =
+pub push_related-loop-rest-preserved : goal.push_related-loop-rest-preserved
+push_related-loop-rest-preserved g t c =
     let blank = leaves_plain g.H.Highlighter.is_blank c.args.pen.now.highlighter in
     let s = settings_of c.args.layout in
     let outer = c.args.outer in
     let inherited = option_map (shown_source g.S.SourceCode.source) c.args.inherited in
     let value = tree_of g.D.Diagnostic.meaning g.S.SourceCode.source in
-    let rs = c.args.reports.now in
+    let all = trees (map value c.args.reports.now) in
+    let rs = c.loop-rest.rest.now in
     let more = take (length rs - 1) (drop 1 rs) in
     let item = c.report-item.result in
     let first = get_or rs 0 item in
-    let own = option_map (shown_source g.S.SourceCode.source) c.own_or-source.result in
     let old = spell c.args.out.now in
-    let mid = spell c.push_one_related.new.out in
-    let new = spell c.push_related.new.out in
-    let one : AppendsOne (IsOneRelated drawn_rows s blank outer (effective (source_of (value first)) inherited) (are_last (trees (map value more))) (value first)) old mid =
-    subst (λ b. AppendsOne (IsOneRelated drawn_rows s blank outer (effective (source_of (value first)) inherited) b (value first)) old mid) c.are_last.ensures
-    (subst (λ r. AppendsOne (IsOneRelated drawn_rows s blank outer (effective (source_of (value r)) inherited) c.are_last.result (value r)) old mid) c.report-item.is
-    (subst (λ o. AppendsOne (IsOneRelated drawn_rows s blank outer o c.are_last.result (value item)) old mid) c.own_or-source.ensures c.in_ok-push_one_related-in-len1-up.ensures.ok)) in
-    subst (λ ts. AppendsOne (AreRelated drawn_rows s blank outer inherited ts) old new) (first_and_more value rs item c.in-len1-up.len_at_least)
-    (related_behind drawn_rows s blank outer inherited (value first) (trees (map value more)) old mid new one
-    (subst (λ b. AppendsOne (AreRelated drawn_rows s b outer inherited (trees (map value more))) mid new) c.push_one_related.ensures.stays c.in_ok-push_related-in-len1-up.ensures.ok))
+    let now = spell c.loop-rest.out in
+    let new = spell c.push_one_related.new.out in
+    let remain = subst (λ ts. RelatedRemain drawn_rows s blank outer inherited all ts old now) (sym (first_and_more value rs item c.in-len1-up.len_at_least)) c.loop-rest.invariant.0 in
+    let one : AppendsOne (IsOneRelated drawn_rows s blank outer (effective (source_of (value first)) inherited) (are_last (trees (map value more))) (value first)) now new =
+    subst (λ b. AppendsOne (IsOneRelated drawn_rows s blank outer (effective (source_of (value first)) inherited) b (value first)) now new) c.are_last.ensures
+    (subst (λ r. AppendsOne (IsOneRelated drawn_rows s blank outer (effective (source_of (value r)) inherited) c.are_last.result (value r)) now new) c.report-item.is
+    (subst (λ o. AppendsOne (IsOneRelated drawn_rows s blank outer o c.are_last.result (value item)) now new) c.own_or-source.ensures
+    (subst (λ b. AppendsOne (IsOneRelated drawn_rows s b outer (option_map (shown_source g.S.SourceCode.source) c.own_or-source.result) c.are_last.result (value item)) now new) c.loop-rest.invariant.1 c.in_ok-push_one_related.ensures.ok))) in
+    (related_printed drawn_rows s blank outer inherited all (value first) (trees (map value more)) old now new remain one, c.push_one_related.ensures.stays ∙ c.loop-rest.invariant.1)
+
+pub push_related-returns-in_err-push_one_related-clause-refused : goal.push_related-returns-in_err-push_one_related-clause-refused
+push_related-returns-in_err-push_one_related-clause-refused g t c = λ h.
+    let inherited = option_map (shown_source g.S.SourceCode.source) c.args.inherited in
+    let value = tree_of g.D.Diagnostic.meaning g.S.SourceCode.source in
+    let nested = c.args.layout.nested in
+    let rs = c.loop-rest.rest.now in
+    let more = take (length rs - 1) (drop 1 rs) in
+    let item = c.report-item.result in
+    let one : all_read (printed_one nested (option_map (shown_source g.S.SourceCode.source) c.own_or-source.result) (value item)) ≡ false = c.in_err-push_one_related.ensures.refused (search rules) in
+    c.loop-rest.invariant.0.fails (subst (λ ts. all_read (printed_related nested inherited ts) ≡ false) (first_and_more value rs item c.in-len1-up.len_at_least)
+    (one_related_fails nested inherited (value (get_or rs 0 item)) (trees (map value more))
+    (subst (λ r. all_read (printed_one nested (effective (source_of (value r)) inherited) (value r)) ≡ false) c.report-item.is
+    (subst (λ o. all_read (printed_one nested o (value item)) ≡ false) c.own_or-source.ensures one))))
+
+pub push_related-returns-clause-ok : goal.push_related-returns-clause-ok
+push_related-returns-clause-ok g t c =
+    let blank = leaves_plain g.H.Highlighter.is_blank c.args.pen.now.highlighter in
+    let s = settings_of c.args.layout in
+    let now = spell c.loop-rest.out in
+    c.loop-rest.invariant.0.appends now
+    (no_related_behind drawn_rows s blank c.args.outer (option_map (shown_source g.S.SourceCode.source) c.args.inherited)
+    (tree_of g.D.Diagnostic.meaning g.S.SourceCode.source) c.loop-rest.rest.now now c.in_default.len_below)
