@@ -15,7 +15,7 @@ sign_text signs.End = colour_stop
 sign_text (signs.Sequence codes) = codes.items
 
 abbrev pub mark_text : Mark → List ℕ
-mark_text m = sign_text m.sign
+mark_text m = sign_text m.sign.value
 
 abbrev pub mark_token : Mark → Token
 mark_token m = Sequence (mark_text m)

@@ -18,10 +18,11 @@ pub(crate) mod sink;
 
 use crate::runs::colours::{begun_style, is_plain};
 use crate::runs::sequences::sequence_at;
-use crate::runs::sign::{Mark, Sign};
+use crate::runs::sign::{Mark, Sign, shared};
 use crate::style::Style;
 use std::alloc::{AllocError, Global};
 use std::marker::Model;
+use std::rc::Rc;
 
 /// Characters, and in order the signs that stand between them, each with how many characters are before it.
 ///
@@ -104,30 +105,32 @@ impl Runs {
         Ok(())
     }
 
-    // A sign that is its own.
-    fn push_own(&mut self, sign: Sign) -> Result<(), AllocError>
-        ensures tokens { OnOk result (self.new ≡ self.old ++ Sequence (sign_text sign) ∷ []) }
-        ensures text { OnOk result (spell self.new ≡ spell self.old ++ sign_text sign) }
+    // A sign behind the last character.
+    fn push_mark(&mut self, sign: Rc<Sign>) -> Result<(), AllocError>
+        ensures tokens { OnOk result (self.new ≡ self.old ++ Sequence (sign_text sign.value) ∷ []) }
+        ensures text { OnOk result (spell self.new ≡ spell self.old ++ sign_text sign.value) }
     {
         let at = self.codes.len();
         self.marks.push(Mark { at, sign })?;
         Ok(())
     }
 
-    /// Appends a copy of a sign.
-    pub(crate) fn push_sign(&mut self, sign: &Sign) -> Result<(), AllocError>
-        ensures tokens { OnOk result (self.new ≡ self.old ++ Sequence (sign_text sign.now) ∷ []) }
-        ensures text { OnOk result (spell self.new ≡ spell self.old ++ sign_text sign.now) }
+    // A sign that no other runs have.
+    fn push_own(&mut self, sign: Sign) -> Result<(), AllocError>
+        ensures tokens { OnOk result (self.new ≡ self.old ++ Sequence (sign_text sign) ∷ []) }
+        ensures text { OnOk result (spell self.new ≡ spell self.old ++ sign_text sign) }
     {
-        let copy = match sign {
-            Sign::Begin(style) => Sign::Begin(*style),
-            Sign::End => Sign::End,
-            Sign::Sequence(codes) => {
-                Sign::Sequence(Vec::from_slice(*self.codes.allocator(), codes)?)
-            }
-        };
-        self.push_own(copy)?;
-        Ok(())
+        let shared = shared(*self.codes.allocator(), &self.marks, sign)?;
+        self.push_mark(shared)
+    }
+
+    /// Appends a sign of other runs, which these share then.
+    pub(crate) fn push_sign(&mut self, sign: &Rc<Sign>) -> Result<(), AllocError>
+        ensures tokens { OnOk result (self.new ≡ self.old ++ Sequence (sign_text sign.now.value) ∷ []) }
+        ensures text { OnOk result (spell self.new ≡ spell self.old ++ sign_text sign.now.value) }
+    {
+        let shared = sign.clone()?;
+        self.push_mark(shared)
     }
 
     /// Appends codes as one sign.

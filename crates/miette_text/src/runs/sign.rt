@@ -1,6 +1,15 @@
 //! What stands between characters.
 
+ghost use Rattle.std.specs.Prelude.{◌≡◌, IfOk, true};
+ghost use Rattle.miette_text.specs.Woven.{sign_text};
+
+use crate::laws::comparison_laws;
 use crate::style::Style;
+use std::alloc::{AllocError, Global};
+use std::rc::Rc;
+
+// How many marks are looked at for a sign that prints the same.
+const RECENT: usize = 8;
 
 /// Where a style begins or ends, or another whole sequence for the terminal. A sign has no columns.
 #[derive(Debug, Drop)]
@@ -13,9 +22,36 @@ pub(crate) enum Sign {
     Sequence(Vec<char>),
 }
 
-/// A sign, and how many characters are before it.
+/// A sign, which other marks may share, and how many characters are before it.
 #[derive(Debug, Drop)]
 pub(crate) struct Mark {
     pub(crate) at: usize,
-    pub(crate) sign: Sign,
+    pub(crate) sign: Rc<Sign>,
+}
+
+// Whether two signs surely print the same.
+fn are_alike(one: &Sign, other: &Sign) -> bool
+    ensures { result ≡ true → sign_text one.now ≡ sign_text other.now }
+{
+    comparison_laws();
+    match (one, other) {
+        (Sign::Begin(one), Sign::Begin(other)) => *one == *other,
+        (Sign::End, Sign::End) => true,
+        (Sign::Sequence(one), Sign::Sequence(other)) => one.as_slice() == other.as_slice(),
+        _ => false,
+    }
+}
+
+/// A sign to be shared: that of one of the last marks, where it prints the same.
+pub(crate) fn shared(alloc: Global, marks: &[Mark], sign: Sign) -> Result<Rc<Sign>, AllocError>
+    ensures { IfOk result (λ s. sign_text s.value ≡ sign_text sign) }
+{
+    for mark in &marks[marks.len().saturating_sub(RECENT)..] {
+        if are_alike(&mark.sign, &sign) {
+            let copy = mark.sign.clone()?;
+            return Ok(copy);
+        }
+    }
+    let own = Rc::new(alloc, sign)?;
+    Ok(own)
 }

@@ -9,6 +9,7 @@ use crate::runs::Runs;
 use crate::runs::colours::push_style;
 use crate::runs::sign::Sign;
 use std::alloc::AllocError;
+use std::rc::Rc;
 
 /// What characters and signs are appended to.
 pub(crate) trait Sink {
@@ -21,8 +22,8 @@ pub(crate) trait Sink {
         ensures { OnOk result (holds self.new ≡ holds self.old ++ spells codes.now) };
 
     /// Appends a sign; after an error a beginning of it.
-    fn push_sign(&mut self, sign: &Sign) -> Result<(), AllocError>
-        ensures { OnOk result (holds self.new ≡ holds self.old ++ spells (sign_text sign.now)) };
+    fn push_sign(&mut self, sign: &Rc<Sign>) -> Result<(), AllocError>
+        ensures { OnOk result (holds self.new ≡ holds self.old ++ spells (sign_text sign.now.value)) };
 
     ghost nothing: { spells [] ≡ [] };
 
@@ -45,8 +46,8 @@ impl Sink for String {
         Ok(())
     }
 
-    fn push_sign(&mut self, sign: &Sign) -> Result<(), AllocError> {
-        match sign {
+    fn push_sign(&mut self, sign: &Rc<Sign>) -> Result<(), AllocError> {
+        match sign.as_ref() {
             Sign::Begin(style) => {
                 push_style(self, *style)?;
                 Ok(())
@@ -70,7 +71,7 @@ impl Sink for Runs {
         self.push_chars(codes)
     }
 
-    fn push_sign(&mut self, sign: &Sign) -> Result<(), AllocError> {
+    fn push_sign(&mut self, sign: &Rc<Sign>) -> Result<(), AllocError> {
         Runs::push_sign(self, sign)
     }
 }

@@ -3,7 +3,7 @@ use Rattle.miette_text.specs.Sequences.{Sequence}
 use Rattle.miette_text.specs.Woven.{sign_text, woven}
 use Rattle.miette_text.specs.declared.runs.sign.Mark.{Mark}
 use Rattle.miette_text.proofs.Growing.{spell-sequence, woven-mark}
-use Rattle.miette_text.proofs.runs.Runs.push_own.Goals as goal
+use Rattle.miette_text.proofs.runs.Runs.push_mark.Goals as goal
 
 pub returns-clause-tokens : goal.returns-clause-tokens
 returns-clause-tokens c =
@@ -12,7 +12,7 @@ returns-clause-tokens c =
     let m : Mark = record { at = c.len-at.result; sign = c.args.sign } in
     ap (λ vs. woven 0 cs vs) c.in_ok-push.ensures.items
     ∙ woven-mark 0 cs ms m (omega arith)
-    ∙ ap (λ ts. ts ++ Sequence (sign_text c.args.sign) ∷ []) c.self.view_is
+    ∙ ap (λ ts. ts ++ Sequence (sign_text c.args.sign.value) ∷ []) c.self.view_is
 
 pub returns-clause-text : goal.returns-clause-text
-returns-clause-text c = spell-sequence c.args.self.now _ (sign_text c.args.sign) (returns-clause-tokens c)
+returns-clause-text c = spell-sequence c.args.self.now _ (sign_text c.args.sign.value) (returns-clause-tokens c)
