@@ -1,0 +1,251 @@
+"""The inputs of sizes.py: what each program reads at a size, and by which words it is called.
+
+A family of inputs makes the bytes of any size. `sizes.py --all` runs its sizes, each of which is
+the double of another one; a size that stands apart once ended a run by a signal, or took too much
+memory. The small set of the gate has the sizes `gate`, by the ways `gate_ways` or by all."""
+import json
+from typing import Callable, NamedTuple
+
+# In the words of a way this stands for the middle of the input, in bytes.
+MIDDLE = "MIDDLE"
+
+
+class Way(NamedTuple):
+    """A program, the words that it is called with, and the status that it ends with."""
+
+    name: str
+    program: str
+    words: tuple
+    status: int = 0
+    # Whether it draws pictures, whose text may grow by rule as rows times labels.
+    draws: bool = False
+
+
+class Family(NamedTuple):
+    """Inputs of one form. `make` gives the bytes of a size."""
+
+    name: str
+    make: Callable[[int], bytes]
+    sizes: tuple
+    gate: tuple
+    ways: tuple
+    # Whether by rule a picture's text grows with the square of the size.
+    is_square: bool = False
+    gate_ways: tuple = ()
+
+
+PLAIN = Way("plain", "job", ("--theme", "unicode_nocolor"), draws=True)
+COLOUR = Way("colour", "job", ("--theme", "unicode"), draws=True)
+NARRATED = Way("narrated", "job", ("--narrated",))
+JSON = Way("json", "job", ("--json",))
+DEBUG = Way("debug", "job", ("--debug",))
+HANDLERS = (PLAIN, COLOUR, NARRATED, JSON, DEBUG)
+NESTED = Way("nested", "job", (*PLAIN.words, "--nested", "yes"), draws=True)
+NESTED_COLOUR = Way("nested colour", "job", (*COLOUR.words, "--nested", "yes"), draws=True)
+ALL = (*HANDLERS, NESTED, NESTED_COLOUR)
+BENCH = Way("bench", "bench", ("2", *PLAIN.words), draws=True)
+DRAW = Way("draw", "draw", ("f", MIDDLE, "1", "here", "m"), draws=True)
+LINT = Way("lint", "lint", ("f", "80"), 1, draws=True)
+
+CHARACTERS = {
+    "letters": b"a",
+    "digits": b"7",
+    "tabs": b"\t",
+    "NUL": b"\0",
+    "ESC": b"\x1b",
+    "colours": b"\x1b[31mx",
+    "CJK": "漢".encode(),
+    "combining": "e\u0301".encode(),
+    "emoji": "👩‍👩‍👧".encode(),
+    "FF": b"\xff",
+}
+LABELS = 4000
+WORDS = "alpha beta-gamma delta "
+
+
+def doubled(least, most):
+    """The sizes from the least on, each the double of the one before, up to the most."""
+    sizes = [least]
+    while 2 * sizes[-1] <= most:
+        sizes.append(2 * sizes[-1])
+    return tuple(sizes)
+
+
+def text_of(length):
+    """A text of words, so many bytes long."""
+    return (WORDS * (length // len(WORDS) + 1))[:length]
+
+
+def described(**members):
+    """The description that has these members."""
+    return json.dumps(members, ensure_ascii=False).encode()
+
+
+def listed(member, item):
+    """A description whose member is a list of the same item, so many times."""
+    form = '{"message":"","%s":[%s]}'
+    return lambda size: (form % (member, ",".join([item] * size))).encode()
+
+
+def repeated(unit):
+    """So many times the same bytes."""
+    return lambda size: unit * size
+
+
+def labelled(text, spans, label=None):
+    """The description of a source with a label at each of these spans."""
+    said = "" if label is None else ',"label":' + json.dumps(label)
+    labels = ",".join('{"offset":%d,"length":%d%s}' % (*span, said) for span in spans)
+    source = json.dumps(text, ensure_ascii=False)
+    form = '{"message":"m","source":{"name":"f","text":%s},"labels":[%s]}'
+    return (form % (source, labels)).encode()
+
+
+def one_line(label=None):
+    """A line with so many labels, all with this text."""
+    return lambda size: labelled("ab " * size, ((3 * i, 2) for i in range(size)), label)
+
+
+def line_each(size):
+    """So many lines, each with a label of its own."""
+    return labelled("ab\n" * size, ((3 * i, 2) for i in range(size)), "x")
+
+
+def chained(size):
+    """Labels over three lines, each begun a line below the one before, so that few cross."""
+    return labelled("ab\n" * (size + 2), ((3 * i, 8) for i in range(size)), "x")
+
+
+def nested(size):
+    """Labels over many of ten times so many lines, each within the one before."""
+    lines = 10 * size
+    return labelled("ab\n" * lines, ((3 * i, 3 * (lines - 2 * i) - 1) for i in range(size)), "x")
+
+
+def crossing(size):
+    """Labels over many of ten times so many lines, each begun and ended below the one before."""
+    return labelled("ab\n" * 10 * size, ((3 * i, 27 * size) for i in range(size)), "x")
+
+
+def label_on_characters(unit):
+    """A line of so many characters, with labels all along it."""
+
+    def make(size):
+        step = size // LABELS * len(unit)
+        return labelled((unit * size).decode(), ((step * i, len(unit)) for i in range(LABELS)))
+
+    return make
+
+
+def within(member, inner, depth, wrap):
+    """A description in the member of another one, so many times."""
+    head, tail = ('{"message":"m","%s":' % member, "}")
+    head, tail = (head + "[", "]" + tail) if wrap else (head, tail)
+    return (head * depth + inner + tail * depth).encode()
+
+
+def deep_related(depth):
+    """Related reports in one another, of which the last has a help of so many bytes."""
+    return lambda size: within("related", helped(size), depth, True)
+
+
+def deep_causes(depth):
+    """Causes of causes, of which the last has a help of so many bytes."""
+    return lambda size: within("cause", helped(size), depth, False)
+
+
+def helped(size):
+    """A description with a help of so many bytes, as a text."""
+    return described(message="m", help=text_of(size)).decode()
+
+
+def empty_texts(_size):
+    """A description whose texts are all empty."""
+    label = {"offset": 0, "length": 0, "label": ""}
+    source = {"text": "", "name": "", "language": ""}
+    inner = {"message": "", "causes": [""], "contexts": [""], "source": source, "labels": [label]}
+    return described(**inner, help="", code="", url="", related=[inner])
+
+
+def long_member(member):
+    """A description with a member of so many bytes."""
+    return lambda size: described(**{"message": "m", "code": "c", member: text_of(size)})
+
+
+def long_label(unit):
+    """A label whose text has so many bytes, on one line or on many."""
+    return lambda size: labelled("ab\n", [(0, 2)], (unit * size)[:size])
+
+
+def lint_lines(text):
+    """So many lines, each of this text with blanks at its end."""
+    return lambda size: (text + " \n").encode() * size
+
+
+def with_sizes(sizes, *others):
+    """These sizes and others, in their order."""
+    return tuple(sorted({*sizes, *others}))
+
+
+COUNTS = doubled(10_000, 1_000_000)
+LENGTHS = doubled(25_000, 1_600_000)
+DEPTH_LENGTHS = doubled(12_500, 100_000)
+SQUARES = doubled(1_000, 8_000)
+DRAWN = (PLAIN, COLOUR)
+TOLD = (PLAIN, NARRATED)
+ONE = (1,)
+
+
+def small():
+    """Inputs that are small, or deep."""
+    yield Family("only a message", lambda _: described(message="m"), ONE, ONE, (*HANDLERS, BENCH))
+    yield Family("empty texts", empty_texts, ONE, ONE, ALL)
+    yield Family("related 62 deep", deep_related(62), ONE, ONE, ALL)
+    yield Family("causes 126 deep", deep_causes(126), ONE, ONE, HANDLERS)
+
+
+def lists():
+    """Lists of texts and of reports."""
+    sizes = (32_600, 100_000)
+    yield Family("empty causes", listed("causes", '""'), sizes, sizes, HANDLERS)
+    yield Family("causes", listed("causes", '"a cause"'), COUNTS, (), HANDLERS)
+    yield Family("contexts", listed("contexts", '"a"'), COUNTS, (40_000,), HANDLERS)
+    sizes = (9_900, 100_000)
+    item = '{"message":"a"}'
+    yield Family("related", listed("related", item), with_sizes(COUNTS, *sizes), sizes, ALL)
+
+
+def pictures():
+    """Sources with many labels."""
+    yield Family("labels on one line", one_line(), COUNTS, (10_000,), (*HANDLERS, BENCH))
+    yield Family("a label on each line", line_each, COUNTS, (10_000,), HANDLERS)
+    yield Family("labels over three lines", chained, COUNTS, (10_000,), HANDLERS)
+    yield Family("texts on one line", one_line("x"), SQUARES, (8_000,), HANDLERS, True, TOLD)
+    sizes = doubled(125, 1_000)
+    yield Family("labels in labels", nested, sizes, (1_000,), HANDLERS, True, (PLAIN,))
+    yield Family("labels across labels", crossing, sizes, (250,), HANDLERS, True)
+    yield Family("lint", lint_lines("a"), COUNTS, (), (LINT,))
+    sizes = (400_000,)
+    yield Family("lint of 9.6 MB", lint_lines("let it = that + other;"), sizes, sizes, (LINT,))
+
+
+def long_texts():
+    """Texts of many bytes."""
+    for member in ("message", "help", "url", "code"):
+        yield Family(f"long {member}", long_member(member), LENGTHS, (200_000,), HANDLERS)
+    yield Family("long label", long_label(WORDS), LENGTHS, (200_000,), HANDLERS)
+    yield Family("label of many lines", long_label("x\n"), LENGTHS, (200_000,), HANDLERS)
+    yield Family("help in related 20 deep", deep_related(20), DEPTH_LENGTHS, (), ALL)
+
+
+def long_lines():
+    """Lines of many characters."""
+    for kind, unit in CHARACTERS.items():
+        yield Family(f"line of {kind}", repeated(unit), COUNTS, (80_000,), (DRAW, LINT))
+        if kind != "FF":
+            name = f"{LABELS} labels on {kind}"
+            yield Family(name, label_on_characters(unit), COUNTS, (10_000,), TOLD)
+    yield Family("100 MB of FF", repeated(b"\xff"), (100_000_000,), (), (DRAW, LINT))
+
+
+FAMILIES = [*small(), *lists(), *pictures(), *long_texts(), *long_lines()]
