@@ -2,6 +2,7 @@ pub mod Sizes
 pub mod Putting
 pub mod Columning
 pub mod Lone
+pub mod Parted
 pub mod Placed
 pub mod PlainColumns
 pub mod Sweeps

@@ -22,7 +22,7 @@ use Rattle.unicode_width.specs.Width.{before, plain, is_joined_emoji, of_kind, a
 use Rattle.unicode_width.proofs.KindLemmas.{kind_stepped, is_ligature_transparent_stepped, is_text_presentation_base_stepped}
 use Rattle.unicode_width.proofs.Computing.{unicode_width}
 use Rattle.unicode_width.proofs.Rules.{is_simple, str_width-append_simple}
-use Rattle.miette_narrated.specs.Places.{is_lone}
+use Rattle.miette_narrated.specs.Parting.{is_lone}
 use Rattle.miette_narrated.proofs.Sweeps.{by_cases}
 
 -- ---- what such a character is not
@@ -31,30 +31,17 @@ abbrev lone_ranges : List Range
 lone_ranges =
     (0x20, 0x22) ∷ (0x24, 0x29) ∷ (0x2B, 0x2F) ∷ (0x3A, 0x7E) ∷ (0xAF, 0x2FF) ∷ (0x391, 0x482) ∷ (0x48A, 0x52F) ∷ (0x3001, 0x3029) ∷ (0x3041, 0x3096) ∷ (0x30A0, 0x30FF) ∷ (0x3400, 0x4DBF) ∷ (0x4E00, 0x9FFF) ∷ (0xAC00, 0xD7A3) ∷ []
 
-or_false : (b : Bool) → b ≡ (b || false)
+pub or_false : (b : Bool) → b ≡ (b || false)
 or_false true = refl
 or_false false = refl
 
-or_turn : (a b d : Bool) → ((a || b) || d) ≡ (a || (b || d))
+pub or_turn : (a b d : Bool) → ((a || b) || d) ≡ (a || (b || d))
 or_turn true b d = refl
 or_turn false b d = refl
 
 ranged : (c : ℕ) → is_lone c ≡ in_ranges lone_ranges c
 unfolding in_ranges
-ranged c =
-    or_false (is_lone c)
-    ∙ or_turn (((((((((((is_in_range 0x20 0x22 c || is_in_range 0x24 0x29 c) || is_in_range 0x2B 0x2F c) || is_in_range 0x3A 0x7E c) || is_in_range 0xAF 0x2FF c) || is_in_range 0x391 0x482 c) || is_in_range 0x48A 0x52F c) || is_in_range 0x3001 0x3029 c) || is_in_range 0x3041 0x3096 c) || is_in_range 0x30A0 0x30FF c) || is_in_range 0x3400 0x4DBF c) || is_in_range 0x4E00 0x9FFF c) (is_in_range 0xAC00 0xD7A3 c) false
-    ∙ or_turn ((((((((((is_in_range 0x20 0x22 c || is_in_range 0x24 0x29 c) || is_in_range 0x2B 0x2F c) || is_in_range 0x3A 0x7E c) || is_in_range 0xAF 0x2FF c) || is_in_range 0x391 0x482 c) || is_in_range 0x48A 0x52F c) || is_in_range 0x3001 0x3029 c) || is_in_range 0x3041 0x3096 c) || is_in_range 0x30A0 0x30FF c) || is_in_range 0x3400 0x4DBF c) (is_in_range 0x4E00 0x9FFF c) (is_in_range 0xAC00 0xD7A3 c || false)
-    ∙ or_turn (((((((((is_in_range 0x20 0x22 c || is_in_range 0x24 0x29 c) || is_in_range 0x2B 0x2F c) || is_in_range 0x3A 0x7E c) || is_in_range 0xAF 0x2FF c) || is_in_range 0x391 0x482 c) || is_in_range 0x48A 0x52F c) || is_in_range 0x3001 0x3029 c) || is_in_range 0x3041 0x3096 c) || is_in_range 0x30A0 0x30FF c) (is_in_range 0x3400 0x4DBF c) (is_in_range 0x4E00 0x9FFF c || (is_in_range 0xAC00 0xD7A3 c || false))
-    ∙ or_turn ((((((((is_in_range 0x20 0x22 c || is_in_range 0x24 0x29 c) || is_in_range 0x2B 0x2F c) || is_in_range 0x3A 0x7E c) || is_in_range 0xAF 0x2FF c) || is_in_range 0x391 0x482 c) || is_in_range 0x48A 0x52F c) || is_in_range 0x3001 0x3029 c) || is_in_range 0x3041 0x3096 c) (is_in_range 0x30A0 0x30FF c) (is_in_range 0x3400 0x4DBF c || (is_in_range 0x4E00 0x9FFF c || (is_in_range 0xAC00 0xD7A3 c || false)))
-    ∙ or_turn (((((((is_in_range 0x20 0x22 c || is_in_range 0x24 0x29 c) || is_in_range 0x2B 0x2F c) || is_in_range 0x3A 0x7E c) || is_in_range 0xAF 0x2FF c) || is_in_range 0x391 0x482 c) || is_in_range 0x48A 0x52F c) || is_in_range 0x3001 0x3029 c) (is_in_range 0x3041 0x3096 c) (is_in_range 0x30A0 0x30FF c || (is_in_range 0x3400 0x4DBF c || (is_in_range 0x4E00 0x9FFF c || (is_in_range 0xAC00 0xD7A3 c || false))))
-    ∙ or_turn ((((((is_in_range 0x20 0x22 c || is_in_range 0x24 0x29 c) || is_in_range 0x2B 0x2F c) || is_in_range 0x3A 0x7E c) || is_in_range 0xAF 0x2FF c) || is_in_range 0x391 0x482 c) || is_in_range 0x48A 0x52F c) (is_in_range 0x3001 0x3029 c) (is_in_range 0x3041 0x3096 c || (is_in_range 0x30A0 0x30FF c || (is_in_range 0x3400 0x4DBF c || (is_in_range 0x4E00 0x9FFF c || (is_in_range 0xAC00 0xD7A3 c || false)))))
-    ∙ or_turn (((((is_in_range 0x20 0x22 c || is_in_range 0x24 0x29 c) || is_in_range 0x2B 0x2F c) || is_in_range 0x3A 0x7E c) || is_in_range 0xAF 0x2FF c) || is_in_range 0x391 0x482 c) (is_in_range 0x48A 0x52F c) (is_in_range 0x3001 0x3029 c || (is_in_range 0x3041 0x3096 c || (is_in_range 0x30A0 0x30FF c || (is_in_range 0x3400 0x4DBF c || (is_in_range 0x4E00 0x9FFF c || (is_in_range 0xAC00 0xD7A3 c || false))))))
-    ∙ or_turn ((((is_in_range 0x20 0x22 c || is_in_range 0x24 0x29 c) || is_in_range 0x2B 0x2F c) || is_in_range 0x3A 0x7E c) || is_in_range 0xAF 0x2FF c) (is_in_range 0x391 0x482 c) (is_in_range 0x48A 0x52F c || (is_in_range 0x3001 0x3029 c || (is_in_range 0x3041 0x3096 c || (is_in_range 0x30A0 0x30FF c || (is_in_range 0x3400 0x4DBF c || (is_in_range 0x4E00 0x9FFF c || (is_in_range 0xAC00 0xD7A3 c || false)))))))
-    ∙ or_turn (((is_in_range 0x20 0x22 c || is_in_range 0x24 0x29 c) || is_in_range 0x2B 0x2F c) || is_in_range 0x3A 0x7E c) (is_in_range 0xAF 0x2FF c) (is_in_range 0x391 0x482 c || (is_in_range 0x48A 0x52F c || (is_in_range 0x3001 0x3029 c || (is_in_range 0x3041 0x3096 c || (is_in_range 0x30A0 0x30FF c || (is_in_range 0x3400 0x4DBF c || (is_in_range 0x4E00 0x9FFF c || (is_in_range 0xAC00 0xD7A3 c || false))))))))
-    ∙ or_turn ((is_in_range 0x20 0x22 c || is_in_range 0x24 0x29 c) || is_in_range 0x2B 0x2F c) (is_in_range 0x3A 0x7E c) (is_in_range 0xAF 0x2FF c || (is_in_range 0x391 0x482 c || (is_in_range 0x48A 0x52F c || (is_in_range 0x3001 0x3029 c || (is_in_range 0x3041 0x3096 c || (is_in_range 0x30A0 0x30FF c || (is_in_range 0x3400 0x4DBF c || (is_in_range 0x4E00 0x9FFF c || (is_in_range 0xAC00 0xD7A3 c || false)))))))))
-    ∙ or_turn (is_in_range 0x20 0x22 c || is_in_range 0x24 0x29 c) (is_in_range 0x2B 0x2F c) (is_in_range 0x3A 0x7E c || (is_in_range 0xAF 0x2FF c || (is_in_range 0x391 0x482 c || (is_in_range 0x48A 0x52F c || (is_in_range 0x3001 0x3029 c || (is_in_range 0x3041 0x3096 c || (is_in_range 0x30A0 0x30FF c || (is_in_range 0x3400 0x4DBF c || (is_in_range 0x4E00 0x9FFF c || (is_in_range 0xAC00 0xD7A3 c || false))))))))))
-    ∙ or_turn (is_in_range 0x20 0x22 c) (is_in_range 0x24 0x29 c) (is_in_range 0x2B 0x2F c || (is_in_range 0x3A 0x7E c || (is_in_range 0xAF 0x2FF c || (is_in_range 0x391 0x482 c || (is_in_range 0x48A 0x52F c || (is_in_range 0x3001 0x3029 c || (is_in_range 0x3041 0x3096 c || (is_in_range 0x30A0 0x30FF c || (is_in_range 0x3400 0x4DBF c || (is_in_range 0x4E00 0x9FFF c || (is_in_range 0xAC00 0xD7A3 c || false)))))))))))
+ranged c = or_false (is_lone c) ∙ simp or_turn
 
 -- no such character passes the test
 abbrev never : (p : ℕ → Bool) → Stepped p → Bool
@@ -63,7 +50,7 @@ never p s =
     let both = zip_stepped (λ a b. not (a && b)) (in_ranges lone_ranges) p (of_ranges lone_ranges refl) s in
     always _ both && (ends_by 0x11_0000 both.steps && both.default)
 
-from_not : (b : Bool) → not b ≡ true → b ≡ false
+pub from_not : (b : Bool) → not b ≡ true → b ≡ false
 from_not true e = sym e
 from_not false e = refl
 
@@ -263,7 +250,7 @@ step_lone c t s h =
 
 -- ---- so widths add up
 
-read_append : (xs ys : List ℕ) (r : Reading) → read_before false (xs ++ ys) r ≡ read_before false xs (read_before false ys r)
+pub read_append : (xs ys : List ℕ) (r : Reading) → read_before false (xs ++ ys) r ≡ read_before false xs (read_before false ys r)
 read_append [] ys r = refl
 read_append (x ∷ xs) ys r = ap (step false x) (read_append xs ys r)
 
@@ -280,7 +267,7 @@ read_spaces zero = refl
 read_spaces (suc n) = ap (step false 0x20) (read_spaces n) ∙ step_lone 0x20 n plain refl ∙ ap (λ m. (m, plain)) (add-one n)
 
 -- what is read before so many columns
-shifted : (xs : List ℕ) (n : ℕ) → (read_before false xs (n, plain)).0 ≡ str_width false xs + n
+pub shifted : (xs : List ℕ) (n : ℕ) → (read_before false xs (n, plain)).0 ≡ str_width false xs + n
 unfolding str_width
 shifted xs n =
     ap (λ r. (read_before false xs r).0) (sym (read_spaces n)) ∙ ap (λ r. r.0) (sym (read_append xs (spaces n) (0, plain)))

@@ -1,16 +1,17 @@
 -- Places of a line's text from which a walk over its characters goes on.
-use Rattle.std.proofs.Common.{ℕ, ◌+◌, ◌-◌, ◌<◌, ◌≤◌, ◌≡◌, true, false, List, [], ◌∷◌, ◌++◌, length, drop, sym, ap, subst, ◌∙◌, append_assoc, arith}
+use Rattle.std.proofs.Common.{ℕ, zero, suc, ◌+◌, ◌-◌, ◌<◌, ◌≤◌, ◌≡◌, true, false, List, [], ◌∷◌, ◌++◌, length, drop, sym, ap, subst, ◌∙◌, append_assoc, append-nil, arith}
 use Rattle.std.specs.Prelude.{IsUtf8, chars, encode_utf8}
 use Rattle.std.proofs.lemmas.List.{drop-drop}
 use Rattle.unicode_width.specs.Width.{str_width}
 use Rattle.miette_layout.specs.Cells.{characters}
 use Rattle.miette_layout.specs.Given.{width_of}
-use Rattle.miette_layout.proofs.Stepping.{IsFirst}
+use Rattle.miette_layout.proofs.Stepping.{IsFirst, characters_step}
 use Rattle.miette_narrated.specs.declared.places.Place.{Place}
 use Rattle.miette_narrated.specs.Columns.{begun, is_boundary, widths, column}
-use Rattle.miette_narrated.specs.Places.{column_behind, IsPlace, is_lone}
-use Rattle.miette_narrated.proofs.Columning.{IsOver, none_over, one_over, chars_pushed, at_boundary, off_boundary, behind_boundary, behind_other}
-use Rattle.miette_narrated.proofs.Lone.{adds_up}
+use Rattle.miette_narrated.specs.Parting.{parts}
+use Rattle.miette_narrated.specs.Places.{column_behind, IsPlace}
+use Rattle.miette_narrated.proofs.Columning.{IsOver, none_over, one_over, begun_more, begun_zero, chars_pushed, at_boundary, off_boundary, behind_boundary, behind_other}
+use Rattle.miette_narrated.proofs.Parted.{parted, no_width}
 use Rattle.miette_narrated.proofs.Sweeps.{by_cases}
 
 pub first_place : (text : List ℕ) (place : Place) → place.bytes ≡ 0 → place.column ≡ 0 → place.widths ≡ 0 → IsPlace text place
@@ -69,10 +70,32 @@ one_since text from over new sum wider bytes later code size h is u v e w some t
           (subst (λ k. IsOver from.widths start ((bytes - from.bytes) + (size + more)) new wider (drop size (drop bytes text)) k) left step));
     }
 
--- behind a character that joins nothing is a place
-pub next_place : (text : List ℕ) (from place : Place) (over new : List ℕ) (code : ℕ) → IsPlace text from → IsSince text from new place.widths place.bytes → IsUtf8 over → IsUtf8 new → new ≡ over ++ encode_utf8 code →
-    is_lone code ≡ true → place.column ≡ from.column + str_width false (chars new) → IsPlace text place
-next_place text from place over new code is h u v e lone c = (
+-- the last character of a text
+pub record EndsBy (text : List ℕ) (last : ℕ) : Type 0 where
+  pub front : List ℕ
+  pub is : chars text ≡ front ++ last ∷ []
+
+pub ends_pushed : (old new : List ℕ) (code : ℕ) → IsUtf8 old → IsUtf8 new → new ≡ old ++ encode_utf8 code → EndsBy new code
+ends_pushed old new code u v e = record { front = chars old; is = chars_pushed old new code u v e }
+
+-- a text before which another ends is parted from it
+parted_begun : (over front : List ℕ) (last code size more : ℕ) (bytes after : List ℕ) → IsFirst bytes after code size → over ≡ front ++ last ∷ [] → parts last code ≡ true →
+    str_width false (over ++ begun more (characters bytes)) ≡ str_width false over + str_width false (begun more (characters bytes))
+parted_begun over front last code size zero bytes after first e h =
+    let none = begun_zero (characters bytes) in
+    let here : str_width false (over ++ begun 0 (characters bytes)) ≡ str_width false over = ap (λ o. str_width false (over ++ o)) none ∙ ap (str_width false) (append-nil over) in
+    let empty : str_width false (begun 0 (characters bytes)) ≡ 0 = ap (str_width false) none ∙ no_width in
+    omega (arith, here, empty)
+parted_begun over front last code size (suc more) bytes after first e h =
+    let later = begun (suc more - size) (characters after) in
+    let step : begun (suc more) (characters bytes) ≡ code ∷ later = ap (begun (suc more)) (characters_step bytes after code size first) ∙ begun_more (suc more) code size (characters after) (omega arith) in
+    ap (λ o. str_width false (over ++ o)) step ∙ ap (λ o. str_width false (o ++ code ∷ later)) e ∙ ap (str_width false) (append_assoc front (last ∷ []) (code ∷ later))
+    ∙ parted front later last code h ∙ ap (λ o. str_width false o + str_width false (code ∷ later)) (sym e) ∙ ap (λ o. str_width false over + str_width false o) (sym step)
+
+-- between characters where a text may be parted is a place
+pub next_place : (text : List ℕ) (from place : Place) (over after : List ℕ) (last code size : ℕ) → IsPlace text from → IsSince text from over place.widths place.bytes → EndsBy over last →
+    IsFirst (drop place.bytes text) after code size → parts last code ≡ true → place.column ≡ from.column + str_width false (chars over) → IsPlace text place
+next_place text from place over after last code size is h ends first part c = (
   h.within,
   λ more.
       let start = drop from.bytes text in
@@ -80,10 +103,8 @@ next_place text from place over new code is h u v e lone c = (
       let k = (place.bytes - from.bytes) + more in
       let it = h.each more in
       let at : place.bytes + more ≡ from.bytes + k = omega (arith, h.behind) in
-      let pushed = chars_pushed over new code u v e in
-      let wide : str_width false (begun k (characters start)) ≡ str_width false (chars new) + str_width false (begun more cs) =
-      ap (str_width false) (sym it.all ∙ ap (λ o. o ++ begun more cs) pushed ∙ append_assoc (chars over) (code ∷ []) (begun more cs))
-      ∙ adds_up (chars over) (begun more cs) code lone ∙ ap (λ o. str_width false o + str_width false (begun more cs)) (sym pushed) in
+      let wide : str_width false (begun k (characters start)) ≡ str_width false (chars over) + str_width false (begun more cs) =
+      ap (str_width false) (sym it.all) ∙ parted_begun (chars over) ends.front last code size more (drop place.bytes text) after first ends.is part in
       ap (λ n. column n (characters text)) at ∙ is.1 k
       ∙ by_cases {C = column_behind from k (characters start) ≡ column_behind place more cs} (is_boundary more cs)
       (λ y. let sums : from.column + str_width false (begun k (characters start)) ≡ place.column + str_width false (begun more cs) = omega (arith, wide, c) in

@@ -1,4 +1,5 @@
 pub mod Columns
+pub mod Parting
 pub mod Places
 pub mod Labels
 pub mod Lines

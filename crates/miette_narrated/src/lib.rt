@@ -6,6 +6,7 @@ pub mod handler;
 mod label_rows;
 mod line_text;
 mod lines;
+mod parting;
 mod places;
 mod report;
 mod shown;

@@ -1,11 +1,11 @@
 //! Places of a line's text from which a walk over its characters may go on, so that a column far behind is found by a short walk.
 
 ghost use Rattle.std.specs.Prelude.{◌≡◌, ◌<◌, ◌≤◌, ◌+◌, false, chars, IfOk, IfSome};
-ghost use Rattle.std.specs.Int.{is_in_range};
 ghost use Rattle.std.specs.List.{All};
 ghost use Rattle.unicode_width.specs.Width.{str_width};
-ghost use Rattle.miette_narrated.specs.Places.{IsPlace, is_lone};
+ghost use Rattle.miette_narrated.specs.Places.{IsPlace};
 
+use crate::parting::parts;
 use miette_layout::cells::{columns_of, first_character};
 use std::alloc::{AllocError, Global};
 use unicode_width::UnicodeWidthStr;
@@ -33,32 +33,6 @@ pub(crate) fn start(text: &[u8]) -> Place
     }
 }
 
-fn in_range(code: u32, low: u32, high: u32) -> bool
-    ensures { result ≡ is_in_range low high code }
-{
-    low <= code && code <= high
-}
-
-// Whether a character joins nothing that stands behind it. Those that are looked for are ASCII characters and letters.
-fn is_lone(character: char) -> bool
-    ensures { result ≡ is_lone character }
-{
-    let code = character as u32;
-    in_range(code, 0x20, 0x22)
-        || in_range(code, 0x24, 0x29)
-        || in_range(code, 0x2b, 0x2f)
-        || in_range(code, 0x3a, 0x7e)
-        || in_range(code, 0xaf, 0x2ff)
-        || in_range(code, 0x391, 0x482)
-        || in_range(code, 0x48a, 0x52f)
-        || in_range(code, 0x3001, 0x3029)
-        || in_range(code, 0x3041, 0x3096)
-        || in_range(code, 0x30a0, 0x30ff)
-        || in_range(code, 0x3400, 0x4dbf)
-        || in_range(code, 0x4e00, 0x9fff)
-        || in_range(code, 0xac00, 0xd7a3)
-}
-
 /// The column behind a place's own and a text's; past the largest `usize` it is refused as want of memory.
 pub(crate) fn column_after(from: Place, text: &str) -> Result<usize, AllocError>
     ensures { IfOk result (λ column. column ≡ from.column + str_width false (chars text.now)) }
@@ -75,18 +49,13 @@ fn next_place(alloc: Global, text: &[u8], from: Place) -> Result<Option<Place>, 
     ensures { IfOk result (λ next. IfSome next (λ place. IsPlace text.now place × (from.bytes < place.bytes))) }
 {
     let mut over = String::new(alloc);
+    let mut last = '\0';
     let mut widths = from.widths;
     let mut bytes = from.bytes;
     while bytes < text.len() {
         let rest = &text[bytes..];
         let (code, size) = first_character(rest);
-        over.push(code)?;
-        let Some(wider) = widths.checked_add(columns_of(code)) else {
-            return Err(AllocError);
-        };
-        widths = wider;
-        bytes += size;
-        if bytes - from.bytes >= APART && is_lone(code) {
+        if bytes - from.bytes >= APART && parts(last, code) {
             let column = column_after(from, over.as_str())?;
             return Ok(Some(Place {
                 bytes,
@@ -94,11 +63,18 @@ fn next_place(alloc: Global, text: &[u8], from: Place) -> Result<Option<Place>, 
                 widths,
             }));
         }
+        over.push(code)?;
+        let Some(wider) = widths.checked_add(columns_of(code)) else {
+            return Err(AllocError);
+        };
+        last = code;
+        widths = wider;
+        bytes += size;
     }
     Ok(None)
 }
 
-/// Places of a text, in order, each behind the first character that joins nothing after so many bytes more.
+/// Places of a text, in order, each where the text may first be parted after so many bytes more.
 pub(crate) fn places(alloc: Global, text: &[u8]) -> Result<Vec<Place>, AllocError>
     ensures { IfOk result (λ places. All (IsPlace text.now) places.items) }
 {

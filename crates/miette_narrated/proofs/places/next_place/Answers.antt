@@ -1,16 +1,19 @@
-use Rattle.std.proofs.Common.{◌≡◌, ◌+◌, ◌-◌, true, false, drop, length, string_bytes, ap, subst, ◌∙◌, refl, rules, arith, length-drop}
+use Rattle.std.proofs.Common.{◌≡◌, ◌+◌, ◌-◌, ◌<◌, true, false, drop, length, string_bytes, ap, subst, ◌∙◌, refl, rules, arith, length-drop}
 use Rattle.std.specs.Prelude.{chars}
 use Rattle.std.proofs.lemmas.List.{take_rest}
 use Rattle.std.proofs.lemmas.Str.{IsUtf8-string_bytes}
 use Rattle.unicode_width.specs.Width.{str_width}
 use Rattle.miette_layout.specs.Given.{width_of}
 use Rattle.miette_layout.proofs.Stepping.{IsFirst}
-use Rattle.miette_narrated.specs.Places.{is_lone}
-use Rattle.miette_narrated.proofs.Placed.{none_since, one_since, next_place}
+use Rattle.miette_narrated.specs.Parting.{parts}
+use Rattle.miette_narrated.proofs.Placed.{none_since, one_since, ends_pushed, next_place}
 use Rattle.miette_narrated.proofs.places.next_place.Goals as goal
 
 pub loop-bytes-init : goal.loop-bytes-init
-loop-bytes-init c = none_since c.args.text.now c.args.from (string_bytes c.new-over.result) c.requires.0 c.new-over.ensures.bytes
+loop-bytes-init c = record {
+  since = none_since c.args.text.now c.args.from (string_bytes c.new-over.result) c.requires.0 c.new-over.ensures.bytes;
+  last = λ h. absurd (omega (arith, h));
+}
 
 pub loop-bytes-preserved : goal.loop-bytes-preserved
 loop-bytes-preserved c =
@@ -28,12 +31,15 @@ loop-bytes-preserved c =
       size_is = c.first_character-code.ensures.size;
     }) in
     let wider : c.in-Some.wider ≡ c.loop-bytes.widths + width_of code = search rules in
-    one_since text c.args.from (string_bytes c.loop-bytes.over) (string_bytes c.push.new.self) c.loop-bytes.widths c.in-Some.wider bytes (bytes + size) code size c.loop-bytes.invariant first
-    (IsUtf8-string_bytes c.loop-bytes.over) (IsUtf8-string_bytes c.push.new.self) c.in_ok-push.ensures.bytes wider c.first_character-code.ensures.some refl
-    (omega (arith, c.first_character-code.ensures.within, ap length (take_rest text bytes), left, c.loop-bytes-test.true))
+    record {
+      since = one_since text c.args.from (string_bytes c.loop-bytes.over) (string_bytes c.push.new.self) c.loop-bytes.widths c.in-Some.wider bytes (bytes + size) code size c.loop-bytes.invariant.since first
+          (IsUtf8-string_bytes c.loop-bytes.over) (IsUtf8-string_bytes c.push.new.self) c.in_ok-push.ensures.bytes wider c.first_character-code.ensures.some refl
+          (omega (arith, c.first_character-code.ensures.within, ap length (take_rest text bytes), left, c.loop-bytes-test.true));
+      last = λ h. ends_pushed (string_bytes c.loop-bytes.over) (string_bytes c.push.new.self) code (IsUtf8-string_bytes c.loop-bytes.over) (IsUtf8-string_bytes c.push.new.self) c.in_ok-push.ensures.bytes;
+    }
 
-pub returns-then-is_lone : goal.returns-then-is_lone
-returns-then-is_lone c =
+pub returns-then-parts : goal.returns-then-parts
+returns-then-parts c =
     let text = c.args.text.now in
     let from = c.args.from in
     let bytes = c.loop-bytes.bytes in
@@ -48,13 +54,10 @@ returns-then-is_lone c =
       code_is = c.first_character-code.ensures.code;
       size_is = c.first_character-code.ensures.size;
     }) in
-    let wider : c.in-Some.wider ≡ c.loop-bytes.widths + width_of code = search rules in
-    let since = one_since text from (string_bytes c.loop-bytes.over) (string_bytes c.push.new.self) c.loop-bytes.widths c.in-Some.wider bytes (bytes + size) code size c.loop-bytes.invariant first
-    (IsUtf8-string_bytes c.loop-bytes.over) (IsUtf8-string_bytes c.push.new.self) c.in_ok-push.ensures.bytes wider c.first_character-code.ensures.some refl
-    (omega (arith, c.first_character-code.ensures.within, ap length (take_rest text bytes), left, c.loop-bytes-test.true)) in
-    let lone : is_lone code ≡ true = search rules in (
-      next_place text from _ (string_bytes c.loop-bytes.over) (string_bytes c.push.new.self) code c.requires since
-          (IsUtf8-string_bytes c.loop-bytes.over) (IsUtf8-string_bytes c.push.new.self) c.in_ok-push.ensures.bytes lone
+    let behind : from.bytes < bytes = search rules in
+    let part : parts c.loop-bytes.last code ≡ true = search rules in (
+      next_place text from _ (string_bytes c.loop-bytes.over) (drop size (drop bytes text)) c.loop-bytes.last code size c.requires c.loop-bytes.invariant.since
+          (c.loop-bytes.invariant.last behind) first part
           (c.in_ok-column.ensures ∙ ap (λ t. from.column + str_width false (chars t)) c.as_str.ensures.value),
-      omega (arith, c.loop-bytes.invariant.behind, c.first_character-code.ensures.some),
+      behind,
     )

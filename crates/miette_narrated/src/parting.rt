@@ -1,0 +1,74 @@
+//! Between which characters a text may be parted.
+
+ghost use Rattle.std.specs.Prelude.{◌≡◌};
+ghost use Rattle.std.specs.Int.{is_in_range};
+ghost use Rattle.miette_narrated.specs.Parting.{is_lone, is_joining, is_closing, parts};
+
+use miette_layout::cells::columns_of;
+
+fn in_range(code: u32, low: u32, high: u32) -> bool
+    ensures { result ≡ is_in_range low high code }
+{
+    low <= code && code <= high
+}
+
+/// Whether a character joins nothing that stands behind it. Those that are looked for are ASCII characters and letters.
+fn is_lone(character: char) -> bool
+    ensures { result ≡ is_lone character }
+{
+    let code = character as u32;
+    in_range(code, 0x20, 0x22)
+        || in_range(code, 0x24, 0x29)
+        || in_range(code, 0x2b, 0x2f)
+        || in_range(code, 0x3a, 0x7e)
+        || in_range(code, 0xaf, 0x2ff)
+        || in_range(code, 0x391, 0x482)
+        || in_range(code, 0x48a, 0x52f)
+        || in_range(code, 0x3001, 0x3029)
+        || in_range(code, 0x3041, 0x3096)
+        || in_range(code, 0x30a0, 0x30ff)
+        || in_range(code, 0x3400, 0x4dbf)
+        || in_range(code, 0x4e00, 0x9fff)
+        || in_range(code, 0xac00, 0xd7a3)
+}
+
+/// Whether a character lies where letters and signs lie that may join others.
+fn is_joining(character: char) -> bool
+    ensures { result ≡ is_joining character }
+{
+    let code = character as u32;
+    in_range(code, 0x338, 0x338)
+        || in_range(code, 0x5dc, 0x5dc)
+        || in_range(code, 0x622, 0x627)
+        || in_range(code, 0x671, 0x675)
+        || in_range(code, 0x773, 0x774)
+        || in_range(code, 0x870, 0x882)
+        || in_range(code, 0x1780, 0x17d8)
+        || in_range(code, 0x1a10, 0x1a10)
+        || in_range(code, 0x2d31, 0x2d7f)
+        || in_range(code, 0xa4fc, 0xa4fd)
+        || in_range(code, 0xfb3c, 0xfb3c)
+        || in_range(code, 0xfe00, 0xfe0f)
+        || in_range(code, 0x10c03, 0x10c03)
+        || in_range(code, 0x16d67, 0x16d68)
+        || in_range(code, 0x1f1e6, 0x1f1ff)
+        || in_range(code, 0x1f3fb, 0x1f3ff)
+}
+
+/// Whether only a joiner before a character joins it to what stands there, whatever stands behind it.
+fn is_closing(character: char) -> bool
+    ensures { result ≡ is_closing character }
+{
+    if character as u32 <= 0xa0 {
+        character != '\n'
+    } else {
+        columns_of(character) > 0 && !is_joining(character)
+    }
+}
+
+/// Whether a text may be parted between two neighbours.
+pub(crate) fn parts(last: char, next: char) -> bool
+    ensures { result ≡ parts last next }
+{
+    is_lone(last) || is_closing(next) && last != '\u{200d}'
+}
