@@ -1,6 +1,6 @@
 //! Which labels may have a row under a line, by one sweep over labels that come by offset.
 
-ghost use Rattle.std.specs.Prelude.{◌≡◌, IfOk, OnOk, drop, suc};
+ghost use Rattle.std.specs.Prelude.{◌≡◌, OnOk, drop, suc};
 ghost use Rattle.std.specs.List.{filter};
 ghost use Rattle.miette_narrated.specs.Sweeping.{reaches, IsAt, BeginsFrom};
 
@@ -15,17 +15,11 @@ pub(crate) struct Sweep {
     pub(crate) running: Vec<Placed>,
 }
 
-/// The labels that reach a place.
-fn reaching(alloc: Global, running: &[Placed], place: usize) -> Result<Vec<Placed>, AllocError>
-    ensures { IfOk result (λ still. still.items ≡ filter (reaches place) running.now) }
+/// Keeps the labels that reach a place.
+fn keep_reaching(running: &mut Vec<Placed>, place: usize)
+    ensures { running.new.items ≡ filter (reaches place) running.old.items }
 {
-    let mut still = Vec::new(alloc);
-    for label in running {
-        if place <= label.after {
-            still.push(*label)?;
-        }
-    }
-    Ok(still)
+    running.retain(|label| place <= label.after);
 }
 
 /// Puts the labels that begin at `last` or before behind those that run, where they reach the sweep's place.
@@ -66,8 +60,7 @@ pub(crate) fn come_to(
         sweep.at = place;
         return take_more(labels, last, sweep);
     }
-    let running = reaching(alloc, &sweep.running, place)?;
-    sweep.running = running;
+    keep_reaching(&mut sweep.running, place);
     sweep.at = place;
     take_more(labels, last, sweep)
 }
