@@ -1,7 +1,7 @@
 -- The first line of some bytes, by the place of the first byte that may end it; and lines one after the other.
-use Rattle.std.proofs.Common.{ℕ, zero, suc, ◌+◌, ◌-◌, ◌<◌, ◌≤◌, ◌≡◌, Bool, cond, eqb, not, ◌&&◌, ◌||◌, List, [], ◌∷◌, ◌++◌, length, map, take, drop, get_or, Option, Some, None, ltb, refl, sym, ap, ◌∙◌, subst, arith, All, append_assoc}
-use Rattle.std.specs.List.{prefix_len, position}
-use Rattle.std.proofs.lemmas.List.{map-append, length-drop, take_all}
+use Rattle.std.proofs.Common.{ℕ, zero, suc, ◌+◌, ◌-◌, ◌<◌, ◌≤◌, ◌≡◌, max, Bool, cond, eqb, not, ◌&&◌, ◌||◌, List, [], ◌∷◌, ◌++◌, length, map, take, drop, get_or, Option, Some, None, ltb, refl, sym, ap, ◌∙◌, subst, arith, All, append_assoc}
+use Rattle.std.specs.List.{prefix_len, position, filter}
+use Rattle.std.proofs.lemmas.List.{map-append, length-drop, take_all, drop_all}
 use Rattle.std.proofs.lemmas.List.Elements.{All-push}
 use Rattle.std.proofs.lemmas.Bool.{ltb-true, ltb-false}
 use Rattle.miette_protocol.specs.Lines as P
@@ -9,12 +9,14 @@ use Rattle.miette_protocol.specs.Lines.{Line}
 use Rattle.miette_layout.specs.declared.line_sweep.SweptLine.{SweptLine}
 use Rattle.miette_layout.specs.declared.sweep.Placed.{Placed}
 use Rattle.miette_layout.specs.Sheets.{line_of_text}
-use Rattle.miette_layout.specs.Sweeping.{IsAt}
-use Rattle.miette_layout.specs.Swept.{HasLabels, LiesIn}
+use Rattle.miette_layout.specs.declared.sheet.LineOfText.{LineOfText}
+use Rattle.miette_layout.specs.Sweeping.{line_of_bounds, passes, is_multi, IsAt, IsOn, AreSorted}
+use Rattle.miette_layout.specs.Swept.{HasLabels, LiesIn, most_multi}
 use Rattle.miette_layout.proofs.Numbers.{by_cases}
 use Rattle.miette_layout.proofs.Sources.{begins_with_lf, lines_from}
 use Rattle.miette_layout.proofs.Segments.{first_text, first_size, parted, drop_drop}
 use Rattle.miette_layout.proofs.Bridge.{lines_same}
+use Rattle.miette_layout.proofs.Swept.{left_at}
 
 -- a byte that may end a line
 abbrev pub may_end : ℕ → Bool
@@ -121,36 +123,103 @@ pub record AreSwept (labels : List Placed) (start : ℕ) (bytes : List ℕ) (at 
   pub all : All (LiesIn start (length bytes)) lines
   pub state : IsAt labels (start + at) next running
 
-lies : (start : ℕ) (bytes : List ℕ) (at text size : ℕ) (it : SweptLine) → text ≤ size → size ≤ length (drop at bytes) → at ≤ length bytes →
-    it.line ≡ record { start = start + at; text_end = start + at + text; end = start + at + size } → LiesIn start (length bytes) it
-lies start bytes at text size it inner fits inside place =
-    let a : it.line.start ≡ start + at = ap (λ l. l.start) place in
-    let b : it.line.text_end ≡ start + at + text = ap (λ l. l.text_end) place in
-    let c : it.line.end ≡ start + at + size = ap (λ l. l.end) place in
-    record { from = omega arith; text = omega arith; ending = omega arith; to = omega (arith, length-drop at bytes) }
-
 -- `&bytes[at..]` is what is left after so many
 pub rest_is : (at : ℕ) (bytes : List ℕ) → take (length bytes - at) (drop at bytes) ≡ drop at bytes
 rest_is at bytes = take_all (length bytes - at) (drop at bytes) (omega (arith, length-drop at bytes))
 
-pub swept_more : (labels : List Placed) (start : ℕ) (bytes : List ℕ) (at text size : ℕ) (lines more : List SweptLine) (it : SweptLine) (next next' : ℕ) (running running' : List Placed) →
-    AreSwept labels start bytes at lines next running → text ≤ size → size ≤ length (drop at bytes) →
-    ((at' : ℕ) → P.lines_from at' (drop at bytes) ≡ record { start = at'; text_end = at' + text; end = at' + size } ∷ P.lines_from (at' + size) (drop size (drop at bytes))) →
-    it.line ≡ record { start = start + at; text_end = start + at + text; end = start + at + size } → HasLabels labels it → IsAt labels (start + at + size) next' running' → more ≡ lines ++ it ∷ [] →
-    AreSwept labels start bytes (at + size) more next' running'
-swept_more labels start bytes at text size lines more it next next' running running' h inner fits part place own state e =
-    let sums : start + at + size ≡ start + (at + size) = omega arith in
-    subst (λ (ls : List SweptLine). AreSwept labels start bytes (at + size) ls next' running') (sym e)
+-- the line that begins there, by its first end
+pub line_parted : (start at text size : ℕ) (bytes rest : List ℕ) → rest ≡ drop at bytes →
+    ((from : ℕ) → P.lines_from from rest ≡ record { start = from; text_end = from + text; end = from + size } ∷ P.lines_from (from + size) (drop size rest)) →
+    P.lines_from (start + at) (drop at bytes) ≡ record { start = start + at; text_end = start + at + text; end = start + at + size } ∷ P.lines_from (start + at + size) (drop (start + at + size - start) bytes)
+line_parted start at text size bytes rest left part =
+    let sums : at + size ≡ start + at + size - start = omega arith in
+    ap (P.lines_from (start + at)) (sym left) ∙ part (start + at)
+    ∙ ap (λ xs. record { start = start + at; text_end = start + at + text; end = start + at + size } ∷ P.lines_from (start + at + size) xs)
+    (ap (drop size) left ∙ drop_drop size at bytes ∙ ap (λ n. drop n bytes) sums)
+
+pub swept_more : (labels : List Placed) (start : ℕ) (bytes : List ℕ) (at : ℕ) (lines more : List SweptLine) (it : SweptLine) (next next' : ℕ) (running running' : List Placed) →
+    AreSwept labels start bytes at lines next running →
+    P.lines_from (start + at) (drop at bytes) ≡ line_of_text it.line ∷ P.lines_from it.line.end (drop (it.line.end - start) bytes) →
+    it.line.start ≡ start + at → it.line.start ≤ it.line.text_end → it.line.text_end ≤ it.line.end → it.line.end ≤ start + length bytes →
+    HasLabels labels it → IsAt labels it.line.end next' running' → more ≡ lines ++ it ∷ [] → AreSwept labels start bytes (it.line.end - start) more next' running'
+swept_more labels start bytes at lines more it next next' running running' h part from text ending to own state e =
+    let sums : it.line.end ≡ start + (it.line.end - start) = omega (arith, from, text, ending) in
+    subst (λ (ls : List SweptLine). AreSwept labels start bytes (it.line.end - start) ls next' running') (sym e)
     (record {
-      inside = omega (arith, fits, length-drop at bytes, h.inside);
-      parts = ap (λ x. x ++ P.lines_from (start + (at + size)) (drop (at + size) bytes)) (map-append (λ l. line_of_text l.line) lines (it ∷ []))
-          ∙ append_assoc (map (λ l. line_of_text l.line) lines) (line_of_text it.line ∷ []) (P.lines_from (start + (at + size)) (drop (at + size) bytes))
-          ∙ ap (λ l. map (λ l. line_of_text l.line) lines ++ line_of_text l ∷ P.lines_from (start + (at + size)) (drop (at + size) bytes)) place
-          ∙ ap (λ n. map (λ l. line_of_text l.line) lines ++ record { start = start + at; text_end = start + at + text; end = start + at + size } ∷ P.lines_from n (drop (at + size) bytes)) (sym sums)
-          ∙ ap (λ xs. map (λ l. line_of_text l.line) lines ++ record { start = start + at; text_end = start + at + text; end = start + at + size } ∷ P.lines_from (start + at + size) xs) (sym (drop_drop size at bytes))
-          ∙ ap (λ ls. map (λ l. line_of_text l.line) lines ++ ls) (sym (part (start + at)))
+      inside = omega (arith, to);
+      parts = ap (λ x. x ++ P.lines_from (start + (it.line.end - start)) (drop (it.line.end - start) bytes)) (map-append (λ l. line_of_text l.line) lines (it ∷ []))
+          ∙ append_assoc (map (λ l. line_of_text l.line) lines) (line_of_text it.line ∷ []) (P.lines_from (start + (it.line.end - start)) (drop (it.line.end - start) bytes))
+          ∙ ap (λ n. map (λ l. line_of_text l.line) lines ++ line_of_text it.line ∷ P.lines_from n (drop (it.line.end - start) bytes)) (sym sums)
+          ∙ ap (λ ls. map (λ l. line_of_text l.line) lines ++ ls) (sym part)
           ∙ h.parts;
       each = All-push (HasLabels labels) lines it h.each own;
-      all = All-push (LiesIn start (length bytes)) lines it h.all (lies start bytes at text size it inner fits h.inside place);
+      all = All-push (LiesIn start (length bytes)) lines it h.all (record { from = omega (arith, from); text = text; ending = ending; to = to });
       state = subst (λ (n : ℕ). IsAt labels n next' running') sums state;
     })
+
+-- So many lines are counted, with the greatest number of labels of several lines on one of them, and the sweep's place.
+pub record AreCounted (labels : List Placed) (start : ℕ) (bytes : List ℕ) (at lines most next : ℕ) (running : List Placed) : Type 0 where
+  pub inside : at ≤ length bytes
+  pub few : lines ≤ at
+  pub count : lines + length (P.lines_from (start + at) (drop at bytes)) ≡ length (P.lines_from start bytes)
+  pub widest : max most (most_multi labels (P.lines_from (start + at) (drop at bytes))) ≡ most_multi labels (P.lines_from start bytes)
+  pub state : IsAt labels (start + at) next running
+
+none_max : (a : ℕ) → max 0 a ≡ a
+none_max a = omega arith
+
+pub counted_first : (labels : List Placed) (start : ℕ) (bytes : List ℕ) (next next' : ℕ) (running running' : List Placed) → IsAt labels start next running → next' ≡ next → running' ≡ running →
+    AreCounted labels start bytes 0 0 0 next' running'
+counted_first labels start bytes next next' running running' is n r =
+    let e : start + 0 ≡ start = omega arith in
+    let same : length (P.lines_from (start + 0) bytes) ≡ length (P.lines_from start bytes) = ap (λ from. length (P.lines_from from bytes)) e in record {
+      inside = omega arith;
+      few = omega arith;
+      count = omega (arith, same);
+      widest = none_max (most_multi labels (P.lines_from (start + 0) bytes)) ∙ ap (λ from. most_multi labels (P.lines_from from bytes)) e;
+      state = rw (n, r) (subst (λ (from : ℕ). IsAt labels from next running) (sym e) is);
+    }
+
+max_turned : (a b c : ℕ) → max (max a b) c ≡ max b (max a c)
+max_turned a b c = omega arith
+
+-- the sweep's place behind a line
+pub state_more : (labels : List Placed) (start at : ℕ) (line : LineOfText) (next next' : ℕ) (on left : List Placed) → AreSorted labels → line.start ≡ start + at → line.start < line.end →
+    IsOn labels (line_of_bounds (record { start = line.start; after = line.end })) next on → next' ≡ next → left ≡ filter (passes line.end) on → IsAt labels (start + (line.end - start)) next' left
+state_more labels start at line next next' on left sorted from some is same passed =
+    let sums : line.end ≡ start + (line.end - start) = omega (arith, from, some) in
+    rw same (subst (λ (n : ℕ). IsAt labels n next left) sums (left_at labels (record { start = line.start; after = line.end }) next on left sorted some is passed))
+
+pub counted_more : (labels : List Placed) (start : ℕ) (bytes : List ℕ) (at lines most most' next next' : ℕ) (line : LineOfText) (running on left : List Placed) → AreSorted labels →
+    AreCounted labels start bytes at lines most next running →
+    P.lines_from (start + at) (drop at bytes) ≡ line_of_text line ∷ P.lines_from line.end (drop (line.end - start) bytes) →
+    line.start ≡ start + at → line.start < line.end → line.end ≤ start + length bytes →
+    IsOn labels (line_of_bounds (record { start = line.start; after = line.end })) next' on → left ≡ filter (passes line.end) on → most' ≡ max (length on) most →
+    AreCounted labels start bytes (line.end - start) (lines + 1) most' next' left
+counted_more labels start bytes at lines most most' next next' line running on left sorted h part from some to is passed m =
+    let sums : line.end ≡ start + (line.end - start) = omega (arith, from, some) in
+    let rest : List Line = P.lines_from line.end (drop (line.end - start) bytes) in
+    let own : length on ≡ length (filter (is_multi (line_of_text line)) labels) = ap length is.multi in
+    record {
+      inside = omega (arith, to);
+      few = omega (arith, h.few, from, some);
+      count = ap (λ n. lines + 1 + length (P.lines_from n (drop (line.end - start) bytes))) (sym sums)
+          ∙ (let more : lines + 1 + length rest ≡ lines + length (line_of_text line ∷ rest) = omega arith in more)
+          ∙ ap (λ ls. lines + length ls) (sym part) ∙ h.count;
+      widest = ap (λ n. max n (most_multi labels (P.lines_from (start + (line.end - start)) (drop (line.end - start) bytes)))) (m ∙ ap (λ n. max n most) own)
+          ∙ ap (λ n. max (max (length (filter (is_multi (line_of_text line)) labels)) most) (most_multi labels (P.lines_from n (drop (line.end - start) bytes)))) (sym sums)
+          ∙ max_turned (length (filter (is_multi (line_of_text line)) labels)) most (most_multi labels rest)
+          ∙ ap (λ ls. max most (most_multi labels ls)) (sym part) ∙ h.widest;
+      state = state_more labels start at line next' next' on left sorted from some is refl passed;
+    }
+
+max_none : (a : ℕ) → max a 0 ≡ a
+max_none a = omega arith
+
+pub all_counted : (labels : List Placed) (start : ℕ) (bytes : List ℕ) (at lines most next : ℕ) (running : List Placed) → AreCounted labels start bytes at lines most next running → length bytes ≤ at →
+    (lines ≡ length (P.lines_from start bytes)) × (most ≡ most_multi labels (P.lines_from start bytes))
+all_counted labels start bytes at lines most next running h le =
+    let none : drop at bytes ≡ [] = drop_all at bytes le in
+    let zero' : length (P.lines_from (start + at) (drop at bytes)) ≡ 0 = ap (λ xs. length (P.lines_from (start + at) xs)) none in
+    let count : lines + length (P.lines_from (start + at) (drop at bytes)) ≡ length (P.lines_from start bytes) = h.count in
+    (omega (arith, zero', count), sym (max_none most) ∙ ap (λ xs. max most (most_multi labels (P.lines_from (start + at) xs))) (sym none) ∙ h.widest)

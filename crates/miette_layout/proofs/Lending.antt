@@ -1,5 +1,5 @@
 -- The rows that are drawn from what a read lent are those of the definition, which has the whole source.
-use Rattle.std.proofs.Common.{ℕ, zero, suc, ◌+◌, ◌-◌, ◌^◌, ◌<◌, ◌≤◌, ◌≡◌, max, Bool, true, false, eqb, ltb, List, [], ◌∷◌, ◌++◌, length, map, take, drop, get_or, Option, refl, sym, ap, ◌∙◌, subst, arith, All, append_assoc, append-nil}
+use Rattle.std.proofs.Common.{ℕ, zero, suc, ◌+◌, ◌-◌, ◌^◌, ◌<◌, ◌≤◌, ◌≡◌, max, Bool, true, false, eqb, ltb, List, [], ◌∷◌, ◌++◌, length, map, take, drop, Option, refl, sym, ap, ◌∙◌, subst, arith, All, append_assoc, append-nil}
 use Rattle.std.specs.Prelude.{slice_range, slice_index_or}
 use Rattle.std.specs.List.{AllByRecursion, filter}
 use Rattle.std.proofs.lemmas.List.{drop-take, length-take, length-map, drop_all}
@@ -10,8 +10,8 @@ use Rattle.miette_protocol.specs.Lines.{Line}
 use Rattle.miette_protocol.specs.Meaning.{Label}
 use Rattle.miette_protocol.specs.Reading.{Span, Source, Contents, data_start, data_end}
 use Rattle.miette_text.specs.declared.style.Style.{Style}
-use Rattle.miette_layout.specs.declared.line_sweep.SweptLine.{SweptLine}
 use Rattle.miette_layout.specs.declared.reading.ReadLabel.{ReadLabel}
+use Rattle.miette_layout.specs.declared.sheet.LineOfText.{LineOfText}
 use Rattle.miette_layout.specs.declared.sweep.Placed.{Placed}
 use Rattle.miette_layout.specs.Answers.{Highlight, first_of, later_of}
 use Rattle.miette_layout.specs.Rows.{Row}
@@ -24,12 +24,12 @@ use Rattle.miette_layout.specs.Gutters.{gutter_columns, most_labels}
 use Rattle.miette_layout.specs.Labels.{DrawnLabel, is_one_line, is_multi_line, one_line, multi_line}
 use Rattle.miette_layout.specs.Layout.{cells_of, line_rows, line_rows_of, rows_of_lines, body_rows}
 use Rattle.miette_layout.specs.Highlighted.{EachHasPieces, ArePieces, decoded_text, texts_of}
-use Rattle.miette_layout.specs.Lent.{cells_in, text_in, texts_in, lent_rows, lent_snippet, swept_rows, swept_snippet, places_of, width_of_count, gutter_of, PutsRows}
+use Rattle.miette_layout.specs.Lent.{cells_in, text_in, texts_in, lent_rows, lent_snippet, width_of_count, gutter_of, PutsRows}
 use Rattle.miette_layout.specs.Placing.{placed_from}
 use Rattle.miette_layout.specs.Read.{IsRead}
 use Rattle.miette_layout.specs.Sheets.{line_of_text}
 use Rattle.miette_layout.specs.Sweeping.{is_one, is_multi, nothing, start_at, AreSorted, IsAt}
-use Rattle.miette_layout.specs.Swept.{HasLabels, LiesIn, most_multi}
+use Rattle.miette_layout.specs.Swept.{most_multi}
 use Rattle.miette_layout.specs.Told.{Token, told, told_rows, row_end}
 use Rattle.miette_layout.proofs.Numbers.{by_cases}
 use Rattle.miette_layout.proofs.Sources.{IsCut, lines_from}
@@ -117,56 +117,25 @@ filter_mapped f p q (x ∷ xs) same =
     (λ t. let u : p (f x) ≡ true = same x ∙ t in rw (u, t) (ap (λ r. f x ∷ r) (filter_mapped f p q xs same)))
     (λ g. let u : p (f x) ≡ false = same x ∙ g in rw (u, g) (filter_mapped f p q xs same))
 
-one_same : (labels : List Label) (placed : List Placed) (l : SweptLine) → HasLabels placed l → map (drawn_of labels) l.on.one.items ≡ one_line (line_of_text l.line) (map (drawn_of labels) placed)
-one_same labels placed l h =
-    ap (map (drawn_of labels)) h.one ∙ sym (filter_mapped (drawn_of labels) (is_one_line (line_of_text l.line)) (is_one (line_of_text l.line)) placed (λ x. refl))
+one_same : (labels : List Label) (placed : List Placed) (line : Line) → map (drawn_of labels) (filter (is_one line) placed) ≡ one_line line (map (drawn_of labels) placed)
+one_same labels placed line = sym (filter_mapped (drawn_of labels) (is_one_line line) (is_one line) placed (λ x. refl))
 
-multi_same : (labels : List Label) (placed : List Placed) (l : SweptLine) → HasLabels placed l → map (drawn_of labels) l.on.multi.items ≡ multi_line (line_of_text l.line) (map (drawn_of labels) placed)
-multi_same labels placed l h =
-    ap (map (drawn_of labels)) h.multi ∙ sym (filter_mapped (drawn_of labels) (is_multi_line (line_of_text l.line)) (is_multi (line_of_text l.line)) placed (λ x. refl))
+multi_same : (labels : List Label) (placed : List Placed) (line : Line) → map (drawn_of labels) (filter (is_multi line) placed) ≡ multi_line line (map (drawn_of labels) placed)
+multi_same labels placed line = sym (filter_mapped (drawn_of labels) (is_multi_line line) (is_multi line) placed (λ x. refl))
 
 tail_all : {X : Type 0} (P : X → Type 0) (x : X) (xs : List X) → All P (x ∷ xs) → All P xs
 tail_all P x xs h = λ k d lt. h (suc k) d (omega arith)
 
-pub swept_is : (s : Settings) (w columns : ℕ) (labels : List Label) (placed : List Placed) (start : ℕ) (bytes : List ℕ) (number : ℕ) (pieces : List (List Highlight)) (ls : List SweptLine) → All (HasLabels placed) ls →
-    swept_rows s w columns labels start bytes number pieces ls ≡ lent_rows s w columns (map (drawn_of labels) placed) start bytes number pieces (places_of ls)
-swept_is s w columns labels placed start bytes number pieces [] h = refl
-swept_is s w columns labels placed start bytes number pieces (l ∷ ls) h =
-    let own : HasLabels placed l = h 0 l (omega arith) in
-    let line : Line = line_of_text l.line in
-    let cells : List Cell = cells_in s start bytes line in
-    ap (λ one. line_rows_of s w columns one (map (drawn_of labels) l.on.multi.items) line number cells (first_of pieces) ++ swept_rows s w columns labels start bytes (number + 1) (later_of pieces) ls) (one_same labels placed l own)
-    ∙ ap (λ multi. line_rows_of s w columns (one_line line (map (drawn_of labels) placed)) multi line number cells (first_of pieces) ++ swept_rows s w columns labels start bytes (number + 1) (later_of pieces) ls) (multi_same labels placed l own)
-    ∙ ap (λ r. line_rows s w columns (map (drawn_of labels) placed) line number cells (first_of pieces) ++ r) (swept_is s w columns labels placed start bytes (number + 1) (later_of pieces) ls (tail_all (HasLabels placed) l ls h))
-
-pub most_is : (labels : List Label) (placed : List Placed) (ls : List SweptLine) → All (HasLabels placed) ls → most_multi ls ≡ most_labels (map (drawn_of labels) placed) (places_of ls)
-most_is labels placed [] h = refl
-most_is labels placed (l ∷ ls) h =
-    let own : HasLabels placed l = h 0 l (omega arith) in
-    let many : length l.on.multi.items ≡ length (multi_line (line_of_text l.line) (map (drawn_of labels) placed)) = sym (length-map l.on.multi.items (drawn_of labels)) ∙ ap length (multi_same labels placed l own) in
-    ap (λ n. max n (most_multi ls)) many
-    ∙ ap (max (length (multi_line (line_of_text l.line) (map (drawn_of labels) placed)))) (most_is labels placed ls (tail_all (HasLabels placed) l ls h))
+pub most_is : (labels : List Label) (placed : List Placed) (lines : List Line) → most_multi placed lines ≡ most_labels (map (drawn_of labels) placed) lines
+most_is labels placed [] = refl
+most_is labels placed (line ∷ lines) =
+    let many : length (filter (is_multi line) placed) ≡ length (multi_line line (map (drawn_of labels) placed)) = sym (length-map (filter (is_multi line) placed) (drawn_of labels)) ∙ ap length (multi_same labels placed line) in
+    ap (λ n. max n (most_multi placed lines)) many
+    ∙ ap (max (length (multi_line line (map (drawn_of labels) placed)))) (most_is labels placed lines)
 
 width_is : (line : ℕ) (ls : List Line) → width_of_lines line ls ≡ width_of_count line (length ls)
 width_is line [] = refl
 width_is line (l ∷ ls) = let no : eqb (length (l ∷ ls)) 0 ≡ false = ne_eqb (length (l ∷ ls)) 0 (λ e. omega (arith, e)) in rw no refl
-
--- The rows of a snippet, from the labels that were found on its lines.
-pub swept_snippet_is : (s : Settings) (labels : List Label) (placed : List Placed) (lent : Contents) (place : Option Place) (ls : List SweptLine) (pieces : List (List Highlight)) →
-    All (HasLabels placed) ls → places_of ls ≡ lines_of_contents lent → swept_snippet s labels lent place ls pieces ≡ lent_snippet s (map (drawn_of labels) placed) lent place pieces
-swept_snippet_is s labels placed lent place ls pieces h lines =
-    let drawn : List DrawnLabel = map (drawn_of labels) placed in
-    let real : List Line = lines_of_contents lent in
-    let many : length ls ≡ length real = sym (length-map ls (λ (l : SweptLine). line_of_text l.line)) ∙ ap length lines in
-    let width : width_of_count lent.line (length ls) ≡ number_width lent = ap (width_of_count lent.line) many ∙ sym (width_is lent.line real) in
-    let most : most_multi ls ≡ most_labels drawn real = most_is labels placed ls h ∙ ap (most_labels drawn) lines in
-    let w : ℕ = number_width lent in
-    ap (λ n. top_row_of s n lent.name (ltb 1 (length ls)) place ∷ swept_rows s n (gutter_of (most_multi ls)) labels lent.span.offset lent.bytes (lent.line + 1) pieces ls ++ bottom_row s n ∷ []) width
-    ∙ ap (λ n. top_row_of s w lent.name (ltb 1 n) place ∷ swept_rows s w (gutter_of (most_multi ls)) labels lent.span.offset lent.bytes (lent.line + 1) pieces ls ++ bottom_row s w ∷ []) many
-    ∙ ap (λ rows. top_row s lent place ∷ rows ++ bottom_row s w ∷ [])
-    (swept_is s w (gutter_of (most_multi ls)) labels placed lent.span.offset lent.bytes (lent.line + 1) pieces ls h
-    ∙ ap (λ m. lent_rows s w (gutter_of m) drawn lent.span.offset lent.bytes (lent.line + 1) pieces (places_of ls)) most
-    ∙ ap (λ xs. lent_rows s w (gutter_columns drawn real) drawn lent.span.offset lent.bytes (lent.line + 1) pieces xs) lines)
 
 -- what the page holds after the three parts of a snippet
 pub told_snippet : (before : List Token) (top bottom : Row) (body : List Row) → ((before ++ told_rows (top ∷ [])) ++ told_rows body) ++ told_rows (bottom ∷ []) ≡ before ++ told_rows (top ∷ body ++ bottom ∷ [])
@@ -226,115 +195,113 @@ pub told_parts : (p0 p1 p2 p3 : List Token) (top bottom : Row) (body : List Row)
 told_parts p0 p1 p2 p3 top bottom body a b c =
     c ∙ ap (λ p. p ++ told_rows (bottom ∷ [])) (b ∙ ap (λ p. p ++ told_rows body) a) ∙ told_snippet p0 top bottom body
 
--- the rows of a snippet whose widths are these
-pub told_swept : (s : Settings) (labels : List Label) (lent : Contents) (place : Option Place) (ls : List SweptLine) (pieces : List (List Highlight)) (w columns first : ℕ) (several : Bool) (p0 p1 p2 p3 : List Token) →
-    w ≡ width_of_count lent.line (length ls) → columns ≡ gutter_of (most_multi ls) → first ≡ lent.line + 1 → several ≡ ltb 1 (length ls) →
-    p1 ≡ p0 ++ told_rows (top_row_of s w lent.name several place ∷ []) → p2 ≡ p1 ++ told_rows (swept_rows s w columns labels lent.span.offset lent.bytes first pieces ls) → p3 ≡ p2 ++ told_rows (bottom_row s w ∷ []) →
-    p3 ≡ p0 ++ told_rows (swept_snippet s labels lent place ls pieces)
-told_swept s labels lent place ls pieces w columns first several p0 p1 p2 p3 width gutter number more a b c =
-    told_parts p0 p1 p2 p3 (top_row_of s w lent.name several place) (bottom_row s w) (swept_rows s w columns labels lent.span.offset lent.bytes first pieces ls) a b c
-    ∙ ap (λ n. p0 ++ told_rows (top_row_of s n lent.name several place ∷ swept_rows s n columns labels lent.span.offset lent.bytes first pieces ls ++ bottom_row s n ∷ [])) width
-    ∙ ap (λ n. p0 ++ told_rows (top_row_of s (width_of_count lent.line (length ls)) lent.name several place ∷ swept_rows s (width_of_count lent.line (length ls)) n labels lent.span.offset lent.bytes first pieces ls ++ bottom_row s (width_of_count lent.line (length ls)) ∷ [])) gutter
-    ∙ ap (λ n. p0 ++ told_rows (top_row_of s (width_of_count lent.line (length ls)) lent.name several place ∷ swept_rows s (width_of_count lent.line (length ls)) (gutter_of (most_multi ls)) labels lent.span.offset lent.bytes n pieces ls ++ bottom_row s (width_of_count lent.line (length ls)) ∷ [])) number
-    ∙ ap (λ b. p0 ++ told_rows (top_row_of s (width_of_count lent.line (length ls)) lent.name b place ∷ swept_rows s (width_of_count lent.line (length ls)) (gutter_of (most_multi ls)) labels lent.span.offset lent.bytes (lent.line + 1) pieces ls ++ bottom_row s (width_of_count lent.line (length ls)) ∷ [])) more
-
 -- the loop over a snippet's lines
 
-pub item_lies : (start size : ℕ) (lines : List SweptLine) (i : ℕ) (it : SweptLine) → All (LiesIn start size) lines → i < length lines → it ≡ get_or lines i it → LiesIn start size it
-item_lies start size lines i it h lt is = subst (λ (l : SweptLine). LiesIn start size l) (sym is) (h i it lt)
+-- the text of a line of the bytes ends before they do
+pub text_fits : (start : ℕ) (bytes : List ℕ) (line : LineOfText) → start ≤ line.start → line.start ≤ line.text_end → line.text_end ≤ line.end → line.end ≤ start + length bytes → start + length bytes < 2 ^ 64 →
+    line.start + length (take (line.text_end - start - (line.start - start)) (drop (line.start - start) bytes)) < 2 ^ 64
+text_fits start bytes line from text ending to small =
+    omega (arith, from, text, ending, to, small, length-take (line.text_end - start - (line.start - start)) (drop (line.start - start) bytes))
 
-pub text_fits : (start size : ℕ) (bytes : List ℕ) (it : SweptLine) → LiesIn start size it → start + size < 2 ^ 64 →
-    it.line.start + length (take (it.line.text_end - start - (it.line.start - start)) (drop (it.line.start - start) bytes)) < 2 ^ 64
-text_fits start size bytes it h small =
-    omega (arith, h.from, h.text, h.ending, h.to, small, length-take (it.line.text_end - start - (it.line.start - start)) (drop (it.line.start - start) bytes))
+-- the lines before a place are drawn: whatever pieces the others have, there are pieces for all
+abbrev pub AreLined : Settings → ℕ → ℕ → List DrawnLabel → ℕ → List ℕ → ℕ → Bool → ℕ → ℕ → List Token → List Token → Type 0
+AreLined s w columns drawn start bytes first blank at number before page =
+    (more : List (List Highlight)) → EachHasPieces blank (texts_in start bytes (P.lines_from (start + at) (drop at bytes))) more →
+    (all : List (List Highlight)) × EachHasPieces blank (texts_in start bytes (P.lines_from start bytes)) all
+    × (page ++ told_rows (lent_rows s w columns drawn start bytes number more (P.lines_from (start + at) (drop at bytes))) ≡ before ++ told_rows (lent_rows s w columns drawn start bytes first all (P.lines_from start bytes)))
 
-drop_line : (ls : List SweptLine) (i : ℕ) (d : SweptLine) → i < length ls → drop i ls ≡ get_or ls i d ∷ drop (i + 1) ls
-drop_line [] i d lt = absurd (omega (arith, lt))
-drop_line (x ∷ xs) zero d lt = refl
-drop_line (x ∷ xs) (suc i) d lt = let e : suc i + 1 ≡ suc (i + 1) = omega arith in rw e (drop_line xs i d (omega (arith, lt)))
-
--- so many lines are drawn: whatever pieces the others have, there are pieces for all
-abbrev pub AreLined : Settings → ℕ → ℕ → List Label → ℕ → List ℕ → ℕ → List SweptLine → Bool → ℕ → List Token → List Token → Type 0
-AreLined s w columns labels start bytes first lines blank i before page =
-    (more : List (List Highlight)) → EachHasPieces blank (texts_in start bytes (places_of (drop i lines))) more →
-    (all : List (List Highlight)) × EachHasPieces blank (texts_in start bytes (places_of lines)) all
-    × (page ++ told_rows (swept_rows s w columns labels start bytes (first + i) more (drop i lines)) ≡ before ++ told_rows (swept_rows s w columns labels start bytes first all lines))
-
-pub lines_first : (s : Settings) (w columns : ℕ) (labels : List Label) (start : ℕ) (bytes : List ℕ) (first : ℕ) (lines : List SweptLine) (blank : Bool) (page : List Token) → AreLined s w columns labels start bytes first lines blank 0 page page
-lines_first s w columns labels start bytes first lines blank page = λ more h. (more, h, ap (λ n. page ++ told_rows (swept_rows s w columns labels start bytes n more lines)) (omega arith))
+pub lines_first : (s : Settings) (w columns : ℕ) (drawn : List DrawnLabel) (start : ℕ) (bytes : List ℕ) (first : ℕ) (blank : Bool) (page : List Token) → AreLined s w columns drawn start bytes first blank 0 first page page
+lines_first s w columns drawn start bytes first blank page = λ more h.
+    let e : start + 0 ≡ start = omega arith in
+    (more, subst (λ (n : ℕ). EachHasPieces blank (texts_in start bytes (P.lines_from n bytes)) more) e h, ap (λ n. page ++ told_rows (lent_rows s w columns drawn start bytes first more (P.lines_from n bytes))) e)
 
 -- the rows of one line more
-line_step : (s : Settings) (w columns : ℕ) (labels : List Label) (start : ℕ) (bytes : List ℕ) (first : ℕ) (lines : List SweptLine) (i number : ℕ) (it : SweptLine) (pieces : List Highlight) (later : List (List Highlight)) (page more : List Token) →
-    drop i lines ≡ it ∷ drop (i + 1) lines → number ≡ first + i →
-    more ≡ page ++ told_rows (line_rows_of s w columns (map (drawn_of labels) it.on.one.items) (map (drawn_of labels) it.on.multi.items) (line_of_text it.line) number (cells_in s start bytes (line_of_text it.line)) pieces) →
-    more ++ told_rows (swept_rows s w columns labels start bytes (first + (i + 1)) later (drop (i + 1) lines)) ≡ page ++ told_rows (swept_rows s w columns labels start bytes (first + i) (pieces ∷ later) (drop i lines))
-line_step s w columns labels start bytes first lines i number it pieces later page more front same e =
-    let own : List Row = line_rows_of s w columns (map (drawn_of labels) it.on.one.items) (map (drawn_of labels) it.on.multi.items) (line_of_text it.line) (first + i) (cells_in s start bytes (line_of_text it.line)) pieces in
-    let rest : List Row = swept_rows s w columns labels start bytes (first + i + 1) later (drop (i + 1) lines) in
-    let next : first + (i + 1) ≡ first + i + 1 = omega arith in
-    ap (λ m. m ++ told_rows (swept_rows s w columns labels start bytes (first + (i + 1)) later (drop (i + 1) lines))) e
-    ∙ ap (λ n. (page ++ told_rows (line_rows_of s w columns (map (drawn_of labels) it.on.one.items) (map (drawn_of labels) it.on.multi.items) (line_of_text it.line) n (cells_in s start bytes (line_of_text it.line)) pieces)) ++ told_rows (swept_rows s w columns labels start bytes (first + (i + 1)) later (drop (i + 1) lines))) same
-    ∙ ap (λ n. (page ++ told_rows own) ++ told_rows (swept_rows s w columns labels start bytes n later (drop (i + 1) lines))) next
-    ∙ append_assoc page (told_rows own) (told_rows rest)
-    ∙ ap (λ t. page ++ t) (sym (told_rows-append own rest))
-    ∙ ap (λ ls. page ++ told_rows (swept_rows s w columns labels start bytes (first + i) (pieces ∷ later) ls)) (sym front)
+lines_more_of : (s : Settings) (w columns : ℕ) (drawn : List DrawnLabel) (start : ℕ) (bytes : List ℕ) (first : ℕ) (blank : Bool) (at number : ℕ) (line : LineOfText) (pieces : List Highlight) (before page more : List Token) →
+    AreLined s w columns drawn start bytes first blank at number before page →
+    P.lines_from (start + at) (drop at bytes) ≡ line_of_text line ∷ P.lines_from line.end (drop (line.end - start) bytes) → start ≤ line.end →
+    ArePieces blank (decoded_text (text_in start bytes (line_of_text line))) pieces →
+    more ≡ page ++ told_rows (line_rows s w columns drawn (line_of_text line) number (cells_in s start bytes (line_of_text line)) pieces) →
+    AreLined s w columns drawn start bytes first blank (line.end - start) (number + 1) before more
+lines_more_of s w columns drawn start bytes first blank at number line pieces before page more h part low p e = λ later own.
+    let sums : start + (line.end - start) ≡ line.end = omega (arith, low) in
+    let behind : List Line = P.lines_from line.end (drop (line.end - start) bytes) in
+    let here : List Row = line_rows s w columns drawn (line_of_text line) number (cells_in s start bytes (line_of_text line)) pieces in
+    let there : List Row = lent_rows s w columns drawn start bytes (number + 1) later behind in
+    let others : EachHasPieces blank (texts_in start bytes behind) later = subst (λ (n : ℕ). EachHasPieces blank (texts_in start bytes (P.lines_from n (drop (line.end - start) bytes))) later) sums own in
+    let rest = h (pieces ∷ later) (subst (λ (ls : List Line). EachHasPieces blank (texts_in start bytes ls) (pieces ∷ later)) (sym part) (p, others)) in (
+      rest.0,
+      rest.1,
+      ap (λ n. more ++ told_rows (lent_rows s w columns drawn start bytes (number + 1) later (P.lines_from n (drop (line.end - start) bytes)))) sums
+          ∙ ap (λ m. m ++ told_rows there) e
+          ∙ append_assoc page (told_rows here) (told_rows there)
+          ∙ ap (λ t. page ++ t) (sym (told_rows-append here there))
+          ∙ ap (λ ls. page ++ told_rows (lent_rows s w columns drawn start bytes number (pieces ∷ later) ls)) (sym part)
+          ∙ rest.2,
+    )
 
-lines_more_of : (s : Settings) (w columns : ℕ) (labels : List Label) (start : ℕ) (bytes : List ℕ) (first : ℕ) (lines : List SweptLine) (blank : Bool) (i number : ℕ) (it : SweptLine) (pieces : List Highlight) (before page more : List Token) →
-    AreLined s w columns labels start bytes first lines blank i before page → i < length lines → it ≡ get_or lines i it → number ≡ first + i →
-    ArePieces blank (decoded_text (text_in start bytes (line_of_text it.line))) pieces →
-    more ≡ page ++ told_rows (line_rows_of s w columns (map (drawn_of labels) it.on.one.items) (map (drawn_of labels) it.on.multi.items) (line_of_text it.line) number (cells_in s start bytes (line_of_text it.line)) pieces) →
-    AreLined s w columns labels start bytes first lines blank (i + 1) before more
-lines_more_of s w columns labels start bytes first lines blank i number it pieces before page more h lt is same p e = λ later own.
-    let front : drop i lines ≡ it ∷ drop (i + 1) lines = drop_line lines i it lt ∙ ap (λ l. l ∷ drop (i + 1) lines) (sym is) in
-    let rest = h (pieces ∷ later) (subst (λ (ls : List SweptLine). EachHasPieces blank (texts_in start bytes (places_of ls)) (pieces ∷ later)) (sym front) (p, own)) in
-    (rest.0, rest.1, line_step s w columns labels start bytes first lines i number it pieces later page more front same e ∙ rest.2)
-
-pub lines_more : (s : Settings) (w columns : ℕ) (labels : List Label) (start : ℕ) (bytes : List ℕ) (first : ℕ) (lines : List SweptLine) (blank : Bool) (i number : ℕ) (it : SweptLine) (one multi : List Placed) (pieces : List Highlight) (before page more : List Token) →
-    AreLined s w columns labels start bytes first lines blank i before page → i < length lines → it ≡ get_or lines i it → number ≡ first + i → one ≡ it.on.one.items → multi ≡ it.on.multi.items →
-    ArePieces blank (decoded_text (text_in start bytes (line_of_text it.line))) pieces →
-    more ≡ page ++ told_rows (line_rows_of s w columns (map (drawn_of labels) one) (map (drawn_of labels) multi) (line_of_text it.line) number (cells_in s start bytes (line_of_text it.line)) pieces) →
-    AreLined s w columns labels start bytes first lines blank (i + 1) before more
-lines_more s w columns labels start bytes first lines blank i number it one multi pieces before page more h lt is same a b p e =
-    lines_more_of s w columns labels start bytes first lines blank i number it pieces before page more h lt is same p
-    (e ∙ ap (λ x. page ++ told_rows (line_rows_of s w columns (map (drawn_of labels) x) (map (drawn_of labels) multi) (line_of_text it.line) number (cells_in s start bytes (line_of_text it.line)) pieces)) a
-    ∙ ap (λ x. page ++ told_rows (line_rows_of s w columns (map (drawn_of labels) it.on.one.items) (map (drawn_of labels) x) (line_of_text it.line) number (cells_in s start bytes (line_of_text it.line)) pieces)) b)
+pub lines_more : (s : Settings) (w columns : ℕ) (labels : List Label) (placed : List Placed) (start : ℕ) (bytes : List ℕ) (first : ℕ) (blank : Bool) (at number : ℕ) (line : LineOfText) (one multi : List Placed) (pieces : List Highlight) (before page more : List Token) →
+    AreLined s w columns (map (drawn_of labels) placed) start bytes first blank at number before page →
+    P.lines_from (start + at) (drop at bytes) ≡ line_of_text line ∷ P.lines_from line.end (drop (line.end - start) bytes) → start ≤ line.end →
+    one ≡ filter (is_one (line_of_text line)) placed → multi ≡ filter (is_multi (line_of_text line)) placed →
+    ArePieces blank (decoded_text (text_in start bytes (line_of_text line))) pieces →
+    more ≡ page ++ told_rows (line_rows_of s w columns (map (drawn_of labels) one) (map (drawn_of labels) multi) (line_of_text line) number (cells_in s start bytes (line_of_text line)) pieces) →
+    AreLined s w columns (map (drawn_of labels) placed) start bytes first blank (line.end - start) (number + 1) before more
+lines_more s w columns labels placed start bytes first blank at number line one multi pieces before page more h part low a b p e =
+    let drawn : List DrawnLabel = map (drawn_of labels) placed in
+    let cells : List Cell = cells_in s start bytes (line_of_text line) in
+    lines_more_of s w columns drawn start bytes first blank at number line pieces before page more h part low p
+    (e ∙ ap (λ x. page ++ told_rows (line_rows_of s w columns x (map (drawn_of labels) multi) (line_of_text line) number cells pieces)) (ap (map (drawn_of labels)) a ∙ one_same labels placed (line_of_text line))
+    ∙ ap (λ x. page ++ told_rows (line_rows_of s w columns (one_line (line_of_text line) drawn) x (line_of_text line) number cells pieces)) (ap (map (drawn_of labels)) b ∙ multi_same labels placed (line_of_text line)))
 
 -- all lines are drawn
-pub lines_all : (s : Settings) (w columns : ℕ) (labels : List Label) (start : ℕ) (bytes : List ℕ) (first : ℕ) (lines : List SweptLine) (blank : Bool) (i : ℕ) (before page : List Token) →
-    AreLined s w columns labels start bytes first lines blank i before page → length lines ≤ i →
-    PutsRows blank (texts_in start bytes (places_of lines)) (λ pieces. swept_rows s w columns labels start bytes first pieces lines) before page
-lines_all s w columns labels start bytes first lines blank i before page h le =
-    let none : drop i lines ≡ [] = drop_all i lines le in
-    let all = h [] (subst (λ (ls : List SweptLine). EachHasPieces blank (texts_in start bytes (places_of ls)) []) (sym none) tt) in
+pub lines_all : (s : Settings) (w columns : ℕ) (drawn : List DrawnLabel) (start : ℕ) (bytes : List ℕ) (first : ℕ) (blank : Bool) (at number : ℕ) (before page : List Token) →
+    AreLined s w columns drawn start bytes first blank at number before page → length bytes ≤ at →
+    PutsRows blank (texts_in start bytes (P.lines_from start bytes)) (λ pieces. lent_rows s w columns drawn start bytes first pieces (P.lines_from start bytes)) before page
+lines_all s w columns drawn start bytes first blank at number before page h le =
+    let none : drop at bytes ≡ [] = drop_all at bytes le in
+    let all = h [] (subst (λ (xs : List ℕ). EachHasPieces blank (texts_in start bytes (P.lines_from (start + at) xs)) []) (sym none) tt) in
     record {
       pieces = all.0;
       are = all.1;
-      is = sym (append-nil page) ∙ ap (λ ls. page ++ told_rows (swept_rows s w columns labels start bytes (first + i) [] ls)) (sym none) ∙ all.2;
+      is = sym (append-nil page) ∙ ap (λ xs. page ++ told_rows (lent_rows s w columns drawn start bytes number [] (P.lines_from (start + at) xs))) (sym none) ∙ all.2;
     }
 
-pub snippet_told : (s : Settings) (labels : List Label) (placed : List Placed) (lent : Contents) (place : Option Place) (ls : List SweptLine) (blank : Bool) (start : ℕ) (bytes : List ℕ) (before page : List Token) →
-    All (HasLabels placed) ls → places_of ls ≡ P.lines_from start bytes → start ≡ lent.span.offset → bytes ≡ lent.bytes →
-    PutsRows blank (texts_in lent.span.offset lent.bytes (places_of ls)) (swept_snippet s labels lent place ls) before page →
-    PutsRows blank (lent_texts lent) (lent_snippet s (map (drawn_of labels) placed) lent place) before page
-snippet_told s labels placed lent place ls blank start bytes before page h lines at data' e =
-    let same : places_of ls ≡ lines_of_contents lent = lines ∙ ap (λ n. P.lines_from n bytes) at ∙ ap (P.lines_from lent.span.offset) data' in
-    record {
-      pieces = e.pieces;
-      are = subst (λ (xs : List Line). EachHasPieces blank (texts_in lent.span.offset lent.bytes xs) e.pieces) same e.are;
-      is = e.is ∙ ap (λ rows. before ++ told_rows rows) (swept_snippet_is s labels placed lent place ls e.pieces h same);
-    }
+-- the rows of a snippet whose lines are counted
+told_counted : (s : Settings) (labels : List Label) (placed : List Placed) (lent : Contents) (place : Option Place) (pieces : List (List Highlight)) (w columns lines most : ℕ) (p0 p1 p2 p3 : List Token) →
+    lines ≡ length (lines_of_contents lent) → most ≡ most_multi placed (lines_of_contents lent) → w ≡ width_of_count lent.line lines → columns ≡ gutter_of most →
+    p1 ≡ p0 ++ told_rows (top_row_of s w lent.name (ltb 1 lines) place ∷ []) →
+    p2 ≡ p1 ++ told_rows (lent_rows s w columns (map (drawn_of labels) placed) lent.span.offset lent.bytes (lent.line + 1) pieces (lines_of_contents lent)) →
+    p3 ≡ p2 ++ told_rows (bottom_row s w ∷ []) → p3 ≡ p0 ++ told_rows (lent_snippet s (map (drawn_of labels) placed) lent place pieces)
+told_counted s labels placed lent place pieces w columns lines most p0 p1 p2 p3 many widest width gutter a b c =
+    let drawn : List DrawnLabel = map (drawn_of labels) placed in
+    let real : List Line = lines_of_contents lent in
+    let whole : w ≡ number_width lent = width ∙ ap (width_of_count lent.line) many ∙ sym (width_is lent.line real) in
+    let room : columns ≡ gutter_columns drawn real = gutter ∙ ap gutter_of (widest ∙ most_is labels placed real) in
+    told_parts p0 p1 p2 p3 (top_row_of s w lent.name (ltb 1 lines) place) (bottom_row s w) (lent_rows s w columns drawn lent.span.offset lent.bytes (lent.line + 1) pieces real) a b c
+    ∙ ap (λ n. p0 ++ told_rows (top_row_of s n lent.name (ltb 1 lines) place ∷ lent_rows s n columns drawn lent.span.offset lent.bytes (lent.line + 1) pieces real ++ bottom_row s n ∷ [])) whole
+    ∙ ap (λ n. p0 ++ told_rows (top_row_of s (number_width lent) lent.name (ltb 1 n) place ∷ lent_rows s (number_width lent) columns drawn lent.span.offset lent.bytes (lent.line + 1) pieces real ++ bottom_row s (number_width lent) ∷ [])) many
+    ∙ ap (λ n. p0 ++ told_rows (top_row s lent place ∷ lent_rows s (number_width lent) n drawn lent.span.offset lent.bytes (lent.line + 1) pieces real ++ bottom_row s (number_width lent) ∷ [])) room
 
--- the same, over what the getters of the read gave
-pub told_lent : (s : Settings) (labels : List Label) (lent : Contents) (place : Option Place) (ls : List SweptLine) (blank : Bool) (w columns first line line2 start : ℕ) (name : Option (List ℕ)) (bytes : List ℕ) (p0 p1 p2 p3 : List Token) →
-    line ≡ lent.line → line2 ≡ lent.line → start ≡ lent.span.offset → name ≡ lent.name → bytes ≡ lent.bytes →
-    w ≡ width_of_count line (length ls) → columns ≡ gutter_of (most_multi ls) → first ≡ line2 + 1 →
-    p1 ≡ p0 ++ told_rows (top_row_of s w name (ltb 1 (length ls)) place ∷ []) → PutsRows blank (texts_in start bytes (places_of ls)) (λ pieces. swept_rows s w columns labels start bytes first pieces ls) p1 p2 → p3 ≡ p2 ++ told_rows (bottom_row s w ∷ []) →
-    PutsRows blank (texts_in lent.span.offset lent.bytes (places_of ls)) (swept_snippet s labels lent place ls) p0 p3
-told_lent s labels lent place ls blank w columns first line line2 start name bytes p0 p1 p2 p3 la lb at named data' width gutter number a b c =
+-- what the getters of a read gave stands for its parts
+pub told_lent : (s : Settings) (labels : List Label) (placed : List Placed) (lent : Contents) (place : Option Place) (blank : Bool) (w columns lines most line start : ℕ) (name : Option (List ℕ)) (bytes : List ℕ) (p0 p1 p2 p3 : List Token) →
+    line ≡ lent.line → start ≡ lent.span.offset → name ≡ lent.name → bytes ≡ lent.bytes →
+    lines ≡ length (P.lines_from start bytes) → most ≡ most_multi placed (P.lines_from start bytes) → w ≡ width_of_count line lines → columns ≡ gutter_of most →
+    p1 ≡ p0 ++ told_rows (top_row_of s w name (ltb 1 lines) place ∷ []) →
+    PutsRows blank (texts_in start bytes (P.lines_from start bytes)) (λ pieces. lent_rows s w columns (map (drawn_of labels) placed) start bytes (line + 1) pieces (P.lines_from start bytes)) p1 p2 →
+    p3 ≡ p2 ++ told_rows (bottom_row s w ∷ []) →
+    PutsRows blank (lent_texts lent) (lent_snippet s (map (drawn_of labels) placed) lent place) p0 p3
+told_lent s labels placed lent place blank w columns lines most line start name bytes p0 p1 p2 p3 la at named data' many widest width gutter a b c =
+    let drawn : List DrawnLabel = map (drawn_of labels) placed in
+    let same : P.lines_from start bytes ≡ lines_of_contents lent = ap (λ n. P.lines_from n bytes) at ∙ ap (P.lines_from lent.span.offset) data' in
     record {
       pieces = b.pieces;
-      are = subst (λ (n : ℕ). EachHasPieces blank (texts_in n lent.bytes (places_of ls)) b.pieces) at (subst (λ (bs : List ℕ). EachHasPieces blank (texts_in start bs (places_of ls)) b.pieces) data' b.are);
-      is = told_swept s labels lent place ls b.pieces w columns first (ltb 1 (length ls)) p0 p1 p2 p3 (width ∙ ap (λ n. width_of_count n (length ls)) la) gutter (number ∙ ap (λ n. n + 1) lb) refl
-          (a ∙ ap (λ n. p0 ++ told_rows (top_row_of s w n (ltb 1 (length ls)) place ∷ [])) named)
-          (b.is ∙ ap (λ n. p1 ++ told_rows (swept_rows s w columns labels n bytes first b.pieces ls)) at ∙ ap (λ n. p1 ++ told_rows (swept_rows s w columns labels lent.span.offset n first b.pieces ls)) data') c;
+      are = subst (λ (ls : List Line). EachHasPieces blank (texts_in lent.span.offset lent.bytes ls) b.pieces) same
+          (subst (λ (n : ℕ). EachHasPieces blank (texts_in n lent.bytes (P.lines_from start bytes)) b.pieces) at (subst (λ (bs : List ℕ). EachHasPieces blank (texts_in start bs (P.lines_from start bytes)) b.pieces) data' b.are));
+      is = told_counted s labels placed lent place b.pieces w columns lines most p0 p1 p2 p3 (many ∙ ap length same) (widest ∙ ap (most_multi placed) same) (width ∙ ap (λ n. width_of_count n lines) la) gutter
+          (a ∙ ap (λ n. p0 ++ told_rows (top_row_of s w n (ltb 1 lines) place ∷ [])) named)
+          (b.is ∙ ap (λ ls. p1 ++ told_rows (lent_rows s w columns drawn start bytes (line + 1) b.pieces ls)) same
+          ∙ ap (λ n. p1 ++ told_rows (lent_rows s w columns drawn n bytes (line + 1) b.pieces (lines_of_contents lent))) at
+          ∙ ap (λ n. p1 ++ told_rows (lent_rows s w columns drawn lent.span.offset n (line + 1) b.pieces (lines_of_contents lent))) data'
+          ∙ ap (λ n. p1 ++ told_rows (lent_rows s w columns drawn lent.span.offset lent.bytes (n + 1) b.pieces (lines_of_contents lent))) la)
+          c;
     }

@@ -8,17 +8,16 @@ use Rattle.std.specs.List.{filter}
 use Rattle.miette_layout.specs.declared.sweep.Placed.{Placed}
 use Rattle.miette_layout.specs.declared.sweep.Bounds.{Bounds}
 use Rattle.miette_layout.specs.Labels.{reach}
-use Rattle.miette_layout.specs.Sweeping.{label_of, line_of_bounds, passes, is_one, is_multi, nothing, start_at, AreSorted, IsAt}
+use Rattle.miette_layout.specs.Sweeping.{label_of, line_of_bounds, passes, is_one, is_multi, nothing, start_at, AreSorted, IsAt, IsOn}
 use Rattle.miette_layout.proofs.Numbers.{by_cases}
 
 -- on the way through a line
-pub record IsSwept (labels : List Placed) (line : Bounds) (next : ℕ) (one multi still : List Placed) : Type 0 where
+pub record IsSwept (labels : List Placed) (line : Bounds) (next : ℕ) (one multi : List Placed) : Type 0 where
   pub count : next ≤ length labels
   pub before : (k : ℕ) → k < next → start_at labels k < line.after
   pub later : (k : ℕ) → next ≤ k → k < length labels → line.start ≤ start_at labels k
   pub one_is : one ≡ filter (is_one (line_of_bounds line)) (take next labels)
   pub multi_is : multi ≡ filter (is_multi (line_of_bounds line)) (take next labels)
-  pub still_is : still ≡ filter (passes line.after) (take next labels)
 
 reach-gt : (p : Placed) → p.start ≤ p.after → p.start < reach (label_of p)
 reach-gt p le = by_cases {C = p.start < reach (label_of p)} (eqb p.start p.after) (λ t. rw t (omega arith)) (λ f. rw f (⊎_elim {C = p.start < p.after} (λ lt. lt) (λ ge. absurd (eqb-false p.start p.after f (omega (arith, le, ge)))) (cases_lt p.start p.after)))
@@ -118,30 +117,26 @@ filter_not p xs old i lt is h =
     h ∙ sym (ap (filter p) (take_more xs i nothing lt) ∙ filter-append p (take i xs) (get_or xs i nothing ∷ []) ∙ ap (λ b. filter p (take i xs) ++ cond b (get_or xs i nothing ∷ []) []) is ∙ append-nil (filter p (take i xs)))
 
 -- where a line begins
-pub swept_init : (labels : List Placed) (line : Bounds) (next : ℕ) (running : List Placed) (still : List Placed) → line.start < line.after → IsAt labels line.start next running → still ≡ filter (passes line.after) running →
-    IsSwept labels line next [] running still
-swept_init labels line next running still some is h = record {
+pub swept_init : (labels : List Placed) (line : Bounds) (next : ℕ) (running : List Placed) → line.start < line.after → IsAt labels line.start next running → IsSwept labels line next [] running
+swept_init labels line next running some is = record {
   count = is.count;
   before = λ k lt. omega (arith, is.before k lt, some);
   later = is.later;
   one_is = sym (filter_front (is_one (line_of_bounds line)) (λ x. false) next labels (λ k a b. earlier_one line (get_or labels k nothing) (is.before k a)) ∙ filter_no (take next labels));
   multi_is = is.carried ∙ sym (filter_front (is_multi (line_of_bounds line)) (passes line.start) next labels (λ k a b. earlier_multi line (get_or labels k nothing) some (is.before k a)));
-  still_is = h ∙ ap (filter (passes line.after)) is.carried ∙ filter_both (passes line.start) (passes line.after) (take next labels)
-      ∙ filter_front (λ x. passes line.start x && passes line.after x) (passes line.after) next labels (λ k a b. earlier_past line (get_or labels k nothing) some);
 }
 
-pub swept_first : (labels : List Placed) (line : Bounds) (next : ℕ) (running one multi still : List Placed) → line.start < line.after → IsAt labels line.start next running → one ≡ [] → multi ≡ running → still ≡ filter (passes line.after) running →
-    IsSwept labels line next one multi still
-swept_first labels line next running one multi still some is a b h = rw (a, b) (swept_init labels line next running still some is h)
+pub swept_first : (labels : List Placed) (line : Bounds) (next : ℕ) (running one : List Placed) → line.start < line.after → IsAt labels line.start next running → one ≡ [] → IsSwept labels line next one running
+swept_first labels line next running one some is a = rw a (swept_init labels line next running some is)
 
 more-before : (labels : List Placed) (place next : ℕ) → ((k : ℕ) → k < next → start_at labels k < place) → start_at labels next < place → (k : ℕ) → k < next + 1 → start_at labels k < place
 more-before labels place next h own k lt =
     ⊎_elim {C = start_at labels k < place} (λ less. h k less) (λ ge. let e : k ≡ next = omega arith in rw e own) (cases_lt k next)
 
 -- a label of the line that goes on past it, and one that doesn't
-pub swept_past : (labels : List Placed) (line : Bounds) (next : ℕ) (one multi still multi' still' : List Placed) → AreSorted labels → next < length labels → start_at labels next < line.after → passes line.after (get_or labels next nothing) ≡ true →
-    multi' ≡ multi ++ get_or labels next nothing ∷ [] → still' ≡ still ++ get_or labels next nothing ∷ [] → IsSwept labels line next one multi still → IsSwept labels line (next + 1) one multi' still'
-swept_past labels line next one multi still multi' still' sorted lt starts past m s is =
+pub swept_past : (labels : List Placed) (line : Bounds) (next : ℕ) (one multi multi' : List Placed) → AreSorted labels → next < length labels → start_at labels next < line.after → passes line.after (get_or labels next nothing) ≡ true →
+    multi' ≡ multi ++ get_or labels next nothing ∷ [] → IsSwept labels line next one multi → IsSwept labels line (next + 1) one multi'
+swept_past labels line next one multi multi' sorted lt starts past m is =
     let own : (is_one (line_of_bounds line) (get_or labels next nothing) ≡ false) × (is_multi (line_of_bounds line) (get_or labels next nothing) ≡ true) =
     inside_past line (get_or labels next nothing) (sorted.drawn next lt) (is.later next (omega arith) lt) starts past in record {
       count = omega (arith, lt);
@@ -149,12 +144,11 @@ swept_past labels line next one multi still multi' still' sorted lt starts past 
       later = λ k a b. is.later k (omega arith) b;
       one_is = filter_not (is_one (line_of_bounds line)) labels one next lt own.0 is.one_is;
       multi_is = filter_yes (is_multi (line_of_bounds line)) labels multi multi' next lt own.1 is.multi_is m;
-      still_is = filter_yes (passes line.after) labels still still' next lt past is.still_is s;
     }
 
-pub swept_ends : (labels : List Placed) (line : Bounds) (next : ℕ) (one multi still one' : List Placed) → AreSorted labels → next < length labels → start_at labels next < line.after → passes line.after (get_or labels next nothing) ≡ false →
-    one' ≡ one ++ get_or labels next nothing ∷ [] → IsSwept labels line next one multi still → IsSwept labels line (next + 1) one' multi still
-swept_ends labels line next one multi still one' sorted lt starts past m is =
+pub swept_ends : (labels : List Placed) (line : Bounds) (next : ℕ) (one multi one' : List Placed) → AreSorted labels → next < length labels → start_at labels next < line.after → passes line.after (get_or labels next nothing) ≡ false →
+    one' ≡ one ++ get_or labels next nothing ∷ [] → IsSwept labels line next one multi → IsSwept labels line (next + 1) one' multi
+swept_ends labels line next one multi one' sorted lt starts past m is =
     let own : (is_one (line_of_bounds line) (get_or labels next nothing) ≡ true) × (is_multi (line_of_bounds line) (get_or labels next nothing) ≡ false) =
     inside_ends line (get_or labels next nothing) (sorted.drawn next lt) (is.later next (omega arith) lt) starts past in record {
       count = omega (arith, lt);
@@ -162,7 +156,6 @@ swept_ends labels line next one multi still one' sorted lt starts past m is =
       later = λ k a b. is.later k (omega arith) b;
       one_is = filter_yes (is_one (line_of_bounds line)) labels one one' next lt own.0 is.one_is m;
       multi_is = filter_not (is_multi (line_of_bounds line)) labels multi next lt own.1 is.multi_is;
-      still_is = filter_not (passes line.after) labels still next lt past is.still_is;
     }
 
 -- where no more labels start on the line
@@ -172,20 +165,41 @@ IsOver labels line next = next < length labels → line.after ≤ start_at label
 beyond : (labels : List Placed) (line : Bounds) (next : ℕ) → AreSorted labels → IsOver labels line next → (k : ℕ) → next ≤ k → k < length labels → line.after ≤ start_at labels k
 beyond labels line next sorted over k le lt = omega (arith, over (omega arith), sorted.order next k le lt)
 
-pub swept_one : (labels : List Placed) (line : Bounds) (next : ℕ) (one multi still : List Placed) → AreSorted labels → line.start < line.after → IsOver labels line next → IsSwept labels line next one multi still →
+pub swept_one : (labels : List Placed) (line : Bounds) (next : ℕ) (one multi : List Placed) → AreSorted labels → line.start < line.after → IsOver labels line next → IsSwept labels line next one multi →
     one ≡ filter (is_one (line_of_bounds line)) labels
-swept_one labels line next one multi still sorted some over is =
+swept_one labels line next one multi sorted some over is =
     is.one_is ∙ filter_beyond (is_one (line_of_bounds line)) next labels (λ k a b. (later_none line (get_or labels k nothing) (sorted.drawn k b) some (beyond labels line next sorted over k a b)).0)
 
-pub swept_multi : (labels : List Placed) (line : Bounds) (next : ℕ) (one multi still : List Placed) → AreSorted labels → line.start < line.after → IsOver labels line next → IsSwept labels line next one multi still →
-    multi ≡ filter (is_multi (line_of_bounds line)) labels
-swept_multi labels line next one multi still sorted some over is =
-    is.multi_is ∙ filter_beyond (is_multi (line_of_bounds line)) next labels (λ k a b. (later_none line (get_or labels k nothing) (sorted.drawn k b) some (beyond labels line next sorted over k a b)).1)
-
-pub swept_at : (labels : List Placed) (line : Bounds) (next : ℕ) (one multi still : List Placed) → AreSorted labels → IsOver labels line next → IsSwept labels line next one multi still → IsAt labels line.after next still
-swept_at labels line next one multi still sorted over is = record {
+pub swept_on : (labels : List Placed) (line : Bounds) (next : ℕ) (one multi : List Placed) → AreSorted labels → line.start < line.after → IsOver labels line next → IsSwept labels line next one multi →
+    IsOn labels (line_of_bounds line) next multi
+swept_on labels line next one multi sorted some over is = record {
   count = is.count;
   before = is.before;
   later = beyond labels line next sorted over;
-  carried = is.still_is;
+  multi = is.multi_is ∙ filter_beyond (is_multi (line_of_bounds line)) next labels (λ k a b. (later_none line (get_or labels k nothing) (sorted.drawn k b) some (beyond labels line next sorted over k a b)).1);
 }
+
+-- of the labels that begin before a line's end those that go on past it are of several lines
+on_past : (labels : List Placed) (line : Bounds) (k : ℕ) → AreSorted labels → line.start < line.after → k < length labels → start_at labels k < line.after →
+    (is_multi (line_of_bounds line) (get_or labels k nothing) && passes line.after (get_or labels k nothing)) ≡ passes line.after (get_or labels k nothing)
+on_past labels line k sorted some lt before =
+    let p : Placed = get_or labels k nothing in
+    ⊎_elim {C = (is_multi (line_of_bounds line) p && passes line.after p) ≡ passes line.after p}
+    (λ less. ap (λ b. b && passes line.after p) (earlier_multi line p some less) ∙ earlier_past line p some)
+    (λ ge. by_cases {C = (is_multi (line_of_bounds line) p && passes line.after p) ≡ passes line.after p} (passes line.after p)
+    (λ t. ap (λ b. b && passes line.after p) (inside_past line p (sorted.drawn k lt) ge before t).1)
+    (λ f. ap (λ b. b && passes line.after p) (inside_ends line p (sorted.drawn k lt) ge before f).1 ∙ sym f))
+    (cases_lt (start_at labels k) line.start)
+
+-- where a line is left
+pub left_at : (labels : List Placed) (line : Bounds) (next : ℕ) (running left : List Placed) → AreSorted labels → line.start < line.after → IsOn labels (line_of_bounds line) next running → left ≡ filter (passes line.after) running →
+    IsAt labels line.after next left
+left_at labels line next running left sorted some on is =
+    let both : Placed → Bool = λ p. is_multi (line_of_bounds line) p && passes line.after p in record {
+      count = on.count;
+      before = on.before;
+      later = on.later;
+      carried = is ∙ ap (filter (passes line.after)) on.multi ∙ filter_both (is_multi (line_of_bounds line)) (passes line.after) labels
+          ∙ sym (filter_beyond both next labels (λ k a b. ap (λ m. m && passes line.after (get_or labels k nothing)) (later_none line (get_or labels k nothing) (sorted.drawn k b) some (on.later k a b)).1))
+          ∙ filter_front both (passes line.after) next labels (λ k a b. on_past labels line k sorted some b (on.before k a));
+    }

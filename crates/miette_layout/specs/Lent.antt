@@ -1,21 +1,16 @@
 -- The rows of a snippet from what its read lent, where nothing is known of the source beyond.
-use Rattle.std.specs.Prelude.{ℕ, ◌+◌, ◌-◌, ◌==◌, ◌≡◌, nat_lt, if◌then◌else◌, Bool, List, [], ◌∷◌, ◌++◌, length, map, decimal, slice_range, Option, false}
+use Rattle.std.specs.Prelude.{ℕ, ◌+◌, ◌-◌, ◌==◌, ◌≡◌, if◌then◌else◌, Bool, List, [], ◌∷◌, ◌++◌, length, map, decimal, slice_range, Option, false}
 use Rattle.miette_protocol.specs.Lines.{Line}
-use Rattle.miette_protocol.specs.Meaning.{Label}
 use Rattle.miette_protocol.specs.Reading.{Contents}
-use Rattle.miette_layout.specs.declared.line_sweep.SweptLine.{SweptLine}
 use Rattle.miette_layout.specs.Rows.{Row}
 use Rattle.miette_layout.specs.Answers.{Highlight, first_of, later_of}
 use Rattle.miette_layout.specs.Cells.{Cell, characters, cells_from}
 use Rattle.miette_layout.specs.Contexts.{lines_of_contents}
-use Rattle.miette_layout.specs.Frames.{Settings, Place, top_row, top_row_of, bottom_row, number_width}
-use Rattle.miette_layout.specs.Given.{drawn_of}
+use Rattle.miette_layout.specs.Frames.{Settings, Place, top_row, bottom_row, number_width}
 use Rattle.miette_layout.specs.Gutters.{gutter_columns}
 use Rattle.miette_layout.specs.Highlighted.{decoded_text, EachHasPieces}
 use Rattle.miette_layout.specs.Labels.{DrawnLabel}
-use Rattle.miette_layout.specs.Layout.{line_rows, line_rows_of}
-use Rattle.miette_layout.specs.Sheets.{line_of_text}
-use Rattle.miette_layout.specs.Swept.{most_multi}
+use Rattle.miette_layout.specs.Layout.{line_rows}
 use Rattle.miette_layout.specs.Told.{Token, told_rows}
 
 -- the bytes of a line's text, in bytes that begin at an offset
@@ -43,16 +38,6 @@ lent_snippet s drawn lent place pieces =
     ∷ lent_rows s (number_width lent) (gutter_columns drawn (lines_of_contents lent)) drawn lent.span.offset lent.bytes (lent.line + 1) pieces (lines_of_contents lent)
     ++ bottom_row s (number_width lent) ∷ []
 
--- the rows of lines with the labels that were found on them
-abbrev pub swept_rows : Settings → ℕ → ℕ → List Label → ℕ → List ℕ → ℕ → List (List Highlight) → List SweptLine → List Row
-swept_rows s w columns labels start bytes number pieces [] = []
-swept_rows s w columns labels start bytes number pieces (l ∷ ls) =
-    line_rows_of s w columns (map (drawn_of labels) l.on.one.items) (map (drawn_of labels) l.on.multi.items) (line_of_text l.line) number (cells_in s start bytes (line_of_text l.line)) (first_of pieces)
-    ++ swept_rows s w columns labels start bytes (number + 1) (later_of pieces) ls
-
-abbrev pub places_of : List SweptLine → List Line
-places_of ls = map (λ l. line_of_text l.line) ls
-
 -- the digits of the number of the last of so many lines, where this many stand before the first; 1 where there is none
 abbrev pub width_of_count : ℕ → ℕ → ℕ
 width_of_count before many = if many == 0 then 1 else length (decimal (before + many))
@@ -60,13 +45,6 @@ width_of_count before many = if many == 0 then 1 else length (decimal (before + 
 -- the columns of a gutter with room for so many labels
 abbrev pub gutter_of : ℕ → ℕ
 gutter_of most = if most == 0 then 0 else most + 3
-
--- the rows of a snippet, from the labels that were found on its lines
-abbrev pub swept_snippet : Settings → List Label → Contents → Option Place → List SweptLine → List (List Highlight) → List Row
-swept_snippet s labels lent place ls pieces =
-    top_row_of s (width_of_count lent.line (length ls)) lent.name (nat_lt 1 (length ls)) place
-    ∷ swept_rows s (width_of_count lent.line (length ls)) (gutter_of (most_multi ls)) labels lent.span.offset lent.bytes (lent.line + 1) pieces ls
-    ++ bottom_row s (width_of_count lent.line (length ls)) ∷ []
 
 -- A page has got rows with some pieces, which a highlighter may have answered for these texts.
 pub record PutsRows (blank : Bool) (texts : List (List ℕ)) (rows : List (List Highlight) → List Row) (before after : List Token) : Type 0 where

@@ -43,3 +43,10 @@ pub record IsAt (labels : List Placed) (place next : ℕ) (running : List Placed
   pub before : (k : ℕ) → k < next → start_at labels k < place
   pub later : (k : ℕ) → next ≤ k → k < length labels → place ≤ start_at labels k
   pub carried : running ≡ filter (passes place) (take next labels)
+
+-- so many labels begin before a line's end, no other does, and these of several lines lie on it
+pub record IsOn (labels : List Placed) (line : Line) (next : ℕ) (running : List Placed) : Type 0 where
+  pub count : next ≤ length labels
+  pub before : (k : ℕ) → k < next → start_at labels k < line.end
+  pub later : (k : ℕ) → next ≤ k → k < length labels → line.end ≤ start_at labels k
+  pub multi : running ≡ filter (is_multi line) labels

@@ -1,6 +1,7 @@
 -- Lines with the labels that lie on them.
 use Rattle.std.specs.Prelude.{ℕ, ◌+◌, ◌≤◌, ◌≡◌, max, List, [], ◌∷◌, length}
 use Rattle.std.specs.List.{filter}
+use Rattle.miette_protocol.specs.Lines.{Line}
 use Rattle.miette_layout.specs.declared.line_sweep.SweptLine.{SweptLine}
 use Rattle.miette_layout.specs.declared.sweep.Placed.{Placed}
 use Rattle.miette_layout.specs.Sheets.{line_of_text}
@@ -19,6 +20,6 @@ pub record LiesIn (start size : ℕ) (it : SweptLine) : Type 0 where
   pub to : it.line.end ≤ start + size
 
 -- the greatest number of labels of several lines on one of the lines
-abbrev pub most_multi : List SweptLine → ℕ
-most_multi [] = 0
-most_multi (l ∷ ls) = max (length l.on.multi.items) (most_multi ls)
+abbrev pub most_multi : List Placed → List Line → ℕ
+most_multi labels [] = 0
+most_multi labels (line ∷ lines) = max (length (filter (is_multi line) labels)) (most_multi labels lines)

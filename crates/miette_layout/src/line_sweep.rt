@@ -1,6 +1,6 @@
 //! The lines of a snippet, each with the labels that lie on it.
 
-ghost use Rattle.std.specs.Prelude.{◌≡◌, ◌+◌, ◌<◌, ◌≤◌, ◌∷◌, ◌^◌, ◌==◌, ◌||◌, ◌&&◌, not, ℕ, List, map, drop, position, slice_index, length, IfOk, OnOk};
+ghost use Rattle.std.specs.Prelude.{◌≡◌, ◌+◌, ◌-◌, ◌<◌, ◌≤◌, ◌∷◌, ◌^◌, ◌==◌, ◌||◌, ◌&&◌, not, ℕ, List, map, drop, position, slice_index, length, IfOk, OnOk};
 ghost use Rattle.std.specs.List.{All};
 ghost use Rattle.miette_protocol.specs.Lines.{lines_from};
 ghost use Rattle.miette_layout.specs.Sheets.{line_of_text};
@@ -63,6 +63,25 @@ fn first_line(bytes: &[u8]) -> FirstLine
     FirstLine { text, size }
 }
 
+/// The line of some bytes that begins so many bytes behind their first one, which stands at this offset.
+pub(crate) fn line_at(bytes: &[u8], start: usize, at: usize) -> LineOfText
+    requires inside { at < length bytes.now }
+    requires small { start + length bytes.now < 2 ^ 64 }
+    ensures parted { lines_from (start + at) (drop at bytes.now) ≡ line_of_text result ∷ lines_from result.end (drop (result.end - start) bytes.now) }
+    ensures from { result.start ≡ start + at }
+    ensures text { result.start ≤ result.text_end }
+    ensures ending { result.text_end ≤ result.end }
+    ensures some { result.start < result.end }
+    ensures to { result.end ≤ start + length bytes.now }
+{
+    let first = first_line(&bytes[at..]);
+    LineOfText {
+        start: start + at,
+        text_end: start + at + first.text,
+        end: start + at + first.size,
+    }
+}
+
 /// The lines of some bytes of a source, which begin at this offset, with the labels that lie on each. The sweep comes to where they end.
 /// `AllocError` where memory is refused, or the bytes end past the largest `usize`; where the sweep then is, is open.
 pub fn swept_lines(
@@ -86,30 +105,58 @@ pub fn swept_lines(
     let mut lines = Vec::new(alloc);
     let mut at: usize = 0;
     while at < bytes.len() {
-        let first = first_line(&bytes[at..]);
-        let line = LineOfText {
-            start: start + at,
-            text_end: start + at + first.text,
-            end: start + at + first.size,
-        };
+        let line = line_at(bytes, start, at);
         let bounds = Bounds {
             start: line.start,
             after: line.end,
         };
         let on = advance(alloc, labels, &bounds, sweep)?;
         lines.push(SweptLine { line, on })?;
-        at += first.size;
+        at = line.end - start;
     }
     Ok(lines)
 }
 
-/// The greatest number of labels of several lines on one of the lines.
-pub fn most_on_a_line(lines: &[SweptLine]) -> usize
-    ensures { result ≡ most_multi lines.now }
+/// How many lines there are, and the greatest number of labels of several lines on one of them.
+#[derive(Clone, Copy, Debug, PartialEq, Eq, Drop)]
+pub struct Extent {
+    /// How many lines there are.
+    pub lines: usize,
+    /// The greatest number of labels of several lines on one of them.
+    pub most: usize,
+}
+
+/// The lines of some bytes of a source, which begin at this offset where the sweep is, are counted. `AllocError` where memory is refused.
+pub fn extent_of(
+    alloc: Global,
+    bytes: &[u8],
+    start: usize,
+    labels: &[Placed],
+    sweep: &Sweep,
+) -> Result<Extent, AllocError>
+    requires sorted { AreSorted labels.now }
+    requires at { IsAt labels.now start sweep.now.next sweep.now.running.items }
+    requires small { start + length bytes.now < 2 ^ 64 }
+    ensures lines { IfOk result (λ extent. extent.lines ≡ length (lines_from start bytes.now)) }
+    ensures most { IfOk result (λ extent. extent.most ≡ most_multi labels.now (lines_from start bytes.now)) }
 {
+    let mut ahead = sweep.copied(alloc)?;
+    let mut one = Vec::new(alloc);
+    let mut lines: usize = 0;
     let mut most = 0;
-    for line in lines {
-        most = line.on.multi.len().max(most);
+    let mut at: usize = 0;
+    while at < bytes.len() {
+        let line = line_at(bytes, start, at);
+        let bounds = Bounds {
+            start: line.start,
+            after: line.end,
+        };
+        one.clear();
+        ahead.enter(labels, &bounds, &mut one)?;
+        most = ahead.running.len().max(most);
+        ahead.leave(line.end);
+        lines += 1;
+        at = line.end - start;
     }
-    most
+    Ok(Extent { lines, most })
 }

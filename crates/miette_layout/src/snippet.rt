@@ -2,19 +2,18 @@
 
 ghost use Rattle.std.specs.Prelude.{◌≡◌, ◌+◌, ◌<◌, ◌^◌, map, length, decimal, IfOk, OnOk};
 ghost use Rattle.std.specs.Option.{option_map};
-ghost use Rattle.std.specs.List.{All};
+ghost use Rattle.miette_protocol.specs.Lines.{lines_from};
 ghost use Rattle.miette_layout.specs.Framed.{place_at};
 ghost use Rattle.miette_layout.specs.Given.{settings_of, drawn_of};
 ghost use Rattle.miette_layout.specs.Contexts.{lines_of_contents};
 ghost use Rattle.miette_layout.specs.Highlighted.{leaves_plain};
-ghost use Rattle.miette_layout.specs.Lent.{PutsRows, places_of, texts_in, swept_rows, swept_snippet, lent_snippet, width_of_count, gutter_of};
-ghost use Rattle.miette_layout.specs.Swept.{LiesIn};
+ghost use Rattle.miette_layout.specs.Lent.{PutsRows, texts_in, lent_rows, lent_snippet, width_of_count, gutter_of};
 ghost use Rattle.miette_layout.specs.Sweeping.{IsAt, AreSorted};
 
 use crate::frame::{Frame, push_bottom_row, push_top_row};
 use crate::highlighting::{pieces_of, restart};
 use crate::line::push_line_rows;
-use crate::line_sweep::{SweptLine, most_on_a_line, swept_lines};
+use crate::line_sweep::{extent_of, line_at};
 use crate::options::LayoutOptions;
 use crate::page::Page;
 use crate::sheet::Sheet;
@@ -25,6 +24,41 @@ use miette_protocol::source::MietteSpanContents;
 use miette_text::highlight::Highlighter;
 use miette_text::theme::GraphicalTheme;
 use std::alloc::{AllocError, Global};
+
+/// What the snippets of a diagnostic are drawn with.
+#[derive(Clone, Copy)]
+pub struct Drawing<'a> {
+    /// Where memory comes from.
+    pub alloc: Global,
+    /// The characters and styles.
+    pub theme: &'a GraphicalTheme,
+    /// How snippets are laid out.
+    pub options: LayoutOptions,
+    /// The labels as given, whose texts are drawn.
+    pub labels: &'a [LabeledSpan],
+    /// The labels as they are drawn, by offset.
+    pub placed: &'a [Placed],
+}
+
+/// A sweep over labels, and the offset to which it has come.
+#[derive(Drop)]
+pub struct Passage {
+    /// What the sweep knows there.
+    pub sweep: Sweep,
+    /// The offset.
+    pub at: usize,
+}
+
+// What the lines of a snippet are drawn with: their frame and gutter, how many lines stand before them, and their bytes with where these
+// begin.
+#[derive(Clone, Copy)]
+struct Body<'a> {
+    frame: Frame<'a>,
+    gutter: usize,
+    before: usize,
+    start: usize,
+    bytes: &'a [u8],
+}
 
 // How many decimal digits a number has.
 fn digits(number: usize) -> usize
@@ -60,24 +94,20 @@ fn gutter_width(most: usize) -> Result<usize, AllocError>
     }
 }
 
-// Brings a sweep that has come to one offset to another one.
+// Brings a sweep to an offset.
 fn seek(
     alloc: Global,
     labels: &[Placed],
-    at: usize,
     place: usize,
-    sweep: &mut Sweep,
+    passage: &mut Passage,
 ) -> Result<(), AllocError>
     requires sorted { AreSorted labels.now }
-    requires at { IsAt labels.now at sweep.old.next sweep.old.running.items }
-    ensures { OnOk result (IsAt labels.now place sweep.new.next sweep.new.running.items) }
+    requires at { IsAt labels.now passage.old.at passage.old.sweep.next passage.old.sweep.running.items }
+    ensures { OnOk result (IsAt labels.now place passage.new.sweep.next passage.new.sweep.running.items) }
 {
-    let mut from = at;
-    if place < at {
-        *sweep = Sweep {
-            running: Vec::new(alloc),
-            next: 0,
-        };
+    let mut from = passage.at;
+    if place < from {
+        passage.sweep = Sweep::new(alloc);
         from = 0;
     }
     if from < place {
@@ -85,135 +115,125 @@ fn seek(
             start: from,
             after: place,
         };
-        let _passed = advance(alloc, labels, &bounds, sweep)?;
+        let _passed = advance(alloc, labels, &bounds, &mut passage.sweep)?;
     }
     Ok(())
 }
 
-// The rows of lines, with numbers from this one on, whose bytes begin at an offset, in the highlighter's pieces.
+// The rows of a snippet's lines, in the highlighter's pieces.
 fn push_lines<'a, H: Highlighter>(
-    alloc: Global,
+    drawing: &Drawing<'a>,
+    body: &Body<'a>,
     highlighter: &mut Option<H>,
     page: &mut Page,
-    frame: &Frame<'a>,
-    gutter: usize,
-    labels: &'a [LabeledSpan],
-    start: usize,
-    bytes: &[u8],
-    first: usize,
-    lines: &'a [SweptLine],
+    sweep: &mut Sweep,
 ) -> Result<(), AllocError>
-    requires inside { All (LiesIn start (length bytes.now)) lines.now }
-    requires small { start + length bytes.now < 2 ^ 64 }
-    ensures rows { OnOk result (PutsRows (leaves_plain H.is_blank highlighter.old) (texts_in start bytes.now (places_of lines.now))
-        (λ pieces. swept_rows (settings_of frame.now.theme.now frame.now.options) frame.now.number_width gutter labels.now start bytes.now first pieces lines.now) page.old page.new) }
+    requires sorted { AreSorted drawing.now.placed.now }
+    requires at { IsAt drawing.now.placed.now body.now.start sweep.old.next sweep.old.running.items }
+    requires small { body.now.start + length body.now.bytes.now < 2 ^ 64 }
+    ensures rows { OnOk result (PutsRows (leaves_plain H.is_blank highlighter.old) (texts_in body.now.start body.now.bytes.now (lines_from body.now.start body.now.bytes.now))
+        (λ pieces. lent_rows (settings_of body.now.frame.theme.now body.now.frame.options) body.now.frame.number_width body.now.gutter (map (drawn_of drawing.now.labels.now) drawing.now.placed.now)
+        body.now.start body.now.bytes.now (body.now.before + 1) pieces (lines_from body.now.start body.now.bytes.now)) page.old page.new) }
     ensures stays { leaves_plain H.is_blank highlighter.new ≡ leaves_plain H.is_blank highlighter.old }
+    ensures at { OnOk result (IsAt drawing.now.placed.now (body.now.start + length body.now.bytes.now) sweep.new.next sweep.new.running.items) }
 {
-    for (i, swept) in lines.iter().enumerate() {
-        let Some(number) = first.checked_add(i) else {
+    let mut one = Vec::new(drawing.alloc);
+    let mut before = body.before;
+    let mut at: usize = 0;
+    while at < body.bytes.len() {
+        let Some(number) = before.checked_add(1) else {
             return Err(AllocError);
         };
-        let sheet = Sheet {
-            theme: frame.theme,
-            options: frame.options,
-            number_width: frame.number_width,
-            gutter,
-            line: swept.line,
-            labels,
-            multi: &swept.on.multi,
+        let line = line_at(body.bytes, body.start, at);
+        let bounds = Bounds {
+            start: line.start,
+            after: line.end,
         };
-        let text = &bytes[swept.line.start - start..swept.line.text_end - start];
-        let pieces = pieces_of(alloc, highlighter, text)?;
-        push_line_rows(alloc, page, &sheet, number, text, &swept.on.one, &pieces)?;
+        one.clear();
+        sweep.enter(drawing.placed, &bounds, &mut one)?;
+        let sheet = Sheet {
+            theme: body.frame.theme,
+            options: body.frame.options,
+            number_width: body.frame.number_width,
+            gutter: body.gutter,
+            line,
+            labels: drawing.labels,
+            multi: &sweep.running,
+        };
+        let text = &body.bytes[line.start - body.start..line.text_end - body.start];
+        let pieces = pieces_of(drawing.alloc, highlighter, text)?;
+        push_line_rows(drawing.alloc, page, &sheet, number, text, &one, &pieces)?;
+        sweep.leave(line.end);
+        before = number;
+        at = line.end - body.start;
     }
     Ok(())
 }
 
-// The rows of a snippet whose lines are known.
-fn push_swept<'a, H: Highlighter>(
-    alloc: Global,
+// The rows of a snippet, where the sweep has come to what its read lent.
+fn push_framed<'a, H: Highlighter>(
+    drawing: &Drawing<'a>,
     highlighter: &mut Option<H>,
     page: &mut Page,
-    theme: &'a GraphicalTheme,
-    options: &LayoutOptions,
-    labels: &'a [LabeledSpan],
+    sweep: &mut Sweep,
     lent: &MietteSpanContents<'_>,
     place: Option<(usize, usize)>,
-    lines: &'a [SweptLine],
 ) -> Result<(), AllocError>
-    requires inside { All (LiesIn lent.now.span.offset (length lent.now.bytes)) lines.now }
+    requires sorted { AreSorted drawing.now.placed.now }
+    requires at { IsAt drawing.now.placed.now lent.now.span.offset sweep.old.next sweep.old.running.items }
     requires small { lent.now.span.offset + length lent.now.bytes < 2 ^ 64 }
-    ensures rows { OnOk result (PutsRows (leaves_plain H.is_blank highlighter.old) (texts_in lent.now.span.offset lent.now.bytes (places_of lines.now))
-        (swept_snippet (settings_of theme.now options.now) labels.now lent.now (option_map place_at place) lines.now) page.old page.new) }
+    ensures rows { OnOk result (PutsRows (leaves_plain H.is_blank highlighter.old) (texts_in lent.now.span.offset lent.now.bytes (lines_of_contents lent.now))
+        (lent_snippet (settings_of drawing.now.theme.now drawing.now.options) (map (drawn_of drawing.now.labels.now) drawing.now.placed.now) lent.now (option_map place_at place)) page.old page.new) }
     ensures stays { leaves_plain H.is_blank highlighter.new ≡ leaves_plain H.is_blank highlighter.old }
+    ensures at { OnOk result (IsAt drawing.now.placed.now (lent.now.span.offset + length lent.now.bytes) sweep.new.next sweep.new.running.items) }
 {
+    let start = lent.span().offset();
+    let bytes = lent.data();
+    let before = lent.line();
+    let extent = extent_of(drawing.alloc, bytes, start, drawing.placed, sweep)?;
     let frame = Frame {
-        theme,
-        options: *options,
-        number_width: number_width(lent.line(), lines.len())?,
+        theme: drawing.theme,
+        options: drawing.options,
+        number_width: number_width(before, extent.lines)?,
     };
-    let gutter = gutter_width(most_on_a_line(lines))?;
-    let Some(first) = lent.line().checked_add(1) else {
-        return Err(AllocError);
+    let body = Body {
+        frame,
+        gutter: gutter_width(extent.most)?,
+        before,
+        start,
+        bytes,
     };
-    push_top_row(page, &frame, lent.name(), lines.len() > 1, place)?;
-    push_lines(
-        alloc,
-        highlighter,
-        page,
-        &frame,
-        gutter,
-        labels,
-        lent.span().offset(),
-        lent.data(),
-        first,
-        lines,
-    )?;
+    push_top_row(page, &frame, lent.name(), extent.lines > 1, place)?;
+    push_lines(drawing, &body, highlighter, page, sweep)?;
     push_bottom_row(page, &frame)?;
     Ok(())
 }
 
 /// The rows of a snippet from what its read lent: its frame, which points to this line and column, and its lines, in the pieces of the
-/// highlighter, which is restarted. The sweep over the labels comes from an offset to the one where the lent bytes end, which is handed
-/// back. `AllocError` where memory is refused, to the highlighter too, or an offset, a line's number or a column is past the largest
-/// `usize`.
+/// highlighter, which is restarted. The sweep over the labels comes to where the lent bytes end. `AllocError` where memory is refused, to
+/// the highlighter too, or an offset, a line's number or a column is past the largest `usize`.
 pub fn push_snippet<'a, H: Highlighter>(
-    alloc: Global,
+    drawing: &Drawing<'a>,
     highlighter: &mut Option<H>,
     page: &mut Page,
-    theme: &'a GraphicalTheme,
-    options: &LayoutOptions,
-    labels: &'a [LabeledSpan],
-    placed: &[Placed],
+    passage: &mut Passage,
     lent: &MietteSpanContents<'_>,
     place: Option<(usize, usize)>,
-    at: usize,
-    sweep: &mut Sweep,
-) -> Result<usize, AllocError>
-    requires sorted { AreSorted placed.now }
-    requires at { IsAt placed.now at sweep.old.next sweep.old.running.items }
+) -> Result<(), AllocError>
+    requires sorted { AreSorted drawing.now.placed.now }
+    requires at { IsAt drawing.now.placed.now passage.old.at passage.old.sweep.next passage.old.sweep.running.items }
     ensures rows { OnOk result (PutsRows (leaves_plain H.is_blank highlighter.old) (texts_in lent.now.span.offset lent.now.bytes (lines_of_contents lent.now))
-        (lent_snippet (settings_of theme.now options.now) (map (drawn_of labels.now) placed.now) lent.now (option_map place_at place)) page.old page.new) }
+        (lent_snippet (settings_of drawing.now.theme.now drawing.now.options) (map (drawn_of drawing.now.labels.now) drawing.now.placed.now) lent.now (option_map place_at place)) page.old page.new) }
     ensures stays { leaves_plain H.is_blank highlighter.new ≡ leaves_plain H.is_blank highlighter.old }
-    ensures at { IfOk result (λ end. IsAt placed.now end sweep.new.next sweep.new.running.items) }
+    ensures at { OnOk result (IsAt drawing.now.placed.now passage.new.at passage.new.sweep.next passage.new.sweep.running.items) }
 {
     let start = lent.span().offset();
-    seek(alloc, placed, at, start, sweep)?;
-    let lines = swept_lines(alloc, lent.data(), start, placed, sweep)?;
+    let Some(end) = start.checked_add(lent.data().len()) else {
+        return Err(AllocError);
+    };
+    seek(drawing.alloc, drawing.placed, start, passage)?;
     restart(highlighter, lent);
-    push_swept(
-        alloc,
-        highlighter,
-        page,
-        theme,
-        options,
-        labels,
-        lent,
-        place,
-        &lines,
-    )?;
-    match start.checked_add(lent.data().len()) {
-        Some(end) => Ok(end),
-        None => Err(AllocError),
-    }
+    push_framed(drawing, highlighter, page, &mut passage.sweep, lent, place)?;
+    passage.at = end;
+    Ok(())
 }

@@ -16,7 +16,7 @@ use crate::order::by_offset;
 use crate::page::Page;
 use crate::primary::{near, place_of};
 use crate::reading::{ReadLabel, ReadLabels, Refusal, read_labels, some_own};
-use crate::snippet::push_snippet;
+use crate::snippet::{Drawing, Passage, push_snippet};
 use crate::sweep::Sweep;
 use miette_protocol::error::RenderError;
 use miette_protocol::protocol::LabeledSpan;
@@ -55,30 +55,31 @@ fn read_snippets<'a, 'b, S: SourceCode, H: Highlighter>(
         return Ok(None);
     };
     let own = some_own(labels);
-    let mut page = Page::new(alloc);
-    let mut sweep = Sweep {
-        running: Vec::new(alloc),
-        next: 0,
+    let drawing = Drawing {
+        alloc,
+        theme,
+        options: *options,
+        labels,
+        placed: &placed,
     };
-    let mut at = 0;
+    let mut page = Page::new(alloc);
+    let mut passage = Passage {
+        sweep: Sweep::new(alloc),
+        at: 0,
+    };
     for group in &groups {
         let near = near(own, &group.span, reads)?;
         let place = place_of(source, own, &group.span, near)?;
         if place.is_unread() {
             return Ok(None);
         }
-        at = push_snippet(
-            alloc,
+        push_snippet(
+            &drawing,
             highlighter,
             &mut page,
-            theme,
-            options,
-            labels,
-            &placed,
+            &mut passage,
             &group.contents,
             place.begins(),
-            at,
-            &mut sweep,
         )?;
     }
     Ok(Some(page))

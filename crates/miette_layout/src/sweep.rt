@@ -1,8 +1,8 @@
 //! Which labels lie on a line, by one sweep over labels that come by offset.
 
-ghost use Rattle.std.specs.Prelude.{◌≡◌, ◌<◌, ◌≤◌, nat_lt, ℕ, List, length, take, OnOk, IfOk};
+ghost use Rattle.std.specs.Prelude.{◌≡◌, ◌<◌, ◌≤◌, nat_lt, ℕ, List, [], length, take, OnOk, IfOk};
 ghost use Rattle.std.specs.List.{filter};
-ghost use Rattle.miette_layout.specs.Sweeping.{label_of, passes, is_one, is_multi, IsAt, AreSorted, line_of_bounds};
+ghost use Rattle.miette_layout.specs.Sweeping.{label_of, passes, is_one, is_multi, IsAt, IsOn, AreSorted, line_of_bounds};
 
 use miette_text::style::Style;
 use std::alloc::{AllocError, Global};
@@ -60,17 +60,65 @@ fn goes_past(label: &Placed, place: usize) -> bool
     }
 }
 
-// The labels that go on past a place.
-fn carried(alloc: Global, running: &[Placed], place: usize) -> Result<Vec<Placed>, AllocError>
-    ensures { IfOk result (λ still. still.items ≡ filter (passes place) running.now) }
-{
-    let mut still = Vec::new(alloc);
-    for label in running {
-        if goes_past(label, place) {
-            still.push(*label)?;
+impl Sweep {
+    /// A sweep before the first label.
+    pub fn new(alloc: Global) -> Self
+        ensures next { result.next ≡ 0 }
+        ensures running { result.running.items ≡ [] }
+    {
+        Sweep {
+            running: Vec::new(alloc),
+            next: 0,
         }
     }
-    Ok(still)
+
+    /// A sweep at the same place. `AllocError` where memory is refused.
+    pub fn copied(&self, alloc: Global) -> Result<Sweep, AllocError>
+        ensures next { IfOk result (λ copy. copy.next ≡ self.now.next) }
+        ensures running { IfOk result (λ copy. copy.running.items ≡ self.now.running.items) }
+    {
+        Ok(Sweep {
+            running: copied(alloc, &self.running)?,
+            next: self.next,
+        })
+    }
+
+    /// Goes on to the labels of the next line: `running` are then those of several lines that lie on it, and `one` gets those that lie on
+    /// it alone. `AllocError` where memory is refused; where the sweep then is, is open.
+    pub fn enter(
+        &mut self,
+        labels: &[Placed],
+        line: &Bounds,
+        one: &mut Vec<Placed>,
+    ) -> Result<(), AllocError>
+        requires sorted { AreSorted labels.now }
+        requires some { line.now.start < line.now.after }
+        requires at { IsAt labels.now line.now.start self.old.next self.old.running.items }
+        requires none { one.old.items ≡ [] }
+        ensures one { OnOk result (one.new.items ≡ filter (is_one (line_of_bounds line.now)) labels.now) }
+        ensures on { OnOk result (IsOn labels.now (line_of_bounds line.now) self.new.next self.new.running.items) }
+    {
+        let mut next = self.next;
+        while next < labels.len() && labels[next].start < line.after {
+            let label = labels[next];
+            if goes_past(&label, line.after) {
+                self.running.push(label)?;
+            } else {
+                one.push(label)?;
+            }
+            next += 1;
+        }
+        self.next = next;
+        Ok(())
+    }
+
+    /// Goes on to the end of a line whose labels `running` are: those that go on past it are left.
+    pub fn leave(&mut self, after: usize)
+        ensures next { self.new.next ≡ self.old.next }
+        ensures running { self.new.running.items ≡ filter (passes after) self.old.running.items }
+    {
+        self.running.retain(|label| goes_past(label, after));
+    }
 }
 
 fn copied(alloc: Global, labels: &[Placed]) -> Result<Vec<Placed>, AllocError>
@@ -83,8 +131,8 @@ fn copied(alloc: Global, labels: &[Placed]) -> Result<Vec<Placed>, AllocError>
     Ok(copy)
 }
 
-/// Goes on to the end of the next line, and answers which labels lie on it. `AllocError` where memory is refused; the sweep is then as
-/// before.
+/// Goes on to the end of the next line, and answers which labels lie on it. `AllocError` where memory is refused; where the sweep then is,
+/// is open.
 pub fn advance(
     alloc: Global,
     labels: &[Placed],
@@ -99,20 +147,8 @@ pub fn advance(
     ensures at { OnOk result (IsAt labels.now line.now.after sweep.new.next sweep.new.running.items) }
 {
     let mut one = Vec::new(alloc);
-    let mut multi = copied(alloc, &sweep.running)?;
-    let mut still = carried(alloc, &sweep.running, line.after)?;
-    let mut next = sweep.next;
-    while next < labels.len() && labels[next].start < line.after {
-        let label = labels[next];
-        if goes_past(&label, line.after) {
-            multi.push(label)?;
-            still.push(label)?;
-        } else {
-            one.push(label)?;
-        }
-        next += 1;
-    }
-    sweep.running = still;
-    sweep.next = next;
+    sweep.enter(labels, line, &mut one)?;
+    let multi = copied(alloc, &sweep.running)?;
+    sweep.leave(line.after);
     Ok(OnLine { one, multi })
 }

@@ -1,40 +1,66 @@
-use Rattle.std.proofs.Common.{length, map, refl, sym, subst, ◌∙◌, Bool}
-use Rattle.miette_layout.specs.Given.{settings_of}
+use Rattle.std.proofs.Common.{ℕ, ◌≡◌, ◌+◌, ◌≤◌, arith, length, map, refl, sym, subst, ◌∙◌, Bool, List}
+use Rattle.miette_layout.specs.declared.sweep.Placed.{Placed}
+use Rattle.miette_layout.specs.Given.{settings_of, drawn_of}
 use Rattle.miette_layout.specs.Highlighted.{leaves_plain, decoded_text, ArePieces}
 use Rattle.miette_layout.specs.Lent.{text_in}
 use Rattle.miette_layout.specs.Sheets.{line_of_text}
-use Rattle.miette_layout.specs.Swept.{LiesIn}
+use Rattle.miette_layout.specs.Sweeping.{IsAt}
 use Rattle.miette_layout.specs.Walking.{highlight_of}
-use Rattle.miette_layout.proofs.Lending.{lines_first, lines_more, lines_all, item_lies, text_fits}
+use Rattle.miette_layout.proofs.Firsts.{state_more}
+use Rattle.miette_layout.proofs.Lending.{AreLined, lines_first, lines_more, lines_all, text_fits}
 use Rattle.miette_layout.proofs.snippet.push_lines.Goals as goal
 
-pub loop-i-init : goal.loop-i-init
-loop-i-init g c = record {
-  lined = lines_first (settings_of c.args.frame.now.theme.now c.args.frame.now.options) c.args.frame.now.number_width c.args.gutter c.args.labels.now c.args.start c.args.bytes.now c.args.first c.args.lines.now (leaves_plain g.H.Highlighter.is_blank c.args.highlighter.now) c.args.page.now;
-  stays = refl;
-}
+pub loop-at-init : goal.loop-at-init
+loop-at-init g c =
+    let body = c.args.body.now in
+    let e : c.args.body.now.start ≡ c.args.body.now.start + 0 = omega arith in record {
+      lined = lines_first (settings_of body.frame.theme.now body.frame.options) body.frame.number_width body.gutter (map (drawn_of c.args.drawing.now.labels.now) c.args.drawing.now.placed.now) body.start body.bytes.now (body.before + 1)
+          (leaves_plain g.H.Highlighter.is_blank c.args.highlighter.now) c.args.page.now;
+      inside = omega arith;
+      state = subst (λ (n : ℕ). IsAt c.args.drawing.now.placed.now n c.args.sweep.now.next c.args.sweep.now.running.items) e c.requires.at;
+      stays = refl;
+    }
 
 pub push_line_rows-requires : goal.push_line_rows-requires
 push_line_rows-requires g c =
-    let lies : LiesIn c.args.start (length c.args.bytes.now) c.index-lines-i.result = item_lies c.args.start (length c.args.bytes.now) c.args.lines.now c.loop-i.i c.index-lines-i.result c.requires.inside c.loop-i-test.true c.index-lines-i.is in
-    text_fits c.args.start (length c.args.bytes.now) c.args.bytes.now c.index-lines-i.result lies c.requires.small
+    let from : c.line_at-line.result.start ≡ c.args.body.now.start + c.loop-at.at = c.line_at-line.ensures.from in
+    text_fits c.args.body.now.start c.args.body.now.bytes.now c.line_at-line.result (omega (arith, from)) c.line_at-line.ensures.text c.line_at-line.ensures.ending c.line_at-line.ensures.to c.requires.small
 
-pub loop-i-preserved : goal.loop-i-preserved
-loop-i-preserved g c =
+pub loop-at-preserved : goal.loop-at-preserved
+loop-at-preserved g c =
+    let body = c.args.body.now in
+    let placed : List Placed = c.args.drawing.now.placed.now in
     let blank : Bool = leaves_plain g.H.Highlighter.is_blank c.args.highlighter.now in
-    let text = decoded_text (text_in c.args.start c.args.bytes.now (line_of_text c.index-lines-i.result.line)) in
+    let text = decoded_text (text_in c.args.body.now.start c.args.body.now.bytes.now (line_of_text c.line_at-line.result)) in
     let answered : ArePieces blank text (map highlight_of c.in_ok-pieces.pieces.items) =
-    subst (λ b. ArePieces b text (map highlight_of c.in_ok-pieces.pieces.items)) c.loop-i.invariant.stays c.in_ok-pieces.ensures.pieces in
-    let own : ArePieces blank text (map highlight_of c.deref-in-loop-i-2.result.now) =
-    subst (λ ps. ArePieces blank text (map highlight_of ps)) (sym c.deref-in-loop-i-2.ensures.value) answered in
+    subst (λ b. ArePieces b text (map highlight_of c.in_ok-pieces.pieces.items)) c.loop-at.invariant.stays c.in_ok-pieces.ensures.pieces in
+    let own : ArePieces blank text (map highlight_of c.deref-in-loop-at-2.result.now) =
+    subst (λ ps. ArePieces blank text (map highlight_of ps)) (sym c.deref-in-loop-at-2.ensures.value) answered in
+    let from : c.line_at-line.result.start ≡ c.args.body.now.start + c.loop-at.at = c.line_at-line.ensures.from in
+    let some = c.line_at-line.ensures.some in
+    let to : c.line_at-line.result.end ≤ c.args.body.now.start + length c.args.body.now.bytes.now = c.line_at-line.ensures.to in
+    let lined = subst (λ (n : ℕ). AreLined (settings_of body.frame.theme.now body.frame.options) body.frame.number_width body.gutter (map (drawn_of c.args.drawing.now.labels.now) placed) body.start body.bytes.now (body.before + 1) blank c.loop-at.at n c.args.page.now c.loop-at.page)
+    (sym c.in-Some.ensures.1) c.loop-at.invariant.lined in
     record {
-      lined = lines_more (settings_of c.args.frame.now.theme.now c.args.frame.now.options) c.args.frame.now.number_width c.args.gutter c.args.labels.now c.args.start c.args.bytes.now c.args.first c.args.lines.now blank c.loop-i.i c.in-Some.number c.index-lines-i.result
-          c.deref-in-loop-i.result.now c.deref.result.now (map highlight_of c.deref-in-loop-i-2.result.now)
-          c.args.page.now c.loop-i.page c.push_line_rows.new.page c.loop-i.invariant.lined c.loop-i-test.true c.index-lines-i.is c.in-Some.ensures.1 c.deref-in-loop-i.ensures.value c.deref.ensures.value own c.in_ok-push_line_rows.ensures;
-      stays = c.pieces_of.ensures.stays ∙ c.loop-i.invariant.stays;
+      lined = lines_more (settings_of body.frame.theme.now body.frame.options) body.frame.number_width body.gutter c.args.drawing.now.labels.now placed body.start body.bytes.now (body.before + 1) blank c.loop-at.at c.in-Some.number c.line_at-line.result
+          c.deref-in-loop-at.result.now c.deref.result.now (map highlight_of c.deref-in-loop-at-2.result.now)
+          c.args.page.now c.loop-at.page c.push_line_rows.new.page lined c.line_at-line.ensures.parted (omega (arith, from, some))
+          (c.deref-in-loop-at.ensures.value ∙ c.in_ok-enter.ensures.one) (c.deref.ensures.value ∙ c.in_ok-enter.ensures.on.multi) own c.in_ok-push_line_rows.ensures;
+      inside = omega (arith, to);
+      state = state_more placed c.args.body.now.start c.loop-at.at c.line_at-line.result c.enter.new.self.next c.leave.new.self.next c.enter.new.self.running.items c.leave.new.self.running.items
+          c.requires.sorted c.line_at-line.ensures.from c.line_at-line.ensures.some c.in_ok-enter.ensures.on c.leave.ensures.next c.leave.ensures.running;
+      stays = c.pieces_of.ensures.stays ∙ c.loop-at.invariant.stays;
     }
 
 pub returns-clause-rows : goal.returns-clause-rows
 returns-clause-rows g c =
-    lines_all (settings_of c.args.frame.now.theme.now c.args.frame.now.options) c.args.frame.now.number_width c.args.gutter c.args.labels.now c.args.start c.args.bytes.now c.args.first c.args.lines.now (leaves_plain g.H.Highlighter.is_blank c.args.highlighter.now) c.loop-i.i
-    c.args.page.now c.loop-i.page c.loop-i.invariant.lined c.loop-i-test.false
+    let body = c.args.body.now in
+    lines_all (settings_of body.frame.theme.now body.frame.options) body.frame.number_width body.gutter (map (drawn_of c.args.drawing.now.labels.now) c.args.drawing.now.placed.now) body.start body.bytes.now (body.before + 1)
+    (leaves_plain g.H.Highlighter.is_blank c.args.highlighter.now) c.loop-at.at (c.loop-at.before + 1) c.args.page.now c.loop-at.page c.loop-at.invariant.lined c.loop-at-test.false
+
+pub returns-clause-at : goal.returns-clause-at
+returns-clause-at g c =
+    let inside : c.loop-at.at ≤ length c.args.body.now.bytes.now = c.loop-at.invariant.inside in
+    let over : length c.args.body.now.bytes.now ≤ c.loop-at.at = c.loop-at-test.false in
+    let e : c.args.body.now.start + c.loop-at.at ≡ c.args.body.now.start + length c.args.body.now.bytes.now = omega (arith, inside, over) in
+    subst (λ (n : ℕ). IsAt c.args.drawing.now.placed.now n c.loop-at.sweep.next c.loop-at.sweep.running.items) e c.loop-at.invariant.state

@@ -1,11 +1,18 @@
-use Rattle.std.proofs.Common.{◌≡◌}
-use Rattle.miette_layout.specs.Given.{settings_of}
+use Rattle.std.proofs.Common.{◌≡◌, ◌+◌, ◌-◌, ◌≤◌, length, map}
+use Rattle.miette_layout.specs.Given.{settings_of, drawn_of}
 use Rattle.miette_layout.specs.Highlighted.{leaves_plain}
+use Rattle.miette_layout.specs.Sweeping.{IsAt}
 use Rattle.miette_layout.proofs.Lending.{AreLined}
 use Rattle.miette_layout.proofs.snippet.push_lines.Given as goal
 
-abbrev pub invariant-loop-i : goal.invariant-loop-i
-invariant-loop-i g l = record {
-  lined : AreLined (settings_of l.frame.theme.now l.frame.options) l.frame.number_width l.gutter l.labels l.start l.bytes l.first l.lines (leaves_plain g.H.Highlighter.is_blank l.initial.highlighter) l.i l.initial.page l.page;
+abbrev pub invariant-loop-at : goal.invariant-loop-at
+invariant-loop-at g l = record {
+  lined : AreLined (settings_of l.body.frame.theme.now l.body.frame.options) l.body.frame.number_width l.body.gutter (map (drawn_of l.drawing.labels.now) l.drawing.placed.now) l.body.start l.body.bytes.now (l.body.before + 1)
+      (leaves_plain g.H.Highlighter.is_blank l.initial.highlighter) l.at (l.before + 1) l.initial.page l.page;
+  inside : l.at ≤ length l.body.bytes.now;
+  state : IsAt l.drawing.placed.now (l.body.start + l.at) l.sweep.next l.sweep.running.items;
   stays : leaves_plain g.H.Highlighter.is_blank l.highlighter ≡ leaves_plain g.H.Highlighter.is_blank l.initial.highlighter;
 }
+
+abbrev pub decreases-loop-at : goal.decreases-loop-at
+decreases-loop-at g l = length l.body.bytes.now - l.at

@@ -1,17 +1,25 @@
-use Rattle.std.proofs.Common.{ap, ◌∙◌, subst}
+use Rattle.std.proofs.Common.{ℕ, ◌≡◌, ◌+◌, ap, ◌∙◌, sym, subst, length, map}
 use Rattle.std.specs.Option.{option_map}
 use Rattle.miette_layout.specs.Framed.{place_at}
-use Rattle.miette_layout.specs.Given.{settings_of}
-use Rattle.miette_layout.specs.Highlighted.{leaves_plain}
-use Rattle.miette_layout.specs.Lent.{PutsRows, places_of, texts_in, swept_snippet}
-use Rattle.miette_layout.proofs.Lending.{snippet_told}
+use Rattle.miette_layout.specs.Given.{settings_of, drawn_of}
+use Rattle.miette_layout.specs.Lent.{PutsRows, lent_snippet}
+use Rattle.miette_layout.specs.Sweeping.{IsAt}
+use Rattle.miette_layout.proofs.Lending.{lent_texts}
 use Rattle.miette_layout.proofs.snippet.push_snippet.Goals as goal
 
-pub returns-in-Some-clause-rows : goal.returns-in-Some-clause-rows
-returns-in-Some-clause-rows g c =
-    let s = settings_of c.args.theme.now c.args.options.now in
+pub push_framed-requires-clause-at : goal.push_framed-requires-clause-at
+push_framed-requires-clause-at g c =
+    subst (λ (n : ℕ). IsAt c.args.drawing.now.placed.now n c.seek.new.passage.sweep.next c.seek.new.passage.sweep.running.items) (c.offset-start.ensures ∙ ap (λ s. s.offset) c.span.ensures) c.in_ok-seek.ensures
+
+pub returns-clause-rows : goal.returns-clause-rows
+returns-clause-rows g c =
     let lent = c.args.lent.now in
-    snippet_told s c.args.labels.now c.args.placed.now lent (option_map place_at c.args.place) c.in_ok-lines.lines.items (leaves_plain g.H.Highlighter.is_blank c.args.highlighter.now) c.offset-start.result c.data.result.now c.args.page.now c.push_swept.new.page
-    c.in_ok-lines.ensures.labels c.in_ok-lines.ensures.lines (c.offset-start.ensures ∙ ap (λ s. s.offset) c.span.ensures) c.data.ensures
-    (subst (λ b. PutsRows b (texts_in lent.span.offset lent.bytes (places_of c.in_ok-lines.lines.items)) (swept_snippet s c.args.labels.now lent (option_map place_at c.args.place) c.in_ok-lines.lines.items) c.args.page.now c.push_swept.new.page) c.restart.ensures
-    (subst (λ ls. PutsRows (leaves_plain g.H.Highlighter.is_blank c.restart.new.highlighter) (texts_in lent.span.offset lent.bytes (places_of ls)) (swept_snippet s c.args.labels.now lent (option_map place_at c.args.place) ls) c.args.page.now c.push_swept.new.page) c.deref.ensures.value c.in_ok-push_swept.ensures.rows))
+    let drawing = c.args.drawing.now in
+    subst (λ b. PutsRows b (lent_texts lent) (lent_snippet (settings_of drawing.theme.now drawing.options) (map (drawn_of drawing.labels.now) drawing.placed.now) lent (option_map place_at c.args.place)) c.args.page.now c.push_framed.new.page)
+    c.restart.ensures c.in_ok-push_framed.ensures.rows
+
+pub returns-clause-at : goal.returns-clause-at
+returns-clause-at g c =
+    let e : c.args.lent.now.span.offset + length c.args.lent.now.bytes ≡ c.in-Some.end =
+    sym (c.in-Some.ensures.1 ∙ ap (λ n. n + length c.data.result.now) (c.offset-start.ensures ∙ ap (λ s. s.offset) c.span.ensures) ∙ ap (λ b. c.args.lent.now.span.offset + length b) c.data.ensures) in
+    subst (λ (n : ℕ). IsAt c.args.drawing.now.placed.now n c.push_framed.new.sweep.next c.push_framed.new.sweep.running.items) e c.in_ok-push_framed.ensures.at

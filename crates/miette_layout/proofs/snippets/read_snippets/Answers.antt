@@ -12,7 +12,7 @@ use Rattle.miette_layout.specs.Lent.{PutsRows, lent_snippet}
 use Rattle.miette_layout.specs.Placing.{placed_from}
 use Rattle.miette_layout.specs.Primary.{PointsTo}
 use Rattle.miette_layout.specs.Read.{AreGroups}
-use Rattle.miette_layout.specs.Sweeping.{AreSorted, IsAt}
+use Rattle.miette_layout.specs.Sweeping.{AreSorted}
 use Rattle.miette_layout.proofs.Lending.{placed_sorted, lent_texts}
 use Rattle.miette_layout.proofs.Nearing.{reads_rise}
 use Rattle.miette_layout.proofs.Progressing.{none_drawn, drawn_more, all_drawn, gives_rows, gives_none, drawn_is, place_ordered, groups_lent, puts_around, are_grouped, none_grouped, gives_unread}
@@ -35,7 +35,7 @@ returns-in_default-clause-gives g c =
 
 pub push_snippet-requires-clause-sorted : goal.push_snippet-requires-clause-sorted
 push_snippet-requires-clause-sorted g c =
-    subst (λ (ps : List Placed). AreSorted ps) (sym (c.deref-in-loop-group.ensures.value ∙ c.in_ok-placed.ensures))
+    subst (λ (ps : List Placed). AreSorted ps) (sym (c.deref-2.ensures.value ∙ c.in_ok-placed.ensures))
     (placed_sorted c.deref.result.now c.args.options.now.context_lines (g.S.SourceCode.source c.args.source.now) c.args.labels.now c.args.reads.now c.requires.each c.requires.order)
 
 pub loop-group-init : goal.loop-group-init
@@ -50,21 +50,21 @@ loop-group-preserved g c =
     let grouped : AreGroups c.args.options.now.context_lines (g.S.SourceCode.source c.args.source.now) (in_order c.args.labels.now) c.deref-group-items.result.now =
     are_grouped c.args.options.now.context_lines (g.S.SourceCode.source c.args.source.now) (in_order c.args.labels.now) _ c.in-Some.groups.items c.deref-group-items.result.now c.in_ok-groups.ensures (ap (option_map (λ v. v.items)) c.in-Some.is) c.deref-group-items.ensures.value in
     let blank = leaves_plain g.H.Highlighter.is_blank c.args.highlighter.now in
-    let rows = subst (λ b. PutsRows b (lent_texts c.group-item.result.contents) (lent_snippet (settings_of c.args.theme.now c.args.options.now) (map (drawn_of c.args.labels.now) c.deref-in-loop-group.result.now) c.group-item.result.contents (option_map place_at c.begins.result)) c.loop-group.page c.push_snippet.new.page)
-    c.loop-group.invariant.stays c.in_ok-at.ensures.rows in
+    let rows = subst (λ b. PutsRows b (lent_texts c.group-item.result.contents) (lent_snippet (settings_of c.args.theme.now c.args.options.now) (map (drawn_of c.args.labels.now) c.deref-2.result.now) c.group-item.result.contents (option_map place_at c.begins.result)) c.loop-group.page c.push_snippet.new.page)
+    c.loop-group.invariant.stays c.in_ok-push_snippet.ensures.rows in
     let around = puts_around (settings_of c.args.theme.now c.args.options.now) (group_context c.args.options.now.context_lines (in_order c.args.labels.now)) blank (lent_texts c.group-item.result.contents)
-    (map (drawn_of c.args.labels.now) c.deref-in-loop-group.result.now) c.group-item.result.contents (option_map place_at c.begins.result) c.loop-group.page c.push_snippet.new.page rows in
+    (map (drawn_of c.args.labels.now) c.deref-2.result.now) c.group-item.result.contents (option_map place_at c.begins.result) c.loop-group.page c.push_snippet.new.page rows in
     record {
       drawn = drawn_more (settings_around (settings_of c.args.theme.now c.args.options.now) (in_order c.args.labels.now)) (g.S.SourceCode.source c.args.source.now) c.args.labels.now blank c.deref-group-items.result.now c.loop-group.group-index c.group-item.result c.loop-group.page c.push_snippet.new.page
-          (map (drawn_of c.args.labels.now) c.deref-in-loop-group.result.now) (option_map place_at c.begins.result)
+          (map (drawn_of c.args.labels.now) c.deref-2.result.now) (option_map place_at c.begins.result)
           c.loop-group.invariant.drawn c.loop-group-test.true c.group-item.is (groups_lent c.args.options.now.context_lines (g.S.SourceCode.source c.args.source.now) (in_order c.args.labels.now) c.deref-group-items.result.now c.loop-group.group-index c.group-item.result grouped c.loop-group-test.true c.group-item.is)
-          (drawn_is c.args.theme.now.styles.highlights.items c.args.options.now.context_lines (g.S.SourceCode.source c.args.source.now) c.args.labels.now c.args.reads.now c.deref-in-loop-group.result.now c.requires.order c.requires.each
-          (c.deref-in-loop-group.ensures.value ∙ c.in_ok-placed.ensures ∙ ap (λ styles. placed_from styles c.args.labels.now 0 c.args.reads.now) c.deref.ensures.value))
+          (drawn_is c.args.theme.now.styles.highlights.items c.args.options.now.context_lines (g.S.SourceCode.source c.args.source.now) c.args.labels.now c.args.reads.now c.deref-2.result.now c.requires.order c.requires.each
+          (c.deref-2.ensures.value ∙ c.in_ok-placed.ensures ∙ ap (λ styles. placed_from styles c.args.labels.now 0 c.args.reads.now) c.deref.ensures.value))
           (ap (option_map place_at) c.begins.ensures ∙ place_ordered c.args.options.now.context_lines (g.S.SourceCode.source c.args.source.now) c.args.labels.now c.some_own-own.result c.group-item.result.span c.args.reads.now c.in_ok-place.place c.some_own-own.ensures c.requires.order c.requires.each (subst (λ (o : Option Span). PointsTo (g.S.SourceCode.source c.args.source.now) o c.in_ok-place.place) c.in_ok-near.ensures c.in_ok-place.ensures)
           (sym c.is_unread.ensures ∙ c.if-is_unread.false))
           around;
       stays = c.push_snippet.ensures.stays ∙ c.loop-group.invariant.stays;
-      state = subst (λ (ps : List Placed). IsAt ps c.in_ok-at.at c.push_snippet.new.sweep.next c.push_snippet.new.sweep.running.items) c.deref-in-loop-group.ensures.value c.in_ok-at.ensures.at;
+      state = c.in_ok-push_snippet.ensures.at;
     }
 
 pub returns-clause-gives : goal.returns-clause-gives
