@@ -1,12 +1,13 @@
-//! Pages of rows, printed.
+//! Pages of rows as runs, and runs printed.
 
-ghost use Rattle.std.specs.Prelude.{◌≡◌, ◌++◌, OnOk};
+ghost use Rattle.std.specs.Prelude.{◌≡◌, ◌++◌, OnErr, OnOk, encode_utf8_all, string_bytes};
 ghost use Rattle.miette_text.specs.Sequences.{spell};
 ghost use Rattle.miette_handlers.specs.Printing.{page_text, part_text};
 
 use miette_layout::page::{Page, Part};
 use miette_text::runs::Runs;
-use std::alloc::AllocError;
+use miette_text::runs::reading::print;
+use std::alloc::{AllocError, Global};
 
 // One part of a page.
 fn push_part(part: Part<'_>, out: &mut Runs) -> Result<(), AllocError>
@@ -28,4 +29,26 @@ pub fn push_page(page: &Page, out: &mut Runs) -> Result<(), AllocError>
         push_part(part, out)?;
     }
     Ok(())
+}
+
+// Appends a text, which takes the place of an empty one. An `Err` leaves the text before it as it was.
+fn append(text: String, out: &mut String) -> Result<(), AllocError>
+    ensures ok { OnOk result (string_bytes out.new ≡ string_bytes out.old ++ string_bytes text) }
+    ensures err { OnErr result (string_bytes out.new ≡ string_bytes out.old) }
+{
+    if out.is_empty() {
+        *out = text;
+        return Ok(());
+    }
+    out.push_str(text.as_str())
+}
+
+/// Appends what runs print; they are let go before. An `Err` leaves the text as it was.
+pub fn append_printed(alloc: Global, runs: Runs, out: &mut String) -> Result<(), AllocError>
+    ensures ok { OnOk result (string_bytes out.new ≡ string_bytes out.old ++ encode_utf8_all (spell runs)) }
+    ensures err { OnErr result (string_bytes out.new ≡ string_bytes out.old) }
+{
+    let text = print(alloc, &runs)?;
+    drop(runs);
+    append(text, out)
 }

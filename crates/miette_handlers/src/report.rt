@@ -26,7 +26,7 @@ use crate::indents::{Branch, narrowed, push_footer, push_help, push_message, pus
 use crate::json_report::cause_texts;
 use crate::laws::erasing_law;
 use crate::pen::Pen;
-use crate::printing::push_page;
+use crate::printing::{append_printed, push_page};
 use crate::settings::{Layout, severity_style};
 use miette_layout::options::LayoutOptions;
 use miette_layout::snippets::snippets;
@@ -35,7 +35,7 @@ use miette_protocol::protocol::{Diagnostic, LabeledSpan, Severity};
 use miette_protocol::source::SourceCode;
 use miette_text::highlight::Highlighter;
 use miette_text::runs::Runs;
-use miette_text::runs::reading::{print, read_text};
+use miette_text::runs::reading::read_text;
 use miette_text::wrap::cutting::{without_leading, without_trailing};
 use miette_tree::report::{Cause, Report, SourceRef};
 use std::alloc::{AllocError, Global};
@@ -462,7 +462,6 @@ pub fn render<D: Diagnostic, S: SourceCode, H: Highlighter>(
 {
     erasing_law();
     let runs = report_runs(pen, layout, report)?;
-    let text = print(pen.alloc, &runs)?;
-    out.push_str(text.as_str())?;
+    append_printed(pen.alloc, runs, out)?;
     Ok(())
 }

@@ -16,8 +16,7 @@ returns-clause-only g c = λ b h.
     let value = tree_of g.D.Diagnostic.meaning g.S.SourceCode.source c.args.report.now in
     let answered = subst (λ k. IsReport drawn_rows s k value (spell c.in_ok-runs.runs)) b c.in_ok-runs.ensures.ok in
     let only : (spell c.in_ok-runs.runs) ≡ report_text drawn_rows s value unlisted = answered.2 ∙ same-report drawn_rows s value answered.0 answered.1 h in
-    c.in_ok-push_str.ensures.bytes
-    ∙ ap (λ t. string_bytes c.args.out.now ++ t) (c.as_str.ensures.value ∙ c.in_ok-text.ensures ∙ ap encode_utf8_all only)
+    c.in_ok-append_printed.ensures.ok ∙ ap (λ t. string_bytes c.args.out.now ++ encode_utf8_all t) only
 
 pub returns-clause-colours : goal.returns-clause-colours
 returns-clause-colours g c = λ settings tree.
@@ -27,7 +26,7 @@ returns-clause-colours g c = λ settings tree.
     let bytes = encode_utf8_all (spell c.in_ok-runs.runs) in record {
       text = bytes;
       is_given = c.erasing_law.ensures.text s blank value bytes settings tree ((spell c.in_ok-runs.runs), c.in_ok-runs.ensures.ok, refl);
-      appended = c.in_ok-push_str.ensures.bytes ∙ ap (λ t. string_bytes c.args.out.now ++ t) (c.as_str.ensures.value ∙ c.in_ok-text.ensures);
+      appended = c.in_ok-append_printed.ensures.ok;
     }
 
 pub returns-clause-colourless : goal.returns-clause-colourless
@@ -37,6 +36,6 @@ returns-clause-colourless g c = λ reads settings tree.
     let value = tree_of g.D.Diagnostic.meaning g.S.SourceCode.source c.args.report.now in
     let bytes = encode_utf8_all (spell c.in_ok-runs.runs) in (
       bytes,
-      c.in_ok-push_str.ensures.bytes ∙ ap (λ t. string_bytes c.args.out.now ++ t) (c.as_str.ensures.value ∙ c.in_ok-text.ensures),
+      c.in_ok-append_printed.ensures.ok,
       c.erasing_law.ensures.only s blank value bytes settings tree ((spell c.in_ok-runs.runs), c.in_ok-runs.ensures.ok, refl) reads,
     )
