@@ -23,7 +23,6 @@ pub type Result<T, E = Report> = std::result::Result<T, E>;
 /// labels speak of, its cause, and the reports that are related to it.
 ///
 /// Users write `Report`; the parameters are the boxes in which diagnostics and sources are given.
-#[derive(Drop)]
 pub struct Report<D = Box<dyn Diagnostic>, S = Box<dyn SourceCode>> {
     front: Option<String>,
     innermost: Innermost<D>,
@@ -37,6 +36,35 @@ enum KeptCause<R> {
     None,
     Diagnostic(Box<R>),
     Texts(CauseTexts),
+}
+
+/// A loop over the causes, so that a long chain takes no more of the stack than a short one. Related reports that have
+/// related reports are let go by calls in one another.
+impl<D: Drop, S: Drop> Drop for Report<D, S> {
+    #[cycle(reports)]
+    fn drop(mut self) {
+        loop {
+            let Report {
+                front: _,
+                innermost: _,
+                source: _,
+                cause,
+                related,
+            } = self;
+            let_go(related);
+            match cause {
+                KeptCause::Diagnostic(next) => self = Box::into_inner(next),
+                KeptCause::Texts(_) => return,
+                KeptCause::None => return,
+            }
+        }
+    }
+}
+
+// Lets related reports go.
+#[cycle(reports)]
+fn let_go<D: Drop, S: Drop>(related: Option<Vec<Report<D, S>>>) {
+    drop(related);
 }
 
 /// The cause of a report.
@@ -151,14 +179,14 @@ impl<D: Diagnostic, S: SourceCode> Report<D, S> {
         ensures tree { tree_of D.meaning S.source result ≡ with_cause (texts (map string_bytes list.items)) (tree_of D.meaning S.source self) }
         ensures kind { kind_of result ≡ kind_of self }
     {
-        Report {
-            cause: KeptCause::Texts(CauseTexts::new(list)),
-            ..self
-        }
+        let mut report = self;
+        report.cause = KeptCause::Texts(CauseTexts::new(list));
+        report
     }
 
     /// With this report as its cause, in place of the cause that it had. Where memory is refused, both
-    /// come back as they were: first the one, then its cause.
+    /// come back as they were: first the one, then its cause. A chain of causes may be of any length: it is let go by a
+    /// loop.
     pub fn with_diagnostic_cause(
         self,
         alloc: Global,
@@ -168,24 +196,25 @@ impl<D: Diagnostic, S: SourceCode> Report<D, S> {
         ensures kind { IfOk result (λ r. kind_of r ≡ kind_of self) }
         ensures err { IfErr result (λ both. both ≡ (self, cause)) }
     {
+        let mut report = self;
         match Box::new(alloc, cause) {
-            Ok(boxed) => Ok(Report {
-                cause: KeptCause::Diagnostic(boxed),
-                ..self
-            }),
-            Err(refused) => Err((self, refused.value)),
+            Ok(boxed) => {
+                report.cause = KeptCause::Diagnostic(boxed);
+                Ok(report)
+            }
+            Err(refused) => Err((report, refused.value)),
         }
     }
 
-    /// With these related reports in place of those that it had. Takes no memory.
+    /// With these related reports in place of those that it had. Takes no memory. The list may be of any length; where
+    /// related reports have related reports, each level takes some of the stack when they are let go.
     pub fn with_related(self, list: Vec<Report<D, S>>) -> Report<D, S>
         ensures tree { tree_of D.meaning S.source result ≡ with_related (trees (map (tree_of D.meaning S.source) list.items)) (tree_of D.meaning S.source self) }
         ensures kind { kind_of result ≡ kind_of self }
     {
-        Report {
-            related: Some(list),
-            ..self
-        }
+        let mut report = self;
+        report.related = Some(list);
+        report
     }
 
     /// With a message in front: the chain that it had becomes its causes, as texts, and all else stays.
@@ -213,10 +242,10 @@ impl<D: Diagnostic, S: SourceCode> Report<D, S> {
     {
         let mut report = self;
         match report.chain_becomes_causes(alloc) {
-            Ok(()) => Ok(Report {
-                front: Some(front),
-                ..report
-            }),
+            Ok(()) => {
+                report.front = Some(front);
+                Ok(report)
+            }
             Err(_) => Err(report),
         }
     }
