@@ -59,7 +59,6 @@ CHARACTERS = {
     "emoji": "👩‍👩‍👧".encode(),
     "FF": b"\xff",
 }
-LABELS = 4000
 WORDS = "alpha beta-gamma delta "
 
 
@@ -127,12 +126,12 @@ def crossing(size):
     return labelled("ab\n" * 10 * size, ((3 * i, 27 * size) for i in range(size)), "x")
 
 
-def label_on_characters(unit):
-    """A line of so many characters, with labels all along it."""
+def labels_on(unit):
+    """So many labels on a line of ten times so many characters."""
 
     def make(size):
-        step = size // LABELS * len(unit)
-        return labelled((unit * size).decode(), ((step * i, len(unit)) for i in range(LABELS)))
+        spans = ((10 * len(unit) * i, len(unit)) for i in range(size))
+        return labelled((unit * 10 * size).decode(), spans)
 
     return make
 
@@ -191,7 +190,6 @@ COUNTS = doubled(10_000, 1_000_000)
 LENGTHS = doubled(25_000, 1_600_000)
 DEPTH_LENGTHS = doubled(12_500, 100_000)
 SQUARES = doubled(1_000, 8_000)
-DRAWN = (PLAIN, COLOUR)
 TOLD = (PLAIN, NARRATED)
 ONE = (1,)
 
@@ -243,9 +241,10 @@ def long_lines():
     for kind, unit in CHARACTERS.items():
         yield Family(f"line of {kind}", repeated(unit), COUNTS, (80_000,), (DRAW, LINT))
         if kind != "FF":
-            name = f"{LABELS} labels on {kind}"
-            yield Family(name, label_on_characters(unit), COUNTS, (10_000,), TOLD)
-    yield Family("100 MB of FF", repeated(b"\xff"), (100_000_000,), (), (DRAW, LINT))
+            sizes = doubled(1_000, 64_000)
+            yield Family(f"labels on {kind}", labels_on(unit), sizes, (4_000,), TOLD)
+    sizes = (10_000_000, 100_000_000)
+    yield Family("up to 100 MB of FF", repeated(b"\xff"), sizes, sizes[:1], (DRAW, LINT))
 
 
 FAMILIES = [*small(), *lists(), *pictures(), *long_texts(), *long_lines()]

@@ -6,12 +6,13 @@ size, as a table; `--only WORD` keeps the inputs, or inputs by a handler, whose 
 which may be a regular expression.
 
 Each run has a stack of 1,024 KB (`--stack KB`) and an address space of ten times its text, which is
-what it reads and writes, and 64 MB more. It fails where it ends by a signal or with another status
-than the expected one, and where its peak memory is above eight times its text and 4 MB more. It
-also fails where its time or memory grows by more than 2.2 times from a size to its double, or,
-where by rule a picture grows with the square of the size, by more than 2.2 times what its text
-grows by. Time is instructions, which `perf` counts where it can, or valgrind where `--valgrind`
-asks for it; under `--all` it is otherwise the processor's seconds, where there are enough of them.
+what it reads and writes, and 64 MB more, and 20 seconds of the processor, under `--all` 60. It
+fails where it ends by a signal or with another status than the expected one, and where its peak
+memory is above eight times its text and 4 MB more. It also fails where its time or memory grows by
+more than 2.2 times from a size to its double, or, where by rule a picture grows with the square of
+the size, by more than 2.2 times what its text grows by. Time is instructions, which `perf` counts
+where it can, or valgrind where `--valgrind` asks for it; under `--all` it is otherwise the
+processor's seconds, where there are enough of them.
 
 `--least-stack` finds the least stack on which the deepest descriptions run. The programs are
 `crates/NAME/out/NAME`, as the gate leaves them. The last line is 'N passed, M failed', and the exit
@@ -237,11 +238,12 @@ def words():
     reader.add_argument("--only", default="", help="only inputs whose name matches")
     reader.add_argument("--most", type=int, default=10**9, help="only sizes up to this one")
     reader.add_argument("--stack", type=int, default=STACK_KB, help="KB of stack for each run")
-    reader.add_argument("--seconds", type=int, default=60, help="most seconds for each run")
+    reader.add_argument("--seconds", type=int, help="most seconds for each run: 20, 60 under --all")
     reader.add_argument("--valgrind", action="store_true", help="count instructions by valgrind")
     reader.add_argument("--least-stack", action="store_true", help="find the least stacks")
     asked = reader.parse_args()
     asked.table |= asked.all
+    asked.seconds = asked.seconds or (60 if asked.all else 20)
     asked.slower = 50 if asked.valgrind else 1
     asked.counter = counter_of(asked)
     return asked
