@@ -208,7 +208,7 @@ def lists():
     yield Family("empty causes", listed("causes", '""'), sizes, sizes, HANDLERS)
     yield Family("causes", listed("causes", '"a cause"'), COUNTS, (), HANDLERS)
     yield Family("contexts", listed("contexts", '"a"'), COUNTS, (40_000,), HANDLERS)
-    sizes = (9_900, 100_000)
+    sizes = (9_900, 32_600)
     item = '{"message":"a"}'
     yield Family("related", listed("related", item), with_sizes(COUNTS, *sizes), sizes, ALL)
 
@@ -218,13 +218,13 @@ def pictures():
     yield Family("labels on one line", one_line(), COUNTS, (10_000,), (*HANDLERS, BENCH))
     yield Family("a label on each line", line_each, COUNTS, (10_000,), HANDLERS)
     yield Family("labels over three lines", chained, COUNTS, (10_000,), HANDLERS)
-    yield Family("texts on one line", one_line("x"), SQUARES, (8_000,), HANDLERS, True, TOLD)
+    yield Family("texts on one line", one_line("x"), SQUARES, (1_000,), HANDLERS, True, TOLD)
     sizes = doubled(125, 1_000)
-    yield Family("labels in labels", nested, sizes, (1_000,), HANDLERS, True, (PLAIN,))
+    yield Family("labels in labels", nested, sizes, (250,), HANDLERS, True, (PLAIN,))
     yield Family("labels across labels", crossing, sizes, (250,), HANDLERS, True)
-    yield Family("lint", lint_lines("a"), COUNTS, (), (LINT,))
+    yield Family("lint", lint_lines("a"), COUNTS, (20_000,), (LINT,))
     sizes = (400_000,)
-    yield Family("lint of 9.6 MB", lint_lines("let it = that + other;"), sizes, sizes, (LINT,))
+    yield Family("lint of 9.6 MB", lint_lines("let it = that + other;"), sizes, (), (LINT,))
 
 
 def long_texts():
@@ -244,7 +244,7 @@ def long_lines():
             sizes = doubled(1_000, 64_000)
             yield Family(f"labels on {kind}", labels_on(unit), sizes, (4_000,), TOLD)
     sizes = (10_000_000, 100_000_000)
-    yield Family("up to 100 MB of FF", repeated(b"\xff"), sizes, sizes[:1], (DRAW, LINT))
+    yield Family("up to 100 MB of FF", repeated(b"\xff"), sizes, (), (DRAW, LINT))
 
 
 FAMILIES = [*small(), *lists(), *pictures(), *long_texts(), *long_lines()]

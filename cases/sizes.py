@@ -7,12 +7,13 @@ which may be a regular expression.
 
 Each run has a stack of 1,024 KB (`--stack KB`) and an address space of ten times its text, which is
 what it reads and writes, and 64 MB more, and 20 seconds of the processor, under `--all` 60. It
-fails where it ends by a signal or with another status than the expected one, and where its peak
-memory is above eight times its text and 4 MB more. It also fails where its time or memory grows by
-more than 2.2 times from a size to its double, or, where by rule a picture grows with the square of
-the size, by more than 2.2 times what its text grows by. Time is instructions, which `perf` counts
-where it can, or valgrind where `--valgrind` asks for it; under `--all` it is otherwise the
-processor's seconds, where there are enough of them.
+fails where it ends by a signal or with another status than the expected one.
+
+Under `--all` a run also fails where its peak memory is above eight times its text and 4 MB more,
+and where its time or memory grows by more than 2.2 times from a size to its double, or, where by
+rule a picture grows with the square of the size, by more than 2.2 times what its text grows by.
+Time is instructions, which `perf` counts where it can, or valgrind where `--valgrind` asks for it;
+it is otherwise the processor's seconds, where there are enough of them.
 
 `--least-stack` finds the least stack on which the deepest descriptions run. The programs are
 `crates/NAME/out/NAME`, as the gate leaves them. The last line is 'N passed, M failed', and the exit
@@ -116,22 +117,22 @@ def with_growths(case, row, before, asked):
     return row._replace(growths=growths_of(row, before, asked))
 
 
-def faults_of(case, row):
+def faults_of(case, row, asked):
     """All that is wrong with a run."""
     if row.ended.status != case.way.status:
         yield row.ended.text()
-    if row.whole.memory > MEMORY_TIMES * row.text + MEMORY_MORE:
+    if asked.all and row.whole.memory > MEMORY_TIMES * row.text + MEMORY_MORE:
         yield f"memory {row.whole.memory / row.text:.1f} times the text"
     of_time, of_memory, of_text = row.growths
     for what, growth in (("time", of_time), ("memory", of_memory)):
-        if growth and growth > bound_of(case, of_text):
+        if asked.all and growth and growth > bound_of(case, of_text):
             yield f"{what} grows by {growth:.1f}"
 
 
 def row_of(case, before, asked):
     """The whole row of a case, where `before` is the row of half its size, if there is one."""
     row = with_growths(case, measured(case, asked), before, asked)
-    return row._replace(faults=tuple(faults_of(case, row)))
+    return row._replace(faults=tuple(faults_of(case, row, asked)))
 
 
 def is_too_long(row, before, asked):
@@ -193,7 +194,7 @@ def chosen(asked):
 
 
 def gate_sizes(family, asked):
-    """The sizes of the small set, and their halves where growth of instructions can be seen."""
+    """The sizes of the small set, and their halves where instructions are counted."""
     halves = [it // 2 for it in family.gate if asked.counter and it > 1]
     return sorted({*halves, *family.gate})
 
@@ -245,7 +246,7 @@ def words():
     asked.table |= asked.all
     asked.seconds = asked.seconds or (60 if asked.all else 20)
     asked.slower = 50 if asked.valgrind else 1
-    asked.counter = counter_of(asked)
+    asked.counter = counter_of(asked) if asked.all or asked.valgrind else None
     return asked
 
 

@@ -10,7 +10,6 @@ pub mod Closing
 pub mod Collecting
 pub mod Columns
 pub mod Combined
-pub mod Compared
 pub mod Data
 pub mod Ends
 pub mod Firsts
@@ -34,7 +33,6 @@ pub mod Paling
 pub mod Parting
 pub mod Placing
 pub mod Plaining
-pub mod Printing
 pub mod Progressing
 pub mod Refusing
 pub mod Reread
@@ -50,4 +48,3 @@ pub mod Telling
 pub mod Texting
 pub mod Unstyled
 pub mod Whole
-pub mod Worked

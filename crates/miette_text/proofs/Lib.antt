@@ -1,4 +1,3 @@
-pub mod Examples
 pub mod Parsing
 pub mod Commuting
 pub mod Closed
