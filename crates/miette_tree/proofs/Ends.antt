@@ -1,10 +1,10 @@
 -- The last of what is left of a chain.
-use Rattle.std.proofs.Common.{◌≡◌, ℕ, ◌<◌, ◌≤◌, ◌+◌, ◌-◌, List, [], ◌∷◌, ◌++◌, length, map, take, Option, Some, None, refl, sym, ap, ◌∙◌, arith, append-nil, subst}
+use Rattle.std.proofs.Common.{◌≡◌, ℕ, ◌<◌, ◌≤◌, ◌+◌, ◌-◌, List, [], ◌∷◌, ◌++◌, length, map, take, drop, get_or, Option, Some, None, refl, sym, ap, ◌∙◌, arith, append-nil, subst}
 use Rattle.std.specs.Prelude.{slice_get}
 use Rattle.std.specs.List.{last_or}
 use Rattle.std.proofs.Math.Seq.{take-append-add}
-use Rattle.std.proofs.lemmas.List.{take_more, take-append-le, take_all}
-use Rattle.miette_tree.specs.Tree.{Tree, tree, Cause, diagnostic, texts, chain_of, causes_of, cause_of}
+use Rattle.std.proofs.lemmas.List.{take_more, take-append-le, take_all, drop_more, length-drop}
+use Rattle.miette_tree.specs.Tree.{Tree, tree, Cause, diagnostic, texts, chain_of, causes_of, cause_of, head}
 use Rattle.std.specs.Borrow.{Bor}
 use Rattle.miette_protocol.specs.Meaning.{Meaning}
 use Rattle.miette_protocol.specs.Reading.{Source}
@@ -28,6 +28,29 @@ none_mapped f (t ∷ ts) e = absurd (omega arith)
 pub back_step : (value xs ts : List (List ℕ)) (n : ℕ) (x : List ℕ) → take n xs ++ ts ≡ value → ts ≡ [] → 0 < n → slice_get xs (n - 1) ≡ Some x → value ≡ (take (n - 1) xs ++ ts) ++ x ∷ []
 back_step value xs ts n x e f h i =
     sym e ∙ (ap (λ l. take n xs ++ l) f ∙ (append-nil (take n xs) ∙ (take_last xs n x h i ∙ ap (λ l. l ++ x ∷ []) (sym (ap (λ l. take (n - 1) xs ++ l) f ∙ append-nil (take (n - 1) xs))))))
+
+-- ---- down a chain
+
+spine_parts : (t : Tree) → spine t ≡ (head t).message ∷ spine_below (cause_of t)
+spine_parts (tree m s c r) = refl
+
+not_past : (t u : Tree) (k : ℕ) → drop k (spine t) ≡ spine u → k < length (spine t)
+not_past t u k e = omega (arith, length-drop k (spine t), ap length (e ∙ spine_parts u))
+
+-- the messages behind the first k, from their first on
+behind : (t u : Tree) (k : ℕ) → drop k (spine t) ≡ spine u → get_or (spine t) k [] ∷ drop (k + 1) (spine t) ≡ (head u).message ∷ spine_below (cause_of u)
+behind t u k e = sym (drop_more (spine t) k [] (not_past t u k e)) ∙ (e ∙ spine_parts u)
+
+-- one report further down, what is left is one message shorter
+pub further : (t u n : Tree) (k : ℕ) → drop k (spine t) ≡ spine u → spine n ≡ spine_below (cause_of u) → drop (k + 1) (spine t) ≡ spine n
+further t u n k e f = ap (drop 1) (behind t u k e) ∙ sym f
+
+-- the message of the n-th report is the last of the first n
+pub last_of : (t u : Tree) (n : ℕ) → 0 < n → drop (n - 1) (spine t) ≡ spine u → take n (spine t) ≡ take (n - 1) (spine t) ++ (head u).message ∷ []
+last_of t u n h e =
+    let one : n ≡ n - 1 + 1 = omega arith in
+    let first : get_or (spine t) (n - 1) [] ≡ (head u).message = ap (λ l. get_or l 0 []) (behind t u (n - 1) e) in
+    ap (λ k. take k (spine t)) one ∙ (take_more (spine t) (n - 1) [] (not_past t u (n - 1) e) ∙ ap (λ y. take (n - 1) (spine t) ++ y ∷ []) first)
 
 -- ---- where a chain ends
 

@@ -1,5 +1,6 @@
 //! The texts that are a report's cause, with room in front of them.
-ghost use Rattle.std.specs.Prelude.{◌≡◌, ◌+◌, ◌<◌, ◌≤◌, ◌∷◌, length, map, string_bytes, vec_len, vec_capacity, IfOk, OnOk, OnErr};
+ghost use Rattle.std.specs.Prelude.{◌≡◌, ◌+◌, ◌<◌, ◌≤◌, [], ◌∷◌, length, map, string_bytes, vec_len, vec_capacity, IfOk, OnOk, OnErr};
+ghost use Rattle.std.specs.List.{All};
 
 use std::alloc::{AllocError, Global};
 
@@ -65,6 +66,7 @@ impl CauseTexts {
 // So many empty texts, with room behind them for so many more.
 fn empty_texts(alloc: Global, count: usize, more: usize) -> Result<Vec<String>, AllocError>
     ensures count { IfOk result (λ list. vec_len list ≡ count) }
+    ensures empty { IfOk result (λ list. All (λ text. string_bytes text ≡ []) list.items) }
     ensures room { IfOk result (λ list. count + more ≤ vec_capacity list) }
 {
     let Some(capacity) = count.checked_add(more) else {

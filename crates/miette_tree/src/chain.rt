@@ -41,13 +41,14 @@ fn last_within<'a, D: Diagnostic, S: SourceCode>(
     ensures parts { take count (spine (tree_of D.meaning S.source report.now)) ≡ take result.1 (spine (tree_of D.meaning S.source report.now)) ++ result.0.now ∷ [] }
     ensures fewer { result.1 < count }
 {
-    if count > 1
-        && let Some(next) = below(report)
-    {
-        let (message, before) = last_within(next, count - 1);
-        return (message, before + 1);
+    let mut at = report;
+    for before in 1..count {
+        match below(at) {
+            Some(next) => at = next,
+            None => return (at.message(), before - 1),
+        }
     }
-    (report.message(), 0)
+    (at.message(), count - 1)
 }
 
 /// How many reports there are from this one on, up to that many.
@@ -55,13 +56,14 @@ fn count_within<D: Diagnostic, S: SourceCode>(report: &Report<D, S>, count: usiz
     ensures is { result ≡ length (take count (spine (tree_of D.meaning S.source report.now))) }
     ensures most { result ≤ count }
 {
-    if count == 0 {
-        return 0;
+    let mut at = report;
+    for before in 0..count {
+        match below(at) {
+            Some(next) => at = next,
+            None => return before + 1,
+        }
     }
-    match below(report) {
-        Some(next) => count_within(next, count - 1) + 1,
-        None => 1,
-    }
+    count
 }
 
 /// The first of what is left.
