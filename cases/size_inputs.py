@@ -1,8 +1,9 @@
 """The inputs of sizes.py: what each program reads at a size, and by which words it is called.
 
-A family of inputs makes the bytes of any size. `sizes.py --all` runs its sizes, each of which is
-the double of another one; a size that stands apart once ended a run by a signal, or took too much
-memory. The small set of the gate has the sizes `gate`, by the ways `gate_ways` or by all."""
+A family of inputs makes the bytes of any size. `sizes.py --all` runs its sizes. Most of them are the
+double of another one, by which growth is told; a size that stands apart, as 32,600 texts, is where
+calls in one another, one for each item, would end a run on the stack that it has. The small set of
+the gate has the sizes `gate`, by the ways `gate_ways` or by all."""
 import json
 from typing import Callable, NamedTuple
 
@@ -171,6 +172,12 @@ def long_member(member):
     return lambda size: described(**{"message": "m", "code": "c", member: text_of(size)})
 
 
+def many_colours(size):
+    """A help of about so many bytes, in which each word has a colour of its own."""
+    colours = (f"{i >> 16};{i >> 8 & 255};{i & 255}" for i in range(size // 25))
+    return described(message="m", help=" ".join(f"\x1b[38;2;{it}mword\x1b[0m" for it in colours))
+
+
 def long_label(unit):
     """A label whose text has so many bytes, on one line or on many."""
     return lambda size: labelled("ab\n", [(0, 2)], (unit * size)[:size])
@@ -231,6 +238,7 @@ def long_texts():
     """Texts of many bytes."""
     for member in ("message", "help", "url", "code"):
         yield Family(f"long {member}", long_member(member), LENGTHS, (200_000,), HANDLERS)
+    yield Family("help of many colours", many_colours, LENGTHS, (200_000,), HANDLERS)
     yield Family("long label", long_label(WORDS), LENGTHS, (200_000,), HANDLERS)
     yield Family("label of many lines", long_label("x\n"), LENGTHS, (200_000,), HANDLERS)
     yield Family("help in related 20 deep", deep_related(20), DEPTH_LENGTHS, (), ALL)
@@ -242,7 +250,7 @@ def long_lines():
         yield Family(f"line of {kind}", repeated(unit), COUNTS, (80_000,), (DRAW, LINT))
         if kind != "FF":
             sizes = doubled(1_000, 64_000)
-            yield Family(f"labels on {kind}", labels_on(unit), sizes, (4_000,), TOLD)
+            yield Family(f"labels on {kind}", labels_on(unit), sizes, (8_000,), TOLD)
     sizes = (10_000_000, 100_000_000)
     yield Family("up to 100 MB of FF", repeated(b"\xff"), sizes, (), (DRAW, LINT))
 

@@ -6,8 +6,9 @@ size, as a table; `--only WORD` keeps the inputs, or inputs by a handler, whose 
 which may be a regular expression.
 
 Each run has a stack of 1,024 KB (`--stack KB`) and an address space of ten times its text, which is
-what it reads and writes, and 64 MB more, and 20 seconds of the processor, under `--all` 60. It
-fails where it ends by a signal or with another status than the expected one.
+what it reads and writes, and 64 MB more. It has 2 seconds of the processor (`--seconds N`), which is
+about ten times what the longest of the small set takes, and under `--all` 60. It fails where it ends
+by a signal or with another status than the expected one.
 
 Under `--all` a run also fails where its peak memory is above eight times its text and 4 MB more,
 and where its time or memory grows by more than 2.2 times from a size to its double, or, where by
@@ -33,6 +34,7 @@ from size_runs import counter_of, instructions, least_stack, run, run_limited
 
 ROOT = os.path.dirname(os.path.dirname(os.path.abspath(__file__)))
 STACK_KB = 1024
+GATE_SECONDS, ALL_SECONDS = 2, 60
 MEMORY_TIMES, MEMORY_MORE = 8, 4 * MB
 GROWTH = 2.2
 # A shorter run than this, in seconds, says nothing of growth.
@@ -239,12 +241,12 @@ def words():
     reader.add_argument("--only", default="", help="only inputs whose name matches")
     reader.add_argument("--most", type=int, default=10**9, help="only sizes up to this one")
     reader.add_argument("--stack", type=int, default=STACK_KB, help="KB of stack for each run")
-    reader.add_argument("--seconds", type=int, help="most seconds for each run: 20, 60 under --all")
+    reader.add_argument("--seconds", type=int, help="most seconds for each run: 2, 60 under --all")
     reader.add_argument("--valgrind", action="store_true", help="count instructions by valgrind")
     reader.add_argument("--least-stack", action="store_true", help="find the least stacks")
     asked = reader.parse_args()
     asked.table |= asked.all
-    asked.seconds = asked.seconds or (60 if asked.all else 20)
+    asked.seconds = asked.seconds or (ALL_SECONDS if asked.all else GATE_SECONDS)
     asked.slower = 50 if asked.valgrind else 1
     asked.counter = counter_of(asked) if asked.all or asked.valgrind else None
     return asked
