@@ -1,5 +1,5 @@
 -- Steps of telling what is found.
-use Rattle.std.proofs.Common.{◌≡◌, ℕ, ◌<◌, ◌↔◌, Bool, true, false, not, eqb, eqb-true, List, [], ◌∷◌, length, Option, Some, None, Result, Ok, Err, IfOk, IfSome, arith, sym, ◌∙◌, subst}
+use Rattle.std.proofs.Common.{◌≡◌, ℕ, ◌<◌, ◌↔◌, Bool, true, false, eqb, eqb-true, List, [], ◌∷◌, length, Option, Some, None, Result, Ok, Err, IfOk, IfSome, arith, sym, ◌∙◌, subst}
 use Rattle.std.proofs.lemmas.Bool.Decides.{nat_tests}
 use Rattle.std.proofs.lemmas.List.{nil_from_length}
 use Rattle.miette_protocol.specs.Meaning.{Label, Meaning}

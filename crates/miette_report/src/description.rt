@@ -102,7 +102,7 @@ fn wrapped<D: Diagnostic, S: SourceCode>(
         return Ok(report);
     };
     let mut report = report;
-    for context in &contexts {
+    for context in contexts {
         match report.wrap_err(alloc, context.as_str()) {
             Ok(made) => report = made,
             Err(_) => return Err(BuildError::Memory),
@@ -226,7 +226,7 @@ fn reports_from<D: Diagnostic, S: SourceCode>(
     ensures ok { IfOk result (λ v. all_of report_in (items_view list.now) ≡ Some (map (tree_of D.meaning S.source) v.items)) }
     ensures description { (result ≡ Err BuildError.Description) → all_of report_in (items_view list.now) ≡ None }
 {
-    let mut reports = Vec::new(alloc);
+    let mut reports = Vec::with_capacity(alloc, list.len())?;
     for value in list {
         let report = report_from(alloc, value)?;
         if reports.push(report).is_err() {

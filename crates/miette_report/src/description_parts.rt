@@ -63,7 +63,7 @@ fn labels_from(alloc: Global, list: &[Value]) -> Result<Vec<LabeledSpan>, BuildE
     ensures ok { IfOk result (λ v. all_of label_of (items_view list.now) ≡ Some v.items) }
     ensures description { (result ≡ Err BuildError.Description) → all_of label_of (items_view list.now) ≡ None }
 {
-    let mut labels = Vec::new(alloc);
+    let mut labels = Vec::with_capacity(alloc, list.len())?;
     for value in list {
         let label = label_from(alloc, value)?;
         if labels.push(label).is_err() {
@@ -94,7 +94,7 @@ fn texts_from(alloc: Global, list: &[Value]) -> Result<Vec<String>, BuildError>
     ensures ok { IfOk result (λ v. all_of as_str (items_view list.now) ≡ Some (map string_bytes v.items)) }
     ensures description { (result ≡ Err BuildError.Description) → all_of as_str (items_view list.now) ≡ None }
 {
-    let mut texts = Vec::new(alloc);
+    let mut texts = Vec::with_capacity(alloc, list.len())?;
     for value in list {
         let Some(text) = value.as_str() else {
             return Err(BuildError::Description);

@@ -1,4 +1,4 @@
-use Rattle.std.proofs.Common.{◌≤◌, length, refl, arith, rules}
+use Rattle.std.proofs.Common.{length, refl, arith}
 use Rattle.miette_layout.specs.Swept.{LiesIn}
 use Rattle.miette_report.specs.Findings.{line_findings}
 use Rattle.miette_report.proofs.FindingSteps.{item_lies, lines_all, lines_more}
