@@ -53,7 +53,7 @@ pub fn placed(
 ) -> Result<Vec<Placed>, AllocError>
     ensures { IfOk result (λ placed. placed.items ≡ placed_from styles.now labels.now 0 reads.now) }
 {
-    let mut placed = Vec::new(alloc);
+    let mut placed = Vec::with_capacity(alloc, reads.len())?;
     for (i, read) in reads.iter().enumerate() {
         placed.push(Placed {
             start: read.span.offset(),

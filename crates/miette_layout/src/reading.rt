@@ -88,7 +88,7 @@ pub fn read_labels<'a, S: SourceCode>(
     ensures { IfOk result (λ read. AreRead context (S.source source.now) labels.now (map (λ turn. label_at labels.now turn.index) order.now) read) }
 {
     let own = some_own(labels);
-    let mut reads = Vec::new(alloc);
+    let mut reads = Vec::with_capacity(alloc, order.len())?;
     for turn in order {
         let label = &labels[turn.index];
         let lines = lines_around(context, own, label);

@@ -17,7 +17,7 @@ use std::mem;
 fn stretches(alloc: Global, reads: &[ReadLabel<'_>]) -> Result<Vec<SourceSpan>, AllocError>
     ensures { IfOk result (λ v. v.items ≡ map (λ read. read.contents.span) reads.now) }
 {
-    let mut spans = Vec::new(alloc);
+    let mut spans = Vec::with_capacity(alloc, reads.len())?;
     for read in reads {
         spans.push(*read.contents.span())?;
     }
@@ -63,7 +63,7 @@ fn read_all<'a, S: SourceCode>(
     ensures { IfOk result (λ r. MatchOption r (((S.source source.now).always_reads ≡ false) × (spans.now ≢ []))
         (λ groups. (map (λ group. group.span) groups.items ≡ spans.now) × All (λ group. IsLent 0 (S.source source.now) group.span group.contents) groups.items)) }
 {
-    let mut groups = Vec::new(alloc);
+    let mut groups = Vec::with_capacity(alloc, spans.len())?;
     for span in spans {
         match source.read_span(span, 0, 0) {
             Ok(contents) => groups.push(Group {

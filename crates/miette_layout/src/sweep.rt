@@ -124,7 +124,7 @@ impl Sweep {
 fn copied(alloc: Global, labels: &[Placed]) -> Result<Vec<Placed>, AllocError>
     ensures { IfOk result (λ copy. copy.items ≡ labels.now) }
 {
-    let mut copy = Vec::new(alloc);
+    let mut copy = Vec::with_capacity(alloc, labels.len())?;
     for label in labels {
         copy.push(*label)?;
     }
