@@ -6,6 +6,8 @@ pub mod Parted
 pub mod Placed
 pub mod PlainColumns
 pub mod Sweeps
+pub mod Ends
+pub mod Begun
 pub mod Lining
 pub mod Reading
 pub mod Telling

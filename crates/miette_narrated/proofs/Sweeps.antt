@@ -46,7 +46,7 @@ last_text : (is_last : Bool) (far text at : ℕ) → (if is_last then max far te
 last_text true far text at lt = omega arith
 last_text false far text at lt = lt
 
-row_beyond : (it : Shown) (labels : List Label) (p : Placed) → p.start ≤ p.after → last_start it < p.start → label_row it (told_of labels p) ≡ []
+pub row_beyond : (it : Shown) (labels : List Label) (p : Placed) → p.start ≤ p.after → last_start it < p.start → label_row it (told_of labels p) ≡ []
 row_beyond it labels p le lt =
     let d = told_of labels p in
     let text : it.line.text_end < p.start = last_text it.is_last it.data_end it.line.text_end p.start lt in
@@ -82,7 +82,7 @@ rows_reached it labels (p ∷ ps) h =
     (λ t. ap f t ∙ ap (λ r. label_row it (told_of labels p) ++ r) (rows_reached it labels ps h.1))
     (λ g. ap f g ∙ rows_reached it labels ps h.1 ∙ sym (ap (λ r. r ++ label_rows it (all_told labels ps)) (row_unreached it labels p h.0 g)))
 
-lower : (a b : ℕ) (ps : List Placed) → a ≤ b → BeginsFrom b ps → BeginsFrom a ps
+pub lower : (a b : ℕ) (ps : List Placed) → a ≤ b → BeginsFrom b ps → BeginsFrom a ps
 lower a b [] le h = h
 lower a b (p ∷ ps) le h = omega (arith, h)
 

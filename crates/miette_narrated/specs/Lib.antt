@@ -9,3 +9,4 @@ pub mod Answered
 pub mod Made
 pub mod Sweeping
 pub mod Settings
+pub mod Ends

@@ -3,10 +3,12 @@
 ghost use Rattle.std.specs.Prelude.{◌≡◌, ◌++◌, IfOk, OnOk, string_bytes, option_copied};
 ghost use Rattle.miette_narrated.specs.Labels.{row, begins, begins_within, reaches_line, ends_before, first_number, last_number, columns_text, text_behind, whole_row, start_row, end_row, begun_row, reaching_row, label_row, label_rows};
 ghost use Rattle.std.specs.List.{All};
+ghost use Rattle.miette_narrated.specs.Ends.{labels_of};
 ghost use Rattle.miette_narrated.specs.Made.{told_of, all_told, shown_of};
 ghost use Rattle.miette_narrated.specs.Places.{IsPlace};
 
 use crate::columns::column;
+use crate::label_order::Ranked;
 use crate::line_text::LineText;
 use crate::places::{Place, places};
 use crate::shown::ShownLine;
@@ -245,5 +247,39 @@ pub(crate) fn push_labels(
     let places = places_for(alloc, it.text, placed.len())?;
     let marked = it.with_places(&places);
     push_each(alloc, out, &marked, labels, placed)?;
+    Ok(())
+}
+
+// The rows of labels that end on a line, in order, from the line with the places of its text.
+fn push_ended(
+    alloc: Global,
+    out: &mut String,
+    it: &ShownLine<'_, '_>,
+    labels: &[LabeledSpan],
+    ended: &[Ranked],
+) -> Result<(), AllocError>
+    ensures { OnOk result (string_bytes out.new ≡ string_bytes out.old ++ label_rows (shown_of it.now) (all_told labels.now (labels_of ended.now))) }
+{
+    for end in ended {
+        push_label(alloc, out, it, labels, &end.label)?;
+    }
+    Ok(())
+}
+
+/// The rows of labels that end on a line, and behind them those of labels that begin there, each in order.
+pub(crate) fn push_ended_and_begun(
+    alloc: Global,
+    out: &mut String,
+    it: &ShownLine<'_, '_>,
+    labels: &[LabeledSpan],
+    ended: &[Ranked],
+    begun: &[Placed],
+) -> Result<(), AllocError>
+    ensures { OnOk result (string_bytes out.new ≡ (string_bytes out.old ++ label_rows (shown_of it.now) (all_told labels.now (labels_of ended.now))) ++ label_rows (shown_of it.now) (all_told labels.now begun.now)) }
+{
+    let places = places_for(alloc, it.text, ended.len().saturating_add(begun.len()))?;
+    let marked = it.with_places(&places);
+    push_ended(alloc, out, &marked, labels, ended)?;
+    push_each(alloc, out, &marked, labels, begun)?;
     Ok(())
 }

@@ -3,6 +3,7 @@
 
 mod columns;
 pub mod handler;
+mod label_order;
 mod label_rows;
 mod line_text;
 mod lines;

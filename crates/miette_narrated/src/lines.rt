@@ -1,23 +1,24 @@
 //! The rows of a snippet's lines.
 
-ghost use Rattle.std.specs.Prelude.{◌≡◌, ◌++◌, ◌+◌, ◌<◌, ◌≤◌, ◌^◌, map, length, OnOk, string_bytes};
+ghost use Rattle.std.specs.Prelude.{◌≡◌, false, ◌++◌, ◌+◌, ◌<◌, ◌≤◌, ◌^◌, map, length, OnOk, string_bytes};
 ghost use Rattle.std.specs.List.{All};
 ghost use Rattle.miette_layout.specs.Sheets.{line_of_text};
 ghost use Rattle.miette_layout.specs.Swept.{LiesIn};
 ghost use Rattle.miette_narrated.specs.Made.{all_told, shown_of};
 ghost use Rattle.miette_narrated.specs.Lines.{shown, line_row, rows_of_line, rows_of_lines};
-ghost use Rattle.miette_narrated.specs.Sweeping.{IsAt, AreOrdered, last_start};
+ghost use Rattle.miette_narrated.specs.Ends.{IsOrder};
+ghost use Rattle.miette_narrated.specs.Labels.{label_rows};
+ghost use Rattle.miette_narrated.specs.Sweeping.{IsAt, last_start};
 
 use crate::columns::push_decoded;
-use crate::label_rows::push_labels;
+use crate::label_order::{LabelOrder, begun_on, ended_on};
+use crate::label_rows::{push_ended_and_begun, push_labels};
 use crate::line_text::LineText;
 use crate::shown::ShownLine;
 use crate::sweeping::{Sweep, come_to};
 use crate::words::push_number;
 use miette_layout::line_sweep::SweptLine;
 use miette_layout::sheet::LineOfText;
-use miette_layout::sweep::Placed;
-use miette_protocol::protocol::LabeledSpan;
 use miette_protocol::source::MietteSpanContents;
 use std::alloc::{AllocError, Global};
 
@@ -48,18 +49,38 @@ fn push_shown(
     alloc: Global,
     out: &mut String,
     it: &ShownLine<'_, '_>,
-    labels: &[LabeledSpan],
-    placed: &[Placed],
+    order: &LabelOrder<'_>,
     sweep: &mut Sweep,
 ) -> Result<(), AllocError>
-    requires ordered { AreOrdered placed.now }
-    requires at { IsAt placed.now sweep.old.at sweep.old.next sweep.old.running.items }
-    ensures rows { OnOk result (string_bytes out.new ≡ string_bytes out.old ++ rows_of_line (all_told labels.now placed.now) (shown_of it.now)) }
-    ensures at { OnOk result (IsAt placed.now sweep.new.at sweep.new.next sweep.new.running.items) }
+    requires order { IsOrder order.now }
+    requires at { IsAt order.now.placed.now sweep.old.at sweep.old.next sweep.old.running.items }
+    ensures rows { OnOk result (string_bytes out.new ≡ string_bytes out.old ++ rows_of_line (all_told order.now.labels.now order.now.placed.now) (shown_of it.now)) }
+    ensures at { OnOk result (IsAt order.now.placed.now sweep.new.at sweep.new.next sweep.new.running.items) }
 {
     push_line(out, it)?;
-    come_to(alloc, placed, it.line.start, last_start(it), sweep)?;
-    push_labels(alloc, out, it, labels, &sweep.running)?;
+    if !it.is_last {
+        push_inner(alloc, out, it, order)?;
+        return Ok(());
+    }
+    come_to(alloc, order.placed, it.line.start, last_start(it), sweep)?;
+    push_labels(alloc, out, it, order.labels, &sweep.running)?;
+    Ok(())
+}
+
+/// The rows of labels under a line that isn't the snippet's last: only labels that begin or end there are gone through.
+fn push_inner(
+    alloc: Global,
+    out: &mut String,
+    it: &ShownLine<'_, '_>,
+    order: &LabelOrder<'_>,
+) -> Result<(), AllocError>
+    requires order { IsOrder order.now }
+    requires inner { it.now.is_last ≡ false }
+    ensures { OnOk result (string_bytes out.new ≡ string_bytes out.old ++ label_rows (shown_of it.now) (all_told order.now.labels.now order.now.placed.now)) }
+{
+    let ended = ended_on(alloc, order, &it.line)?;
+    let begun = begun_on(order.placed, &it.line);
+    push_ended_and_begun(alloc, out, it, order.labels, &ended, begun)?;
     Ok(())
 }
 
@@ -93,16 +114,15 @@ pub(crate) fn push_lines(
     out: &mut String,
     lent: &MietteSpanContents<'_>,
     lines: &[SweptLine],
-    labels: &[LabeledSpan],
-    placed: &[Placed],
+    order: &LabelOrder<'_>,
     sweep: &mut Sweep,
 ) -> Result<(), AllocError>
     requires inside { All (LiesIn lent.now.span.offset (length lent.now.bytes)) lines.now }
     requires small { lent.now.span.offset + length lent.now.bytes < 2 ^ 64 }
-    requires ordered { AreOrdered placed.now }
-    requires at { IsAt placed.now sweep.old.at sweep.old.next sweep.old.running.items }
-    ensures rows { OnOk result (string_bytes out.new ≡ string_bytes out.old ++ rows_of_lines (all_told labels.now placed.now) lent.now (lent.now.line + 1) (map (λ l. line_of_text l.line) lines.now)) }
-    ensures at { OnOk result (IsAt placed.now sweep.new.at sweep.new.next sweep.new.running.items) }
+    requires order { IsOrder order.now }
+    requires at { IsAt order.now.placed.now sweep.old.at sweep.old.next sweep.old.running.items }
+    ensures rows { OnOk result (string_bytes out.new ≡ string_bytes out.old ++ rows_of_lines (all_told order.now.labels.now order.now.placed.now) lent.now (lent.now.line + 1) (map (λ l. line_of_text l.line) lines.now)) }
+    ensures at { OnOk result (IsAt order.now.placed.now sweep.new.at sweep.new.next sweep.new.running.items) }
 {
     let mut before = lent.line();
     for (i, swept) in lines.iter().enumerate() {
@@ -110,7 +130,7 @@ pub(crate) fn push_lines(
             return Err(AllocError);
         };
         let it = shown_line(lent, swept.line, number, i + 1 == lines.len());
-        push_shown(alloc, out, &it, labels, placed, sweep)?;
+        push_shown(alloc, out, &it, order, sweep)?;
         before = number;
     }
     Ok(())

@@ -11,8 +11,10 @@ ghost use Rattle.miette_layout.specs.Swept.{LiesIn};
 ghost use Rattle.miette_narrated.specs.Made.{all_told};
 ghost use Rattle.miette_narrated.specs.Snippets.{name_text, begin_rows, snippet};
 ghost use Rattle.miette_narrated.specs.Answered.{AppendsSnippets, accepts};
-ghost use Rattle.miette_narrated.specs.Sweeping.{IsAt, AreOrdered};
+ghost use Rattle.miette_narrated.specs.Ends.{IsOrder};
+ghost use Rattle.miette_narrated.specs.Sweeping.{IsAt};
 
+use crate::label_order::{LabelOrder, by_end};
 use crate::lines::push_lines;
 use crate::sweeping::Sweep;
 use crate::words::push_number;
@@ -21,7 +23,7 @@ use miette_layout::grouping::groups;
 use miette_layout::line_sweep::{SweptLine, swept_lines};
 use miette_layout::order::by_offset;
 use miette_layout::reading::{ReadLabel, ReadLabels, read_labels};
-use miette_layout::sweep::{Placed, Sweep as LayoutSweep};
+use miette_layout::sweep::Sweep as LayoutSweep;
 use miette_protocol::error::RenderError;
 use miette_protocol::laws::data_reach_the_span;
 use miette_protocol::protocol::LabeledSpan;
@@ -79,18 +81,17 @@ fn push_snippet(
     alloc: Global,
     out: &mut String,
     lent: &MietteSpanContents<'_>,
-    labels: &[LabeledSpan],
-    placed: &[Placed],
+    order: &LabelOrder<'_>,
     sweep: &mut Sweep,
 ) -> Result<(), AllocError>
-    requires ordered { AreOrdered placed.now }
-    requires at { IsAt placed.now sweep.old.at sweep.old.next sweep.old.running.items }
-    ensures rows { OnOk result (string_bytes out.new ≡ string_bytes out.old ++ snippet (all_told labels.now placed.now) lent.now) }
-    ensures at { OnOk result (IsAt placed.now sweep.new.at sweep.new.next sweep.new.running.items) }
+    requires order { IsOrder order.now }
+    requires at { IsAt order.now.placed.now sweep.old.at sweep.old.next sweep.old.running.items }
+    ensures rows { OnOk result (string_bytes out.new ≡ string_bytes out.old ++ snippet (all_told order.now.labels.now order.now.placed.now) lent.now) }
+    ensures at { OnOk result (IsAt order.now.placed.now sweep.new.at sweep.new.next sweep.new.running.items) }
 {
     push_begin(out, lent)?;
     let lines = lines_of(alloc, lent)?;
-    push_lines(alloc, out, lent, &lines, labels, placed, sweep)?;
+    push_lines(alloc, out, lent, &lines, order, sweep)?;
     Ok(())
 }
 
@@ -114,13 +115,19 @@ fn push_read<'a, S: SourceCode>(
     let Some(groups) = groups(alloc, source, context, labels, reads)? else {
         return Err(RenderError::Refused);
     };
+    let ends = by_end(alloc, &placed)?;
+    let order = LabelOrder {
+        labels,
+        placed: &placed,
+        ends: &ends,
+    };
     let mut sweep = Sweep {
         at: 0,
         next: 0,
         running: Vec::new(alloc),
     };
     for group in &groups {
-        push_snippet(alloc, out, &group.contents, labels, &placed, &mut sweep)?;
+        push_snippet(alloc, out, &group.contents, &order, &mut sweep)?;
     }
     Ok(())
 }

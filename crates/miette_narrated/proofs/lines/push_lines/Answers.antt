@@ -9,7 +9,7 @@ loop-i-preserved c =
     let l = c.loop-i in
     let lent = c.args.lent.now in
     let lines = c.args.lines.now in
-    let told = all_told c.args.labels.now c.args.placed.now in
+    let told = all_told c.args.order.now.labels.now c.args.order.now.placed.now in
     let number : c.in-Some.number ≡ l.before + 1 = search rules in
     let rows = subst (λ k. string_bytes l.out ++ rows_of_lines told lent k (lines_of_swept (drop l.i lines)) ≡ string_bytes c.args.out.now ++ rows_of_lines told lent (lent.line + 1) (lines_of_swept lines)) (sym number) l.invariant.rows in
     record {

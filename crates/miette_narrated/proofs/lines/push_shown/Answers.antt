@@ -10,11 +10,11 @@ use Rattle.miette_narrated.proofs.lines.push_shown.Goals as goal
 pub returns-clause-rows : goal.returns-clause-rows
 returns-clause-rows c =
     let it = shown_of c.args.it.now in
-    let labels = c.args.labels.now in
-    let placed = c.args.placed.now in
+    let labels = c.args.order.now.labels.now in
+    let placed = c.args.order.now.placed.now in
     let sweep = c.come_to.new.sweep in
     let q = string_bytes c.push_line.new.out in
     then (string_bytes c.args.out.now) q (string_bytes c.push_labels.new.out) (line_row it) (label_rows it (all_told labels placed)) c.in_ok-push_line.ensures
     (c.in_ok-push_labels.ensures ∙ ap (λ r. q ++ label_rows it (all_told labels r)) c.deref.ensures.value
-    ∙ ap (λ r. q ++ r) (rows_swept it labels placed sweep.at sweep.next sweep.running.items c.requires.ordered c.in_ok-come_to.ensures.place c.in_ok-come_to.ensures.at
+    ∙ ap (λ r. q ++ r) (rows_swept it labels placed sweep.at sweep.next sweep.running.items c.requires.order.ordered c.in_ok-come_to.ensures.place c.in_ok-come_to.ensures.at
     (subst (λ k. BeginsFrom (suc k) (drop sweep.next placed)) c.last_start.ensures c.in_ok-come_to.ensures.end)))

@@ -1,42 +1,44 @@
-use Rattle.std.proofs.Common.{ap, ◌∙◌, ◌++◌, List, string_bytes, subst}
+use Rattle.std.proofs.Common.{ap, ◌∙◌, List, string_bytes, subst, sym}
 use Rattle.std.specs.Option.{option_map}
 use Rattle.miette_layout.specs.Around.{group_context}
 use Rattle.miette_layout.specs.Groups.{in_order}
 use Rattle.miette_layout.specs.declared.sweep.Placed.{Placed}
 use Rattle.miette_layout.specs.Read.{AreGroups}
+use Rattle.miette_narrated.specs.Ends.{AreEnds}
+use Rattle.miette_narrated.specs.declared.label_order.Ranked.{Ranked}
 use Rattle.miette_narrated.specs.Made.{all_told}
-use Rattle.miette_narrated.specs.Snippets.{snippet}
-use Rattle.miette_narrated.specs.Sweeping.{IsAt}
 use Rattle.miette_narrated.proofs.Reading.{placed_ordered, groups_more, groups_end, snippets_told, are_grouped, unread_group}
 use Rattle.miette_narrated.proofs.snippets.push_read.Goals as goal
 
-pub push_snippet-requires-clause-ordered : goal.push_snippet-requires-clause-ordered
-push_snippet-requires-clause-ordered g c =
-    placed_ordered c.args.context (g.S.SourceCode.source c.args.source.now) c.args.labels.now c.args.reads.now c.deref.result.now c.requires.each c.requires.order (c.deref.ensures.value ∙ c.in_ok-placed.ensures)
+pub push_snippet-requires-clause-order : goal.push_snippet-requires-clause-order
+push_snippet-requires-clause-order g c = record {
+  ordered = placed_ordered c.args.context (g.S.SourceCode.source c.args.source.now) c.args.labels.now c.args.reads.now c.deref-2.result.now c.requires.each c.requires.order (c.deref-2.ensures.value ∙ c.in_ok-placed.ensures);
+  ended = subst (λ (es : List Ranked). AreEnds c.deref-2.result.now es) (sym c.deref-3.ensures.value)
+      (subst (λ (ps : List Placed). AreEnds ps c.in_ok-ends.ends.items) (c.deref.ensures.value ∙ sym c.deref-2.ensures.value) c.in_ok-ends.ensures);
+}
 
 pub loop-group-preserved : goal.loop-group-preserved
 loop-group-preserved g c =
     let source = g.S.SourceCode.source c.args.source.now in
     let l = c.loop-group in
-    let placed = c.in_ok-placed.placed.items in
+    let placed = c.deref-2.result.now in
     let grouped : AreGroups c.args.context source (in_order c.args.labels.now) c.deref-group-items.result.now =
     are_grouped c.args.context source (in_order c.args.labels.now) _ c.in-Some.groups.items c.deref-group-items.result.now c.in_ok-groups.ensures (ap (option_map (λ v. v.items)) c.in-Some.is) c.deref-group-items.ensures.value in
-    let text = c.in_ok-push_snippet.ensures.rows ∙ ap (λ (ps : List Placed). string_bytes l.out ++ snippet (all_told c.args.labels.now ps) c.group-item.result.contents) c.deref.ensures.value in
     record {
       rows = groups_more c.args.context source (all_told c.args.labels.now placed) (in_order c.args.labels.now) c.deref-group-items.result.now l.group-index c.group-item.result
-          (string_bytes l.out) (string_bytes c.push_snippet.new.out) _ grouped c.loop-group-test.true c.group-item.is text l.invariant.rows;
-      at = subst (λ (ps : List Placed). IsAt ps c.push_snippet.new.sweep.at c.push_snippet.new.sweep.next c.push_snippet.new.sweep.running.items) c.deref.ensures.value c.in_ok-push_snippet.ensures.at;
+          (string_bytes l.out) (string_bytes c.push_snippet.new.out) _ grouped c.loop-group-test.true c.group-item.is c.in_ok-push_snippet.ensures.rows l.invariant.rows;
+      at = c.in_ok-push_snippet.ensures.at;
     }
 
 pub returns-clause-text : goal.returns-clause-text
 returns-clause-text g c =
     let source = g.S.SourceCode.source c.args.source.now in
     let l = c.loop-group in
-    let placed = c.in_ok-placed.placed.items in
+    let placed = c.deref-2.result.now in
     let groups = c.deref-group-items.result.now in
     let grouped : AreGroups c.args.context source (in_order c.args.labels.now) groups =
     are_grouped c.args.context source (in_order c.args.labels.now) _ c.in-Some.groups.items groups c.in_ok-groups.ensures (ap (option_map (λ v. v.items)) c.in-Some.is) c.deref-group-items.ensures.value in
-    snippets_told c.args.context source c.args.labels.now c.args.reads.now placed groups _ _ c.data_reach_the_span.ensures c.requires.each c.requires.order c.in_ok-placed.ensures grouped
+    snippets_told c.args.context source c.args.labels.now c.args.reads.now placed groups _ _ c.data_reach_the_span.ensures c.requires.each c.requires.order (c.deref-2.ensures.value ∙ c.in_ok-placed.ensures) grouped
     (groups_end (group_context c.args.context (in_order c.args.labels.now)) source (all_told c.args.labels.now placed) groups l.group-index (string_bytes l.out) _ c.loop-group-test.false l.invariant.rows)
 
 pub returns-in_default-clause-refused : goal.returns-in_default-clause-refused

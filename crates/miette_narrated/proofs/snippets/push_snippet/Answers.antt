@@ -10,7 +10,7 @@ use Rattle.miette_narrated.proofs.snippets.push_snippet.Goals as goal
 pub returns-clause-rows : goal.returns-clause-rows
 returns-clause-rows c =
     let lent = c.args.lent.now in
-    let told = all_told c.args.labels.now c.args.placed.now in
+    let told = all_told c.args.order.now.labels.now c.args.order.now.placed.now in
     let q = string_bytes c.push_begin.new.out in
     then (string_bytes c.args.out.now) q (string_bytes c.push_lines.new.out) (begin_rows lent) (rows_of_lines told lent (lent.line + 1) (lines_of_contents lent)) c.in_ok-push_begin.ensures
     (c.in_ok-push_lines.ensures.rows ∙ ap (λ ls. q ++ rows_of_lines told lent (lent.line + 1) (lines_of_swept ls)) c.deref.ensures.value

@@ -1,0 +1,98 @@
+//! The labels of a source, in the orders in which a snippet's lines ask for them.
+
+ghost use Rattle.std.specs.Prelude.{◌≡◌, nat_lt, IfOk};
+ghost use Rattle.std.specs.List.{filter};
+ghost use Rattle.std.specs.List.Sorted.{IsNonDecreasingBy};
+ghost use Rattle.miette_layout.specs.Sheets.{line_of_text};
+ghost use Rattle.miette_narrated.specs.Ends.{is_begun, is_ended, ends_within, labels_of, ranked, AreEnds, IsOrder};
+ghost use Rattle.miette_narrated.specs.Sweeping.{AreOrdered};
+
+use miette_layout::sheet::LineOfText;
+use miette_layout::sweep::Placed;
+use miette_protocol::protocol::LabeledSpan;
+use std::alloc::{AllocError, Global};
+
+/// A label, and how many come before it by offset.
+#[derive(Clone, Copy, Drop)]
+pub(crate) struct Ranked {
+    pub(crate) rank: usize,
+    pub(crate) label: Placed,
+}
+
+/// The labels as given, as they are placed by offset, and the placed ones by where they end.
+#[derive(Clone, Copy)]
+pub(crate) struct LabelOrder<'a> {
+    pub(crate) labels: &'a [LabeledSpan],
+    pub(crate) placed: &'a [Placed],
+    pub(crate) ends: &'a [Ranked],
+}
+
+// Each label with its rank.
+fn with_ranks(alloc: Global, placed: &[Placed]) -> Result<Vec<Ranked>, AllocError>
+    ensures { IfOk result (λ v. v.items ≡ ranked 0 placed.now) }
+{
+    let mut made = Vec::new(alloc);
+    for (rank, label) in placed.iter().enumerate() {
+        made.push(Ranked {
+            rank,
+            label: *label,
+        })?;
+    }
+    Ok(made)
+}
+
+/// Labels that come by offset, by where they end.
+pub(crate) fn by_end(alloc: Global, placed: &[Placed]) -> Result<Vec<Ranked>, AllocError>
+    ensures { IfOk result (λ v. AreEnds placed.now v.items) }
+{
+    let mut ends = with_ranks(alloc, placed)?;
+    ends.sort_by_key(|end| end.label.after)?;
+    Ok(ends)
+}
+
+// Of labels by where they end those that end within a line's text, found by halving.
+fn ending<'a>(ends: &'a [Ranked], line: &LineOfText) -> &'a [Ranked]
+    requires { IsNonDecreasingBy (λ end. end.label.after) ends.now }
+    ensures { result.now ≡ filter (λ end. ends_within (line_of_text line.now) end.label) ends.now }
+{
+    let first = ends.partition_point(|end| end.label.after < line.start);
+    let after = ends.partition_point(|end| end.label.after <= line.text_end);
+    &ends[first.min(after)..after]
+}
+
+// Those that begin before a place.
+fn begun_before(alloc: Global, ends: &[Ranked], place: usize) -> Result<Vec<Ranked>, AllocError>
+    ensures { IfOk result (λ v. v.items ≡ filter (λ end. nat_lt end.label.start place) ends.now) }
+{
+    let mut kept = Vec::new(alloc);
+    for end in ends {
+        if end.label.start < place {
+            kept.push(*end)?;
+        }
+    }
+    Ok(kept)
+}
+
+/// The labels that begin before a line and end within its text, by offset.
+pub(crate) fn ended_on(
+    alloc: Global,
+    order: &LabelOrder<'_>,
+    line: &LineOfText,
+) -> Result<Vec<Ranked>, AllocError>
+    requires { IsOrder order.now }
+    ensures { IfOk result (λ v. labels_of v.items ≡ filter (is_ended (line_of_text line.now)) order.now.placed.now) }
+{
+    let mut ended = begun_before(alloc, ending(order.ends, line), line.start)?;
+    ended.sort_by_key(|end| end.rank)?;
+    Ok(ended)
+}
+
+/// The labels that begin within a line's text, found by halving.
+pub(crate) fn begun_on<'a>(placed: &'a [Placed], line: &LineOfText) -> &'a [Placed]
+    requires { AreOrdered placed.now }
+    ensures { result.now ≡ filter (is_begun (line_of_text line.now)) placed.now }
+{
+    let first = placed.partition_point(|label| label.start < line.start);
+    let after = placed.partition_point(|label| label.start <= line.text_end);
+    &placed[first.min(after)..after]
+}
