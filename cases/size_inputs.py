@@ -60,6 +60,12 @@ CHARACTERS = {
     "emoji": "👩‍👩‍👧".encode(),
     "FF": b"\xff",
 }
+# Characters that stand joined or paired with their neighbours on a whole line.
+JOINED = {
+    "joined emoji": "👩\u200d".encode(),
+    "flags": "🇫🇷".encode(),
+    "Khmer": "ក".encode(),
+}
 WORDS = "alpha beta-gamma delta "
 
 
@@ -251,6 +257,10 @@ def long_lines():
         if kind != "FF":
             sizes = doubled(1_000, 64_000)
             yield Family(f"labels on {kind}", labels_on(unit), sizes, (8_000,), TOLD)
+    for kind, unit in JOINED.items():
+        sizes = doubled(1_000, 64_000)
+        gate = () if kind == "joined emoji" else (1_000,)
+        yield Family(f"labels on {kind}", labels_on(unit), sizes, gate, (NARRATED,))
     sizes = (10_000_000, 100_000_000)
     yield Family("up to 100 MB of FF", repeated(b"\xff"), sizes, (), (DRAW, LINT))
 

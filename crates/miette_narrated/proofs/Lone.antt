@@ -1,5 +1,5 @@
 -- Characters that join nothing that stands behind them: behind such a one widths add up.
-use Rattle.std.proofs.Common.{ℕ, zero, suc, ◌+◌, ◌<◌, ◌≤◌, ◌≡◌, Bool, true, false, cond, not, ◌&&◌, ◌||◌, ◌==◌, nat_le, List, [], ◌∷◌, ◌++◌, None, refl, sym, ap, subst, ◌∙◌, arith, add-one, inl, inr}
+use Rattle.std.proofs.Common.{ℕ, zero, suc, ◌+◌, ◌<◌, ◌≤◌, ◌≡◌, Bool, true, false, cond, not, ◌&&◌, ◌||◌, ◌==◌, nat_le, List, [], ◌∷◌, ◌++◌, None, refl, sym, ap, subst, ◌∙◌, add-one, inl, inr}
 use Rattle.std.specs.Prelude.{if◌then◌else◌}
 use Rattle.std.specs.Int.{is_in_range}
 use Rattle.std.specs.List.{list_all}
@@ -29,7 +29,7 @@ use Rattle.miette_narrated.proofs.Sweeps.{by_cases}
 
 abbrev lone_ranges : List Range
 lone_ranges =
-    (0x20, 0x22) ∷ (0x24, 0x29) ∷ (0x2B, 0x2F) ∷ (0x3A, 0x7E) ∷ (0xAF, 0x2FF) ∷ (0x391, 0x482) ∷ (0x48A, 0x52F) ∷ (0x3001, 0x3029) ∷ (0x3041, 0x3096) ∷ (0x30A0, 0x30FF) ∷ (0x3400, 0x4DBF) ∷ (0x4E00, 0x9FFF) ∷ (0xAC00, 0xD7A3) ∷ []
+    (0x20, 0x22) ∷ (0x24, 0x29) ∷ (0x2B, 0x2F) ∷ (0x3A, 0x7E) ∷ (0xAF, 0x2FF) ∷ (0x391, 0x482) ∷ (0x48A, 0x52F) ∷ (0x621, 0x643) ∷ (0x1780, 0x17B3) ∷ (0x3001, 0x3029) ∷ (0x3041, 0x3096) ∷ (0x30A0, 0x30FF) ∷ (0x3400, 0x4DBF) ∷ (0x4E00, 0x9FFF) ∷ (0xAC00, 0xD7A3) ∷ []
 
 pub or_false : (b : Bool) → b ≡ (b || false)
 or_false true = refl
@@ -84,6 +84,8 @@ abbrev is_other_kind : Kind → Bool
 is_other_kind kinds.Narrow = false
 is_other_kind kinds.Wide = false
 is_other_kind kinds.Ambiguous = false
+is_other_kind kinds.Alef = false
+is_other_kind kinds.KhmerLetter = false
 is_other_kind _ = true
 
 no_other : (c : ℕ) → is_lone c ≡ true → is_other_kind (kind c) ≡ false
@@ -136,8 +138,8 @@ no_emoji_kind kinds.Zero e = absurd (true≢false e)
 no_emoji_kind kinds.Narrow e = refl
 no_emoji_kind kinds.Wide e = refl
 no_emoji_kind kinds.Ambiguous e = refl
-no_emoji_kind kinds.Alef e = absurd (true≢false e)
-no_emoji_kind kinds.KhmerLetter e = absurd (true≢false e)
+no_emoji_kind kinds.Alef e = refl
+no_emoji_kind kinds.KhmerLetter e = refl
 no_emoji_kind kinds.TifinaghConsonant e = absurd (true≢false e)
 no_emoji_kind kinds.LisuTone e = absurd (true≢false e)
 no_emoji_kind kinds.RegionalIndicator e = absurd (true≢false e)
@@ -148,14 +150,14 @@ no_emoji_kind kinds.Single e = absurd (true≢false e)
 no_emoji : (c : ℕ) → is_lone c ≡ true → is_emoji (kind c) ≡ false
 no_emoji c h = no_emoji_kind (kind c) (no_other c h)
 
--- its own width, and nothing for what stands before it
-own_kind : (c : ℕ) (k : Kind) → is_other_kind k ≡ false → ((of_kind false c k).1 ≡ plain) × (((of_kind false c k).0 == 0) ≡ false)
+-- it has some width of its own
+own_kind : (c : ℕ) (k : Kind) → is_other_kind k ≡ false → ((of_kind false c k).0 == 0) ≡ false
 own_kind c kinds.Zero e = absurd (true≢false e)
-own_kind c kinds.Narrow e = (refl, refl)
-own_kind c kinds.Wide e = (refl, refl)
-own_kind c kinds.Ambiguous e = (refl, refl)
-own_kind c kinds.Alef e = absurd (true≢false e)
-own_kind c kinds.KhmerLetter e = absurd (true≢false e)
+own_kind c kinds.Narrow e = refl
+own_kind c kinds.Wide e = refl
+own_kind c kinds.Ambiguous e = refl
+own_kind c kinds.Alef e = refl
+own_kind c kinds.KhmerLetter e = refl
 own_kind c kinds.TifinaghConsonant e = absurd (true≢false e)
 own_kind c kinds.LisuTone e = absurd (true≢false e)
 own_kind c kinds.RegionalIndicator e = absurd (true≢false e)
@@ -163,7 +165,7 @@ own_kind c kinds.EmojiModifier e = absurd (true≢false e)
 own_kind c kinds.Emoji e = absurd (true≢false e)
 own_kind c kinds.Single e = absurd (true≢false e)
 
-own : (c : ℕ) → is_lone c ≡ true → ((alone false c).1 ≡ plain) × (((alone false c).0 == 0) ≡ false)
+own : (c : ℕ) → is_lone c ≡ true → ((alone false c).0 == 0) ≡ false
 unfolding alone
 own c h = own_kind c (kind c) (no_other c h)
 
@@ -211,7 +213,7 @@ joins_none afters.KhmerLetter c h some = rw (no_one c 0x17D2 refl h) refl
 past_quotes : (c t : ℕ) (after : After) → is_lone c ≡ true → past_selectors false c t after ≡ added t (alone false c)
 unfolding past_selectors
 past_quotes c t after h =
-    rw (no_one c 0x200D refl h, no_transparent c h, and_right (skips_marks after) false refl, joins_none after c h (own c h).1) refl
+    rw (no_one c 0x200D refl h, no_transparent c h, and_right (skips_marks after) false refl, joins_none after c h (own c h)) refl
 
 in_any_context : (c t : ℕ) (s : State) → is_lone c ≡ true → in_context false c t s ≡ added t (alone false c)
 unfolding in_context
@@ -219,21 +221,22 @@ in_any_context c t s h =
     rw (no_one c 0xFE0F refl h, no_one c 0xFE01 refl h, no_one c 0xFE0E refl h, no_presentation c h, no_single_quote c h, no_double_quote c h, and_right s.text false refl, and_right s.quote false refl)
     (past_quotes c t s.after h)
 
-past_high : (c t : ℕ) (s : State) → is_lone c ≡ true → 0xA0 < c → past_emoji false c t s ≡ (t + (alone false c).0, plain)
+past_high : (c t : ℕ) (s : State) → is_lone c ≡ true → 0xA0 < c → past_emoji false c t s ≡ added t (alone false c)
 unfolding past_emoji
 past_high c t s h high =
-    by_cases {C = past_emoji false c t s ≡ (t + (alone false c).0, plain)} (is_plain s)
-    (λ y. rw (no_one c 0x0A refl h, no_one c 0x0D refl h, lt-leb c 0xA0 high, y) (ap (λ x. (t + (alone false c).0, x)) (own c h).0))
-    (λ n. rw (no_one c 0x0A refl h, no_one c 0x0D refl h, lt-leb c 0xA0 high, n) (in_any_context c t s h ∙ ap (λ x. (t + (alone false c).0, x)) (own c h).0))
+    by_cases {C = past_emoji false c t s ≡ added t (alone false c)} (is_plain s)
+    (λ y. rw (no_one c 0x0A refl h, no_one c 0x0D refl h, lt-leb c 0xA0 high, y) refl)
+    (λ n. rw (no_one c 0x0A refl h, no_one c 0x0D refl h, lt-leb c 0xA0 high, n) (in_any_context c t s h))
 
-abbrev lone_width : ℕ → ℕ
-lone_width c = if nat_le c 0xA0 then 1 else (alone false c).0
+-- its width, and what it is for the character before it
+abbrev lone_own : ℕ → ℕ × State
+lone_own c = if nat_le c 0xA0 then (1, plain) else alone false c
 
-past_all : (c t : ℕ) (s : State) → is_lone c ≡ true → past_emoji false c t s ≡ (t + lone_width c, plain)
+past_all : (c t : ℕ) (s : State) → is_lone c ≡ true → past_emoji false c t s ≡ added t (lone_own c)
 past_all c t s h =
     elim (cases_lt 0xA0 c) [
-      | inl high ↦ past_high c t s h high ∙ ap (λ n. (t + n, plain)) (sym (cond-false _ _ _ (lt-leb c 0xA0 high)))
-      | inr low ↦ past_low c t s h low ∙ ap (λ n. (t + n, plain)) (sym (cond-true _ _ _ (le-leb c 0xA0 low)))
+      | inl high ↦ past_high c t s h high ∙ ap (added t) (sym (cond-false _ _ _ (lt-leb c 0xA0 high)))
+      | inr low ↦ past_low c t s h low ∙ ap (added t) (sym (cond-true _ _ _ (le-leb c 0xA0 low)))
     ]
 
 chosen : (e v : Bool) (a b d r : Reading) → v ≡ false → a ≡ r → d ≡ r → cond (not e) a (cond v b d) ≡ r
@@ -241,11 +244,11 @@ chosen false v a b d r n p q = p
 chosen true false a b d r n p q = q
 chosen true true a b d r n p q = absurd (true≢false n)
 
-step_lone : (c t : ℕ) (s : State) → is_lone c ≡ true → step false c (t, s) ≡ (t + lone_width c, plain)
+step_lone : (c t : ℕ) (s : State) → is_lone c ≡ true → step false c (t, s) ≡ added t (lone_own c)
 unfolding step
 step_lone c t s h =
     chosen s.emoji (is_emoji_variation_base c) (past_emoji false c t s) (t + (if is_joined_emoji s.after then 0 else 2), before afters.Emoji)
-    (past_emoji false c t (record (if_kept s) { emoji = false })) (t + lone_width c, plain) (no_variation c h) (past_all c t s h)
+    (past_emoji false c t (record (if_kept s) { emoji = false })) (added t (lone_own c)) (no_variation c h) (past_all c t s h)
     (past_all c t (record (if_kept s) { emoji = false }) h)
 
 -- ---- so widths add up
@@ -277,8 +280,5 @@ pub adds_up : (xs ys : List ℕ) (c : ℕ) → is_lone c ≡ true → str_width 
 unfolding str_width
 adds_up xs ys c h =
     let r = read_before false ys (0, plain) in
-    let there : str_width false (xs ++ c ∷ ys) ≡ str_width false xs + (r.0 + lone_width c) =
-    ap (λ x. x.0) (read_append xs (c ∷ ys) (0, plain)) ∙ ap (λ x. (read_before false xs x).0) (step_lone c r.0 r.1 h) ∙ shifted xs (r.0 + lone_width c) in
-    let here : str_width false (xs ++ c ∷ []) ≡ str_width false xs + (0 + lone_width c) =
-    ap (λ x. x.0) (read_append xs (c ∷ []) (0, plain)) ∙ ap (λ x. (read_before false xs x).0) (step_lone c 0 plain h) ∙ shifted xs (0 + lone_width c) in
-    omega (arith, there, here)
+    ap (λ x. x.0) (read_append xs (c ∷ ys) (0, plain)) ∙ ap (λ x. (read_before false xs x).0) (step_lone c r.0 r.1 h ∙ sym (step_lone c r.0 plain h))
+    ∙ ap (λ x. x.0) (sym (read_append xs (c ∷ []) (r.0, plain))) ∙ shifted (xs ++ c ∷ []) r.0

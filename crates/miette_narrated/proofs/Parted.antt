@@ -19,7 +19,7 @@ use Rattle.unicode_width.specs.Width.{before, plain, is_joined_emoji, is_line_fe
 use Rattle.unicode_width.proofs.KindLemmas.{kind_stepped, is_ligature_transparent_stepped}
 use Rattle.unicode_width.proofs.Computing.{unicode_width}
 use Rattle.miette_layout.specs.Given.{width_of}
-use Rattle.miette_narrated.specs.Parting.{is_lone, is_joining, is_closing, parts}
+use Rattle.miette_narrated.specs.Parting.{is_lone, is_joining, is_closing, may_part}
 use Rattle.miette_narrated.proofs.Lone.{adds_up, shifted, read_append, from_not, or_false, or_turn}
 use Rattle.miette_narrated.proofs.Sweeps.{by_cases}
 
@@ -352,7 +352,7 @@ closed xs ys b d h n =
     ∙ ap (λ x. x.0) (sym (read_append xs (b ∷ []) (r.0, plain)))
     ∙ shifted (xs ++ b ∷ []) r.0
 
-pub parted : (xs ys : List ℕ) (b d : ℕ) → parts b d ≡ true → str_width false (xs ++ b ∷ d ∷ ys) ≡ str_width false (xs ++ b ∷ []) + str_width false (d ∷ ys)
+pub parted : (xs ys : List ℕ) (b d : ℕ) → may_part b d ≡ true → str_width false (xs ++ b ∷ d ∷ ys) ≡ str_width false (xs ++ b ∷ []) + str_width false (d ∷ ys)
 parted xs ys b d h =
     elim (or_cases (is_lone b) (is_closing d && not (b == 0x200D)) h) [
       | inl lone ↦ adds_up xs (d ∷ ys) b lone

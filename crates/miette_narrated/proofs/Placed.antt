@@ -8,7 +8,7 @@ use Rattle.miette_layout.specs.Given.{width_of}
 use Rattle.miette_layout.proofs.Stepping.{IsFirst, characters_step}
 use Rattle.miette_narrated.specs.declared.places.Place.{Place}
 use Rattle.miette_narrated.specs.Columns.{begun, is_boundary, widths, column}
-use Rattle.miette_narrated.specs.Parting.{parts}
+use Rattle.miette_narrated.specs.Parting.{may_part}
 use Rattle.miette_narrated.specs.Places.{column_behind, IsPlace}
 use Rattle.miette_narrated.proofs.Columning.{IsOver, none_over, one_over, begun_more, begun_zero, chars_pushed, at_boundary, off_boundary, behind_boundary, behind_other}
 use Rattle.miette_narrated.proofs.Parted.{parted, no_width}
@@ -78,24 +78,31 @@ pub record EndsBy (text : List ℕ) (last : ℕ) : Type 0 where
 pub ends_pushed : (old new : List ℕ) (code : ℕ) → IsUtf8 old → IsUtf8 new → new ≡ old ++ encode_utf8 code → EndsBy new code
 ends_pushed old new code u v e = record { front = chars old; is = chars_pushed old new code u v e }
 
--- a text before which another ends is parted from it
-parted_begun : (over front : List ℕ) (last code size more : ℕ) (bytes after : List ℕ) → IsFirst bytes after code size → over ≡ front ++ last ∷ [] → parts last code ≡ true →
-    str_width false (over ++ begun more (characters bytes)) ≡ str_width false over + str_width false (begun more (characters bytes))
-parted_begun over front last code size zero bytes after first e h =
+-- text that ends before a character adds its width to that of what begins there
+abbrev pub IsPart : List ℕ → ℕ → Type 0
+IsPart over code = (later : List ℕ) → str_width false (chars over ++ code ∷ later) ≡ str_width false (chars over) + str_width false (code ∷ later)
+
+pub ends_part : (over : List ℕ) (last code : ℕ) → EndsBy over last → may_part last code ≡ true → IsPart over code
+ends_part over last code ends h later =
+    ap (λ o. str_width false (o ++ code ∷ later)) ends.is ∙ ap (str_width false) (append_assoc ends.front (last ∷ []) (code ∷ later))
+    ∙ parted ends.front later last code h ∙ ap (λ o. str_width false o + str_width false (code ∷ later)) (sym ends.is)
+
+parted_begun : (over : List ℕ) (code size more : ℕ) (bytes after : List ℕ) → IsFirst bytes after code size → IsPart over code →
+    str_width false (chars over ++ begun more (characters bytes)) ≡ str_width false (chars over) + str_width false (begun more (characters bytes))
+parted_begun over code size zero bytes after first part =
     let none = begun_zero (characters bytes) in
-    let here : str_width false (over ++ begun 0 (characters bytes)) ≡ str_width false over = ap (λ o. str_width false (over ++ o)) none ∙ ap (str_width false) (append-nil over) in
+    let here : str_width false (chars over ++ begun 0 (characters bytes)) ≡ str_width false (chars over) = ap (λ o. str_width false (chars over ++ o)) none ∙ ap (str_width false) (append-nil (chars over)) in
     let empty : str_width false (begun 0 (characters bytes)) ≡ 0 = ap (str_width false) none ∙ no_width in
     omega (arith, here, empty)
-parted_begun over front last code size (suc more) bytes after first e h =
+parted_begun over code size (suc more) bytes after first part =
     let later = begun (suc more - size) (characters after) in
     let step : begun (suc more) (characters bytes) ≡ code ∷ later = ap (begun (suc more)) (characters_step bytes after code size first) ∙ begun_more (suc more) code size (characters after) (omega arith) in
-    ap (λ o. str_width false (over ++ o)) step ∙ ap (λ o. str_width false (o ++ code ∷ later)) e ∙ ap (str_width false) (append_assoc front (last ∷ []) (code ∷ later))
-    ∙ parted front later last code h ∙ ap (λ o. str_width false o + str_width false (code ∷ later)) (sym e) ∙ ap (λ o. str_width false over + str_width false o) (sym step)
+    ap (λ o. str_width false (chars over ++ o)) step ∙ part later ∙ ap (λ o. str_width false (chars over) + str_width false o) (sym step)
 
 -- between characters where a text may be parted is a place
-pub next_place : (text : List ℕ) (from place : Place) (over after : List ℕ) (last code size : ℕ) → IsPlace text from → IsSince text from over place.widths place.bytes → EndsBy over last →
-    IsFirst (drop place.bytes text) after code size → parts last code ≡ true → place.column ≡ from.column + str_width false (chars over) → IsPlace text place
-next_place text from place over after last code size is h ends first part c = (
+pub next_place : (text : List ℕ) (from place : Place) (over after : List ℕ) (code size : ℕ) → IsPlace text from → IsSince text from over place.widths place.bytes →
+    IsFirst (drop place.bytes text) after code size → IsPart over code → place.column ≡ from.column + str_width false (chars over) → IsPlace text place
+next_place text from place over after code size is h first part c = (
   h.within,
   λ more.
       let start = drop from.bytes text in
@@ -104,7 +111,7 @@ next_place text from place over after last code size is h ends first part c = (
       let it = h.each more in
       let at : place.bytes + more ≡ from.bytes + k = omega (arith, h.behind) in
       let wide : str_width false (begun k (characters start)) ≡ str_width false (chars over) + str_width false (begun more cs) =
-      ap (str_width false) (sym it.all) ∙ parted_begun (chars over) ends.front last code size more (drop place.bytes text) after first ends.is part in
+      ap (str_width false) (sym it.all) ∙ parted_begun over code size more (drop place.bytes text) after first part in
       ap (λ n. column n (characters text)) at ∙ is.1 k
       ∙ by_cases {C = column_behind from k (characters start) ≡ column_behind place more cs} (is_boundary more cs)
       (λ y. let sums : from.column + str_width false (begun k (characters start)) ≡ place.column + str_width false (begun more cs) = omega (arith, wide, c) in

@@ -2,7 +2,8 @@
 
 ghost use Rattle.std.specs.Prelude.{◌≡◌};
 ghost use Rattle.std.specs.Int.{is_in_range};
-ghost use Rattle.miette_narrated.specs.Parting.{is_lone, is_joining, is_closing, parts};
+ghost use Rattle.miette_narrated.specs.Parting.{is_lone, is_joining, is_closing, may_part, may_part_flags};
+ghost use Rattle.unicode_width.specs.Width.{is_indicator};
 
 use miette_layout::cells::columns_of;
 
@@ -24,6 +25,8 @@ fn is_lone(character: char) -> bool
         || in_range(code, 0xaf, 0x2ff)
         || in_range(code, 0x391, 0x482)
         || in_range(code, 0x48a, 0x52f)
+        || in_range(code, 0x621, 0x643)
+        || in_range(code, 0x1780, 0x17b3)
         || in_range(code, 0x3001, 0x3029)
         || in_range(code, 0x3041, 0x3096)
         || in_range(code, 0x30a0, 0x30ff)
@@ -67,8 +70,22 @@ fn is_closing(character: char) -> bool
 }
 
 /// Whether a text may be parted between two neighbours.
-pub(crate) fn parts(last: char, next: char) -> bool
-    ensures { result ≡ parts last next }
+pub(crate) fn may_part(last: char, next: char) -> bool
+    ensures { result ≡ may_part last next }
 {
     is_lone(last) || is_closing(next) && last != '\u{200d}'
+}
+
+/// Whether a character is a regional indicator, two of which are a flag.
+pub(crate) fn is_indicator(character: char) -> bool
+    ensures { result ≡ is_indicator character }
+{
+    in_range(character as u32, 0x1f1e6, 0x1f1ff)
+}
+
+/// Whether a text may be parted between two regional indicators, where the first one ends a flag or is half of one.
+pub(crate) fn may_part_flags(last: char, is_half: bool, next: char) -> bool
+    ensures { result ≡ may_part_flags last is_half next }
+{
+    !is_half && is_indicator(last) && is_indicator(next)
 }

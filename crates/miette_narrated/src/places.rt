@@ -5,7 +5,7 @@ ghost use Rattle.std.specs.List.{All};
 ghost use Rattle.unicode_width.specs.Width.{str_width};
 ghost use Rattle.miette_narrated.specs.Places.{IsPlace};
 
-use crate::parting::parts;
+use crate::parting::{is_indicator, may_part, may_part_flags};
 use miette_layout::cells::{columns_of, first_character};
 use std::alloc::{AllocError, Global};
 use unicode_width::UnicodeWidthStr;
@@ -50,12 +50,15 @@ fn next_place(alloc: Global, text: &[u8], from: Place) -> Result<Option<Place>, 
 {
     let mut over = String::new(alloc);
     let mut last = '\0';
+    let mut is_half = false;
     let mut widths = from.widths;
     let mut bytes = from.bytes;
     while bytes < text.len() {
         let rest = &text[bytes..];
         let (code, size) = first_character(rest);
-        if bytes - from.bytes >= APART && parts(last, code) {
+        if bytes - from.bytes >= APART
+            && (may_part(last, code) || may_part_flags(last, is_half, code))
+        {
             let column = column_after(from, over.as_str())?;
             return Ok(Some(Place {
                 bytes,
@@ -67,6 +70,7 @@ fn next_place(alloc: Global, text: &[u8], from: Place) -> Result<Option<Place>, 
         let Some(wider) = widths.checked_add(columns_of(code)) else {
             return Err(AllocError);
         };
+        is_half = is_indicator(code) && !is_half;
         last = code;
         widths = wider;
         bytes += size;

@@ -1,17 +1,21 @@
-use Rattle.std.proofs.Common.{◌≡◌, ◌+◌, ◌-◌, ◌<◌, true, false, drop, length, string_bytes, ap, subst, ◌∙◌, refl, rules, arith, length-drop}
+use Rattle.std.proofs.Common.{◌≡◌, ◌+◌, ◌-◌, ◌<◌, false, drop, length, string_bytes, ap, subst, ◌∙◌, refl, rules, arith, length-drop, inl, inr}
+use Rattle.std.proofs.lemmas.Bool.{or_cases}
 use Rattle.std.specs.Prelude.{chars}
 use Rattle.std.proofs.lemmas.List.{take_rest}
 use Rattle.std.proofs.lemmas.Str.{IsUtf8-string_bytes}
 use Rattle.unicode_width.specs.Width.{str_width}
 use Rattle.miette_layout.specs.Given.{width_of}
 use Rattle.miette_layout.proofs.Stepping.{IsFirst}
-use Rattle.miette_narrated.specs.Parting.{parts}
-use Rattle.miette_narrated.proofs.Placed.{none_since, one_since, ends_pushed, next_place}
+use Rattle.miette_narrated.specs.Parting.{may_part, may_part_flags}
+use Rattle.miette_narrated.proofs.Columning.{chars_pushed}
+use Rattle.miette_narrated.proofs.Flags.{no_flags, flags_pushed, flags_part}
+use Rattle.miette_narrated.proofs.Placed.{IsPart, ends_part, none_since, one_since, ends_pushed, next_place}
 use Rattle.miette_narrated.proofs.places.next_place.Goals as goal
 
 pub loop-bytes-init : goal.loop-bytes-init
 loop-bytes-init c = record {
   since = none_since c.args.text.now c.args.from (string_bytes c.new-over.result) c.requires.0 c.new-over.ensures.bytes;
+  flags = no_flags (string_bytes c.new-over.result) 0 c.new-over.ensures.bytes refl;
   last = λ h. absurd (omega (arith, h));
 }
 
@@ -35,11 +39,13 @@ loop-bytes-preserved c =
       since = one_since text c.args.from (string_bytes c.loop-bytes.over) (string_bytes c.push.new.self) c.loop-bytes.widths c.in-Some.wider bytes (bytes + size) code size c.loop-bytes.invariant.since first
           (IsUtf8-string_bytes c.loop-bytes.over) (IsUtf8-string_bytes c.push.new.self) c.in_ok-push.ensures.bytes wider c.first_character-code.ensures.some refl
           (omega (arith, c.first_character-code.ensures.within, ap length (take_rest text bytes), left, c.loop-bytes-test.true));
+      flags = flags_pushed (string_bytes c.loop-bytes.over) (string_bytes c.push.new.self) c.loop-bytes.last code c.loop-bytes.is_half _ c.loop-bytes.invariant.flags
+          (chars_pushed (string_bytes c.loop-bytes.over) (string_bytes c.push.new.self) code (IsUtf8-string_bytes c.loop-bytes.over) (IsUtf8-string_bytes c.push.new.self) c.in_ok-push.ensures.bytes) (search rules);
       last = λ h. ends_pushed (string_bytes c.loop-bytes.over) (string_bytes c.push.new.self) code (IsUtf8-string_bytes c.loop-bytes.over) (IsUtf8-string_bytes c.push.new.self) c.in_ok-push.ensures.bytes;
     }
 
-pub returns-then-parts : goal.returns-then-parts
-returns-then-parts c =
+pub returns-then-may_part_flags : goal.returns-then-may_part_flags
+returns-then-may_part_flags c =
     let text = c.args.text.now in
     let from = c.args.from in
     let bytes = c.loop-bytes.bytes in
@@ -55,9 +61,12 @@ returns-then-parts c =
       size_is = c.first_character-code.ensures.size;
     }) in
     let behind : from.bytes < bytes = search rules in
-    let part : parts c.loop-bytes.last code ≡ true = search rules in (
-      next_place text from _ (string_bytes c.loop-bytes.over) (drop size (drop bytes text)) c.loop-bytes.last code size c.requires c.loop-bytes.invariant.since
-          (c.loop-bytes.invariant.last behind) first part
+    let part : IsPart (string_bytes c.loop-bytes.over) code =
+    elim (or_cases (may_part c.loop-bytes.last code) (may_part_flags c.loop-bytes.last c.loop-bytes.is_half code) (search rules)) [
+      | inl h ↦ ends_part (string_bytes c.loop-bytes.over) c.loop-bytes.last code (c.loop-bytes.invariant.last behind) h
+      | inr h ↦ flags_part (string_bytes c.loop-bytes.over) c.loop-bytes.last code c.loop-bytes.is_half c.loop-bytes.invariant.flags h
+    ] in (
+      next_place text from _ (string_bytes c.loop-bytes.over) (drop size (drop bytes text)) code size c.requires c.loop-bytes.invariant.since first part
           (c.in_ok-column.ensures ∙ ap (λ t. from.column + str_width false (chars t)) c.as_str.ensures.value),
       behind,
     )
