@@ -2,7 +2,6 @@
 
 ghost use Rattle.std.specs.Prelude.{◌≡◌, ◌++◌, [], IfOk, OnOk, chars, not, option_map};
 ghost use Rattle.miette_text.specs.Runs.{print, printed_run};
-ghost use Rattle.miette_text.specs.Sequences.{spell};
 ghost use Rattle.miette_text.specs.Tame.{is_nil};
 ghost use Rattle.miette_handlers.specs.Parts as parts;
 ghost use Rattle.miette_handlers.specs.Modes.{urls_of};
@@ -11,20 +10,20 @@ ghost use Rattle.miette_handlers.specs.Views.{settings_of};
 use crate::settings::{Layout, UrlMode};
 use miette_layout::page::PLAIN;
 use miette_protocol::protocol::Severity;
-use miette_text::runs::Runs;
+use miette_text::runs::output::Output;
 use miette_text::style::Style;
 use std::alloc::AllocError;
 
 /// Ends the row, and leaves a blank one.
-fn push_blank_row(out: &mut Runs) -> Result<(), AllocError>
-    ensures { OnOk result (spell out.new ≡ spell out.old ++ print parts.blank_row) }
+fn push_blank_row(out: &mut Output) -> Result<(), AllocError>
+    ensures { OnOk result (out.new ≡ out.old ++ print parts.blank_row) }
 {
     out.push_chars(&['\n', '\n'])
 }
 
 /// Appends the code of a link, and a space behind it.
-fn push_linked_code(style: Style, code: &str, out: &mut Runs) -> Result<(), AllocError>
-    ensures { OnOk result (spell out.new ≡ spell out.old ++ print (parts.linked_code style (Some code.now))) }
+fn push_linked_code(style: Style, code: &str, out: &mut Output) -> Result<(), AllocError>
+    ensures { OnOk result (out.new ≡ out.old ++ print (parts.linked_code style (Some code.now))) }
 {
     if style == PLAIN {
         out.push_str(code)?;
@@ -41,9 +40,9 @@ fn push_link_header(
     style: Style,
     url: &str,
     code: Option<&str>,
-    out: &mut Runs,
+    out: &mut Output,
 ) -> Result<(), AllocError>
-    ensures { OnOk result (spell out.new ≡ spell out.old ++ print (parts.link_header (settings_of layout.entry) style url.now (option_map (λ t. t.now) code.entry))) }
+    ensures { OnOk result (out.new ≡ out.old ++ print (parts.link_header (settings_of layout.entry) style url.now (option_map (λ t. t.now) code.entry))) }
 {
     out.push_link(url)?;
     if let Some(code) = code {
@@ -55,8 +54,8 @@ fn push_link_header(
 }
 
 /// Appends a url in parentheses.
-fn push_url_behind(layout: Layout<'_>, url: &str, out: &mut Runs) -> Result<(), AllocError>
-    ensures { OnOk result (spell out.new ≡ spell out.old ++ print (parts.url_behind (settings_of layout.entry) (Some url.now))) }
+fn push_url_behind(layout: Layout<'_>, url: &str, out: &mut Output) -> Result<(), AllocError>
+    ensures { OnOk result (out.new ≡ out.old ++ print (parts.url_behind (settings_of layout.entry) (Some url.now))) }
 {
     out.push_chars(&[' ', '('])?;
     out.push_run(layout.theme.styles.link, url)?;
@@ -68,9 +67,9 @@ fn push_code_header(
     style: Style,
     code: &str,
     url: Option<&str>,
-    out: &mut Runs,
+    out: &mut Output,
 ) -> Result<(), AllocError>
-    ensures { OnOk result (spell out.new ≡ spell out.old ++ print (parts.code_header style (Some code.now) (parts.url_behind (settings_of layout.entry) (option_map (λ t. t.now) url.entry)))) }
+    ensures { OnOk result (out.new ≡ out.old ++ print (parts.code_header style (Some code.now) (parts.url_behind (settings_of layout.entry) (option_map (λ t. t.now) url.entry)))) }
 {
     out.push_run(style, code)?;
     if let Some(url) = url {
@@ -85,9 +84,9 @@ pub fn push_header(
     style: Style,
     url: Option<&str>,
     code: Option<&str>,
-    out: &mut Runs,
+    out: &mut Output,
 ) -> Result<bool, AllocError>
-    ensures text { OnOk result (spell out.new ≡ spell out.old ++ print (parts.header_by (urls_of layout.entry.urls) (settings_of layout.entry) style (option_map (λ t. t.now) url.entry) (option_map (λ t. t.now) code.entry))) }
+    ensures text { OnOk result (out.new ≡ out.old ++ print (parts.header_by (urls_of layout.entry.urls) (settings_of layout.entry) style (option_map (λ t. t.now) url.entry) (option_map (λ t. t.now) code.entry))) }
     ensures shown { IfOk result (λ shown. shown ≡ not (is_nil (parts.header_by (urls_of layout.entry.urls) (settings_of layout.entry) style (option_map (λ t. t.now) url.entry) (option_map (λ t. t.now) code.entry)))) }
 {
     let behind = match layout.urls {

@@ -13,6 +13,7 @@ ghost use Rattle.miette_text.specs.Wrapping.{wrapped};
 use crate::settings::{Layout, icon, severity_style};
 use miette_protocol::protocol::Severity;
 use miette_text::runs::Runs;
+use miette_text::runs::output::Output;
 use miette_text::runs::reading::{columns_of, read_text};
 use miette_text::wrap::{Plan, cuts_hyphens, wrap};
 use std::alloc::{AllocError, Global};
@@ -48,9 +49,9 @@ fn push_wrapped(
     alloc: Global,
     plan: Plan<'_>,
     text: &Runs,
-    out: &mut Runs,
+    out: &mut Output,
 ) -> Result<(), AllocError>
-    ensures { OnOk result (spell out.new ≡ spell out.old ++ (wrapped (layout_with plan.entry.wraps plan.entry.hyphens plan.entry.breaks plan.entry.width (spell plan.entry.first.now) (spell plan.entry.further.now)) (spell text.now) ++ parts.line_feed)) }
+    ensures { OnOk result (out.new ≡ out.old ++ (wrapped (layout_with plan.entry.wraps plan.entry.hyphens plan.entry.breaks plan.entry.width (spell plan.entry.first.now) (spell plan.entry.further.now)) (spell text.now) ++ parts.line_feed)) }
 {
     wrap(alloc, plan, text, out)?;
     out.push('\n')
@@ -138,9 +139,9 @@ pub fn push_under_arrow(
     layout: Layout<'_>,
     branch: Branch,
     text: &Runs,
-    out: &mut Runs,
+    out: &mut Output,
 ) -> Result<(), AllocError>
-    ensures { OnOk result (spell out.new ≡ spell out.old ++ parts.under_arrow (settings_of layout.entry) branch.outer branch.is_last (spell text.now)) }
+    ensures { OnOk result (out.new ≡ out.old ++ parts.under_arrow (settings_of layout.entry) branch.outer branch.is_last (spell text.now)) }
 {
     let first = arrow_indent(alloc, layout, branch)?;
     let further = stem_indent(alloc, layout, branch)?;
@@ -153,9 +154,9 @@ pub fn push_message(
     layout: Layout<'_>,
     severity: Option<Severity>,
     message: &str,
-    out: &mut Runs,
+    out: &mut Output,
 ) -> Result<(), AllocError>
-    ensures { OnOk result (spell out.new ≡ spell out.old ++ (indents.wrapped_under (settings_of layout.entry) (indents.icon_indent (settings_of layout.entry) severity) (indents.bar_indent (settings_of layout.entry) severity) (chars message.now) ++ parts.line_feed)) }
+    ensures { OnOk result (out.new ≡ out.old ++ (indents.wrapped_under (settings_of layout.entry) (indents.icon_indent (settings_of layout.entry) severity) (indents.bar_indent (settings_of layout.entry) severity) (chars message.now) ++ parts.line_feed)) }
 {
     let first = icon_indent(alloc, layout, severity)?;
     let further = bar_indent(alloc, layout, severity)?;
@@ -186,9 +187,9 @@ pub fn push_help(
     alloc: Global,
     layout: Layout<'_>,
     help: Option<&str>,
-    out: &mut Runs,
+    out: &mut Output,
 ) -> Result<(), AllocError>
-    ensures { OnOk result (spell out.new ≡ spell out.old ++ parts.help_text (settings_of layout.entry) (option_map (λ t. t.now) help.entry)) }
+    ensures { OnOk result (out.new ≡ out.old ++ parts.help_text (settings_of layout.entry) (option_map (λ t. t.now) help.entry)) }
 {
     let Some(help) = help else {
         return Ok(());
@@ -200,8 +201,8 @@ pub fn push_help(
 }
 
 /// Appends a blank row and the footer, where there is one.
-pub fn push_footer(alloc: Global, layout: Layout<'_>, out: &mut Runs) -> Result<(), AllocError>
-    ensures { OnOk result (spell out.new ≡ spell out.old ++ parts.footer_text (settings_of layout.entry)) }
+pub fn push_footer(alloc: Global, layout: Layout<'_>, out: &mut Output) -> Result<(), AllocError>
+    ensures { OnOk result (out.new ≡ out.old ++ parts.footer_text (settings_of layout.entry)) }
 {
     let Some(footer) = layout.footer else {
         return Ok(());

@@ -1,17 +1,15 @@
-//! Pages of rows as runs, and runs printed.
+//! Pages of rows, and what was printed put behind a text.
 
 ghost use Rattle.std.specs.Prelude.{◌≡◌, ◌++◌, OnErr, OnOk, encode_utf8_all, string_bytes};
-ghost use Rattle.miette_text.specs.Sequences.{spell};
 ghost use Rattle.miette_handlers.specs.Printing.{page_text, part_text};
 
 use miette_layout::page::{Page, Part};
-use miette_text::runs::Runs;
-use miette_text::runs::reading::print;
+use miette_text::runs::output::Output;
 use std::alloc::{AllocError, Global};
 
 // One part of a page.
-fn push_part(part: Part<'_>, out: &mut Runs) -> Result<(), AllocError>
-    ensures { OnOk result (spell out.new ≡ spell out.old ++ part_text part.entry) }
+fn push_part(part: Part<'_>, out: &mut Output) -> Result<(), AllocError>
+    ensures { OnOk result (out.new ≡ out.old ++ part_text part.entry) }
 {
     match part {
         Part::Run(style, text) => out.push_run(style, text),
@@ -21,8 +19,8 @@ fn push_part(part: Part<'_>, out: &mut Runs) -> Result<(), AllocError>
 }
 
 /// Appends the text of a page: each run in its style, a line feed behind each row.
-pub fn push_page(page: &Page, out: &mut Runs) -> Result<(), AllocError>
-    ensures { OnOk result (spell out.new ≡ spell out.old ++ page_text page.now) }
+pub fn push_page(page: &Page, out: &mut Output) -> Result<(), AllocError>
+    ensures { OnOk result (out.new ≡ out.old ++ page_text page.now) }
 {
     let mut parts = page.parts();
     'rest: while let Some(part) = parts.next() {
@@ -43,12 +41,11 @@ fn append(text: String, out: &mut String) -> Result<(), AllocError>
     out.push_str(text.as_str())
 }
 
-/// Appends what runs print; they are let go before. An `Err` leaves the text as it was.
-pub fn append_printed(alloc: Global, runs: Runs, out: &mut String) -> Result<(), AllocError>
-    ensures ok { OnOk result (string_bytes out.new ≡ string_bytes out.old ++ encode_utf8_all (spell runs)) }
+/// Appends what was printed. An `Err` leaves the text as it was.
+pub fn append_printed(alloc: Global, printed: Output, out: &mut String) -> Result<(), AllocError>
+    ensures ok { OnOk result (string_bytes out.new ≡ string_bytes out.old ++ encode_utf8_all printed) }
     ensures err { OnErr result (string_bytes out.new ≡ string_bytes out.old) }
 {
-    let text = print(alloc, &runs)?;
-    drop(runs);
+    let text = printed.into_text(alloc)?;
     append(text, out)
 }

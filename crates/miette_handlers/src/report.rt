@@ -35,6 +35,7 @@ use miette_protocol::protocol::{Diagnostic, LabeledSpan, Severity};
 use miette_protocol::source::SourceCode;
 use miette_text::highlight::Highlighter;
 use miette_text::runs::Runs;
+use miette_text::runs::output::Output;
 use miette_text::runs::reading::read_text;
 use miette_text::wrap::cutting::{without_leading, without_trailing};
 use miette_tree::report::{Cause, Report, SourceRef};
@@ -46,9 +47,9 @@ fn push_rows<D: Diagnostic, S: SourceCode, H: Highlighter>(
     layout: Layout<'_>,
     source: Option<SourceRef<'_, S>>,
     report: &Report<D, S>,
-    out: &mut Runs,
+    out: &mut Output,
 ) -> Result<(), RenderError>
-    ensures ok { OnOk result (AppendsOne (IsDrawn drawn_rows (settings_of layout.entry) (leaves_plain H.is_blank pen.old.highlighter) (option_map (shown_source S.source) source.entry) (head (tree_of D.meaning S.source report.now))) (spell out.old) (spell out.new)) }
+    ensures ok { OnOk result (AppendsOne (IsDrawn drawn_rows (settings_of layout.entry) (leaves_plain H.is_blank pen.old.highlighter) (option_map (shown_source S.source) source.entry) (head (tree_of D.meaning S.source report.now))) out.old out.new) }
     ensures refused { (result ≡ Err RenderError.Refused) → always_reads (option_map (shown_source S.source) source.entry) (head (tree_of D.meaning S.source report.now)) ≡ false }
     ensures stays { leaves_plain H.is_blank pen.new.highlighter ≡ leaves_plain H.is_blank pen.old.highlighter }
 {
@@ -64,9 +65,9 @@ fn push_shown<D: Diagnostic, S: SourceCode, H: Highlighter>(
     layout: Layout<'_>,
     source: SourceRef<'_, S>,
     report: &Report<D, S>,
-    out: &mut Runs,
+    out: &mut Output,
 ) -> Result<(), RenderError>
-    ensures ok { OnOk result (AppendsOne (IsDrawn drawn_rows (settings_of layout.entry) (leaves_plain H.is_blank pen.old.highlighter) (Some (shown_source S.source source.entry)) (head (tree_of D.meaning S.source report.now))) (spell out.old) (spell out.new)) }
+    ensures ok { OnOk result (AppendsOne (IsDrawn drawn_rows (settings_of layout.entry) (leaves_plain H.is_blank pen.old.highlighter) (Some (shown_source S.source source.entry)) (head (tree_of D.meaning S.source report.now))) out.old out.new) }
     ensures refused { (result ≡ Err RenderError.Refused) → always_reads (Some (shown_source S.source source.entry)) (head (tree_of D.meaning S.source report.now)) ≡ false }
     ensures stays { leaves_plain H.is_blank pen.new.highlighter ≡ leaves_plain H.is_blank pen.old.highlighter }
 {
@@ -83,9 +84,9 @@ fn push_drawn<S: SourceCode, H: Highlighter>(
     layout: Layout<'_>,
     source: SourceRef<'_, S>,
     labels: &[LabeledSpan],
-    out: &mut Runs,
+    out: &mut Output,
 ) -> Result<(), RenderError>
-    ensures ok { OnOk result (AppendsOne (AreDrawn (settings_of layout.entry) (leaves_plain H.is_blank pen.old.highlighter) (shown_source S.source source.entry) labels.now) (spell out.old) (spell out.new)) }
+    ensures ok { OnOk result (AppendsOne (AreDrawn (settings_of layout.entry) (leaves_plain H.is_blank pen.old.highlighter) (shown_source S.source source.entry) labels.now) out.old out.new) }
     ensures refused { (result ≡ Err RenderError.Refused) → (shown_source S.source source.entry).always_reads ≡ false }
     ensures stays { leaves_plain H.is_blank pen.new.highlighter ≡ leaves_plain H.is_blank pen.old.highlighter }
 {
@@ -136,9 +137,9 @@ fn own_or<'a, D: Diagnostic, S: SourceCode>(
 fn push_header_of<D: Diagnostic, S: SourceCode>(
     layout: Layout<'_>,
     report: &Report<D, S>,
-    out: &mut Runs,
+    out: &mut Output,
 ) -> Result<bool, AllocError>
-    ensures text { OnOk result (spell out.new ≡ spell out.old ++ runs.print (parts.header (settings_of layout.entry) (head (tree_of D.meaning S.source report.now)))) }
+    ensures text { OnOk result (out.new ≡ out.old ++ runs.print (parts.header (settings_of layout.entry) (head (tree_of D.meaning S.source report.now)))) }
     ensures shown { IfOk result (λ shown. shown ≡ not (is_nil (parts.header (settings_of layout.entry) (head (tree_of D.meaning S.source report.now))))) }
 {
     push_header(
@@ -154,9 +155,9 @@ fn push_message_of<D: Diagnostic, S: SourceCode>(
     alloc: Global,
     layout: Layout<'_>,
     report: &Report<D, S>,
-    out: &mut Runs,
+    out: &mut Output,
 ) -> Result<(), AllocError>
-    ensures { OnOk result (spell out.new ≡ spell out.old ++ parts.message_text (settings_of layout.entry) (head (tree_of D.meaning S.source report.now))) }
+    ensures { OnOk result (out.new ≡ out.old ++ parts.message_text (settings_of layout.entry) (head (tree_of D.meaning S.source report.now))) }
 {
     push_message(alloc, layout, report.severity(), report.message(), out)
 }
@@ -165,9 +166,9 @@ fn push_message_of<D: Diagnostic, S: SourceCode>(
 fn push_title<D: Diagnostic, S: SourceCode>(
     layout: Layout<'_>,
     report: &Report<D, S>,
-    out: &mut Runs,
+    out: &mut Output,
 ) -> Result<(), AllocError>
-    ensures { OnOk result (spell out.new ≡ spell out.old ++ parts.title_text (settings_of layout.entry) (head (tree_of D.meaning S.source report.now))) }
+    ensures { OnOk result (out.new ≡ out.old ++ parts.title_text (settings_of layout.entry) (head (tree_of D.meaning S.source report.now))) }
 {
     out.push('\n')?;
     out.push_str(severity_title(report.severity()))?;
@@ -192,9 +193,9 @@ fn push_cause_texts(
     layout: Layout<'_>,
     outer: Option<Severity>,
     list: &[String],
-    out: &mut Runs,
+    out: &mut Output,
 ) -> Result<(), AllocError>
-    ensures { OnOk result (spell out.new ≡ spell out.old ++ texts.cause_texts (settings_of layout.entry) outer (map string_bytes list.now)) }
+    ensures { OnOk result (out.new ≡ out.old ++ texts.cause_texts (settings_of layout.entry) outer (map string_bytes list.now)) }
 {
     let mut rest = list;
     while let [text, more @ ..] = rest {
@@ -236,9 +237,9 @@ fn push_causes<D: Diagnostic, S: SourceCode, H: Highlighter>(
     outer: Option<Severity>,
     inherited: Option<SourceRef<'_, S>>,
     report: &Report<D, S>,
-    out: &mut Runs,
+    out: &mut Output,
 ) -> Result<(), RenderError>
-    ensures ok { OnOk result (AppendsOne (AreCauses drawn_rows (settings_of layout.entry) (leaves_plain H.is_blank pen.old.highlighter) outer (option_map (shown_source S.source) inherited.entry) (cause_of (tree_of D.meaning S.source report.now))) (spell out.old) (spell out.new)) }
+    ensures ok { OnOk result (AppendsOne (AreCauses drawn_rows (settings_of layout.entry) (leaves_plain H.is_blank pen.old.highlighter) outer (option_map (shown_source S.source) inherited.entry) (cause_of (tree_of D.meaning S.source report.now))) out.old out.new) }
     ensures refused { (result ≡ Err RenderError.Refused) → all_read (printed_causes layout.entry.nested (option_map (shown_source S.source) inherited.entry) (cause_of (tree_of D.meaning S.source report.now))) ≡ false }
     ensures stays { leaves_plain H.is_blank pen.new.highlighter ≡ leaves_plain H.is_blank pen.old.highlighter }
 {
@@ -259,9 +260,9 @@ fn push_one_cause<D: Diagnostic, S: SourceCode, H: Highlighter>(
     outer: Option<Severity>,
     inherited: Option<SourceRef<'_, S>>,
     cause: &Report<D, S>,
-    out: &mut Runs,
+    out: &mut Output,
 ) -> Result<(), RenderError>
-    ensures ok { OnOk result (AppendsOne (IsOneCause drawn_rows (settings_of layout.entry) (leaves_plain H.is_blank pen.old.highlighter) outer (option_map (shown_source S.source) inherited.entry) (tree_of D.meaning S.source cause.now)) (spell out.old) (spell out.new)) }
+    ensures ok { OnOk result (AppendsOne (IsOneCause drawn_rows (settings_of layout.entry) (leaves_plain H.is_blank pen.old.highlighter) outer (option_map (shown_source S.source) inherited.entry) (tree_of D.meaning S.source cause.now)) out.old out.new) }
     ensures refused { (result ≡ Err RenderError.Refused) → all_read (printed_inner layout.entry.nested (effective (source_of (tree_of D.meaning S.source cause.now)) (option_map (shown_source S.source) inherited.entry)) (tree_of D.meaning S.source cause.now)) ≡ false }
     ensures stays { leaves_plain H.is_blank pen.new.highlighter ≡ leaves_plain H.is_blank pen.old.highlighter }
 {
@@ -287,11 +288,12 @@ fn inner_text<D: Diagnostic, S: SourceCode, H: Highlighter>(
     ensures refused { (result ≡ Err RenderError.Refused) → all_read (printed_inner layout.entry.nested (option_map (shown_source S.source) source.entry) (tree_of D.meaning S.source report.now)) ≡ false }
     ensures stays { leaves_plain H.is_blank pen.new.highlighter ≡ leaves_plain H.is_blank pen.old.highlighter }
 {
-    let mut text = Runs::new(pen.alloc);
+    let mut text = Output::collected(pen.alloc);
     push_header_of(layout, report, &mut text)?;
     push_message_of(pen.alloc, layout, report, &mut text)?;
     push_below(pen, layout, source, report, &mut text)?;
-    Ok(without_leading(pen.alloc, text)?)
+    let runs = text.into_runs(pen.alloc)?;
+    Ok(without_leading(pen.alloc, runs)?)
 }
 
 /// Appends what stands below a report's causes, over its effective source: the rows of its snippets, its help, and its related
@@ -302,9 +304,9 @@ fn push_below<D: Diagnostic, S: SourceCode, H: Highlighter>(
     layout: Layout<'_>,
     source: Option<SourceRef<'_, S>>,
     report: &Report<D, S>,
-    out: &mut Runs,
+    out: &mut Output,
 ) -> Result<(), RenderError>
-    ensures ok { OnOk result (AppendsOne (IsBelow drawn_rows (settings_of layout.entry) (leaves_plain H.is_blank pen.old.highlighter) (option_map (shown_source S.source) source.entry) (tree_of D.meaning S.source report.now)) (spell out.old) (spell out.new)) }
+    ensures ok { OnOk result (AppendsOne (IsBelow drawn_rows (settings_of layout.entry) (leaves_plain H.is_blank pen.old.highlighter) (option_map (shown_source S.source) source.entry) (tree_of D.meaning S.source report.now)) out.old out.new) }
     ensures refused { (result ≡ Err RenderError.Refused) → all_read (printed_inner layout.entry.nested (option_map (shown_source S.source) source.entry) (tree_of D.meaning S.source report.now)) ≡ false }
     ensures stays { leaves_plain H.is_blank pen.new.highlighter ≡ leaves_plain H.is_blank pen.old.highlighter }
 {
@@ -322,9 +324,9 @@ fn push_sibling<D: Diagnostic, S: SourceCode, H: Highlighter>(
     layout: Layout<'_>,
     source: Option<SourceRef<'_, S>>,
     report: &Report<D, S>,
-    out: &mut Runs,
+    out: &mut Output,
 ) -> Result<(), RenderError>
-    ensures ok { OnOk result (AppendsOne (IsSibling drawn_rows (settings_of layout.entry) (leaves_plain H.is_blank pen.old.highlighter) (option_map (shown_source S.source) source.entry) (tree_of D.meaning S.source report.now)) (spell out.old) (spell out.new)) }
+    ensures ok { OnOk result (AppendsOne (IsSibling drawn_rows (settings_of layout.entry) (leaves_plain H.is_blank pen.old.highlighter) (option_map (shown_source S.source) source.entry) (tree_of D.meaning S.source report.now)) out.old out.new) }
     ensures refused { (result ≡ Err RenderError.Refused) → all_read (printed_sibling layout.entry.nested (option_map (shown_source S.source) source.entry) (tree_of D.meaning S.source report.now)) ≡ false }
     ensures stays { leaves_plain H.is_blank pen.new.highlighter ≡ leaves_plain H.is_blank pen.old.highlighter }
 {
@@ -343,9 +345,9 @@ fn push_nested<D: Diagnostic, S: SourceCode, H: Highlighter>(
     branch: Branch,
     source: Option<SourceRef<'_, S>>,
     report: &Report<D, S>,
-    out: &mut Runs,
+    out: &mut Output,
 ) -> Result<(), RenderError>
-    ensures ok { OnOk result (AppendsOne (IsNested drawn_rows (settings_of layout.entry) (leaves_plain H.is_blank pen.old.highlighter) branch.outer (option_map (shown_source S.source) source.entry) branch.is_last (tree_of D.meaning S.source report.now)) (spell out.old) (spell out.new)) }
+    ensures ok { OnOk result (AppendsOne (IsNested drawn_rows (settings_of layout.entry) (leaves_plain H.is_blank pen.old.highlighter) branch.outer (option_map (shown_source S.source) source.entry) branch.is_last (tree_of D.meaning S.source report.now)) out.old out.new) }
     ensures refused { (result ≡ Err RenderError.Refused) → all_read (printed_inner layout.entry.nested (option_map (shown_source S.source) source.entry) (tree_of D.meaning S.source report.now)) ≡ false }
     ensures stays { leaves_plain H.is_blank pen.new.highlighter ≡ leaves_plain H.is_blank pen.old.highlighter }
 {
@@ -364,9 +366,9 @@ fn push_one_related<D: Diagnostic, S: SourceCode, H: Highlighter>(
     branch: Branch,
     source: Option<SourceRef<'_, S>>,
     report: &Report<D, S>,
-    out: &mut Runs,
+    out: &mut Output,
 ) -> Result<(), RenderError>
-    ensures ok { OnOk result (AppendsOne (IsOneRelated drawn_rows (settings_of layout.entry) (leaves_plain H.is_blank pen.old.highlighter) branch.outer (option_map (shown_source S.source) source.entry) branch.is_last (tree_of D.meaning S.source report.now)) (spell out.old) (spell out.new)) }
+    ensures ok { OnOk result (AppendsOne (IsOneRelated drawn_rows (settings_of layout.entry) (leaves_plain H.is_blank pen.old.highlighter) branch.outer (option_map (shown_source S.source) source.entry) branch.is_last (tree_of D.meaning S.source report.now)) out.old out.new) }
     ensures refused { (result ≡ Err RenderError.Refused) → all_read (printed_one layout.entry.nested (option_map (shown_source S.source) source.entry) (tree_of D.meaning S.source report.now)) ≡ false }
     ensures stays { leaves_plain H.is_blank pen.new.highlighter ≡ leaves_plain H.is_blank pen.old.highlighter }
 {
@@ -385,9 +387,9 @@ fn push_related<D: Diagnostic, S: SourceCode, H: Highlighter>(
     outer: Option<Severity>,
     inherited: Option<SourceRef<'_, S>>,
     reports: &[Report<D, S>],
-    out: &mut Runs,
+    out: &mut Output,
 ) -> Result<(), RenderError>
-    ensures ok { OnOk result (AppendsOne (AreRelated drawn_rows (settings_of layout.entry) (leaves_plain H.is_blank pen.old.highlighter) outer (option_map (shown_source S.source) inherited.entry) (trees (map (tree_of D.meaning S.source) reports.now))) (spell out.old) (spell out.new)) }
+    ensures ok { OnOk result (AppendsOne (AreRelated drawn_rows (settings_of layout.entry) (leaves_plain H.is_blank pen.old.highlighter) outer (option_map (shown_source S.source) inherited.entry) (trees (map (tree_of D.meaning S.source) reports.now))) out.old out.new) }
     ensures refused { (result ≡ Err RenderError.Refused) → all_read (printed_related layout.entry.nested (option_map (shown_source S.source) inherited.entry) (trees (map (tree_of D.meaning S.source) reports.now))) ≡ false }
     ensures stays { leaves_plain H.is_blank pen.new.highlighter ≡ leaves_plain H.is_blank pen.old.highlighter }
 {
@@ -409,9 +411,9 @@ fn push_root_causes<D: Diagnostic, S: SourceCode, H: Highlighter>(
     pen: &mut Pen<H>,
     layout: Layout<'_>,
     report: &Report<D, S>,
-    out: &mut Runs,
+    out: &mut Output,
 ) -> Result<(), RenderError>
-    ensures ok { OnOk result (AppendsOne (AreRootCauses drawn_rows (settings_of layout.entry) (leaves_plain H.is_blank pen.old.highlighter) (tree_of D.meaning S.source report.now)) (spell out.old) (spell out.new)) }
+    ensures ok { OnOk result (AppendsOne (AreRootCauses drawn_rows (settings_of layout.entry) (leaves_plain H.is_blank pen.old.highlighter) (tree_of D.meaning S.source report.now)) out.old out.new) }
     ensures refused { (result ≡ Err RenderError.Refused) → all_read (printed_root_causes layout.entry.chain layout.entry.nested (tree_of D.meaning S.source report.now)) ≡ false }
     ensures stays { leaves_plain H.is_blank pen.new.highlighter ≡ leaves_plain H.is_blank pen.old.highlighter }
 {
@@ -423,16 +425,16 @@ fn push_root_causes<D: Diagnostic, S: SourceCode, H: Highlighter>(
 }
 
 /// The outermost report, from its header to its footer.
-fn report_runs<D: Diagnostic, S: SourceCode, H: Highlighter>(
+fn report_output<D: Diagnostic, S: SourceCode, H: Highlighter>(
     pen: &mut Pen<H>,
     layout: Layout<'_>,
     report: &Report<D, S>,
-) -> Result<Runs, RenderError>
-    ensures ok { IfOk result (λ r. IsReport drawn_rows (settings_of layout.entry) (leaves_plain H.is_blank pen.old.highlighter) (tree_of D.meaning S.source report.now) (spell r)) }
+) -> Result<Output, RenderError>
+    ensures ok { IfOk result (λ o. IsReport drawn_rows (settings_of layout.entry) (leaves_plain H.is_blank pen.old.highlighter) (tree_of D.meaning S.source report.now) o) }
     ensures refused { (result ≡ Err RenderError.Refused) → all_read (printed (settings_of layout.entry) (tree_of D.meaning S.source report.now)) ≡ false }
     ensures stays { leaves_plain H.is_blank pen.new.highlighter ≡ leaves_plain H.is_blank pen.old.highlighter }
 {
-    let mut text = Runs::new(pen.alloc);
+    let mut text = Output::printed(pen.alloc);
     push_header_of(layout, report, &mut text)?;
     push_message_of(pen.alloc, layout, report, &mut text)?;
     push_root_causes(pen, layout, report, &mut text)?;
@@ -461,7 +463,7 @@ pub fn render<D: Diagnostic, S: SourceCode, H: Highlighter>(
     ensures stays { leaves_plain H.is_blank pen.new.highlighter ≡ leaves_plain H.is_blank pen.old.highlighter }
 {
     erasing_law();
-    let runs = report_runs(pen, layout, report)?;
-    append_printed(pen.alloc, runs, out)?;
+    let printed = report_output(pen, layout, report)?;
+    append_printed(pen.alloc, printed, out)?;
     Ok(())
 }

@@ -32,3 +32,4 @@ pub mod Weaving
 pub mod Growing
 pub mod Painting
 pub mod Settled
+pub mod Outputs

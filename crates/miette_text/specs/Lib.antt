@@ -14,3 +14,4 @@ pub mod Woven
 pub mod Themes
 pub mod Pieces
 pub mod Feeds
+pub mod Outputs

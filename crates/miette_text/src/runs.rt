@@ -11,6 +11,7 @@ mod colours;
 pub(crate) mod columns;
 mod cut;
 pub(crate) mod marks;
+pub mod output;
 pub mod reading;
 mod sequences;
 pub(crate) mod sign;

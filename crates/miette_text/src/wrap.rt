@@ -15,6 +15,7 @@ mod whole;
 use crate::runs::Runs;
 use crate::runs::cells::push_all;
 use crate::runs::columns::token_columns;
+use crate::runs::output::Output;
 use crate::runs::reading::{is_settled, read_text, reread};
 use crate::runs::sink::Sink;
 use crate::wrap::ends::Cuts;
@@ -125,8 +126,8 @@ fn are_settled(plan: Plan<'_>, text: &Runs) -> bool
 ///
 /// # Errors
 /// `AllocError` where memory is refused, or a row has more columns than a `usize` counts. What `out` holds is then open.
-pub fn wrap(alloc: Global, plan: Plan<'_>, text: &Runs, out: &mut Runs) -> Result<(), AllocError>
-    ensures { OnOk result (spell out.new ≡ spell out.old ++ wrapped (layout_with plan.entry.wraps plan.entry.hyphens plan.entry.breaks plan.entry.width (spell plan.entry.first.now) (spell plan.entry.further.now)) (spell text.now)) }
+pub fn wrap(alloc: Global, plan: Plan<'_>, text: &Runs, out: &mut Output) -> Result<(), AllocError>
+    ensures { OnOk result (out.new ≡ out.old ++ wrapped (layout_with plan.entry.wraps plan.entry.hyphens plan.entry.breaks plan.entry.width (spell plan.entry.first.now) (spell plan.entry.further.now)) (spell text.now)) }
 {
     if are_settled(plan, text) {
         push_wrapped(out, plan, text)?;

@@ -1,4 +1,5 @@
 use miette_text::runs::Runs;
+use miette_text::runs::output::Output;
 use miette_text::runs::reading::{print, read_text};
 use miette_text::style::{Color, Style};
 use miette_text::wrap::cutting::{without_leading, without_trailing};
@@ -17,9 +18,9 @@ fn wrapped(alloc: Global, text: &str, width: usize) -> Result<String, AllocError
         first: &none,
         further: &none,
     };
-    let mut out = Runs::new(alloc);
+    let mut out = Output::printed(alloc);
     wrap(alloc, plan, &read, &mut out)?;
-    print(alloc, &out)
+    out.into_text(alloc)
 }
 
 #[test]

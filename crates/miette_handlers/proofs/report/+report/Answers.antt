@@ -1,5 +1,5 @@
 use Rattle.std.proofs.Common.{◌≡◌, ◌≤◌, ◌<◌, suc, sym, ◌++◌, ◌-◌, length, take, drop, get_or, ap, ◌∙◌, subst, map, option_map, false, refl, string_bytes, arith, rules}
-use Rattle.miette_text.specs.Cutting.{without_trailing}
+use Rattle.miette_text.specs.Cutting.{without_leading, without_trailing}
 use Rattle.miette_text.specs.Sequences.{spell}
 use Rattle.miette_tree.specs.Tree.{effective, head, texts, trees, cause_of, related_of, source_of}
 use Rattle.miette_tree.specs.Report.{tree_of}
@@ -41,9 +41,9 @@ push_causes-loop-next-preserved g t c =
     let value = tree_of g.D.Diagnostic.meaning g.S.SourceCode.source in
     let all = cause_of (value c.args.report.now) in
     let cause = value c.in-Diagnostic.next.now in
-    let old = spell c.args.out.now in
-    let now = spell c.loop-next.out in
-    let new = spell c.push_one_cause.new.out in
+    let old = c.args.out.now in
+    let now = c.loop-next.out in
+    let new = c.push_one_cause.new.out in
     let remain = subst (λ x. CausesRemain drawn_rows s blank outer inherited all x old now) (sym c.in-Diagnostic.ensures.value) c.loop-next.invariant.0 in
     let one = subst (λ b. AppendsOne (IsOneCause drawn_rows s b outer inherited cause) now new) c.loop-next.invariant.1 c.in_ok-push_one_cause.ensures.ok in
     (cause_printed drawn_rows s blank outer inherited all cause old now new remain one, c.push_one_cause.ensures.stays ∙ c.loop-next.invariant.1)
@@ -64,8 +64,8 @@ push_causes-returns-clause-ok g t c =
     let inherited = option_map (shown_source g.S.SourceCode.source) c.args.inherited in
     let left = cause_of (tree_of g.D.Diagnostic.meaning g.S.SourceCode.source c.loop-next.at.now) in
     let ts = map string_bytes c.cause_texts.result.now in
-    let now = spell c.loop-next.out in
-    let new = spell c.push_cause_texts.new.out in
+    let now = c.loop-next.out in
+    let new = c.push_cause_texts.new.out in
     let last : texts ts ≡ left =
     ap texts c.cause_texts.ensures ∙ texts_shown g.D.Diagnostic.meaning g.S.SourceCode.source c.cause.result left c.cause.ensures.value c.in_default.not-Diagnostic in
     c.loop-next.invariant.0.appends new
@@ -87,7 +87,7 @@ push_one_cause-returns-clause-ok g t c =
             (subst (λ n. IsInner drawn_rows n blank own value inner) narrow c.in_ok-inner.ensures.ok),
         refl,
       );
-      appended = c.in_ok-push_under_arrow.ensures ∙ ap (λ b. spell c.args.out.now ++ under_arrow s outer b inner) c.ends_there.ensures;
+      appended = c.in_ok-push_under_arrow.ensures ∙ ap (λ b. c.args.out.now ++ under_arrow s outer b inner) c.ends_there.ensures;
     }
 
 pub inner_text-returns-clause-ok : goal.inner_text-returns-clause-ok
@@ -96,8 +96,8 @@ inner_text-returns-clause-ok g t c =
     let s = settings_of c.args.layout in
     let source = option_map (shown_source g.S.SourceCode.source) c.args.source in
     let value = tree_of g.D.Diagnostic.meaning g.S.SourceCode.source c.args.report.now in
-    inner_whole drawn_rows s blank source value (spell c.new-text.result) (spell c.push_header_of.new.out) (spell c.push_message_of.new.out) (spell c.push_below.new.out) (spell c.in_ok-without_leading.field-0)
-    (ap spell c.new-text.ensures) c.in_ok-push_header_of.ensures.text c.in_ok-push_message_of.ensures c.in_ok-push_below.ensures.ok c.in_ok-without_leading.ensures
+    inner_whole drawn_rows s blank source value c.collected-text.result c.push_header_of.new.out c.push_message_of.new.out c.push_below.new.out (spell c.in_ok-without_leading.field-0)
+    c.collected-text.ensures c.in_ok-push_header_of.ensures.text c.in_ok-push_message_of.ensures c.in_ok-push_below.ensures.ok (c.in_ok-without_leading.ensures ∙ ap without_leading c.in_ok-runs.ensures)
 
 pub push_below-returns-in_err-push_rows-clause-refused : goal.push_below-returns-in_err-push_rows-clause-refused
 push_below-returns-in_err-push_rows-clause-refused g t c = λ h.
@@ -117,16 +117,16 @@ push_below-returns-clause-ok g t c =
     let s = settings_of c.args.layout in
     let source = option_map (shown_source g.S.SourceCode.source) c.args.source in
     let value = tree_of g.D.Diagnostic.meaning g.S.SourceCode.source c.args.report.now in
-    let drawn = spell c.push_rows.new.out in
-    let helped = spell c.push_help.new.out in
-    let new = spell c.push_related.new.out in
+    let drawn = c.push_rows.new.out in
+    let helped = c.push_help.new.out in
+    let new = c.push_related.new.out in
     let given = trees (map (tree_of g.D.Diagnostic.meaning g.S.SourceCode.source) c.related-related.result.now) in
     let help : helped ≡ drawn ++ help_text s (head value).help = c.in_ok-push_help.ensures ∙ ap (λ o. drawn ++ help_text s o) c.help.ensures in
     let related : AppendsOne (AreRelated drawn_rows s blank (head value).severity source (related_of value)) helped new =
     subst (λ v. AppendsOne (AreRelated drawn_rows s blank v source (related_of value)) helped new) c.severity.ensures
     (subst (λ r. AppendsOne (AreRelated drawn_rows s blank c.severity.result source r) helped new) c.related-related.ensures
     (subst (λ b. AppendsOne (AreRelated drawn_rows s b c.severity.result source given) helped new) c.push_rows.ensures.stays c.in_ok-push_related.ensures.ok)) in
-    below_behind drawn_rows s blank source value (spell c.args.out.now) drawn helped new c.in_ok-push_rows.ensures.ok help related
+    below_behind drawn_rows s blank source value c.args.out.now drawn helped new c.in_ok-push_rows.ensures.ok help related
 
 pub push_sibling-returns-in_err-push_causes-clause-refused : goal.push_sibling-returns-in_err-push_causes-clause-refused
 push_sibling-returns-in_err-push_causes-clause-refused g t c = λ h.
@@ -144,15 +144,15 @@ push_sibling-returns-clause-ok g t c =
     let s = settings_of c.args.layout in
     let source = option_map (shown_source g.S.SourceCode.source) c.args.source in
     let value = tree_of g.D.Diagnostic.meaning g.S.SourceCode.source c.args.report.now in
-    let titled = spell c.push_title.new.out in
-    let told = spell c.push_message_of.new.out in
-    let caused = spell c.push_causes.new.out in
-    let new = spell c.push_below.new.out in
+    let titled = c.push_title.new.out in
+    let told = c.push_message_of.new.out in
+    let caused = c.push_causes.new.out in
+    let new = c.push_below.new.out in
     let causes : AppendsOne (AreCauses drawn_rows s blank (head value).severity source (cause_of value)) told caused =
     subst (λ v. AppendsOne (AreCauses drawn_rows s blank v source (cause_of value)) told caused) c.severity.ensures c.in_ok-push_causes.ensures.ok in
     let below : AppendsOne (IsBelow drawn_rows s blank source value) caused new =
     subst (λ b. AppendsOne (IsBelow drawn_rows s b source value) caused new) c.push_causes.ensures.stays c.in_ok-push_below.ensures.ok in
-    sibling_behind drawn_rows s blank source value (spell c.args.out.now) titled told caused new c.in_ok-push_title.ensures c.in_ok-push_message_of.ensures causes below
+    sibling_behind drawn_rows s blank source value c.args.out.now titled told caused new c.in_ok-push_title.ensures c.in_ok-push_message_of.ensures causes below
 
 pub push_nested-returns-clause-ok : goal.push_nested-returns-clause-ok
 push_nested-returns-clause-ok g t c =
@@ -165,7 +165,7 @@ push_nested-returns-clause-ok g t c =
     let inner = spell c.in_ok-inner.inner in record {
       text = under_arrow s outer last (without_trailing inner);
       is_given = (inner, subst (λ n. IsInner drawn_rows n blank source value inner) c.in_ok-narrow.ensures c.in_ok-inner.ensures.ok, refl);
-      appended = c.in_ok-push_under_arrow.ensures ∙ ap (λ x. spell c.args.out.now ++ under_arrow s outer last x) c.in_ok-cut.ensures;
+      appended = c.in_ok-push_under_arrow.ensures ∙ ap (λ x. c.args.out.now ++ under_arrow s outer last x) c.in_ok-cut.ensures;
     }
 
 pub push_related-loop-rest-init : goal.push_related-loop-rest-init
@@ -193,9 +193,9 @@ push_related-loop-rest-preserved g t c =
     let more = take (length rs - 1) (drop 1 rs) in
     let item = c.report-item.result in
     let first = get_or rs 0 item in
-    let old = spell c.args.out.now in
-    let now = spell c.loop-rest.out in
-    let new = spell c.push_one_related.new.out in
+    let old = c.args.out.now in
+    let now = c.loop-rest.out in
+    let new = c.push_one_related.new.out in
     let remain = subst (λ ts. RelatedRemain drawn_rows s blank outer inherited all ts old now) (sym (first_and_more value rs item c.in-len1-up.len_at_least)) c.loop-rest.invariant.0 in
     let one : AppendsOne (IsOneRelated drawn_rows s blank outer (effective (source_of (value first)) inherited) (are_last (trees (map value more))) (value first)) now new =
     subst (λ b. AppendsOne (IsOneRelated drawn_rows s blank outer (effective (source_of (value first)) inherited) b (value first)) now new) c.are_last.ensures
@@ -222,7 +222,7 @@ pub push_related-returns-clause-ok : goal.push_related-returns-clause-ok
 push_related-returns-clause-ok g t c =
     let blank = leaves_plain g.H.Highlighter.is_blank c.args.pen.now.highlighter in
     let s = settings_of c.args.layout in
-    let now = spell c.loop-rest.out in
+    let now = c.loop-rest.out in
     c.loop-rest.invariant.0.appends now
     (no_related_behind drawn_rows s blank c.args.outer (option_map (shown_source g.S.SourceCode.source) c.args.inherited)
     (tree_of g.D.Diagnostic.meaning g.S.SourceCode.source) c.loop-rest.rest.now now c.in_default.len_below)

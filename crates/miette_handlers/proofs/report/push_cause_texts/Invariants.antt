@@ -1,5 +1,4 @@
 use Rattle.std.proofs.Common.{◌≡◌, ◌++◌, length, map, string_bytes}
-use Rattle.miette_text.specs.Sequences.{spell}
 use Rattle.miette_handlers.specs.Text.{cause_texts}
 use Rattle.miette_handlers.specs.Views.{settings_of}
 use Rattle.miette_handlers.proofs.report.push_cause_texts.Given as goal
@@ -10,4 +9,4 @@ decreases-loop-rest l = length l.rest
 abbrev pub invariant-loop-rest : goal.invariant-loop-rest
 invariant-loop-rest l =
     let s = settings_of l.layout in
-    spell l.out ++ cause_texts s l.outer (map string_bytes l.rest) ≡ spell l.fn.out ++ cause_texts s l.outer (map string_bytes l.list)
+    l.out ++ cause_texts s l.outer (map string_bytes l.rest) ≡ l.fn.out ++ cause_texts s l.outer (map string_bytes l.list)

@@ -1,5 +1,4 @@
 use Rattle.std.proofs.Common.{◌≡◌, [], Some, refl, sym, ◌∙◌}
-use Rattle.miette_text.specs.Sequences.{spell}
 use Rattle.miette_layout.specs.Highlighted.{leaves_plain}
 use Rattle.miette_tree.specs.Owned.{shown_source}
 use Rattle.miette_tree.specs.Report.{tree_of}
@@ -19,4 +18,4 @@ returns-in-empty-clause-ok g c =
     let blank = leaves_plain g.H.Highlighter.is_blank c.args.pen.now.highlighter in
     let source = shown_source g.S.SourceCode.source c.args.source in
     let none : list_of m.labels ≡ [] = sym c.labels_of-labels.ensures ∙ empty_list c.labels_of-labels.result.now c.in-empty.len_below in
-    nothing_behind (IsDrawn drawn_rows s blank (Some source) m) (spell c.args.out.now) (drawn_unlabelled s blank source m [] none refl)
+    nothing_behind (IsDrawn drawn_rows s blank (Some source) m) c.args.out.now (drawn_unlabelled s blank source m [] none refl)

@@ -10,10 +10,10 @@ returns-then-are_settled c =
     let first = p.first.now in
     let further = p.further.now in
     let text = c.args.text.now in
-    let e : spell c.push_wrapped.new.out ≡ spell c.args.out.now ++ laid_out p.wraps p.hyphens p.breaks p.width first further text = c.in_ok-push_wrapped.ensures in
+    let e : c.push_wrapped.new.out ≡ c.args.out.now ++ laid_out p.wraps p.hyphens p.breaks p.width first further text = c.in_ok-push_wrapped.ensures in
     let is = c.are_settled.ensures in
     let t = c.if-are_settled.true in
-    e ∙ ap (λ us. spell c.args.out.now ++ us) (laid-read p.wraps p.hyphens p.breaks p.width first further text (spell first) (spell further) (spell text) (sym (is.first t)) (sym (is.further t)) (sym (is.text t)))
+    e ∙ ap (λ us. c.args.out.now ++ us) (laid-read p.wraps p.hyphens p.breaks p.width first further text (spell first) (spell further) (spell text) (sym (is.first t)) (sym (is.further t)) (sym (is.text t)))
 
 pub returns : goal.returns
 returns c =
@@ -21,5 +21,5 @@ returns c =
     let first = c.in_ok-first.first in
     let further = c.in_ok-further.further in
     let text = c.in_ok-text.text in
-    let e : spell c.push_wrapped-2.new.out ≡ spell c.args.out.now ++ laid_out p.wraps p.hyphens p.breaks p.width first further text = c.in_ok-push_wrapped-2.ensures in
-    e ∙ ap (λ us. spell c.args.out.now ++ us) (laid-read p.wraps p.hyphens p.breaks p.width first further text (spell p.first.now) (spell p.further.now) (spell c.args.text.now) c.in_ok-first.ensures c.in_ok-further.ensures c.in_ok-text.ensures)
+    let e : c.push_wrapped-2.new.out ≡ c.args.out.now ++ laid_out p.wraps p.hyphens p.breaks p.width first further text = c.in_ok-push_wrapped-2.ensures in
+    e ∙ ap (λ us. c.args.out.now ++ us) (laid-read p.wraps p.hyphens p.breaks p.width first further text (spell p.first.now) (spell p.further.now) (spell c.args.text.now) c.in_ok-first.ensures c.in_ok-further.ensures c.in_ok-text.ensures)

@@ -1,5 +1,4 @@
-use Rattle.std.proofs.Common.{◌≡◌, ap, subst, option_map, false, rules}
-use Rattle.miette_text.specs.Sequences.{spell}
+use Rattle.std.proofs.Common.{◌≡◌, subst, option_map, false, rules}
 use Rattle.miette_tree.specs.Tree.{source_of}
 use Rattle.miette_tree.specs.Report.{tree_of}
 use Rattle.miette_layout.specs.Highlighted.{leaves_plain}
@@ -10,7 +9,7 @@ use Rattle.miette_handlers.specs.Printed.{all_read, printed_inner}
 use Rattle.miette_handlers.specs.Snippets.{drawn_rows}
 use Rattle.miette_handlers.specs.Views.{settings_of}
 use Rattle.miette_handlers.proofs.Steps.{report_whole, root_causes_fail, root_below_fails}
-use Rattle.miette_handlers.proofs.report.report_runs.Goals as goal
+use Rattle.miette_handlers.proofs.report.report_output.Goals as goal
 
 pub returns-in_err-push_root_causes-clause-refused : goal.returns-in_err-push_root_causes-clause-refused
 returns-in_err-push_root_causes-clause-refused g c = λ h.
@@ -28,10 +27,10 @@ returns-clause-ok g c =
     let s = settings_of c.args.layout in
     let value = tree_of g.D.Diagnostic.meaning g.S.SourceCode.source c.args.report.now in
     let source = option_map (shown_source g.S.SourceCode.source) c.source_code.result in
-    let caused = spell c.push_root_causes.new.out in
-    let drawn = spell c.push_below.new.out in
+    let caused = c.push_root_causes.new.out in
+    let drawn = c.push_below.new.out in
     let below : AppendsOne (IsBelow drawn_rows s blank (source_of value) value) caused drawn =
     subst (λ o. AppendsOne (IsBelow drawn_rows s blank o value) caused drawn) c.source_code.ensures
     (subst (λ b. AppendsOne (IsBelow drawn_rows s b source value) caused drawn) c.push_root_causes.ensures.stays c.in_ok-push_below.ensures.ok) in
-    report_whole drawn_rows s blank value (spell c.new-text.result) (spell c.push_header_of.new.out) (spell c.push_message_of.new.out) caused drawn (spell c.push_footer.new.out)
-    (ap spell c.new-text.ensures) c.in_ok-push_header_of.ensures.text c.in_ok-push_message_of.ensures c.in_ok-push_root_causes.ensures.ok below c.in_ok-push_footer.ensures
+    report_whole drawn_rows s blank value c.printed-text.result c.push_header_of.new.out c.push_message_of.new.out caused drawn c.push_footer.new.out
+    c.printed-text.ensures c.in_ok-push_header_of.ensures.text c.in_ok-push_message_of.ensures c.in_ok-push_root_causes.ensures.ok below c.in_ok-push_footer.ensures
