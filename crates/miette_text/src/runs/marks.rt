@@ -32,16 +32,15 @@ fn is_parameter(c: char) -> bool
 fn is_colour_end(codes: &[char]) -> bool
     ensures { result ≡ is_colour_end codes.now }
 {
-    match codes {
-        [] => false,
-        [c, rest @ ..] => {
-            if *c == 'm' {
-                rest.is_empty()
-            } else {
-                is_parameter(*c) && is_colour_end(rest)
-            }
+    for (i, c) in codes.iter().enumerate() {
+        if *c == 'm' {
+            return codes[i + 1..].is_empty();
+        }
+        if !is_parameter(*c) {
+            return false;
         }
     }
+    false
 }
 
 fn is_colour(codes: &[char]) -> bool
