@@ -1,9 +1,10 @@
 -- The first line of some bytes, by the place of the first byte that may end it; and lines one after the other.
-use Rattle.std.proofs.Common.{ℕ, zero, suc, ◌+◌, ◌-◌, ◌<◌, ◌≤◌, ◌≡◌, max, Bool, cond, eqb, not, ◌&&◌, ◌||◌, List, [], ◌∷◌, ◌++◌, length, map, take, drop, get_or, Option, Some, None, ltb, refl, sym, ap, ◌∙◌, subst, arith, All, append_assoc}
+use Rattle.std.proofs.Common.{ℕ, zero, suc, ◌+◌, ◌-◌, ◌<◌, ◌≤◌, ◌≡◌, max, Bool, true, false, cond, eqb, not, ◌&&◌, ◌||◌, List, [], ◌∷◌, ◌++◌, length, map, take, drop, get_or, Option, Some, None, ltb, refl, sym, ap, ◌∙◌, subst, arith, All, append_assoc}
 use Rattle.std.specs.List.{prefix_len, position, filter}
 use Rattle.std.proofs.lemmas.List.{map-append, length-drop, take_all, drop_all}
 use Rattle.std.proofs.lemmas.List.Elements.{All-push}
-use Rattle.std.proofs.lemmas.Bool.{ltb-true, ltb-false}
+use Rattle.std.proofs.lemmas.Bool.{ltb-true, ltb-false, lt-ltb, le-ltb}
+use Rattle.memchr.specs.Find.{IsFirstByte, is_byte2}
 use Rattle.miette_protocol.specs.Lines as P
 use Rattle.miette_protocol.specs.Lines.{Line}
 use Rattle.miette_layout.specs.declared.line_sweep.SweptLine.{SweptLine}
@@ -77,6 +78,28 @@ parted_by bytes text size some t s at =
 
 abbrev pub found : List ℕ → Option ℕ
 found bytes = position may_end bytes
+
+found_by_places : (bytes : List ℕ) (k : ℕ) → ((j : ℕ) → j < k → may_end (get_or bytes j 0) ≡ true → ⊥) → k ≤ length bytes → (k < length bytes → may_end (get_or bytes k 0) ≡ true) →
+    prefix_len (λ b. not (may_end b)) bytes ≡ k
+found_by_places [] k before le at = omega (arith, le)
+found_by_places (b ∷ bs) zero before le at =
+    let t : may_end b ≡ true = at (omega arith) in
+    rw t refl
+found_by_places (b ∷ bs) (suc k) before le at =
+    by_cases {C = prefix_len (λ b. not (may_end b)) (b ∷ bs) ≡ suc k} (may_end b)
+    (λ t. absurd (before 0 (omega arith) t))
+    (λ f. let h : prefix_len (λ b. not (may_end b)) bs ≡ k = found_by_places bs k (λ j lt. before (suc j) (omega (arith, lt))) (omega (arith, le)) (λ lt. at (omega (arith, lt))) in
+    rw f (omega (arith, h)))
+
+pub first_found : (bytes : List ℕ) (r : Option ℕ) → IsFirstByte (is_byte2 10 13) bytes r → r ≡ found bytes
+first_found bytes None h =
+    let e : prefix_len (λ b. not (may_end b)) bytes ≡ length bytes = found_by_places bytes (length bytes) (λ j lt. h j (omega arith) lt) (omega arith) (λ lt. absurd (omega (arith, lt))) in
+    let out : ltb (prefix_len (λ b. not (may_end b)) bytes) (length bytes) ≡ false = le-ltb (prefix_len (λ b. not (may_end b)) bytes) (length bytes) (omega (arith, e)) in
+    rw out refl
+first_found bytes (Some k) h =
+    let e : prefix_len (λ b. not (may_end b)) bytes ≡ k = found_by_places bytes k (λ j lt. h.0.before j (omega arith) lt) (omega (arith, h.0.high)) (λ lt. h.1) in
+    let inside : ltb (prefix_len (λ b. not (may_end b)) bytes) (length bytes) ≡ true = lt-ltb (prefix_len (λ b. not (may_end b)) bytes) (length bytes) (omega (arith, e, h.0.high)) in
+    rw inside (ap (λ n. Some n) (sym e))
 
 pub text-le : (bytes : List ℕ) → first_text bytes ≤ length bytes
 text-le [] = omega arith

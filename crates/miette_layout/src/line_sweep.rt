@@ -9,6 +9,7 @@ ghost use Rattle.miette_layout.specs.Swept.{HasLabels, LiesIn, most_multi};
 
 use crate::sheet::LineOfText;
 use crate::sweep::{Bounds, OnLine, Placed, Sweep, advance};
+use memchr::memchr2;
 use std::alloc::{AllocError, Global};
 
 /// A line, and which labels lie on it.
@@ -24,7 +25,7 @@ pub struct SweptLine {
 fn first_end(bytes: &[u8]) -> Option<usize>
     ensures { result ≡ position (λ b. (b == 10) || (b == 13)) bytes.now }
 {
-    bytes.iter().position(|b| *b == b'\n' || *b == b'\r')
+    memchr2(b'\n', b'\r', bytes)
 }
 
 // Whether a byte that ends a line is a CR with an LF after it.
