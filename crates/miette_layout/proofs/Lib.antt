@@ -19,6 +19,7 @@ pub mod Gathering
 pub mod Guttering
 pub mod Hanging
 pub mod Joining
+pub mod Keeping
 pub mod Lending
 pub mod Lines
 pub mod Lining

@@ -1,13 +1,14 @@
 -- How a page grows.
-use Rattle.std.proofs.Common.{ℕ, ◌+◌, ◌-◌, ◌<◌, ◌≤◌, ◌≡◌, List, [], ◌∷◌, ◌++◌, take, drop, length, get_or, replicate, sym, ap, subst, ◌∙◌, append_assoc, append-nil, length-append, arith, ⊎_elim}
+use Rattle.std.proofs.Common.{ℕ, ◌+◌, ◌-◌, ◌<◌, ◌≤◌, ◌≡◌, List, [], ◌∷◌, ◌++◌, take, drop, length, get_or, replicate, sym, ap, subst, ◌∙◌, append_assoc, append-nil, length-append, arith, Option, Some, None, ⊎_elim}
 use Rattle.std.specs.Prelude.{slice_index, encode_utf8, encode_utf8_all, decimal}
 use Rattle.std.specs.Str.{IsUtf8, IsAscii, IsCharBoundary}
 use Rattle.std.proofs.lemmas.Bool.{cases_lt}
 use Rattle.std.proofs.lemmas.Str.{IsCharBoundary-start, IsCharBoundary-end, encodes-append, encodes-IsAscii}
 use Rattle.std.proofs.lemmas.List.{map-append, get_or_append_left, get_or-append-add, drop-append-le, take-append-le, take_all, drop_all, length-drop, replicate_more, take_more}
-use Rattle.miette_layout.specs.declared.page.Mark.{Mark}
+use Rattle.miette_layout.specs.declared.page_marks.Mark.{Mark}
 use Rattle.miette_layout.specs.Told.{Token, bytes_told, text_told}
 use Rattle.miette_layout.specs.Pages.{token_of, tokens_from, AreMarks}
+use Rattle.miette_layout.specs.PageMarks.{marks_ahead}
 use Rattle.miette_layout.specs.Seams.{first_mark}
 
 -- text behind a text moves no boundary
@@ -102,14 +103,9 @@ pub at_first : (at : ℕ) (text : List ℕ) (marks : List Mark) → AreMarks at 
 at_first at text [] h = IsCharBoundary-end text
 at_first at text (m ∷ ms) h = (at_boundary m.at text ms h.2, omega arith, h.2)
 
-abbrev pub later_marks : List Mark → List Mark
-later_marks marks = take (length marks - 1) (drop 1 marks)
-
 same_at : (a b : ℕ) → a ≤ b → b ≤ a → b ≡ a
 same_at a b h k = omega arith
 
-pub later_stay : (at : ℕ) (text : List ℕ) (marks : List Mark) → 0 < length marks → first_mark text marks ≤ at → AreMarks at text marks → AreMarks at text (later_marks marks)
-later_stay at text [] some le h = absurd (omega arith)
-later_stay at text (m ∷ ms) some le h =
-    let whole : take (length (m ∷ ms) - 1) ms ≡ ms = take_all (length (m ∷ ms) - 1) ms (omega arith) in
-    subst (λ (xs : List Mark). AreMarks at text xs) (sym whole) (subst (λ n. AreMarks n text ms) (same_at at m.at h.1 le) h.2)
+pub later_stay : (at : ℕ) (text : List ℕ) (mark : Option Mark) (it : Mark) (later : List Mark) → mark ≡ Some it → first_mark text (marks_ahead mark later) ≤ at → AreMarks at text (marks_ahead mark later) → AreMarks at text later
+later_stay at text None it later e le h = cc
+later_stay at text (Some m) it later e le h = subst (λ n. AreMarks n text later) (same_at at m.at h.1 le) h.2

@@ -19,6 +19,7 @@ pub mod Lent
 pub mod Made
 pub mod Marks
 pub mod Numbers
+pub mod PageMarks
 pub mod PageParts
 pub mod Pages
 pub mod Pictures

@@ -15,6 +15,7 @@ pub mod marks;
 pub mod options;
 pub mod order;
 pub mod page;
+mod page_marks;
 mod parts;
 pub mod plain;
 pub mod primary;

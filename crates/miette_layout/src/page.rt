@@ -1,9 +1,12 @@
 //! Rows in the making: one text, with the places where runs begin and rows end.
 
 ghost use Rattle.std.specs.Prelude.{◌≡◌, ◌++◌, ◌∷◌, [], ℕ, List, replicate, decimal, chars, length, ◌-◌, encode_utf8, encode_utf8_all, string_bytes, OnOk, Some, None, Option};
+ghost use Rattle.miette_layout.specs.PageMarks.{marks_ahead};
 ghost use Rattle.miette_layout.specs.Seams.{first_mark};
+ghost use Rattle.miette_layout.specs.declared.page_marks.Mark.{Mark};
 ghost use Rattle.miette_layout.specs.Told.{Token, begins, row_end, bytes_told, text_told, run_told};
 
+use crate::page_marks::{Mark, MarksLeft, PageMarks};
 use itoa::Buffer;
 use miette_text::style::Style;
 use std::alloc::{AllocError, Global};
@@ -18,13 +21,6 @@ pub const PLAIN: Style = Style {
     underline: false,
 };
 
-// Where a run in a style begins, or, without a style, where a row ends.
-#[derive(Clone, Copy, Debug, PartialEq, Eq, Drop)]
-struct Mark {
-    at: usize,
-    style: Option<Style>,
-}
-
 /// Rows of runs, each run a style and a text. All their text lies in one string.
 ///
 /// A run is begun with its style and then gets its text; a row is ended behind its last run.
@@ -32,7 +28,7 @@ struct Mark {
 #[derive(Debug, Drop)]
 pub struct Page {
     text: String,
-    marks: Vec<Mark>,
+    marks: PageMarks,
 }
 
 impl Model for Page {
@@ -42,9 +38,9 @@ impl Model for Page {
 
     ghost Value = { List Token };
 
-    ghost view = { λ p. tokens_from 0 (string_bytes p.text) p.marks.items };
+    ghost view = { λ p. tokens_from 0 (string_bytes p.text) p.marks };
 
-    ghost invariant = { λ p. AreMarks 0 (string_bytes p.text) p.marks.items };
+    ghost invariant = { λ p. AreMarks 0 (string_bytes p.text) p.marks };
 }
 
 impl Page {
@@ -54,7 +50,7 @@ impl Page {
     {
         Page {
             text: String::new(alloc),
-            marks: Vec::new(alloc),
+            marks: PageMarks::new(alloc),
         }
     }
 
@@ -63,10 +59,7 @@ impl Page {
         ensures { OnOk result (self.new ≡ self.old ++ begins style ∷ []) }
     {
         let at = self.text.as_str().len();
-        self.marks.push(Mark {
-            at,
-            style: Some(style),
-        })?;
+        self.marks.push(at, Some(style))?;
         Ok(())
     }
 
@@ -75,7 +68,7 @@ impl Page {
         ensures { OnOk result (self.new ≡ self.old ++ row_end ∷ []) }
     {
         let at = self.text.as_str().len();
-        self.marks.push(Mark { at, style: None })?;
+        self.marks.push(at, None)?;
         Ok(())
     }
 
@@ -170,9 +163,12 @@ impl Page {
     pub fn parts(&self) -> Parts<'_>
         ensures { result ≡ self.now }
     {
+        let mut later = self.marks.from_first();
+        let mark = later.next();
         Parts {
             text: self.text.as_str(),
-            marks: self.marks.as_slice(),
+            mark,
+            later,
             at: 0,
         }
     }
@@ -193,7 +189,8 @@ pub enum Part<'a> {
 #[derive(Drop)]
 pub struct Parts<'a> {
     text: &'a str,
-    marks: &'a [Mark],
+    mark: Option<Mark>,
+    later: MarksLeft<'a>,
     at: usize,
 }
 
@@ -201,19 +198,20 @@ impl<'a> Model for Parts<'a> {
     ghost use Rattle.std.specs.Prelude.{List};
     ghost use Rattle.miette_layout.specs.Told.{Token};
     ghost use Rattle.miette_layout.specs.Pages.{tokens_from, AreMarks};
+    ghost use Rattle.miette_layout.specs.PageMarks.{marks_ahead};
 
     ghost Value = { List Token };
 
-    ghost view = { λ p. tokens_from p.at p.text.now p.marks.now };
+    ghost view = { λ p. tokens_from p.at p.text.now (marks_ahead p.mark p.later) };
 
-    ghost invariant = { λ p. AreMarks p.at p.text.now p.marks.now };
+    ghost invariant = { λ p. AreMarks p.at p.text.now (marks_ahead p.mark p.later) };
 }
 
-// Where the first of these marks stands, or where the text ends.
-fn first_place(text: &str, marks: &[Mark]) -> usize
-    ensures { result ≡ first_mark text.now marks.now }
+// Where a mark stands, or, where there is none, where the text ends.
+fn place_of(text: &str, mark: Option<Mark>) -> usize
+    ensures { (later : List Mark) → result ≡ first_mark text.now (marks_ahead mark later) }
 {
-    match marks.first() {
+    match mark {
         Some(mark) => mark.at,
         None => text.len(),
     }
@@ -229,21 +227,20 @@ impl<'a> Parts<'a> {
         ensures whole { IfSome result (λ part. EndsBefore part self.new) }
         ensures shorter { IsSome result → length self.new < length self.old }
     {
-        let end = first_place(self.text, self.marks);
+        let end = place_of(self.text, self.mark);
         if self.at < end {
             let text = &self.text[self.at..end];
             self.at = end;
             return Some(Part::Loose(text));
         }
-        if self.marks.is_empty() {
+        let Some(mark) = self.mark else {
             return None;
-        }
-        let mark = self.marks[0];
-        self.marks = &self.marks[1..];
+        };
+        self.mark = self.later.next();
         let Some(style) = mark.style else {
             return Some(Part::RowEnd);
         };
-        let end = first_place(self.text, self.marks);
+        let end = place_of(self.text, self.mark);
         let text = &self.text[self.at..end];
         self.at = end;
         Some(Part::Run(style, text))

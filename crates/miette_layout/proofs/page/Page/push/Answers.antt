@@ -7,11 +7,11 @@ use Rattle.miette_layout.proofs.page.Page.push.Goals as goal
 
 pub invariant_of-self-2 : goal.invariant_of-self-2
 invariant_of-self-2 c =
-    subst (λ bytes. AreMarks 0 bytes c.self.inside.marks.items) (sym c.in_ok-push.ensures.bytes)
-    (marks_stay 0 (string_bytes c.self.inside.text) (encode_utf8 c.args.character) c.self.inside.marks.items (IsUtf8-encode c.args.character c.ranges.character.0) c.self.invariant)
+    subst (λ bytes. AreMarks 0 bytes c.self.inside.marks) (sym c.in_ok-push.ensures.bytes)
+    (marks_stay 0 (string_bytes c.self.inside.text) (encode_utf8 c.args.character) c.self.inside.marks (IsUtf8-encode c.args.character c.ranges.character.0) c.self.invariant)
 
 pub returns : goal.returns
 returns c =
-    ap (λ bytes. tokens_from 0 bytes c.self.inside.marks.items) c.in_ok-push.ensures.bytes
-    ∙ text_more 0 (string_bytes c.self.inside.text) (encode_utf8 c.args.character) c.self.inside.marks.items c.self.invariant
+    ap (λ bytes. tokens_from 0 bytes c.self.inside.marks) c.in_ok-push.ensures.bytes
+    ∙ text_more 0 (string_bytes c.self.inside.text) (encode_utf8 c.args.character) c.self.inside.marks c.self.invariant
     ∙ ap (λ ts. ts ++ bytes_told (encode_utf8 c.args.character)) c.self.view_is
