@@ -42,6 +42,7 @@ pub mod Sorting
 pub mod Sources
 pub mod Spreading
 pub mod Stepping
+pub mod Stopping
 pub mod Stroking
 pub mod Styling
 pub mod Swept

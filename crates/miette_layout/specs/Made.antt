@@ -1,8 +1,8 @@
 -- Marks and columns as a program makes them.
-use Rattle.std.specs.Prelude.{List}
-use Rattle.std.specs.List.Sorted.{IsNonDecreasingBy}
+use Rattle.std.specs.Prelude.{ℕ, ◌≡◌, ◌<◌, ◌≤◌, List, [], ◌∷◌}
 use Rattle.miette_protocol.specs.Meaning.{Label}
-use Rattle.miette_layout.specs.declared.cells.Cell.{Cell}
+use Rattle.miette_layout.specs.declared.marks.Stop.{Stop}
+use Rattle.miette_layout.specs.Cells.{Cell, first_column, last_column}
 use Rattle.miette_layout.specs.declared.marks.Mark.{Mark as MadeMark}
 use Rattle.miette_layout.specs.Marks.{Mark}
 use Rattle.miette_layout.specs.Given.{drawn_of}
@@ -10,6 +10,12 @@ use Rattle.miette_layout.specs.Given.{drawn_of}
 abbrev pub mark_of : List Label → MadeMark → Mark
 mark_of labels m = record { from = m.from; until = m.until; label = drawn_of labels m.label }
 
--- the cells come by offset
-abbrev pub AreSortedCells : List Cell → Type 0
-AreSortedCells cells = IsNonDecreasingBy (λ c. c.start) cells × IsNonDecreasingBy (λ c. c.after) cells
+-- each cell has a byte, and begins where the one before it ends or later
+abbrev pub ComeFrom : ℕ → List Cell → Type 0
+ComeFrom at [] = Unit {0}
+ComeFrom at (cell ∷ cells) = (at ≤ cell.start) × (cell.start < cell.after) × ComeFrom cell.after cells
+
+-- from the stop's offset on, the columns of offsets in all cells are those in the stop's
+abbrev pub IsStop : List Cell → Stop → Type 0
+IsStop cells stop = (text_end width offset : ℕ) → stop.offset ≤ offset →
+    (first_column stop.walk text_end width offset ≡ first_column cells text_end width offset) × (last_column stop.walk text_end width offset ≡ last_column cells text_end width offset)

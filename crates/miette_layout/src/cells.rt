@@ -104,6 +104,19 @@ impl<'a> Walk<'a> {
         }
     }
 
+    /// A walk over the same cells.
+    pub fn copied(&self) -> Self
+        ensures { result ≡ self.now }
+    {
+        Walk {
+            rest: self.rest,
+            tab: self.tab,
+            hidden: self.hidden,
+            offset: self.offset,
+            column: self.column,
+        }
+    }
+
     /// The next cell, if there is one. Columns past the largest `usize` are refused as want of memory.
     pub fn next(&mut self) -> Result<Option<Cell>, AllocError>
         ensures { IfOk result (λ next. MatchOption next ((self.old ≡ []) × (self.new ≡ [])) (λ cell. self.old ≡ cell_of cell ∷ self.new)) }

@@ -1,44 +1,123 @@
 //! The marks of the labels that lie on a line alone: which columns each one has.
 
-ghost use Rattle.std.specs.Prelude.{◌≡◌, ◌+◌, ◌^◌, ◌<◌, ◌≤◌, [], List, map, length, false, IfOk};
+ghost use Rattle.std.specs.Prelude.{◌≡◌, ◌+◌, ◌^◌, ◌<◌, ◌≤◌, [], ℕ, List, map, length, false, IfOk, MatchOption};
 ghost use Rattle.std.specs.List.{All};
 ghost use Rattle.miette_protocol.specs.Meaning.{Label};
-ghost use Rattle.miette_layout.specs.Cells.{cells_from, characters, first_column as first_of_cells, last_column as last_of_cells};
+ghost use Rattle.miette_layout.specs.Cells.{cells_from, cells_width, characters, first_column as first_of_cells, last_column as last_of_cells};
 ghost use Rattle.miette_layout.specs.Marks.{mark_from, mark_until, marks};
 ghost use Rattle.miette_layout.specs.Layout.{text_of_cells};
 ghost use Rattle.miette_layout.specs.Sweeping.{label_of};
 ghost use Rattle.miette_layout.specs.Given.{drawn_of, width_of};
-ghost use Rattle.miette_layout.specs.Made.{mark_of};
+ghost use Rattle.miette_layout.specs.Made.{mark_of, ComeFrom, IsStop};
 
-use crate::cells::{Cell, Walk};
+use crate::cells::Walk;
 use crate::plain::all_printable;
 use crate::sheet::LineOfText;
 use crate::sweep::Placed;
 use std::alloc::{AllocError, Global};
 use std::marker::Model;
 
-/// Where the characters of a line's text stand, by offset. A text of printable ASCII characters needs no cells: its bytes are its columns.
+// How many characters stand between two stops of a line's text.
+const BETWEEN_STOPS: usize = 64;
+
+// A walk over the cells of a line's text from an offset on.
+#[derive(Drop)]
+struct Stop<'a> {
+    offset: usize,
+    walk: Walk<'a>,
+}
+
+/// Where the characters of a line's text stand, by offset. A text of printable ASCII characters needs no walk: its bytes are its columns.
 #[derive(Drop)]
 pub struct Columns<'a> {
     plain: &'a [u8],
     start: usize,
-    cells: Vec<Cell>,
+    whole: Walk<'a>,
+    stops: Vec<Stop<'a>>,
     text_end: usize,
     width: usize,
 }
 
 impl<'a> Model for Columns<'a> {
-    ghost use Rattle.std.specs.Prelude.{◌≡◌, ◌++◌, map};
+    ghost use Rattle.std.specs.Prelude.{◌++◌};
+    ghost use Rattle.std.specs.List.{All};
     ghost use Rattle.miette_layout.specs.Marks.{Text};
-    ghost use Rattle.miette_layout.specs.Walking.{cell_of};
-    ghost use Rattle.miette_layout.specs.Made.{AreSortedCells};
+    ghost use Rattle.miette_layout.specs.Made.{IsStop};
     ghost use Rattle.miette_layout.specs.Printable.{plain_cells};
 
     ghost Value = { Text };
 
-    ghost view = { λ c. record { cells = plain_cells c.start 0 c.plain.now ++ map cell_of c.cells.items; text_end = c.text_end; width = c.width } };
+    ghost view = { λ c. record { cells = plain_cells c.start 0 c.plain.now ++ c.whole; text_end = c.text_end; width = c.width } };
 
-    ghost invariant = { λ c. AreSortedCells c.cells.items };
+    ghost invariant = { λ c. All (IsStop c.whole) c.stops.items };
+}
+
+// The first column of the first of these cells that ends behind an offset.
+fn column_behind(walk: Walk<'_>, offset: usize) -> Result<Option<usize>, AllocError>
+    ensures { IfOk result (λ found. (text_end width : ℕ) → MatchOption found (first_of_cells [] text_end width offset ≡ first_of_cells walk.entry text_end width offset) (λ column. column ≡ first_of_cells walk.entry text_end width offset)) }
+{
+    let mut walk = walk;
+    while let Some(cell) = walk.next()? {
+        if offset < cell.after {
+            return Ok(Some(cell.from));
+        }
+    }
+    Ok(None)
+}
+
+// The first column of the first of these cells that doesn't begin before an offset.
+fn column_from(walk: Walk<'_>, offset: usize) -> Result<Option<usize>, AllocError>
+    ensures { IfOk result (λ found. (text_end width : ℕ) → MatchOption found (last_of_cells [] text_end width offset ≡ last_of_cells walk.entry text_end width offset) (λ column. column ≡ last_of_cells walk.entry text_end width offset)) }
+{
+    let mut walk = walk;
+    while let Some(cell) = walk.next()? {
+        if offset <= cell.start {
+            return Ok(Some(cell.from));
+        }
+    }
+    Ok(None)
+}
+
+// The cells from the last of these stops that doesn't stand behind an offset, or all where none does.
+fn walk_to<'a>(whole: &Walk<'a>, stops: &[Stop<'a>], offset: usize) -> Walk<'a>
+    requires { All (IsStop whole.now) stops.now }
+    ensures first { (text_end width : ℕ) → first_of_cells result text_end width offset ≡ first_of_cells whole.now text_end width offset }
+    ensures last { (text_end width : ℕ) → last_of_cells result text_end width offset ≡ last_of_cells whole.now text_end width offset }
+{
+    let passed = stops.partition_point(|stop| stop.offset <= offset);
+    if passed > 0 && passed <= stops.len() {
+        let stop = &stops[passed - 1];
+        if stop.offset <= offset {
+            return stop.walk.copied();
+        }
+    }
+    whole.copied()
+}
+
+// The stops of a line's text, whose cells are given, and its columns.
+fn stops_of<'a>(alloc: Global, walk: Walk<'a>) -> Result<(Vec<Stop<'a>>, usize), AllocError>
+    requires { ComeFrom 0 walk }
+    ensures stops { IfOk result (λ made. All (IsStop walk.entry) made.0.items) }
+    ensures width { IfOk result (λ made. made.1 ≡ cells_width 0 walk.entry) }
+{
+    let mut walk = walk;
+    let mut stops = Vec::new(alloc);
+    let mut width = 0;
+    let mut reached = 0;
+    let mut left = BETWEEN_STOPS;
+    while let Some(cell) = walk.next()? {
+        width = cell.until;
+        reached = cell.after;
+        left -= 1;
+        if left == 0 {
+            stops.push(Stop {
+                offset: reached,
+                walk: walk.copied(),
+            })?;
+            left = BETWEEN_STOPS;
+        }
+    }
+    Ok((stops, width))
 }
 
 impl<'a> Columns<'a> {
@@ -57,22 +136,19 @@ impl<'a> Columns<'a> {
             return Ok(Columns {
                 plain: text,
                 start: line.start,
-                cells: Vec::new(alloc),
+                whole: Walk::new(&[], line.start, tab),
+                stops: Vec::new(alloc),
                 text_end: line.text_end,
                 width: text.len(),
             });
         }
-        let mut walk = Walk::new(text, line.start, tab);
-        let mut cells = Vec::new(alloc);
-        let mut width = 0;
-        while let Some(cell) = walk.next()? {
-            width = cell.until;
-            cells.push(cell)?;
-        }
+        let whole = Walk::new(text, line.start, tab);
+        let (stops, width) = stops_of(alloc, whole.copied())?;
         Ok(Columns {
             plain: &[],
             start: line.start,
-            cells,
+            whole,
+            stops,
             text_end: line.text_end,
             width,
         })
@@ -99,11 +175,10 @@ impl<'a> Columns<'a> {
         if at < self.plain.len() {
             return Ok(at);
         }
-        let index = self.cells.partition_point(|cell| cell.after <= offset);
-        if index < self.cells.len() {
-            return Ok(self.cells[index].from);
+        match column_behind(walk_to(&self.whole, &self.stops, offset), offset)? {
+            Some(column) => Ok(column),
+            None => self.column_at_end(offset),
         }
-        self.column_at_end(offset)
     }
 
     /// The same, rounded up: `AllocError` too where that is past the largest `usize`.
@@ -114,11 +189,10 @@ impl<'a> Columns<'a> {
         if at < self.plain.len() {
             return Ok(at);
         }
-        let index = self.cells.partition_point(|cell| cell.start < offset);
-        if index < self.cells.len() {
-            return Ok(self.cells[index].from);
+        match column_from(walk_to(&self.whole, &self.stops, offset), offset)? {
+            Some(column) => Ok(column),
+            None => self.column_at_end(offset),
         }
-        self.column_at_end(offset)
     }
 }
 
