@@ -2,9 +2,9 @@
 use Rattle.std.specs.Prelude.{◌≡◌, ℕ, Bool, true, false, not, List, Option, None, is_some, if◌then◌else◌, unwrap_or, option_map, chars, codes, string_bytes}
 use Rattle.std.specs.Option.{option_or}
 use Rattle.std.specs.Str.{bytes_eq}
-use Rattle.miette_text.specs.Themes.{Styles, Theme, ansi_styles, ascii_characters, characters_of, no_styles, rgb_styles, unicode_characters}
-use Rattle.miette_text.specs.declared.theme.Terminal.{Terminal}
-use Rattle.miette_text.specs.declared.theme.ThemeCharacters.{ThemeCharacters}
+use Rattle.miette_style.specs.Themes.{Styles, Theme, ansi_styles, ascii_characters, characters_of, no_styles, rgb_styles, unicode_characters}
+use Rattle.miette_style.specs.declared.theme.Terminal.{Terminal}
+use Rattle.miette_style.specs.declared.theme.ThemeCharacters.{ThemeCharacters}
 use Rattle.miette_narrated.specs.Report as narrated
 use Rattle.miette_handlers.specs.Handling.{Handling}
 use Rattle.miette_handlers.specs.Settings.{Settings, Urls, default_settings, links_shown}

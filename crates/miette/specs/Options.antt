@@ -1,6 +1,6 @@
 -- What a user may ask for: each option as it was set last, or nothing. The parameter is the type of highlighters.
 use Rattle.std.specs.Prelude.{ℕ, Bool, List, Option, None}
-use Rattle.miette_text.specs.Themes.{Theme}
+use Rattle.miette_style.specs.Themes.{Theme}
 use Rattle.miette.specs.declared.options.RgbColors.{RgbColors}
 use Rattle.miette.specs.declared.options.RgbColors.TheVariants.{Never}
 

@@ -2,16 +2,16 @@
 
 ghost use Rattle.std.specs.Prelude.{◌≡◌, ◌↔◌, ◌≤◌, IsTrue, None, Some, false, string_bytes, true};
 ghost use Rattle.miette_handlers.specs.Modes.{splits};
-ghost use Rattle.miette_text.specs.Themes.{theme_of};
+ghost use Rattle.miette_style.specs.Themes.{theme_of};
 ghost use Rattle.miette.specs.Options.{no_options};
 
 mod building;
 mod handler;
 
 pub use crate::options::handler::MietteHandler;
-use miette_text::highlight::Highlighter;
-use miette_text::theme::GraphicalTheme;
-pub use miette_text::theme::Terminal;
+use miette_style::highlight::Highlighter;
+use miette_style::theme::GraphicalTheme;
+pub use miette_style::theme::Terminal;
 use miette_text::wrap::{WordSeparator, WordSplitter};
 use std::marker::Model;
 
@@ -64,7 +64,7 @@ pub struct MietteHandlerOpts<H = Box<dyn Highlighter>> {
 impl<H> Model for MietteHandlerOpts<H> {
     ghost use Rattle.std.specs.Prelude.{◌≤◌, option_map, string_bytes, unwrap_or};
     ghost use Rattle.miette_handlers.specs.Modes.{splits};
-    ghost use Rattle.miette_text.specs.Themes.{theme_of};
+    ghost use Rattle.miette_style.specs.Themes.{theme_of};
     ghost use Rattle.miette.specs.Options.{Options};
 
     ghost Value = { Options H };

@@ -1,17 +1,18 @@
 -- The parts of a diagnostic's text, without their colours.
 use Rattle.std.proofs.Common.{◌≡◌, ℕ, ◌-◌, Bool, true, false, not, ◌&&◌, List, [], ◌∷◌, ◌++◌, refl, sym, ap, ap₂, ◌∙◌, chars, Option, Some, None, IfSome}
 use Rattle.std.proofs.lemmas.Bool.{and_parts}
-use Rattle.miette_text.specs.Sequences.{is_escape}
-use Rattle.miette_text.specs.Tame.{no_escape, is_nil}
+use Rattle.miette_style.specs.Escapes.{is_escape}
+use Rattle.miette_text.specs.Tame.{is_nil}
+use Rattle.miette_style.specs.Escapes.{no_escape}
 use Rattle.miette_text.specs.Runs.{Run, Styled, print}
-use Rattle.miette_text.specs.Styles.{plain}
+use Rattle.miette_style.specs.Styles.{plain}
 use Rattle.miette_protocol.specs.Meaning.{Meaning, Label}
 use Rattle.miette_protocol.specs.Reading.{Source}
 use Rattle.miette_protocol.specs.declared.protocol.Severity.{Severity}
 use Rattle.miette_protocol.specs.declared.protocol.Severity.TheVariants.{Advice, Warning, Error}
 use Rattle.miette_handlers.specs.Settings.{Settings, Urls, AsLinks, AsText, Hidden, icon, icon_in, style_in, severity_style}
-use Rattle.miette_text.specs.Themes.{Styles}
-use Rattle.miette_text.specs.declared.theme.ThemeCharacters.{ThemeCharacters}
+use Rattle.miette_style.specs.Themes.{Styles}
+use Rattle.miette_style.specs.declared.theme.ThemeCharacters.{ThemeCharacters}
 use Rattle.miette_handlers.proofs.TextLaws.{TextLaws}
 use Rattle.miette_handlers.specs.Answers.{Answer}
 use Rattle.miette_handlers.specs.Indents.{bare, spaces, wrapped_under, icon_indent, bar_indent, arrow_text, stem_text, arrow_indent, stem_indent, help_indent, further_help_indent, footer_indent, narrowed}

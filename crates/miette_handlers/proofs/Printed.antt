@@ -2,8 +2,8 @@
 use Rattle.std.proofs.Common.{◌≡◌, ℕ, false, List, [], ◌∷◌, ◌++◌, map, refl, sym, ap, ◌∙◌, append_assoc, append-nil, chars, encode_utf8_all}
 use Rattle.std.proofs.lemmas.Str.{chars-nil}
 use Rattle.miette_text.specs.Runs.{print, printed_run}
-use Rattle.miette_text.specs.Styles.{plain}
-use Rattle.miette_text.specs.declared.style.Style.{Style}
+use Rattle.miette_style.specs.Styles.{plain}
+use Rattle.miette_style.specs.declared.style.Style.{Style}
 use Rattle.miette_layout.specs.Rows.{Row}
 use Rattle.miette_layout.specs.Told.{Token, begins, byte, row_end, bytes_told, told, told_rows}
 use Rattle.miette_layout.specs.PageParts.{part_told, begins_with_byte, EndsBefore}

@@ -9,8 +9,8 @@ use Rattle.std.proofs.lemmas.Str.{chars-nil}
 use Rattle.miette_protocol.specs.Meaning.{Label}
 use Rattle.miette_protocol.specs.Reading.{Source}
 use Rattle.miette_text.specs.Runs.{HaveNoEscape, print, printed_run, plain_run}
-use Rattle.miette_text.specs.Styles.{plain}
-use Rattle.miette_text.specs.Tame.{no_escape}
+use Rattle.miette_style.specs.Styles.{plain}
+use Rattle.miette_style.specs.Escapes.{no_escape}
 use Rattle.miette_layout.specs.Answers as layout
 use Rattle.miette_layout.specs.Clean.{IsCleanLabel, IsCleanRow, IsCleanSource, AreCleanDrawings}
 use Rattle.miette_layout.specs.Fading as fading

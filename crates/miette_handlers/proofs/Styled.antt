@@ -2,10 +2,10 @@
 use Rattle.std.proofs.Common.{◌≡◌, ◌≢◌, ℕ, Bool, true, false, not, List, [], ◌∷◌, ◌++◌, Option, Some, None, codes, refl, sym}
 use Rattle.std.specs.Str.{chars}
 use Rattle.miette_text.specs.Runs.{Run, colour_start, colour_stop, flag, foreground_codes, printed_run, style_codes}
-use Rattle.miette_text.specs.Styles.{plain}
+use Rattle.miette_style.specs.Styles.{plain}
 use Rattle.miette_text.specs.Tame.{is_nil}
-use Rattle.miette_text.specs.declared.style.Color.{Color}
-use Rattle.miette_text.specs.declared.style.Style.{Style}
+use Rattle.miette_style.specs.declared.style.Color.{Color}
+use Rattle.miette_style.specs.declared.style.Style.{Style}
 use Rattle.miette_handlers.specs.Parts.{header_or_end}
 
 -- a style in which something is set has codes

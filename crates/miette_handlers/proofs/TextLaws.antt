@@ -1,10 +1,11 @@
 -- What the layer of texts promises of deleting colours: the clauses of its laws, gathered.
 use Rattle.std.proofs.Common.{◌≡◌, ℕ, true, List, [], ◌∷◌, ◌++◌, map, refl, ap, ◌∙◌, sym, subst}
 use Rattle.miette_text.specs.Sequences.{tokens, erase}
-use Rattle.miette_text.specs.Tame.{IsTame, AllTame, no_escape}
+use Rattle.miette_text.specs.Tame.{IsTame, AllTame}
+use Rattle.miette_style.specs.Escapes.{no_escape}
 use Rattle.miette_text.specs.Tame as tame
 use Rattle.miette_text.specs.Runs.{Run, Styled, HaveNoEscape, plain_run, print}
-use Rattle.miette_text.specs.Styles.{plain}
+use Rattle.miette_style.specs.Styles.{plain}
 use Rattle.miette_text.specs.Cutting.{without_leading, without_trailing}
 use Rattle.miette_text.specs.Wrapping.{Layout, columns_of, wrapped}
 

@@ -2,7 +2,7 @@
 use Rattle.std.specs.Prelude.{List, string_bytes, Option, IfSome}
 use Rattle.std.specs.List.{AllByRecursion}
 use Rattle.miette_text.specs.Runs.{Run, HaveNoEscape}
-use Rattle.miette_text.specs.declared.theme.ThemeCharacters.{ThemeCharacters}
+use Rattle.miette_style.specs.declared.theme.ThemeCharacters.{ThemeCharacters}
 use Rattle.miette_protocol.specs.Meaning.{Meaning, Label}
 use Rattle.miette_layout.specs.Clean.{IsClean, IsCleanText, IsCleanLabel, IsCleanSource, AreCleanDrawings}
 use Rattle.miette_tree.specs.Tree.{Tree, tree, Cause, diagnostic, texts, Trees, no_trees, more_trees}

@@ -2,11 +2,11 @@
 use Rattle.std.specs.Prelude.{◌≡◌, ℕ, Bool, List, [], map, Option, IfSome, encode_utf8_all}
 use Rattle.miette_text.specs.Runs.{plain_run}
 use Rattle.miette_text.specs.Sequences.{erase}
-use Rattle.miette_text.specs.Styles.{plain}
+use Rattle.miette_style.specs.Styles.{plain}
 use Rattle.miette_protocol.specs.Meaning.{Label}
 use Rattle.miette_protocol.specs.Reading.{Source}
 use Rattle.miette_handlers.specs.Settings.{Settings}
-use Rattle.miette_text.specs.Themes.{Styles}
+use Rattle.miette_style.specs.Themes.{Styles}
 use Rattle.miette_handlers.specs.Answers.{Answer, Answers, unlisted, listed, RelatedAnswers, no_more, and_more}
 use Rattle.miette_handlers.specs.Answered.{AreAnswers}
 use Rattle.miette_handlers.specs.Parts.{SnippetRows, rows_text}

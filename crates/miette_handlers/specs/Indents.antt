@@ -1,7 +1,7 @@
 -- What stands in front of rows, in runs, and text that is wrapped under it.
 use Rattle.std.specs.Prelude.{ℕ, ◌-◌, Bool, true, false, List, [], ◌∷◌, ◌++◌, codes, replicate, Option}
 use Rattle.miette_text.specs.Runs.{Run, Styled, print}
-use Rattle.miette_text.specs.Styles.{plain}
+use Rattle.miette_style.specs.Styles.{plain}
 use Rattle.miette_text.specs.Sequences.{tokens}
 use Rattle.miette_text.specs.Wrapping.{columns_of, wrapped}
 use Rattle.miette_protocol.specs.declared.protocol.Severity.{Severity}

@@ -1,7 +1,7 @@
 -- The parts of one diagnostic's text.
 use Rattle.std.specs.Prelude.{ℕ, Bool, List, [], ◌∷◌, ◌++◌, codes, chars, Option, Some, None}
 use Rattle.miette_text.specs.Runs.{Run, Styled, LinkTo, LinkEnd, print}
-use Rattle.miette_text.specs.declared.style.Style.{Style}
+use Rattle.miette_style.specs.declared.style.Style.{Style}
 use Rattle.miette_protocol.specs.Meaning.{Meaning, Label}
 use Rattle.miette_protocol.specs.Reading.{Source}
 use Rattle.miette_protocol.specs.declared.protocol.Severity.{Severity}

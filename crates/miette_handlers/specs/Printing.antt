@@ -1,8 +1,8 @@
 -- What the tokens of a page print.
 use Rattle.std.specs.Prelude.{ℕ, List, [], ◌∷◌, ◌++◌, chars}
 use Rattle.miette_text.specs.Runs.{printed_run}
-use Rattle.miette_text.specs.Styles.{plain}
-use Rattle.miette_text.specs.declared.style.Style.{Style}
+use Rattle.miette_style.specs.Styles.{plain}
+use Rattle.miette_style.specs.declared.style.Style.{Style}
 use Rattle.miette_layout.specs.declared.page.Part.{Part}
 use Rattle.miette_layout.specs.declared.page.Part.TheVariants as parts
 use Rattle.miette_layout.specs.Told.{Token, begins, byte, row_end}

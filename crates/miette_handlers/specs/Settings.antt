@@ -2,9 +2,9 @@
 use Rattle.std.specs.Prelude.{ℕ, Bool, List, Option, Some, None, true, false, chars, codes, string_bytes}
 use Rattle.miette_protocol.specs.declared.protocol.Severity.{Severity}
 use Rattle.miette_protocol.specs.declared.protocol.Severity.TheVariants.{Advice, Warning, Error}
-use Rattle.miette_text.specs.Themes.{Styles}
-use Rattle.miette_text.specs.declared.style.Style.{Style}
-use Rattle.miette_text.specs.declared.theme.ThemeCharacters.{ThemeCharacters}
+use Rattle.miette_style.specs.Themes.{Styles}
+use Rattle.miette_style.specs.declared.style.Style.{Style}
+use Rattle.miette_style.specs.declared.theme.ThemeCharacters.{ThemeCharacters}
 
 -- What a url becomes: a link, a text behind the code, or nothing.
 pub data Urls : Type 0 where

@@ -1,6 +1,6 @@
 -- What the code's values stand for.
 use Rattle.std.specs.Prelude.{chars, option_map}
-use Rattle.miette_text.specs.Themes.{styles_of}
+use Rattle.miette_style.specs.Themes.{styles_of}
 use Rattle.miette_handlers.specs.Settings as values
 use Rattle.miette_handlers.specs.Modes.{urls_of, splits}
 use Rattle.miette_handlers.specs.declared.settings.Layout.{Layout}

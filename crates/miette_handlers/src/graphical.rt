@@ -16,7 +16,7 @@ ghost use Rattle.miette_handlers.specs.Text.{report_text};
 ghost use Rattle.miette_handlers.specs.Modes.{splits};
 ghost use Rattle.miette_handlers.specs.Views.{settings_of};
 ghost use Rattle.miette_text.specs.Filling.{AppendsErasing};
-ghost use Rattle.miette_text.specs.Themes.{characters_of, styles_of, terminal_theme};
+ghost use Rattle.miette_style.specs.Themes.{characters_of, styles_of, terminal_theme};
 ghost use Rattle.miette_tree.specs.Report.{tree_of};
 
 use crate::laws::snippets_law;
@@ -27,8 +27,8 @@ use crate::settings::{Layout, UrlMode};
 use miette_protocol::error::RenderError;
 use miette_protocol::protocol::Diagnostic;
 use miette_protocol::source::SourceCode;
-use miette_text::highlight::Highlighter;
-use miette_text::theme::{GraphicalTheme, Terminal};
+use miette_style::highlight::Highlighter;
+use miette_style::theme::{GraphicalTheme, Terminal};
 use miette_text::wrap::{WordSeparator, WordSplitter};
 use miette_tree::report::Report;
 use std::alloc::{AllocError, Global};
@@ -61,7 +61,7 @@ pub struct GraphicalReportHandler<H = Box<dyn Highlighter>> {
 impl<H> Model for GraphicalReportHandler<H> {
     ghost use Rattle.std.specs.Prelude.{◌≤◌, option_map, chars, codes, string_bytes};
     ghost use Rattle.std.specs.Option.{option_map_or};
-    ghost use Rattle.miette_text.specs.Themes.{styles_of};
+    ghost use Rattle.miette_style.specs.Themes.{styles_of};
     ghost use Rattle.miette_handlers.specs.Handling.{Handling};
     ghost use Rattle.miette_handlers.specs.Modes.{urls_of, splits};
 

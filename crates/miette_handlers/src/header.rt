@@ -10,8 +10,8 @@ ghost use Rattle.miette_handlers.specs.Views.{settings_of};
 use crate::settings::{Layout, UrlMode};
 use miette_layout::page::PLAIN;
 use miette_protocol::protocol::Severity;
+use miette_style::style::Style;
 use miette_text::runs::output::Output;
-use miette_text::style::Style;
 use std::alloc::AllocError;
 
 /// Ends the row, and leaves a blank one.

@@ -33,7 +33,7 @@ use miette_layout::snippets::snippets;
 use miette_protocol::error::RenderError;
 use miette_protocol::protocol::{Diagnostic, LabeledSpan, Severity};
 use miette_protocol::source::SourceCode;
-use miette_text::highlight::Highlighter;
+use miette_style::highlight::Highlighter;
 use miette_text::runs::Runs;
 use miette_text::runs::output::Output;
 use miette_text::runs::reading::read_text;

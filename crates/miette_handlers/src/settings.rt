@@ -5,8 +5,8 @@ ghost use Rattle.miette_handlers.specs.Settings.{icon, severity_style};
 ghost use Rattle.miette_handlers.specs.Views.{settings_of};
 
 use miette_protocol::protocol::Severity;
-use miette_text::style::Style;
-use miette_text::theme::GraphicalTheme;
+use miette_style::style::Style;
+use miette_style::theme::GraphicalTheme;
 use miette_text::wrap::WordSplitter;
 
 /// What a url becomes.

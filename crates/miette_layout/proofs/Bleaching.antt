@@ -3,7 +3,7 @@ use Rattle.std.proofs.Common.{◌≡◌, ℕ, zero, suc, ◌+◌, ◌%◌, Bool,
 use Rattle.std.specs.List.{AllByRecursion, filter}
 use Rattle.miette_protocol.specs.Lines.{Line}
 use Rattle.miette_protocol.specs.Meaning.{Label}
-use Rattle.miette_text.specs.declared.style.Style.{Style}
+use Rattle.miette_style.specs.declared.style.Style.{Style}
 use Rattle.std.specs.Prelude.{nat_le}
 use Rattle.miette_layout.specs.Clean.{IsClean, IsCleanText, IsCleanLabel}
 use Rattle.miette_layout.specs.Gutters.{most_labels, gutter_columns}

@@ -9,8 +9,8 @@ use Rattle.std.proofs.lemmas.List.{map-append}
 use Rattle.std.proofs.lemmas.Str.{encode_ascii}
 use Rattle.bstr.specs.Utf8.{Decoded, decoded, or_replacement, pieces, pieces_from}
 use Rattle.bstr.proofs.lemmas.SoundLemmas.{SpellsChar-decoded}
-use Rattle.miette_text.specs.Sequences.{is_escape}
-use Rattle.miette_text.specs.Tame.{no_escape}
+use Rattle.miette_style.specs.Escapes.{is_escape}
+use Rattle.miette_style.specs.Escapes.{no_escape}
 use Rattle.miette_layout.specs.Answers.{Highlight}
 use Rattle.miette_layout.specs.Cells.{Character, Cell, cells_from, characters, printed, printed_cells, cells_within, cells_beyond, line_runs, hides_next, width_at, text_bytes}
 use Rattle.miette_layout.specs.Clean.{IsCleanCode, IsClean, IsCleanRow}

@@ -3,7 +3,7 @@ use Rattle.std.proofs.Common.{ℕ, zero, suc, ◌+◌, ◌-◌, ◌<◌, ◌≤�
 use Rattle.std.proofs.lemmas.Bool.{lt-ltb, le-ltb, le-leb, lt-leb, and_right, ne_eqb, eq-eqb}
 use Rattle.std.proofs.lemmas.List.{map-append}
 use Rattle.std.specs.List.{range_with_len}
-use Rattle.miette_text.specs.declared.theme.ThemeCharacters.{ThemeCharacters}
+use Rattle.miette_style.specs.declared.theme.ThemeCharacters.{ThemeCharacters}
 use Rattle.miette_layout.specs.Rows.{Piece, Row, pieces_of, drawn, styled}
 use Rattle.miette_layout.specs.Marks.{Mark, anchor, AreApart}
 use Rattle.miette_layout.specs.Drawing.{mark_code, mark_runs, lead_runs, text_row, corner, corner_of_several, beside, rows_of_parts, rows_below}

@@ -5,7 +5,7 @@ use Rattle.std.specs.List.{list_all}
 use Rattle.std.proofs.lemmas.Bool.{and_parts}
 use Rattle.std.proofs.lemmas.Bool.Decides.{nat_tests}
 use Rattle.std.proofs.lemmas.Str.{encode_ascii}
-use Rattle.miette_text.specs.declared.style.Style.{Style}
+use Rattle.miette_style.specs.declared.style.Style.{Style}
 use Rattle.miette_layout.specs.Rows.{Row, plain, styled}
 use Rattle.miette_layout.specs.Drawing.{blank}
 use Rattle.miette_layout.specs.Frames.{Settings, Place, place_text}

@@ -4,8 +4,8 @@ use Rattle.std.specs.Prelude.{chars, encode_utf8, ◌==◌, Option, Some}
 use Rattle.std.proofs.lemmas.List.{at_drop_more, at_drop_all}
 use Rattle.miette_protocol.specs.Lines.{Line}
 use Rattle.miette_protocol.specs.Meaning.{Label}
-use Rattle.miette_text.specs.declared.style.Style.{Style}
-use Rattle.miette_text.specs.declared.theme.ThemeCharacters.{ThemeCharacters}
+use Rattle.miette_style.specs.declared.style.Style.{Style}
+use Rattle.miette_style.specs.declared.theme.ThemeCharacters.{ThemeCharacters}
 use Rattle.miette_layout.specs.declared.sweep.Placed.{Placed}
 use Rattle.miette_layout.specs.Rows.{Row, styled, plain}
 use Rattle.miette_layout.specs.Labels.{DrawnLabel, starts_on, ends_on, parts_of, cut_at_lf, onto_part}

@@ -2,7 +2,7 @@
 use Rattle.std.proofs.Common.{ℕ, ◌+◌, ◌-◌, ◌*◌, ◌^◌, ◌<◌, ◌≤◌, ◌≡◌, true, false, cond, eqb, List, [], ◌∷◌, ◌++◌, take, drop, length, get_or, Option, Some, refl, sym, ap, subst, ◌∙◌, length-append, arith}
 use Rattle.std.proofs.lemmas.Bool.{ne_eqb, eqb-false, eq-eqb}
 use Rattle.std.proofs.lemmas.List.{get_or_append_left, take_all}
-use Rattle.miette_text.specs.declared.style.Style.{Style}
+use Rattle.miette_style.specs.declared.style.Style.{Style}
 use Rattle.miette_layout.specs.Rows.{plain}
 use Rattle.miette_layout.specs.declared.page_marks.Kept.{Kept}
 use Rattle.miette_layout.specs.PageMarks.{kind_told, marks_kept, end_kept, AreKinds}

@@ -9,7 +9,7 @@ use Rattle.miette_protocol.specs.Lines as P
 use Rattle.miette_protocol.specs.Lines.{Line}
 use Rattle.miette_protocol.specs.Meaning.{Label}
 use Rattle.miette_protocol.specs.Reading.{Span, Source, Contents, data_start, data_end}
-use Rattle.miette_text.specs.declared.style.Style.{Style}
+use Rattle.miette_style.specs.declared.style.Style.{Style}
 use Rattle.miette_layout.specs.declared.reading.ReadLabel.{ReadLabel}
 use Rattle.miette_layout.specs.declared.sheet.LineOfText.{LineOfText}
 use Rattle.miette_layout.specs.declared.sweep.Placed.{Placed}

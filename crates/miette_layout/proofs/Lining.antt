@@ -3,12 +3,12 @@ use Rattle.std.proofs.Common.{ℕ, zero, suc, ◌+◌, ◌-◌, ◌<◌, ◌≤�
 use Rattle.std.specs.Prelude.{encode_utf8}
 use Rattle.std.proofs.lemmas.Bool.Decides.{nat_tests}
 use Rattle.std.proofs.lemmas.List.{at_drop_more, at_drop_all, map-append}
-use Rattle.miette_text.specs.declared.style.Style.{Style}
+use Rattle.miette_style.specs.declared.style.Style.{Style}
 use Rattle.miette_layout.specs.Answers.{Highlight}
 use Rattle.miette_layout.specs.Rows.{Row, Piece, plain, styled}
 use Rattle.miette_layout.specs.Cells.{Cell, printed, printed_cells, cells_within, cells_beyond, text_bytes, line_runs}
 use Rattle.miette_layout.specs.declared.marks.Mark.{Mark as MadeMark}
-use Rattle.miette_text.specs.declared.theme.ThemeCharacters.{ThemeCharacters}
+use Rattle.miette_style.specs.declared.theme.ThemeCharacters.{ThemeCharacters}
 use Rattle.miette_layout.specs.Marks.{Mark}
 use Rattle.miette_layout.specs.Drawing.{blank, mark_runs, rows_below, marked_rows}
 use Rattle.miette_layout.specs.Frames.{Settings, number_start}

@@ -12,7 +12,7 @@ use Rattle.bstr.proofs.lemmas.PieceLemmas.{value-1}
 use Rattle.miette_layout.specs.Cells.{Cell, cells_from, characters, first_column, last_column, cells_width, width_at, hides_next, printed_cells, line_runs}
 use Rattle.miette_layout.specs.Given.{width_of}
 use Rattle.miette_layout.specs.Told.{Token, begins, told, text_told, bytes_told}
-use Rattle.miette_text.specs.declared.style.Style.{Style}
+use Rattle.miette_style.specs.declared.style.Style.{Style}
 use Rattle.std.proofs.lemmas.List.{nil_from_length}
 use Rattle.miette_layout.specs.Walking.{cells_told, highlight_of}
 use Rattle.miette_layout.specs.Layout.{text_of_cells}

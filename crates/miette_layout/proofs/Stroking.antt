@@ -5,8 +5,8 @@ use Rattle.std.proofs.lemmas.Bool.Decides.{nat_tests}
 use Rattle.std.proofs.lemmas.List.{at_drop_more, at_drop_all, map-append}
 use Rattle.std.specs.List.{range_with_len}
 use Rattle.miette_protocol.specs.Meaning.{Label}
-use Rattle.miette_text.specs.declared.style.Style.{Style}
-use Rattle.miette_text.specs.declared.theme.ThemeCharacters.{ThemeCharacters}
+use Rattle.miette_style.specs.declared.style.Style.{Style}
+use Rattle.miette_style.specs.declared.theme.ThemeCharacters.{ThemeCharacters}
 use Rattle.miette_layout.specs.declared.marks.Mark.{Mark as MadeMark}
 use Rattle.miette_layout.specs.Rows.{drawn, plain}
 use Rattle.miette_layout.specs.Labels.{parts_of, cut_at_lf, onto_part, is_empty}

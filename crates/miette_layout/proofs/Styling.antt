@@ -3,7 +3,7 @@ use Rattle.std.proofs.Common.{ℕ, ◌+◌, ◌≡◌, ◌++◌, length, Bool, t
 use Rattle.miette_protocol.specs.Lines.{Line}
 use Rattle.miette_protocol.specs.Meaning.{Label}
 use Rattle.miette_protocol.specs.Reading.{Span, Source, Contents}
-use Rattle.miette_text.specs.Pieces.{CutsLine, Piece}
+use Rattle.miette_style.specs.Pieces.{CutsLine, Piece}
 use Rattle.miette_layout.specs.Answers.{Highlight, first_of, later_of}
 use Rattle.miette_layout.specs.Contexts.{contents, lines_of_contents}
 use Rattle.miette_layout.specs.Frames.{Settings, top_row, bottom_row, number_width}

@@ -1,6 +1,6 @@
 -- What rows tell.
 use Rattle.std.proofs.Common.{ℕ, zero, suc, ◌≡◌, List, [], ◌∷◌, ◌++◌, map, replicate, refl, sym, ap, ◌∙◌, append_assoc, append-nil}
-use Rattle.miette_text.specs.declared.style.Style.{Style}
+use Rattle.miette_style.specs.declared.style.Style.{Style}
 use Rattle.miette_layout.specs.Rows.{Row, drawn, styled, plain}
 use Rattle.miette_layout.specs.Drawing.{blank}
 use Rattle.std.specs.Prelude.{encode_utf8}

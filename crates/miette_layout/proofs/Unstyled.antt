@@ -1,7 +1,7 @@
 -- The rows under a line by columns, without styles.
 use Rattle.std.proofs.Common.{ℕ, List, [], ◌∷◌, ◌++◌, map, cond, eqb}
 use Rattle.std.specs.List.{range_with_len}
-use Rattle.miette_text.specs.declared.theme.ThemeCharacters.{ThemeCharacters}
+use Rattle.miette_style.specs.declared.theme.ThemeCharacters.{ThemeCharacters}
 use Rattle.miette_layout.specs.Rows.{Piece, drawn}
 use Rattle.miette_layout.specs.Marks.{Mark, anchor}
 use Rattle.miette_layout.specs.Pictures.{mark_at, marks_end}

@@ -1,7 +1,7 @@
 -- What a source and a highlighter answer, where the settings and the labels don't determine it.
 use Rattle.std.specs.Prelude.{ℕ, ◌≡◌, List, [], ◌∷◌, Bool, false}
 use Rattle.std.specs.List.{AllByRecursion}
-use Rattle.miette_text.specs.declared.style.Style.{Style}
+use Rattle.miette_style.specs.declared.style.Style.{Style}
 
 -- what a highlighter says of a line's next bytes
 pub record Highlight : Type 0 where

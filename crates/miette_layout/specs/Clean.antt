@@ -1,9 +1,9 @@
 -- What snippets are made of, without an escape in it.
 use Rattle.std.specs.Prelude.{◌≡◌, ℕ, true, false, List, map, chars, IfSome}
 use Rattle.std.specs.List.{AllByRecursion}
-use Rattle.miette_text.specs.Sequences.{is_escape}
-use Rattle.miette_text.specs.Tame.{no_escape}
-use Rattle.miette_text.specs.declared.theme.ThemeCharacters.{ThemeCharacters}
+use Rattle.miette_style.specs.Escapes.{is_escape}
+use Rattle.miette_style.specs.Escapes.{no_escape}
+use Rattle.miette_style.specs.declared.theme.ThemeCharacters.{ThemeCharacters}
 use Rattle.miette_protocol.specs.Meaning.{Label}
 use Rattle.miette_protocol.specs.Reading.{Source}
 use Rattle.miette_layout.specs.Rows.{Row}

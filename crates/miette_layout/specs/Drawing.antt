@@ -1,7 +1,7 @@
 -- The mark row of a line and the rows of texts under it, and what it means that a text hangs from its mark.
 use Rattle.std.specs.Prelude.{ℕ, ◌+◌, ◌-◌, ◌<◌, ◌≤◌, ◌≡◌, List, [], ◌∷◌, ◌++◌, map, replicate, if◌then◌else◌, ◌==◌}
 use Rattle.std.specs.List.{range_with_len}
-use Rattle.miette_text.specs.declared.theme.ThemeCharacters.{ThemeCharacters}
+use Rattle.miette_style.specs.declared.theme.ThemeCharacters.{ThemeCharacters}
 use Rattle.miette_layout.specs.Rows.{Run, Row, plain, drawn, styled}
 use Rattle.miette_layout.specs.Labels.{is_empty}
 use Rattle.miette_layout.specs.Marks.{Mark, anchor}

@@ -3,8 +3,8 @@ use Rattle.std.specs.Prelude.{ℕ, false, List, Option, None, slice_get, unwrap_
 use Rattle.std.specs.Option.{option_map_or}
 use Rattle.unicode_width.specs.Width.{char_width}
 use Rattle.miette_protocol.specs.Meaning.{Label}
-use Rattle.miette_text.specs.declared.theme.ThemeStyles.{ThemeStyles}
-use Rattle.miette_text.specs.declared.theme.GraphicalTheme.{GraphicalTheme}
+use Rattle.miette_style.specs.declared.theme.ThemeStyles.{ThemeStyles}
+use Rattle.miette_style.specs.declared.theme.GraphicalTheme.{GraphicalTheme}
 use Rattle.miette_layout.specs.declared.options.LayoutOptions.{LayoutOptions}
 use Rattle.miette_layout.specs.declared.sweep.Placed.{Placed}
 use Rattle.miette_layout.specs.Frames.{Styles, Settings}

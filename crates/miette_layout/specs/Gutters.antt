@@ -1,6 +1,6 @@
 -- The gutter of a line, over the labels of several lines that lie on it, and the texts of those that end there.
 use Rattle.std.specs.Prelude.{ℕ, ◌+◌, ◌-◌, max, List, [], ◌∷◌, ◌++◌, map, length, replicate, if◌then◌else◌, ◌==◌}
-use Rattle.miette_text.specs.declared.theme.ThemeCharacters.{ThemeCharacters}
+use Rattle.miette_style.specs.declared.theme.ThemeCharacters.{ThemeCharacters}
 use Rattle.miette_layout.specs.Rows.{Run, Row, styled}
 use Rattle.miette_protocol.specs.Lines.{Line}
 use Rattle.miette_layout.specs.Labels.{DrawnLabel, starts_on, ends_on, multi_line}

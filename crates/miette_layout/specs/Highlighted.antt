@@ -4,7 +4,7 @@ use Rattle.std.specs.Option.{option_map_or}
 use Rattle.bstr.specs.Utf8.{lossy_chars}
 use Rattle.miette_protocol.specs.Lines.{Line}
 use Rattle.miette_protocol.specs.Reading.{Span, Source}
-use Rattle.miette_text.specs.Pieces.{CutsLine, Piece}
+use Rattle.miette_style.specs.Pieces.{CutsLine, Piece}
 use Rattle.miette_layout.specs.Answers.{Highlight, first_of, later_of}
 use Rattle.miette_layout.specs.Contexts.{contents, lines_of_contents}
 

@@ -1,6 +1,6 @@
 -- The marks of a page as they are kept.
 use Rattle.std.specs.Prelude.{ℕ, ◌+◌, ◌-◌, ◌*◌, ◌<◌, List, [], ◌∷◌, Option, Some, None, if◌then◌else◌, ◌==◌, slice_index_or}
-use Rattle.miette_text.specs.declared.style.Style.{Style}
+use Rattle.miette_style.specs.declared.style.Style.{Style}
 use Rattle.miette_layout.specs.Rows.{plain}
 use Rattle.miette_layout.specs.declared.page_marks.Mark.{Mark}
 use Rattle.miette_layout.specs.declared.page_marks.Kept.{Kept}

@@ -1,6 +1,6 @@
 -- How a page of rows lies in memory.
 use Rattle.std.specs.Prelude.{ℕ, ◌-◌, ◌≤◌, List, [], ◌∷◌, ◌++◌, take, drop, IsCharBoundary, Option, Some, None}
-use Rattle.miette_text.specs.declared.style.Style.{Style}
+use Rattle.miette_style.specs.declared.style.Style.{Style}
 use Rattle.miette_layout.specs.declared.page_marks.Mark.{Mark}
 use Rattle.miette_layout.specs.Told.{Token, begins, row_end, bytes_told}
 

@@ -1,7 +1,7 @@
 -- What the rows of a line show at their columns, and what it means that a text hangs from its mark.
 use Rattle.std.specs.Prelude.{ℕ, ◌+◌, ◌<◌, ◌≡◌, ◌⊎◌, List, [], ◌∷◌, map, Some, ◌&&◌, if◌then◌else◌, nat_lt, nat_le}
 use Rattle.std.specs.List.{AllByRecursion}
-use Rattle.miette_text.specs.declared.theme.ThemeCharacters.{ThemeCharacters}
+use Rattle.miette_style.specs.declared.theme.ThemeCharacters.{ThemeCharacters}
 use Rattle.miette_layout.specs.Rows.{Piece, Row, pieces_of, drawn, code_at, Begins}
 use Rattle.miette_protocol.specs.Lines.{Line}
 use Rattle.miette_layout.specs.Cells.{Cell, line_runs}

@@ -1,7 +1,7 @@
 -- Labels that were read, as they are drawn.
 use Rattle.std.specs.Prelude.{ℕ, ◌+◌, min, max, List, [], ◌∷◌, is_some}
 use Rattle.miette_protocol.specs.Meaning.{Label}
-use Rattle.miette_text.specs.declared.style.Style.{Style}
+use Rattle.miette_style.specs.declared.style.Style.{Style}
 use Rattle.miette_layout.specs.declared.reading.ReadLabel.{ReadLabel}
 use Rattle.miette_layout.specs.declared.sweep.Placed.{Placed}
 use Rattle.miette_layout.specs.Contexts.{end_of_span}

@@ -1,7 +1,7 @@
 -- Rows as a program makes them: where each run begins, in which style, its bytes, and where each row ends.
 -- How many columns a character takes isn't kept.
 use Rattle.std.specs.Prelude.{ℕ, List, [], ◌∷◌, ◌++◌, map, encode_utf8_all}
-use Rattle.miette_text.specs.declared.style.Style.{Style}
+use Rattle.miette_style.specs.declared.style.Style.{Style}
 use Rattle.miette_layout.specs.Rows.{Run, Row}
 
 pub data Token : Type 0 where

@@ -1,6 +1,6 @@
 -- A walk over the characters of a line's text, as a program makes it.
 use Rattle.std.specs.Prelude.{ℕ, List, map}
-use Rattle.miette_text.specs.declared.style.Style.{Style}
+use Rattle.miette_style.specs.declared.style.Style.{Style}
 use Rattle.miette_layout.specs.Answers.{Highlight}
 use Rattle.miette_layout.specs.Told.{Token, text_told}
 use Rattle.miette_layout.specs.declared.cells.Cell.{Cell as MadeCell}

@@ -16,7 +16,7 @@ use crate::parts::first_part;
 use crate::sheet::{LineOfText, Sheet, text_of};
 use crate::sweep::Placed;
 use crate::texts::push_other_start;
-use miette_text::style::Style;
+use miette_style::style::Style;
 use std::alloc::AllocError;
 
 // Whether a label ends on a line and began before it.

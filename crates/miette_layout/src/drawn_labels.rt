@@ -10,7 +10,7 @@ use crate::page::PLAIN;
 use crate::reading::ReadLabel;
 use crate::sweep::Placed;
 use miette_protocol::protocol::LabeledSpan;
-use miette_text::style::Style;
+use miette_style::style::Style;
 use std::alloc::{AllocError, Global};
 
 // The style of the i-th label by offset; plain where there are no styles.

@@ -11,8 +11,8 @@ ghost use Rattle.miette_layout.specs.Framed.{corner_row, place_at, refused_front
 use crate::options::LayoutOptions;
 use crate::page::{PLAIN, Page};
 use miette_protocol::protocol::LabeledSpan;
-use miette_text::style::Style;
-use miette_text::theme::GraphicalTheme;
+use miette_style::style::Style;
+use miette_style::theme::GraphicalTheme;
 use std::alloc::AllocError;
 
 /// What a snippet's frame is drawn with.

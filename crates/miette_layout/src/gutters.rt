@@ -11,7 +11,7 @@ ghost use Rattle.miette_layout.specs.Sheets.{line_of_text, settings, multi_label
 use crate::page::{PLAIN, Page};
 use crate::sheet::{LineOfText, Sheet, text_of};
 use crate::sweep::Placed;
-use miette_text::style::Style;
+use miette_style::style::Style;
 use std::alloc::AllocError;
 
 // Whether a label starts on a line.

@@ -3,13 +3,13 @@
 ghost use Rattle.std.specs.Prelude.{◌≡◌, ℕ, List, true, map, IfOk};
 ghost use Rattle.miette_layout.specs.Highlighted.{ArePieces, decoded_text, leaves_plain};
 ghost use Rattle.miette_layout.specs.Walking.{highlight_of};
-ghost use Rattle.miette_text.specs.Pieces.{CutsLine, plain_pieces};
+ghost use Rattle.miette_style.specs.Pieces.{CutsLine, plain_pieces};
 
 use crate::page::PLAIN;
 use bstr::ByteSlice;
 use miette_protocol::source::MietteSpanContents;
-use miette_text::highlight::Highlighter;
-use miette_text::style::Style;
+use miette_style::highlight::Highlighter;
+use miette_style::style::Style;
 use std::alloc::{AllocError, Global};
 
 /// Begins a new snippet, of what its read lent.

@@ -23,7 +23,7 @@ use crate::sheet::Sheet;
 use crate::strokes::push_marks;
 use crate::sweep::Placed;
 use crate::texts::{push_before_marks, push_texts};
-use miette_text::style::Style;
+use miette_style::style::Style;
 use std::alloc::{AllocError, Global};
 
 // The number of a line: ` 12 │ `.

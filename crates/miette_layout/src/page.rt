@@ -8,7 +8,7 @@ ghost use Rattle.miette_layout.specs.Told.{Token, begins, row_end, bytes_told, t
 
 use crate::page_marks::{Mark, MarksLeft, PageMarks};
 use itoa::Buffer;
-use miette_text::style::Style;
+use miette_style::style::Style;
 use std::alloc::{AllocError, Global};
 use std::marker::Model;
 

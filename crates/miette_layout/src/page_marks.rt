@@ -3,7 +3,7 @@
 ghost use Rattle.std.specs.Prelude.{◌≡◌, ◌≢◌, ◌++◌, ◌∷◌, [], ◌<◌, ◌+◌, ◌^◌, List, length, slice_index_or, MatchResult, IfSome, IfOk, OnOk, IsErr};
 ghost use Rattle.miette_layout.specs.PageMarks.{kind_told, marks_ahead};
 
-use miette_text::style::Style;
+use miette_style::style::Style;
 use std::alloc::{AllocError, Global};
 use std::marker::Model;
 

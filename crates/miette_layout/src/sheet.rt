@@ -6,7 +6,7 @@ ghost use Rattle.miette_layout.specs.Given.{text_at};
 use crate::options::LayoutOptions;
 use crate::sweep::Placed;
 use miette_protocol::protocol::LabeledSpan;
-use miette_text::theme::GraphicalTheme;
+use miette_style::theme::GraphicalTheme;
 
 /// Where a line begins, where its text ends, and where it ends with its terminator: offsets in bytes of the source.
 #[derive(Clone, Copy, Debug, PartialEq, Eq, Drop)]

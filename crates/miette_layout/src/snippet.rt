@@ -21,8 +21,8 @@ use crate::sweep::{Bounds, Placed, Sweep, advance};
 use itoa::Buffer;
 use miette_protocol::protocol::LabeledSpan;
 use miette_protocol::source::MietteSpanContents;
-use miette_text::highlight::Highlighter;
-use miette_text::theme::GraphicalTheme;
+use miette_style::highlight::Highlighter;
+use miette_style::theme::GraphicalTheme;
 use std::alloc::{AllocError, Global};
 
 /// What the snippets of a diagnostic are drawn with.

@@ -21,8 +21,8 @@ use crate::sweep::Sweep;
 use miette_protocol::error::RenderError;
 use miette_protocol::protocol::LabeledSpan;
 use miette_protocol::source::SourceCode;
-use miette_text::highlight::Highlighter;
-use miette_text::theme::GraphicalTheme;
+use miette_style::highlight::Highlighter;
+use miette_style::theme::GraphicalTheme;
 use std::alloc::{AllocError, Global};
 
 // The bare name of a reason.

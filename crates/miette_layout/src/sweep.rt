@@ -4,7 +4,7 @@ ghost use Rattle.std.specs.Prelude.{◌≡◌, ◌<◌, ◌≤◌, nat_lt, ℕ, 
 ghost use Rattle.std.specs.List.{filter};
 ghost use Rattle.miette_layout.specs.Sweeping.{label_of, passes, is_one, is_multi, IsAt, IsOn, AreSorted, line_of_bounds};
 
-use miette_text::style::Style;
+use miette_style::style::Style;
 use std::alloc::{AllocError, Global};
 
 /// A label up to its drawn end, with its style, whether it has a text, and which label it is.

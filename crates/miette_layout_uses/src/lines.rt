@@ -9,7 +9,7 @@ use miette_layout::page::{PLAIN, Page, Part};
 use miette_layout::sheet::{LineOfText, Sheet};
 use miette_layout::sweep::Placed;
 use miette_protocol::protocol::LabeledSpan;
-use miette_text::theme::{GraphicalTheme, ThemeCharacters, ThemeStyles};
+use miette_style::theme::{GraphicalTheme, ThemeCharacters, ThemeStyles};
 use std::alloc::{AllocError, Global};
 use std::test::Fail;
 

@@ -3,7 +3,7 @@ use Rattle.std.proofs.Common.{◌≡◌, ℕ, Bool, List, length, ◌++◌, ◌�
 use Rattle.std.proofs.lemmas.List.{append_cancel_left}
 use Rattle.miette.specs.Options.{Options}
 use Rattle.miette.specs.declared.options.handler.MietteHandler.TheVariants as handler
-use Rattle.miette_text.specs.declared.theme.Terminal.{Terminal}
+use Rattle.miette_style.specs.declared.theme.Terminal.{Terminal}
 use Rattle.miette_tree.specs.Tree.{Tree}
 use Rattle.miette_narrated.specs.Answered.{report_accepted, report_reads, Appends}
 use Rattle.miette_narrated.specs.Report as narrated

@@ -4,8 +4,8 @@ use Rattle.miette_protocol.specs.Meaning.{Meaning}
 use Rattle.miette_protocol.specs.declared.error.RenderError.{RenderError}
 use Rattle.miette_protocol.specs.declared.error.RenderError.TheVariants.{Refused}
 use Rattle.miette_tree.specs.Tree.{Tree}
-use Rattle.miette_text.specs.Themes.{no_styles, styles_of, theme_of, unicode_characters}
-use Rattle.miette_text.specs.declared.theme.GraphicalTheme.{GraphicalTheme}
+use Rattle.miette_style.specs.Themes.{no_styles, styles_of, theme_of, unicode_characters}
+use Rattle.miette_style.specs.declared.theme.GraphicalTheme.{GraphicalTheme}
 use Rattle.miette_handlers.specs.Answers.{unlisted}
 use Rattle.miette_handlers.specs.Printed.{all_read, printed}
 use Rattle.miette_handlers.specs.Handling.{Handling, draws_plain, without_highlighter}

@@ -4,7 +4,7 @@ use Rattle.miette.specs.Choice.{IsChosen}
 use Rattle.miette.specs.Handler.{Keeps}
 use Rattle.miette.specs.Options.{Options}
 use Rattle.miette.specs.declared.options.handler.MietteHandler.TheVariants as handler
-use Rattle.miette_text.specs.declared.theme.Terminal.{Terminal}
+use Rattle.miette_style.specs.declared.theme.Terminal.{Terminal}
 use Rattle.miette_tree.specs.Tree.{Tree}
 use Rattle.miette_narrated.specs.Answered.{report_accepted}
 use Rattle.miette_handlers.specs.Json.{json_text}

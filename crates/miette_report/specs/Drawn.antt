@@ -4,8 +4,8 @@ use Rattle.miette.specs.Diagnostic.{message_alone}
 use Rattle.miette.specs.Meaning.{Label, Meaning}
 use Rattle.miette.specs.Reading.{named, plain_source}
 use Rattle.miette.specs.Tree.{Tree, alone, with_source}
-use Rattle.miette_text.specs.Themes.{characters_of, no_styles, unicode_characters}
-use Rattle.miette_text.specs.declared.theme.ThemeCharacters.{ThemeCharacters}
+use Rattle.miette_style.specs.Themes.{characters_of, no_styles, unicode_characters}
+use Rattle.miette_style.specs.declared.theme.ThemeCharacters.{ThemeCharacters}
 use Rattle.miette_handlers.specs.Answers.{unlisted}
 use Rattle.miette_handlers.specs.Printed.{all_read, printed}
 use Rattle.miette_handlers.specs.Settings.{Settings, default_settings}

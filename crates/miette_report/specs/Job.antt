@@ -5,7 +5,7 @@ use Rattle.miette.specs.Choice.{IsChosen, is_graphical}
 use Rattle.miette.specs.Options.{Options}
 use Rattle.miette.specs.declared.options.handler.MietteHandler.{MietteHandler}
 use Rattle.miette.specs.declared.options.handler.MietteHandler.TheVariants.{Graphical, Narrated}
-use Rattle.miette_text.specs.declared.theme.Terminal.{Terminal}
+use Rattle.miette_style.specs.declared.theme.Terminal.{Terminal}
 use Rattle.miette_tree.specs.Tree.{Tree}
 use Rattle.miette_narrated.specs.Answered.{report_accepted}
 use Rattle.miette_narrated.specs.Report as narrated

@@ -16,9 +16,6 @@ pub mod Encoding
 pub mod FilledColours
 pub mod Ending
 pub mod Opened
-pub mod Icons
-mod PieceLemmas
-pub mod Equality
 pub mod Parting
 pub mod FirstRow
 pub mod LineWise

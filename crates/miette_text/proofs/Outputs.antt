@@ -4,7 +4,7 @@ use Rattle.std.proofs.lemmas.Str.{IsUtf8-string_bytes, encodes-append, encodes-c
 use Rattle.std.specs.Str.{IsUtf8}
 use Rattle.miette_text.specs.Runs.{colour_start, colour_stop, link_start, printed_run, style_codes}
 use Rattle.miette_text.specs.Tame.{is_nil}
-use Rattle.miette_text.specs.declared.style.Style.{Style}
+use Rattle.miette_style.specs.declared.style.Style.{Style}
 use Rattle.miette_text.proofs.Painting.{run-styled, style-bytes}
 
 -- bytes of codes behind a text's are those codes behind the text's

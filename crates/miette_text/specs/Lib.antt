@@ -6,12 +6,13 @@ pub mod Printing
 pub mod Runs
 pub mod Sequences
 pub mod Sinks
-pub mod Styles
 pub mod Tame
 pub mod WholeText
 pub mod Wrapping
 pub mod Woven
-pub mod Themes
-pub mod Pieces
 pub mod Feeds
 pub mod Outputs
+pub use Rattle.miette_style.specs.Styles
+pub use Rattle.miette_style.specs.Themes
+pub use Rattle.miette_style.specs.Pieces
+pub use Rattle.miette_style.specs.Escapes

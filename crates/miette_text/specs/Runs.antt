@@ -1,10 +1,10 @@
 -- What a row prints: texts in styles, and links.
 use Rattle.std.specs.Prelude.{◌≡◌, ℕ, Bool, true, if◌then◌else◌, List, [], ◌∷◌, ◌++◌, decimal, codes, Option, Some, None}
-use Rattle.miette_text.specs.Styles.{plain}
-use Rattle.miette_text.specs.Tame.{no_escape}
-use Rattle.miette_text.specs.declared.style.Color.{Color}
-use Rattle.miette_text.specs.declared.style.Color.TheVariants.{Red, Green, Yellow, Blue, Magenta, Cyan, Rgb}
-use Rattle.miette_text.specs.declared.style.Style.{Style}
+use Rattle.miette_style.specs.Styles.{plain}
+use Rattle.miette_style.specs.Escapes.{no_escape}
+use Rattle.miette_style.specs.declared.style.Color.{Color}
+use Rattle.miette_style.specs.declared.style.Color.TheVariants.{Red, Green, Yellow, Blue, Magenta, Cyan, Rgb}
+use Rattle.miette_style.specs.declared.style.Style.{Style}
 
 abbrev pub foreground : Color → List ℕ
 foreground Red = codes "31"

@@ -1,6 +1,8 @@
 -- Texts from which colours can be deleted before or after wrapping.
 use Rattle.std.specs.Prelude.{◌≡◌, ℕ, Bool, true, false, ◌&&◌, ◌||◌, not, ◌==◌, if◌then◌else◌, List, [], ◌∷◌}
-use Rattle.miette_text.specs.Sequences.{Token, Character, Sequence, tokens, erase, is_escape, is_bell, is_line_feed, is_parameter}
+use Rattle.miette_style.specs.Escapes.{no_escape}
+use Rattle.miette_text.specs.Sequences.{Token, Character, Sequence, tokens, erase, is_bell, is_line_feed, is_parameter}
+use Rattle.miette_style.specs.Escapes.{is_escape}
 use Rattle.miette_text.specs.Wrapping.{Layout, is_space}
 
 abbrev pub is_nil : {A : Type 0} → List A → Bool
@@ -78,10 +80,6 @@ IsTame text = AreTame (tokens text)
 
 abbrev pub colourless : Layout → Layout
 colourless l = record l { first = erase l.first; further = erase l.further }
-
-abbrev pub no_escape : List ℕ → Bool
-no_escape [] = true
-no_escape (c ∷ cs) = not (is_escape c) && no_escape cs
 
 -- Every escape belongs to a colour: none is left without them.
 abbrev pub IsColoured : List ℕ → Type 0

@@ -1,10 +1,11 @@
 //! Laws of comparing and cloning. The functions do nothing; what they ensure is proved.
 ghost use Rattle.std.specs.Prelude.{◌≡◌, ◌↔◌, IsTrue};
-ghost use Rattle.miette_text.specs.Themes.{characters_of, styles_of, theme_of};
+ghost use Rattle.miette_style.specs.Themes.{characters_of, styles_of, theme_of};
 
-use crate::style::{Color, Style};
-use crate::theme::{GraphicalTheme, ThemeCharacters, ThemeStyles};
 use crate::wrap::{WordSeparator, WordSplitter};
+use miette_style::laws as styles;
+use miette_style::style::{Color, Style};
+use miette_style::theme::{GraphicalTheme, ThemeCharacters, ThemeStyles};
 
 /// Values are equal where all their fields are, and clones keep each field. Of a text only its characters
 /// count, and of a list only its items.
@@ -29,4 +30,6 @@ pub fn comparison_laws()
         → ⟦<ThemeStyles as Clone>⟧.is_clone a b → styles_of b ≡ styles_of a }
     ensures cloned_themes { (a b : GraphicalTheme)
         → ⟦<GraphicalTheme as Clone>⟧.is_clone a b → theme_of b ≡ theme_of a }
-{}
+{
+    styles::comparison_laws();
+}

@@ -20,7 +20,7 @@ pub(crate) mod sink;
 use crate::runs::colours::{begun_style, is_plain};
 use crate::runs::sequences::sequence_at;
 use crate::runs::sign::{Mark, Sign, shared};
-use crate::style::Style;
+use miette_style::style::Style;
 use std::alloc::{AllocError, Global};
 use std::marker::Model;
 use std::rc::Rc;

@@ -1,7 +1,7 @@
 use miette_protocol::protocol::SourceSpan;
 use miette_protocol::source::MietteSpanContents;
-use miette_text::highlight::{BlankHighlighter, Highlighter};
-use miette_text::style::{Color, Style};
+use miette_style::highlight::{BlankHighlighter, Highlighter};
+use miette_style::style::{Color, Style};
 use std::alloc::{AllocError, Global};
 use std::test::Fail;
 

@@ -1,7 +1,7 @@
+use miette_style::style::{Color, Style};
 use miette_text::runs::Runs;
 use miette_text::runs::output::Output;
 use miette_text::runs::reading::{print, read_text};
-use miette_text::style::{Color, Style};
 use miette_text::wrap::cutting::{without_leading, without_trailing};
 use miette_text::wrap::{Plan, wrap};
 use std::alloc::{AllocError, Global};

@@ -1,4 +1,4 @@
-use miette_text::style::{Color, Style};
+use miette_style::style::{Color, Style};
 
 #[test]
 fn builders_set_their_own_field(rt: HostRuntime) {

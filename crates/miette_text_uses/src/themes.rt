@@ -1,5 +1,5 @@
-use miette_text::style::{Color, Style};
-use miette_text::theme::{GraphicalTheme, Terminal, ThemeCharacters, ThemeStyles};
+use miette_style::style::{Color, Style};
+use miette_style::theme::{GraphicalTheme, Terminal, ThemeCharacters, ThemeStyles};
 use std::test::Fail;
 
 fn drawing(theme: &ThemeCharacters) -> [char; 18] {

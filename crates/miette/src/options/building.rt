@@ -2,13 +2,13 @@
 
 ghost use Rattle.std.specs.Prelude.{◌≡◌, IfOk, None, chars, option_map, unwrap_or};
 ghost use Rattle.std.specs.Option.{option_or};
-ghost use Rattle.miette_text.specs.Themes.{characters_of, styles_of, theme_of};
+ghost use Rattle.miette_style.specs.Themes.{characters_of, styles_of, theme_of};
 ghost use Rattle.miette.specs.Choice.{IsChosen, IsDrawing, chosen_highlighter, chosen_theme, chosen_width, coloured_styles, fitting_theme, is_graphical, takes_colours, told};
 
 use crate::options::{MietteHandler, MietteHandlerOpts, RgbColors, Terminal};
 use miette_handlers::handlers::{GraphicalReportHandler, NarratableReportHandler};
-use miette_text::highlight::Highlighter;
-use miette_text::theme::{GraphicalTheme, ThemeCharacters, ThemeStyles};
+use miette_style::highlight::Highlighter;
+use miette_style::theme::{GraphicalTheme, ThemeCharacters, ThemeStyles};
 use std::alloc::{AllocError, Global};
 
 impl<H: Highlighter> MietteHandlerOpts<H> {

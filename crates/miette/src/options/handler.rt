@@ -9,7 +9,7 @@ use miette_handlers::handlers::{GraphicalReportHandler, NarratableReportHandler,
 use miette_protocol::error::RenderError;
 use miette_protocol::protocol::Diagnostic;
 use miette_protocol::source::SourceCode;
-use miette_text::highlight::Highlighter;
+use miette_style::highlight::Highlighter;
 use miette_tree::report::Report;
 use std::alloc::{AllocError, Global};
 

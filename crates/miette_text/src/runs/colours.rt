@@ -5,8 +5,8 @@ ghost use Rattle.miette_text.specs.Runs.{colour_start, flag, foreground, foregro
 ghost use Rattle.miette_text.specs.Tame.{is_nil};
 ghost use Rattle.miette_text.specs.Woven.{further_codes};
 
-use crate::style::{Color, Style};
 use itoa::Buffer;
+use miette_style::style::{Color, Style};
 use std::alloc::AllocError;
 
 /// Whether nothing is set in a style.

@@ -9,7 +9,7 @@ use crate::runs::colours::{is_plain, push_style};
 use crate::runs::reading::{print, read_text};
 use crate::runs::sign::Sign;
 use crate::runs::sink::Sink;
-use crate::style::Style;
+use miette_style::style::Style;
 use std::alloc::{AllocError, Global};
 use std::marker::Model;
 use std::rc::Rc;

@@ -2,7 +2,7 @@
 
 ghost use Rattle.std.specs.Prelude.{◌≡◌, IfOk, chars, encode_utf8_all, string_bytes, true};
 ghost use Rattle.miette_text.specs.Sequences.{spell, tokens};
-ghost use Rattle.miette_text.specs.Tame.{no_escape};
+ghost use Rattle.miette_style.specs.Escapes.{no_escape};
 ghost use Rattle.miette_text.specs.Woven.{are_whole, is_whole, sign_text, woven};
 ghost use Rattle.miette_text.specs.Wrapping.{columns_of};
 

@@ -4,7 +4,7 @@ ghost use Rattle.std.specs.Prelude.{◌≡◌, IfOk, true};
 ghost use Rattle.miette_text.specs.Woven.{sign_text};
 
 use crate::laws::comparison_laws;
-use crate::style::Style;
+use miette_style::style::Style;
 use std::alloc::{AllocError, Global};
 use std::rc::Rc;
 

@@ -1,8 +1,8 @@
 -- The pieces that a highlighter cuts a line into.
 use Rattle.std.specs.Prelude.{◌≡◌, ℕ, ◌+◌, List, [], ◌∷◌, length, drop}
 use Rattle.std.specs.Str.{IsCharBoundary}
-use Rattle.miette_text.specs.Styles.{plain}
-use Rattle.miette_text.specs.declared.style.Style.{Style}
+use Rattle.miette_style.specs.Styles.{plain}
+use Rattle.miette_style.specs.declared.style.Style.{Style}
 
 -- a length in bytes, and the style of so much of the line
 abbrev pub Piece : Type 0

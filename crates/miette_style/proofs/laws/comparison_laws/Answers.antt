@@ -1,10 +1,10 @@
 -- Field by field.
 use Rattle.std.proofs.Common.{◌≡◌, ap, rules}
 use Rattle.std.specs.Cmp.{booleans_Decides, unsigned_Decides}
-use Rattle.miette_text.specs.Themes.{Characters, characters_of}
-use Rattle.miette_text.specs.declared.style.Style.{Style}
-use Rattle.miette_text.proofs.Equality.{options, both, texts}
-use Rattle.miette_text.proofs.laws.comparison_laws.Goals as goal
+use Rattle.miette_style.specs.Themes.{Characters, characters_of}
+use Rattle.miette_style.specs.declared.style.Style.{Style}
+use Rattle.miette_style.proofs.Equality.{options, both, texts}
+use Rattle.miette_style.proofs.laws.comparison_laws.Goals as goal
 
 same_style : (m n : Style) → (m.fg ≡ n.fg) × ((m.bold ≡ n.bold) × ((m.dimmed ≡ n.dimmed) × ((m.italic ≡ n.italic) × ((m.underline ≡ n.underline))))) → m ≡ n
 same_style m n e = λ i. record {

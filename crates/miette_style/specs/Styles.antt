@@ -1,7 +1,7 @@
 -- Styles of a text.
 use Rattle.std.specs.Prelude.{false, Some, None}
-use Rattle.miette_text.specs.declared.style.Color.{Color}
-use Rattle.miette_text.specs.declared.style.Style.{Style}
+use Rattle.miette_style.specs.declared.style.Color.{Color}
+use Rattle.miette_style.specs.declared.style.Style.{Style}
 
 -- the style in which nothing is set
 abbrev pub plain : Style

@@ -2,13 +2,13 @@
 use Rattle.std.specs.Prelude.{ℕ, Bool, List, [], ◌∷◌, Option, Some, None, true, false, ◌&&◌, if◌then◌else◌, not, chars, codes, string_bytes}
 use Rattle.std.specs.Option.{option_map}
 use Rattle.std.specs.Str.{bytes_eq}
-use Rattle.miette_text.specs.Styles.{plain, coloured}
-use Rattle.miette_text.specs.declared.style.Color.TheVariants.{Red, Green, Yellow, Magenta, Cyan, Rgb}
-use Rattle.miette_text.specs.declared.style.Style.{Style}
-use Rattle.miette_text.specs.declared.theme.GraphicalTheme.{GraphicalTheme}
-use Rattle.miette_text.specs.declared.theme.Terminal.{Terminal}
-use Rattle.miette_text.specs.declared.theme.ThemeCharacters.{ThemeCharacters}
-use Rattle.miette_text.specs.declared.theme.ThemeStyles.{ThemeStyles}
+use Rattle.miette_style.specs.Styles.{plain, coloured}
+use Rattle.miette_style.specs.declared.style.Color.TheVariants.{Red, Green, Yellow, Magenta, Cyan, Rgb}
+use Rattle.miette_style.specs.declared.style.Style.{Style}
+use Rattle.miette_style.specs.declared.theme.GraphicalTheme.{GraphicalTheme}
+use Rattle.miette_style.specs.declared.theme.Terminal.{Terminal}
+use Rattle.miette_style.specs.declared.theme.ThemeCharacters.{ThemeCharacters}
+use Rattle.miette_style.specs.declared.theme.ThemeStyles.{ThemeStyles}
 
 -- The characters of a drawing, by their codes. An icon is the list of its characters.
 pub record Characters : Type 0 where

@@ -1,0 +1,4 @@
+pub mod Styles
+pub mod Themes
+pub mod Pieces
+pub mod Escapes
