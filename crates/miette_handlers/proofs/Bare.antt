@@ -11,7 +11,8 @@ use Rattle.miette_handlers.specs.Settings.{Settings}
 use Rattle.miette_handlers.specs.Answers.{Answers, unlisted, listed, RelatedAnswers, no_more, and_more, nothing_listed, own_answer, cause_answers, related_answers, first_answers, later_answers}
 use Rattle.miette_handlers.specs.Colourless.{colourless, unhighlighted_answer, unhighlighted, unhighlighted_related}
 use Rattle.miette_handlers.specs.Indents.{narrowed}
-use Rattle.miette_handlers.specs.Parts.{SnippetRows, rows_text, under_arrow, title_text, list_of}
+use Rattle.miette_handlers.specs.Parts.{SnippetRows, rows_text, under_arrow, title_text}
+use Rattle.miette_tree.specs.Parts.{given_labels}
 use Rattle.miette_handlers.specs.Printed.{always_reads, all_read, printed, printed_causes, printed_related, printed_inner, printed_sibling}
 use Rattle.miette_handlers.specs.Snippets.{layout_settings}
 use Rattle.miette_handlers.specs.Text.{ends_there, are_last, only_if, body, inner_text, causes_text, related_text, report_text}
@@ -113,7 +114,7 @@ bare-report rows s blank (tree m own c r) a h e =
     let causes = if s.chain then printed_causes s.nested own c else [] in
     let p = and_parts (always_reads own m) (all_read (causes ++ printed_related s.nested own r)) e in
     let q = both_read causes (printed_related s.nested own r) p.1 in
-    ap (λ o. report_over u m (rows_text (rows u own (list_of m.labels) o)) (only_if s.chain (causes_text rows u m.severity own c (cause_answers (unhighlighted a)))) (related_text rows u m.severity own r (related_answers (unhighlighted a)))) (own-nothing l blank own m a h.0 p.0)
-    ∙ ap₂ (report_over u m (rows_text (rows u own (list_of m.labels) nothing_listed)))
+    ap (λ o. report_over u m (rows_text (rows u own (given_labels m.labels) o)) (only_if s.chain (causes_text rows u m.severity own c (cause_answers (unhighlighted a)))) (related_text rows u m.severity own r (related_answers (unhighlighted a)))) (own-nothing l blank own m a h.0 p.0)
+    ∙ ap₂ (report_over u m (rows_text (rows u own (given_labels m.labels) nothing_listed)))
     (ap (λ b. only_if s.chain (causes_text rows u m.severity own c b)) (sym (cause-bare a)) ∙ bare-root l blank rows u m own c (cause_answers a) s.chain s.nested refl h.1 q.0)
     (ap (related_text rows u m.severity own r) (sym (related-bare a)) ∙ bare-related l blank rows u m.severity own r (related_answers a) s.nested refl h.2 q.1)

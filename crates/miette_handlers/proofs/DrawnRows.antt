@@ -17,7 +17,8 @@ use Rattle.miette_layout.specs.Told.{Token, told_rows}
 use Rattle.miette_handlers.specs.Answers.{Answer, nothing_listed, pieces_listed}
 use Rattle.miette_handlers.specs.Answered.{HasRows, HasPieces, IsAnswerOf, AreDrawn, IsDrawn}
 use Rattle.miette_handlers.specs.Printed.{always_reads}
-use Rattle.miette_handlers.specs.Parts.{rows_text, list_of}
+use Rattle.miette_handlers.specs.Parts.{rows_text}
+use Rattle.miette_tree.specs.Parts.{given_labels}
 use Rattle.miette_handlers.specs.Printing.{page_text}
 use Rattle.miette_handlers.specs.Settings.{Settings}
 use Rattle.miette_handlers.specs.Snippets.{layout_settings, shown_rows, drawn_rows}
@@ -179,22 +180,22 @@ refused_page s source labels blank g =
 -- ---- a diagnostic's snippets
 
 pub drawn_nowhere : (s : Settings) (blank : Bool) (m : Meaning) (text : List ℕ) → text ≡ [] → IsDrawn drawn_rows s blank None m text
-drawn_nowhere s blank m text e = (nothing_listed, unlisted_is (layout_settings s) blank None (list_of m.labels) (always_reads None m), e)
+drawn_nowhere s blank m text e = (nothing_listed, unlisted_is (layout_settings s) blank None (given_labels m.labels) (always_reads None m), e)
 
-pub drawn_unlabelled : (s : Settings) (blank : Bool) (source : Source) (m : Meaning) (text : List ℕ) → list_of m.labels ≡ [] → text ≡ [] → IsDrawn drawn_rows s blank (Some source) m text
+pub drawn_unlabelled : (s : Settings) (blank : Bool) (source : Source) (m : Meaning) (text : List ℕ) → given_labels m.labels ≡ [] → text ≡ [] → IsDrawn drawn_rows s blank (Some source) m text
 drawn_unlabelled s blank source m text e t =
-    (nothing_listed, unlisted_is (layout_settings s) blank (Some source) (list_of m.labels) (always_reads (Some source) m), t ∙ ap (λ ls. rows_text (drawn_rows s (Some source) ls nothing_listed)) (sym e))
+    (nothing_listed, unlisted_is (layout_settings s) blank (Some source) (given_labels m.labels) (always_reads (Some source) m), t ∙ ap (λ ls. rows_text (drawn_rows s (Some source) ls nothing_listed)) (sym e))
 
 reads_some : (source : Source) (labels : List Label) → labels ≢ [] → (if is_nil labels then true else source.always_reads) ≡ source.always_reads
 reads_some source [] h = absurd (h refl)
 reads_some source (label ∷ labels) h = refl
 
-pub drawn_labelled : (s : Settings) (blank : Bool) (source : Source) (m : Meaning) (text : List ℕ) → list_of m.labels ≢ [] → AreDrawn s blank source (list_of m.labels) text → IsDrawn drawn_rows s blank (Some source) m text
+pub drawn_labelled : (s : Settings) (blank : Bool) (source : Source) (m : Meaning) (text : List ℕ) → given_labels m.labels ≢ [] → AreDrawn s blank source (given_labels m.labels) text → IsDrawn drawn_rows s blank (Some source) m text
 drawn_labelled s blank source m text some d =
-    (d.0, record { read = λ h. d.1.read (sym (reads_some source (list_of m.labels) some) ∙ h); plain = d.1.plain; pieces = d.1.pieces; rows = d.1.rows }, d.2)
+    (d.0, record { read = λ h. d.1.read (sym (reads_some source (given_labels m.labels) some) ∙ h); plain = d.1.plain; pieces = d.1.pieces; rows = d.1.rows }, d.2)
 
-pub refused_labelled : (source : Source) (m : Meaning) → list_of m.labels ≢ [] → source.always_reads ≡ false → always_reads (Some source) m ≡ false
-refused_labelled source m some e = reads_some source (list_of m.labels) some ∙ e
+pub refused_labelled : (source : Source) (m : Meaning) → given_labels m.labels ≢ [] → source.always_reads ≡ false → always_reads (Some source) m ≡ false
+refused_labelled source m some e = reads_some source (given_labels m.labels) some ∙ e
 
 pub empty_list : {A : Type 0} (xs : List A) → length xs < 1 → xs ≡ []
 empty_list [] h = refl

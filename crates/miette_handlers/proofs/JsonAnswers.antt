@@ -7,7 +7,8 @@ use Rattle.miette_protocol.specs.Meaning.{Label}
 use Rattle.miette_tree.specs.Tree.{Tree, tree, Trees, no_trees, more_trees, trees, effective, head, source_of, cause_of, causes_of, related_of}
 use Rattle.miette_handlers.specs.Json.{Json, string, array, object, Items, item, no_members, member, items_text, json_text}
 use Rattle.miette_handlers.specs.Denotes.{Denotes}
-use Rattle.miette_handlers.specs.JsonReport.{NameAnswers, unlisted, listed, RelatedNameAnswers, no_more, and_more, own_fault, related_answers, first_answers, later_answers, MayFail, ArePossible, AllPossible, report_json, reports_json, given_labels, maybe, severity_text, strings, labels_json, file_name}
+use Rattle.miette_handlers.specs.JsonReport.{NameAnswers, unlisted, listed, RelatedNameAnswers, no_more, and_more, own_fault, related_answers, first_answers, later_answers, MayFail, ArePossible, AllPossible, report_json, reports_json, maybe, strings, labels_json, file_name}
+use Rattle.miette_tree.specs.Parts.{given_labels, severity_text}
 use Rattle.miette_handlers.specs.Reads.{AlwaysReads, AllAlwaysRead}
 use Rattle.miette_handlers.specs.JsonText.{IsJsonOf, rest_text, AppendsReport, AppendsRelated, AppendsPlaces, head_text, reasons_text, key_text}
 use Rattle.miette_handlers.proofs.JsonJoined.{last_piece, report_parts}

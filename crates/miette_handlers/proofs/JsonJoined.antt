@@ -4,7 +4,8 @@ use Rattle.std.specs.Prelude.{if◌then◌else◌}
 use Rattle.miette_handlers.specs.Json.{Json, string, array, object, Items, item, Members, no_members, member, quoted, json_text, items_text, more_members_text}
 use Rattle.miette_protocol.specs.Reading.{Source}
 use Rattle.miette_tree.specs.Tree.{Tree, tree, head, source_of, cause_of, causes_of, related_of, effective}
-use Rattle.miette_handlers.specs.JsonReport.{NameAnswers, own_fault, related_answers, maybe, severity_text, strings, labels_json, given_labels, file_name, report_json, reports_json}
+use Rattle.miette_handlers.specs.JsonReport.{NameAnswers, own_fault, related_answers, maybe, strings, labels_json, file_name, report_json, reports_json}
+use Rattle.miette_tree.specs.Parts.{severity_text, given_labels}
 use Rattle.miette_handlers.specs.JsonText.{key_text, maybe_text, rest_text, start_text, head_text, reasons_text, places_text}
 
 -- what is left to write grows shorter

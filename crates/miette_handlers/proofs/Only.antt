@@ -10,7 +10,8 @@ use Rattle.miette_layout.specs.Frames as frames
 use Rattle.miette_handlers.specs.Settings.{Settings}
 use Rattle.miette_handlers.specs.Answers.{Answer, pieces_listed, Answers, unlisted, RelatedAnswers, no_more, nothing_listed, cause_answers, related_answers, first_answers, later_answers}
 use Rattle.miette_handlers.specs.Indents.{narrowed}
-use Rattle.miette_handlers.specs.Parts.{SnippetRows, rows_text, under_arrow, title_text, list_of}
+use Rattle.miette_handlers.specs.Parts.{SnippetRows, rows_text, under_arrow, title_text}
+use Rattle.miette_tree.specs.Parts.{given_labels}
 use Rattle.miette_handlers.specs.Printed.{always_reads, all_read, printed, printed_causes, printed_related, printed_inner, printed_sibling}
 use Rattle.miette_handlers.specs.Snippets.{layout_settings}
 use Rattle.miette_handlers.specs.Text.{ends_there, are_last, only_if, body, inner_text, causes_text, related_text, report_text}
@@ -84,7 +85,7 @@ same-report rows s (tree m own c r) a h e =
     let causes = if s.chain then printed_causes s.nested own c else [] in
     let p = and_parts (always_reads own m) (all_read (causes ++ printed_related s.nested own r)) e in
     let q = both_read causes (printed_related s.nested own r) p.1 in
-    ap (λ o. report_over s m (rows_text (rows s own (list_of m.labels) o)) (only_if s.chain (causes_text rows s m.severity own c (cause_answers a))) (related_text rows s m.severity own r (related_answers a))) (unlisted_here h.0 p.0)
-    ∙ ap₂ (report_over s m (rows_text (rows s own (list_of m.labels) nothing_listed)))
+    ap (λ o. report_over s m (rows_text (rows s own (given_labels m.labels) o)) (only_if s.chain (causes_text rows s m.severity own c (cause_answers a))) (related_text rows s m.severity own r (related_answers a))) (unlisted_here h.0 p.0)
+    ∙ ap₂ (report_over s m (rows_text (rows s own (given_labels m.labels) nothing_listed)))
     (same-root l rows s m own c (cause_answers a) s.chain h.1 q.0)
     (same-related l rows s m.severity own r (related_answers a) s.nested refl h.2 q.1)

@@ -16,7 +16,8 @@ use Rattle.miette_style.specs.declared.theme.ThemeCharacters.{ThemeCharacters}
 use Rattle.miette_handlers.proofs.TextLaws.{TextLaws}
 use Rattle.miette_handlers.specs.Answers.{Answer}
 use Rattle.miette_handlers.specs.Indents.{bare, spaces, wrapped_under, icon_indent, bar_indent, arrow_text, stem_text, arrow_indent, stem_indent, help_indent, further_help_indent, footer_indent, narrowed}
-use Rattle.miette_handlers.specs.Parts.{footer_of, line_feed, header, header_by, message_text, help_text, footer_text, under_arrow, severity_title, header_or_end, title_text, SnippetRows, rows_text, list_of}
+use Rattle.miette_handlers.specs.Parts.{footer_of, line_feed, header, header_by, message_text, help_text, footer_text, under_arrow, severity_title, header_or_end, title_text, SnippetRows, rows_text}
+use Rattle.miette_tree.specs.Parts.{given_labels}
 use Rattle.miette_handlers.specs.Text.{cause_texts, body, inner_text}
 use Rattle.miette_tree.specs.Tree.{effective}
 use Rattle.std.specs.List.{AllByRecursion}
@@ -190,7 +191,7 @@ module _ (laws : TextLaws) where
 
   -- ---- snippets, and a diagnostic's text
 
-  labels-clean : (labels : Option (List Label)) → AreCleanLabels labels → AllByRecursion IsCleanLabel (list_of labels)
+  labels-clean : (labels : Option (List Label)) → AreCleanLabels labels → AllByRecursion IsCleanLabel (given_labels labels)
   labels-clean None h = tt
   labels-clean (Some ls) h = h
 
@@ -202,7 +203,7 @@ module _ (laws : TextLaws) where
       AreCleanSettings s → IsCleanMeaning m → IfSome source IsCleanSource → Fades causes causes2 → Fades related related2 →
       Fades (body rows s m source a causes related) (body rows (colourless s) m source (unhighlighted_answer a) causes2 related2)
   fades-body rows law s m source a causes causes2 related related2 h k j p q =
-      let ls = list_of m.labels in
+      let ls = given_labels m.labels in
       let rs = rows s source ls a in
       let rs2 = rows (colourless s) source ls (unhighlighted_answer a) in
       let snippets : Fades (rows_text rs) (rows_text rs2) =

@@ -11,7 +11,7 @@ use Rattle.miette_tree.specs.declared.report.Cause as shown
 use Rattle.miette_tree.specs.declared.report.Cause.TheVariants as seen
 use Rattle.miette_handlers.specs.Answered.{AreCauses, AreRelated, IsOneCause, IsOneRelated}
 use Rattle.miette_handlers.specs.Handler.{AppendsOne}
-use Rattle.miette_handlers.specs.JsonText.{texts_of}
+use Rattle.miette_tree.specs.Chain.{texts_below}
 use Rattle.miette_handlers.specs.Parts.{SnippetRows}
 use Rattle.miette_handlers.specs.Printed.{Printed, all_read, printed_causes, printed_related}
 use Rattle.miette_handlers.specs.Settings.{Settings}
@@ -60,7 +60,7 @@ first_falls value (r ∷ rs) d h e = subst (λ x. suc (tree_size (value x)) < tr
 
 -- a cause that is no report is a list of texts
 pub texts_shown : {D S : Type 0} (means : D → Meaning) (is : S → Source) (r : shown.Cause D S) (c : Cause) → cause_shown means is r ≡ c → ((x : Bor (Report D S)) → r ≡ seen.Diagnostic x → ⊥) →
-    texts (texts_of c) ≡ c
-texts_shown means is seen.None c e f = subst (λ k. texts (texts_of k) ≡ k) e refl
+    texts (texts_below c) ≡ c
+texts_shown means is seen.None c e f = subst (λ k. texts (texts_below k) ≡ k) e refl
 texts_shown means is (seen.Diagnostic x) c e f = absurd (f x refl)
-texts_shown means is (seen.Texts ts) c e f = subst (λ k. texts (texts_of k) ≡ k) e refl
+texts_shown means is (seen.Texts ts) c e f = subst (λ k. texts (texts_below k) ≡ k) e refl

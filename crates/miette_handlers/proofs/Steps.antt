@@ -10,7 +10,8 @@ use Rattle.miette_protocol.specs.declared.protocol.Severity.{Severity}
 use Rattle.miette_handlers.specs.Settings.{Settings}
 use Rattle.miette_handlers.specs.Answers.{Answers, unlisted, listed, no_more, and_more, own_answer, cause_answers, related_answers}
 use Rattle.miette_handlers.specs.Indents.{narrowed}
-use Rattle.miette_handlers.specs.Parts.{SnippetRows, rows_text, under_arrow, header, message_text, help_text, footer_text, title_text, list_of}
+use Rattle.miette_handlers.specs.Parts.{SnippetRows, rows_text, under_arrow, header, message_text, help_text, footer_text, title_text}
+use Rattle.miette_tree.specs.Parts.{given_labels}
 use Rattle.miette_handlers.specs.Text.{cause_texts, ends_there, are_last, body, body_over, inner_over, inner_text, causes_text, related_text, only_if}
 use Rattle.miette_tree.specs.Tree.{effective}
 use Rattle.miette_layout.specs.Frames as frames
@@ -37,7 +38,7 @@ mutual
   causes-unlisted : (l : frames.Settings) (blank : Bool) (inherited : Option Source) (c : Cause) → AreCauseAnswers l blank inherited c unlisted
   causes-unlisted l blank inherited (texts ts) = tt
   causes-unlisted l blank inherited (diagnostic (tree m own c r)) = (
-    unlisted_is l blank (effective own inherited) (list_of m.labels) (always_reads (effective own inherited) m),
+    unlisted_is l blank (effective own inherited) (given_labels m.labels) (always_reads (effective own inherited) m),
     related-unlisted l blank (effective own inherited) r,
     causes-unlisted l blank inherited c,
   )
@@ -45,7 +46,7 @@ mutual
   related-unlisted : (l : frames.Settings) (blank : Bool) (inherited : Option Source) (ts : Trees) → AreRelatedAnswers l blank inherited ts no_more
   related-unlisted l blank inherited no_trees = tt
   related-unlisted l blank inherited (more_trees (tree m own c r) ts) = (
-    unlisted_is l blank (effective own inherited) (list_of m.labels) (always_reads (effective own inherited) m),
+    unlisted_is l blank (effective own inherited) (given_labels m.labels) (always_reads (effective own inherited) m),
     causes-unlisted l blank (effective own inherited) c,
     related-unlisted l blank (effective own inherited) r,
     related-unlisted l blank inherited ts,
@@ -89,7 +90,7 @@ sibling_step rows s blank source (tree m own c r) drawn causes related p q k = (
   q.1,
   k.1,
   ap (λ d. title_text s m ++ body_over s m d causes related) p.2
-      ∙ ap₂ (λ x y. title_text s m ++ body_over s m (rows_text (rows s source (list_of m.labels) p.0)) x y) q.2 k.2,
+      ∙ ap₂ (λ x y. title_text s m ++ body_over s m (rows_text (rows s source (given_labels m.labels) p.0)) x y) q.2 k.2,
 )
 
 -- one of several related reports, with its answers in one
@@ -124,7 +125,7 @@ root_step rows s blank (tree m own c r) drawn causes related p q k =
       listed p.0 b.0 k.0,
       (p.1, b.1, k.1),
       ap (λ d. report_over s m d causes related) p.2
-          ∙ ap₂ (λ x y. report_over s m (rows_text (rows s own (list_of m.labels) p.0)) x y) b.2 k.2,
+          ∙ ap₂ (λ x y. report_over s m (rows_text (rows s own (given_labels m.labels) p.0)) x y) b.2 k.2,
     )
 
 -- ---- texts that are appended

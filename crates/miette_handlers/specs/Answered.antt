@@ -8,7 +8,8 @@ use Rattle.miette_protocol.specs.declared.protocol.Severity.{Severity}
 use Rattle.miette_handlers.specs.Settings.{Settings}
 use Rattle.miette_handlers.specs.Answers.{Answer, Answers, RelatedAnswers, pieces_listed, own_answer, cause_answers, related_answers, first_answers, later_answers}
 use Rattle.miette_handlers.specs.Indents.{narrowed}
-use Rattle.miette_handlers.specs.Parts.{SnippetRows, rows_text, title_text, help_text, under_arrow, list_of}
+use Rattle.miette_handlers.specs.Parts.{SnippetRows, rows_text, title_text, help_text, under_arrow}
+use Rattle.miette_tree.specs.Parts.{given_labels}
 use Rattle.miette_layout.specs.Frames as frames
 use Rattle.miette_layout.specs.Around.{group_context}
 use Rattle.miette_layout.specs.Groups.{in_order, groups_of}
@@ -41,7 +42,7 @@ pub record IsAnswerOf (l : frames.Settings) (blank : Bool) (source : Option Sour
   pub rows : HasRows l source labels a
 
 abbrev pub IsAnswer : frames.Settings → Bool → Option Source → Meaning → Answer → Type 0
-IsAnswer l blank source m a = IsAnswerOf l blank source (list_of m.labels) (always_reads source m) a
+IsAnswer l blank source m a = IsAnswerOf l blank source (given_labels m.labels) (always_reads source m) a
 
 abbrev mutual
   pub AreCauseAnswers : frames.Settings → Bool → Option Source → Cause → Answers → Type 0
@@ -69,7 +70,7 @@ AreAnswers s blank (tree m own c r) a =
 
 -- the text of the rows of a diagnostic's snippets
 abbrev pub IsDrawn : SnippetRows → Settings → Bool → Option Source → Meaning → List ℕ → Type 0
-IsDrawn rows s blank source m text = (a : Answer) × IsAnswer (layout_settings s) blank source m a × (text ≡ rows_text (rows s source (list_of m.labels) a))
+IsDrawn rows s blank source m text = (a : Answer) × IsAnswer (layout_settings s) blank source m a × (text ≡ rows_text (rows s source (given_labels m.labels) a))
 
 -- the text of the rows of some labels' snippets over a source
 abbrev pub AreDrawn : Settings → Bool → Source → List Label → List ℕ → Type 0

@@ -20,7 +20,7 @@ use Rattle.miette_layout.specs.Pictures.{BodyShows, marks_of_line}
 use Rattle.miette_layout.specs.Shown.{framed_runs, line_at}
 use Rattle.miette_layout.specs.Snippets.{shown, snippets}
 use Rattle.miette_handlers.specs.Answers.{pieces_listed}
-use Rattle.miette_handlers.specs.Parts.{list_of}
+use Rattle.miette_tree.specs.Parts.{given_labels}
 use Rattle.miette_handlers.specs.Printed.{Printed}
 use Rattle.miette_handlers.specs.Settings.{Settings}
 use Rattle.miette_handlers.specs.Snippets.{layout_settings, shown_rows, drawn_rows}
@@ -52,7 +52,7 @@ pub record ShowsRuns (s : Settings) (source : Source) (labels : List Label) : Ty
 abbrev pub LinesAreShown : Settings → Printed → Type 0
 LinesAreShown s p =
     IfSome p.source (λ source.
-    source.always_reads ≡ true → AreAccepted source.bytes (list_of p.meaning.labels) → HaveContext s.context (list_of p.meaning.labels) → ShowsRuns s source (list_of p.meaning.labels))
+    source.always_reads ≡ true → AreAccepted source.bytes (given_labels p.meaning.labels) → HaveContext s.context (given_labels p.meaning.labels) → ShowsRuns s source (given_labels p.meaning.labels))
 
 -- ---- the marks under a line
 
@@ -72,7 +72,7 @@ pub record AreOwnMarks (marks : List Mark) : Type 0 where
 
 -- under each line of a diagnostic's source
 abbrev pub MarksAreApart : Settings → Printed → Type 0
-MarksAreApart s p = IfSome p.source (λ source. (k : ℕ) → AreOwnMarks (marks_under s source (list_of p.meaning.labels) k))
+MarksAreApart s p = IfSome p.source (λ source. (k : ℕ) → AreOwnMarks (marks_under s source (given_labels p.meaning.labels) k))
 
 -- ---- the texts of labels
 
@@ -90,4 +90,4 @@ SnippetHangs s source labels group =
 abbrev pub TextsHang : Settings → Printed → Type 0
 TextsHang s p =
     IfSome p.source (λ source.
-    IsNarrow width_of s.characters → AllByRecursion (SnippetHangs s source (list_of p.meaning.labels)) (groups_of s source (list_of p.meaning.labels)))
+    IsNarrow width_of s.characters → AllByRecursion (SnippetHangs s source (given_labels p.meaning.labels)) (groups_of s source (given_labels p.meaning.labels)))

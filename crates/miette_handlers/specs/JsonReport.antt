@@ -6,6 +6,7 @@ use Rattle.miette_protocol.specs.declared.protocol.Severity.{Severity}
 use Rattle.miette_protocol.specs.declared.protocol.Severity.TheVariants.{Advice, Warning, Error}
 use Rattle.miette_tree.specs.Tree.{Tree, tree, causes_of, Trees, no_trees, more_trees, effective}
 use Rattle.miette_handlers.specs.Json.{Json, number, string, array, object, Items, no_items, item, Members, no_members, member}
+use Rattle.miette_tree.specs.Parts.{given_labels, severity_text}
 
 -- ---- answers
 
@@ -50,13 +51,6 @@ abbrev mutual
 
 -- ---- parts of the value
 
--- `error` where there is none
-abbrev pub severity_text : Option Severity → List ℕ
-severity_text None = codes "error"
-severity_text (Some Error) = codes "error"
-severity_text (Some Warning) = codes "warning"
-severity_text (Some Advice) = codes "advice"
-
 -- a member with a text, where there is one
 abbrev pub maybe : List ℕ → Option (List ℕ) → Members → Members
 maybe key None more = more
@@ -75,11 +69,6 @@ label_json l = object (maybe (codes "label") l.text (member (codes "span") (span
 abbrev pub labels_json : List Label → Items
 labels_json [] = no_items
 labels_json (l ∷ ls) = item (label_json l) (labels_json ls)
-
--- none where none are given
-abbrev pub given_labels : Option (List Label) → List Label
-given_labels None = []
-given_labels (Some ls) = ls
 
 -- whether a source accepts a span: it begins at the end at most, and ends at most one byte past it
 abbrev pub accepts : List ℕ → Span → Bool

@@ -6,7 +6,8 @@ use Rattle.miette_tree.specs.Tree.{Tree, Trees, Cause, diagnostic, texts}
 use Rattle.miette_handlers.specs.Json.{Json, Items, quoted, json_text, items_text, more_items_text}
 use Rattle.miette_handlers.specs.Denotes.{Denotes}
 use Rattle.miette_handlers.specs.Reads.{AlwaysReads}
-use Rattle.miette_handlers.specs.JsonReport.{NameAnswers, RelatedNameAnswers, ArePossible, AllPossible, MayFail, IsValueOf, value_of, severity_text, strings, labels_json, file_name, report_json, reports_json}
+use Rattle.miette_handlers.specs.JsonReport.{NameAnswers, RelatedNameAnswers, ArePossible, AllPossible, MayFail, IsValueOf, value_of, strings, labels_json, file_name, report_json, reports_json}
+use Rattle.miette_tree.specs.Parts.{severity_text}
 
 -- A text is the spelling of a value that the report may have, which is the one value that it has where its sources always read. The
 -- text stands for that value, and for no other.
@@ -78,8 +79,3 @@ start_text first second (Some s) = 123 ∷ (quoted first ++ (58 ∷ 32 ∷ (quot
 -- the beginning of a label, up to its span
 abbrev pub label_start : Option (List ℕ) → List ℕ
 label_start = start_text (codes "label") (codes "span")
-
--- the texts of a cause that is no report
-abbrev pub texts_of : Cause → List (List ℕ)
-texts_of (diagnostic t) = []
-texts_of (texts ts) = ts

@@ -9,6 +9,7 @@ use Rattle.miette_protocol.specs.declared.protocol.Severity.TheVariants.{Advice,
 use Rattle.miette_handlers.specs.Settings.{Settings, Urls, AsLinks, AsText, Hidden, severity_style}
 use Rattle.miette_handlers.specs.Answers.{Answer}
 use Rattle.miette_handlers.specs.Indents.{bare, wrapped_under, icon_indent, bar_indent, arrow_indent, stem_indent, help_indent, further_help_indent, footer_indent}
+use Rattle.miette_tree.specs.Parts.{given_labels}
 
 abbrev pub line_feed : List ℕ
 line_feed = 10 ∷ []
@@ -93,7 +94,3 @@ SnippetRows = Settings → Option Source → List Label → Answer → List (Lis
 abbrev pub rows_text : List (List Run) → List ℕ
 rows_text [] = []
 rows_text (row ∷ rows) = print row ++ line_feed ++ rows_text rows
-
-abbrev pub list_of : Option (List Label) → List Label
-list_of None = []
-list_of (Some labels) = labels

@@ -5,7 +5,7 @@ use Rattle.miette_protocol.specs.Meaning.{Meaning}
 use Rattle.miette_protocol.specs.Reading.{Source}
 use Rattle.miette_tree.specs.Tree.{effective, Tree, tree, Cause, diagnostic, texts, Trees, no_trees, more_trees}
 use Rattle.miette_handlers.specs.Settings.{Settings}
-use Rattle.miette_handlers.specs.Parts.{list_of}
+use Rattle.miette_tree.specs.Parts.{given_labels}
 
 -- a printed diagnostic
 pub record Printed : Type 0 where
@@ -59,7 +59,7 @@ source_reads (Some source) = source.always_reads
 
 -- a diagnostic without labels reads nothing
 abbrev pub always_reads : Option Source → Meaning → Bool
-always_reads source m = if is_nil (list_of m.labels) then true else source_reads source
+always_reads source m = if is_nil (given_labels m.labels) then true else source_reads source
 
 -- of all these diagnostics
 abbrev pub all_read : List Printed → Bool

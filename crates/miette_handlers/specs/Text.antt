@@ -10,7 +10,8 @@ use Rattle.miette_protocol.specs.declared.protocol.Severity.{Severity}
 use Rattle.miette_handlers.specs.Settings.{Settings}
 use Rattle.miette_handlers.specs.Answers.{Answer, Answers, RelatedAnswers, own_answer, cause_answers, related_answers, first_answers, later_answers}
 use Rattle.miette_handlers.specs.Indents.{narrowed}
-use Rattle.miette_handlers.specs.Parts.{SnippetRows, header, message_text, help_text, footer_text, under_arrow, title_text, rows_text, list_of}
+use Rattle.miette_handlers.specs.Parts.{SnippetRows, header, message_text, help_text, footer_text, under_arrow, title_text, rows_text}
+use Rattle.miette_tree.specs.Parts.{given_labels}
 
 abbrev pub ends_there : Cause → Bool
 ends_there (diagnostic t) = false
@@ -29,14 +30,14 @@ abbrev pub body_over : Settings → Meaning → List ℕ → List ℕ → List �
 body_over s m drawn causes related = message_text s m ++ causes ++ drawn ++ help_text s m.help ++ related
 
 abbrev pub body : SnippetRows → Settings → Meaning → Option Source → Answer → List ℕ → List ℕ → List ℕ
-body rows s m source answer causes related = body_over s m (rows_text (rows s source (list_of m.labels) answer)) causes related
+body rows s m source answer causes related = body_over s m (rows_text (rows s source (given_labels m.labels) answer)) causes related
 
 -- A report that stands in another one, without its causes and without line feeds at its beginning.
 abbrev pub inner_over : Settings → Meaning → List ℕ → List ℕ → List ℕ
 inner_over s m drawn related = without_leading (print (header s m) ++ body_over s m drawn [] related)
 
 abbrev pub inner_text : SnippetRows → Settings → Meaning → Option Source → Answer → List ℕ → List ℕ
-inner_text rows s m source answer related = inner_over s m (rows_text (rows s source (list_of m.labels) answer)) related
+inner_text rows s m source answer related = inner_over s m (rows_text (rows s source (given_labels m.labels) answer)) related
 
 -- The same under an arrow: narrower, its related reports too.
 abbrev pub inner_at : SnippetRows → Settings → Option Severity → Bool → Meaning → Option Source → Answer → (Settings → List ℕ) → List ℕ

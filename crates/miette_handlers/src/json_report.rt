@@ -2,16 +2,17 @@
 
 ghost use Rattle.std.specs.Prelude.{◌≡◌, ◌∷◌, [], ◌++◌, if◌then◌else◌, Some, OnOk, string_bytes, map};
 ghost use Rattle.std.specs.Option.{option_map, option_copied};
-ghost use Rattle.miette_tree.specs.Tree.{head, cause_of, causes_of, source_of, trees, effective};
+ghost use Rattle.miette_tree.specs.Tree.{head, cause_of, causes_of, trees};
 ghost use Rattle.miette_tree.specs.Report.{tree_of};
 ghost use Rattle.miette_tree.specs.Owned.{shown_source};
 ghost use Rattle.miette_handlers.specs.Json.{json_text, items_text};
-ghost use Rattle.miette_handlers.specs.JsonReport.{severity_text, strings, span_json, label_json, labels_json, given_labels};
-ghost use Rattle.miette_handlers.specs.JsonText.{key_text, maybe_text, rest_text, head_text, reasons_text, label_start, texts_of, NamesFile, AppendsPlaces, AppendsReport, AppendsRelated};
+ghost use Rattle.miette_handlers.specs.JsonReport.{strings, span_json, label_json, labels_json};
+ghost use Rattle.miette_handlers.specs.JsonText.{key_text, maybe_text, rest_text, head_text, reasons_text, label_start, NamesFile, AppendsPlaces, AppendsReport, AppendsRelated};
 
 use crate::json_text::{push_number, push_quoted};
-use miette_protocol::protocol::{Diagnostic, LabeledSpan, Severity};
+use miette_protocol::protocol::{Diagnostic, LabeledSpan};
 use miette_protocol::source::SourceCode;
+use miette_tree::parts::{cause_texts, labels_of, own_or, severity_name};
 use miette_tree::report::{Cause, Report, SourceRef};
 use std::alloc::AllocError;
 
@@ -52,20 +53,6 @@ fn push_related<'a, D: Diagnostic, S: SourceCode>(
     }
     out.push_str("]")?;
     Ok(())
-}
-
-/// The source of the report, or else the one that it inherits.
-fn own_or<'a, D: Diagnostic, S: SourceCode>(
-    report: &'a Report<D, S>,
-    inherited: Option<SourceRef<'a, S>>,
-) -> Option<SourceRef<'a, S>>
-    ensures { option_map (shown_source S.source) result
-        ≡ effective (source_of (tree_of D.meaning S.source report.now)) (option_map (shown_source S.source) inherited.entry) }
-{
-    match report.source_code() {
-        Some(own) => Some(own),
-        None => inherited,
-    }
 }
 
 /// `{"message": "m","code": "c","severity": "error"`
@@ -116,16 +103,6 @@ fn push_causes<D: Diagnostic, S: SourceCode>(
         at = next;
     }
     push_texts(cause_texts(at), first, out)
-}
-
-/// The texts of a report's cause, none where it is a report.
-pub(crate) fn cause_texts<D: Diagnostic, S: SourceCode>(report: &Report<D, S>) -> &[String]
-    ensures { map string_bytes result.now ≡ texts_of (cause_of (tree_of D.meaning S.source report.now)) }
-{
-    match report.cause() {
-        Cause::Texts(texts) => texts,
-        _ => &[],
-    }
 }
 
 /// Texts in a list, after its first item or as its first ones, and the end of the list.
@@ -180,12 +157,6 @@ fn name_from<'a, S: SourceCode>(labels: &[LabeledSpan], source: SourceRef<'a, S>
         Ok(contents) => contents.name().unwrap_or(""),
         Err(_) => "",
     }
-}
-
-fn labels_of<D: Diagnostic, S: SourceCode>(report: &Report<D, S>) -> &[LabeledSpan]
-    ensures { result.now ≡ given_labels (head (tree_of D.meaning S.source report.now)).labels }
-{
-    report.labels().unwrap_or(&[])
 }
 
 /// Labels as the items of a list, and its end.
@@ -268,15 +239,4 @@ fn push_comma(out: &mut String, first: bool) -> Result<(), AllocError>
         out.push_str(",")?;
     }
     Ok(())
-}
-
-/// The name of a severity: `error` where there is none.
-fn severity_name(severity: Option<Severity>) -> &'static str
-    ensures { result.now ≡ severity_text severity }
-{
-    match severity {
-        Some(Severity::Advice) => "advice",
-        Some(Severity::Warning) => "warning",
-        _ => "error",
-    }
 }

@@ -15,7 +15,7 @@ ghost use Rattle.miette_handlers.specs.Snippets.{drawn_rows};
 ghost use Rattle.miette_handlers.specs.Text as texts;
 ghost use Rattle.miette_handlers.specs.Views.{settings_of};
 ghost use Rattle.miette_tree.specs.Report.{tree_of};
-ghost use Rattle.miette_tree.specs.Tree.{cause_of, effective, head, related_of, source_of, trees};
+ghost use Rattle.miette_tree.specs.Tree.{cause_of, effective, head, source_of, trees};
 ghost use Rattle.miette_text.specs.Runs as runs;
 ghost use Rattle.miette_text.specs.Sequences.{spell};
 ghost use Rattle.miette_text.specs.Filling.{AppendsErasing};
@@ -23,7 +23,6 @@ ghost use Rattle.miette_text.specs.Tame.{is_nil};
 
 use crate::header::{push_header, severity_title};
 use crate::indents::{Branch, narrowed, push_footer, push_help, push_message, push_under_arrow};
-use crate::json_report::cause_texts;
 use crate::laws::erasing_law;
 use crate::pen::Pen;
 use crate::printing::{append_printed, push_page};
@@ -38,6 +37,7 @@ use miette_text::runs::Runs;
 use miette_text::runs::output::Output;
 use miette_text::runs::reading::read_text;
 use miette_text::wrap::cutting::{without_leading, without_trailing};
+use miette_tree::parts::{cause_texts, labels_of, own_or};
 use miette_tree::report::{Cause, Report, SourceRef};
 use std::alloc::{AllocError, Global};
 
@@ -109,28 +109,6 @@ fn push_drawn<S: SourceCode, H: Highlighter>(
     };
     push_page(&page, out)?;
     Ok(())
-}
-
-fn labels_of<D: Diagnostic, S: SourceCode>(report: &Report<D, S>) -> &[LabeledSpan]
-    ensures { result.now ≡ parts.list_of (head (tree_of D.meaning S.source report.now)).labels }
-{
-    match report.labels() {
-        Some(labels) => labels,
-        None => &[],
-    }
-}
-
-/// The source of the report, or else the one that it inherits.
-fn own_or<'a, D: Diagnostic, S: SourceCode>(
-    report: &'a Report<D, S>,
-    inherited: Option<SourceRef<'a, S>>,
-) -> Option<SourceRef<'a, S>>
-    ensures { option_map (shown_source S.source) result ≡ effective (source_of (tree_of D.meaning S.source report.now)) (option_map (shown_source S.source) inherited.entry) }
-{
-    match report.source_code() {
-        Some(own) => Some(own),
-        None => inherited,
-    }
 }
 
 /// Appends a report's header, and says whether there is one.

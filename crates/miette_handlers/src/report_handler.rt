@@ -6,10 +6,10 @@ ghost use Rattle.miette_tree.specs.Report.{tree_of};
 ghost use Rattle.miette_handlers.specs.Displayed.{displayed, behind_colons};
 ghost use Rattle.miette_handlers.specs.Handler.{AppendsOne};
 
-use crate::json_report::cause_texts;
 use miette_protocol::error::RenderError;
 use miette_protocol::protocol::Diagnostic;
 use miette_protocol::source::SourceCode;
+use miette_tree::parts::cause_texts;
 use miette_tree::report::{Cause, Report};
 use std::alloc::{AllocError, Global};
 

@@ -10,7 +10,8 @@ use Rattle.miette_layout.specs.Around.{has_own, group_context}
 use Rattle.miette_layout.specs.Groups.{groups_from, groups_answered, own_groups, groups_of, joins_before, joined, in_order, spans_of}
 use Rattle.miette_narrated.specs.Labels.{told}
 use Rattle.miette_narrated.specs.Snippets.{snippets_of}
-use Rattle.miette_narrated.specs.Report.{Settings, Answers, unlisted, listed, RelatedAnswers, no_more, and_more, own_answer, related_answers, first_answers, later_answers, head_rows, titled_rows, cause_rows, causes_if, advice_rows, row_if, given_labels, snippet_rows, blank_before, related_report, related_reports, narrated}
+use Rattle.miette_narrated.specs.Report.{Settings, Answers, unlisted, listed, RelatedAnswers, no_more, and_more, own_answer, related_answers, first_answers, later_answers, head_rows, titled_rows, cause_rows, causes_if, advice_rows, row_if, snippet_rows, blank_before, related_report, related_reports, narrated}
+use Rattle.miette_tree.specs.Parts.{given_labels}
 use Rattle.miette_narrated.specs.Answered.{holds_of, holds_of_all, always_reads, accepts, report_reads, IsAnswered, AreAnswers, AllAnswers, AppendsSnippets, AppendsReport, AppendsRelated, IsNarrated, Appends}
 use Rattle.miette_narrated.proofs.Sweeps.{by_cases}
 use Rattle.miette_narrated.proofs.Lining.{none_left}

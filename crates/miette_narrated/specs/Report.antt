@@ -7,6 +7,7 @@ use Rattle.miette_protocol.specs.declared.protocol.Severity.TheVariants.{Advice,
 use Rattle.miette_tree.specs.Tree.{Tree, tree, causes_of, Trees, no_trees, more_trees, effective}
 use Rattle.miette_narrated.specs.Labels.{row}
 use Rattle.miette_narrated.specs.Snippets.{snippets}
+use Rattle.miette_tree.specs.Parts.{given_labels, severity_text}
 
 -- what a handler is set to: whether the causes of the report are told, the lines of context, and the last row
 pub record Settings : Type 0 where
@@ -47,13 +48,6 @@ later_answers (and_more first more) = more
 
 -- ---- parts
 
--- `error` where there is none
-abbrev pub severity_text : Option Severity → List ℕ
-severity_text None = codes "error"
-severity_text (Some Error) = codes "error"
-severity_text (Some Warning) = codes "warning"
-severity_text (Some Advice) = codes "advice"
-
 abbrev pub title : Option Severity → List ℕ
 title None = codes "Error: "
 title (Some Error) = codes "Error: "
@@ -91,11 +85,6 @@ url_rows (Some url) = row (codes "For more details, see:") ++ row url
 -- help, code and url
 abbrev pub advice_rows : Meaning → List ℕ
 advice_rows m = row_if (codes "diagnostic help: ") m.help ++ (row_if (codes "diagnostic code: ") m.code ++ url_rows m.url)
-
--- none where none are given
-abbrev pub given_labels : Option (List Label) → List Label
-given_labels None = []
-given_labels (Some labels) = labels
 
 -- the snippets over a source, none without one
 abbrev pub snippet_rows : ℕ → Option Source → List Bool → List Label → List ℕ

@@ -2,11 +2,10 @@
 
 ghost use Rattle.std.specs.Prelude.{◌≡◌, ◌++◌, false, OnOk, IfOk, string_bytes, map, option_copied};
 ghost use Rattle.std.specs.Option.{option_map};
-ghost use Rattle.miette_tree.specs.Tree.{head, cause_of, causes_of, source_of, trees, effective};
-ghost use Rattle.miette_tree.specs.Chain.{texts_below};
+ghost use Rattle.miette_tree.specs.Tree.{head, cause_of, causes_of, trees};
 ghost use Rattle.miette_tree.specs.Report.{tree_of};
 ghost use Rattle.miette_tree.specs.Owned.{shown_source};
-ghost use Rattle.miette_narrated.specs.Report.{severity_text, title, severity_row, head_rows, titled_rows, cause_rows, causes_if, advice_rows, url_rows, given_labels, blank_before};
+ghost use Rattle.miette_narrated.specs.Report.{title, severity_row, head_rows, titled_rows, cause_rows, causes_if, advice_rows, url_rows, blank_before};
 ghost use Rattle.miette_narrated.specs.Answered.{AppendsSnippets, AppendsReport, AppendsRelated, IsNarrated, accepts, holds_of, holds_of_all, report_accepted};
 ghost use Rattle.miette_narrated.specs.Settings.{settings_of};
 
@@ -16,19 +15,9 @@ use crate::words::{push_row, push_row_if};
 use miette_protocol::error::RenderError;
 use miette_protocol::protocol::{Diagnostic, LabeledSpan, Severity};
 use miette_protocol::source::SourceCode;
+use miette_tree::parts::{cause_texts, labels_of, own_or, severity_name};
 use miette_tree::report::{Cause, Report, SourceRef};
 use std::alloc::{AllocError, Global};
-
-/// The name of a severity: `error` where there is none.
-fn severity_name(severity: Option<Severity>) -> &'static str
-    ensures { result.now ≡ severity_text severity }
-{
-    match severity {
-        Some(Severity::Advice) => "advice",
-        Some(Severity::Warning) => "warning",
-        _ => "error",
-    }
-}
 
 fn title_of(severity: Option<Severity>) -> &'static str
     ensures { result.now ≡ title severity }
@@ -71,16 +60,6 @@ fn push_titled<D: Diagnostic, S: SourceCode>(
     push_severity(out, report.severity())?;
     push_row(out, "", "")?;
     Ok(())
-}
-
-/// The texts of a report's cause, none where it is a report.
-fn cause_texts<D: Diagnostic, S: SourceCode>(report: &Report<D, S>) -> &[String]
-    ensures { map string_bytes result.now ≡ texts_below (cause_of (tree_of D.meaning S.source report.now)) }
-{
-    match report.cause() {
-        Cause::Texts(texts) => texts,
-        _ => &[],
-    }
 }
 
 /// A row for each cause of a report.
@@ -138,26 +117,6 @@ fn push_advice<D: Diagnostic, S: SourceCode>(
     push_row_if(out, "diagnostic code: ", report.code())?;
     push_url(out, report.url())?;
     Ok(())
-}
-
-fn labels_of<D: Diagnostic, S: SourceCode>(report: &Report<D, S>) -> &[LabeledSpan]
-    ensures { result.now ≡ given_labels (head (tree_of D.meaning S.source report.now)).labels }
-{
-    report.labels().unwrap_or(&[])
-}
-
-/// The source of the report, or else the one that it inherits.
-fn own_or<'a, D: Diagnostic, S: SourceCode>(
-    report: &'a Report<D, S>,
-    inherited: Option<SourceRef<'a, S>>,
-) -> Option<SourceRef<'a, S>>
-    ensures { option_map (shown_source S.source) result
-        ≡ effective (source_of (tree_of D.meaning S.source report.now)) (option_map (shown_source S.source) inherited.entry) }
-{
-    match report.source_code() {
-        Some(own) => Some(own),
-        None => inherited,
-    }
 }
 
 /// The snippets of labels over a source, none without one.

@@ -9,7 +9,7 @@ use Rattle.miette_layout.specs.Contexts.{end_of_span, is_accepted}
 use Rattle.miette_layout.specs.Groups.{in_order, AreAccepted}
 use Rattle.miette_text.specs.Tame.{is_nil}
 use Rattle.miette_tree.specs.Tree.{Tree, tree, Cause, diagnostic, texts, Trees, no_trees, more_trees, effective}
-use Rattle.miette_handlers.specs.Parts.{list_of}
+use Rattle.miette_tree.specs.Parts.{given_labels}
 use Rattle.miette_handlers.specs.Printed.{Printed, over, printed, printed_causes, printed_related, source_reads, always_reads, all_read}
 use Rattle.miette_handlers.specs.Reads.{AlwaysReads, CauseAlwaysReads, AllAlwaysRead}
 use Rattle.miette_handlers.specs.Settings.{Settings}
@@ -34,7 +34,7 @@ unless_nil true c p = refl
 unless_nil false c p = p
 
 one_read : (source : Option Source) (m : Meaning) → Reads source → always_reads source m ≡ true
-one_read source m p = unless_nil (is_nil (list_of m.labels)) (source_reads source) (reads_here source p)
+one_read source m p = unless_nil (is_nil (given_labels m.labels)) (source_reads source) (reads_here source p)
 
 both : (a b : Bool) → a ≡ true → b ≡ true → (a && b) ≡ true
 both a b p q = ap (λ x. x && b) p ∙ q

@@ -7,3 +7,4 @@ pub mod Chain
 pub mod Left
 pub mod WrapErr
 pub mod Laws
+pub mod Parts

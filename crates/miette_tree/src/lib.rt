@@ -8,5 +8,6 @@ mod innermost;
 pub mod laws;
 pub mod macros;
 mod owned;
+pub mod parts;
 pub mod report;
 mod wrap;

@@ -3,7 +3,7 @@ use Rattle.std.specs.List.{AllByRecursion}
 use Rattle.miette_layout.specs.Contexts.{contents}
 use Rattle.miette_handlers.specs.Answers.{pieces_listed}
 use Rattle.miette_handlers.specs.Headline.{LinesAreShown, MarksAreApart, TextsHang, SnippetHangs, drawn_labels, groups_of, group_settings, shown_lines}
-use Rattle.miette_handlers.specs.Parts.{list_of}
+use Rattle.miette_tree.specs.Parts.{given_labels}
 use Rattle.miette_handlers.specs.Printed.{printed}
 use Rattle.miette_handlers.specs.Snippets.{layout_settings, shown_rows}
 use Rattle.miette_handlers.proofs.DrawnRows.{none_listed}
@@ -19,7 +19,7 @@ if_some P f (Some x) = f x
 
 pub returns-clause-lines : goal.returns-clause-lines
 returns-clause-lines c = λ s t. each (LinesAreShown s) (λ p.
-    let labels = list_of p.meaning.labels in
+    let labels = given_labels p.meaning.labels in
     if_some _ (λ source reads accepted context.
     let maximal = c.runs_are_maximal.ensures (shown_lines s source labels) in record {
       rows = λ pieces. ap (λ rows. shown_rows rows) (c.snippets_draw_runs.ensures (layout_settings s) source labels (pieces_listed pieces) context accepted (none_listed pieces));
@@ -38,7 +38,7 @@ returns-clause-marks c = λ s t. each (MarksAreApart s) (λ p.
 
 pub returns-clause-texts : goal.returns-clause-texts
 returns-clause-texts c = λ s t. each (TextsHang s) (λ p.
-    let labels = list_of p.meaning.labels in
+    let labels = given_labels p.meaning.labels in
     if_some _ (λ source narrow. each (SnippetHangs s source labels)
     (λ group few pieces. c.texts_hang.ensures (group_settings s labels) (drawn_labels s source labels) source.bytes (contents (group_settings s labels).context source group) pieces narrow few)
     (groups_of s source labels)) p.source) (printed s t)

@@ -4,7 +4,7 @@ use Rattle.miette_tree.specs.Owned.{shown_source}
 use Rattle.miette_tree.specs.Report.{tree_of}
 use Rattle.miette_tree.specs.Tree.{head}
 use Rattle.miette_handlers.specs.Answered.{IsDrawn}
-use Rattle.miette_handlers.specs.Parts.{list_of}
+use Rattle.miette_tree.specs.Parts.{given_labels}
 use Rattle.miette_handlers.specs.Snippets.{drawn_rows}
 use Rattle.miette_handlers.specs.Views.{settings_of}
 use Rattle.miette_handlers.proofs.DrawnRows.{drawn_unlabelled, empty_list}
@@ -17,5 +17,5 @@ returns-in-empty-clause-ok g c =
     let s = settings_of c.args.layout in
     let blank = leaves_plain g.H.Highlighter.is_blank c.args.pen.now.highlighter in
     let source = shown_source g.S.SourceCode.source c.args.source in
-    let none : list_of m.labels ≡ [] = sym c.labels_of-labels.ensures ∙ empty_list c.labels_of-labels.result.now c.in-empty.len_below in
+    let none : given_labels m.labels ≡ [] = sym c.labels_of-labels.ensures ∙ empty_list c.labels_of-labels.result.now c.in-empty.len_below in
     nothing_behind (IsDrawn drawn_rows s blank (Some source) m) c.args.out.now (drawn_unlabelled s blank source m [] none refl)

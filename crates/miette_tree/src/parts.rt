@@ -1,0 +1,54 @@
+//! Parts of a report, as handlers ask for them.
+
+ghost use Rattle.std.specs.Prelude.{◌≡◌, map, string_bytes};
+ghost use Rattle.std.specs.Option.{option_map};
+ghost use Rattle.miette_tree.specs.Chain.{texts_below};
+ghost use Rattle.miette_tree.specs.Owned.{shown_source};
+ghost use Rattle.miette_tree.specs.Parts.{given_labels, severity_text};
+ghost use Rattle.miette_tree.specs.Report.{tree_of};
+ghost use Rattle.miette_tree.specs.Tree.{cause_of, effective, head, source_of};
+
+use crate::report::{Cause, Report, SourceRef};
+use miette_protocol::protocol::{Diagnostic, LabeledSpan, Severity};
+use miette_protocol::source::SourceCode;
+
+/// The source of a report, or else the one that it inherits.
+pub fn own_or<'a, D: Diagnostic, S: SourceCode>(
+    report: &'a Report<D, S>,
+    inherited: Option<SourceRef<'a, S>>,
+) -> Option<SourceRef<'a, S>>
+    ensures { option_map (shown_source S.source) result ≡ effective (source_of (tree_of D.meaning S.source report.now)) (option_map (shown_source S.source) inherited.entry) }
+{
+    match report.source_code() {
+        Some(own) => Some(own),
+        None => inherited,
+    }
+}
+
+/// The labels of a report, none where it has no list of them.
+pub fn labels_of<D: Diagnostic, S: SourceCode>(report: &Report<D, S>) -> &[LabeledSpan]
+    ensures { result.now ≡ given_labels (head (tree_of D.meaning S.source report.now)).labels }
+{
+    report.labels().unwrap_or(&[])
+}
+
+/// The causes of a report that are texts, none where its cause is a diagnostic.
+pub fn cause_texts<D: Diagnostic, S: SourceCode>(report: &Report<D, S>) -> &[String]
+    ensures { map string_bytes result.now ≡ texts_below (cause_of (tree_of D.meaning S.source report.now)) }
+{
+    match report.cause() {
+        Cause::Texts(texts) => texts,
+        _ => &[],
+    }
+}
+
+/// The name of a severity, `error` where there is none.
+pub fn severity_name(severity: Option<Severity>) -> &'static str
+    ensures { result.now ≡ severity_text severity }
+{
+    match severity {
+        Some(Severity::Advice) => "advice",
+        Some(Severity::Warning) => "warning",
+        _ => "error",
+    }
+}
