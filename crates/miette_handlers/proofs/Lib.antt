@@ -1,8 +1,3 @@
-pub mod JsonSpelled
-pub mod JsonUnique
-pub mod JsonJoined
-pub mod TreeSizes
-pub mod JsonAnswers
 pub mod Bare
 pub mod Fading
 pub mod PartFading

@@ -10,7 +10,7 @@ use Rattle.miette_tree.specs.declared.report.Report.{Report}
 use Rattle.miette_tree.specs.declared.report.Cause as shown
 use Rattle.miette_tree.specs.declared.report.Cause.TheVariants as seen
 use Rattle.miette_handlers.specs.Answered.{AreCauses, AreRelated, IsOneCause, IsOneRelated}
-use Rattle.miette_handlers.specs.Handler.{AppendsOne}
+use Rattle.miette_tree.specs.Handler.{AppendsOne}
 use Rattle.miette_tree.specs.Chain.{texts_below}
 use Rattle.miette_handlers.specs.Parts.{SnippetRows}
 use Rattle.miette_handlers.specs.Printed.{Printed, all_read, printed_causes, printed_related}

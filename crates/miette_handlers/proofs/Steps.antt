@@ -20,7 +20,7 @@ use Rattle.miette_handlers.specs.Snippets.{layout_settings}
 use Rattle.miette_handlers.proofs.DrawnRows.{unlisted_is}
 use Rattle.miette_handlers.proofs.Lists.{first_fails, later_fails}
 use Rattle.miette_handlers.proofs.Outermost.{report_over}
-use Rattle.miette_handlers.specs.Handler.{AppendsOne}
+use Rattle.miette_tree.specs.Handler.{AppendsOne}
 use Rattle.miette_handlers.specs.Answered.{IsAnswer, AreCauseAnswers, AreRelatedAnswers, IsDrawn, AreCauses, AreRelated, IsInner, IsSibling, IsOneCause, IsNested, IsOneRelated, AreRootCauses, IsBelow, IsReport}
 
 pub not_last : {R : Type 0} (value : R → Tree) (rs : List R) → 1 ≤ length rs → false ≡ are_last (trees (map value rs))

@@ -15,7 +15,7 @@ use Rattle.miette_layout.specs.Around.{group_context}
 use Rattle.miette_layout.specs.Groups.{in_order, groups_of}
 use Rattle.miette_layout.specs.Highlighted.{SnippetsHavePieces}
 use Rattle.miette_layout.specs.Layout.{snippet_rows}
-use Rattle.miette_handlers.specs.Handler.{AppendsOne}
+use Rattle.miette_tree.specs.Handler.{AppendsOne}
 use Rattle.miette_handlers.specs.Printed.{always_reads}
 use Rattle.miette_handlers.specs.Snippets.{drawn_rows, layout_settings}
 use Rattle.miette_handlers.specs.Text.{ends_there, body, inner_text, causes_text, related_text, report_text}

@@ -1,10 +1,3 @@
-pub mod Json
-pub mod Denotes
-pub mod Reads
-pub mod JsonReport
-pub mod JsonText
-pub mod Displayed
-pub mod Handler
 pub mod Handling
 pub mod Settings
 pub mod Modes

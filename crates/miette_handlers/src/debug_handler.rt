@@ -1,13 +1,13 @@
 //! The debug report.
 
 ghost use Rattle.std.specs.Prelude.{◌≡◌, ⊤, OnOk, OnErr, string_bytes};
-ghost use Rattle.miette_handlers.specs.Handler.{AppendsOne};
+ghost use Rattle.miette_tree.specs.Handler.{AppendsOne};
 
-use crate::report_handler::{ReportHandler, append_whole};
 use miette_protocol::error::RenderError;
 use miette_protocol::protocol::{Diagnostic, LabeledSpan, Severity};
 use miette_protocol::source::SourceCode;
 use miette_tree::report::{Cause, Report};
+use miette_tree::report_handler::{ReportHandler, append_whole};
 use std::alloc::{AllocError, Global};
 
 /// The handler that shows what a report holds, for people who debug their tool: one row, `Diagnostic { message: "m" }`, with the fields

@@ -2,6 +2,6 @@
 
 pub use crate::debug_handler::DebugReportHandler;
 pub use crate::graphical::GraphicalReportHandler;
-pub use crate::json_handler::JSONReportHandler;
-pub use crate::report_handler::ReportHandler;
+pub use miette_json::handler::JSONReportHandler;
 pub use miette_narrated::handler::NarratableReportHandler;
+pub use miette_tree::report_handler::ReportHandler;

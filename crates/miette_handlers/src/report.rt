@@ -6,7 +6,7 @@ ghost use Rattle.miette_handlers.specs.Answers.{unlisted};
 ghost use Rattle.miette_handlers.specs.Answered.{Appends, AreCauses, AreDrawn, AreRelated, AreRootCauses, IsBelow, IsDrawn, IsInner, IsNested, IsOneCause, IsOneRelated, IsReport, IsSibling};
 ghost use Rattle.miette_handlers.specs.Clean.{AreCleanSettings, IsCleanTree};
 ghost use Rattle.miette_handlers.specs.Colourless.{IsColouredText, colourless};
-ghost use Rattle.miette_handlers.specs.Handler.{AppendsOne};
+ghost use Rattle.miette_tree.specs.Handler.{AppendsOne};
 ghost use Rattle.miette_handlers.specs.Printed.{all_read, always_reads, printed, printed_causes, printed_inner, printed_one, printed_related, printed_root_causes, printed_sibling};
 ghost use Rattle.miette_layout.specs.Highlighted.{leaves_plain};
 ghost use Rattle.miette_tree.specs.Owned.{shown_source};

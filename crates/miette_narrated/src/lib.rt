@@ -2,6 +2,7 @@
 #![tactic(auto)]
 
 mod columns;
+mod debug;
 pub mod handler;
 mod label_order;
 mod label_rows;

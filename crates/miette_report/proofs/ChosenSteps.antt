@@ -8,9 +8,9 @@ use Rattle.miette_tree.specs.Tree.{Tree}
 use Rattle.miette_narrated.specs.Answered.{report_accepted, report_reads, Appends}
 use Rattle.miette_narrated.specs.Report as narrated
 use Rattle.miette_handlers.specs.Answers.{unlisted}
-use Rattle.miette_handlers.specs.Handler.{AppendsOne}
+use Rattle.miette_tree.specs.Handler.{AppendsOne}
 use Rattle.miette_handlers.specs.Printed.{all_read, printed}
-use Rattle.miette_handlers.specs.Reads.{AlwaysReads}
+use Rattle.miette_json.specs.Reads.{AlwaysReads}
 use Rattle.miette_handlers.specs.Answered as drawn
 use Rattle.miette_handlers.specs.Handling.{Handling, draws_plain}
 use Rattle.miette_handlers.specs.Snippets.{drawn_rows}

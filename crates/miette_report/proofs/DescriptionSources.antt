@@ -9,7 +9,7 @@ use Rattle.serde_json.specs.Written.{has_float}
 use Rattle.miette_protocol.specs.Reading.{Source}
 use Rattle.miette_protocol.specs.Meaning.{Meaning}
 use Rattle.miette_tree.specs.Tree.{Tree, tree, Trees, no_trees, wrapped}
-use Rattle.miette_handlers.specs.Reads.{AlwaysReads, CauseAlwaysReads, AllAlwaysRead}
+use Rattle.miette_json.specs.Reads.{AlwaysReads, CauseAlwaysReads, AllAlwaysRead}
 use Rattle.miette_report.specs.Members.{given, at_key, typed, list_of, source_named, source_of, meaning_in}
 use Rattle.miette_report.specs.Description.{one_cause, wrapped_in, assembled, report_from, nullable, report_in, cause_in, related_in, reports_in, each_in, described}
 

@@ -7,8 +7,8 @@ use Rattle.miette.specs.declared.options.handler.MietteHandler.TheVariants as ha
 use Rattle.miette_style.specs.declared.theme.Terminal.{Terminal}
 use Rattle.miette_tree.specs.Tree.{Tree}
 use Rattle.miette_narrated.specs.Answered.{report_accepted}
-use Rattle.miette_handlers.specs.Json.{json_text}
-use Rattle.miette_handlers.specs.JsonReport.{value_of}
+use Rattle.miette_json.specs.Json.{json_text}
+use Rattle.miette_json.specs.JsonReport.{value_of}
 use Rattle.miette_report.specs.Job.{IsBuiltText}
 use Rattle.miette_report.specs.declared.chosen.Chosen.{Chosen}
 use Rattle.miette_report.specs.declared.chosen.Chosen.TheVariants as chosen

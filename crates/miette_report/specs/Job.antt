@@ -12,8 +12,8 @@ use Rattle.miette_narrated.specs.Report as narrated
 use Rattle.miette_handlers.specs.Answered.{IsTextOf}
 use Rattle.miette_handlers.specs.Answers.{unlisted}
 use Rattle.miette_handlers.specs.Handling.{draws_plain}
-use Rattle.miette_handlers.specs.Json.{json_text}
-use Rattle.miette_handlers.specs.JsonReport.{value_of}
+use Rattle.miette_json.specs.Json.{json_text}
+use Rattle.miette_json.specs.JsonReport.{value_of}
 use Rattle.miette_handlers.specs.Snippets.{drawn_rows}
 use Rattle.miette_handlers.specs.Text.{report_text}
 use Rattle.miette_report.specs.Description.{described}

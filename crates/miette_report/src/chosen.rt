@@ -2,8 +2,8 @@
 
 ghost use Rattle.std.specs.Prelude.{◌≡◌, ◌⊎◌, IfOk, OnOk, OnErr, string_bytes};
 ghost use Rattle.miette_tree.specs.Report.{tree_of};
-ghost use Rattle.miette_handlers.specs.Handler.{AppendsOne};
-ghost use Rattle.miette_handlers.specs.Reads.{AlwaysReads};
+ghost use Rattle.miette_tree.specs.Handler.{AppendsOne};
+ghost use Rattle.miette_json.specs.Reads.{AlwaysReads};
 ghost use Rattle.miette_report.specs.Chosen.{IsAsked, IsGiven, MayRefuse, Stays};
 
 use crate::run::JobError;

@@ -4,7 +4,7 @@ ghost use Rattle.std.specs.Prelude.{◌≡◌, List, [], Option, Some, None, IfO
 ghost use Rattle.serde_json.specs.View.{view, items_view};
 ghost use Rattle.miette_tree.specs.Tree.{tree, head, source_of, cause_of, related_of, texts, no_trees, trees, with_source, with_cause, with_related};
 ghost use Rattle.miette_tree.specs.Report.{tree_of};
-ghost use Rattle.miette_handlers.specs.Reads.{AlwaysReads};
+ghost use Rattle.miette_json.specs.Reads.{AlwaysReads};
 ghost use Rattle.miette_report.specs.Members.{given, typed, at_key, all_of};
 ghost use Rattle.miette_protocol.specs.Diagnostic.{meaning_of};
 ghost use Rattle.miette_tree.specs.Owned.{owned_source};

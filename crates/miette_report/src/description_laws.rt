@@ -3,7 +3,7 @@
 ghost use Rattle.std.specs.Prelude.{◌≡◌, Some, codes};
 ghost use Rattle.serde_json.specs.Data.{Data};
 ghost use Rattle.miette_tree.specs.Tree.{Tree};
-ghost use Rattle.miette_handlers.specs.Reads.{AlwaysReads};
+ghost use Rattle.miette_json.specs.Reads.{AlwaysReads};
 ghost use Rattle.miette_report.specs.Members.{typed, at_key};
 ghost use Rattle.miette_report.specs.Description.{report_from, report_in, reports_in, described};
 

@@ -6,7 +6,7 @@ ghost use Rattle.miette_report.specs.Device.{TakesBeginning};
 ghost use Rattle.serde_json.specs.Read.{read};
 ghost use Rattle.serde_json.specs.View.{view};
 ghost use Rattle.miette_tree.specs.Report.{tree_of};
-ghost use Rattle.miette_handlers.specs.Reads.{AlwaysReads};
+ghost use Rattle.miette_json.specs.Reads.{AlwaysReads};
 ghost use Rattle.miette_report.specs.Job.{tree_for, IsDescription, IsNarrating, IsRefused, Writes};
 
 use crate::chosen::Chosen;

@@ -1,3 +1,4 @@
 pub mod Ends
 pub mod Missing
 pub mod ChainLaws
+pub mod TreeSizes

@@ -8,3 +8,5 @@ pub mod Left
 pub mod WrapErr
 pub mod Laws
 pub mod Parts
+pub mod Displayed
+pub mod Handler

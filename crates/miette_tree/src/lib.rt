@@ -10,4 +10,5 @@ pub mod macros;
 mod owned;
 pub mod parts;
 pub mod report;
+pub mod report_handler;
 mod wrap;

@@ -6,7 +6,7 @@ use Rattle.miette_tree.specs.Report.{tree_of}
 use Rattle.miette_layout.specs.Highlighted.{leaves_plain}
 use Rattle.miette_tree.specs.Owned.{shown_source}
 use Rattle.miette_handlers.specs.Answered.{IsBelow, AreCauses, AreRelated, IsInner, IsOneCause, IsOneRelated}
-use Rattle.miette_handlers.specs.Handler.{AppendsOne}
+use Rattle.miette_tree.specs.Handler.{AppendsOne}
 use Rattle.miette_handlers.specs.Printed.{all_read, printed_causes, printed_inner, printed_one, printed_related}
 use Rattle.miette_handlers.specs.Snippets.{drawn_rows}
 use Rattle.miette_handlers.specs.Indents.{narrowed}

@@ -4,7 +4,7 @@ use Rattle.miette_tree.specs.Report.{tree_of}
 use Rattle.miette_layout.specs.Highlighted.{leaves_plain}
 use Rattle.miette_tree.specs.Owned.{shown_source}
 use Rattle.miette_handlers.specs.Answered.{IsBelow}
-use Rattle.miette_handlers.specs.Handler.{AppendsOne}
+use Rattle.miette_tree.specs.Handler.{AppendsOne}
 use Rattle.miette_handlers.specs.Printed.{all_read, printed_inner}
 use Rattle.miette_handlers.specs.Snippets.{drawn_rows}
 use Rattle.miette_handlers.specs.Views.{settings_of}

@@ -5,7 +5,7 @@ use Rattle.miette_tree.specs.Report.{tree_of}
 use Rattle.miette_handlers.specs.Answers.{unlisted}
 use Rattle.miette_handlers.specs.Clean.{AreCleanSettings, IsCleanTree}
 use Rattle.miette_handlers.specs.Colourless.{IsColouredText, colourless}
-use Rattle.miette_handlers.specs.Handler.{AppendsOne}
+use Rattle.miette_tree.specs.Handler.{AppendsOne}
 use Rattle.miette_handlers.specs.Handling.{draws_plain}
 use Rattle.miette_handlers.specs.Printed.{all_read, printed}
 use Rattle.miette_handlers.specs.Snippets.{drawn_rows}

@@ -1,5 +1,0 @@
-use Rattle.miette_handlers.proofs.JsonUnique.{one_value_lem}
-use Rattle.miette_handlers.proofs.json_laws.a_text_denotes_one_value.Goals as goal
-
-pub returns : goal.returns
-returns c = one_value_lem

@@ -1,0 +1,132 @@
+-- Answers of reads, put together from those of the parts.
+use Rattle.std.proofs.Common.{◌≡◌, ℕ, suc, zero, ◌+◌, ◌<◌, ◌≤◌, List, [], ◌∷◌, ◌++◌, length, get_or, map, drop, add-one, Bool, true, false, Option, Some, None, refl, sym, ap, subst, ◌∙◌, append_assoc, codes, arith}
+use Rattle.std.specs.Prelude.{if◌then◌else◌, IfSome, option_map}
+use Rattle.std.proofs.Math.Seq.{drop-cons}
+use Rattle.miette_protocol.specs.Reading.{Source}
+use Rattle.miette_protocol.specs.Meaning.{Label}
+use Rattle.miette_tree.specs.Tree.{Tree, tree, Trees, no_trees, more_trees, trees, effective, head, source_of, cause_of, causes_of, related_of}
+use Rattle.miette_json.specs.Json.{Json, string, array, object, Items, item, no_members, member, items_text, json_text}
+use Rattle.miette_json.specs.Denotes.{Denotes}
+use Rattle.miette_json.specs.JsonReport.{NameAnswers, unlisted, listed, RelatedNameAnswers, no_more, and_more, own_fault, related_answers, first_answers, later_answers, MayFail, ArePossible, AllPossible, report_json, reports_json, maybe, strings, labels_json, file_name}
+use Rattle.miette_tree.specs.Parts.{given_labels, severity_text}
+use Rattle.miette_json.specs.Reads.{AlwaysReads, AllAlwaysRead}
+use Rattle.miette_json.specs.JsonText.{IsJsonOf, rest_text, AppendsReport, AppendsRelated, AppendsPlaces, head_text, reasons_text, key_text}
+use Rattle.miette_json.proofs.JsonJoined.{last_piece, report_parts}
+
+-- Some related reports are written, and these are left: whatever answers these have, the whole has some.
+pub record RelatedSoFar (inherited : Option Source) (all left : Trees) (first : Bool) (old now : List ℕ) : Type 0 where
+  pub with_rest : RelatedNameAnswers → RelatedNameAnswers
+  pub possible : (more : RelatedNameAnswers) → AllPossible inherited more left → AllPossible inherited (with_rest more) all
+  pub joined : (more : RelatedNameAnswers) → now ++ rest_text first (reports_json inherited more left) ≡ old ++ items_text (reports_json inherited (with_rest more) all)
+
+pub none_so_far : (inherited : Option Source) (all : Trees) (old : List ℕ) → RelatedSoFar inherited all all true old old
+none_so_far inherited all old = record { with_rest = λ more. more; possible = λ more p. p; joined = λ more. refl }
+
+pub one_more : (inherited : Option Source) (all : Trees) (t : Tree) (ts : Trees) (first : Bool) (old now comma new : List ℕ)
+    → RelatedSoFar inherited all (more_trees t ts) first old now → comma ≡ now ++ (if first then [] else 44 ∷ []) → AppendsReport inherited t comma new
+    → RelatedSoFar inherited all ts false old new
+one_more inherited all t ts first old now comma new r e a = record {
+  with_rest = λ more. r.with_rest (and_more a.answers more);
+  possible = λ more p. r.possible (and_more a.answers more) (a.possible, p);
+  joined = λ more. last_piece first now comma new (report_json inherited a.answers t) (reports_json inherited more ts) _ (r.joined (and_more a.answers more)) e a.appended;
+}
+
+pub all_written : (inherited : Option Source) (all : Trees) (first : Bool) (old now new : List ℕ)
+    → RelatedSoFar inherited all no_trees first old now → new ≡ now ++ 93 ∷ [] → AppendsRelated inherited all old new
+all_written inherited all true old now new r e = record { answers = r.with_rest no_more; possible = r.possible no_more tt; appended = e ∙ r.joined no_more }
+all_written inherited all false old now new r e = record { answers = r.with_rest no_more; possible = r.possible no_more tt; appended = e ∙ r.joined no_more }
+
+-- the one next of a list of reports
+pub next_of : {R : Type 0} (value : R → Tree) (rs : List R) (i : ℕ) (d : R) → i < length rs → d ≡ get_or rs i d → trees (map value (drop i rs)) ≡ more_trees (value d) (trees (map value (drop (i + 1) rs)))
+next_of value rs i d h is = ap (λ l. trees (map value l)) (drop-cons rs i d h ∙ ap (λ x. x ∷ drop (suc i) rs) (sym is) ∙ ap (λ n. d ∷ drop n rs) (sym (add-one i)))
+
+none_left : {R : Type 0} (rs : List R) (i : ℕ) → length rs ≤ i → drop i rs ≡ []
+none_left [] zero h = refl
+none_left [] (suc i) h = refl
+none_left (r ∷ rs) zero h = absurd (omega arith)
+none_left (r ∷ rs) (suc i) h = none_left rs i (omega arith)
+
+pub at_the_end : {R : Type 0} (value : R → Tree) (inherited : Option Source) (rs : List R) (all : Trees) (i : ℕ) (first : Bool) (old now : List ℕ) → length rs ≤ i
+    → RelatedSoFar inherited all (trees (map value (drop i rs))) first old now → RelatedSoFar inherited all no_trees first old now
+at_the_end value inherited rs all i first old now h r = subst (λ l. RelatedSoFar inherited all (trees (map value l)) first old now) (none_left rs i h) r
+
+-- what the parts of a report's object add
+joined : (old a b p k q r new h re pl key x : List ℕ) → a ≡ old ++ h → b ≡ a ++ re → p ≡ b ++ pl → k ≡ p ++ key → q ≡ k ++ 91 ∷ [] → r ≡ q ++ x → new ≡ r ++ 125 ∷ []
+    → new ≡ old ++ (h ++ (re ++ (pl ++ (key ++ (91 ∷ (x ++ 125 ∷ []))))))
+joined old a b p k q r new h re pl key x e f g i j l m =
+    m ∙ ap (λ y. y ++ 125 ∷ []) (l ∙ ap (λ y. y ++ x) (j ∙ ap (λ y. y ++ 91 ∷ []) (i ∙ ap (λ y. y ++ key) (g ∙ ap (λ y. y ++ pl) (f ∙ ap (λ y. y ++ re) e))))) ∙ simp append_assoc
+
+pub report_written : (inherited : Option Source) (t : Tree) (source : Option Source) (labels : List Label) (related : Trees) (old a b p k q r new : List ℕ)
+    → source ≡ effective (source_of t) inherited → labels ≡ given_labels (head t).labels → related ≡ related_of t
+    → a ≡ old ++ head_text (head t) → b ≡ a ++ reasons_text (causes_of (cause_of t)) (head t) → AppendsPlaces source labels b p
+    → k ≡ p ++ key_text (codes "related") → q ≡ k ++ 91 ∷ [] → AppendsRelated source related q r → new ≡ r ++ 125 ∷ [] → AppendsReport inherited t old new
+report_written inherited (tree m s c rs) source labels related old a b p k q r new es el er e f places g h others i =
+    let own = effective s inherited in
+    let here : AppendsPlaces own (given_labels m.labels) b p = subst (λ l. AppendsPlaces own l b p) el (subst (λ o. AppendsPlaces o labels b p) es places) in
+    let there : AppendsRelated own rs q r = subst (λ ts. AppendsRelated own ts q r) er (subst (λ o. AppendsRelated o related q r) es others) in
+    let answers = listed here.fault there.answers in record {
+      answers = answers;
+      possible = (here.may_fail, there.possible);
+      appended = joined _ _ _ _ _ _ _ _ _ _ _ _ _ e f here.appended g h there.appended i ∙ ap (λ l. old ++ l) (sym (report_parts inherited answers (tree m s c rs)));
+    }
+
+-- ---- sources that always read
+
+-- what a source that always reads can't do
+abbrev Reads : Option Source → Type 0
+Reads s = IfSome s (λ own. own.always_reads ≡ true)
+
+never : (s : Option Source) → Reads s → MayFail s → ⊥
+never None r f = f
+never (Some s) r f = cc
+
+effective_reads : (s inherited : Option Source) → Reads s → Reads inherited → Reads (effective s inherited)
+effective_reads None inherited r i = i
+effective_reads (Some own) inherited r i = r
+
+no_fault : (s : Option Source) (b : Bool) → (b ≡ true → MayFail s) → (MayFail s → ⊥) → b ≡ false
+no_fault s false f g = refl
+no_fault s true f g = absurd (g (f refl))
+
+fault_free : (s : Option Source) (b : Bool) → (b ≡ true → MayFail s) → Reads s → b ≡ false
+fault_free s b f r = no_fault s b f (never s r)
+
+mutual
+  same_value : (inherited : Option Source) (a : NameAnswers) (t : Tree) → ArePossible inherited a t → AlwaysReads t → Reads inherited → report_json inherited a t ≡ report_json inherited unlisted t
+  same_value inherited a (tree m s c r) p reads i =
+      let own = effective s inherited in
+      let own_reads : Reads own = effective_reads s inherited reads.0 i in
+      let fault : own_fault a ≡ false = fault_free own (own_fault a) p.0 own_reads in
+      let others : reports_json own (related_answers a) r ≡ reports_json own no_more r = same_values own (related_answers a) r p.1 reads.2 own_reads in
+      ap (λ f. with_parts f (reports_json own (related_answers a) r)) fault ∙ ap (with_parts false) others where
+        with_parts : Bool → Items → Json
+        with_parts f others = object
+            (member (codes "message") (string m.message)
+            (maybe (codes "code") m.code
+            (member (codes "severity") (string (severity_text m.severity))
+            (member (codes "causes") (array (strings (causes_of c)))
+            (maybe (codes "url") m.url
+            (maybe (codes "help") m.help
+            (maybe (codes "filename") (option_map (file_name f (given_labels m.labels)) (effective s inherited))
+            (member (codes "labels") (array (labels_json (given_labels m.labels)))
+            (member (codes "related") (array others) no_members)))))))))
+
+  same_values : (inherited : Option Source) (a : RelatedNameAnswers) (ts : Trees) → AllPossible inherited a ts → AllAlwaysRead ts → Reads inherited → reports_json inherited a ts ≡ reports_json inherited no_more ts
+  same_values inherited a no_trees p reads i = refl
+  same_values inherited a (more_trees t ts) p reads i =
+      ap (λ j. item j (reports_json inherited (later_answers a) ts)) (same_value inherited (first_answers a) t p.0 reads.0 i)
+      ∙ ap (item (report_json inherited unlisted t)) (same_values inherited (later_answers a) ts p.1 reads.1 i)
+
+-- all that is claimed of a report's text
+pub is_json : ((v : Json) → Denotes (json_text v) v) → ((bytes : List ℕ) (v w : Json) → Denotes bytes v → Denotes bytes w → v ≡ w)
+    → (t : Tree) (text : List ℕ) → AppendsReport None t [] text → IsJsonOf t text
+is_json denoting one t text a =
+    let value = report_json None a.answers t in
+    let denotes : Denotes text value = subst (λ l. Denotes l value) (sym a.appended) (denoting value) in record {
+      value = value;
+      of_tree = record { answers = a.answers; possible = a.possible; is = refl };
+      always = λ reads. same_value None a.answers t a.possible reads tt;
+      spelled = a.appended;
+      denotes = denotes;
+      only = λ other d. one text other value d denotes;
+    }

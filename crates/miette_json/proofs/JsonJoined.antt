@@ -1,0 +1,58 @@
+-- The parts that are written make up the text of the value.
+use Rattle.std.proofs.Common.{◌≡◌, ℕ, List, [], ◌∷◌, ◌++◌, Option, Some, None, refl, sym, ap, ◌∙◌, append_assoc, append-nil, Bool, true, false, codes, option_map}
+use Rattle.std.specs.Prelude.{if◌then◌else◌}
+use Rattle.miette_json.specs.Json.{Json, string, array, object, Items, item, Members, no_members, member, quoted, json_text, items_text, more_members_text}
+use Rattle.miette_protocol.specs.Reading.{Source}
+use Rattle.miette_tree.specs.Tree.{Tree, tree, head, source_of, cause_of, causes_of, related_of, effective}
+use Rattle.miette_json.specs.JsonReport.{NameAnswers, own_fault, related_answers, maybe, strings, labels_json, file_name, report_json, reports_json}
+use Rattle.miette_tree.specs.Parts.{severity_text, given_labels}
+use Rattle.miette_json.specs.JsonText.{key_text, maybe_text, rest_text, start_text, head_text, reasons_text, places_text}
+
+-- what is left to write grows shorter
+pub step : (out new piece rest goal : List ℕ) → out ++ (piece ++ rest) ≡ goal → new ≡ out ++ piece → new ++ rest ≡ goal
+step out new piece rest goal e f = ap (λ l. l ++ rest) f ∙ (append_assoc out piece rest ∙ e)
+
+pub last_step : (out new piece goal : List ℕ) → out ++ piece ≡ goal → new ≡ out ++ piece → new ≡ goal
+last_step out new piece goal e f = f ∙ e
+
+-- what four writes add
+pub append_parts : (out a b c new w x z : List ℕ) → a ≡ out ++ w → b ≡ a ++ x → c ≡ b ++ 91 ∷ [] → new ≡ c ++ z → new ≡ out ++ (w ++ (x ++ (91 ∷ z)))
+append_parts out a b c new w x z e f g h =
+    h ∙ ap (λ l. l ++ z) (g ∙ ap (λ l. l ++ 91 ∷ []) (f ∙ ap (λ l. l ++ x) e)) ∙ simp append_assoc
+
+pub maybe_member : (key : List ℕ) (o : Option (List ℕ)) (more : Members) → more_members_text (maybe key o more) ≡ maybe_text key o ++ more_members_text more
+maybe_member key None more = refl
+maybe_member key (Some s) more = ap (λ l. 44 ∷ l) (sym (append_assoc (quoted key ++ (58 ∷ 32 ∷ [])) (quoted s) (more_members_text more) ∙ append_assoc (quoted key) (58 ∷ 32 ∷ []) (quoted s ++ more_members_text more)))
+
+pub one_member : (key : List ℕ) (v : Json) (more : Members) → more_members_text (member key v more) ≡ key_text key ++ (json_text v ++ more_members_text more)
+one_member key v more = ap (λ l. 44 ∷ l) (sym (append_assoc (quoted key) (58 ∷ 32 ∷ []) (json_text v ++ more_members_text more)))
+
+module _ (message_key code_key severity_key causes_key url_key help_key name_key labels_key related_key : List ℕ)
+    (message severity : List ℕ) (code url help name : Option (List ℕ)) (causes labels related : Items) where
+  pub parts :
+      json_text (object (member message_key (string message) (maybe code_key code (member severity_key (string severity) (member causes_key (array causes)
+      (maybe url_key url (maybe help_key help (maybe name_key name (member labels_key (array labels) (member related_key (array related) no_members))))))))))
+      ≡ (123 ∷ (quoted message_key ++ (58 ∷ 32 ∷ (quoted message ++ (maybe_text code_key code ++ (key_text severity_key ++ quoted severity))))))
+      ++ ((key_text causes_key ++ (91 ∷ (items_text causes ++ (maybe_text url_key url ++ maybe_text help_key help))))
+      ++ ((maybe_text name_key name ++ (key_text labels_key ++ (91 ∷ items_text labels)))
+      ++ (key_text related_key ++ (91 ∷ (items_text related ++ 125 ∷ [])))))
+  parts = simp (maybe_member, append_assoc)
+
+pub label_parts : (first second : List ℕ) (o : Option (List ℕ)) (v : Json) → json_text (object (maybe first o (member second v no_members))) ≡ start_text first second o ++ (json_text v ++ 125 ∷ [])
+label_parts first second None v = simp append_assoc
+label_parts first second (Some s) v = simp append_assoc
+
+-- the text of a report, part by part
+pub report_parts : (inherited : Option Source) (a : NameAnswers) (t : Tree) →
+    json_text (report_json inherited a t)
+    ≡ head_text (head t) ++ (reasons_text (causes_of (cause_of t)) (head t) ++ (places_text (own_fault a) (effective (source_of t) inherited) (given_labels (head t).labels)
+    ++ (key_text (codes "related") ++ (91 ∷ (items_text (reports_json (effective (source_of t) inherited) (related_answers a) (related_of t)) ++ 125 ∷ [])))))
+report_parts inherited a (tree m s c r) =
+    parts (codes "message") (codes "code") (codes "severity") (codes "causes") (codes "url") (codes "help") (codes "filename") (codes "labels") (codes "related")
+    m.message (severity_text m.severity) m.code m.url m.help (option_map (file_name (own_fault a) (given_labels m.labels)) (effective s inherited))
+    (strings (causes_of c)) (labels_json (given_labels m.labels)) (reports_json (effective s inherited) (related_answers a) r)
+
+pub last_piece : (first : Bool) (old comma new : List ℕ) (j : Json) (more : Items) (goal : List ℕ)
+    → old ++ rest_text first (item j more) ≡ goal → comma ≡ old ++ (if first then [] else 44 ∷ []) → new ≡ comma ++ json_text j → new ++ rest_text false more ≡ goal
+last_piece true old comma new j more goal e f k = step comma new (json_text j) (rest_text false more) goal (ap (λ l. l ++ (json_text j ++ rest_text false more)) (f ∙ append-nil old) ∙ e) k
+last_piece false old comma new j more goal e f k = step comma new (json_text j) (rest_text false more) goal (step old comma (44 ∷ []) (json_text j ++ rest_text false more) goal e f) k

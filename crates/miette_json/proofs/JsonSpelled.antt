@@ -1,0 +1,380 @@
+-- The spelling of a value stands for it.
+use Rattle.std.proofs.Common.{◌≡◌, ◌≢◌, ◌⊎◌, inl, inr, ℕ, zero, suc, ◌+◌, ◌-◌, ◌*◌, ◌/◌, ◌%◌, ◌^◌, ◌<◌, ◌≤◌, Bool, true, false, cond, List, [], ◌∷◌, ◌++◌, refl, sym, ap, ◌∙◌, subst, arith, append_assoc, append-nil, add-one, length, get_or, take, drop}
+use Rattle.std.specs.Prelude.{nat_lt, not, Some, None, position}
+use Rattle.std.specs.List.{position_or_len, prefix_len}
+use Rattle.std.proofs.Math.Seq.{drop-cons}
+use Rattle.std.proofs.lemmas.List.Quantifiers.{position-Some}
+use Rattle.std.specs.Char.{encode_utf8, digit_char, digit_value}
+use Rattle.std.specs.Fmt.{decimal}
+use Rattle.std.proofs.lemmas.Fmt.{decimal_by_steps}
+use Rattle.std.proofs.lemmas.Bool.{ltb-true, ltb-false, lt-ltb, le-ltb}
+use Rattle.std.proofs.lemmas.Bool.Decides.{eqb_tells, nat_tests}
+use Rattle.std.proofs.lemmas.Str.{encode_ascii, digit_value-digit_char}
+use Rattle.miette_json.specs.Json.{Json, number, string, array, object, Items, no_items, item, Members, no_members, member, digits_within, numeral, is_escaped, escape_letter, escaped_byte, escaped, quoted, json_text, items_text, more_items_text, members_text, more_members_text}
+use Rattle.miette_json.specs.Denotes.{Token, mark, text, whole, tokens_then, items_then, more_items_then, members_then, more_members_then, Piece, plain, short, unit, short_for, IsPiece, hex, written, meant, ArePieces, all_written, all_meant, IsDigit, AreDigits, value_after, NoLeadingZero, NoDigitNext, IsMark, IsString, IsNumber, Begins, Next, AreTokens, Denotes}
+
+-- ---- numbers
+
+-- digits that stand for n
+record Reads (n : ℕ) (ds : List ℕ) : Type 0 where
+  first : ℕ
+  others : List ℕ
+  is : ds ≡ first ∷ others
+  digits : AreDigits (first ∷ others)
+  leads : (others ≡ []) ⊎ (48 < first)
+  above : 0 < n → 48 < first
+  value : value_after 0 (first ∷ others) ≡ n
+
+digits_last : (ds : List ℕ) (d : ℕ) → AreDigits ds → IsDigit d → AreDigits (ds ++ d ∷ [])
+digits_last [] d r s = (s, tt)
+digits_last (x ∷ ds) d r s = (r.0, digits_last ds d r.1 s)
+
+value_last : (n : ℕ) (ds : List ℕ) (d : ℕ) → value_after n (ds ++ d ∷ []) ≡ value_after n ds * 10 + (d - 48)
+value_last n [] d = refl
+value_last n (x ∷ ds) d = value_last (n * 10 + (x - 48)) ds d
+
+reads_more : (n : ℕ) (ds : List ℕ) → 10 ≤ n → Reads (n / 10) ds → Reads n (ds ++ (48 + n % 10) ∷ [])
+reads_more n ds h r = record {
+  first = r.first;
+  others = r.others ++ (48 + n % 10) ∷ [];
+  is = ap (λ l. l ++ (48 + n % 10) ∷ []) r.is;
+  digits = (r.digits.0, digits_last r.others (48 + n % 10) r.digits.1 (omega arith, omega arith));
+  leads = inr (r.above (omega arith));
+  above = λ _. r.above (omega arith);
+  value = let v = value_last 0 (r.first ∷ r.others) (48 + n % 10) in omega (arith, v, r.value);
+}
+
+reads_step : (n : ℕ) (rest : List ℕ) (b : Bool) → nat_lt n 10 ≡ b → (10 ≤ n → Reads (n / 10) rest) → Reads n (cond b ((48 + n) ∷ []) (rest ++ (48 + n % 10) ∷ []))
+reads_step n rest true e r =
+    let l : n < 10 = ltb-true n 10 e in
+    record {
+      first = 48 + n;
+      others = [];
+      is = refl;
+      digits = ((omega arith, omega arith), tt);
+      leads = inl refl;
+      above = λ p. omega arith;
+      value = omega arith;
+    }
+reads_step n rest false e r = let l : 10 ≤ n = ltb-false n 10 e in reads_more n rest l (r l)
+
+reads_within : (most n : ℕ) → n < most → Reads n (digits_within most n)
+reads_within zero n h = absurd (omega arith)
+reads_within (suc most) n h = reads_step n (digits_within most (n / 10)) (nat_lt n 10) refl (λ l. reads_within most (n / 10) (omega arith))
+
+no_zero : (x : ℕ) (xs : List ℕ) → 48 < x → NoLeadingZero (x ∷ xs)
+no_zero x [] h = tt
+no_zero x (y ∷ xs) h = h
+
+zero_free : (x : ℕ) (xs : List ℕ) → (xs ≡ []) ⊎ (48 < x) → NoLeadingZero (x ∷ xs)
+zero_free x xs (inl e) = subst (λ l. NoLeadingZero (x ∷ l)) (sym e) tt
+zero_free x xs (inr h) = no_zero x xs h
+
+number_spelled : (n : ℕ) (rest : List ℕ) → NoDigitNext rest → IsNumber n (numeral n ++ rest) rest
+unfolding numeral
+number_spelled n rest h =
+    let r = reads_within (suc n) n (omega arith) in
+    record {
+      first = r.first;
+      others = r.others;
+      digits = r.digits;
+      no_zero = zero_free r.first r.others r.leads;
+      value = r.value;
+      spelled = ap (λ l. l ++ rest) r.is;
+      ends = h;
+    }
+
+-- ---- the digits of one number, whatever their bound
+
+within_step : (n : ℕ) (xs ys : List ℕ) (b : Bool) → nat_lt n 10 ≡ b → (10 ≤ n → xs ≡ ys)
+    → cond b ((48 + n) ∷ []) (xs ++ (48 + n % 10) ∷ []) ≡ cond b ((48 + n) ∷ []) (ys ++ (48 + n % 10) ∷ [])
+within_step n xs ys true e f = refl
+within_step n xs ys false e f = ap (λ l. l ++ (48 + n % 10) ∷ []) (f (ltb-false n 10 e))
+
+within_same : (f g n : ℕ) → n < f → n < g → digits_within f n ≡ digits_within g n
+within_same zero g n h k = absurd (omega arith)
+within_same (suc f) zero n h k = absurd (omega arith)
+within_same (suc f) (suc g) n h k = within_step n (digits_within f (n / 10)) (digits_within g (n / 10)) (nat_lt n 10) refl (λ l. within_same f g (n / 10) (omega arith) (omega arith))
+
+pub numeral_low : (n : ℕ) → n < 10 → numeral n ≡ (48 + n) ∷ []
+unfolding numeral
+numeral_low n h = rw (lt-ltb n 10 h) refl
+
+pub numeral_high : (n : ℕ) → 10 ≤ n → numeral n ≡ numeral (n / 10) ++ (48 + n % 10) ∷ []
+unfolding numeral
+numeral_high n h = rw (le-ltb n 10 h) (ap (λ l. l ++ (48 + n % 10) ∷ []) (within_same n (suc (n / 10)) (n / 10) (omega arith) (omega arith)))
+
+-- std's decimal text of a number that a machine holds
+pub numeral_decimal : (n : ℕ) → n < 2 ^ 64 → numeral n ≡ decimal n
+numeral_decimal n h = decimal_by_steps (λ m ds. numeral m ≡ ds) (λ m l. numeral_low m l) (λ m ds l e. numeral_high m l ∙ ap (λ x. x ++ (48 + m % 10) ∷ []) e) n h
+
+-- ---- escapes
+
+-- a byte with a short escape
+record HasLetter (x : ℕ) : Type 0 where
+  above : 0 < escape_letter x
+  back : short_for (escape_letter x) ≡ x
+  low : x < 128
+  seen : 0 < x
+
+letter_cases : (x : ℕ) → HasLetter x ⊎ (escape_letter x ≡ 0)
+letter_cases x =
+    elim (eqb_tells x 34) [
+      | inl a ↦ inl (subst HasLetter (sym a.1) (record { above = omega arith; back = refl; low = omega arith; seen = omega arith }))
+      | inr a ↦ elim (eqb_tells x 92) [
+        | inl b ↦ inl (subst HasLetter (sym b.1) (record { above = omega arith; back = refl; low = omega arith; seen = omega arith }))
+        | inr b ↦ elim (eqb_tells x 8) [
+          | inl d ↦ inl (subst HasLetter (sym d.1) (record { above = omega arith; back = refl; low = omega arith; seen = omega arith }))
+          | inr d ↦ elim (eqb_tells x 12) [
+            | inl f ↦ inl (subst HasLetter (sym f.1) (record { above = omega arith; back = refl; low = omega arith; seen = omega arith }))
+            | inr f ↦ elim (eqb_tells x 10) [
+              | inl g ↦ inl (subst HasLetter (sym g.1) (record { above = omega arith; back = refl; low = omega arith; seen = omega arith }))
+              | inr g ↦ elim (eqb_tells x 13) [
+                | inl h ↦ inl (subst HasLetter (sym h.1) (record { above = omega arith; back = refl; low = omega arith; seen = omega arith }))
+                | inr h ↦ elim (eqb_tells x 9) [
+                  | inl k ↦ inl (subst HasLetter (sym k.1) (record { above = omega arith; back = refl; low = omega arith; seen = omega arith }))
+                  | inr k ↦ inr (rw (a.0, b.0, d.0, f.0, g.0, h.0, k.0) refl)
+                ]
+              ]
+            ]
+          ]
+        ]
+      ]
+    ]
+
+-- the three ways to write a byte
+pub byte_short : (x : ℕ) → 0 < escape_letter x → escaped_byte x ≡ 92 ∷ escape_letter x ∷ []
+unfolding escaped_byte
+byte_short x h = rw (lt-ltb 0 (escape_letter x) h) refl
+
+byte_low : (x : ℕ) → escape_letter x ≡ 0 → x < 32 → escaped_byte x ≡ 92 ∷ 117 ∷ 48 ∷ 48 ∷ digit_char (x / 16) ∷ digit_char (x % 16) ∷ []
+unfolding escaped_byte
+byte_low x e h = rw (le-ltb 0 (escape_letter x) (omega arith), lt-ltb x 32 h) refl
+
+byte_plain : (x : ℕ) → escape_letter x ≡ 0 → 32 ≤ x → escaped_byte x ≡ x ∷ []
+unfolding escaped_byte
+byte_plain x e h = rw (le-ltb 0 (escape_letter x) (omega arith), le-ltb x 32 h) refl
+
+-- a byte that may not stand for itself and has no short escape is a control character
+pub byte_control : (x : ℕ) → x ≢ 34 → x ≢ 92 → x ≢ 8 → x ≢ 12 → x ≢ 10 → x ≢ 13 → x ≢ 9 → is_escaped x ≡ true
+    → escaped_byte x ≡ 92 ∷ 117 ∷ 48 ∷ 48 ∷ digit_char (x / 16) ∷ digit_char (x % 16) ∷ []
+byte_control x a b d f g h k e =
+    let none : escape_letter x ≡ 0 = grind (arith, nat_tests) in
+    let low : x < 32 = grind (arith, nat_tests) in
+    byte_low x none low
+
+-- a byte that may stand for itself does
+byte_itself : (x : ℕ) → is_escaped x ≡ false → escaped_byte x ≡ x ∷ []
+byte_itself x e =
+    let none : escape_letter x ≡ 0 = grind (arith, nat_tests) in
+    let high : 32 ≤ x = grind (arith, nat_tests) in
+    byte_plain x none high
+
+escaped_is_ascii : (x : ℕ) → is_escaped x ≡ true → x < 128
+escaped_is_ascii x e = grind (arith, nat_tests)
+
+-- bytes that stand for themselves, in front of others
+escaped_run : (xs : List ℕ) (i : ℕ) → i ≤ length xs → ((k : ℕ) → k < i → is_escaped (get_or xs k 0) ≡ false) → escaped xs ≡ take i xs ++ escaped (drop i xs)
+escaped_run xs zero h f = refl
+escaped_run [] (suc i) h f = absurd (omega arith)
+escaped_run (x ∷ xs) (suc i) h f =
+    ap (λ l. l ++ escaped xs) (byte_itself x (f 0 (omega arith))) ∙ ap (λ l. x ∷ l) (escaped_run xs i (omega arith) (λ k l. f (suc k) (omega arith)))
+
+-- the first byte that may not stand for itself
+pub record NextEscape (xs : List ℕ) (i : ℕ) : Type 0 where
+  pub inside : i < length xs
+  pub here : is_escaped (get_or xs i 0) ≡ true
+  pub low : get_or xs i 0 < 128
+  pub before : (k : ℕ) → k < i → is_escaped (get_or xs k 0) ≡ false
+
+pub next_escape : (xs : List ℕ) (i : ℕ) → Some i ≡ position is_escaped xs → NextEscape xs i
+next_escape xs i e =
+    let found = position-Some is_escaped xs i 0 (sym e) in
+    record { inside = found.0; here = found.1; low = escaped_is_ascii (get_or xs i 0) found.1; before = found.2 }
+
+-- what is written up to it and with it
+pub run_written : (start mid new xs goal : List ℕ) (i : ℕ) → NextEscape xs i → start ++ escaped xs ≡ goal
+    → mid ≡ start ++ take i xs → new ≡ mid ++ escaped_byte (get_or xs i 0) → new ++ escaped (drop (i + 1) xs) ≡ goal
+run_written start mid new xs goal i n e f g =
+    let x = get_or xs i 0 in
+    let after = escaped (drop (i + 1) xs) in
+    let cut : escaped (drop i xs) ≡ escaped_byte x ++ after = ap escaped (drop-cons xs i 0 n.inside ∙ ap (λ k. x ∷ drop k xs) (sym (add-one i))) in
+    let split : escaped xs ≡ take i xs ++ (escaped_byte x ++ after) = escaped_run xs i (omega (arith, n.inside)) n.before ∙ ap (λ l. take i xs ++ l) cut in
+    ap (λ l. l ++ after) g ∙ (append_assoc mid (escaped_byte x) after ∙ (ap (λ l. l ++ (escaped_byte x ++ after)) f ∙ (append_assoc start (take i xs) (escaped_byte x ++ after) ∙ (ap (λ l. start ++ l) (sym split) ∙ e))))
+
+-- no byte is escaped where none is found
+one_plain : (x : ℕ) (xs : List ℕ) (b : Bool) → is_escaped x ≡ b → suc (length xs) ≤ cond (not b) (1 + prefix_len (λ y. not (is_escaped y)) xs) 0
+    → (length xs ≤ prefix_len (λ y. not (is_escaped y)) xs → escaped xs ≡ xs) → escaped (x ∷ xs) ≡ x ∷ xs
+one_plain x xs true e l f = absurd (omega arith)
+one_plain x xs false e l f = ap (λ b. b ++ escaped xs) (byte_itself x e) ∙ ap (λ b. x ∷ b) (f (omega arith))
+
+all_plain : (xs : List ℕ) → length xs ≤ prefix_len (λ x. not (is_escaped x)) xs → escaped xs ≡ xs
+all_plain [] h = refl
+all_plain (x ∷ xs) h = one_plain x xs (is_escaped x) refl h (all_plain xs)
+
+none_found : (xs : List ℕ) (b : Bool) → nat_lt (position_or_len is_escaped xs) (length xs) ≡ b → None ≡ cond b (Some (position_or_len is_escaped xs)) None → escaped xs ≡ xs
+none_found xs true f g = cc
+none_found xs false f g = all_plain xs (ltb-false (position_or_len is_escaped xs) (length xs) f)
+
+pub none_escaped : (xs : List ℕ) → None ≡ position is_escaped xs → escaped xs ≡ xs
+none_escaped xs e = none_found xs (nat_lt (position_or_len is_escaped xs) (length xs)) refl e
+
+no_letter : (x : ℕ) → 128 ≤ x → escape_letter x ≡ 0
+no_letter x h = elim (letter_cases x) [ inl l ↦ absurd (omega (arith, l.low)) | inr e ↦ e ]
+
+ltb_split : (a b : ℕ) (t : Bool) → nat_lt a b ≡ t → (a < b) ⊎ (b ≤ a)
+ltb_split a b true e = inl (ltb-true a b e)
+ltb_split a b false e = inr (ltb-false a b e)
+
+ltb_cases : (a b : ℕ) → (a < b) ⊎ (b ≤ a)
+ltb_cases a b = ltb_split a b (nat_lt a b) refl
+
+-- a letter that has a short escape isn't among those that have none
+no_such : (x y : ℕ) → escape_letter x ≡ 0 → 0 < escape_letter y → x ≢ y
+no_such x y e h i = let same : escape_letter x ≡ escape_letter y = ap escape_letter i in omega arith
+
+-- ---- what several writes add
+
+-- \u00 and two digits in base 16 are written
+pub control_written : (out front mid new : List ℕ) (x h l : ℕ) → escaped_byte x ≡ 92 ∷ 117 ∷ 48 ∷ 48 ∷ digit_char (x / 16) ∷ digit_char (x % 16) ∷ []
+    → front ≡ out ++ 92 ∷ 117 ∷ 48 ∷ 48 ∷ [] → h ≡ digit_char (x / 16) → h < 128 → mid ≡ front ++ encode_utf8 h → l ≡ digit_char (x % 16) → l < 128
+    → new ≡ mid ++ encode_utf8 l → new ≡ out ++ escaped_byte x
+control_written out front mid new x h l is e i k f j m g =
+    let high : encode_utf8 h ≡ h ∷ [] = encode_ascii h k in
+    let low : encode_utf8 l ≡ l ∷ [] = encode_ascii l m in
+    let whole : escaped_byte x ≡ 92 ∷ 117 ∷ 48 ∷ 48 ∷ h ∷ l ∷ [] = is ∙ (ap (λ y. 92 ∷ 117 ∷ 48 ∷ 48 ∷ y ∷ digit_char (x % 16) ∷ []) (sym i) ∙ ap (λ y. 92 ∷ 117 ∷ 48 ∷ 48 ∷ h ∷ y ∷ []) (sym j)) in
+    let seam : mid ≡ out ++ 92 ∷ 117 ∷ 48 ∷ 48 ∷ h ∷ [] = f ∙ (ap (λ y. y ++ encode_utf8 h) e ∙ (append_assoc out (92 ∷ 117 ∷ 48 ∷ 48 ∷ []) (encode_utf8 h) ∙ ap (λ y. out ++ 92 ∷ 117 ∷ 48 ∷ 48 ∷ y) high)) in
+    g ∙ (ap (λ y. y ++ encode_utf8 l) seam ∙ (append_assoc out (92 ∷ 117 ∷ 48 ∷ 48 ∷ h ∷ []) (encode_utf8 l) ∙ ap (λ y. out ++ y) (ap (λ y. 92 ∷ 117 ∷ 48 ∷ 48 ∷ h ∷ y) low ∙ sym whole)))
+
+-- ---- a string stands for its bytes
+
+record SpellsByte (x : ℕ) : Type 0 where
+  piece : Piece
+  right : IsPiece piece
+  spelled : (rest : List ℕ) → escaped_byte x ++ rest ≡ written piece rest
+  means : meant piece ≡ x ∷ []
+
+low_byte : (x : ℕ) → escape_letter x ≡ 0 → x < 32 → SpellsByte x
+low_byte x e h =
+    let high : digit_value (digit_char (x / 16)) ≡ x / 16 = digit_value-digit_char (x / 16) (omega arith) in
+    let low : digit_value (digit_char (x % 16)) ≡ x % 16 = digit_value-digit_char (x % 16) (omega arith) in
+    let value : hex 48 48 (digit_char (x / 16)) (digit_char (x % 16)) ≡ x = omega (arith, high, low) in
+    record {
+      piece = unit 48 48 (digit_char (x / 16)) (digit_char (x % 16));
+      right = ((omega arith, omega arith, omega (arith, high), omega (arith, low)), inl (omega (arith, value)));
+      spelled = λ rest. ap (λ l. l ++ rest) (byte_low x e h);
+      means = ap encode_utf8 value ∙ encode_ascii x (omega arith);
+    }
+
+spells_byte : (x : ℕ) → SpellsByte x
+spells_byte x = elim (letter_cases x) [
+  | inl l ↦ record {
+    piece = short (escape_letter x);
+    right = λ z. absurd (omega (arith, l.back, l.seen, z));
+    spelled = λ rest. ap (λ t. t ++ rest) (byte_short x l.above);
+    means = ap (λ n. n ∷ []) l.back;
+  }
+  | inr e ↦ elim (ltb_cases x 32) [
+    | inl h ↦ low_byte x e h
+    | inr h ↦ record {
+      piece = plain x;
+      right = (h, no_such x 34 e (omega arith), no_such x 92 e (omega arith));
+      spelled = λ rest. ap (λ t. t ++ rest) (byte_plain x e h);
+      means = refl;
+    }
+  ]
+]
+
+record SpellsAll (s : List ℕ) : Type 0 where
+  pieces : List Piece
+  right : ArePieces pieces
+  spelled : (rest : List ℕ) → escaped s ++ rest ≡ all_written pieces rest
+  means : all_meant pieces ≡ s
+
+spells_all : (s : List ℕ) → SpellsAll s
+spells_all [] = record { pieces = []; right = tt; spelled = λ rest. refl; means = refl }
+spells_all (x ∷ s) =
+    let b = spells_byte x in
+    let r = spells_all s in
+    record {
+      pieces = b.piece ∷ r.pieces;
+      right = (b.right, r.right);
+      spelled = λ rest. append_assoc (escaped_byte x) (escaped s) rest ∙ (b.spelled (escaped s ++ rest) ∙ ap (written b.piece) (r.spelled rest));
+      means = ap (λ l. l ++ all_meant r.pieces) b.means ∙ ap (λ l. x ∷ l) r.means;
+    }
+
+string_spelled : (s rest : List ℕ) → IsString s (quoted s ++ rest) rest
+string_spelled s rest =
+    let r = spells_all s in
+    record {
+      pieces = r.pieces;
+      right = r.right;
+      spelled = ap (λ l. 34 ∷ l) (append_assoc (escaped s) (34 ∷ []) rest ∙ r.spelled (34 ∷ rest));
+      means = r.means;
+    }
+
+-- ---- values
+
+at_once : (t : Token) (bytes rest : List ℕ) → Begins t bytes rest → Next t bytes rest
+at_once t bytes rest b = record { space = []; blank = tt; after = bytes; spaced = refl; begins = b }
+
+-- a space in front changes nothing
+after_space : (ts : List Token) (bytes : List ℕ) → AreTokens ts bytes → AreTokens ts (32 ∷ bytes)
+after_space [] bytes r = (inl refl, r)
+after_space (t ∷ ts) bytes r =
+    (r.0, record { space = 32 ∷ r.1.space; blank = (inl refl, r.1.blank); after = r.1.after; spaced = ap (λ l. 32 ∷ l) r.1.spaced; begins = r.1.begins }, r.2)
+
+put : (x : ℕ) (ts : List Token) (bytes : List ℕ) → IsMark x → AreTokens ts bytes → AreTokens (mark x ∷ ts) (x ∷ bytes)
+put x ts bytes m r = (bytes, at_once (mark x) (x ∷ bytes) bytes (m, refl), r)
+
+more_items_end : (is : Items) (rest : List ℕ) → NoDigitNext (more_items_text is ++ rest)
+more_items_end no_items rest = inr (omega arith)
+more_items_end (item v more) rest = inl (omega arith)
+
+more_members_end : (ms : Members) (rest : List ℕ) → NoDigitNext (more_members_text ms ++ rest)
+more_members_end no_members rest = inr (omega arith)
+more_members_end (member k v more) rest = inl (omega arith)
+
+-- a key, a colon, a space and a value
+key_spelled : (k : List ℕ) (v : Json) (more : Members) (ts : List Token) (rest : List ℕ) → AreTokens (tokens_then v (more_members_then more ts)) (json_text v ++ (more_members_text more ++ rest))
+    → AreTokens (text k ∷ mark 58 ∷ tokens_then v (more_members_then more ts)) ((quoted k ++ (58 ∷ 32 ∷ (json_text v ++ more_members_text more))) ++ rest)
+key_spelled k v more ts rest r =
+    let us : List Token = tokens_then v (more_members_then more ts) in
+    let tail : List ℕ = (json_text v ++ more_members_text more) ++ rest in
+    let colon : AreTokens (mark 58 ∷ us) (58 ∷ 32 ∷ tail) = put 58 us (32 ∷ tail) (inr (inl refl)) (after_space us tail (subst (AreTokens us) (sym (append_assoc (json_text v) (more_members_text more) rest)) r)) in
+    let key : AreTokens (text k ∷ mark 58 ∷ us) (quoted k ++ (58 ∷ 32 ∷ tail)) = (58 ∷ 32 ∷ tail, at_once (text k) (quoted k ++ (58 ∷ 32 ∷ tail)) (58 ∷ 32 ∷ tail) (string_spelled k (58 ∷ 32 ∷ tail)), colon) in
+    subst (AreTokens (text k ∷ mark 58 ∷ us)) (sym (append_assoc (quoted k) (58 ∷ 32 ∷ (json_text v ++ more_members_text more)) rest)) key
+
+mutual
+  value_spelled : (v : Json) (ts : List Token) (rest : List ℕ) → NoDigitNext rest → AreTokens ts rest → AreTokens (tokens_then v ts) (json_text v ++ rest)
+  value_spelled (number n) ts rest h r = (rest, at_once (whole n) (numeral n ++ rest) rest (number_spelled n rest h), r)
+  value_spelled (string s) ts rest h r = (rest, at_once (text s) (quoted s ++ rest) rest (string_spelled s rest), r)
+  value_spelled (array is) ts rest h r = put 91 (items_then is ts) (items_text is ++ rest) (inr (inr (inl refl))) (items_spelled is ts rest r)
+  value_spelled (object ms) ts rest h r = put 123 (members_then ms ts) (members_text ms ++ rest) (inr (inr (inr (inr (inl refl))))) (members_spelled ms ts rest r)
+
+  items_spelled : (is : Items) (ts : List Token) (rest : List ℕ) → AreTokens ts rest → AreTokens (items_then is ts) (items_text is ++ rest)
+  items_spelled no_items ts rest r = put 93 ts rest (inr (inr (inr (inl refl)))) r
+  items_spelled (item v more) ts rest r =
+      subst (AreTokens (tokens_then v (more_items_then more ts))) (sym (append_assoc (json_text v) (more_items_text more) rest))
+      (value_spelled v (more_items_then more ts) (more_items_text more ++ rest) (more_items_end more rest) (more_items_spelled more ts rest r))
+
+  more_items_spelled : (is : Items) (ts : List Token) (rest : List ℕ) → AreTokens ts rest → AreTokens (more_items_then is ts) (more_items_text is ++ rest)
+  more_items_spelled no_items ts rest r = put 93 ts rest (inr (inr (inr (inl refl)))) r
+  more_items_spelled (item v more) ts rest r =
+      put 44 (tokens_then v (more_items_then more ts)) ((json_text v ++ more_items_text more) ++ rest) (inl refl)
+      (subst (AreTokens (tokens_then v (more_items_then more ts))) (sym (append_assoc (json_text v) (more_items_text more) rest))
+      (value_spelled v (more_items_then more ts) (more_items_text more ++ rest) (more_items_end more rest) (more_items_spelled more ts rest r)))
+
+  members_spelled : (ms : Members) (ts : List Token) (rest : List ℕ) → AreTokens ts rest → AreTokens (members_then ms ts) (members_text ms ++ rest)
+  members_spelled no_members ts rest r = put 125 ts rest (inr (inr (inr (inr (inr refl))))) r
+  members_spelled (member k v more) ts rest r =
+      key_spelled k v more ts rest (value_spelled v (more_members_then more ts) (more_members_text more ++ rest) (more_members_end more rest) (more_members_spelled more ts rest r))
+
+  more_members_spelled : (ms : Members) (ts : List Token) (rest : List ℕ) → AreTokens ts rest → AreTokens (more_members_then ms ts) (more_members_text ms ++ rest)
+  more_members_spelled no_members ts rest r = put 125 ts rest (inr (inr (inr (inr (inr refl))))) r
+  more_members_spelled (member k v more) ts rest r =
+      put 44 (text k ∷ mark 58 ∷ tokens_then v (more_members_then more ts)) _ (inl refl)
+      (key_spelled k v more ts rest (value_spelled v (more_members_then more ts) (more_members_text more ++ rest) (more_members_end more rest) (more_members_spelled more ts rest r)))
+
+pub spelling_denotes_lem : (v : Json) → Denotes (json_text v) v
+spelling_denotes_lem v = subst (AreTokens (tokens_then v [])) (append-nil (json_text v)) (value_spelled v [] [] tt tt)

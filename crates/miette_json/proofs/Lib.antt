@@ -1,0 +1,4 @@
+pub mod JsonSpelled
+pub mod JsonUnique
+pub mod JsonJoined
+pub mod JsonAnswers

@@ -1,0 +1,14 @@
+use Rattle.std.proofs.Common.{[], ◌∷◌, codes, ap, sym, ◌++◌, string_bytes}
+use Rattle.miette_json.specs.Json.{json_text}
+use Rattle.miette_json.specs.JsonReport.{span_json}
+use Rattle.miette_json.specs.JsonText.{label_start}
+use Rattle.miette_json.proofs.JsonJoined.{step, last_step, label_parts}
+use Rattle.miette_json.proofs.report.push_label.Goals as goal
+
+pub returns : goal.returns
+returns c =
+    let label = c.args.label.now in
+    let parts = ap (λ l. string_bytes c.args.out.now ++ l) (sym (label_parts (codes "label") (codes "span") label.text (span_json label.span))) in
+    let a = step _ _ (label_start label.text) (json_text (span_json label.span) ++ 125 ∷ []) _ parts c.in_ok-push_label_start.ensures in
+    let b = step _ _ (json_text (span_json label.span)) (125 ∷ []) _ a c.in_ok-push_span.ensures in
+    last_step _ _ (125 ∷ []) _ b c.in_ok-push_str.ensures.bytes

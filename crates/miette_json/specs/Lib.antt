@@ -1,0 +1,5 @@
+pub mod Json
+pub mod Denotes
+pub mod Reads
+pub mod JsonReport
+pub mod JsonText

@@ -1,0 +1,89 @@
+//! The JSON report.
+
+ghost use Rattle.std.specs.Prelude.{◌≡◌, ◌++◌, List, ℕ, IfOk, OnOk, OnErr, string_bytes};
+ghost use Rattle.miette_tree.specs.Report.{tree_of};
+ghost use Rattle.miette_json.specs.Json.{json_text};
+ghost use Rattle.miette_json.specs.Reads.{AlwaysReads};
+ghost use Rattle.miette_json.specs.JsonReport.{value_of};
+ghost use Rattle.miette_json.specs.JsonText.{IsJsonOf};
+ghost use Rattle.miette_tree.specs.Handler.{AppendsOne};
+
+use crate::laws;
+use crate::report::push_report;
+use miette_protocol::error::RenderError;
+use miette_protocol::protocol::Diagnostic;
+use miette_protocol::source::SourceCode;
+use miette_tree::report::Report;
+use miette_tree::report_handler::{ReportHandler, append_whole};
+use std::alloc::{AllocError, Global};
+
+/// The handler that gives a report as JSON (RFC 8259), for editors and build servers: one object, without a line feed at
+/// its end. There is nothing to set.
+#[derive(Clone, Debug, Default, Drop)]
+pub struct JSONReportHandler;
+
+impl JSONReportHandler {
+    /// The handler.
+    pub fn new() -> Self {
+        JSONReportHandler
+    }
+
+    /// Appends the report's JSON text. After an error, which is want of memory, `out` is as before.
+    pub fn render_report(&self, report: &Report, out: &mut String) -> Result<(), RenderError>
+        // The text is the spelling of a value that the report has; it stands for that value, and for no other.
+        ensures text { let tree = tree_of ⟦<Box<dyn Diagnostic> as Diagnostic>⟧.meaning ⟦<Box<dyn SourceCode> as SourceCode>⟧.source report.now in
+            OnOk result (AppendsOne (IsJsonOf tree) (string_bytes out.old) (string_bytes out.new)) }
+        // Where its sources always read, there is one such value.
+        ensures value { let tree = tree_of ⟦<Box<dyn Diagnostic> as Diagnostic>⟧.meaning ⟦<Box<dyn SourceCode> as SourceCode>⟧.source report.now in
+            OnOk result (AlwaysReads tree → string_bytes out.new ≡ string_bytes out.old ++ json_text (value_of tree)) }
+        ensures memory { OnErr result (result ≡ Err RenderError.Memory) }
+        ensures err { OnErr result (string_bytes out.new ≡ string_bytes out.old) }
+    {
+        render(report, out)
+    }
+}
+
+impl ReportHandler for JSONReportHandler {
+    ghost gives = { λ _. IsJsonOf };
+
+    ghost refuses = { λ _ _. ⊥ };
+
+    fn debug<D: Diagnostic, S: SourceCode>(
+        &mut self,
+        report: &Report<D, S>,
+        out: &mut String,
+    ) -> Result<(), RenderError> {
+        render::<D, S>(report, out)
+    }
+}
+
+/// Appends the JSON text of a report of boxes of any kind.
+fn render<D: Diagnostic, S: SourceCode>(
+    report: &Report<D, S>,
+    out: &mut String,
+) -> Result<(), RenderError>
+    ensures text { OnOk result (AppendsOne (IsJsonOf (tree_of D.meaning S.source report.now)) (string_bytes out.old) (string_bytes out.new)) }
+    ensures value { OnOk result (AlwaysReads (tree_of D.meaning S.source report.now)
+        → string_bytes out.new ≡ string_bytes out.old ++ json_text (value_of (tree_of D.meaning S.source report.now))) }
+    ensures memory { OnErr result (result ≡ Err RenderError.Memory) }
+    ensures err { OnErr result (string_bytes out.new ≡ string_bytes out.old) }
+{
+    match json_of(*out.allocator(), report) {
+        Ok(text) => append_whole(text.as_str(), out),
+        Err(AllocError) => Err(RenderError::Memory),
+    }
+}
+
+/// The JSON text of a report.
+fn json_of<D: Diagnostic, S: SourceCode>(
+    alloc: Global,
+    report: &Report<D, S>,
+) -> Result<String, AllocError>
+    ensures { IfOk result (λ text. IsJsonOf (tree_of D.meaning S.source report.now) (string_bytes text)) }
+{
+    laws::the_spelling_denotes_its_value();
+    laws::a_text_denotes_one_value();
+    let mut text = String::new(alloc);
+    push_report(report, None, &mut text)?;
+    Ok(text)
+}

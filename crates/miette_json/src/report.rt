@@ -1,0 +1,242 @@
+//! The JSON text of a report, part by part: head, reasons, places, related reports.
+
+ghost use Rattle.std.specs.Prelude.{◌≡◌, ◌∷◌, [], ◌++◌, if◌then◌else◌, Some, OnOk, string_bytes, map};
+ghost use Rattle.std.specs.Option.{option_map, option_copied};
+ghost use Rattle.miette_tree.specs.Tree.{head, cause_of, causes_of, trees};
+ghost use Rattle.miette_tree.specs.Report.{tree_of};
+ghost use Rattle.miette_tree.specs.Owned.{shown_source};
+ghost use Rattle.miette_json.specs.Json.{json_text, items_text};
+ghost use Rattle.miette_json.specs.JsonReport.{strings, span_json, label_json, labels_json};
+ghost use Rattle.miette_json.specs.JsonText.{key_text, maybe_text, rest_text, head_text, reasons_text, label_start, NamesFile, AppendsPlaces, AppendsReport, AppendsRelated};
+
+use crate::text::{push_number, push_quoted};
+use miette_protocol::protocol::{Diagnostic, LabeledSpan};
+use miette_protocol::source::SourceCode;
+use miette_tree::parts::{cause_texts, labels_of, own_or, severity_name};
+use miette_tree::report::{Cause, Report, SourceRef};
+use std::alloc::AllocError;
+
+/// Appends the object of a report that inherits a source, or none.
+#[cycle(report)]
+pub(crate) fn push_report<'a, D: Diagnostic, S: SourceCode>(
+    report: &'a Report<D, S>,
+    inherited: Option<SourceRef<'a, S>>,
+    out: &mut String,
+) -> Result<(), AllocError>
+    ensures { OnOk result (AppendsReport (option_map (shown_source S.source) inherited.entry) (tree_of D.meaning S.source report.now) (string_bytes out.old) (string_bytes out.new)) }
+{
+    let source = own_or(report, inherited);
+    push_head(report, out)?;
+    push_reasons(report, out)?;
+    push_places(labels_of(report), source, out)?;
+    push_key(out, "related")?;
+    out.push_str("[")?;
+    push_related(report.related(), source, out)?;
+    out.push_str("}")?;
+    Ok(())
+}
+
+/// Appends the objects of related reports, and the end of their list.
+#[cycle(report)]
+fn push_related<'a, D: Diagnostic, S: SourceCode>(
+    reports: &'a [Report<D, S>],
+    source: Option<SourceRef<'a, S>>,
+    out: &mut String,
+) -> Result<(), AllocError>
+    ensures { OnOk result (AppendsRelated (option_map (shown_source S.source) source.entry) (trees (map (tree_of D.meaning S.source) reports.now)) (string_bytes out.old) (string_bytes out.new)) }
+{
+    let mut first = true;
+    for report in reports {
+        push_comma(out, first)?;
+        push_report(report, source, out)?;
+        first = false;
+    }
+    out.push_str("]")?;
+    Ok(())
+}
+
+/// `{"message": "m","code": "c","severity": "error"`
+fn push_head<D: Diagnostic, S: SourceCode>(
+    report: &Report<D, S>,
+    out: &mut String,
+) -> Result<(), AllocError>
+    ensures { OnOk result (string_bytes out.new ≡ string_bytes out.old ++ head_text (head (tree_of D.meaning S.source report.now))) }
+{
+    out.push_str("{")?;
+    push_quoted(out, "message")?;
+    out.push_str(": ")?;
+    push_quoted(out, report.message())?;
+    push_maybe(out, "code", report.code())?;
+    push_key(out, "severity")?;
+    push_quoted(out, severity_name(report.severity()))?;
+    Ok(())
+}
+
+/// `,"causes": ["a","b"],"url": "u","help": "h"`
+fn push_reasons<D: Diagnostic, S: SourceCode>(
+    report: &Report<D, S>,
+    out: &mut String,
+) -> Result<(), AllocError>
+    ensures { OnOk result (string_bytes out.new ≡ string_bytes out.old
+        ++ reasons_text (causes_of (cause_of (tree_of D.meaning S.source report.now))) (head (tree_of D.meaning S.source report.now))) }
+{
+    push_key(out, "causes")?;
+    out.push_str("[")?;
+    push_causes(report, out)?;
+    push_maybe(out, "url", report.url())?;
+    push_maybe(out, "help", report.help())
+}
+
+/// `"a","b"]`: the causes of a report, and the end of their list.
+fn push_causes<D: Diagnostic, S: SourceCode>(
+    report: &Report<D, S>,
+    out: &mut String,
+) -> Result<(), AllocError>
+    ensures { OnOk result (string_bytes out.new ≡ string_bytes out.old ++ items_text (strings (causes_of (cause_of (tree_of D.meaning S.source report.now))))) }
+{
+    let mut at = report;
+    let mut first = true;
+    while let Cause::Diagnostic(next) = at.cause() {
+        push_comma(out, first)?;
+        push_quoted(out, next.message())?;
+        first = false;
+        at = next;
+    }
+    push_texts(cause_texts(at), first, out)
+}
+
+/// Texts in a list, after its first item or as its first ones, and the end of the list.
+fn push_texts(texts: &[String], mut first: bool, out: &mut String) -> Result<(), AllocError>
+    ensures { OnOk result (string_bytes out.new ≡ string_bytes out.old ++ rest_text first (strings (map string_bytes texts.now))) }
+{
+    for text in texts {
+        push_comma(out, first)?;
+        push_quoted(out, text.as_str())?;
+        first = false;
+    }
+    out.push_str("]")
+}
+
+/// `,"filename": "f","labels": [..]`
+fn push_places<S: SourceCode>(
+    labels: &[LabeledSpan],
+    source: Option<SourceRef<'_, S>>,
+    out: &mut String,
+) -> Result<(), AllocError>
+    ensures { OnOk result (AppendsPlaces (option_map (shown_source S.source) source.entry) labels.now (string_bytes out.old) (string_bytes out.new)) }
+{
+    push_maybe(out, "filename", file_name_for(labels, source))?;
+    push_key(out, "labels")?;
+    out.push_str("[")?;
+    push_labels(labels, out)?;
+    Ok(())
+}
+
+/// The file name, where there is a source.
+fn file_name_for<'a, S: SourceCode>(
+    labels: &[LabeledSpan],
+    source: Option<SourceRef<'a, S>>,
+) -> Option<&'a str>
+    ensures { NamesFile (option_map (shown_source S.source) source.entry) labels.now (option_copied result) }
+{
+    match source {
+        Some(source) => Some(name_from(labels, source)),
+        None => None,
+    }
+}
+
+/// The name that a source's read of the first label answers, without context; empty where it is refused, where there is
+/// no name, and where there is no label.
+fn name_from<'a, S: SourceCode>(labels: &[LabeledSpan], source: SourceRef<'a, S>) -> &'a str
+    ensures { NamesFile (Some (shown_source S.source source.entry)) labels.now (Some result.now) }
+{
+    let Some(label) = labels.first() else {
+        return "";
+    };
+    match source.read_span(label.inner(), 0, 0) {
+        Ok(contents) => contents.name().unwrap_or(""),
+        Err(_) => "",
+    }
+}
+
+/// Labels as the items of a list, and its end.
+fn push_labels(labels: &[LabeledSpan], out: &mut String) -> Result<(), AllocError>
+    ensures { OnOk result (string_bytes out.new ≡ string_bytes out.old ++ items_text (labels_json labels.now)) }
+{
+    let mut first = true;
+    for label in labels {
+        push_comma(out, first)?;
+        push_label(label, out)?;
+        first = false;
+    }
+    out.push_str("]")
+}
+
+/// `{"label": "x","span": {"offset": 9,"length": 1}}`
+fn push_label(label: &LabeledSpan, out: &mut String) -> Result<(), AllocError>
+    ensures { OnOk result (string_bytes out.new ≡ string_bytes out.old ++ json_text (label_json label.now)) }
+{
+    push_label_start(label, out)?;
+    push_span(label, out)?;
+    out.push_str("}")?;
+    Ok(())
+}
+
+/// `{"label": "x","span": `
+fn push_label_start(label: &LabeledSpan, out: &mut String) -> Result<(), AllocError>
+    ensures { OnOk result (string_bytes out.new ≡ string_bytes out.old ++ label_start label.now.text) }
+{
+    out.push_str("{")?;
+    if let Some(text) = label.label() {
+        push_quoted(out, "label")?;
+        out.push_str(": ")?;
+        push_quoted(out, text)?;
+        out.push_str(",")?;
+    }
+    push_quoted(out, "span")?;
+    out.push_str(": ")
+}
+
+/// `{"offset": 9,"length": 1}`
+fn push_span(label: &LabeledSpan, out: &mut String) -> Result<(), AllocError>
+    ensures { OnOk result (string_bytes out.new ≡ string_bytes out.old ++ json_text (span_json label.now.span)) }
+{
+    out.push_str("{")?;
+    push_quoted(out, "offset")?;
+    out.push_str(": ")?;
+    push_number(out, label.offset())?;
+    push_key(out, "length")?;
+    push_number(out, label.len())?;
+    out.push_str("}")?;
+    Ok(())
+}
+
+/// A comma, the key, and what stands between a key and its value.
+fn push_key(out: &mut String, key: &str) -> Result<(), AllocError>
+    ensures { OnOk result (string_bytes out.new ≡ string_bytes out.old ++ key_text key.now) }
+{
+    out.push_str(",")?;
+    push_quoted(out, key)?;
+    out.push_str(": ")
+}
+
+/// A member with a text after another, where there is a text.
+fn push_maybe(out: &mut String, key: &str, text: Option<&str>) -> Result<(), AllocError>
+    ensures { OnOk result (string_bytes out.new ≡ string_bytes out.old ++ maybe_text key.now (option_copied text.entry)) }
+{
+    if let Some(text) = text {
+        push_key(out, key)?;
+        push_quoted(out, text)?;
+    }
+    Ok(())
+}
+
+/// A comma, but not before the first item of a list.
+fn push_comma(out: &mut String, first: bool) -> Result<(), AllocError>
+    ensures { OnOk result (string_bytes out.new ≡ string_bytes out.old ++ (if first then [] else 44 ∷ [])) }
+{
+    if !first {
+        out.push_str(",")?;
+    }
+    Ok(())
+}

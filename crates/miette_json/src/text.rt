@@ -1,0 +1,86 @@
+//! Numbers and strings as JSON, appended to a text.
+
+ghost use Rattle.std.specs.Prelude.{◌≡◌, ◌<◌, ◌++◌, true, OnOk, position, string_bytes};
+ghost use Rattle.std.specs.Char.{digit_char};
+ghost use Rattle.miette_json.specs.Json.{numeral, is_escaped, escaped_byte, escaped, quoted};
+
+use std::alloc::AllocError;
+
+/// Appends a number in decimal.
+pub(crate) fn push_number(out: &mut String, n: usize) -> Result<(), AllocError>
+    ensures { OnOk result (string_bytes out.new ≡ string_bytes out.old ++ numeral n) }
+{
+    write!(out, "{n}")
+}
+
+/// Appends a string in quotes, with its escapes.
+pub(crate) fn push_quoted(out: &mut String, text: &str) -> Result<(), AllocError>
+    ensures { OnOk result (string_bytes out.new ≡ string_bytes out.old ++ quoted text.now) }
+{
+    out.push_str("\"")?;
+    push_escaped(out, text)?;
+    out.push_str("\"")
+}
+
+/// Appends a text with its escapes: what needs none is copied at once.
+fn push_escaped(out: &mut String, text: &str) -> Result<(), AllocError>
+    ensures { OnOk result (string_bytes out.new ≡ string_bytes out.old ++ escaped text.now) }
+{
+    let mut rest = text;
+    while let Some(at) = first_escape(rest) {
+        out.push_str(&rest[..at])?;
+        push_escape(out, rest.as_bytes()[at])?;
+        rest = &rest[at + 1..];
+    }
+    out.push_str(rest)
+}
+
+/// Where the first byte stands that may not stand for itself.
+fn first_escape(text: &str) -> Option<usize>
+    ensures { result ≡ position is_escaped text.now }
+{
+    text.as_bytes().iter().position(|b| needs_escape(*b))
+}
+
+/// Whether a byte may not stand for itself in a string.
+fn needs_escape(byte: u8) -> bool
+    ensures { result ≡ is_escaped byte }
+{
+    byte < b' ' || byte == b'"' || byte == b'\\'
+}
+
+/// Appends what stands in a string for a byte that may not stand for itself.
+#[tactic(auto, using(crate::proofs::JsonSpelled::byte_short, crate::proofs::JsonSpelled::byte_control))]
+fn push_escape(out: &mut String, byte: u8) -> Result<(), AllocError>
+    requires { is_escaped byte ≡ true }
+    ensures { OnOk result (string_bytes out.new ≡ string_bytes out.old ++ escaped_byte byte) }
+{
+    match byte {
+        b'"' => out.push_str("\\\""),
+        b'\\' => out.push_str("\\\\"),
+        b'\n' => out.push_str("\\n"),
+        b'\r' => out.push_str("\\r"),
+        b'\t' => out.push_str("\\t"),
+        0x08 => out.push_str("\\b"),
+        0x0c => out.push_str("\\f"),
+        _ => {
+            out.push_str("\\u00")?;
+            out.push(hex_digit(byte / 16))?;
+            out.push(hex_digit(byte % 16))?;
+            Ok(())
+        }
+    }
+}
+
+/// The digit in base 16, in lower case.
+fn hex_digit(n: u8) -> char
+    requires { n < 16 }
+    ensures digit { result ≡ digit_char n }
+    ensures low { result < 128 }
+{
+    if n < 10 {
+        (b'0' + n) as char
+    } else {
+        (b'a' + (n - 10)) as char
+    }
+}

@@ -1,0 +1,117 @@
+//! What every handler offers.
+
+ghost use Rattle.std.specs.Prelude.{◌≡◌, ◌++◌, List, ℕ, IfOk, OnOk, OnErr, string_bytes};
+ghost use Rattle.miette_tree.specs.Tree.{Tree, cause_of, causes_of};
+ghost use Rattle.miette_tree.specs.Report.{tree_of};
+ghost use Rattle.miette_tree.specs.Displayed.{displayed, behind_colons};
+ghost use Rattle.miette_tree.specs.Handler.{AppendsOne};
+
+use crate::parts::cause_texts;
+use crate::report::{Cause, Report};
+use miette_protocol::error::RenderError;
+use miette_protocol::protocol::Diagnostic;
+use miette_protocol::source::SourceCode;
+use std::alloc::{AllocError, Global};
+
+/// A handler: it gives the text of a report in its own form.
+pub trait ReportHandler {
+    /// The texts that it may give for a report. It is one text, unless a source may fail to read, or a highlighter isn't blank.
+    ghost gives: { Self → Tree → List ℕ → Type 0 };
+
+    /// For which reports it may answer `Refused`.
+    ghost refuses: { Self → Tree → Type 0 };
+
+    /// What a call keeps of the handler: all of it, unless the handler has a state of its own.
+    ghost keeps: { Self → Self → Type 0 } = { λ old new. new ≡ old };
+
+    /// Appends the report's text; the handler's settings stay. After an error `out` is as before: `Memory` where memory was refused,
+    /// `Refused` where a read of a source was refused for which the text has no row. The JSON and the debug report are never `Refused`.
+    fn debug<D: Diagnostic, S: SourceCode>(
+        &mut self,
+        report: &Report<D, S>,
+        out: &mut String,
+    ) -> Result<(), RenderError>
+        ensures text { OnOk result (AppendsOne (gives self.old (tree_of D.meaning S.source report.now)) (string_bytes out.old) (string_bytes out.new)) }
+        ensures refused { (result ≡ Err RenderError.Refused) → refuses self.old (tree_of D.meaning S.source report.now) }
+        ensures err { OnErr result (string_bytes out.new ≡ string_bytes out.old) }
+        ensures settings { keeps self.old self.new };
+
+    /// Appends the message, or where `alternate` the chain of messages joined by `: `. After an error, which is want of
+    /// memory, `out` is as before.
+    fn display<D: Diagnostic, S: SourceCode>(
+        &self,
+        report: &Report<D, S>,
+        alternate: bool,
+        out: &mut String,
+    ) -> Result<(), RenderError>
+        ensures text { OnOk result (string_bytes out.new ≡ string_bytes out.old
+            ++ displayed alternate (tree_of D.meaning S.source report.now)) }
+        ensures memory { OnErr result (result ≡ Err RenderError.Memory) }
+        ensures err { OnErr result (string_bytes out.new ≡ string_bytes out.old) }
+    {
+        push_displayed(report, alternate, out)
+    }
+}
+
+/// Appends the message, or where `alternate` the chain joined by `: `.
+fn push_displayed<D: Diagnostic, S: SourceCode>(
+    report: &Report<D, S>,
+    alternate: bool,
+    out: &mut String,
+) -> Result<(), RenderError>
+    ensures text { OnOk result (string_bytes out.new ≡ string_bytes out.old ++ displayed alternate (tree_of D.meaning S.source report.now)) }
+    ensures memory { OnErr result (result ≡ Err RenderError.Memory) }
+    ensures err { OnErr result (string_bytes out.new ≡ string_bytes out.old) }
+{
+    match displayed_text(*out.allocator(), report, alternate) {
+        Ok(text) => append_whole(text.as_str(), out),
+        Err(AllocError) => Err(RenderError::Memory),
+    }
+}
+
+/// The message, or where `alternate` the chain joined by `: `.
+fn displayed_text<D: Diagnostic, S: SourceCode>(
+    alloc: Global,
+    report: &Report<D, S>,
+    alternate: bool,
+) -> Result<String, AllocError>
+    ensures { IfOk result (λ text. string_bytes text ≡ displayed alternate (tree_of D.meaning S.source report.now)) }
+{
+    let mut text = String::from_str(alloc, report.message())?;
+    if alternate {
+        push_behind_colons(report, &mut text)?;
+    }
+    Ok(text)
+}
+
+/// Appends the causes of a report, each with `: ` in front.
+fn push_behind_colons<D: Diagnostic, S: SourceCode>(
+    report: &Report<D, S>,
+    out: &mut String,
+) -> Result<(), AllocError>
+    ensures { OnOk result (string_bytes out.new ≡ string_bytes out.old ++ behind_colons (causes_of (cause_of (tree_of D.meaning S.source report.now)))) }
+{
+    let mut at = report;
+    while let Cause::Diagnostic(next) = at.cause() {
+        out.push_str(": ")?;
+        out.push_str(next.message())?;
+        at = next;
+    }
+    for text in cause_texts(at) {
+        out.push_str(": ")?;
+        out.push_str(text.as_str())?;
+    }
+    Ok(())
+}
+
+/// Appends a whole text; after an error, which is want of memory, `out` is as before.
+pub fn append_whole(text: &str, out: &mut String) -> Result<(), RenderError>
+    ensures ok { OnOk result (string_bytes out.new ≡ string_bytes out.old ++ text.now) }
+    ensures memory { OnErr result (result ≡ Err RenderError.Memory) }
+    ensures err { OnErr result (string_bytes out.new ≡ string_bytes out.old) }
+{
+    match out.push_str(text) {
+        Ok(()) => Ok(()),
+        Err(AllocError) => Err(RenderError::Memory),
+    }
+}
