@@ -6,8 +6,8 @@ use Rattle.miette_style.specs.Themes.{Styles, Theme, ansi_styles, ascii_characte
 use Rattle.miette_style.specs.declared.theme.Terminal.{Terminal}
 use Rattle.miette_style.specs.declared.theme.ThemeCharacters.{ThemeCharacters}
 use Rattle.miette_narrated.specs.Report as narrated
-use Rattle.miette_handlers.specs.Handling.{Handling}
-use Rattle.miette_handlers.specs.Settings.{Settings, Urls, default_settings, links_shown}
+use Rattle.miette_graphical.specs.Handling.{Handling}
+use Rattle.miette_graphical.specs.Settings.{Settings, Urls, default_settings, links_shown}
 use Rattle.miette.specs.Options.{Options}
 use Rattle.miette.specs.declared.options.RgbColors.{RgbColors}
 use Rattle.miette.specs.declared.options.RgbColors.TheVariants.{Always, Preferred, Never}

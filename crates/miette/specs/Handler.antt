@@ -2,10 +2,10 @@
 use Rattle.std.specs.Prelude.{◌≡◌, ℕ, Bool, List, false}
 use Rattle.miette_tree.specs.Tree.{Tree}
 use Rattle.miette_narrated.specs.Answered.{IsNarrated, report_accepted}
-use Rattle.miette_handlers.specs.Answered.{IsTextOf}
-use Rattle.miette_handlers.specs.Handling.{draws_plain}
-use Rattle.miette_handlers.specs.Printed.{all_read, printed}
-use Rattle.miette_handlers.specs.Snippets.{drawn_rows}
+use Rattle.miette_graphical.specs.Answered.{IsTextOf}
+use Rattle.miette_graphical.specs.Handling.{draws_plain}
+use Rattle.miette_graphical.specs.Printed.{all_read, printed}
+use Rattle.miette_graphical.specs.Snippets.{drawn_rows}
 use Rattle.miette.specs.declared.options.handler.MietteHandler.{MietteHandler}
 use Rattle.miette.specs.declared.options.handler.MietteHandler.TheVariants.{Graphical, Narrated}
 

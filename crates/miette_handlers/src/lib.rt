@@ -1,13 +1,8 @@
-//! The handlers: from a report to its text.
+//! The handlers, from a report to its text, by the names that users know.
 #![tactic(auto)]
 
 mod debug_handler;
-mod graphical;
 pub mod handlers;
-mod header;
-mod indents;
-pub mod laws;
-mod pen;
-mod printing;
-mod report;
-mod settings;
+
+pub use miette_graphical::laws;
+pub use miette_json::laws as json_laws;

@@ -10,9 +10,9 @@ use Rattle.miette_layout.specs.Groups.{in_order, AreAccepted}
 use Rattle.miette_text.specs.Tame.{is_nil}
 use Rattle.miette_tree.specs.Tree.{Tree, tree, Cause, diagnostic, texts, Trees, no_trees, more_trees, effective}
 use Rattle.miette_tree.specs.Parts.{given_labels}
-use Rattle.miette_handlers.specs.Printed.{Printed, over, printed, printed_causes, printed_related, source_reads, always_reads, all_read}
+use Rattle.miette_graphical.specs.Printed.{Printed, over, printed, printed_causes, printed_related, source_reads, always_reads, all_read}
 use Rattle.miette_json.specs.Reads.{AlwaysReads, CauseAlwaysReads, AllAlwaysRead}
-use Rattle.miette_handlers.specs.Settings.{Settings}
+use Rattle.miette_graphical.specs.Settings.{Settings}
 use Rattle.miette_narrated.specs.Answered as told
 use Rattle.miette_narrated.specs.Report.{Answers, RelatedAnswers, related_answers, first_answers, later_answers}
 

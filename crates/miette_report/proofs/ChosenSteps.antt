@@ -7,14 +7,14 @@ use Rattle.miette_style.specs.declared.theme.Terminal.{Terminal}
 use Rattle.miette_tree.specs.Tree.{Tree}
 use Rattle.miette_narrated.specs.Answered.{report_accepted, report_reads, Appends}
 use Rattle.miette_narrated.specs.Report as narrated
-use Rattle.miette_handlers.specs.Answers.{unlisted}
+use Rattle.miette_graphical.specs.Answers.{unlisted}
 use Rattle.miette_tree.specs.Handler.{AppendsOne}
-use Rattle.miette_handlers.specs.Printed.{all_read, printed}
+use Rattle.miette_graphical.specs.Printed.{all_read, printed}
 use Rattle.miette_json.specs.Reads.{AlwaysReads}
-use Rattle.miette_handlers.specs.Answered as drawn
-use Rattle.miette_handlers.specs.Handling.{Handling, draws_plain}
-use Rattle.miette_handlers.specs.Snippets.{drawn_rows}
-use Rattle.miette_handlers.specs.Text.{report_text}
+use Rattle.miette_graphical.specs.Answered as drawn
+use Rattle.miette_graphical.specs.Handling.{Handling, draws_plain}
+use Rattle.miette_graphical.specs.Snippets.{drawn_rows}
+use Rattle.miette_graphical.specs.Text.{report_text}
 use Rattle.miette_report.specs.Chosen.{IsAsked, IsGiven, MayRefuse, Stays}
 use Rattle.miette_report.specs.Job.{tree_for, IsBuiltText, IsJobText, IsNarrating, IsRefused, Writes}
 use Rattle.miette_report.specs.declared.chosen.Chosen.{Chosen}

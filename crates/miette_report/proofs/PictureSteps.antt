@@ -6,12 +6,12 @@ use Rattle.miette_protocol.specs.declared.error.RenderError.TheVariants.{Refused
 use Rattle.miette_tree.specs.Tree.{Tree}
 use Rattle.miette_style.specs.Themes.{no_styles, styles_of, theme_of, unicode_characters}
 use Rattle.miette_style.specs.declared.theme.GraphicalTheme.{GraphicalTheme}
-use Rattle.miette_handlers.specs.Answers.{unlisted}
-use Rattle.miette_handlers.specs.Printed.{all_read, printed}
-use Rattle.miette_handlers.specs.Handling.{Handling, draws_plain, without_highlighter}
-use Rattle.miette_handlers.specs.Settings.{default_settings}
-use Rattle.miette_handlers.specs.Snippets.{drawn_rows}
-use Rattle.miette_handlers.specs.Text.{report_text}
+use Rattle.miette_graphical.specs.Answers.{unlisted}
+use Rattle.miette_graphical.specs.Printed.{all_read, printed}
+use Rattle.miette_graphical.specs.Handling.{Handling, draws_plain, without_highlighter}
+use Rattle.miette_graphical.specs.Settings.{default_settings}
+use Rattle.miette_graphical.specs.Snippets.{drawn_rows}
+use Rattle.miette_graphical.specs.Text.{report_text}
 use Rattle.miette_report.proofs.AlwaysRead.{printed-reads}
 use Rattle.miette_report.specs.Drawn.{draw_settings, drawn_tree, over_input, IsPicture, IsReadWhole, Pictures}
 

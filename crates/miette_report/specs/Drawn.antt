@@ -6,11 +6,11 @@ use Rattle.miette.specs.Reading.{named, plain_source}
 use Rattle.miette.specs.Tree.{Tree, alone, with_source}
 use Rattle.miette_style.specs.Themes.{characters_of, no_styles, unicode_characters}
 use Rattle.miette_style.specs.declared.theme.ThemeCharacters.{ThemeCharacters}
-use Rattle.miette_handlers.specs.Answers.{unlisted}
-use Rattle.miette_handlers.specs.Printed.{all_read, printed}
-use Rattle.miette_handlers.specs.Settings.{Settings, default_settings}
-use Rattle.miette_handlers.specs.Snippets.{drawn_rows}
-use Rattle.miette_handlers.specs.Text.{report_text}
+use Rattle.miette_graphical.specs.Answers.{unlisted}
+use Rattle.miette_graphical.specs.Printed.{all_read, printed}
+use Rattle.miette_graphical.specs.Settings.{Settings, default_settings}
+use Rattle.miette_graphical.specs.Snippets.{drawn_rows}
+use Rattle.miette_graphical.specs.Text.{report_text}
 use Rattle.miette_report.specs.Words.{AreDrawWords}
 
 -- a label without text where the word is empty

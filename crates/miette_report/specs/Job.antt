@@ -9,13 +9,13 @@ use Rattle.miette_style.specs.declared.theme.Terminal.{Terminal}
 use Rattle.miette_tree.specs.Tree.{Tree}
 use Rattle.miette_narrated.specs.Answered.{report_accepted}
 use Rattle.miette_narrated.specs.Report as narrated
-use Rattle.miette_handlers.specs.Answered.{IsTextOf}
-use Rattle.miette_handlers.specs.Answers.{unlisted}
-use Rattle.miette_handlers.specs.Handling.{draws_plain}
+use Rattle.miette_graphical.specs.Answered.{IsTextOf}
+use Rattle.miette_graphical.specs.Answers.{unlisted}
+use Rattle.miette_graphical.specs.Handling.{draws_plain}
 use Rattle.miette_json.specs.Json.{json_text}
 use Rattle.miette_json.specs.JsonReport.{value_of}
-use Rattle.miette_handlers.specs.Snippets.{drawn_rows}
-use Rattle.miette_handlers.specs.Text.{report_text}
+use Rattle.miette_graphical.specs.Snippets.{drawn_rows}
+use Rattle.miette_graphical.specs.Text.{report_text}
 use Rattle.miette_report.specs.Description.{described}
 use Rattle.miette_report.specs.declared.settings.Choice.{Choice}
 use Rattle.miette_report.specs.declared.settings.Choice.TheVariants.{Build, Json, Debug}

@@ -1,0 +1,146 @@
+-- A whole report without its colours, by induction over the tree.
+use Rattle.std.proofs.Common.{◌≡◌, ℕ, Bool, List, [], ◌++◌, refl, ap, ap₂, ◌∙◌, Option, IfSome, if◌then◌else◌}
+use Rattle.miette_text.specs.Runs.{print}
+use Rattle.miette_text.specs.Cutting.{without_trailing}
+use Rattle.miette_protocol.specs.Meaning.{Meaning}
+use Rattle.miette_protocol.specs.Reading.{Source}
+use Rattle.miette_tree.specs.Tree.{Tree, tree, Cause, diagnostic, texts, Trees, no_trees, more_trees}
+use Rattle.miette_protocol.specs.declared.protocol.Severity.{Severity}
+use Rattle.miette_graphical.proofs.TextLaws.{TextLaws}
+use Rattle.miette_graphical.specs.Settings.{Settings}
+use Rattle.miette_graphical.specs.Answers.{Answer, Answers, RelatedAnswers, own_answer, cause_answers, related_answers, first_answers, later_answers}
+use Rattle.miette_graphical.specs.Indents.{narrowed}
+use Rattle.miette_graphical.specs.Parts.{SnippetRows, header, footer_text, under_arrow, title_text}
+use Rattle.miette_graphical.specs.Text.{ends_there, are_last, only_if, body, inner_text, causes_text, related_text, report_text}
+use Rattle.miette_tree.specs.Tree.{effective}
+use Rattle.miette_layout.specs.Clean.{IsCleanSource}
+use Rattle.miette_graphical.specs.Clean.{AreCleanSettings, IsCleanMeaning, IsCleanTree, IsCleanCause, AreCleanTrees}
+use Rattle.miette_graphical.specs.Colourless.{colourless, unhighlighted_answer, unhighlighted, unhighlighted_related, AreSnippets}
+use Rattle.miette_graphical.proofs.Bare.{own-bare, cause-bare, related-bare, first-bare, later-bare}
+use Rattle.miette_graphical.proofs.Fading.{Fades, fades-to, fades-append, fades-trailing, fades-if, fades-only_if, fades-clean}
+use Rattle.miette_graphical.proofs.PartFading.{narrowed-faded, fades-header, fades-title, fades-footer, fades-under_arrow, fades-cause_texts, effective-clean, fades-body, fades-inner}
+
+module _ (laws : TextLaws) where
+  -- ---- what stands under an arrow
+
+  module _ (rows : SnippetRows) (law : AreSnippets rows) where
+    -- an inner report, whose related reports are already known
+    inner : (s : Settings) (v : Option Severity) (b : Bool) (m : Meaning) (source : Option Source) (a : Answers)
+        (related : Settings → RelatedAnswers → List ℕ) →
+        AreCleanSettings s → IsCleanMeaning m → IfSome source IsCleanSource →
+        Fades (related (narrowed s v b) (related_answers a)) (related (colourless (narrowed s v b)) (unhighlighted_related (related_answers a))) →
+        Fades (inner_text rows (narrowed s v b) m source (own_answer a) (related (narrowed s v b) (related_answers a)))
+        (inner_text rows (narrowed (colourless s) v b) m source (own_answer (unhighlighted a)) (related (narrowed (colourless s) v b) (related_answers (unhighlighted a))))
+    inner s v b m source a related h k j q =
+        fades-to
+        (fades-inner laws rows law (narrowed s v b) m source (own_answer a) (related (narrowed s v b) (related_answers a)) (related (colourless (narrowed s v b)) (unhighlighted_related (related_answers a))) h k j q)
+        (ap (λ n. inner_text rows n m source (unhighlighted_answer (own_answer a)) (related n (unhighlighted_related (related_answers a)))) (narrowed-faded laws s v b h)
+        ∙ ap₂ (λ o r. inner_text rows (narrowed (colourless s) v b) m source o (related (narrowed (colourless s) v b) r)) (own-bare a) (related-bare a))
+
+  -- ---- what is printed without colours, over the answers without pieces
+
+  report-end : (rows : SnippetRows) (s : Settings) (m : Meaning) (own : Option Source) (c : Cause) (r : Trees) (a : Answers) →
+      print (header (colourless s) m)
+      ++ body rows (colourless s) m own (unhighlighted_answer (own_answer a))
+      (only_if s.chain (causes_text rows (colourless s) m.severity own c (unhighlighted (cause_answers a))))
+      (related_text rows (colourless s) m.severity own r (unhighlighted_related (related_answers a)))
+      ++ footer_text (colourless s)
+      ≡ report_text rows (colourless s) (tree m own c r) (unhighlighted a)
+  report-end rows s m own c r a =
+      let f = λ (o : Answer) (below : Answers) (beside : RelatedAnswers).
+      print (header (colourless s) m)
+      ++ body rows (colourless s) m own o (only_if s.chain (causes_text rows (colourless s) m.severity own c below)) (related_text rows (colourless s) m.severity own r beside)
+      ++ footer_text (colourless s) in
+      ap₂ (λ o below. f o below (unhighlighted_related (related_answers a))) (own-bare a) (cause-bare a)
+      ∙ ap (f (own_answer (unhighlighted a)) (cause_answers (unhighlighted a))) (related-bare a)
+
+  related-end : (rows : SnippetRows) (s : Settings) (m : Meaning) (outer : Option Severity) (source inherited : Option Source) (c : Cause) (r ts : Trees) (more : RelatedAnswers) →
+      (if s.nested then
+      under_arrow (colourless s) outer (are_last ts)
+      (without_trailing (inner_text rows (narrowed (colourless s) outer (are_last ts)) m source (own_answer (unhighlighted (first_answers more)))
+      (related_text rows (narrowed (colourless s) outer (are_last ts)) m.severity source r (related_answers (unhighlighted (first_answers more))))))
+      else title_text (colourless s) m ++ body rows (colourless s) m source (unhighlighted_answer (own_answer (first_answers more)))
+      (causes_text rows (colourless s) m.severity source c (unhighlighted (cause_answers (first_answers more))))
+      (related_text rows (colourless s) m.severity source r (unhighlighted_related (related_answers (first_answers more)))))
+      ++ related_text rows (colourless s) outer inherited ts (unhighlighted_related (later_answers more))
+      ≡ (if s.nested then
+      under_arrow (colourless s) outer (are_last ts)
+      (without_trailing (inner_text rows (narrowed (colourless s) outer (are_last ts)) m source (own_answer (first_answers (unhighlighted_related more)))
+      (related_text rows (narrowed (colourless s) outer (are_last ts)) m.severity source r (related_answers (first_answers (unhighlighted_related more))))))
+      else title_text (colourless s) m ++ body rows (colourless s) m source (own_answer (first_answers (unhighlighted_related more)))
+      (causes_text rows (colourless s) m.severity source c (cause_answers (first_answers (unhighlighted_related more))))
+      (related_text rows (colourless s) m.severity source r (related_answers (first_answers (unhighlighted_related more)))))
+      ++ related_text rows (colourless s) outer inherited ts (later_answers (unhighlighted_related more))
+  related-end rows s m outer source inherited c r ts more =
+      let f = λ (o : Answer) (below : Answers) (beside : RelatedAnswers) (nested : Answers) (later : RelatedAnswers).
+      (if s.nested then
+      under_arrow (colourless s) outer (are_last ts)
+      (without_trailing (inner_text rows (narrowed (colourless s) outer (are_last ts)) m source (own_answer nested)
+      (related_text rows (narrowed (colourless s) outer (are_last ts)) m.severity source r (related_answers nested))))
+      else title_text (colourless s) m ++ body rows (colourless s) m source o
+      (causes_text rows (colourless s) m.severity source c below)
+      (related_text rows (colourless s) m.severity source r beside))
+      ++ related_text rows (colourless s) outer inherited ts later in
+      let a = first_answers more in
+      let bare = unhighlighted a in
+      let later = unhighlighted_related (later_answers more) in
+      ap₂ (λ o below. f o below (unhighlighted_related (related_answers a)) bare later) (own-bare a) (cause-bare a)
+      ∙ ap (λ beside. f (own_answer bare) (cause_answers bare) beside bare later) (related-bare a)
+      ∙ ap₂ (λ u l. f (own_answer u) (cause_answers u) (related_answers u) u l) (first-bare more) (later-bare more)
+
+  -- ---- the induction
+
+  mutual
+    fades-causes : (rows : SnippetRows) → AreSnippets rows → (s : Settings) (outer : Option Severity) (inherited : Option Source) (c : Cause) (a : Answers) →
+        AreCleanSettings s → IfSome inherited IsCleanSource → IsCleanCause c →
+        Fades (causes_text rows s outer inherited c a) (causes_text rows (colourless s) outer inherited c (unhighlighted a))
+    fades-causes rows law s outer inherited (texts ts) a h j k = fades-cause_texts laws s outer ts h k
+    fades-causes rows law s outer inherited (diagnostic (tree m own c r)) a h j k =
+        let source = effective own inherited in
+        let clean = effective-clean laws own inherited k.1 j in
+        let b = ends_there c in
+        fades-append laws _ _ _ _
+        (fades-under_arrow laws s outer b _ _ h
+        (inner rows law s outer b m source a (λ n d. related_text rows n m.severity source r d) h k.0 clean
+        (fades-related rows law (narrowed s outer b) m.severity source r (related_answers a) h clean k.3)))
+        (fades-to (fades-causes rows law s outer inherited c (cause_answers a) h j k.2)
+        (ap (causes_text rows (colourless s) outer inherited c) (cause-bare a)))
+
+    fades-related : (rows : SnippetRows) → AreSnippets rows → (s : Settings) (outer : Option Severity) (inherited : Option Source) (ts : Trees) (more : RelatedAnswers) →
+        AreCleanSettings s → IfSome inherited IsCleanSource → AreCleanTrees ts →
+        Fades (related_text rows s outer inherited ts more) (related_text rows (colourless s) outer inherited ts (unhighlighted_related more))
+    fades-related rows law s outer inherited no_trees more h j k = fades-clean laws [] refl
+    fades-related rows law s outer inherited (more_trees (tree m own c r) ts) more h j k =
+        let source = effective own inherited in
+        let t = k.0 in
+        let clean = effective-clean laws own inherited t.1 j in
+        let b = are_last ts in
+        let a = first_answers more in
+        fades-to
+        (fades-append laws _ _ _ _
+        (fades-if laws s.nested _ _ _ _
+        (fades-under_arrow laws s outer b _ _ h
+        (fades-trailing laws _ _
+        (inner rows law s outer b m source a (λ n d. related_text rows n m.severity source r d) h t.0 clean
+        (fades-related rows law (narrowed s outer b) m.severity source r (related_answers a) h clean t.3))))
+        (fades-append laws _ _ _ _
+        (fades-title laws s m h t.0)
+        (fades-body laws rows law s m source (own_answer a) _ _ _ _ h t.0 clean
+        (fades-causes rows law s m.severity source c (cause_answers a) h clean t.2)
+        (fades-related rows law s m.severity source r (related_answers a) h clean t.3))))
+        (fades-related rows law s outer inherited ts (later_answers more) h j k.1))
+        (related-end rows s m outer source inherited c r ts more)
+
+  pub fades-report : (rows : SnippetRows) → AreSnippets rows → (s : Settings) (t : Tree) (a : Answers) →
+      AreCleanSettings s → IsCleanTree t →
+      Fades (report_text rows s t a) (report_text rows (colourless s) t (unhighlighted a))
+  fades-report rows law s (tree m own c r) a h k =
+      fades-to
+      (fades-append laws _ _ _ _
+      (fades-append laws _ _ _ _
+      (fades-header laws s m h k.0)
+      (fades-body laws rows law s m own (own_answer a) _ _ _ _ h k.0 k.1
+      (fades-only_if laws s.chain _ _ (fades-causes rows law s m.severity own c (cause_answers a) h k.1 k.2))
+      (fades-related rows law s m.severity own r (related_answers a) h k.1 k.3)))
+      (fades-footer laws s h))
+      (report-end rows s m own c r a)

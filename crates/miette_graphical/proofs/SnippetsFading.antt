@@ -1,0 +1,166 @@
+-- The rows of snippets fade, and hold no escape: from what the layer of snippets promises of them.
+use Rattle.std.proofs.Common.{◌≡◌, ℕ, zero, suc, ◌+◌, ◌-◌, ◌*◌, ◌/◌, ◌%◌, ◌<◌, ◌≤◌, List, [], ◌∷◌, ◌++◌, map, refl, sym, ap, ap₂, ◌∙◌, arith, encode_utf8_all, Option, Some, None, IfSome, option_map, unwrap_or, le-ltb, lt-ltb, ⊎_elim}
+use Rattle.std.specs.Char.{encode_utf8}
+use Rattle.std.specs.Str.{chars, chars_after, continuation_len, lead_bits}
+use Rattle.std.specs.List.{AllByRecursion}
+use Rattle.std.proofs.lemmas.Bool.{cases_lt}
+use Rattle.std.proofs.lemmas.List.{map-append}
+use Rattle.std.proofs.lemmas.Str.{chars-nil}
+use Rattle.miette_protocol.specs.Meaning.{Label}
+use Rattle.miette_protocol.specs.Reading.{Source}
+use Rattle.miette_text.specs.Runs.{HaveNoEscape, print, printed_run, plain_run}
+use Rattle.miette_style.specs.Styles.{plain}
+use Rattle.miette_style.specs.Escapes.{no_escape}
+use Rattle.miette_layout.specs.Answers as layout
+use Rattle.miette_layout.specs.Clean.{IsCleanLabel, IsCleanRow, IsCleanSource, AreCleanDrawings}
+use Rattle.miette_layout.specs.Fading as fading
+use Rattle.miette_layout.specs.Fading.{IsPlainRow}
+use Rattle.miette_layout.specs.Frames as frames
+use Rattle.miette_layout.specs.Layout.{snippet_rows}
+use Rattle.miette_layout.specs.Rows.{Piece, Row, Run, pieces_of}
+use Rattle.miette_graphical.specs.Answers.{Answer}
+use Rattle.miette_graphical.specs.Clean.{AreCleanSettings, HaveNoEscapes}
+use Rattle.miette_graphical.specs.Colourless.{AreSnippets, colourless, unhighlighted_answer}
+use Rattle.miette_graphical.specs.Parts.{line_feed, rows_text}
+use Rattle.miette_graphical.specs.Settings.{Settings}
+use Rattle.miette_graphical.specs.Snippets.{drawn_rows, layout_settings, run_text, runs_of_row, shown_rows}
+
+-- the clauses of the laws of that layer
+pub record LayoutLaws : Type 0 where
+  pub same : (s : frames.Settings) (source : Source) (labels : List Label) (answers : layout.Answers) →
+      option_map (map pieces_of) (snippet_rows (fading.colourless s) source labels (fading.unhighlighted answers)) ≡ option_map (map pieces_of) (snippet_rows s source labels answers)
+  pub plain : (s : frames.Settings) (source : Source) (labels : List Label) (answers : layout.Answers) →
+      IfSome (snippet_rows (fading.colourless s) source labels (fading.unhighlighted answers)) (AllByRecursion IsPlainRow)
+  pub clean : (s : frames.Settings) (source : Source) (labels : List Label) (answers : layout.Answers) →
+      AreCleanDrawings s.characters → IsCleanSource source → AllByRecursion IsCleanLabel labels → IfSome (snippet_rows s source labels answers) (AllByRecursion IsCleanRow)
+
+-- ---- the bytes of any codes read as these codes
+
+whole : (c : ℕ) (bs : List ℕ) → chars_after zero c bs ≡ c ∷ chars bs
+unfolding chars
+whole c [] = refl
+whole c (b ∷ bs) = refl
+
+led : (a n v : ℕ) (bs : List ℕ) → continuation_len a ≡ n → lead_bits a ≡ v → chars (a ∷ bs) ≡ chars_after n v bs
+unfolding chars
+led a n v bs p q = ap₂ (λ k x. chars_after k x bs) p q
+
+one_byte : (c : ℕ) (rest : List ℕ) → c < 128 → chars (encode_utf8 c ++ rest) ≡ c ∷ chars rest
+unfolding encode_utf8
+one_byte c rest h = rw (lt-ltb c 128 h) (led c zero c rest (grind arith) (grind arith) ∙ whole c rest)
+
+two_bytes : (c : ℕ) (rest : List ℕ) → 128 ≤ c → c < 2048 → chars (encode_utf8 c ++ rest) ≡ c ∷ chars rest
+unfolding encode_utf8
+two_bytes c rest l h =
+    let a = 192 + c / 64 in
+    let is : (a - 192) * 64 + ((128 + c % 64) - 128) ≡ c = omega arith in
+    let low : a < 224 = omega arith in
+    rw (le-ltb c 128 l, lt-ltb c 2048 h) (led a (suc zero) (a - 192) ((128 + c % 64) ∷ rest) (grind arith) (grind arith) ∙ whole ((a - 192) * 64 + ((128 + c % 64) - 128)) rest ∙ ap (λ x. x ∷ chars rest) is)
+
+three_bytes : (c : ℕ) (rest : List ℕ) → 2048 ≤ c → c < 65536 → chars (encode_utf8 c ++ rest) ≡ c ∷ chars rest
+unfolding encode_utf8
+three_bytes c rest l h =
+    let a = 224 + c / 4096 in
+    let b = 128 + (c / 64) % 64 in
+    let d = 128 + c % 64 in
+    let is : ((a - 224) * 64 + (b - 128)) * 64 + (d - 128) ≡ c = omega arith in
+    let low : a < 240 = omega arith in
+    rw (le-ltb c 128 (omega arith), le-ltb c 2048 l, lt-ltb c 65536 h)
+    (led a (suc (suc zero)) (a - 224) (b ∷ d ∷ rest) (grind arith) (grind arith) ∙ whole (((a - 224) * 64 + (b - 128)) * 64 + (d - 128)) rest ∙ ap (λ x. x ∷ chars rest) is)
+
+four_bytes : (c : ℕ) (rest : List ℕ) → 65536 ≤ c → chars (encode_utf8 c ++ rest) ≡ c ∷ chars rest
+unfolding encode_utf8
+four_bytes c rest l =
+    let a = 240 + c / 262144 in
+    let b = 128 + (c / 4096) % 64 in
+    let d = 128 + (c / 64) % 64 in
+    let e = 128 + c % 64 in
+    let is : (((a - 240) * 64 + (b - 128)) * 64 + (d - 128)) * 64 + (e - 128) ≡ c = omega arith in
+    rw (le-ltb c 128 (omega arith), le-ltb c 2048 (omega arith), le-ltb c 65536 l)
+    (led a (suc (suc (suc zero))) (a - 240) (b ∷ d ∷ e ∷ rest) (grind arith) (grind arith) ∙ whole ((((a - 240) * 64 + (b - 128)) * 64 + (d - 128)) * 64 + (e - 128)) rest ∙ ap (λ x. x ∷ chars rest) is)
+
+reads : (c : ℕ) (rest : List ℕ) → chars (encode_utf8 c ++ rest) ≡ c ∷ chars rest
+reads c rest = ⊎_elim (one_byte c rest) (λ l. ⊎_elim (two_bytes c rest l) (λ m. ⊎_elim (three_bytes c rest m) (four_bytes c rest) (cases_lt c 65536)) (cases_lt c 2048)) (cases_lt c 128)
+
+encoded : (cs : List ℕ) → chars (encode_utf8_all cs) ≡ cs
+encoded [] = chars-nil
+encoded (c ∷ cs) = reads c (encode_utf8_all cs) ∙ ap (λ xs. c ∷ xs) (encoded cs)
+
+-- ---- what plain rows print
+
+abbrev codes_of : List Piece → List ℕ
+codes_of pieces = map (λ p. p.code) pieces
+
+run_codes : (run : Run) → run_text run ≡ codes_of run.pieces
+run_codes run = encoded (codes_of run.pieces)
+
+plain_print : (text : List ℕ) → printed_run plain text ≡ text
+plain_print [] = refl
+plain_print (c ∷ text) = refl
+
+-- in plain, a row prints its characters
+bare_row : (row : Row) → print (map plain_run (runs_of_row row)) ≡ codes_of (pieces_of row)
+bare_row [] = refl
+bare_row (run ∷ row) = ap₂ (λ x y. x ++ y) (plain_print (run_text run) ∙ run_codes run) (bare_row row) ∙ sym (map-append (λ p. p.code) run.pieces (pieces_of row))
+
+plain_row : (row : Row) → IsPlainRow row → print (runs_of_row row) ≡ codes_of (pieces_of row)
+plain_row [] h = refl
+plain_row (run ∷ row) h =
+    ap₂ (λ x y. x ++ y) (ap (λ style. printed_run style (run_text run)) h.0 ∙ plain_print (run_text run) ∙ run_codes run) (plain_row row h.1)
+    ∙ sym (map-append (λ p. p.code) run.pieces (pieces_of row))
+
+-- rows by their characters
+abbrev text_of : List (List Piece) → List ℕ
+text_of [] = []
+text_of (pieces ∷ more) = codes_of pieces ++ line_feed ++ text_of more
+
+bare_rows : (rows : List Row) → rows_text (map (map plain_run) (map runs_of_row rows)) ≡ text_of (map pieces_of rows)
+bare_rows [] = refl
+bare_rows (row ∷ rows) = ap₂ (λ x y. x ++ line_feed ++ y) (bare_row row) (bare_rows rows)
+
+plain_rows : (rows : List Row) → AllByRecursion IsPlainRow rows → rows_text (map runs_of_row rows) ≡ text_of (map pieces_of rows)
+plain_rows [] h = refl
+plain_rows (row ∷ rows) h = ap₂ (λ x y. x ++ line_feed ++ y) (plain_row row h.0) (plain_rows rows h.1)
+
+abbrev shown_text : Option (List (List Piece)) → List ℕ
+shown_text rows = text_of (unwrap_or rows [])
+
+bare_shown : (rows : Option (List Row)) → rows_text (map (map plain_run) (shown_rows rows)) ≡ shown_text (option_map (map pieces_of) rows)
+bare_shown None = refl
+bare_shown (Some rows) = bare_rows rows
+
+plain_shown : (rows : Option (List Row)) → IfSome rows (AllByRecursion IsPlainRow) → rows_text (shown_rows rows) ≡ shown_text (option_map (map pieces_of) rows)
+plain_shown None h = refl
+plain_shown (Some rows) h = plain_rows rows h
+
+-- ---- rows without an escape
+
+clean_row : (row : Row) → IsCleanRow row → HaveNoEscape (runs_of_row row)
+clean_row [] h = tt
+clean_row (run ∷ row) h = (ap no_escape (run_codes run) ∙ h.0, clean_row row h.1)
+
+clean_rows : (rows : List Row) → AllByRecursion IsCleanRow rows → HaveNoEscapes (map runs_of_row rows)
+clean_rows [] h = tt
+clean_rows (row ∷ rows) h = (clean_row row h.0, clean_rows rows h.1)
+
+clean_shown : (rows : Option (List Row)) → IfSome rows (AllByRecursion IsCleanRow) → HaveNoEscapes (shown_rows rows)
+clean_shown None h = tt
+clean_shown (Some rows) h = clean_rows rows h
+
+-- ---- the rows of a diagnostic's snippets
+
+drawn_fade : LayoutLaws → (s : Settings) (source : Option Source) (labels : List Label) (a : Answer) →
+    rows_text (drawn_rows (colourless s) source labels (unhighlighted_answer a)) ≡ rows_text (map (map plain_run) (drawn_rows s source labels a))
+drawn_fade laws s None labels a = refl
+drawn_fade laws s (Some source) labels a =
+    let l = layout_settings s in
+    plain_shown (snippet_rows (fading.colourless l) source labels (fading.unhighlighted a)) (laws.plain l source labels a)
+    ∙ ap shown_text (laws.same l source labels a) ∙ sym (bare_shown (snippet_rows l source labels a))
+
+drawn_clean : LayoutLaws → (s : Settings) (source : Option Source) (labels : List Label) (a : Answer) →
+    AreCleanSettings s → IfSome source IsCleanSource → AllByRecursion IsCleanLabel labels → HaveNoEscapes (drawn_rows s source labels a)
+drawn_clean laws s None labels a h k j = tt
+drawn_clean laws s (Some source) labels a h k j = clean_shown (snippet_rows (layout_settings s) source labels a) (laws.clean (layout_settings s) source labels a h.0.drawings k j)
+
+pub drawn_snippets : LayoutLaws → AreSnippets drawn_rows
+drawn_snippets laws = record { fade = drawn_fade laws; clean = drawn_clean laws }

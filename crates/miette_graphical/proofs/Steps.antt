@@ -1,0 +1,259 @@
+-- Printing a report, step by step: the answers of a whole are put together from those of its parts.
+use Rattle.std.proofs.Common.{◌≡◌, ◌≤◌, ◌<◌, Bool, true, false, ◌&&◌, List, [], ◌∷◌, ◌++◌, ℕ, length, map, drop, take, ◌-◌, get_or, refl, sym, subst, ap, ap₂, ◌∙◌, append_assoc, append-nil, arith, Option, MatchBool, if◌then◌else◌}
+use Rattle.std.proofs.lemmas.List.{take_rest}
+use Rattle.miette_text.specs.Cutting.{without_leading, without_trailing}
+use Rattle.miette_text.specs.Runs.{print}
+use Rattle.miette_protocol.specs.Meaning.{Meaning}
+use Rattle.miette_protocol.specs.Reading.{Source}
+use Rattle.miette_tree.specs.Tree.{Tree, tree, Cause, diagnostic, texts, Trees, no_trees, more_trees, head, source_of, cause_of, related_of, trees}
+use Rattle.miette_protocol.specs.declared.protocol.Severity.{Severity}
+use Rattle.miette_graphical.specs.Settings.{Settings}
+use Rattle.miette_graphical.specs.Answers.{Answers, unlisted, listed, no_more, and_more, own_answer, cause_answers, related_answers}
+use Rattle.miette_graphical.specs.Indents.{narrowed}
+use Rattle.miette_graphical.specs.Parts.{SnippetRows, rows_text, under_arrow, header, message_text, help_text, footer_text, title_text}
+use Rattle.miette_tree.specs.Parts.{given_labels}
+use Rattle.miette_graphical.specs.Text.{cause_texts, ends_there, are_last, body, body_over, inner_over, inner_text, causes_text, related_text, only_if}
+use Rattle.miette_tree.specs.Tree.{effective}
+use Rattle.miette_layout.specs.Frames as frames
+use Rattle.miette_graphical.specs.Printed.{all_read, always_reads, over, printed, printed_causes, printed_related, printed_inner, printed_sibling, printed_one, printed_root_causes}
+use Rattle.miette_graphical.specs.Snippets.{layout_settings}
+use Rattle.miette_graphical.proofs.DrawnRows.{unlisted_is}
+use Rattle.miette_graphical.proofs.Lists.{first_fails, later_fails}
+use Rattle.miette_graphical.proofs.Outermost.{report_over}
+use Rattle.miette_tree.specs.Handler.{AppendsOne}
+use Rattle.miette_graphical.specs.Answered.{IsAnswer, AreCauseAnswers, AreRelatedAnswers, IsDrawn, AreCauses, AreRelated, IsInner, IsSibling, IsOneCause, IsNested, IsOneRelated, AreRootCauses, IsBelow, IsReport}
+
+pub not_last : {R : Type 0} (value : R → Tree) (rs : List R) → 1 ≤ length rs → false ≡ are_last (trees (map value rs))
+not_last value [] h = absurd (omega arith)
+not_last value (r ∷ rs) h = refl
+
+pub first_and_more : {R : Type 0} (value : R → Tree) (rs : List R) (d : R) → 1 ≤ length rs →
+    more_trees (value (get_or rs 0 d)) (trees (map value (take (length rs - 1) (drop 1 rs)))) ≡ trees (map value rs)
+first_and_more value [] d h = absurd (omega arith)
+first_and_more value (r ∷ rs) d h = ap (λ t. more_trees (value r) (trees (map value t))) (take_rest (r ∷ rs) 1)
+
+-- ---- where nothing is listed, nothing failed
+
+mutual
+  causes-unlisted : (l : frames.Settings) (blank : Bool) (inherited : Option Source) (c : Cause) → AreCauseAnswers l blank inherited c unlisted
+  causes-unlisted l blank inherited (texts ts) = tt
+  causes-unlisted l blank inherited (diagnostic (tree m own c r)) = (
+    unlisted_is l blank (effective own inherited) (given_labels m.labels) (always_reads (effective own inherited) m),
+    related-unlisted l blank (effective own inherited) r,
+    causes-unlisted l blank inherited c,
+  )
+
+  related-unlisted : (l : frames.Settings) (blank : Bool) (inherited : Option Source) (ts : Trees) → AreRelatedAnswers l blank inherited ts no_more
+  related-unlisted l blank inherited no_trees = tt
+  related-unlisted l blank inherited (more_trees (tree m own c r) ts) = (
+    unlisted_is l blank (effective own inherited) (given_labels m.labels) (always_reads (effective own inherited) m),
+    causes-unlisted l blank (effective own inherited) c,
+    related-unlisted l blank (effective own inherited) r,
+    related-unlisted l blank inherited ts,
+  )
+
+-- ---- texts
+
+pub causes_none : (rows : SnippetRows) (s : Settings) (blank : Bool) (outer : Option Severity) (inherited : Option Source) (ts : List (List ℕ)) (text : List ℕ) →
+    text ≡ causes_text rows s outer inherited (texts ts) unlisted → AreCauses rows s blank outer inherited (texts ts) text
+causes_none rows s blank outer inherited ts text e = (unlisted, tt, e)
+
+pub cause_step : (rows : SnippetRows) (s : Settings) (blank : Bool) (outer : Option Severity) (inherited : Option Source) (t : Tree) (one more : List ℕ) →
+    IsOneCause rows s blank outer inherited t one → AreCauses rows s blank outer inherited (cause_of t) more →
+    AreCauses rows s blank outer inherited (diagnostic t) (one ++ more)
+cause_step rows s blank outer inherited (tree m own c r) one more p q = (
+  listed p.1.0 q.0 p.1.1,
+  (p.1.2, p.1.3, q.1),
+  ap₂ (λ x y. x ++ y) (p.2 ∙ ap (under_arrow s outer (ends_there c)) p.1.4) q.2,
+)
+
+pub none_related : {R : Type 0} (rows : SnippetRows) (s : Settings) (blank : Bool) (outer : Option Severity) (inherited : Option Source) (value : R → Tree) (rs : List R) (text : List ℕ) →
+    length rs < 1 → text ≡ [] → AreRelated rows s blank outer inherited (trees (map value rs)) text
+none_related rows s blank outer inherited value [] text h e = (no_more, tt, e)
+none_related rows s blank outer inherited value (r ∷ rs) text h e = absurd (omega arith)
+
+pub inner_step : (rows : SnippetRows) (s : Settings) (blank : Bool) (source : Option Source) (t : Tree) (drawn : List ℕ) (related : List ℕ) →
+    IsDrawn rows s blank source (head t) drawn → AreRelated rows s blank (head t).severity source (related_of t) related →
+    IsInner rows s blank source t (inner_over s (head t) drawn related)
+inner_step rows s blank source (tree m own c r) drawn related p q =
+    (p.0, q.0, p.1, q.1, ap₂ (inner_over s m) p.2 q.2)
+
+pub sibling_step : (rows : SnippetRows) (s : Settings) (blank : Bool) (source : Option Source) (t : Tree) (drawn : List ℕ) (causes related : List ℕ) →
+    IsDrawn rows s blank source (head t) drawn → AreCauses rows s blank (head t).severity source (cause_of t) causes →
+    AreRelated rows s blank (head t).severity source (related_of t) related →
+    IsSibling rows s blank source t (title_text s (head t) ++ body_over s (head t) drawn causes related)
+sibling_step rows s blank source (tree m own c r) drawn causes related p q k = (
+  p.0,
+  q.0,
+  k.0,
+  p.1,
+  q.1,
+  k.1,
+  ap (λ d. title_text s m ++ body_over s m d causes related) p.2
+      ∙ ap₂ (λ x y. title_text s m ++ body_over s m (rows_text (rows s source (given_labels m.labels) p.0)) x y) q.2 k.2,
+)
+
+-- one of several related reports, with its answers in one
+one_by : (rows : SnippetRows) (s : Settings) (blank : Bool) (outer : Option Severity) (source : Option Source) (last : Bool) (m : Meaning) (own : Option Source) (c : Cause) (r : Trees) (text : List ℕ) (nested : Bool) →
+    MatchBool nested (IsNested rows s blank outer source last (tree m own c r) text) (IsSibling rows s blank source (tree m own c r) text) →
+    (a : Answers) × IsAnswer (layout_settings s) blank source m (own_answer a) × AreCauseAnswers (layout_settings s) blank source c (cause_answers a) × AreRelatedAnswers (layout_settings s) blank source r (related_answers a)
+    × (text ≡ (if nested then
+    under_arrow s outer last (without_trailing (inner_text rows (narrowed s outer last) m source (own_answer a) (related_text rows (narrowed s outer last) m.severity source r (related_answers a))))
+    else title_text s m ++ body rows s m source (own_answer a) (causes_text rows s m.severity source c (cause_answers a)) (related_text rows s m.severity source r (related_answers a))))
+one_by rows s blank outer source last m own c r text true p =
+    (listed p.1.0 unlisted p.1.1, p.1.2, causes-unlisted (layout_settings s) blank source c, p.1.3, p.2 ∙ ap (λ x. under_arrow s outer last (without_trailing x)) p.1.4)
+one_by rows s blank outer source last m own c r text false p = (listed p.0 p.1 p.2, p.3, p.4, p.5, p.6)
+
+pub related_step : (rows : SnippetRows) (s : Settings) (blank : Bool) (outer : Option Severity) (inherited : Option Source) (t : Tree) (ts : Trees) (one more : List ℕ) →
+    IsOneRelated rows s blank outer (effective (source_of t) inherited) (are_last ts) t one → AreRelated rows s blank outer inherited ts more →
+    AreRelated rows s blank outer inherited (more_trees t ts) (one ++ more)
+related_step rows s blank outer inherited (tree m own c r) ts one more p q =
+    let k = one_by rows s blank outer (effective own inherited) (are_last ts) m own c r one s.nested p in
+    (and_more k.0 q.0, (k.1, k.2, k.3, q.1), ap₂ (λ x y. x ++ y) k.4 q.2)
+
+root_by : (rows : SnippetRows) (s : Settings) (blank : Bool) (m : Meaning) (own : Option Source) (c : Cause) (causes : List ℕ) (chain : Bool) →
+    MatchBool chain (AreCauses rows s blank m.severity own c causes) (causes ≡ []) →
+    (a : Answers) × (chain ≡ true → AreCauseAnswers (layout_settings s) blank own c a) × (causes ≡ only_if chain (causes_text rows s m.severity own c a))
+root_by rows s blank m own c causes true p = (p.0, λ h. p.1, p.2)
+root_by rows s blank m own c causes false p = (unlisted, λ h. causes-unlisted (layout_settings s) blank own c, p)
+
+pub root_step : (rows : SnippetRows) (s : Settings) (blank : Bool) (t : Tree) (drawn : List ℕ) (causes related : List ℕ) →
+    IsDrawn rows s blank (source_of t) (head t) drawn → AreRootCauses rows s blank t causes → AreRelated rows s blank (head t).severity (source_of t) (related_of t) related →
+    IsReport rows s blank t (report_over s (head t) drawn causes related)
+root_step rows s blank (tree m own c r) drawn causes related p q k =
+    let b = root_by rows s blank m own c causes s.chain q in (
+      listed p.0 b.0 k.0,
+      (p.1, b.1, k.1),
+      ap (λ d. report_over s m d causes related) p.2
+          ∙ ap₂ (λ x y. report_over s m (rows_text (rows s own (given_labels m.labels) p.0)) x y) b.2 k.2,
+    )
+
+-- ---- texts that are appended
+
+-- one text behind another
+pub behind : (old mid new first more : List ℕ) → mid ≡ old ++ first → new ≡ mid ++ more → new ≡ old ++ (first ++ more)
+behind old mid new first more p q = q ∙ ap (λ x. x ++ more) p ∙ append_assoc old first more
+
+pub nothing_behind : (P : List ℕ → Type 0) (old : List ℕ) → P [] → AppendsOne P old old
+nothing_behind P old p = record { text = []; is_given = p; appended = sym (append-nil old) }
+
+pub cause_texts_behind : (rows : SnippetRows) (s : Settings) (blank : Bool) (outer : Option Severity) (inherited : Option Source) (ts : List (List ℕ)) (old new : List ℕ) →
+    new ≡ old ++ cause_texts s outer ts → AppendsOne (AreCauses rows s blank outer inherited (texts ts)) old new
+cause_texts_behind rows s blank outer inherited ts old new e = record { text = cause_texts s outer ts; is_given = causes_none rows s blank outer inherited ts (cause_texts s outer ts) refl; appended = e }
+
+pub cause_behind : (rows : SnippetRows) (s : Settings) (blank : Bool) (outer : Option Severity) (inherited : Option Source) (t : Tree) (old mid new : List ℕ) →
+    AppendsOne (IsOneCause rows s blank outer inherited t) old mid → AppendsOne (AreCauses rows s blank outer inherited (cause_of t)) mid new →
+    AppendsOne (AreCauses rows s blank outer inherited (diagnostic t)) old new
+cause_behind rows s blank outer inherited t old mid new p q =
+    record { text = p.text ++ q.text; is_given = cause_step rows s blank outer inherited t p.text q.text p.is_given q.is_given; appended = behind old mid new p.text q.text p.appended q.appended }
+
+pub no_related_behind : {R : Type 0} (rows : SnippetRows) (s : Settings) (blank : Bool) (outer : Option Severity) (inherited : Option Source) (value : R → Tree) (rs : List R) (old : List ℕ) →
+    length rs < 1 → AppendsOne (AreRelated rows s blank outer inherited (trees (map value rs))) old old
+no_related_behind rows s blank outer inherited value rs old h =
+    nothing_behind (AreRelated rows s blank outer inherited (trees (map value rs))) old (none_related rows s blank outer inherited value rs [] h refl)
+
+pub related_behind : (rows : SnippetRows) (s : Settings) (blank : Bool) (outer : Option Severity) (inherited : Option Source) (t : Tree) (ts : Trees) (old mid new : List ℕ) →
+    AppendsOne (IsOneRelated rows s blank outer (effective (source_of t) inherited) (are_last ts) t) old mid → AppendsOne (AreRelated rows s blank outer inherited ts) mid new →
+    AppendsOne (AreRelated rows s blank outer inherited (more_trees t ts)) old new
+related_behind rows s blank outer inherited t ts old mid new p q =
+    record { text = p.text ++ q.text; is_given = related_step rows s blank outer inherited t ts p.text q.text p.is_given q.is_given; appended = behind old mid new p.text q.text p.appended q.appended }
+
+pub below_behind : (rows : SnippetRows) (s : Settings) (blank : Bool) (source : Option Source) (t : Tree) (old drawn helped new : List ℕ) →
+    AppendsOne (IsDrawn rows s blank source (head t)) old drawn → helped ≡ drawn ++ help_text s (head t).help →
+    AppendsOne (AreRelated rows s blank (head t).severity source (related_of t)) helped new → AppendsOne (IsBelow rows s blank source t) old new
+below_behind rows s blank source t old drawn helped new p e q = record {
+  text = p.text ++ help_text s (head t).help ++ q.text;
+  is_given = (p.text, q.text, p.is_given, q.is_given, refl);
+  appended = behind old helped new (p.text ++ help_text s (head t).help) q.text (behind old drawn helped p.text (help_text s (head t).help) p.appended e) q.appended;
+}
+
+regrouped : (a b c d : List ℕ) → a ++ (b ++ c ++ d) ≡ a ++ b ++ c ++ d
+regrouped a b c d = sym (append_assoc a (b ++ c) d) ∙ ap (λ x. x ++ d) (sym (append_assoc a b c))
+
+-- message, causes, and what stands below them
+body_behind : (s : Settings) (m : Meaning) (old told caused new drawn causes related below : List ℕ) → told ≡ old ++ message_text s m → caused ≡ told ++ causes → new ≡ caused ++ below →
+    below ≡ drawn ++ help_text s m.help ++ related → new ≡ old ++ body_over s m drawn causes related
+body_behind s m old told caused new drawn causes related below p q r e =
+    behind old caused new (message_text s m ++ causes) below (behind old told caused (message_text s m) causes p q) r
+    ∙ ap (λ x. old ++ x) (ap (λ x. message_text s m ++ causes ++ x) e ∙ regrouped (message_text s m ++ causes) drawn (help_text s m.help) related)
+
+pub inner_whole : (rows : SnippetRows) (s : Settings) (blank : Bool) (source : Option Source) (t : Tree) (old headed told new text : List ℕ) →
+    old ≡ [] → headed ≡ old ++ print (header s (head t)) → told ≡ headed ++ message_text s (head t) → AppendsOne (IsBelow rows s blank source t) told new →
+    text ≡ without_leading new → IsInner rows s blank source t text
+inner_whole rows s blank source t old headed told new text n h m p e =
+    let below = p.is_given in
+    let body : new ≡ headed ++ body_over s (head t) below.0 [] below.1 = body_behind s (head t) headed told told new below.0 [] below.1 p.text m (sym (append-nil told)) p.appended below.4 in
+    subst (λ x. IsInner rows s blank source t x)
+    (sym (e ∙ ap without_leading (body ∙ ap (λ x. x ++ body_over s (head t) below.0 [] below.1) (h ∙ ap (λ x. x ++ print (header s (head t))) n))))
+    (inner_step rows s blank source t below.0 below.1 below.2 below.3)
+
+pub sibling_behind : (rows : SnippetRows) (s : Settings) (blank : Bool) (source : Option Source) (t : Tree) (old titled told caused new : List ℕ) →
+    titled ≡ old ++ title_text s (head t) → told ≡ titled ++ message_text s (head t) → AppendsOne (AreCauses rows s blank (head t).severity source (cause_of t)) told caused →
+    AppendsOne (IsBelow rows s blank source t) caused new → AppendsOne (IsSibling rows s blank source t) old new
+sibling_behind rows s blank source t old titled told caused new h m c p =
+    let below = p.is_given in record {
+      text = title_text s (head t) ++ body_over s (head t) below.0 c.text below.1;
+      is_given = sibling_step rows s blank source t below.0 c.text below.1 below.2 c.is_given below.3;
+      appended = behind old titled new (title_text s (head t)) (body_over s (head t) below.0 c.text below.1) h
+          (body_behind s (head t) titled told caused new below.0 c.text below.1 p.text m c.appended p.appended below.4);
+    }
+
+pub report_whole : (rows : SnippetRows) (s : Settings) (blank : Bool) (t : Tree) (old headed told caused drawn text : List ℕ) →
+    old ≡ [] → headed ≡ old ++ print (header s (head t)) → told ≡ headed ++ message_text s (head t) → AppendsOne (AreRootCauses rows s blank t) told caused →
+    AppendsOne (IsBelow rows s blank (source_of t) t) caused drawn → text ≡ drawn ++ footer_text s → IsReport rows s blank t text
+report_whole rows s blank t old headed told caused drawn text n h m c p e =
+    let below = p.is_given in
+    let body : drawn ≡ headed ++ body_over s (head t) below.0 c.text below.1 = body_behind s (head t) headed told caused drawn below.0 c.text below.1 p.text m c.appended p.appended below.4 in
+    subst (λ x. IsReport rows s blank t x)
+    (sym (e ∙ ap (λ x. x ++ footer_text s) (body ∙ ap (λ x. x ++ body_over s (head t) below.0 c.text below.1) (h ∙ ap (λ x. x ++ print (header s (head t))) n))))
+    (root_step rows s blank t below.0 c.text below.1 below.2 c.is_given below.3)
+
+-- ---- refusals
+
+pub one_cause_fails : (nested : Bool) (inherited : Option Source) (t : Tree) → all_read (printed_inner nested (effective (source_of t) inherited) t) ≡ false →
+    all_read (printed_causes nested inherited (diagnostic t)) ≡ false
+one_cause_fails nested inherited (tree m own c r) h = first_fails (printed_inner nested (effective own inherited) (tree m own c r)) (printed_causes nested inherited c) h
+
+pub later_cause_fails : (nested : Bool) (inherited : Option Source) (t : Tree) → all_read (printed_causes nested inherited (cause_of t)) ≡ false →
+    all_read (printed_causes nested inherited (diagnostic t)) ≡ false
+later_cause_fails nested inherited (tree m own c r) h = later_fails (printed_inner nested (effective own inherited) (tree m own c r)) (printed_causes nested inherited c) h
+
+pub inner_related_fail : (nested : Bool) (source : Option Source) (t : Tree) → all_read (printed_related nested source (related_of t)) ≡ false →
+    all_read (printed_inner nested source t) ≡ false
+inner_related_fail nested source (tree m own c r) h = later_fails (over source m ∷ []) (printed_related nested source r) h
+
+and_later : (a b c : Bool) → (b ≡ false → c ≡ false) → (a && b) ≡ false → (a && c) ≡ false
+and_later true b c f h = f h
+and_later false b c f h = refl
+
+pub inner_rows_fail : (nested : Bool) (source : Option Source) (t : Tree) → always_reads source (head t) ≡ false → all_read (printed_inner nested source t) ≡ false
+inner_rows_fail nested source (tree m own c r) h = ap (λ b. b && all_read (printed_related nested source r)) h
+
+pub sibling_below_fails : (nested : Bool) (source : Option Source) (t : Tree) → all_read (printed_inner nested source t) ≡ false → all_read (printed_sibling nested source t) ≡ false
+sibling_below_fails nested source (tree m own c r) h =
+    and_later (always_reads source m) (all_read (printed_related nested source r)) (all_read (printed_causes nested source c ++ printed_related nested source r)) (later_fails (printed_causes nested source c) (printed_related nested source r)) h
+
+pub root_below_fails : (s : Settings) (t : Tree) → all_read (printed_inner s.nested (source_of t) t) ≡ false → all_read (printed s t) ≡ false
+root_below_fails s (tree m own c r) h =
+    let causes = printed_root_causes s.chain s.nested (tree m own c r) in
+    and_later (always_reads own m) (all_read (printed_related s.nested own r)) (all_read (causes ++ printed_related s.nested own r)) (later_fails causes (printed_related s.nested own r)) h
+
+pub sibling_causes_fail : (nested : Bool) (source : Option Source) (t : Tree) → all_read (printed_causes nested source (cause_of t)) ≡ false →
+    all_read (printed_sibling nested source t) ≡ false
+sibling_causes_fail nested source (tree m own c r) h =
+    later_fails (over source m ∷ []) (printed_causes nested source c ++ printed_related nested source r) (first_fails (printed_causes nested source c) (printed_related nested source r) h)
+
+pub one_related_fails : (nested : Bool) (inherited : Option Source) (t : Tree) (ts : Trees) → all_read (printed_one nested (effective (source_of t) inherited) t) ≡ false →
+    all_read (printed_related nested inherited (more_trees t ts)) ≡ false
+one_related_fails true inherited (tree m own c r) ts h = first_fails (printed_inner true (effective own inherited) (tree m own c r)) (printed_related true inherited ts) h
+one_related_fails false inherited (tree m own c r) ts h = first_fails (printed_sibling false (effective own inherited) (tree m own c r)) (printed_related false inherited ts) h
+
+pub later_related_fails : (nested : Bool) (inherited : Option Source) (t : Tree) (ts : Trees) → all_read (printed_related nested inherited ts) ≡ false →
+    all_read (printed_related nested inherited (more_trees t ts)) ≡ false
+later_related_fails true inherited (tree m own c r) ts h = later_fails (printed_inner true (effective own inherited) (tree m own c r)) (printed_related true inherited ts) h
+later_related_fails false inherited (tree m own c r) ts h = later_fails (printed_sibling false (effective own inherited) (tree m own c r)) (printed_related false inherited ts) h
+
+pub root_causes_fail : (s : Settings) (t : Tree) → all_read (printed_root_causes s.chain s.nested t) ≡ false → all_read (printed s t) ≡ false
+root_causes_fail s (tree m own c r) h =
+    later_fails (over own m ∷ []) (printed_root_causes s.chain s.nested (tree m own c r) ++ printed_related s.nested own r)
+    (first_fails (printed_root_causes s.chain s.nested (tree m own c r)) (printed_related s.nested own r) h)

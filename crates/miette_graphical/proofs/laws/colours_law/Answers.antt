@@ -1,0 +1,26 @@
+use Rattle.std.proofs.Common.{sym, ap₂, ◌∙◌}
+use Rattle.miette_graphical.specs.Text.{report_text}
+use Rattle.miette_graphical.proofs.TextLaws.{TextLaws}
+use Rattle.miette_graphical.proofs.ReportFading.{fades-report}
+use Rattle.miette_graphical.proofs.laws.colours_law.Goals as goal
+
+pub returns : goal.returns
+returns c =
+    let laws : TextLaws = record {
+      wrapped-tame = c.wrapping_law.ensures.tame;
+      erase-wrapped = c.wrapping_law.ensures.erase;
+      append-tame = c.joining_law.ensures.tame;
+      erase-append = c.joining_law.ensures.erase;
+      leading-tame = c.cutting_law.ensures.leading_tame;
+      leading-erase = c.cutting_law.ensures.leading;
+      trailing-tame = c.cutting_law.ensures.trailing_tame;
+      trailing-erase = c.cutting_law.ensures.trailing;
+      print-tame = c.printing_law.ensures.tame;
+      print-erase = c.printing_law.ensures.erase;
+      erase-columns = c.columns_law.ensures;
+    } in record {
+      erase = λ rows s t a law h k. (fades-report laws rows law s t a h k).same;
+      tame = λ rows s t a law h k. (fades-report laws rows law s t a h k).tame;
+      alike = λ rows s u t a b law h j k e d.
+          (fades-report laws rows law s t a h k).same ∙ ap₂ (λ v o. report_text rows v t o) e d ∙ sym (fades-report laws rows law u t b j k).same;
+    }

@@ -1,0 +1,44 @@
+use Rattle.std.proofs.Common.{List, [], ◌∷◌, Option, Some, None, IfSome, ap}
+use Rattle.std.specs.List.{AllByRecursion}
+use Rattle.miette_layout.specs.Contexts.{contents}
+use Rattle.miette_graphical.specs.Answers.{pieces_listed}
+use Rattle.miette_graphical.specs.Headline.{LinesAreShown, MarksAreApart, TextsHang, SnippetHangs, drawn_labels, groups_of, group_settings, shown_lines}
+use Rattle.miette_tree.specs.Parts.{given_labels}
+use Rattle.miette_graphical.specs.Printed.{printed}
+use Rattle.miette_graphical.specs.Snippets.{layout_settings, shown_rows}
+use Rattle.miette_graphical.proofs.DrawnRows.{none_listed}
+use Rattle.miette_graphical.proofs.laws.snippets_law.Goals as goal
+
+each : {A : Type 0} (P : A → Type 0) → ((x : A) → P x) → (xs : List A) → AllByRecursion P xs
+each P f [] = tt
+each P f (x ∷ xs) = (f x, each P f xs)
+
+if_some : {A : Type 0} (P : A → Type 0) → ((x : A) → P x) → (o : Option A) → IfSome o P
+if_some P f None = tt
+if_some P f (Some x) = f x
+
+pub returns-clause-lines : goal.returns-clause-lines
+returns-clause-lines c = λ s t. each (LinesAreShown s) (λ p.
+    let labels = given_labels p.meaning.labels in
+    if_some _ (λ source reads accepted context.
+    let maximal = c.runs_are_maximal.ensures (shown_lines s source labels) in record {
+      rows = λ pieces. ap (λ rows. shown_rows rows) (c.snippets_draw_runs.ensures (layout_settings s) source labels (pieces_listed pieces) context accepted (none_listed pieces));
+      groups = c.groups_are_runs.ensures s.context source [] labels context tt;
+      whole = maximal.0;
+      consecutive = maximal.1;
+      parted = maximal.2;
+    }) p.source) (printed s t)
+
+pub returns-clause-marks : goal.returns-clause-marks
+returns-clause-marks c = λ s t. each (MarksAreApart s) (λ p.
+    if_some _ (λ source k. record {
+      apart = c.marks_are_apart.ensures.apart _ _;
+      anchors = c.marks_are_apart.ensures.anchors _ _;
+    }) p.source) (printed s t)
+
+pub returns-clause-texts : goal.returns-clause-texts
+returns-clause-texts c = λ s t. each (TextsHang s) (λ p.
+    let labels = given_labels p.meaning.labels in
+    if_some _ (λ source narrow. each (SnippetHangs s source labels)
+    (λ group few pieces. c.texts_hang.ensures (group_settings s labels) (drawn_labels s source labels) source.bytes (contents (group_settings s labels).context source group) pieces narrow few)
+    (groups_of s source labels)) p.source) (printed s t)

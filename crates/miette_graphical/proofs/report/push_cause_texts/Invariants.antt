@@ -1,0 +1,12 @@
+use Rattle.std.proofs.Common.{◌≡◌, ◌++◌, length, map, string_bytes}
+use Rattle.miette_graphical.specs.Text.{cause_texts}
+use Rattle.miette_graphical.specs.Views.{settings_of}
+use Rattle.miette_graphical.proofs.report.push_cause_texts.Given as goal
+
+abbrev pub decreases-loop-rest : goal.decreases-loop-rest
+decreases-loop-rest l = length l.rest
+
+abbrev pub invariant-loop-rest : goal.invariant-loop-rest
+invariant-loop-rest l =
+    let s = settings_of l.layout in
+    l.out ++ cause_texts s l.outer (map string_bytes l.rest) ≡ l.fn.out ++ cause_texts s l.outer (map string_bytes l.list)

@@ -1,0 +1,19 @@
+use Rattle.std.proofs.Common.{[], refl, sym, subst, option_map}
+use Rattle.miette_layout.specs.Highlighted.{leaves_plain}
+use Rattle.miette_tree.specs.Owned.{shown_source}
+use Rattle.miette_tree.specs.Report.{tree_of}
+use Rattle.miette_tree.specs.Tree.{head}
+use Rattle.miette_graphical.specs.Answered.{IsDrawn}
+use Rattle.miette_graphical.specs.Snippets.{drawn_rows}
+use Rattle.miette_graphical.specs.Views.{settings_of}
+use Rattle.miette_graphical.proofs.DrawnRows.{drawn_nowhere}
+use Rattle.miette_graphical.proofs.Steps.{nothing_behind}
+use Rattle.miette_graphical.proofs.report.push_rows.Goals as goal
+
+pub returns-in-None-clause-ok : goal.returns-in-None-clause-ok
+returns-in-None-clause-ok g c =
+    let blank = leaves_plain g.H.Highlighter.is_blank c.args.pen.now.highlighter in
+    let s = settings_of c.args.layout in
+    let m = head (tree_of g.D.Diagnostic.meaning g.S.SourceCode.source c.args.report.now) in
+    nothing_behind (IsDrawn drawn_rows s blank (option_map (shown_source g.S.SourceCode.source) c.args.source) m) c.args.out.now
+    (subst (λ o. IsDrawn drawn_rows s blank (option_map (shown_source g.S.SourceCode.source) o) m []) (sym c.in-None.is) (drawn_nowhere s blank m [] refl))

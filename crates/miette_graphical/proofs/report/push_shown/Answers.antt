@@ -1,0 +1,21 @@
+use Rattle.std.proofs.Common.{◌≡◌, [], Some, refl, sym, ◌∙◌}
+use Rattle.miette_layout.specs.Highlighted.{leaves_plain}
+use Rattle.miette_tree.specs.Owned.{shown_source}
+use Rattle.miette_tree.specs.Report.{tree_of}
+use Rattle.miette_tree.specs.Tree.{head}
+use Rattle.miette_graphical.specs.Answered.{IsDrawn}
+use Rattle.miette_tree.specs.Parts.{given_labels}
+use Rattle.miette_graphical.specs.Snippets.{drawn_rows}
+use Rattle.miette_graphical.specs.Views.{settings_of}
+use Rattle.miette_graphical.proofs.DrawnRows.{drawn_unlabelled, empty_list}
+use Rattle.miette_graphical.proofs.Steps.{nothing_behind}
+use Rattle.miette_graphical.proofs.report.push_shown.Goals as goal
+
+pub returns-in-empty-clause-ok : goal.returns-in-empty-clause-ok
+returns-in-empty-clause-ok g c =
+    let m = head (tree_of g.D.Diagnostic.meaning g.S.SourceCode.source c.args.report.now) in
+    let s = settings_of c.args.layout in
+    let blank = leaves_plain g.H.Highlighter.is_blank c.args.pen.now.highlighter in
+    let source = shown_source g.S.SourceCode.source c.args.source in
+    let none : given_labels m.labels ≡ [] = sym c.labels_of-labels.ensures ∙ empty_list c.labels_of-labels.result.now c.in-empty.len_below in
+    nothing_behind (IsDrawn drawn_rows s blank (Some source) m) c.args.out.now (drawn_unlabelled s blank source m [] none refl)

@@ -1,0 +1,36 @@
+use Rattle.std.proofs.Common.{◌≡◌, subst, option_map, false, rules}
+use Rattle.miette_tree.specs.Tree.{source_of}
+use Rattle.miette_tree.specs.Report.{tree_of}
+use Rattle.miette_layout.specs.Highlighted.{leaves_plain}
+use Rattle.miette_tree.specs.Owned.{shown_source}
+use Rattle.miette_graphical.specs.Answered.{IsBelow}
+use Rattle.miette_tree.specs.Handler.{AppendsOne}
+use Rattle.miette_graphical.specs.Printed.{all_read, printed_inner}
+use Rattle.miette_graphical.specs.Snippets.{drawn_rows}
+use Rattle.miette_graphical.specs.Views.{settings_of}
+use Rattle.miette_graphical.proofs.Steps.{report_whole, root_causes_fail, root_below_fails}
+use Rattle.miette_graphical.proofs.report.report_output.Goals as goal
+
+pub returns-in_err-push_root_causes-clause-refused : goal.returns-in_err-push_root_causes-clause-refused
+returns-in_err-push_root_causes-clause-refused g c = λ h.
+    root_causes_fail (settings_of c.args.layout) (tree_of g.D.Diagnostic.meaning g.S.SourceCode.source c.args.report.now) (c.in_err-push_root_causes.ensures.refused (search rules))
+
+pub returns-in_err-push_below-clause-refused : goal.returns-in_err-push_below-clause-refused
+returns-in_err-push_below-clause-refused g c = λ h.
+    let value = tree_of g.D.Diagnostic.meaning g.S.SourceCode.source c.args.report.now in
+    let below : all_read (printed_inner c.args.layout.nested (option_map (shown_source g.S.SourceCode.source) c.source_code.result) value) ≡ false = c.in_err-push_below.ensures.refused (search rules) in
+    root_below_fails (settings_of c.args.layout) value (subst (λ o. all_read (printed_inner c.args.layout.nested o value) ≡ false) c.source_code.ensures below)
+
+pub returns-clause-ok : goal.returns-clause-ok
+returns-clause-ok g c =
+    let blank = leaves_plain g.H.Highlighter.is_blank c.args.pen.now.highlighter in
+    let s = settings_of c.args.layout in
+    let value = tree_of g.D.Diagnostic.meaning g.S.SourceCode.source c.args.report.now in
+    let source = option_map (shown_source g.S.SourceCode.source) c.source_code.result in
+    let caused = c.push_root_causes.new.out in
+    let drawn = c.push_below.new.out in
+    let below : AppendsOne (IsBelow drawn_rows s blank (source_of value) value) caused drawn =
+    subst (λ o. AppendsOne (IsBelow drawn_rows s blank o value) caused drawn) c.source_code.ensures
+    (subst (λ b. AppendsOne (IsBelow drawn_rows s b source value) caused drawn) c.push_root_causes.ensures.stays c.in_ok-push_below.ensures.ok) in
+    report_whole drawn_rows s blank value c.printed-text.result c.push_header_of.new.out c.push_message_of.new.out caused drawn c.push_footer.new.out
+    c.printed-text.ensures c.in_ok-push_header_of.ensures.text c.in_ok-push_message_of.ensures c.in_ok-push_root_causes.ensures.ok below c.in_ok-push_footer.ensures

@@ -1,0 +1,16 @@
+pub mod Handling
+pub mod Settings
+pub mod Modes
+pub mod Answers
+pub mod Indents
+pub mod Parts
+pub mod Text
+pub mod Clean
+pub mod Colourless
+pub mod Views
+pub mod Printed
+pub mod Paths
+pub mod Answered
+pub mod Snippets
+pub mod Printing
+pub mod Headline

@@ -1,0 +1,446 @@
+//! The graphical handler: the picture of a report.
+
+ghost use Rattle.std.specs.Prelude.{◌≡◌, ◌≤◌, ◌++◌, Some, IfOk, OnErr, OnOk, false, true, chars, string_bytes, encode_utf8_all, option_map};
+ghost use Rattle.std.specs.List.{AllByRecursion};
+ghost use Rattle.miette_graphical.specs.Answered.{Appends, IsTextOf};
+ghost use Rattle.miette_graphical.specs.Answers.{unlisted};
+ghost use Rattle.miette_graphical.specs.Clean.{AreCleanSettings, IsCleanTree};
+ghost use Rattle.miette_graphical.specs.Colourless.{IsColouredText, colourless};
+ghost use Rattle.miette_tree.specs.Handler.{AppendsOne};
+ghost use Rattle.miette_graphical.specs.Handling.{draws_plain, without_highlighter};
+ghost use Rattle.miette_graphical.specs.Headline.{LinesAreShown, MarksAreApart, TextsHang};
+ghost use Rattle.miette_graphical.specs.Printed.{all_read, printed};
+ghost use Rattle.miette_graphical.specs.Settings.{default_settings, links_shown, urls_shown};
+ghost use Rattle.miette_graphical.specs.Snippets.{drawn_rows};
+ghost use Rattle.miette_graphical.specs.Text.{report_text};
+ghost use Rattle.miette_graphical.specs.Modes.{splits};
+ghost use Rattle.miette_graphical.specs.Views.{settings_of};
+ghost use Rattle.miette_text.specs.Filling.{AppendsErasing};
+ghost use Rattle.miette_style.specs.Themes.{characters_of, styles_of, terminal_theme};
+ghost use Rattle.miette_tree.specs.Report.{tree_of};
+
+use crate::laws::snippets_law;
+use crate::pen::Pen;
+use crate::report;
+use crate::settings::{Layout, UrlMode};
+use miette_protocol::error::RenderError;
+use miette_protocol::protocol::Diagnostic;
+use miette_protocol::source::SourceCode;
+use miette_style::highlight::Highlighter;
+use miette_style::theme::{GraphicalTheme, Terminal};
+use miette_text::wrap::{WordSeparator, WordSplitter};
+use miette_tree::report::Report;
+use miette_tree::report_handler::ReportHandler;
+use std::alloc::{AllocError, Global};
+use std::marker::Model;
+
+/// Draws reports: a message under an icon, causes under arrows, source lines in frames with marks under the text that the
+/// labels speak of.
+///
+/// Users write `GraphicalReportHandler`; the parameter is the type of the highlighter that is used. All calls but `new`, `render_report`,
+/// `debug` and `display` take no memory.
+#[derive(Drop)]
+pub struct GraphicalReportHandler<H = Box<dyn Highlighter>> {
+    theme: GraphicalTheme,
+    width: usize,
+    tab_width: usize,
+    context_lines: usize,
+    primary_span_start: bool,
+    urls: UrlMode,
+    link_display_text: Option<String>,
+    cause_chain: bool,
+    related_as_nested: bool,
+    wrap_lines: bool,
+    break_words: bool,
+    word_separator: WordSeparator,
+    word_splitter: WordSplitter,
+    footer: Option<String>,
+    highlighter: Option<H>,
+}
+
+impl<H> Model for GraphicalReportHandler<H> {
+    ghost use Rattle.std.specs.Prelude.{◌≤◌, option_map, chars, codes, string_bytes};
+    ghost use Rattle.std.specs.Option.{option_map_or};
+    ghost use Rattle.miette_style.specs.Themes.{styles_of};
+    ghost use Rattle.miette_graphical.specs.Handling.{Handling};
+    ghost use Rattle.miette_graphical.specs.Modes.{urls_of, splits};
+
+    ghost Value = { Handling H };
+
+    ghost view = { λ it. record {
+      settings = record {
+        characters = it.theme.characters;
+        styles = styles_of it.theme.styles;
+        width = it.width;
+        tab = it.tab_width;
+        context = it.context_lines;
+        primary_start = it.primary_span_start;
+        urls = urls_of it.urls;
+        link_text = chars (option_map_or string_bytes it.link_display_text (codes "(link)"));
+        chain = it.cause_chain;
+        nested = it.related_as_nested;
+        wraps = it.wrap_lines;
+        breaks = it.break_words;
+        hyphens = splits it.word_splitter;
+        footer = option_map (λ t. chars (string_bytes t)) it.footer;
+      };
+      highlighter = it.highlighter;
+    } };
+
+    ghost invariant = { λ it. 1 ≤ it.tab_width };
+}
+
+impl GraphicalReportHandler {
+    /// A handler with the theme that fits a terminal, else as `new_themed` makes it.
+    ///
+    /// # Errors
+    /// Where no memory is found for the theme.
+    pub fn new(alloc: Global, terminal: &Terminal) -> Result<Self, AllocError>
+        ensures characters { IfOk result (λ it. characters_of it.settings.characters ≡ (terminal_theme terminal.now).characters) }
+        ensures settings { IfOk result (λ it. it ≡ without_highlighter (default_settings it.settings.characters (terminal_theme terminal.now).styles)) }
+    {
+        Ok(Self::new_themed(GraphicalTheme::for_terminal(alloc, terminal)?))
+    }
+
+    /// A handler with this theme: links on, 200 columns wide, one line of context, tabs to each fourth column, with causes, wrapped
+    /// rows, words broken where they are too wide, the place of the primary label in a frame, and related reports one after another.
+    pub fn new_themed(theme: GraphicalTheme) -> Self
+        ensures { result ≡ without_highlighter (default_settings theme.characters (styles_of theme.styles)) }
+    {
+        Self::themed(theme)
+    }
+}
+
+impl<H: Highlighter> GraphicalReportHandler<H> {
+    /// As `new_themed`, for highlighters of any type.
+    pub fn themed(theme: GraphicalTheme) -> Self
+        ensures { result ≡ without_highlighter (default_settings theme.characters (styles_of theme.styles)) }
+    {
+        GraphicalReportHandler {
+            theme,
+            width: 200,
+            tab_width: 4,
+            context_lines: 1,
+            primary_span_start: true,
+            urls: UrlMode::Links,
+            link_display_text: None,
+            cause_chain: true,
+            related_as_nested: false,
+            wrap_lines: true,
+            break_words: true,
+            word_separator: WordSeparator::AsciiSpace,
+            word_splitter: WordSplitter::HyphenSplitter,
+            footer: None,
+            highlighter: None,
+        }
+    }
+
+    /// Tabs go on to the next multiple of so many columns. At least 1 is the caller's condition.
+    pub fn tab_width(self, width: usize) -> Self
+        requires { 1 ≤ width }
+        ensures { result ≡ record self { settings = record self.settings { tab = width } } }
+    {
+        GraphicalReportHandler {
+            tab_width: width,
+            ..self
+        }
+    }
+
+    /// Whether a url becomes a link around the code, or a text behind it.
+    pub fn with_links(self, links: bool) -> Self
+        ensures { result ≡ record self { settings = record self.settings { urls = links_shown links } } }
+    {
+        let urls = if links { UrlMode::Links } else { UrlMode::Text };
+        GraphicalReportHandler { urls, ..self }
+    }
+
+    /// Whether urls are shown at all. Where they were not, they become links.
+    pub fn with_urls(self, urls: bool) -> Self
+        ensures { result ≡ record self { settings = record self.settings { urls = urls_shown urls self.settings.urls } } }
+    {
+        let urls = match (urls, self.urls) {
+            (false, _) => UrlMode::Hidden,
+            (true, UrlMode::Hidden) => UrlMode::Links,
+            (true, shown) => shown,
+        };
+        GraphicalReportHandler { urls, ..self }
+    }
+
+    /// The causes of the report are shown.
+    pub fn with_cause_chain(self) -> Self
+        ensures { result ≡ record self { settings = record self.settings { chain = true } } }
+    {
+        let cause_chain = true;
+        GraphicalReportHandler {
+            cause_chain,
+            ..self
+        }
+    }
+
+    /// The causes of the report are not shown.
+    pub fn without_cause_chain(self) -> Self
+        ensures { result ≡ record self { settings = record self.settings { chain = false } } }
+    {
+        let cause_chain = false;
+        GraphicalReportHandler {
+            cause_chain,
+            ..self
+        }
+    }
+
+    /// A frame shows where its primary label begins.
+    pub fn with_primary_span_start(self) -> Self
+        ensures { result ≡ record self { settings = record self.settings { primary_start = true } } }
+    {
+        let primary_span_start = true;
+        GraphicalReportHandler {
+            primary_span_start,
+            ..self
+        }
+    }
+
+    /// A frame doesn't show where its primary label begins.
+    pub fn without_primary_span_start(self) -> Self
+        ensures { result ≡ record self { settings = record self.settings { primary_start = false } } }
+    {
+        let primary_span_start = false;
+        GraphicalReportHandler {
+            primary_span_start,
+            ..self
+        }
+    }
+
+    /// Draws with this theme.
+    pub fn with_theme(self, theme: GraphicalTheme) -> Self
+        ensures { result ≡ record self { settings = record self.settings { characters = theme.characters; styles = styles_of theme.styles } } }
+    {
+        GraphicalReportHandler { theme, ..self }
+    }
+
+    /// How many columns a wrapped row may have.
+    pub fn with_width(self, width: usize) -> Self
+        ensures { result ≡ record self { settings = record self.settings { width = width } } }
+    {
+        GraphicalReportHandler { width, ..self }
+    }
+
+    /// Whether rows are wrapped to the width.
+    pub fn with_wrap_lines(self, wrap_lines: bool) -> Self
+        ensures { result ≡ record self { settings = record self.settings { wraps = wrap_lines } } }
+    {
+        GraphicalReportHandler { wrap_lines, ..self }
+    }
+
+    /// Whether a word that is wider than its row is broken.
+    pub fn with_break_words(self, break_words: bool) -> Self
+        ensures { result ≡ record self { settings = record self.settings { breaks = break_words } } }
+    {
+        GraphicalReportHandler {
+            break_words,
+            ..self
+        }
+    }
+
+    /// How words are told apart. There is one way.
+    pub fn with_word_separator(self, word_separator: WordSeparator) -> Self
+        ensures { result ≡ self }
+    {
+        GraphicalReportHandler {
+            word_separator,
+            ..self
+        }
+    }
+
+    /// Where words may be cut.
+    pub fn with_word_splitter(self, word_splitter: WordSplitter) -> Self
+        ensures { result ≡ record self { settings = record self.settings { hyphens = splits word_splitter } } }
+    {
+        GraphicalReportHandler {
+            word_splitter,
+            ..self
+        }
+    }
+
+    /// A text under each outermost report.
+    pub fn with_footer(self, footer: String) -> Self
+        ensures { result ≡ record self { settings = record self.settings { footer = Some (chars (string_bytes footer)) } } }
+    {
+        GraphicalReportHandler {
+            footer: Some(footer),
+            ..self
+        }
+    }
+
+    /// How many lines of context are shown around a label that has no number of its own.
+    pub fn with_context_lines(self, lines: usize) -> Self
+        ensures { result ≡ record self { settings = record self.settings { context = lines } } }
+    {
+        GraphicalReportHandler {
+            context_lines: lines,
+            ..self
+        }
+    }
+
+    /// Whether related reports stand under arrows, as causes do, or one after another.
+    pub fn with_show_related_as_nested(self, nested: bool) -> Self
+        ensures { result ≡ record self { settings = record self.settings { nested = nested } } }
+    {
+        GraphicalReportHandler {
+            related_as_nested: nested,
+            ..self
+        }
+    }
+
+    /// The text of a link, in place of `(link)`.
+    pub fn with_link_display_text(self, text: String) -> Self
+        ensures { result ≡ record self { settings = record self.settings { link_text = chars (string_bytes text) } } }
+    {
+        GraphicalReportHandler {
+            link_display_text: Some(text),
+            ..self
+        }
+    }
+
+    /// Styles the lines of sources by this highlighter.
+    pub fn with_syntax_highlighting(self, highlighter: H) -> Self
+        ensures { result ≡ record self { highlighter = Some highlighter } }
+    {
+        GraphicalReportHandler {
+            highlighter: Some(highlighter),
+            ..self
+        }
+    }
+
+    /// Leaves the lines of sources plain.
+    pub fn without_syntax_highlighting(self) -> Self
+        ensures { result ≡ record self { highlighter = None } }
+    {
+        let highlighter = None;
+        GraphicalReportHandler {
+            highlighter,
+            ..self
+        }
+    }
+
+    fn link_text(&self) -> &str
+        ensures { chars result.now ≡ self.now.settings.link_text }
+    {
+        match &self.link_display_text {
+            Some(text) => text.as_str(),
+            None => "(link)",
+        }
+    }
+
+    fn footer(&self) -> Option<&str>
+        ensures { option_map (λ t. chars t.now) result ≡ self.now.settings.footer }
+    {
+        match &self.footer {
+            Some(text) => Some(text.as_str()),
+            None => None,
+        }
+    }
+
+    fn layout(&self) -> Layout<'_>
+        ensures { settings_of result ≡ self.now.settings }
+    {
+        Layout {
+            theme: &self.theme,
+            width: self.width,
+            tab: self.tab_width,
+            context: self.context_lines,
+            primary_start: self.primary_span_start,
+            urls: self.urls,
+            link_text: self.link_text(),
+            chain: self.cause_chain,
+            nested: self.related_as_nested,
+            wraps: self.wrap_lines,
+            breaks: self.break_words,
+            splitter: self.word_splitter,
+            footer: self.footer(),
+        }
+    }
+
+    // Appends the picture of a report.
+    fn draw<D: Diagnostic, S: SourceCode>(
+        &mut self,
+        report: &Report<D, S>,
+        out: &mut String,
+    ) -> Result<(), RenderError>
+        ensures settings { self.new.settings ≡ self.old.settings }
+        ensures blank { draws_plain H.is_blank self.new ≡ draws_plain H.is_blank self.old }
+        ensures ok { OnOk result (Appends drawn_rows self.old.settings (draws_plain H.is_blank self.old) (tree_of D.meaning S.source report.now) (string_bytes out.old) (string_bytes out.new)) }
+        ensures only { OnOk result (draws_plain H.is_blank self.old ≡ true → all_read (printed self.old.settings (tree_of D.meaning S.source report.now)) ≡ true →
+            string_bytes out.new ≡ string_bytes out.old ++ encode_utf8_all (report_text drawn_rows self.old.settings (tree_of D.meaning S.source report.now) unlisted)) }
+        ensures colours { OnOk result (AreCleanSettings self.old.settings → IsCleanTree (tree_of D.meaning S.source report.now) →
+            AppendsOne (IsColouredText drawn_rows self.old.settings (draws_plain H.is_blank self.old) (tree_of D.meaning S.source report.now)) (string_bytes out.old) (string_bytes out.new)) }
+        ensures colourless { OnOk result (all_read (printed self.old.settings (tree_of D.meaning S.source report.now)) ≡ true →
+            AreCleanSettings self.old.settings → IsCleanTree (tree_of D.meaning S.source report.now) →
+            AppendsErasing (string_bytes out.old) (string_bytes out.new) (encode_utf8_all (report_text drawn_rows (colourless self.old.settings) (tree_of D.meaning S.source report.now) unlisted))) }
+        ensures refused { (result ≡ Err RenderError.Refused) → all_read (printed self.old.settings (tree_of D.meaning S.source report.now)) ≡ false }
+        ensures err { OnErr result (string_bytes out.new ≡ string_bytes out.old) }
+    {
+        let mut pen = Pen {
+            alloc: *out.allocator(),
+            highlighter: self.highlighter.take(),
+        };
+        let done = report::render(&mut pen, self.layout(), report, out);
+        self.highlighter = pen.highlighter;
+        done
+    }
+
+    /// Appends the picture of a report. The highlighter is restarted before each snippet with the contents of the snippet's read, and is
+    /// then given the text of each line in order. After an error `out` is as before: `Memory` where memory was refused, to the highlighter
+    /// too; `Refused` where a printed diagnostic has labels over a source that doesn't always read, and that source refused the place of a
+    /// snippet, or a group of labels of which one has its own number of context lines, which is read again.
+    pub fn render_report(&mut self, report: &Report, out: &mut String) -> Result<(), RenderError>
+        ensures settings { self.new.settings ≡ self.old.settings }
+        // a blank highlighter stays blank, and one that isn't blank doesn't become so
+        ensures blank { draws_plain H.is_blank self.new ≡ draws_plain H.is_blank self.old }
+        ensures ok { let tree = tree_of ⟦<Box<dyn Diagnostic> as Diagnostic>⟧.meaning ⟦<Box<dyn SourceCode> as SourceCode>⟧.source report.now in
+            OnOk result (Appends drawn_rows self.old.settings (draws_plain H.is_blank self.old) tree (string_bytes out.old) (string_bytes out.new)) }
+        // where every source always reads, and no highlighter or a blank one is set, there is one such text
+        ensures only { let tree = tree_of ⟦<Box<dyn Diagnostic> as Diagnostic>⟧.meaning ⟦<Box<dyn SourceCode> as SourceCode>⟧.source report.now in
+            OnOk result (draws_plain H.is_blank self.old ≡ true → all_read (printed self.old.settings tree) ≡ true →
+            string_bytes out.new ≡ string_bytes out.old ++ encode_utf8_all (report_text drawn_rows self.old.settings tree unlisted)) }
+        // where the texts, the sources with their names, the settings and the theme's characters hold no escape: without its colours,
+        // what was appended is the text in plain styles and without a highlighter under the same reads,
+        ensures colours { let tree = tree_of ⟦<Box<dyn Diagnostic> as Diagnostic>⟧.meaning ⟦<Box<dyn SourceCode> as SourceCode>⟧.source report.now in
+            OnOk result (AreCleanSettings self.old.settings → IsCleanTree tree →
+            AppendsOne (IsColouredText drawn_rows self.old.settings (draws_plain H.is_blank self.old) tree) (string_bytes out.old) (string_bytes out.new)) }
+        // which is one text where every source always reads, whatever a highlighter says
+        ensures colourless { let tree = tree_of ⟦<Box<dyn Diagnostic> as Diagnostic>⟧.meaning ⟦<Box<dyn SourceCode> as SourceCode>⟧.source report.now in
+            OnOk result (all_read (printed self.old.settings tree) ≡ true → AreCleanSettings self.old.settings → IsCleanTree tree →
+            AppendsErasing (string_bytes out.old) (string_bytes out.new) (encode_utf8_all (report_text drawn_rows (colourless self.old.settings) tree unlisted))) }
+        // of each printed diagnostic: its snippets show the lines in the context of its labels, once and in order,
+        ensures lines { let tree = tree_of ⟦<Box<dyn Diagnostic> as Diagnostic>⟧.meaning ⟦<Box<dyn SourceCode> as SourceCode>⟧.source report.now in
+            OnOk result (AllByRecursion (LinesAreShown self.old.settings) (printed self.old.settings tree)) }
+        // its marks have columns of their own,
+        ensures marks { let tree = tree_of ⟦<Box<dyn Diagnostic> as Diagnostic>⟧.meaning ⟦<Box<dyn SourceCode> as SourceCode>⟧.source report.now in
+            OnOk result (AllByRecursion (MarksAreApart self.old.settings) (printed self.old.settings tree)) }
+        // and each text of a label on one line hangs from its own mark
+        ensures texts { let tree = tree_of ⟦<Box<dyn Diagnostic> as Diagnostic>⟧.meaning ⟦<Box<dyn SourceCode> as SourceCode>⟧.source report.now in
+            OnOk result (AllByRecursion (TextsHang self.old.settings) (printed self.old.settings tree)) }
+        ensures refused { let tree = tree_of ⟦<Box<dyn Diagnostic> as Diagnostic>⟧.meaning ⟦<Box<dyn SourceCode> as SourceCode>⟧.source report.now in
+            (result ≡ Err RenderError.Refused) → all_read (printed self.old.settings tree) ≡ false }
+        ensures err { OnErr result (string_bytes out.new ≡ string_bytes out.old) }
+    {
+        snippets_law();
+        self.draw(report, out)
+    }
+}
+
+impl<H: Highlighter> ReportHandler for GraphicalReportHandler<H> {
+    ghost gives = { λ it t. IsTextOf drawn_rows it.settings (draws_plain H.is_blank it) t };
+
+    ghost refuses = { λ it t. all_read (printed it.settings t) ≡ false };
+
+    ghost keeps = { λ old new. (new.settings ≡ old.settings) × (draws_plain H.is_blank new ≡ draws_plain H.is_blank old) };
+
+    fn debug<D: Diagnostic, S: SourceCode>(
+        &mut self,
+        report: &Report<D, S>,
+        out: &mut String,
+    ) -> Result<(), RenderError> {
+        self.draw::<D, S>(report, out)
+    }
+}

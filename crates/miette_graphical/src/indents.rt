@@ -1,0 +1,214 @@
+//! What stands in front of rows, and text wrapped under it.
+
+ghost use Rattle.std.specs.Prelude.{◌≡◌, ◌++◌, ◌-◌, IfOk, OnOk, chars, option_map};
+ghost use Rattle.miette_graphical.specs.Indents as indents;
+ghost use Rattle.miette_graphical.specs.Parts as parts;
+ghost use Rattle.miette_graphical.specs.Modes.{splits};
+ghost use Rattle.miette_graphical.specs.Views.{settings_of};
+ghost use Rattle.miette_text.specs.Filling.{layout_with};
+ghost use Rattle.miette_text.specs.Runs.{print};
+ghost use Rattle.miette_text.specs.Sequences.{spell};
+ghost use Rattle.miette_text.specs.Wrapping.{wrapped};
+
+use crate::settings::{Layout, icon, severity_style};
+use miette_protocol::protocol::Severity;
+use miette_text::runs::Runs;
+use miette_text::runs::output::Output;
+use miette_text::runs::reading::{columns_of, read_text};
+use miette_text::wrap::{Plan, cuts_hyphens, wrap};
+use std::alloc::{AllocError, Global};
+
+/// How a cause or a nested report hangs under another one: in the style of that one's severity, and as the last one or not.
+#[derive(Clone, Copy)]
+pub struct Branch {
+    pub outer: Option<Severity>,
+    pub is_last: bool,
+}
+
+/// How a text is wrapped under a first and a further indent.
+fn plan<'a>(layout: Layout<'_>, first: &'a Runs, further: &'a Runs) -> Plan<'a>
+    ensures wraps { result.wraps ≡ layout.entry.wraps }
+    ensures hyphens { result.hyphens ≡ splits layout.entry.splitter }
+    ensures breaks { result.breaks ≡ layout.entry.breaks }
+    ensures width { result.width ≡ layout.entry.width - 2 }
+    ensures first { result.first.now ≡ first.now }
+    ensures further { result.further.now ≡ further.now }
+{
+    Plan {
+        wraps: layout.wraps,
+        hyphens: cuts_hyphens(layout.splitter),
+        breaks: layout.breaks,
+        width: layout.width.saturating_sub(2),
+        first,
+        further,
+    }
+}
+
+/// Appends a text, wrapped, and a line feed.
+fn push_wrapped(
+    alloc: Global,
+    plan: Plan<'_>,
+    text: &Runs,
+    out: &mut Output,
+) -> Result<(), AllocError>
+    ensures { OnOk result (out.new ≡ out.old ++ (wrapped (layout_with plan.entry.wraps plan.entry.hyphens plan.entry.breaks plan.entry.width (spell plan.entry.first.now) (spell plan.entry.further.now)) (spell text.now) ++ parts.line_feed)) }
+{
+    wrap(alloc, plan, text, out)?;
+    out.push('\n')
+}
+
+// `  × `
+fn icon_indent(
+    alloc: Global,
+    layout: Layout<'_>,
+    severity: Option<Severity>,
+) -> Result<Runs, AllocError>
+    ensures { IfOk result (λ r. spell r ≡ print (indents.icon_indent (settings_of layout.entry) severity)) }
+{
+    let mut runs = Runs::new(alloc);
+    runs.push_chars(&[' ', ' '])?;
+    runs.push_run(severity_style(layout, severity), icon(layout, severity))?;
+    runs.push(' ')?;
+    Ok(runs)
+}
+
+// `  │ `
+fn bar_indent(
+    alloc: Global,
+    layout: Layout<'_>,
+    severity: Option<Severity>,
+) -> Result<Runs, AllocError>
+    ensures { IfOk result (λ r. spell r ≡ print (indents.bar_indent (settings_of layout.entry) severity)) }
+{
+    let bar = [layout.theme.characters.vbar];
+    let mut runs = Runs::new(alloc);
+    runs.push_chars(&[' ', ' '])?;
+    runs.push_run_chars(severity_style(layout, severity), &bar)?;
+    runs.push(' ')?;
+    Ok(runs)
+}
+
+// `  ├─▶ `, the last one `  ╰─▶ `
+fn arrow_indent(alloc: Global, layout: Layout<'_>, branch: Branch) -> Result<Runs, AllocError>
+    ensures { IfOk result (λ r. spell r ≡ print (indents.arrow_indent (settings_of layout.entry) branch.outer branch.is_last)) }
+{
+    let characters = &layout.theme.characters;
+    let blank = ' ';
+    let last = characters.lbot;
+    let other = characters.lcross;
+    let hbar = characters.hbar;
+    let head = characters.rarrow;
+    let corner = if branch.is_last { last } else { other };
+    let arrow = [blank, blank, corner, hbar, head, blank];
+    let mut runs = Runs::new(alloc);
+    runs.push_run_chars(severity_style(layout, branch.outer), &arrow)?;
+    Ok(runs)
+}
+
+// `  │   `, under the last one six spaces
+fn stem_indent(alloc: Global, layout: Layout<'_>, branch: Branch) -> Result<Runs, AllocError>
+    ensures { IfOk result (λ r. spell r ≡ print (indents.stem_indent (settings_of layout.entry) branch.outer branch.is_last)) }
+{
+    let blank = ' ';
+    let vbar = layout.theme.characters.vbar;
+    let bar = if branch.is_last { blank } else { vbar };
+    let stem = [blank, blank, bar, blank, blank, blank];
+    let mut runs = Runs::new(alloc);
+    runs.push_run_chars(severity_style(layout, branch.outer), &stem)?;
+    Ok(runs)
+}
+
+/// The layout of what stands under an arrow.
+pub fn narrowed<'a>(
+    alloc: Global,
+    layout: Layout<'a>,
+    branch: Branch,
+) -> Result<Layout<'a>, AllocError>
+    ensures { IfOk result (λ l. settings_of l ≡ indents.narrowed (settings_of layout.entry) branch.outer branch.is_last) }
+{
+    let columns = columns_of(alloc, &stem_indent(alloc, layout, branch)?)?;
+    Ok(Layout {
+        width: layout.width.saturating_sub(columns),
+        ..layout
+    })
+}
+
+/// Appends a cause or a nested related report under its arrow.
+pub fn push_under_arrow(
+    alloc: Global,
+    layout: Layout<'_>,
+    branch: Branch,
+    text: &Runs,
+    out: &mut Output,
+) -> Result<(), AllocError>
+    ensures { OnOk result (out.new ≡ out.old ++ parts.under_arrow (settings_of layout.entry) branch.outer branch.is_last (spell text.now)) }
+{
+    let first = arrow_indent(alloc, layout, branch)?;
+    let further = stem_indent(alloc, layout, branch)?;
+    push_wrapped(alloc, plan(layout, &first, &further), text, out)
+}
+
+/// Appends a message behind its icon.
+pub fn push_message(
+    alloc: Global,
+    layout: Layout<'_>,
+    severity: Option<Severity>,
+    message: &str,
+    out: &mut Output,
+) -> Result<(), AllocError>
+    ensures { OnOk result (out.new ≡ out.old ++ (indents.wrapped_under (settings_of layout.entry) (indents.icon_indent (settings_of layout.entry) severity) (indents.bar_indent (settings_of layout.entry) severity) (chars message.now) ++ parts.line_feed)) }
+{
+    let first = icon_indent(alloc, layout, severity)?;
+    let further = bar_indent(alloc, layout, severity)?;
+    let message = read_text(alloc, message)?;
+    push_wrapped(alloc, plan(layout, &first, &further), &message, out)
+}
+
+// `  help: `
+fn help_indent(alloc: Global, layout: Layout<'_>) -> Result<Runs, AllocError>
+    ensures { IfOk result (λ r. spell r ≡ print (indents.help_indent (settings_of layout.entry))) }
+{
+    let mut runs = Runs::new(alloc);
+    runs.push_run(layout.theme.styles.help, "  help: ")?;
+    Ok(runs)
+}
+
+// So many spaces.
+fn blank_indent(alloc: Global, spaces: &[char]) -> Result<Runs, AllocError>
+    ensures { IfOk result (λ r. spell r ≡ spaces.now) }
+{
+    let mut runs = Runs::new(alloc);
+    runs.push_chars(spaces)?;
+    Ok(runs)
+}
+
+/// Appends a help text, where there is one.
+pub fn push_help(
+    alloc: Global,
+    layout: Layout<'_>,
+    help: Option<&str>,
+    out: &mut Output,
+) -> Result<(), AllocError>
+    ensures { OnOk result (out.new ≡ out.old ++ parts.help_text (settings_of layout.entry) (option_map (λ t. t.now) help.entry)) }
+{
+    let Some(help) = help else {
+        return Ok(());
+    };
+    let first = help_indent(alloc, layout)?;
+    let further = blank_indent(alloc, &[' '; 8])?;
+    let help = read_text(alloc, help)?;
+    push_wrapped(alloc, plan(layout, &first, &further), &help, out)
+}
+
+/// Appends a blank row and the footer, where there is one.
+pub fn push_footer(alloc: Global, layout: Layout<'_>, out: &mut Output) -> Result<(), AllocError>
+    ensures { OnOk result (out.new ≡ out.old ++ parts.footer_text (settings_of layout.entry)) }
+{
+    let Some(footer) = layout.footer else {
+        return Ok(());
+    };
+    let indent = blank_indent(alloc, &[' ', ' '])?;
+    let footer = read_text(alloc, footer)?;
+    out.push('\n')?;
+    push_wrapped(alloc, plan(layout, &indent, &indent), &footer, out)
+}

@@ -1,0 +1,85 @@
+//! What holds of the definition of a report's text: of its colours, and of the snippets of each diagnostic that it prints.
+
+ghost use Rattle.std.specs.Prelude.{◌≡◌, ℕ, Bool, List, Some, encode_utf8_all, true};
+ghost use Rattle.miette_graphical.specs.Answered.{IsTextOf};
+ghost use Rattle.miette_graphical.specs.Answers.{Answers, unlisted};
+ghost use Rattle.miette_graphical.specs.Clean.{AreCleanSettings, IsCleanTree};
+ghost use Rattle.miette_graphical.specs.Colourless.{AreSnippets, IsColouredText, colourless, unhighlighted};
+ghost use Rattle.std.specs.List.{AllByRecursion, Contains};
+ghost use Rattle.miette_graphical.specs.Headline.{LinesAreShown, MarksAreApart, TextsHang};
+ghost use Rattle.miette_graphical.specs.Parts.{SnippetRows};
+ghost use Rattle.miette_graphical.specs.Paths.{HasPath, Step, printed_at};
+ghost use Rattle.miette_graphical.specs.Printed.{Printed, all_read, printed};
+ghost use Rattle.miette_graphical.specs.Settings.{Settings};
+ghost use Rattle.miette_graphical.specs.Snippets.{drawn_rows};
+ghost use Rattle.miette_graphical.specs.Text.{report_text};
+ghost use Rattle.miette_tree.specs.Tree.{Tree};
+ghost use Rattle.miette_text.specs.Sequences.{erase};
+ghost use Rattle.miette_text.specs.Tame.{IsTame};
+
+use miette_layout::laws::{
+    groups_are_runs, marks_are_apart, rows_fade, rows_hold_no_escape, runs_are_maximal,
+    snippets_draw_runs, texts_hang,
+};
+use miette_text::wrap::laws::{
+    columns_law, cutting_law, encoding_law, joining_law, printing_law, wrapping_law,
+};
+
+/// For all rows of snippets that fade, where no text, url, source, name, setting or theme character holds an escape: a report's text
+/// without its colours is the text of the same tree in plain styles under the same reads, and can be wrapped again in another one.
+pub fn colours_law()
+    ensures erase { (rows : SnippetRows) (s : Settings) (t : Tree) (a : Answers) → AreSnippets rows → AreCleanSettings s → IsCleanTree t →
+        erase (report_text rows s t a) ≡ report_text rows (colourless s) t (unhighlighted a) }
+    ensures tame { (rows : SnippetRows) (s : Settings) (t : Tree) (a : Answers) → AreSnippets rows → AreCleanSettings s → IsCleanTree t →
+        IsTame (report_text rows s t a) }
+    // Settings that differ in styles alone give the same text but for colours.
+    ensures alike { (rows : SnippetRows) (s u : Settings) (t : Tree) (a b : Answers) → AreSnippets rows → AreCleanSettings s → AreCleanSettings u → IsCleanTree t →
+        colourless s ≡ colourless u → unhighlighted a ≡ unhighlighted b → erase (report_text rows s t a) ≡ erase (report_text rows u t b) }
+{
+    wrapping_law();
+    joining_law();
+    cutting_law();
+    printing_law();
+    columns_law();
+}
+
+/// The rows of snippets, as they are drawn, fade and hold no escape.
+pub fn drawn_rows_law()
+    ensures { AreSnippets drawn_rows }
+{
+    rows_fade();
+    rows_hold_no_escape();
+}
+
+/// Of each text that may be printed of such a report: without its colours it is the text in plain styles under the same reads. Where
+/// every source always reads, that is one text.
+pub fn erasing_law()
+    ensures text { (s : Settings) (blank : Bool) (t : Tree) (bytes : List ℕ) → AreCleanSettings s → IsCleanTree t → IsTextOf drawn_rows s blank t bytes → IsColouredText drawn_rows s blank t bytes }
+    ensures only { (s : Settings) (blank : Bool) (t : Tree) (bytes : List ℕ) → AreCleanSettings s → IsCleanTree t → IsTextOf drawn_rows s blank t bytes → all_read (printed s t) ≡ true →
+        erase bytes ≡ encode_utf8_all (report_text drawn_rows (colourless s) t unlisted) }
+{
+    colours_law();
+    drawn_rows_law();
+    encoding_law();
+}
+
+/// The snippets of each printed diagnostic show the lines in the context of its labels, its marks are apart, and each text hangs from
+/// its own mark.
+pub fn snippets_law()
+    ensures lines { (s : Settings) (t : Tree) → AllByRecursion (LinesAreShown s) (printed s t) }
+    ensures marks { (s : Settings) (t : Tree) → AllByRecursion (MarksAreApart s) (printed s t) }
+    ensures texts { (s : Settings) (t : Tree) → AllByRecursion (TextsHang s) (printed s t) }
+{
+    snippets_draw_runs();
+    groups_are_runs();
+    runs_are_maximal();
+    marks_are_apart();
+    texts_hang();
+}
+
+/// The printed diagnostics are those that stand at a path from the outermost one: by steps to a cause where causes are shown, and to
+/// a related report by its number.
+pub fn paths_law()
+    ensures named { (s : Settings) (t : Tree) (p : Printed) → Contains (printed s t) p → HasPath s t p }
+    ensures only { (s : Settings) (t : Tree) (path : List Step) (p : Printed) → printed_at s t path ≡ Some p → Contains (printed s t) p }
+{}

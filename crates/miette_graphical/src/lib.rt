@@ -1,0 +1,11 @@
+//! The graphical report: from a tree to its picture.
+#![tactic(auto)]
+
+pub mod handler;
+mod header;
+mod indents;
+pub mod laws;
+mod pen;
+mod printing;
+mod report;
+mod settings;

@@ -1,0 +1,447 @@
+//! The text of a whole report.
+
+ghost use Rattle.std.specs.Prelude.{◌≡◌, ◌++◌, IfOk, OnOk, OnErr, option_map, map, not, string_bytes, encode_utf8_all};
+ghost use Rattle.std.specs.Prelude.{false, true};
+ghost use Rattle.miette_graphical.specs.Answers.{unlisted};
+ghost use Rattle.miette_graphical.specs.Answered.{Appends, AreCauses, AreDrawn, AreRelated, AreRootCauses, IsBelow, IsDrawn, IsInner, IsNested, IsOneCause, IsOneRelated, IsReport, IsSibling};
+ghost use Rattle.miette_graphical.specs.Clean.{AreCleanSettings, IsCleanTree};
+ghost use Rattle.miette_graphical.specs.Colourless.{IsColouredText, colourless};
+ghost use Rattle.miette_tree.specs.Handler.{AppendsOne};
+ghost use Rattle.miette_graphical.specs.Printed.{all_read, always_reads, printed, printed_causes, printed_inner, printed_one, printed_related, printed_root_causes, printed_sibling};
+ghost use Rattle.miette_layout.specs.Highlighted.{leaves_plain};
+ghost use Rattle.miette_tree.specs.Owned.{shown_source};
+ghost use Rattle.miette_graphical.specs.Parts as parts;
+ghost use Rattle.miette_graphical.specs.Snippets.{drawn_rows};
+ghost use Rattle.miette_graphical.specs.Text as texts;
+ghost use Rattle.miette_graphical.specs.Views.{settings_of};
+ghost use Rattle.miette_tree.specs.Report.{tree_of};
+ghost use Rattle.miette_tree.specs.Tree.{cause_of, effective, head, source_of, trees};
+ghost use Rattle.miette_text.specs.Runs as runs;
+ghost use Rattle.miette_text.specs.Sequences.{spell};
+ghost use Rattle.miette_text.specs.Filling.{AppendsErasing};
+ghost use Rattle.miette_text.specs.Tame.{is_nil};
+
+use crate::header::{push_header, severity_title};
+use crate::indents::{Branch, narrowed, push_footer, push_help, push_message, push_under_arrow};
+use crate::laws::erasing_law;
+use crate::pen::Pen;
+use crate::printing::{append_printed, push_page};
+use crate::settings::{Layout, severity_style};
+use miette_layout::options::LayoutOptions;
+use miette_layout::snippets::snippets;
+use miette_protocol::error::RenderError;
+use miette_protocol::protocol::{Diagnostic, LabeledSpan, Severity};
+use miette_protocol::source::SourceCode;
+use miette_style::highlight::Highlighter;
+use miette_text::runs::Runs;
+use miette_text::runs::output::Output;
+use miette_text::runs::reading::read_text;
+use miette_text::wrap::cutting::{without_leading, without_trailing};
+use miette_tree::parts::{cause_texts, labels_of, own_or};
+use miette_tree::report::{Cause, Report, SourceRef};
+use std::alloc::{AllocError, Global};
+
+/// Appends the text of the rows of a diagnostic's snippets, over its effective source.
+fn push_rows<D: Diagnostic, S: SourceCode, H: Highlighter>(
+    pen: &mut Pen<H>,
+    layout: Layout<'_>,
+    source: Option<SourceRef<'_, S>>,
+    report: &Report<D, S>,
+    out: &mut Output,
+) -> Result<(), RenderError>
+    ensures ok { OnOk result (AppendsOne (IsDrawn drawn_rows (settings_of layout.entry) (leaves_plain H.is_blank pen.old.highlighter) (option_map (shown_source S.source) source.entry) (head (tree_of D.meaning S.source report.now))) out.old out.new) }
+    ensures refused { (result ≡ Err RenderError.Refused) → always_reads (option_map (shown_source S.source) source.entry) (head (tree_of D.meaning S.source report.now)) ≡ false }
+    ensures stays { leaves_plain H.is_blank pen.new.highlighter ≡ leaves_plain H.is_blank pen.old.highlighter }
+{
+    match source {
+        None => Ok(()),
+        Some(source) => push_shown(pen, layout, source, report, out),
+    }
+}
+
+/// The same over a source that is there.
+fn push_shown<D: Diagnostic, S: SourceCode, H: Highlighter>(
+    pen: &mut Pen<H>,
+    layout: Layout<'_>,
+    source: SourceRef<'_, S>,
+    report: &Report<D, S>,
+    out: &mut Output,
+) -> Result<(), RenderError>
+    ensures ok { OnOk result (AppendsOne (IsDrawn drawn_rows (settings_of layout.entry) (leaves_plain H.is_blank pen.old.highlighter) (Some (shown_source S.source source.entry)) (head (tree_of D.meaning S.source report.now))) out.old out.new) }
+    ensures refused { (result ≡ Err RenderError.Refused) → always_reads (Some (shown_source S.source source.entry)) (head (tree_of D.meaning S.source report.now)) ≡ false }
+    ensures stays { leaves_plain H.is_blank pen.new.highlighter ≡ leaves_plain H.is_blank pen.old.highlighter }
+{
+    let labels = labels_of(report);
+    match labels {
+        [] => Ok(()),
+        [_, ..] => push_drawn(pen, layout, source, labels, out),
+    }
+}
+
+/// Appends the text of the rows of some labels' snippets, over a source.
+fn push_drawn<S: SourceCode, H: Highlighter>(
+    pen: &mut Pen<H>,
+    layout: Layout<'_>,
+    source: SourceRef<'_, S>,
+    labels: &[LabeledSpan],
+    out: &mut Output,
+) -> Result<(), RenderError>
+    ensures ok { OnOk result (AppendsOne (AreDrawn (settings_of layout.entry) (leaves_plain H.is_blank pen.old.highlighter) (shown_source S.source source.entry) labels.now) out.old out.new) }
+    ensures refused { (result ≡ Err RenderError.Refused) → (shown_source S.source source.entry).always_reads ≡ false }
+    ensures stays { leaves_plain H.is_blank pen.new.highlighter ≡ leaves_plain H.is_blank pen.old.highlighter }
+{
+    let options = LayoutOptions {
+        tab_width: layout.tab,
+        context_lines: layout.context,
+        primary_start: layout.primary_start,
+    };
+    let page = match snippets(
+        pen.alloc,
+        &mut pen.highlighter,
+        layout.theme,
+        &options,
+        &source,
+        labels,
+    ) {
+        Ok(page) => page,
+        Err(RenderError::Refused) => return Err(RenderError::Refused),
+        Err(RenderError::Memory) => return Err(RenderError::Memory),
+    };
+    push_page(&page, out)?;
+    Ok(())
+}
+
+/// Appends a report's header, and says whether there is one.
+fn push_header_of<D: Diagnostic, S: SourceCode>(
+    layout: Layout<'_>,
+    report: &Report<D, S>,
+    out: &mut Output,
+) -> Result<bool, AllocError>
+    ensures text { OnOk result (out.new ≡ out.old ++ runs.print (parts.header (settings_of layout.entry) (head (tree_of D.meaning S.source report.now)))) }
+    ensures shown { IfOk result (λ shown. shown ≡ not (is_nil (parts.header (settings_of layout.entry) (head (tree_of D.meaning S.source report.now))))) }
+{
+    push_header(
+        layout,
+        severity_style(layout, report.severity()),
+        report.url(),
+        report.code(),
+        out,
+    )
+}
+
+fn push_message_of<D: Diagnostic, S: SourceCode>(
+    alloc: Global,
+    layout: Layout<'_>,
+    report: &Report<D, S>,
+    out: &mut Output,
+) -> Result<(), AllocError>
+    ensures { OnOk result (out.new ≡ out.old ++ parts.message_text (settings_of layout.entry) (head (tree_of D.meaning S.source report.now))) }
+{
+    push_message(alloc, layout, report.severity(), report.message(), out)
+}
+
+/// Appends what a sibling begins with: its severity, and its header or else the end of the row.
+fn push_title<D: Diagnostic, S: SourceCode>(
+    layout: Layout<'_>,
+    report: &Report<D, S>,
+    out: &mut Output,
+) -> Result<(), AllocError>
+    ensures { OnOk result (out.new ≡ out.old ++ parts.title_text (settings_of layout.entry) (head (tree_of D.meaning S.source report.now))) }
+{
+    out.push('\n')?;
+    out.push_str(severity_title(report.severity()))?;
+    if !push_header_of(layout, report, out)? {
+        out.push('\n')?;
+    }
+    Ok(())
+}
+
+fn is_nil(list: &[String]) -> bool
+    ensures { result ≡ is_nil (map string_bytes list.now) }
+{
+    match list {
+        [] => true,
+        [_, ..] => false,
+    }
+}
+
+/// Appends causes that are texts, each under its arrow.
+fn push_cause_texts(
+    alloc: Global,
+    layout: Layout<'_>,
+    outer: Option<Severity>,
+    list: &[String],
+    out: &mut Output,
+) -> Result<(), AllocError>
+    ensures { OnOk result (out.new ≡ out.old ++ texts.cause_texts (settings_of layout.entry) outer (map string_bytes list.now)) }
+{
+    let mut rest = list;
+    while let [text, more @ ..] = rest {
+        let branch = Branch {
+            outer,
+            is_last: is_nil(more),
+        };
+        let cause = read_text(alloc, text.as_str())?;
+        push_under_arrow(alloc, layout, branch, &cause, out)?;
+        rest = more;
+    }
+    Ok(())
+}
+
+fn ends_there<D: Diagnostic, S: SourceCode>(report: &Report<D, S>) -> bool
+    ensures { result ≡ texts.ends_there (cause_of (tree_of D.meaning S.source report.now)) }
+{
+    match report.cause() {
+        Cause::None => true,
+        Cause::Diagnostic(_) => false,
+        Cause::Texts(list) => is_nil(list),
+    }
+}
+
+fn are_last<D: Diagnostic, S: SourceCode>(reports: &[Report<D, S>]) -> bool
+    ensures { result ≡ texts.are_last (trees (map (tree_of D.meaning S.source) reports.now)) }
+{
+    match reports {
+        [] => true,
+        [_, ..] => false,
+    }
+}
+
+/// Appends the causes of a report, under arrows in the style of the outer severity.
+#[cycle(report)]
+fn push_causes<D: Diagnostic, S: SourceCode, H: Highlighter>(
+    pen: &mut Pen<H>,
+    layout: Layout<'_>,
+    outer: Option<Severity>,
+    inherited: Option<SourceRef<'_, S>>,
+    report: &Report<D, S>,
+    out: &mut Output,
+) -> Result<(), RenderError>
+    ensures ok { OnOk result (AppendsOne (AreCauses drawn_rows (settings_of layout.entry) (leaves_plain H.is_blank pen.old.highlighter) outer (option_map (shown_source S.source) inherited.entry) (cause_of (tree_of D.meaning S.source report.now))) out.old out.new) }
+    ensures refused { (result ≡ Err RenderError.Refused) → all_read (printed_causes layout.entry.nested (option_map (shown_source S.source) inherited.entry) (cause_of (tree_of D.meaning S.source report.now))) ≡ false }
+    ensures stays { leaves_plain H.is_blank pen.new.highlighter ≡ leaves_plain H.is_blank pen.old.highlighter }
+{
+    let mut at = report;
+    while let Cause::Diagnostic(next) = at.cause() {
+        push_one_cause(pen, layout, outer, inherited, next, out)?;
+        at = next;
+    }
+    push_cause_texts(pen.alloc, layout, outer, cause_texts(at), out)?;
+    Ok(())
+}
+
+/// Appends a diagnostic cause under its arrow.
+#[cycle(report)]
+fn push_one_cause<D: Diagnostic, S: SourceCode, H: Highlighter>(
+    pen: &mut Pen<H>,
+    layout: Layout<'_>,
+    outer: Option<Severity>,
+    inherited: Option<SourceRef<'_, S>>,
+    cause: &Report<D, S>,
+    out: &mut Output,
+) -> Result<(), RenderError>
+    ensures ok { OnOk result (AppendsOne (IsOneCause drawn_rows (settings_of layout.entry) (leaves_plain H.is_blank pen.old.highlighter) outer (option_map (shown_source S.source) inherited.entry) (tree_of D.meaning S.source cause.now)) out.old out.new) }
+    ensures refused { (result ≡ Err RenderError.Refused) → all_read (printed_inner layout.entry.nested (effective (source_of (tree_of D.meaning S.source cause.now)) (option_map (shown_source S.source) inherited.entry)) (tree_of D.meaning S.source cause.now)) ≡ false }
+    ensures stays { leaves_plain H.is_blank pen.new.highlighter ≡ leaves_plain H.is_blank pen.old.highlighter }
+{
+    let branch = Branch {
+        outer,
+        is_last: ends_there(cause),
+    };
+    let narrow = narrowed(pen.alloc, layout, branch)?;
+    let inner = inner_text(pen, narrow, own_or(cause, inherited), cause)?;
+    push_under_arrow(pen.alloc, layout, branch, &inner, out)?;
+    Ok(())
+}
+
+/// A report that stands in another one, over its effective source.
+#[cycle(report)]
+fn inner_text<D: Diagnostic, S: SourceCode, H: Highlighter>(
+    pen: &mut Pen<H>,
+    layout: Layout<'_>,
+    source: Option<SourceRef<'_, S>>,
+    report: &Report<D, S>,
+) -> Result<Runs, RenderError>
+    ensures ok { IfOk result (λ r. IsInner drawn_rows (settings_of layout.entry) (leaves_plain H.is_blank pen.old.highlighter) (option_map (shown_source S.source) source.entry) (tree_of D.meaning S.source report.now) (spell r)) }
+    ensures refused { (result ≡ Err RenderError.Refused) → all_read (printed_inner layout.entry.nested (option_map (shown_source S.source) source.entry) (tree_of D.meaning S.source report.now)) ≡ false }
+    ensures stays { leaves_plain H.is_blank pen.new.highlighter ≡ leaves_plain H.is_blank pen.old.highlighter }
+{
+    let mut text = Output::collected(pen.alloc);
+    push_header_of(layout, report, &mut text)?;
+    push_message_of(pen.alloc, layout, report, &mut text)?;
+    push_below(pen, layout, source, report, &mut text)?;
+    let runs = text.into_runs(pen.alloc)?;
+    Ok(without_leading(pen.alloc, runs)?)
+}
+
+/// Appends what stands below a report's causes, over its effective source: the rows of its snippets, its help, and its related
+/// reports.
+#[cycle(report)]
+fn push_below<D: Diagnostic, S: SourceCode, H: Highlighter>(
+    pen: &mut Pen<H>,
+    layout: Layout<'_>,
+    source: Option<SourceRef<'_, S>>,
+    report: &Report<D, S>,
+    out: &mut Output,
+) -> Result<(), RenderError>
+    ensures ok { OnOk result (AppendsOne (IsBelow drawn_rows (settings_of layout.entry) (leaves_plain H.is_blank pen.old.highlighter) (option_map (shown_source S.source) source.entry) (tree_of D.meaning S.source report.now)) out.old out.new) }
+    ensures refused { (result ≡ Err RenderError.Refused) → all_read (printed_inner layout.entry.nested (option_map (shown_source S.source) source.entry) (tree_of D.meaning S.source report.now)) ≡ false }
+    ensures stays { leaves_plain H.is_blank pen.new.highlighter ≡ leaves_plain H.is_blank pen.old.highlighter }
+{
+    push_rows(pen, layout, source, report, out)?;
+    push_help(pen.alloc, layout, report.help(), out)?;
+    let related = report.related();
+    push_related(pen, layout, report.severity(), source, related, out)?;
+    Ok(())
+}
+
+/// Appends a related report as a sibling, over its effective source.
+#[cycle(report)]
+fn push_sibling<D: Diagnostic, S: SourceCode, H: Highlighter>(
+    pen: &mut Pen<H>,
+    layout: Layout<'_>,
+    source: Option<SourceRef<'_, S>>,
+    report: &Report<D, S>,
+    out: &mut Output,
+) -> Result<(), RenderError>
+    ensures ok { OnOk result (AppendsOne (IsSibling drawn_rows (settings_of layout.entry) (leaves_plain H.is_blank pen.old.highlighter) (option_map (shown_source S.source) source.entry) (tree_of D.meaning S.source report.now)) out.old out.new) }
+    ensures refused { (result ≡ Err RenderError.Refused) → all_read (printed_sibling layout.entry.nested (option_map (shown_source S.source) source.entry) (tree_of D.meaning S.source report.now)) ≡ false }
+    ensures stays { leaves_plain H.is_blank pen.new.highlighter ≡ leaves_plain H.is_blank pen.old.highlighter }
+{
+    push_title(layout, report, out)?;
+    push_message_of(pen.alloc, layout, report, out)?;
+    push_causes(pen, layout, report.severity(), source, report, out)?;
+    push_below(pen, layout, source, report, out)?;
+    Ok(())
+}
+
+/// Appends a related report under its arrow, over its effective source.
+#[cycle(report)]
+fn push_nested<D: Diagnostic, S: SourceCode, H: Highlighter>(
+    pen: &mut Pen<H>,
+    layout: Layout<'_>,
+    branch: Branch,
+    source: Option<SourceRef<'_, S>>,
+    report: &Report<D, S>,
+    out: &mut Output,
+) -> Result<(), RenderError>
+    ensures ok { OnOk result (AppendsOne (IsNested drawn_rows (settings_of layout.entry) (leaves_plain H.is_blank pen.old.highlighter) branch.outer (option_map (shown_source S.source) source.entry) branch.is_last (tree_of D.meaning S.source report.now)) out.old out.new) }
+    ensures refused { (result ≡ Err RenderError.Refused) → all_read (printed_inner layout.entry.nested (option_map (shown_source S.source) source.entry) (tree_of D.meaning S.source report.now)) ≡ false }
+    ensures stays { leaves_plain H.is_blank pen.new.highlighter ≡ leaves_plain H.is_blank pen.old.highlighter }
+{
+    let narrow = narrowed(pen.alloc, layout, branch)?;
+    let inner = inner_text(pen, narrow, source, report)?;
+    let cut = without_trailing(pen.alloc, inner)?;
+    push_under_arrow(pen.alloc, layout, branch, &cut, out)?;
+    Ok(())
+}
+
+/// Appends one of several related reports, nested or as a sibling, over its effective source.
+#[cycle(report)]
+fn push_one_related<D: Diagnostic, S: SourceCode, H: Highlighter>(
+    pen: &mut Pen<H>,
+    layout: Layout<'_>,
+    branch: Branch,
+    source: Option<SourceRef<'_, S>>,
+    report: &Report<D, S>,
+    out: &mut Output,
+) -> Result<(), RenderError>
+    ensures ok { OnOk result (AppendsOne (IsOneRelated drawn_rows (settings_of layout.entry) (leaves_plain H.is_blank pen.old.highlighter) branch.outer (option_map (shown_source S.source) source.entry) branch.is_last (tree_of D.meaning S.source report.now)) out.old out.new) }
+    ensures refused { (result ≡ Err RenderError.Refused) → all_read (printed_one layout.entry.nested (option_map (shown_source S.source) source.entry) (tree_of D.meaning S.source report.now)) ≡ false }
+    ensures stays { leaves_plain H.is_blank pen.new.highlighter ≡ leaves_plain H.is_blank pen.old.highlighter }
+{
+    if layout.nested {
+        push_nested(pen, layout, branch, source, report, out)
+    } else {
+        push_sibling(pen, layout, source, report, out)
+    }
+}
+
+/// Appends related reports, nested or as siblings.
+#[cycle(report)]
+fn push_related<D: Diagnostic, S: SourceCode, H: Highlighter>(
+    pen: &mut Pen<H>,
+    layout: Layout<'_>,
+    outer: Option<Severity>,
+    inherited: Option<SourceRef<'_, S>>,
+    reports: &[Report<D, S>],
+    out: &mut Output,
+) -> Result<(), RenderError>
+    ensures ok { OnOk result (AppendsOne (AreRelated drawn_rows (settings_of layout.entry) (leaves_plain H.is_blank pen.old.highlighter) outer (option_map (shown_source S.source) inherited.entry) (trees (map (tree_of D.meaning S.source) reports.now))) out.old out.new) }
+    ensures refused { (result ≡ Err RenderError.Refused) → all_read (printed_related layout.entry.nested (option_map (shown_source S.source) inherited.entry) (trees (map (tree_of D.meaning S.source) reports.now))) ≡ false }
+    ensures stays { leaves_plain H.is_blank pen.new.highlighter ≡ leaves_plain H.is_blank pen.old.highlighter }
+{
+    let mut rest = reports;
+    while let [report, more @ ..] = rest {
+        let branch = Branch {
+            outer,
+            is_last: are_last(more),
+        };
+        let source = own_or(report, inherited);
+        push_one_related(pen, layout, branch, source, report, out)?;
+        rest = more;
+    }
+    Ok(())
+}
+
+/// Appends the causes of the outermost report, where they are shown.
+fn push_root_causes<D: Diagnostic, S: SourceCode, H: Highlighter>(
+    pen: &mut Pen<H>,
+    layout: Layout<'_>,
+    report: &Report<D, S>,
+    out: &mut Output,
+) -> Result<(), RenderError>
+    ensures ok { OnOk result (AppendsOne (AreRootCauses drawn_rows (settings_of layout.entry) (leaves_plain H.is_blank pen.old.highlighter) (tree_of D.meaning S.source report.now)) out.old out.new) }
+    ensures refused { (result ≡ Err RenderError.Refused) → all_read (printed_root_causes layout.entry.chain layout.entry.nested (tree_of D.meaning S.source report.now)) ≡ false }
+    ensures stays { leaves_plain H.is_blank pen.new.highlighter ≡ leaves_plain H.is_blank pen.old.highlighter }
+{
+    if !layout.chain {
+        return Ok(());
+    }
+    let source = report.source_code();
+    push_causes(pen, layout, report.severity(), source, report, out)
+}
+
+/// The outermost report, from its header to its footer.
+fn report_output<D: Diagnostic, S: SourceCode, H: Highlighter>(
+    pen: &mut Pen<H>,
+    layout: Layout<'_>,
+    report: &Report<D, S>,
+) -> Result<Output, RenderError>
+    ensures ok { IfOk result (λ o. IsReport drawn_rows (settings_of layout.entry) (leaves_plain H.is_blank pen.old.highlighter) (tree_of D.meaning S.source report.now) o) }
+    ensures refused { (result ≡ Err RenderError.Refused) → all_read (printed (settings_of layout.entry) (tree_of D.meaning S.source report.now)) ≡ false }
+    ensures stays { leaves_plain H.is_blank pen.new.highlighter ≡ leaves_plain H.is_blank pen.old.highlighter }
+{
+    let mut text = Output::printed(pen.alloc);
+    push_header_of(layout, report, &mut text)?;
+    push_message_of(pen.alloc, layout, report, &mut text)?;
+    push_root_causes(pen, layout, report, &mut text)?;
+    push_below(pen, layout, report.source_code(), report, &mut text)?;
+    push_footer(pen.alloc, layout, &mut text)?;
+    Ok(text)
+}
+
+/// Appends a report's text. An `Err` leaves the text as it was.
+pub fn render<D: Diagnostic, S: SourceCode, H: Highlighter>(
+    pen: &mut Pen<H>,
+    layout: Layout<'_>,
+    report: &Report<D, S>,
+    out: &mut String,
+) -> Result<(), RenderError>
+    ensures ok { OnOk result (Appends drawn_rows (settings_of layout.entry) (leaves_plain H.is_blank pen.old.highlighter) (tree_of D.meaning S.source report.now) (string_bytes out.old) (string_bytes out.new)) }
+    ensures refused { (result ≡ Err RenderError.Refused) → all_read (printed (settings_of layout.entry) (tree_of D.meaning S.source report.now)) ≡ false }
+    ensures only { OnOk result (leaves_plain H.is_blank pen.old.highlighter ≡ true → all_read (printed (settings_of layout.entry) (tree_of D.meaning S.source report.now)) ≡ true →
+        string_bytes out.new ≡ string_bytes out.old ++ encode_utf8_all (texts.report_text drawn_rows (settings_of layout.entry) (tree_of D.meaning S.source report.now) unlisted)) }
+    ensures colours { OnOk result (AreCleanSettings (settings_of layout.entry) → IsCleanTree (tree_of D.meaning S.source report.now) →
+        AppendsOne (IsColouredText drawn_rows (settings_of layout.entry) (leaves_plain H.is_blank pen.old.highlighter) (tree_of D.meaning S.source report.now)) (string_bytes out.old) (string_bytes out.new)) }
+    ensures colourless { OnOk result (all_read (printed (settings_of layout.entry) (tree_of D.meaning S.source report.now)) ≡ true →
+        AreCleanSettings (settings_of layout.entry) → IsCleanTree (tree_of D.meaning S.source report.now) →
+        AppendsErasing (string_bytes out.old) (string_bytes out.new) (encode_utf8_all (texts.report_text drawn_rows (colourless (settings_of layout.entry)) (tree_of D.meaning S.source report.now) unlisted))) }
+    ensures err { OnErr result (string_bytes out.new ≡ string_bytes out.old) }
+    ensures stays { leaves_plain H.is_blank pen.new.highlighter ≡ leaves_plain H.is_blank pen.old.highlighter }
+{
+    erasing_law();
+    let printed = report_output(pen, layout, report)?;
+    append_printed(pen.alloc, printed, out)?;
+    Ok(())
+}

@@ -1,0 +1,61 @@
+//! How a report is printed.
+
+ghost use Rattle.std.specs.Prelude.{◌≡◌, chars};
+ghost use Rattle.miette_graphical.specs.Settings.{icon, severity_style};
+ghost use Rattle.miette_graphical.specs.Views.{settings_of};
+
+use miette_protocol::protocol::Severity;
+use miette_style::style::Style;
+use miette_style::theme::GraphicalTheme;
+use miette_text::wrap::WordSplitter;
+
+/// What a url becomes.
+#[derive(Clone, Copy, Debug, PartialEq, Eq)]
+pub enum UrlMode {
+    /// A link around the code.
+    Links,
+    /// A text behind the code.
+    Text,
+    /// Nothing.
+    Hidden,
+}
+
+/// How one report is laid out: a handler's settings, with the width that is left for it.
+#[derive(Clone, Copy)]
+pub struct Layout<'a> {
+    pub theme: &'a GraphicalTheme,
+    pub width: usize,
+    pub tab: usize,
+    pub context: usize,
+    pub primary_start: bool,
+    pub urls: UrlMode,
+    pub link_text: &'a str,
+    pub chain: bool,
+    pub nested: bool,
+    pub wraps: bool,
+    pub breaks: bool,
+    pub splitter: WordSplitter,
+    pub footer: Option<&'a str>,
+}
+
+/// The style of a severity; that of an error where there is none.
+pub fn severity_style(layout: Layout<'_>, severity: Option<Severity>) -> Style
+    ensures { result ≡ severity_style (settings_of layout.entry) severity }
+{
+    match severity {
+        Some(Severity::Advice) => layout.theme.styles.advice,
+        Some(Severity::Warning) => layout.theme.styles.warning,
+        _ => layout.theme.styles.error,
+    }
+}
+
+/// The icon of a severity; that of an error where there is none.
+pub fn icon<'a>(layout: Layout<'a>, severity: Option<Severity>) -> &'a str
+    ensures { chars result.now ≡ icon (settings_of layout.entry) severity }
+{
+    match severity {
+        Some(Severity::Advice) => layout.theme.characters.advice.as_str(),
+        Some(Severity::Warning) => layout.theme.characters.warning.as_str(),
+        _ => layout.theme.characters.error.as_str(),
+    }
+}
