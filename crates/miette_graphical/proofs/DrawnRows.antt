@@ -3,13 +3,13 @@ use Rattle.std.proofs.Common.{◌≡◌, ◌≢◌, ℕ, Bool, true, false, ◌&
 use Rattle.miette_protocol.specs.Meaning.{Label, Meaning}
 use Rattle.miette_protocol.specs.Reading.{Source, Span}
 use Rattle.miette_text.specs.Tame.{is_nil}
-use Rattle.miette_layout.specs.Answers.{Highlight, NoneFails, AlwaysReads, next_answer, later_answers}
-use Rattle.miette_layout.specs.Contexts.{is_accepted, contents, lines_of_contents}
+use Rattle.miette_lines.specs.Answers.{Highlight, NoneFails, AlwaysReads, next_answer, later_answers}
+use Rattle.miette_lines.specs.Contexts.{is_accepted, contents, lines_of_contents}
 use Rattle.miette_layout.specs.Drawn.{MayGive}
 use Rattle.miette_layout.specs.Frames as frames
 use Rattle.miette_layout.specs.Frames.{refused_row}
-use Rattle.miette_layout.specs.Around.{has_own, group_context}
-use Rattle.miette_layout.specs.Groups.{refusal, joins_before, joined, groups_from, groups_answered, own_groups, groups_of, some_fails, groups_fail, in_order, spans_of}
+use Rattle.miette_lines.specs.Around.{has_own, group_context}
+use Rattle.miette_lines.specs.Groups.{refusal, joins_before, joined, groups_from, groups_answered, own_groups, groups_of, some_fails, groups_fail, in_order, spans_of}
 use Rattle.miette_layout.specs.Highlighted.{EachHasPieces, SnippetsHavePieces, texts_of}
 use Rattle.miette_layout.specs.Layout.{snippet_rows, rows_unless, rows_of_groups, settings_around, all_snippets}
 use Rattle.miette_layout.specs.Rows.{Row}

@@ -11,7 +11,7 @@ use Rattle.miette_protocol.specs.Reading.{Source}
 use Rattle.miette_text.specs.Runs.{HaveNoEscape, print, printed_run, plain_run}
 use Rattle.miette_style.specs.Styles.{plain}
 use Rattle.miette_style.specs.Escapes.{no_escape}
-use Rattle.miette_layout.specs.Answers as layout
+use Rattle.miette_lines.specs.Answers as layout
 use Rattle.miette_layout.specs.Clean.{IsCleanLabel, IsCleanRow, IsCleanSource, AreCleanDrawings}
 use Rattle.miette_layout.specs.Fading as fading
 use Rattle.miette_layout.specs.Fading.{IsPlainRow}

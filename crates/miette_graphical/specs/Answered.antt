@@ -11,8 +11,8 @@ use Rattle.miette_graphical.specs.Indents.{narrowed}
 use Rattle.miette_graphical.specs.Parts.{SnippetRows, rows_text, title_text, help_text, under_arrow}
 use Rattle.miette_tree.specs.Parts.{given_labels}
 use Rattle.miette_layout.specs.Frames as frames
-use Rattle.miette_layout.specs.Around.{group_context}
-use Rattle.miette_layout.specs.Groups.{in_order, groups_of}
+use Rattle.miette_lines.specs.Around.{group_context}
+use Rattle.miette_lines.specs.Groups.{in_order, groups_of}
 use Rattle.miette_layout.specs.Highlighted.{SnippetsHavePieces}
 use Rattle.miette_layout.specs.Layout.{snippet_rows}
 use Rattle.miette_tree.specs.Handler.{AppendsOne}

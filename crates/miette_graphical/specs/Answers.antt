@@ -1,6 +1,6 @@
 -- What isn't determined by a tree and the settings: what reads answered, and the highlighter's pieces.
 use Rattle.std.specs.Prelude.{List, []}
-use Rattle.miette_layout.specs.Answers as layout
+use Rattle.miette_lines.specs.Answers as layout
 
 -- Of one diagnostic: whether each read failed, and the highlighter's pieces for each line of each snippet. A read that isn't
 -- listed succeeds, and a line that isn't listed is plain.

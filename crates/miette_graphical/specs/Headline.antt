@@ -4,15 +4,15 @@ use Rattle.std.specs.List.{AllByRecursion, concat}
 use Rattle.miette_protocol.specs.Lines.{lines_of}
 use Rattle.miette_protocol.specs.Meaning.{Label}
 use Rattle.miette_protocol.specs.Reading.{Source, Span, Contents}
-use Rattle.miette_layout.specs.Answers.{Highlight}
-use Rattle.miette_layout.specs.Around.{HaveContext}
-use Rattle.miette_layout.specs.Contexts.{contents, lines_of_contents}
+use Rattle.miette_lines.specs.Answers.{Highlight}
+use Rattle.miette_lines.specs.Around.{HaveContext}
+use Rattle.miette_lines.specs.Contexts.{contents, lines_of_contents}
 use Rattle.miette_layout.specs.Drawing.{IsNarrow}
 use Rattle.miette_layout.specs.Frames as frames
-use Rattle.miette_layout.specs.Given.{width_of}
-use Rattle.miette_layout.specs.Groups as grouping
-use Rattle.miette_layout.specs.Groups.{AreAccepted, in_order, lines_of_groups}
-use Rattle.miette_layout.specs.Labels.{DrawnLabel, drawn_from}
+use Rattle.miette_lines.specs.Given.{width_of}
+use Rattle.miette_lines.specs.Groups as grouping
+use Rattle.miette_lines.specs.Groups.{AreAccepted, in_order, lines_of_groups}
+use Rattle.miette_lines.specs.Labels.{DrawnLabel, drawn_from}
 use Rattle.miette_layout.specs.Layout.{cells_of, settings_around}
 use Rattle.miette_layout.specs.Marks.{Mark, anchor, marks_at, AreApart}
 use Rattle.miette_layout.specs.Numbers.{runs, IsRun, AreParted}

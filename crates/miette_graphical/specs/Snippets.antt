@@ -3,7 +3,7 @@ use Rattle.std.specs.Prelude.{ℕ, List, [], map, chars, encode_utf8_all, Option
 use Rattle.miette_text.specs.Runs.{Run, Styled}
 use Rattle.miette_layout.specs.Rows as layout
 use Rattle.miette_layout.specs.Frames as frames
-use Rattle.miette_layout.specs.Given.{width_of}
+use Rattle.miette_lines.specs.Given.{width_of}
 use Rattle.miette_layout.specs.Layout.{snippet_rows}
 use Rattle.miette_graphical.specs.Settings.{Settings}
 use Rattle.miette_graphical.specs.Parts.{SnippetRows}

@@ -7,16 +7,18 @@ use Rattle.miette_protocol.specs.Lines.{Line}
 use Rattle.miette_protocol.specs.Meaning.{Label}
 use Rattle.miette_protocol.specs.Reading as R
 use Rattle.miette_protocol.specs.Reading.{Span, Source, IsAccepted}
-use Rattle.miette_layout.specs.Around.{lines_around}
+use Rattle.miette_lines.specs.Around.{lines_around}
 use Rattle.miette_layout.specs.Belonging.{holds, HasOneGroup}
-use Rattle.miette_layout.specs.Contexts.{contents, end_of_span}
-use Rattle.miette_layout.specs.Groups.{AreAccepted, joined, stretch, put_stretch, by_begin, stretches_from, joined_stretches}
-use Rattle.miette_layout.proofs.Sources.{IsCut, lines, line_of, start_of}
-use Rattle.miette_layout.proofs.Numbers.{by_cases}
-use Rattle.miette_layout.proofs.Merging.{swap_or}
+use Rattle.miette_lines.specs.Contexts.{contents, end_of_span}
+use Rattle.miette_lines.specs.Groups.{AreAccepted, joined, stretch, put_stretch, by_begin, stretches_from, joined_stretches}
+use Rattle.miette_lines.proofs.Sources.{IsCut, lines, line_of, start_of}
+use Rattle.miette_lines.proofs.Numbers.{by_cases}
+use Rattle.miette_lines.proofs.Merging.{swap_or}
 use Rattle.miette_layout.proofs.Lines.{line-zero}
-use Rattle.miette_layout.proofs.Data.{cut, first-lt}
-use Rattle.miette_layout.proofs.Bridge.{line_of_same, start_same, none_or_some, some-context}
+use Rattle.miette_layout.proofs.Data.{first-lt}
+use Rattle.miette_lines.proofs.Data.{cut}
+use Rattle.miette_layout.proofs.Bridge.{line_of_same, start_same, none_or_some}
+use Rattle.miette_lines.proofs.Bridge.{some-context}
 use Rattle.miette_layout.proofs.Ends.{cut_is, empty-start}
 
 -- whether a place lies in a group's bytes or at their end

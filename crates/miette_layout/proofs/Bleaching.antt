@@ -7,12 +7,12 @@ use Rattle.miette_style.specs.declared.style.Style.{Style}
 use Rattle.std.specs.Prelude.{nat_le}
 use Rattle.miette_layout.specs.Clean.{IsClean, IsCleanText, IsCleanLabel}
 use Rattle.miette_layout.specs.Gutters.{most_labels, gutter_columns}
-use Rattle.miette_layout.specs.Labels.{DrawnLabel, parts_of, style_at, drawn_label, drawn_from, multi_line, is_multi_line}
+use Rattle.miette_lines.specs.Labels.{DrawnLabel, parts_of, style_at, drawn_label, drawn_from, multi_line, is_multi_line}
 use Rattle.miette_layout.specs.Marks.{Text, Mark, marks_from, marks, mark_from, mark_until}
-use Rattle.miette_layout.specs.Groups.{put_label, in_order}
-use Rattle.miette_layout.specs.Rows.{plain}
+use Rattle.miette_lines.specs.Groups.{put_label, in_order}
+use Rattle.miette_style.specs.Styles.{plain}
 use Rattle.miette_layout.proofs.CleanTexts.{clean_parts}
-use Rattle.miette_layout.proofs.Numbers.{by_cases}
+use Rattle.miette_lines.proofs.Numbers.{by_cases}
 use Rattle.miette_layout.proofs.Paling.{bleached, bleached_mark, HasCleanParts, IsCleanMark}
 
 -- a filter that styles don't matter to

@@ -2,7 +2,6 @@
 use Rattle.std.proofs.Common.{ℕ, zero, suc, ◌+◌, ◌-◌, ◌<◌, ◌≤◌, ◌≡◌, ◌⊎◌, inl, inr, min, Bool, true, false, leb, List, [], ◌∷◌, ◌++◌, ◌&&◌, length, map, drop, None, refl, sym, ap, ◌∙◌, arith}
 use Rattle.std.specs.Prelude.{decimal, slice_range}
 use Rattle.std.proofs.lemmas.List.{length-drop, length-take}
-use Rattle.std.proofs.lemmas.Bool.{le-leb, and_from}
 use Rattle.std.proofs.lemmas.List.FromFn.{length-map-range_with_len}
 use Rattle.std.specs.List.{range_with_len, filter}
 use Rattle.miette_protocol.specs.Lines as P
@@ -11,26 +10,31 @@ use Rattle.miette_protocol.specs.Meaning.{Label}
 use Rattle.miette_protocol.specs.Reading as R
 use Rattle.miette_protocol.specs.Reading.{Span, Source, IsAccepted}
 use Rattle.miette_layout.specs.Numbers.{last_of}
-use Rattle.miette_layout.specs.Answers.{Highlight, next_answer, later_answers, first_of, later_of, NoneFails}
-use Rattle.miette_layout.specs.Contexts as C
-use Rattle.miette_layout.specs.Contexts.{contents, lines_of_contents, is_accepted}
-use Rattle.miette_layout.specs.Groups as G
-use Rattle.miette_layout.specs.Groups.{joins_before, joined, groups_from, groups_answered, in_order, spans_of, put_label, refusal, some_fails, AreAccepted}
+use Rattle.miette_lines.specs.Answers.{Highlight, next_answer, later_answers, first_of, later_of, NoneFails}
+use Rattle.miette_lines.specs.Contexts as C
+use Rattle.miette_lines.specs.Contexts.{contents, lines_of_contents, is_accepted}
+use Rattle.miette_lines.specs.Groups as G
+use Rattle.miette_lines.specs.Groups.{joins_before, joined, groups_from, groups_answered, in_order, spans_of, put_label, refusal, AreAccepted}
 use Rattle.miette_layout.specs.Snippets as N
-use Rattle.miette_layout.specs.Labels.{DrawnLabel, drawn_from}
+use Rattle.miette_lines.specs.Labels.{DrawnLabel, drawn_from}
 use Rattle.miette_layout.specs.Gutters.{gutter_columns}
 use Rattle.miette_layout.specs.Frames.{Settings, width_of_lines}
 use Rattle.miette_layout.specs.Layout.{rows_of_lines, body_rows, line_rows, cells_of, snippet, all_snippets}
 use Rattle.miette_layout.specs.Shown.{line_at, numbered_rows, run_width, run_rows, rows_of_runs, bodies, framed}
-use Rattle.miette_layout.proofs.Sources.{lines, start_of, end_of, first_line, last_line, read, lines_in}
+use Rattle.miette_lines.proofs.Sources.{lines, start_of, end_of, first_line, last_line, read, lines_in}
 use Rattle.miette_layout.proofs.Joining as J
-use Rattle.miette_layout.proofs.Joining.{joins, groups, by_offset, put_by_offset, lines_of_groups}
-use Rattle.miette_layout.proofs.Numbers.{by_cases, filter-same}
+use Rattle.miette_layout.proofs.Joining.{by_offset, put_by_offset, lines_of_groups}
+use Rattle.miette_lines.proofs.Joining.{joins, groups}
+use Rattle.miette_layout.proofs.Numbers.{filter-same}
+use Rattle.miette_lines.proofs.Numbers.{by_cases}
 use Rattle.miette_layout.proofs.Lines.{start-lt, start-le-end, end-mono}
-use Rattle.miette_layout.proofs.Data.{cut, first-lt, first-le-last, read-lines}
+use Rattle.miette_layout.proofs.Data.{first-lt, first-le-last, read-lines}
+use Rattle.miette_lines.proofs.Data.{cut}
 use Rattle.miette_layout.proofs.Merging as M
 use Rattle.miette_layout.proofs.Segments.{part_lines}
-use Rattle.miette_layout.proofs.Bridge.{lines_same, start_same, end_same, begin_same, end_data_same, count_same, line_same, first_same, last_same, none_or_some}
+use Rattle.miette_layout.proofs.Bridge.{start_same, begin_same, end_data_same, count_same, line_same, first_same, last_same, none_or_some}
+use Rattle.miette_lines.proofs.Bridge.{lines_same, end_same}
+use Rattle.miette_lines.proofs.Bodies.{accepted_is, later_none, next_none}
 
 last_of-range : (low many : ℕ) → last_of low (range_with_len (low + 1) many) ≡ low + many
 last_of-range low zero = omega arith
@@ -131,14 +135,6 @@ joins_same c source before label one =
     ∙ ap (λ n. leb (read c source.bytes label).line (n + (contents c source before).line_count)) (line_same c source before)
     ∙ ap (λ n. leb (read c source.bytes label).line ((read c source.bytes before).line + n)) (count_same c source before one)
 
-next_none : (fails : List Bool) → NoneFails fails → next_answer fails ≡ false
-next_none [] h = refl
-next_none (f ∷ fails) h = h.0
-
-later_none : (fails : List Bool) → NoneFails fails → NoneFails (later_answers fails)
-later_none [] h = tt
-later_none (f ∷ fails) h = h.1
-
 same_from : (c : ℕ) (source : Source) (before : Span) (fails : List Bool) (spans : List Span) → 1 ≤ c → NoneFails fails →
     groups_from c source before fails spans ≡ groups c source.bytes (before ∷ spans)
 same_from c source before fails [] one h = refl
@@ -234,11 +230,6 @@ all_framed s source labels pieces [] = refl
 all_framed s source labels pieces (group ∷ groups) =
     ap (λ r. snippet s source labels group (first_of pieces) ++ r) (all_framed s source labels (later_of pieces) groups)
 
-pub some_none : (fails : List Bool) (groups : List Span) → NoneFails fails → some_fails fails groups ≡ false
-some_none fails [] h = refl
-some_none fails (group ∷ groups) h =
-    let next : next_answer fails ≡ false = next_none fails h in rw next (some_none (later_answers fails) groups (later_none fails h))
-
 put_accepted : (source : List ℕ) (label : Label) (labels : List Label) → IsAccepted source label.span → AreAccepted source labels → AreAccepted source (put_label label labels)
 put_accepted source label [] own h = (own, tt)
 put_accepted source label (next ∷ labels) own h =
@@ -248,9 +239,6 @@ put_accepted source label (next ∷ labels) own h =
 pub ordered_accepted : (source : List ℕ) (labels : List Label) → AreAccepted source labels → AreAccepted source (in_order labels)
 ordered_accepted source [] h = tt
 ordered_accepted source (label ∷ labels) h = put_accepted source label (in_order labels) h.0 (ordered_accepted source labels h.1)
-
-pub accepted_is : (source : List ℕ) (span : Span) → IsAccepted source span → is_accepted source span ≡ true
-accepted_is source span h = and_from _ _ (le-leb span.offset (length source) h.begins) (le-leb (span.offset + span.len) (length source + 1) h.ends)
 
 pub none_refused : (source : List ℕ) (fails : List Bool) (labels : List Label) → NoneFails fails → AreAccepted source labels → refusal source fails labels ≡ None
 none_refused source fails [] h k = refl

@@ -1,56 +1,17 @@
 -- Lines, places and reads in the words of miette_protocol are those in the forms that the proofs go by.
-use Rattle.std.proofs.Common.{ℕ, zero, suc, ◌+◌, ◌-◌, ◌<◌, ◌≤◌, ◌≡◌, max, Bool, true, false, cond, ltb, leb, eqb, List, [], ◌∷◌, length, refl, sym, ap, ◌∙◌, ◌&&◌, ◌||◌, not, count_by, arith, ◌⊎◌, inl, inr}
-use Rattle.std.specs.Prelude.{slice_index, slice_get}
+use Rattle.std.proofs.Common.{ℕ, zero, suc, ◌+◌, ◌-◌, ◌<◌, ◌≤◌, ◌≡◌, max, Bool, true, false, cond, ltb, leb, eqb, List, [], ◌∷◌, length, refl, sym, ap, ◌∙◌, ◌&&◌, count_by, arith, ◌⊎◌, inl, inr}
+use Rattle.std.specs.Prelude.{slice_get}
 use Rattle.std.specs.Option.{option_map_or}
 use Rattle.std.proofs.lemmas.Bool.{ne_eqb}
 use Rattle.std.proofs.lemmas.List.Sums.{sum_by-cons}
 use Rattle.miette_protocol.specs.Lines as P
-use Rattle.miette_protocol.specs.Lines.{Line, ends_line, with_byte}
+use Rattle.miette_protocol.specs.Lines.{Line}
 use Rattle.miette_protocol.specs.Reading as R
-use Rattle.miette_protocol.specs.Reading.{Span, Source, Contents}
-use Rattle.miette_layout.specs.Contexts as C
-use Rattle.miette_layout.proofs.Numbers.{by_cases}
-use Rattle.miette_layout.proofs.Sources.{begins_with_lf, with_text, with_cr, lines_from, lines, is_ended, line_of, terminators_in, start_of, end_of, end_of_span, past_lf, reading_end, first_line, last_line, read}
+use Rattle.miette_protocol.specs.Reading.{Span, Source}
+use Rattle.miette_lines.specs.Contexts as C
+use Rattle.miette_lines.proofs.Sources.{lines, is_ended, line_of, terminators_in, start_of, end_of_span, past_lf, reading_end, first_line, last_line, read}
 use Rattle.miette_layout.proofs.Data.{first-lt}
-
-text_step : (byte at : ℕ) (ls : List Line) → eqb byte 13 ≡ false → with_byte byte at ls ≡ with_text at ls
-text_step byte at [] h = refl
-text_step byte at (l ∷ ls) h = rw h refl
-
-cr_step : (byte at : ℕ) (l : Line) (ls : List Line) → eqb byte 13 ≡ true → with_byte byte at (l ∷ ls) ≡ with_cr at (l ∷ ls)
-cr_step byte at l ls h = rw h refl
-
-abbrev own : ℕ → Line
-own at = record { start = at; text_end = at; end = at + 1 }
-
--- one byte in front, by what it is and whether an LF follows
-step : (byte at : ℕ) (ls : List Line) (next : Bool) →
-    (eqb byte 13 ≡ true → next ≡ true → with_byte byte at ls ≡ with_cr at ls) →
-    cond (eqb byte 10 || (eqb byte 13 && not next)) (own at ∷ ls) (with_byte byte at ls)
-    ≡ cond (eqb byte 10) (own at ∷ ls) (cond (eqb byte 13) (cond next (with_cr at ls) (own at ∷ ls)) (with_text at ls))
-step byte at ls next pair =
-    by_cases (eqb byte 10) (λ t. rw t refl)
-    (λ f. by_cases (eqb byte 13)
-    (λ t. by_cases next (λ u. rw (f, t, u) (pair t u)) (λ u. rw (f, t, u) refl))
-    (λ g. rw (f, g) (text_step byte at ls g)))
-
-pair_lines : (byte at : ℕ) (bytes : List ℕ) → eqb byte 13 ≡ true → begins_with_lf bytes ≡ true →
-    with_byte byte at (lines_from (at + 1) bytes) ≡ with_cr at (lines_from (at + 1) bytes)
-pair_lines byte at [] t u = cc
-pair_lines byte at (c ∷ cs) t u = rw u (cr_step byte at (own (at + 1)) (lines_from (at + 1 + 1) cs) t)
-
-next_lf : (bytes : List ℕ) → eqb (slice_index bytes 0) 10 ≡ begins_with_lf bytes
-next_lf [] = refl
-next_lf (c ∷ cs) = refl
-
--- the lines are the same
-pub lines_same : (at : ℕ) (bytes : List ℕ) → P.lines_from at bytes ≡ lines_from at bytes
-unfolding ends_line
-lines_same at [] = refl
-lines_same at (byte ∷ bytes) =
-    ap (λ ls. cond (eqb byte 10 || (eqb byte 13 && not (eqb (slice_index bytes 0) 10))) (own at ∷ ls) (with_byte byte at ls)) (lines_same (at + 1) bytes)
-    ∙ ap (λ b. cond (eqb byte 10 || (eqb byte 13 && not b)) (own at ∷ lines_from (at + 1) bytes) (with_byte byte at (lines_from (at + 1) bytes))) (next_lf bytes)
-    ∙ step byte at (lines_from (at + 1) bytes) (begins_with_lf bytes) (pair_lines byte at bytes)
+use Rattle.miette_lines.proofs.Bridge.{end_same, lines_same, some-context}
 
 -- places
 
@@ -91,15 +52,6 @@ pub start_same : (bytes : List ℕ) (k : ℕ) → k < length (lines bytes) → P
 unfolding P.line_start
 start_same bytes k lt = ap (λ ls. option_map_or (λ l. l.start) (slice_get ls k) (length bytes)) (lines_same 0 bytes) ∙ got_start (length bytes) k (lines bytes) lt
 
-got_end : (n k : ℕ) (ls : List Line) → option_map_or (λ l. l.end) (slice_get ls k) n ≡ end_of n ls k
-got_end n k [] = refl
-got_end n zero (l ∷ ls) = refl
-got_end n (suc k) (l ∷ ls) = got_end n k ls
-
-pub end_same : (bytes : List ℕ) (k : ℕ) → P.line_end bytes k ≡ end_of (length bytes) (lines bytes) k
-unfolding P.line_end
-end_same bytes k = ap (λ ls. option_map_or (λ l. l.end) (slice_get ls k) (length bytes)) (lines_same 0 bytes) ∙ got_end (length bytes) k (lines bytes)
-
 -- reads
 
 one_end : (n : ℕ) → cond (eqb n 0) 1 n ≡ max 1 n
@@ -114,9 +66,6 @@ first_same c bytes span = ap (λ n. n - c) (line_of_same bytes span.offset)
 
 pub last_same : (c : ℕ) (bytes : List ℕ) (span : Span) → C.last_line c bytes span ≡ last_line c bytes span
 last_same c bytes span = ap (λ n. n + c) (line_of_same bytes (R.reading_end bytes span) ∙ ap (line_of (lines bytes)) (reading_same bytes span))
-
-pub some-context : (c : ℕ) → 1 ≤ c → eqb c 0 ≡ false
-some-context c one = ne_eqb c 0 (λ e. omega (arith, e, one))
 
 pub begin_same : (c : ℕ) (source : Source) (span : Span) → 1 ≤ c → 0 < length source.bytes → (C.contents c source span).span.offset ≡ (read c source.bytes span).begin
 begin_same c source span one some =

@@ -3,29 +3,32 @@ use Rattle.std.proofs.Common.{ℕ, ◌<◌, ◌≤◌, ◌≡◌, ◌⊎◌, max
 use Rattle.std.specs.Prelude.{unwrap_or, is_some}
 use Rattle.std.specs.Option.{option_map}
 use Rattle.std.specs.List.{range_with_len, list_any, AllByRecursion}
-use Rattle.std.proofs.lemmas.Bool.{and_right}
 use Rattle.std.proofs.lemmas.List.Elements.{filter_agree}
 use Rattle.miette_protocol.specs.Lines.{lines_of}
 use Rattle.miette_protocol.specs.Meaning.{Label}
 use Rattle.miette_protocol.specs.Reading.{Span, Source}
-use Rattle.miette_layout.specs.Answers.{Answers, Highlight, first_of, NoneFails, AlwaysReads}
-use Rattle.miette_layout.specs.Around.{has_own, lines_around, HaveContext, group_context}
-use Rattle.miette_layout.specs.Contexts.{contents}
+use Rattle.miette_lines.specs.Answers.{Answers, Highlight, first_of, NoneFails, AlwaysReads}
+use Rattle.miette_lines.specs.Around.{has_own, lines_around, HaveContext, group_context}
+use Rattle.miette_lines.specs.Contexts.{contents}
 use Rattle.miette_layout.specs.Frames.{Settings, refused_row}
-use Rattle.miette_layout.specs.Groups as G
-use Rattle.miette_layout.specs.Groups.{in_order, spans_of, groups_answered, own_groups, groups_of, some_fails, groups_fail, AreAccepted}
-use Rattle.miette_layout.specs.Labels.{DrawnLabel, drawn_from}
+use Rattle.miette_lines.specs.Groups as G
+use Rattle.miette_lines.specs.Groups.{in_order, spans_of, groups_answered, own_groups, groups_of, AreAccepted}
+use Rattle.miette_lines.specs.Labels.{DrawnLabel, drawn_from}
 use Rattle.miette_layout.specs.Layout.{body_rows, all_snippets, settings_around, rows_unless, snippet_rows}
 use Rattle.miette_layout.specs.Numbers.{runs}
 use Rattle.miette_layout.specs.Shown.{rows_of_runs, bodies, framed, framed_runs}
 use Rattle.miette_layout.specs.Snippets as N
-use Rattle.miette_layout.proofs.Sources.{lines}
+use Rattle.miette_lines.proofs.Sources.{lines}
 use Rattle.miette_layout.proofs.Joining as J
-use Rattle.miette_layout.proofs.Numbers.{by_cases, filter-none}
+use Rattle.miette_layout.proofs.Numbers.{filter-none}
+use Rattle.miette_lines.proofs.Numbers.{by_cases}
 use Rattle.miette_layout.proofs.Bridge.{none_or_some}
-use Rattle.miette_layout.proofs.Bodies.{joined_runs, joined_bodies, all_framed, some_none, none_refused, ordered_accepted}
-use Rattle.miette_layout.proofs.Owning.{Around, neither, none_around, own_ordered, order_any, order_each, snippets_same, group_blocks, groups_are, groups_there, block_runs, lines_are, block_bodies, nowhere, groups_nowhere, lines_nowhere, snippets_nowhere, body_nowhere}
+use Rattle.miette_layout.proofs.Bodies.{joined_runs, joined_bodies, all_framed, none_refused, ordered_accepted}
+use Rattle.miette_lines.proofs.Bodies.{some_none}
+use Rattle.miette_layout.proofs.Owning.{Around, order_each, snippets_same, group_blocks, groups_are, groups_there, block_runs, lines_are, block_bodies, nowhere, groups_nowhere, lines_nowhere, snippets_nowhere, body_nowhere}
+use Rattle.miette_lines.proofs.Owning.{neither, none_around, own_ordered, order_any}
 use Rattle.miette_layout.proofs.Spreading.{numbers_of}
+use Rattle.miette_lines.proofs.Combined.{none_unread}
 
 -- ---- the order of labels changes nothing that is shown
 
@@ -130,11 +133,6 @@ bodies_are_runs s source labels drawn fails pieces h none =
     by_cases {C = bodies s' drawn source pieces (groups_of s.context source fails ls) ≡ rows_of_runs s' drawn source.bytes pieces (N.snippets s.context source.bytes labels)} (has_own ls)
     (λ t. either true t ∙ own_bodies s' s.context source labels drawn pieces (ap (λ b. cond b 0 s.context) t) t h (none_or_some (length source.bytes)))
     (λ f. either false f ∙ joined_rows s' s.context source labels drawn fails pieces (ap (λ b. cond b 0 s.context) f) (sym (own_ordered labels) ∙ f) h none)
-
--- ---- whole snippets
-
-pub none_unread : (context : ℕ) (source : Source) (fails : List Bool) (labels : List Label) → NoneFails fails → groups_fail context source fails labels ≡ false
-none_unread context source fails labels none = and_right (has_own labels) (some_fails fails (groups_of context source fails labels)) (some_none fails (groups_of context source fails labels) none)
 
 pub snippets_are_runs : (s : Settings) (source : Source) (labels : List Label) (answers : Answers) → HaveContext s.context labels → AreAccepted source.bytes labels → AlwaysReads answers →
     snippet_rows s source labels answers ≡ Some (framed_runs s source labels answers)

@@ -3,13 +3,12 @@ use Rattle.std.proofs.Common.{ℕ, ◌+◌, ◌-◌, ◌<◌, ◌≤◌, ◌≡�
 use Rattle.std.specs.Prelude.{slice_index}
 use Rattle.std.proofs.lemmas.Bool.{le-leb, lt-leb, cases_lt, and_from, and_left, and_right}
 use Rattle.std.specs.List.{range_with_len, filter}
-use Rattle.miette_layout.proofs.Sources.{lines, IsCut, line_of, start_of, end_of, past_lf, reading_end, end_of_span, first_line, last_line, read, lines_in, lines_between}
+use Rattle.miette_lines.proofs.Sources.{lines, line_of, start_of, end_of, past_lf, reading_end, end_of_span, first_line, last_line, read, lines_in, lines_between}
 use Rattle.miette_protocol.specs.Reading.{Span}
-use Rattle.miette_layout.proofs.Numbers.{by_cases, filter-range}
-use Rattle.miette_layout.proofs.Lines.{cut_lines, cut-long, end-gt, cut-some, line-mono, line-le, line-le-length, terminators, line-start, line-end, start-le-end, end-mono, end-strict}
-
-pub cut : (source : List ℕ) → IsCut 0 (length source) (lines source)
-cut source = cut_lines 0 (length source) source (omega arith)
+use Rattle.miette_layout.proofs.Numbers.{filter-range}
+use Rattle.miette_lines.proofs.Numbers.{by_cases}
+use Rattle.miette_layout.proofs.Lines.{cut-long, end-gt, cut-some, line-mono, line-le, line-le-length, terminators, line-start, line-end, start-le-end, end-mono, end-strict}
+use Rattle.miette_lines.proofs.Data.{cut}
 
 past-ge : (source : List ℕ) (end : ℕ) → (end ≤ past_lf source end) × (past_lf source end ≤ end + 1)
 past-ge source end = by_cases (eqb (slice_index source (end - 1)) 13 && eqb (slice_index source end) 10) (λ t. rw t (omega arith, omega arith)) (λ f. rw f (omega arith, omega arith))

@@ -7,21 +7,24 @@ use Rattle.miette_protocol.specs.Meaning.{Label}
 use Rattle.miette_protocol.specs.Reading as R
 use Rattle.miette_protocol.specs.Reading.{Span, Source, Contents, IsAccepted}
 use Rattle.miette_style.specs.declared.style.Style.{Style}
-use Rattle.miette_layout.specs.declared.reading.ReadLabel.{ReadLabel}
-use Rattle.miette_layout.specs.Around.{lines_around}
-use Rattle.miette_layout.specs.Contexts as C
-use Rattle.miette_layout.specs.Contexts.{contents}
-use Rattle.miette_layout.specs.Labels.{drawn_from, drawn_label, style_at, parts_of}
-use Rattle.miette_layout.specs.Given.{label_at, text_at, drawn_of}
-use Rattle.miette_layout.specs.Read.{IsRead}
-use Rattle.miette_layout.specs.Placing.{end_drawn, placed_one, placed_from}
-use Rattle.miette_layout.proofs.Sources.{IsCut, line_of, end_of, lines, end_of_span, reading_end, last_line, read}
-use Rattle.miette_layout.proofs.Numbers.{by_cases}
-use Rattle.miette_layout.proofs.Lines.{cut-le, end-ge, end-in, line-mono}
-use Rattle.miette_layout.proofs.Data.{cut, end-le-reading}
-use Rattle.miette_layout.proofs.Bridge.{end_data_same, reading_same, none_or_some, some-context}
+use Rattle.miette_lines.specs.declared.reading.ReadLabel.{ReadLabel}
+use Rattle.miette_lines.specs.Around.{lines_around}
+use Rattle.miette_lines.specs.Contexts as C
+use Rattle.miette_lines.specs.Contexts.{contents}
+use Rattle.miette_lines.specs.Labels.{drawn_from, drawn_label, style_at, parts_of}
+use Rattle.miette_lines.specs.Given.{label_at, text_at, drawn_of}
+use Rattle.miette_lines.specs.Read.{IsRead}
+use Rattle.miette_lines.specs.Placing.{end_drawn, placed_one, placed_from}
+use Rattle.miette_lines.proofs.Sources.{IsCut, line_of, end_of, lines, end_of_span, reading_end, last_line, read}
+use Rattle.miette_lines.proofs.Numbers.{by_cases}
+use Rattle.miette_layout.proofs.Lines.{end-ge, line-mono}
+use Rattle.miette_lines.proofs.Lines.{cut-le, end-in}
+use Rattle.miette_layout.proofs.Data.{end-le-reading}
+use Rattle.miette_lines.proofs.Data.{cut}
+use Rattle.miette_layout.proofs.Bridge.{end_data_same, reading_same, none_or_some}
+use Rattle.miette_lines.proofs.Bridge.{some-context}
 use Rattle.miette_layout.proofs.Bodies.{end-of-data}
-use Rattle.miette_layout.proofs.Refusing.{read_of}
+use Rattle.miette_lines.proofs.Refusing.{read_of}
 
 -- a line that ends nothing is the last
 last-ends : (text_end end n : ℕ) → (end < n → text_end < end) → ltb text_end end ≡ false → end ≤ n → end ≡ n

@@ -6,7 +6,8 @@ use Rattle.std.proofs.lemmas.Bool.{and_parts}
 use Rattle.std.proofs.lemmas.Bool.Decides.{nat_tests}
 use Rattle.std.proofs.lemmas.Str.{encode_ascii}
 use Rattle.miette_style.specs.declared.style.Style.{Style}
-use Rattle.miette_layout.specs.Rows.{Row, plain, styled}
+use Rattle.miette_layout.specs.Rows.{Row, styled}
+use Rattle.miette_style.specs.Styles.{plain}
 use Rattle.miette_layout.specs.Drawing.{blank}
 use Rattle.miette_layout.specs.Frames.{Settings, Place, place_text}
 use Rattle.miette_layout.specs.Framed.{corner_row}

@@ -6,15 +6,16 @@ use Rattle.miette_protocol.specs.Lines.{Line}
 use Rattle.miette_protocol.specs.Meaning.{Label}
 use Rattle.miette_style.specs.declared.style.Style.{Style}
 use Rattle.miette_style.specs.declared.theme.ThemeCharacters.{ThemeCharacters}
-use Rattle.miette_layout.specs.declared.sweep.Placed.{Placed}
-use Rattle.miette_layout.specs.Rows.{Row, styled, plain}
-use Rattle.miette_layout.specs.Labels.{DrawnLabel, starts_on, ends_on, parts_of, cut_at_lf, onto_part}
+use Rattle.miette_lines.specs.declared.sweep.Placed.{Placed}
+use Rattle.miette_layout.specs.Rows.{Row, styled}
+use Rattle.miette_style.specs.Styles.{plain}
+use Rattle.miette_lines.specs.Labels.{DrawnLabel, starts_on, ends_on, parts_of, cut_at_lf, onto_part}
 use Rattle.miette_layout.specs.Drawing.{blank}
 use Rattle.miette_layout.specs.Gutters.{number_gutter, other_gutter, open_gutter, ending_corner, arrow}
-use Rattle.miette_layout.specs.Given.{drawn_of}
-use Rattle.miette_layout.specs.Sweeping.{nothing}
+use Rattle.miette_lines.specs.Given.{drawn_of}
+use Rattle.miette_lines.specs.Sweeping.{nothing}
 use Rattle.miette_layout.specs.Told.{Token, told, run_told, bytes_told}
-use Rattle.miette_layout.proofs.Numbers.{by_cases}
+use Rattle.miette_lines.proofs.Numbers.{by_cases}
 use Rattle.miette_layout.proofs.Telling.{styled_told, styled_row, blank_row, then, run_one}
 
 -- A gutter whose labels from some index on are left: none is left, or the one at the index adds runs.

@@ -1,10 +1,10 @@
 -- Groups and shown lines in the forms that the proofs go by.
-use Rattle.std.specs.Prelude.{ℕ, ◌+◌, List, [], ◌∷◌, length, map, Bool, ◌&&◌, if◌then◌else◌, nat_le}
+use Rattle.std.specs.Prelude.{ℕ, List, [], ◌∷◌, length, map, Bool, ◌&&◌, if◌then◌else◌, nat_le}
 use Rattle.std.specs.List.{range_with_len, filter, list_any}
 use Rattle.miette_protocol.specs.Reading.{Span}
 use Rattle.miette_layout.specs.Numbers.{runs}
-use Rattle.miette_layout.specs.Groups.{joined}
-use Rattle.miette_layout.proofs.Sources.{lines, first_line, last_line, read, lines_in}
+use Rattle.miette_lines.proofs.Sources.{lines, first_line, last_line, read, lines_in}
+use Rattle.miette_lines.proofs.Joining.{groups}
 
 -- a span comes before the first one that does not begin before it
 abbrev pub put_by_offset : Span → List Span → List Span
@@ -15,21 +15,6 @@ put_by_offset label (next ∷ labels) = if nat_le label.offset next.offset then 
 abbrev pub by_offset : List Span → List Span
 by_offset [] = []
 by_offset (label ∷ labels) = put_by_offset label (by_offset labels)
-
--- whether a label joins the snippet before it
-abbrev pub joins : ℕ → List ℕ → Span → Span → Bool
-joins c source before label = nat_le (read c source label).line ((read c source before).line + (read c source before).line_count)
-
-abbrev pub groups_from : ℕ → List ℕ → Span → List Span → List Span
-groups_from c source before [] = before ∷ []
-groups_from c source before (label ∷ labels) =
-    if joins c source before label then groups_from c source (joined before label) labels
-    else before ∷ groups_from c source label labels
-
--- the groups of labels by offset
-abbrev pub groups : ℕ → List ℕ → List Span → List Span
-groups c source [] = []
-groups c source (label ∷ labels) = groups_from c source label labels
 
 -- the lines that the groups show
 abbrev pub lines_of_groups : ℕ → List ℕ → List Span → List (List ℕ)

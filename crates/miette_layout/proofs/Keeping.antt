@@ -3,10 +3,10 @@ use Rattle.std.proofs.Common.{ℕ, ◌+◌, ◌-◌, ◌*◌, ◌^◌, ◌<◌, 
 use Rattle.std.proofs.lemmas.Bool.{ne_eqb, eqb-false, eq-eqb}
 use Rattle.std.proofs.lemmas.List.{get_or_append_left, take_all}
 use Rattle.miette_style.specs.declared.style.Style.{Style}
-use Rattle.miette_layout.specs.Rows.{plain}
+use Rattle.miette_style.specs.Styles.{plain}
 use Rattle.miette_layout.specs.declared.page_marks.Kept.{Kept}
 use Rattle.miette_layout.specs.PageMarks.{kind_told, marks_kept, end_kept, AreKinds}
-use Rattle.miette_layout.proofs.Numbers.{by_cases}
+use Rattle.miette_lines.proofs.Numbers.{by_cases}
 
 -- more styles
 told_stays : (styles more : List Style) (kind : ℕ) → (kind ≡ 1 → ⊥) → kind < length styles + 2 → kind_told (styles ++ more) kind ≡ kind_told styles kind

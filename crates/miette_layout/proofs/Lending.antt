@@ -10,35 +10,36 @@ use Rattle.miette_protocol.specs.Lines.{Line}
 use Rattle.miette_protocol.specs.Meaning.{Label}
 use Rattle.miette_protocol.specs.Reading.{Span, Source, Contents, data_start, data_end}
 use Rattle.miette_style.specs.declared.style.Style.{Style}
-use Rattle.miette_layout.specs.declared.reading.ReadLabel.{ReadLabel}
-use Rattle.miette_layout.specs.declared.sheet.LineOfText.{LineOfText}
-use Rattle.miette_layout.specs.declared.sweep.Placed.{Placed}
-use Rattle.miette_layout.specs.Answers.{Highlight, first_of, later_of}
+use Rattle.miette_lines.specs.declared.reading.ReadLabel.{ReadLabel}
+use Rattle.miette_lines.specs.declared.text_line.LineOfText.{LineOfText}
+use Rattle.miette_lines.specs.declared.sweep.Placed.{Placed}
+use Rattle.miette_lines.specs.Answers.{Highlight, first_of, later_of}
 use Rattle.miette_layout.specs.Rows.{Row}
-use Rattle.miette_layout.specs.Cells.{Cell, characters, cells_from}
-use Rattle.miette_layout.specs.Contexts.{contents, lines_of_contents}
+use Rattle.miette_lines.specs.Cells.{Cell, characters, cells_from}
+use Rattle.miette_lines.specs.Contexts.{contents, lines_of_contents}
 use Rattle.miette_layout.specs.Frames.{Settings, Place, top_row, top_row_of, bottom_row, number_width, width_of_lines}
-use Rattle.miette_layout.specs.Given.{drawn_of, label_at}
-use Rattle.miette_layout.specs.Groups.{in_order, spans_of}
+use Rattle.miette_lines.specs.Given.{drawn_of, label_at}
+use Rattle.miette_lines.specs.Groups.{in_order, spans_of}
 use Rattle.miette_layout.specs.Gutters.{gutter_columns, most_labels}
-use Rattle.miette_layout.specs.Labels.{DrawnLabel, is_one_line, is_multi_line, one_line, multi_line}
+use Rattle.miette_lines.specs.Labels.{DrawnLabel, is_one_line, is_multi_line, one_line, multi_line}
 use Rattle.miette_layout.specs.Layout.{cells_of, line_rows, line_rows_of, rows_of_lines, body_rows}
 use Rattle.miette_layout.specs.Highlighted.{EachHasPieces, ArePieces, decoded_text, texts_of}
 use Rattle.miette_layout.specs.Lent.{cells_in, text_in, texts_in, lent_rows, lent_snippet, width_of_count, gutter_of, PutsRows}
-use Rattle.miette_layout.specs.Placing.{placed_from}
-use Rattle.miette_layout.specs.Read.{IsRead}
-use Rattle.miette_layout.specs.Sheets.{line_of_text}
-use Rattle.miette_layout.specs.Sweeping.{is_one, is_multi, nothing, start_at, AreSorted, IsAt}
-use Rattle.miette_layout.specs.Swept.{most_multi}
+use Rattle.miette_lines.specs.Placing.{placed_from}
+use Rattle.miette_lines.specs.Read.{IsRead}
+use Rattle.miette_lines.specs.TextLines.{line_of_text}
+use Rattle.miette_lines.specs.Sweeping.{is_one, is_multi, nothing, start_at, AreSorted, IsAt}
+use Rattle.miette_lines.specs.Swept.{most_multi}
 use Rattle.miette_layout.specs.Told.{Token, told, told_rows, row_end}
-use Rattle.miette_layout.proofs.Numbers.{by_cases}
-use Rattle.miette_layout.proofs.Sources.{IsCut, lines_from}
-use Rattle.miette_layout.proofs.Lines.{cut_lines, cut-le}
-use Rattle.miette_layout.proofs.Segments.{drop_drop}
-use Rattle.miette_layout.proofs.Bridge.{lines_same}
+use Rattle.miette_lines.proofs.Numbers.{by_cases}
+use Rattle.miette_lines.proofs.Sources.{IsCut, lines_from}
+use Rattle.miette_lines.proofs.Lines.{cut_lines, cut-le}
+use Rattle.miette_lines.proofs.Segments.{drop_drop}
+use Rattle.miette_lines.proofs.Bridge.{lines_same}
 use Rattle.miette_layout.proofs.Bodies.{order_same}
-use Rattle.miette_layout.proofs.Merging.{IsAscending, sorted}
-use Rattle.miette_layout.proofs.Refusing.{read_of}
+use Rattle.miette_layout.proofs.Merging.{sorted}
+use Rattle.miette_lines.proofs.Merging.{IsAscending}
+use Rattle.miette_lines.proofs.Refusing.{read_of}
 
 -- what rows tell, one after the other
 pub told_rows-append : (a b : List Row) → told_rows (a ++ b) ≡ told_rows a ++ told_rows b

@@ -1,9 +1,10 @@
 -- The lines of a source: where they begin and end, and how they are counted.
-use Rattle.std.proofs.Common.{ℕ, zero, suc, ◌+◌, ◌<◌, ◌≤◌, ◌≡◌, min, Bool, true, false, cond, ltb, leb, eqb, List, [], ◌∷◌, length, refl, ⊎_elim, ◌&&◌, arith}
+use Rattle.std.proofs.Common.{ℕ, zero, suc, ◌+◌, ◌<◌, ◌≤◌, ◌≡◌, min, Bool, true, false, cond, ltb, leb, List, [], ◌∷◌, length, refl, ⊎_elim, ◌&&◌, arith}
 use Rattle.std.proofs.lemmas.Bool.{lt-ltb, le-ltb, le-leb, lt-leb, ltb-false, leb-true, leb-false, cases_lt}
-use Rattle.miette_layout.proofs.Numbers.{by_cases}
+use Rattle.miette_lines.proofs.Numbers.{by_cases}
 use Rattle.miette_protocol.specs.Lines.{Line}
-use Rattle.miette_layout.proofs.Sources.{begins_with_lf, with_text, with_cr, lines_from, IsCut, is_ended, line_of, terminators_in, start_of, end_of}
+use Rattle.miette_lines.proofs.Sources.{IsCut, is_ended, line_of, terminators_in, start_of, end_of}
+use Rattle.miette_lines.proofs.Lines.{cut-le}
 
 last_one : (text_end after n : ℕ) → (after < n → text_end < after) → after ≤ text_end → after ≤ n → after ≡ n
 last_one text_end after n h le in_n = ⊎_elim {C = after ≡ n} (λ lt. absurd (omega (arith, h lt))) (λ ge. omega arith) (cases_lt after n)
@@ -11,33 +12,6 @@ last_one text_end after n h le in_n = ⊎_elim {C = after ≡ n} (λ lt. absurd 
 one_or_none : (a e : Bool) → cond (a && e) 1 0 ≤ cond (true && e) 1 0
 one_or_none true e = omega arith
 one_or_none false e = omega arith
-
-cut_text : (at n : ℕ) (ls : List Line) → IsCut (at + 1) n ls → IsCut at n (with_text at ls)
-cut_text at n [] h = (refl, omega arith, omega arith, omega arith, λ e. omega (arith, h, e), h)
-cut_text at n (l ∷ ls) h = (refl, omega (arith, h.1), h.2, omega (arith, h.3), h.4, h.5)
-
-cut_cr : (at n : ℕ) (ls : List Line) → IsCut (at + 1) n ls → IsCut at n (with_cr at ls)
-cut_cr at n [] h = (refl, omega arith, omega arith, omega arith, λ e. omega (arith, h, e), h)
-cut_cr at n (l ∷ ls) h = (refl, omega arith, omega (arith, h.3), omega (arith, h.3), λ e. omega (arith, h.3), h.5)
-
-cut_ended : (at n : ℕ) (ls : List Line) → IsCut (at + 1) n ls → IsCut at n (record { start = at; text_end = at; end = at + 1 } ∷ ls)
-cut_ended at n ls h = (refl, omega arith, omega arith, omega arith, λ e. omega arith, h)
-
-cut_step : (lf cr pair : Bool) (at n : ℕ) (ls : List Line) → IsCut (at + 1) n ls →
-    IsCut at n (cond lf (record { start = at; text_end = at; end = at + 1 } ∷ ls) (cond cr (cond pair (with_cr at ls) (record { start = at; text_end = at; end = at + 1 } ∷ ls)) (with_text at ls)))
-cut_step true cr pair at n ls h = cut_ended at n ls h
-cut_step false true true at n ls h = cut_cr at n ls h
-cut_step false true false at n ls h = cut_ended at n ls h
-cut_step false false pair at n ls h = cut_text at n ls h
-
--- the lines of a source cut it
-pub cut_lines : (at n : ℕ) (bytes : List ℕ) → at + length bytes ≡ n → IsCut at n (lines_from at bytes)
-cut_lines at n [] h = omega (arith, h)
-cut_lines at n (byte ∷ bytes) h = cut_step (eqb byte 10) (eqb byte 13) (begins_with_lf bytes) at n (lines_from (at + 1) bytes) (cut_lines (at + 1) n bytes (omega (arith, h)))
-
-pub cut-le : (at n : ℕ) (ls : List Line) → IsCut at n ls → at ≤ n
-cut-le at n [] h = omega (arith, h)
-cut-le at n (l ∷ ls) h = omega (arith, h.3, cut-le l.end n ls h.5)
 
 -- nothing is counted before the first line's end
 pub line-zero : (at n offset : ℕ) (ls : List Line) → IsCut at n ls → offset ≤ at → line_of ls offset ≡ 0
@@ -171,8 +145,3 @@ pub end-past : (at n k : ℕ) (ls : List Line) → length ls ≤ k → end_of n 
 end-past at n k [] le = refl
 end-past at n zero (l ∷ ls) le = absurd (omega (arith, le))
 end-past at n (suc k) (l ∷ ls) le = end-past at n k ls (omega (arith, le))
-
-pub end-in : (at n k : ℕ) (ls : List Line) → IsCut at n ls → end_of n ls k ≤ n
-end-in at n k [] h = omega arith
-end-in at n zero (l ∷ ls) h = cut-le l.end n ls h.5
-end-in at n (suc k) (l ∷ ls) h = end-in l.end n k ls h.5

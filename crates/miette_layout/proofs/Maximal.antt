@@ -3,7 +3,7 @@ use Rattle.std.proofs.Common.{ℕ, ◌+◌, ◌≡◌, eqb, List, [], ◌∷◌,
 use Rattle.std.proofs.lemmas.Bool.{eqb-true, eqb-false}
 use Rattle.std.specs.List.{AllByRecursion, concat}
 use Rattle.miette_layout.specs.Numbers.{onto_run, runs, IsRun, AreParted}
-use Rattle.miette_layout.proofs.Numbers.{by_cases}
+use Rattle.miette_lines.proofs.Numbers.{by_cases}
 
 -- what runs have
 pub record AreRuns (ks : List ℕ) (rs : List (List ℕ)) : Type 0 where

@@ -5,18 +5,16 @@ use Rattle.std.proofs.lemmas.Bool.Decides.{nat_tests}
 use Rattle.std.proofs.lemmas.List.Elements.{filter_agree}
 use Rattle.std.specs.List.{range_with_len, filter, list_any}
 use Rattle.miette_layout.specs.Numbers.{runs}
-use Rattle.miette_layout.proofs.Sources.{lines, line_of, reading_end, end_of_span, first_line, last_line, read, lines_in}
+use Rattle.miette_lines.proofs.Sources.{lines, line_of, reading_end, end_of_span, first_line, last_line, read, lines_in}
 use Rattle.miette_protocol.specs.Reading.{Span}
-use Rattle.miette_layout.specs.Groups.{joined}
-use Rattle.miette_layout.proofs.Joining.{put_by_offset, by_offset, joins, groups_from, groups, lines_of_groups, is_in_context, is_shown, shown, snippets}
-use Rattle.miette_layout.proofs.Numbers.{by_cases, filter-none, filter-front, begins-other, runs-block, BeginsOtherThan}
+use Rattle.miette_lines.specs.Groups.{joined}
+use Rattle.miette_layout.proofs.Joining.{put_by_offset, by_offset, lines_of_groups, is_in_context, is_shown, shown, snippets}
+use Rattle.miette_lines.proofs.Joining.{joins, groups_from, groups}
+use Rattle.miette_layout.proofs.Numbers.{filter-none, filter-front, begins-other, runs-block, BeginsOtherThan}
+use Rattle.miette_lines.proofs.Numbers.{by_cases}
 use Rattle.miette_layout.proofs.Lines.{line-mono}
 use Rattle.miette_layout.proofs.Data.{first-mono, last-mono, first-le-last, first-le, first-lt, read-sum, read-lines}
-
--- each begins where the one before it does, or later
-abbrev pub IsAscending : ℕ → List Span → Type 0
-IsAscending from [] = Unit {0}
-IsAscending from (label ∷ labels) = (from ≤ label.offset) × IsAscending label.offset labels
+use Rattle.miette_lines.proofs.Merging.{IsAscending, swap_or}
 
 weaker : (a b : ℕ) (labels : List Span) → a ≤ b → IsAscending b labels → IsAscending a labels
 weaker a b [] le h = tt
@@ -32,13 +30,6 @@ put from label (next ∷ labels) le h =
 pub sorted : (labels : List Span) → IsAscending 0 (by_offset labels)
 sorted [] = tt
 sorted (label ∷ labels) = put 0 label (by_offset labels) (omega arith) (sorted labels)
-
--- what one of the labels passes doesn't depend on their order
-pub swap_or : (x y z : Bool) → (x || (y || z)) ≡ (y || (x || z))
-swap_or true true z = refl
-swap_or true false z = refl
-swap_or false true z = refl
-swap_or false false z = refl
 
 put_any : (p : Span → Bool) (label : Span) (labels : List Span) → list_any p (put_by_offset label labels) ≡ (p label || list_any p labels)
 put_any p label [] = refl

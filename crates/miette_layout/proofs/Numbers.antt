@@ -4,10 +4,7 @@ use Rattle.std.proofs.lemmas.Bool.{eq-eqb, ne_eqb}
 use Rattle.std.proofs.lemmas.List.Elements.{filter-append}
 use Rattle.std.specs.List.{range_with_len, filter}
 use Rattle.miette_layout.specs.Numbers.{onto_run, runs}
-
-pub by_cases : {C : Type 0} (b : Bool) → (b ≡ true → C) → (b ≡ false → C) → C
-by_cases true f g = f refl
-by_cases false f g = g refl
+use Rattle.miette_lines.proofs.Numbers.{by_cases}
 
 pub range_with_len-append : (from x y : ℕ) → range_with_len from (x + y) ≡ range_with_len from x ++ range_with_len (from + x) y
 range_with_len-append from zero y = let e : zero + y ≡ y = omega arith in let f : from + zero ≡ from = omega arith in rw (e, f) refl

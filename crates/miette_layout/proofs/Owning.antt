@@ -1,6 +1,6 @@
 -- Labels with their own numbers of context lines: their groups show the maximal runs of the shown lines.
-use Rattle.std.proofs.Common.{ℕ, suc, ◌+◌, ◌-◌, ◌<◌, ◌≤◌, ◌≡◌, min, max, Bool, true, false, cond, leb, List, [], ◌∷◌, ◌&&◌, ◌||◌, length, map, Option, Some, None, refl, sym, ap, ap₂, ◌∙◌, arith}
-use Rattle.std.specs.Prelude.{unwrap_or, is_some}
+use Rattle.std.proofs.Common.{ℕ, suc, ◌+◌, ◌-◌, ◌<◌, ◌≤◌, ◌≡◌, min, false, leb, List, [], ◌∷◌, ◌&&◌, ◌||◌, length, map, refl, sym, ap, ap₂, ◌∙◌, arith}
+use Rattle.std.specs.Prelude.{is_some}
 use Rattle.std.proofs.lemmas.List.Elements.{filter_agree}
 use Rattle.std.specs.List.{range_with_len, filter, list_any, AllByRecursion}
 use Rattle.miette_protocol.specs.Lines as P
@@ -8,44 +8,30 @@ use Rattle.miette_protocol.specs.Lines.{Line}
 use Rattle.miette_protocol.specs.Meaning.{Label}
 use Rattle.miette_protocol.specs.Reading as R
 use Rattle.miette_protocol.specs.Reading.{Span, Source, Contents}
-use Rattle.miette_layout.specs.Answers.{Highlight, first_of, later_of}
-use Rattle.miette_layout.specs.Around.{has_own, lines_around}
-use Rattle.miette_layout.specs.Contexts as C
-use Rattle.miette_layout.specs.Contexts.{contents, lines_of_contents}
+use Rattle.miette_lines.specs.Answers.{Highlight, first_of, later_of}
+use Rattle.miette_lines.specs.Around.{has_own, lines_around}
+use Rattle.miette_lines.specs.Contexts as C
+use Rattle.miette_lines.specs.Contexts.{contents, lines_of_contents}
 use Rattle.miette_layout.specs.Frames.{Settings, width_of_lines}
-use Rattle.miette_layout.specs.Groups as G
-use Rattle.miette_layout.specs.Groups.{in_order, put_label, stretch, put_stretch, by_begin, stretches_from, joined_stretches, own_groups}
+use Rattle.miette_lines.specs.Groups as G
+use Rattle.miette_lines.specs.Groups.{in_order, put_label, stretch, put_stretch, by_begin, stretches_from, joined_stretches, own_groups}
 use Rattle.miette_layout.specs.Gutters.{gutter_columns}
-use Rattle.miette_layout.specs.Labels.{DrawnLabel}
+use Rattle.miette_lines.specs.Labels.{DrawnLabel}
 use Rattle.miette_layout.specs.Layout.{rows_of_lines, body_rows}
 use Rattle.miette_layout.specs.Numbers.{runs}
 use Rattle.miette_layout.specs.Shown.{run_rows, rows_of_runs, bodies}
 use Rattle.miette_layout.specs.Snippets as N
-use Rattle.miette_layout.proofs.Sources.{lines, first_line, last_line}
+use Rattle.miette_lines.proofs.Sources.{lines, first_line, last_line}
 use Rattle.miette_layout.proofs.Joining as J
-use Rattle.miette_layout.proofs.Numbers.{by_cases}
+use Rattle.miette_lines.proofs.Numbers.{by_cases}
 use Rattle.miette_layout.proofs.Data.{first-lt, first-le-last}
-use Rattle.miette_layout.proofs.Merging.{swap_or}
-use Rattle.miette_layout.proofs.Bridge.{lines_same, begin_same, end_data_same, some-context}
+use Rattle.miette_layout.proofs.Bridge.{begin_same, end_data_same}
+use Rattle.miette_lines.proofs.Bridge.{lines_same, some-context}
 use Rattle.miette_layout.proofs.Bodies.{no_lines, no-part, body_from, context_same}
 use Rattle.miette_layout.proofs.Ends.{empty-end, empty-start}
 use Rattle.miette_layout.proofs.Reread.{block_line, block_lines, block_numbers}
 use Rattle.miette_layout.proofs.Spreading.{Block, IsBlock, AreBlocks, span_of, order_same, joined_same, blocks_by_begin, joined_blocks, ordered_there, joined_there, blocks_are_runs, numbers_of, in_blocks}
-
--- ---- labels in order
-
-put_any : (p : Label → Bool) (label : Label) (labels : List Label) → list_any p (put_label label labels) ≡ (p label || list_any p labels)
-put_any p label [] = refl
-put_any p label (next ∷ labels) =
-    by_cases {C = list_any p (put_label label (next ∷ labels)) ≡ (p label || list_any p (next ∷ labels))} (leb label.span.offset next.span.offset)
-    (λ t. rw t refl) (λ f. rw f (ap (λ b. p next || b) (put_any p label labels) ∙ swap_or (p next) (p label) (list_any p labels)))
-
-pub order_any : (p : Label → Bool) (labels : List Label) → list_any p (in_order labels) ≡ list_any p labels
-order_any p [] = refl
-order_any p (label ∷ labels) = put_any p label (in_order labels) ∙ ap (λ b. p label || b) (order_any p labels)
-
-pub own_ordered : (labels : List Label) → has_own (in_order labels) ≡ has_own labels
-own_ordered labels = order_any (λ label. is_some label.context) labels
+use Rattle.miette_lines.proofs.Owning.{neither, none_around}
 
 put_each : (P : Label → Type 0) (label : Label) (labels : List Label) → P label → AllByRecursion P labels → AllByRecursion P (put_label label labels)
 put_each P label [] own h = (own, tt)
@@ -56,19 +42,6 @@ put_each P label (next ∷ labels) own h =
 pub order_each : (P : Label → Type 0) (labels : List Label) → AllByRecursion P labels → AllByRecursion P (in_order labels)
 order_each P [] h = tt
 order_each P (label ∷ labels) h = put_each P label (in_order labels) h.0 (order_each P labels h.1)
-
--- ---- where no label has its own number, all are read with the number for all
-
-around_none : (context : ℕ) (own : Bool) (number : Option ℕ) → own ≡ false → is_some number ≡ false → unwrap_or number (cond own (max 1 context) context) ≡ context
-around_none context own None e h = ap (λ b. cond b (max 1 context) context) e
-around_none context own (Some n) e h = cc
-
-pub none_around : (context : ℕ) (all : List Label) (label : Label) → has_own all ≡ false → is_some label.context ≡ false → lines_around context all label ≡ context
-none_around context all label e h = around_none context (has_own all) label.context e h
-
-pub neither : (x y : Bool) → (x || y) ≡ false → (x ≡ false) × (y ≡ false)
-neither true y h = cc
-neither false y h = (refl, h)
 
 none_shown : (context : ℕ) (bytes : List ℕ) (k : ℕ) (all labels : List Label) → has_own all ≡ false → has_own labels ≡ false →
     list_any (λ label. N.is_in_context (lines_around context all label) bytes k label.span) labels ≡ J.is_shown context bytes (map (λ l. l.span) labels) k

@@ -9,9 +9,10 @@ use Rattle.miette_layout.specs.Clean.{IsCleanCode, IsClean, IsCleanRow, AreClean
 use Rattle.miette_layout.specs.Drawing.{blank, code_with_parts, mark_code, mark_run, mark_runs, lead_runs, text_row, corner, corner_of_several, beside, rows_of_parts, rows_below, marked_rows}
 use Rattle.miette_layout.specs.Fading.{IsPlainRow}
 use Rattle.miette_layout.specs.Gutters.{ending_corner, arrow, number_gutter, other_gutter, open_gutter, part_run, closing_parts, closing_rows}
-use Rattle.miette_layout.specs.Labels.{DrawnLabel, is_empty, starts_on, ends_on}
+use Rattle.miette_lines.specs.Labels.{DrawnLabel, is_empty, starts_on, ends_on}
 use Rattle.miette_layout.specs.Marks.{Mark, anchor}
-use Rattle.miette_layout.specs.Rows.{Run, Row, pieces_of, plain, styled}
+use Rattle.miette_layout.specs.Rows.{Run, Row, pieces_of, styled}
+use Rattle.miette_style.specs.Styles.{plain}
 use Rattle.miette_layout.proofs.CleanTexts.{AreCleanPieces, clean_cons, clean_append, clean_replicate, clean_code_if, clean_copies, clean_drawn, clean_each}
 use Rattle.miette_layout.proofs.Flat.{pieces_of-append}
 

@@ -1,57 +1,27 @@
 -- Texts of printable ASCII characters.
-use Rattle.std.proofs.Common.{ℕ, zero, suc, ◌+◌, ◌-◌, ◌<◌, ◌≤◌, ◌≡◌, true, false, leb, ltb, eqb, List, [], ◌∷◌, ◌++◌, map, length, refl, sym, ap, ◌∙◌, append-nil, arith}
-use Rattle.std.specs.Prelude.{encode_utf8_all, slice_index}
-use Rattle.std.specs.Int.{is_in_range}
+use Rattle.std.proofs.Common.{ℕ, ◌+◌, ◌-◌, ◌<◌, ◌≤◌, ◌≡◌, true, false, leb, ltb, List, [], ◌∷◌, ◌++◌, map, length, refl, sym, ap, ◌∙◌, append-nil, arith}
+use Rattle.std.specs.Prelude.{encode_utf8_all}
 use Rattle.std.specs.List.{list_all}
 use Rattle.std.proofs.lemmas.Bool.{and_parts}
 use Rattle.std.proofs.lemmas.Bool.Decides.{nat_tests}
 use Rattle.std.proofs.lemmas.Str.{encode_ascii}
-use Rattle.unicode_width.specs.Width.{char_width}
-use Rattle.bstr.specs.Utf8.{decoded, good, or_replacement}
-use Rattle.bstr.proofs.lemmas.PieceLemmas.{value-1}
-use Rattle.miette_layout.specs.Cells.{Cell, cells_from, characters, first_column, last_column, cells_width, width_at, hides_next, printed_cells, line_runs}
-use Rattle.miette_layout.specs.Given.{width_of}
+use Rattle.bstr.specs.Utf8.{or_replacement}
+use Rattle.miette_layout.specs.PrintedCells.{first_column, last_column, cells_width, printed_cells, line_runs}
+use Rattle.miette_lines.specs.Cells.{Cell, cells_from, characters, width_at, hides_next}
+use Rattle.miette_lines.specs.Given.{width_of}
 use Rattle.miette_layout.specs.Told.{Token, begins, told, text_told, bytes_told}
 use Rattle.miette_style.specs.declared.style.Style.{Style}
 use Rattle.std.proofs.lemmas.List.{nil_from_length}
-use Rattle.miette_layout.specs.Walking.{cells_told, highlight_of}
+use Rattle.miette_layout.specs.TellingCells.{cells_told, highlight_of}
 use Rattle.miette_layout.specs.Layout.{text_of_cells}
 use Rattle.miette_layout.specs.Marks.{Text}
-use Rattle.miette_layout.specs.Printable.{is_printable, plain_cells}
-use Rattle.miette_layout.specs.Rows.{Piece, plain}
-use Rattle.miette_layout.proofs.Numbers.{by_cases}
+use Rattle.miette_lines.specs.Printable.{is_printable, plain_cells}
+use Rattle.miette_layout.specs.Rows.{Piece}
+use Rattle.miette_style.specs.Styles.{plain}
+use Rattle.miette_lines.proofs.Numbers.{by_cases}
 use Rattle.miette_layout.proofs.Telling.{then}
-use Rattle.miette_layout.proofs.Stepping.{made, characters_step, cells_step, cells_end}
-
--- what a printable character is not
-record IsPlain (b : ℕ) : Type 0 where
-  low : 32 ≤ b
-  high : b < 127
-  escape : eqb b 27 ≡ false
-  tab : eqb b 9 ≡ false
-
-from_le : (a b : ℕ) → leb a b ≡ true → a ≤ b
-from_le a b h = grind (arith, nat_tests)
-
-from_lt : (a b : ℕ) → ltb a b ≡ true → a < b
-from_lt a b h = grind (arith, nat_tests)
-
-apart : (a b : ℕ) → (a ≡ b → ⊥) → eqb a b ≡ false
-apart a b h = grind (arith, nat_tests)
-
-plain_byte : (b : ℕ) → is_printable b ≡ true → IsPlain b
-plain_byte b h =
-    let parts = and_parts (leb 32 b) (ltb b 127) h in
-    let low : 32 ≤ b = from_le 32 b parts.0 in
-    let high : b < 127 = from_lt b 127 parts.1 in
-    record { low = low; high = high; escape = apart b 27 (omega arith); tab = apart b 9 (omega arith) }
-
--- each has one column
-pub one_column : (b : ℕ) → is_printable b ≡ true → width_of b ≡ 1
-unfolding char_width
-one_column b h =
-    let parts = and_parts (leb 32 b) (ltb b 127) h in
-    rw (parts.1, parts.0) refl
+use Rattle.miette_lines.proofs.Stepping.{made, cells_step, cells_end}
+use Rattle.miette_lines.proofs.Plaining.{ascii_decoded, from_le, from_lt, one_column, plain_byte}
 
 plain_width : (tab column b : ℕ) → is_printable b ≡ true → 1 ≡ width_at width_of tab false column b
 plain_width tab column b h =
@@ -60,26 +30,6 @@ plain_width tab column b h =
 
 plain_hides : (b : ℕ) → is_printable b ≡ true → false ≡ hides_next false b
 plain_hides b h = let p = plain_byte b h in rw (p.escape) refl
-
-ascii_decoded : (b : ℕ) (bs : List ℕ) → b < 128 → decoded (b ∷ bs) ≡ good b 1
-ascii_decoded b bs h = value-1 (length (b ∷ bs)) b (slice_index (b ∷ bs) 1) (slice_index (b ∷ bs) 2) (slice_index (b ∷ bs) 3) (omega arith, h)
-
--- each is a character of one byte
-pub printable_character : (b : ℕ) (bs : List ℕ) → is_printable b ≡ true → characters (b ∷ bs) ≡ made b 1 ∷ characters bs
-printable_character b bs h =
-    let p = plain_byte b h in
-    let is = ascii_decoded b bs (omega (arith, p.high)) in
-    characters_step (b ∷ bs) bs b 1 (record { some = omega arith; left_is = refl; code_is = sym (ap (λ d. or_replacement d.char) is); size_is = sym (ap (λ d. d.size) is) })
-
-pub printable_in_range : (b : ℕ) → is_printable b ≡ true → is_in_range 0x20 0x7E b ≡ true
-printable_in_range b h = grind (arith, nat_tests)
-
--- they are ASCII
-pub printable_ascii : (bs : List ℕ) → list_all is_printable bs ≡ true → (i : ℕ) → slice_index bs i < 128
-printable_ascii [] h zero = omega arith
-printable_ascii [] h (suc i) = omega arith
-printable_ascii (b ∷ bs) h zero = let p = plain_byte b (and_parts (is_printable b) (list_all is_printable bs) h).0 in omega (arith, p.high)
-printable_ascii (b ∷ bs) h (suc i) = printable_ascii bs (and_parts (is_printable b) (list_all is_printable bs) h).1 i
 
 -- their cells
 pub printable_cells : (tab offset column : ℕ) (bs : List ℕ) → list_all is_printable bs ≡ true → cells_from width_of tab false offset column (characters bs) ≡ plain_cells offset column bs

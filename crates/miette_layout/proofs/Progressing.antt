@@ -7,39 +7,40 @@ use Rattle.miette_protocol.specs.Lines.{Line}
 use Rattle.miette_protocol.specs.Meaning.{Label}
 use Rattle.miette_protocol.specs.Reading.{Span, Source, Contents}
 use Rattle.miette_style.specs.declared.style.Style.{Style}
-use Rattle.miette_layout.specs.declared.grouping.Group.{Group}
-use Rattle.miette_layout.specs.declared.primary.Place.{Place as Found}
-use Rattle.miette_layout.specs.declared.reading.ReadLabel.{ReadLabel}
-use Rattle.miette_layout.specs.declared.reading.ReadLabels.{ReadLabels}
-use Rattle.miette_layout.specs.declared.reading.ReadLabels.TheVariants as reads
-use Rattle.miette_layout.specs.declared.reading.Refusal.{Refusal}
-use Rattle.miette_layout.specs.declared.reading.Refusal.TheVariants as reasons
-use Rattle.miette_layout.specs.declared.sweep.Placed.{Placed}
+use Rattle.miette_lines.specs.declared.grouping.Group.{Group}
+use Rattle.miette_lines.specs.declared.primary.Place.{Place as Found}
+use Rattle.miette_lines.specs.declared.reading.ReadLabel.{ReadLabel}
+use Rattle.miette_lines.specs.declared.reading.ReadLabels.{ReadLabels}
+use Rattle.miette_lines.specs.declared.reading.ReadLabels.TheVariants as reads
+use Rattle.miette_lines.specs.declared.reading.Refusal.{Refusal}
+use Rattle.miette_lines.specs.declared.reading.Refusal.TheVariants as reasons
+use Rattle.miette_lines.specs.declared.sweep.Placed.{Placed}
 use Rattle.miette_layout.specs.Rows.{Row}
-use Rattle.miette_layout.specs.Answers.{Answers, Highlight, first_of, later_of}
-use Rattle.miette_layout.specs.Around.{has_own, group_context}
-use Rattle.miette_layout.specs.Contexts.{contents, lines_of_contents}
+use Rattle.miette_lines.specs.Answers.{Answers, Highlight, first_of, later_of}
+use Rattle.miette_lines.specs.Around.{has_own, group_context}
+use Rattle.miette_lines.specs.Contexts.{contents, lines_of_contents}
 use Rattle.miette_layout.specs.Drawn.{MayGive}
 use Rattle.miette_layout.specs.Frames.{Settings, Place, refused_row, top_row, bottom_row, number_width}
-use Rattle.miette_layout.specs.Given.{drawn_of, label_at}
+use Rattle.miette_lines.specs.Given.{drawn_of, label_at}
 use Rattle.miette_layout.specs.Gutters.{gutter_columns}
-use Rattle.miette_layout.specs.Groups.{in_order, refusal, groups_of, some_fails, AreAccepted}
+use Rattle.miette_lines.specs.Groups.{in_order, refusal, groups_of, some_fails, AreAccepted}
 use Rattle.miette_layout.specs.Highlighted.{EachHasPieces, SnippetsHavePieces, texts_of}
-use Rattle.miette_layout.specs.Labels.{DrawnLabel, drawn_from}
+use Rattle.miette_lines.specs.Labels.{DrawnLabel, drawn_from}
 use Rattle.miette_layout.specs.Layout.{snippet, all_snippets, line_rows, settings_around, rows_unless, place_of, body_rows}
 use Rattle.miette_layout.specs.Lent.{cells_in, lent_rows, lent_snippet, PutsRows}
-use Rattle.miette_layout.specs.Placing.{placed_from}
-use Rattle.miette_layout.specs.Primary.{chosen, PointsTo, is_unread}
-use Rattle.miette_layout.specs.Read.{IsRead, IsLent, AreGroups, AreGrouped, IsUnread, AreRead, name_of}
+use Rattle.miette_lines.specs.Placing.{placed_from}
+use Rattle.miette_lines.specs.Primary.{chosen, PointsTo, is_unread}
+use Rattle.miette_lines.specs.Read.{IsRead, IsLent, AreGroups, AreGrouped, IsUnread, AreRead, name_of}
 use Rattle.miette_layout.specs.Told.{Token, told_rows}
-use Rattle.miette_layout.proofs.Bodies.{none_refused, some_none}
+use Rattle.miette_layout.proofs.Bodies.{none_refused}
+use Rattle.miette_lines.proofs.Bodies.{some_none}
 use Rattle.miette_layout.proofs.Choosing.{framed_place, place_is, unread_fails}
 use Rattle.miette_layout.proofs.Ends.{placed_drawn}
 use Rattle.miette_layout.proofs.Styling.{none_have, snippets_plain}
 use Rattle.miette_layout.proofs.Lending.{told_rows-append, lent_body, lent_texts, lent_texts_are}
-use Rattle.miette_layout.proofs.Owning.{own_ordered}
-use Rattle.miette_layout.proofs.Refusing.{read_of, all_accepted}
-use Rattle.miette_layout.proofs.Sorting.{label_got}
+use Rattle.miette_lines.proofs.Owning.{own_ordered}
+use Rattle.miette_lines.proofs.Refusing.{read_of, all_accepted}
+use Rattle.miette_lines.proofs.Sorting.{label_got}
 
 -- a group's span
 abbrev pub spans_grouped : List Group → List Span

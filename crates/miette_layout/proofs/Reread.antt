@@ -7,15 +7,19 @@ use Rattle.miette_protocol.specs.Lines as P
 use Rattle.miette_protocol.specs.Lines.{Line, lines_of}
 use Rattle.miette_protocol.specs.Reading as R
 use Rattle.miette_protocol.specs.Reading.{Span, Source}
-use Rattle.miette_layout.specs.Contexts as C
-use Rattle.miette_layout.specs.Contexts.{contents, lines_of_contents}
+use Rattle.miette_lines.specs.Contexts as C
+use Rattle.miette_lines.specs.Contexts.{contents, lines_of_contents}
 use Rattle.miette_layout.specs.Shown.{line_at}
-use Rattle.miette_layout.proofs.Numbers.{by_cases, filter-same}
-use Rattle.miette_layout.proofs.Sources.{begins_with_lf, with_text, with_cr, lines_from, lines, IsCut, start_of, end_of, past_lf, reading_end}
-use Rattle.miette_layout.proofs.Lines.{cut_lines, end-ge, end-in, cut-some, start-lt, start-le-end, end-mono, line-start}
-use Rattle.miette_layout.proofs.Data.{cut, range-lines, end-some}
+use Rattle.miette_layout.proofs.Numbers.{filter-same}
+use Rattle.miette_lines.proofs.Numbers.{by_cases}
+use Rattle.miette_lines.proofs.Sources.{begins_with_lf, with_text, with_cr, lines_from, lines, IsCut, start_of, end_of, past_lf, reading_end}
+use Rattle.miette_layout.proofs.Lines.{end-ge, cut-some, start-lt, start-le-end, end-mono, line-start}
+use Rattle.miette_lines.proofs.Lines.{cut_lines, end-in}
+use Rattle.miette_layout.proofs.Data.{range-lines, end-some}
+use Rattle.miette_lines.proofs.Data.{cut}
 use Rattle.miette_layout.proofs.Segments.{part_lines}
-use Rattle.miette_layout.proofs.Bridge.{lines_same, line_of_same, reading_same}
+use Rattle.miette_layout.proofs.Bridge.{line_of_same, reading_same}
+use Rattle.miette_lines.proofs.Bridge.{lines_same}
 use Rattle.miette_layout.proofs.Bodies.{in_same}
 use Rattle.miette_layout.proofs.Spreading.{Block, IsBlock, span_of, block_end, numbers_of}
 

@@ -1,64 +1,14 @@
 -- The lines of a part of a source that begins and ends where lines do are those lines of the source.
 use Rattle.std.proofs.Common.{ℕ, zero, suc, ◌+◌, ◌-◌, ◌<◌, ◌≤◌, ◌≡◌, min, Bool, true, false, cond, eqb, List, [], ◌∷◌, length, map, take, drop, refl, sym, ap, ◌∙◌, arith}
 use Rattle.std.proofs.lemmas.List.{drop-take, length-drop, length-take}
-use Rattle.std.proofs.Math.Seq.{take-nil, drop-nil}
+use Rattle.std.proofs.Math.Seq.{take-nil}
 use Rattle.std.specs.Prelude.{slice_range}
 use Rattle.std.specs.List.{range_with_len}
 use Rattle.miette_protocol.specs.Lines.{Line}
-use Rattle.miette_layout.proofs.Sources.{begins_with_lf, with_text, with_cr, lines_from, lines, start_of, end_of}
+use Rattle.miette_lines.proofs.Sources.{begins_with_lf, lines_from, lines, start_of, end_of}
 use Rattle.miette_layout.specs.Shown.{line_at}
-use Rattle.miette_layout.proofs.Numbers.{by_cases}
-
--- the bytes of the first line's text, and of the whole line
-abbrev pub first_text : List ℕ → ℕ
-first_text [] = 0
-first_text (byte ∷ bytes) = cond (eqb byte 10) 0 (cond (eqb byte 13) 0 (suc (first_text bytes)))
-
-abbrev pub first_size : List ℕ → ℕ
-first_size [] = 0
-first_size (byte ∷ bytes) = cond (eqb byte 10) 1 (cond (eqb byte 13) (cond (begins_with_lf bytes) 2 1) (suc (first_size bytes)))
-
-abbrev pub made : ℕ → ℕ → ℕ → Line
-made at text_end end = record { start = at; text_end = text_end; end = end }
-
-abbrev pub IsParted : ℕ → List ℕ → Type 0
-IsParted at bytes = lines_from at bytes ≡ made at (at + first_text bytes) (at + first_size bytes) ∷ lines_from (at + first_size bytes) (drop (first_size bytes) bytes)
-
-abbrev CrParted : ℕ → ℕ → List ℕ → Bool → Type 0
-CrParted at byte bytes lf =
-    cond lf (with_cr at (lines_from (at + 1) bytes)) (made at at (at + 1) ∷ lines_from (at + 1) bytes)
-    ≡ made at (at + 0) (at + cond lf 2 1) ∷ lines_from (at + cond lf 2 1) (drop (cond lf 2 1) (byte ∷ bytes))
-
-cr_by : (at byte : ℕ) (bytes : List ℕ) (lf : Bool) → begins_with_lf bytes ≡ lf → CrParted at byte bytes lf
-cr_by at byte bytes false h = let z : at + 0 ≡ at = omega arith in ap (λ a. made at a (at + 1) ∷ lines_from (at + 1) bytes) (sym z)
-cr_by at byte [] true h = cc
-cr_by at byte (c ∷ cs) true h =
-    let z : at + 0 ≡ at = omega arith in
-    let two : at + 1 + 1 ≡ at + 2 = omega arith in
-    rw h (rw (z, two) refl)
-
-parted_cr : (at byte : ℕ) (bytes : List ℕ) → CrParted at byte bytes (begins_with_lf bytes)
-parted_cr at byte bytes = cr_by at byte bytes (begins_with_lf bytes) refl
-
-text_at : (at t : ℕ) → at + 1 + t ≡ at + suc t
-text_at at t = omega arith
-
-pub parted : (at : ℕ) (bytes : List ℕ) → 0 < length bytes → IsParted at bytes
-parted at [] h = absurd (omega (arith, h))
-parted at (byte ∷ []) h =
-    let z : at + 0 ≡ at = omega arith in
-    by_cases {C = IsParted at (byte ∷ [])} (eqb byte 10) (λ t. rw t (rw z refl))
-    (λ f. by_cases {C = IsParted at (byte ∷ [])} (eqb byte 13) (λ t. rw (f, t) (rw z refl)) (λ g. rw (f, g) refl))
-parted at (byte ∷ c ∷ cs) h =
-    let z : at + 0 ≡ at = omega arith in
-    let t : ℕ = first_text (c ∷ cs) in
-    let n : ℕ = first_size (c ∷ cs) in
-    let more : IsParted (at + 1) (c ∷ cs) = parted (at + 1) (c ∷ cs) (omega arith) in
-    by_cases {C = IsParted at (byte ∷ c ∷ cs)} (eqb byte 10) (λ e. rw e (ap (λ a. made at a (at + 1) ∷ lines_from (at + 1) (c ∷ cs)) (sym z)))
-    (λ f. by_cases {C = IsParted at (byte ∷ c ∷ cs)} (eqb byte 13) (λ e. rw (f, e) (parted_cr at byte (c ∷ cs)))
-    (λ g. rw (f, g) (ap (with_text at) more
-    ∙ ap (λ a. made at a (at + 1 + n) ∷ lines_from (at + 1 + n) (drop n (c ∷ cs))) (text_at at t)
-    ∙ ap (λ a. made at (at + suc t) a ∷ lines_from a (drop n (c ∷ cs))) (text_at at n))))
+use Rattle.miette_lines.proofs.Numbers.{by_cases}
+use Rattle.miette_lines.proofs.Segments.{drop_drop, first_size, first_text, made, parted}
 
 some-size : (bytes : List ℕ) → 0 < length bytes → 0 < first_size bytes
 some-size [] h = absurd (omega (arith, h))
@@ -108,11 +58,6 @@ front_fits (suc m) (byte ∷ c ∷ cs) some le =
     (λ g. let le' : suc (first_size (c ∷ cs)) ≤ suc m = rw (f, g) at le in
     let h : Fits m (c ∷ cs) = ih (omega (arith, le')) in
     rw (f, g) (ap (λ n. suc n) h.0, ap (λ n. suc n) h.1)))
-
-pub drop_drop : (a b : ℕ) (xs : List ℕ) → drop a (drop b xs) ≡ drop (b + a) xs
-drop_drop a zero xs = ap (λ n. drop n xs) (omega arith)
-drop_drop a (suc b) [] = drop-nil a ∙ sym (drop-nil (suc b + a))
-drop_drop a (suc b) (x ∷ xs) = let e : suc b + a ≡ suc (b + a) = omega arith in rw e (drop_drop a b xs)
 
 -- the front of some bytes that holds their first line is parted as they are
 front_parted : (at m : ℕ) (bytes : List ℕ) → 0 < length bytes → first_size bytes ≤ m →

@@ -6,13 +6,16 @@ use Rattle.std.proofs.lemmas.List.Elements.{filter_agree}
 use Rattle.std.specs.List.{range_with_len, filter, list_any, AllByRecursion}
 use Rattle.miette_protocol.specs.Lines.{Line}
 use Rattle.miette_protocol.specs.Reading.{Span}
-use Rattle.miette_layout.specs.Groups.{joined, put_stretch, by_begin, stretches_from, joined_stretches}
+use Rattle.miette_lines.specs.Groups.{joined, put_stretch, by_begin, stretches_from, joined_stretches}
 use Rattle.miette_layout.specs.Numbers.{runs}
-use Rattle.miette_layout.proofs.Sources.{lines, start_of, end_of, end_of_span}
-use Rattle.miette_layout.proofs.Numbers.{by_cases, filter-none}
+use Rattle.miette_lines.proofs.Sources.{lines, start_of, end_of, end_of_span}
+use Rattle.miette_layout.proofs.Numbers.{filter-none}
+use Rattle.miette_lines.proofs.Numbers.{by_cases}
 use Rattle.miette_layout.proofs.Lines.{line-mono, line-start, start-next, start-le-end, end-mono}
-use Rattle.miette_layout.proofs.Data.{cut, starts}
-use Rattle.miette_layout.proofs.Merging.{within, or_assoc, swap_or, span_run}
+use Rattle.miette_layout.proofs.Data.{starts}
+use Rattle.miette_lines.proofs.Data.{cut}
+use Rattle.miette_layout.proofs.Merging.{within, or_assoc, span_run}
+use Rattle.miette_lines.proofs.Merging.{swap_or}
 
 -- the numbers of the first and the last of some lines; the last need not be there
 pub record Block : Type 0 where

@@ -8,13 +8,15 @@ use Rattle.miette_protocol.specs.Meaning.{Label}
 use Rattle.miette_style.specs.declared.style.Style.{Style}
 use Rattle.miette_style.specs.declared.theme.ThemeCharacters.{ThemeCharacters}
 use Rattle.miette_layout.specs.declared.marks.Mark.{Mark as MadeMark}
-use Rattle.miette_layout.specs.Rows.{drawn, plain}
-use Rattle.miette_layout.specs.Labels.{parts_of, cut_at_lf, onto_part, is_empty}
+use Rattle.miette_layout.specs.Rows.{drawn}
+use Rattle.miette_style.specs.Styles.{plain}
+use Rattle.miette_lines.specs.Labels.{parts_of, cut_at_lf, onto_part, is_empty}
 use Rattle.miette_layout.specs.Marks.{Mark, anchor}
 use Rattle.miette_layout.specs.Drawing.{mark_code, mark_run, mark_runs, code_with_parts}
 use Rattle.miette_layout.specs.Made.{mark_of}
 use Rattle.miette_layout.specs.Told.{Token, begins, told, told_run, run_told, text_told, bytes_told}
-use Rattle.miette_layout.proofs.Numbers.{range_with_len-append, by_cases}
+use Rattle.miette_layout.proofs.Numbers.{range_with_len-append}
+use Rattle.miette_lines.proofs.Numbers.{by_cases}
 use Rattle.miette_layout.proofs.Telling.{then, told_as, run_one, run_more, blank_told}
 
 mapped_codes : (w f : ℕ → ℕ) (ks : List ℕ) → map (λ p. p.code) (map (λ k. drawn w (f k)) ks) ≡ map f ks

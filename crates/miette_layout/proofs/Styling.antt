@@ -4,14 +4,14 @@ use Rattle.miette_protocol.specs.Lines.{Line}
 use Rattle.miette_protocol.specs.Meaning.{Label}
 use Rattle.miette_protocol.specs.Reading.{Span, Source, Contents}
 use Rattle.miette_style.specs.Pieces.{CutsLine, Piece}
-use Rattle.miette_layout.specs.Answers.{Highlight, first_of, later_of}
-use Rattle.miette_layout.specs.Contexts.{contents, lines_of_contents}
+use Rattle.miette_lines.specs.Answers.{Highlight, first_of, later_of}
+use Rattle.miette_lines.specs.Contexts.{contents, lines_of_contents}
 use Rattle.miette_layout.specs.Frames.{Settings, top_row, bottom_row, number_width}
 use Rattle.miette_layout.specs.Gutters.{gutter_columns}
 use Rattle.miette_layout.specs.Highlighted.{ArePieces, EachHasPieces, SnippetsHavePieces, piece_of, texts_of}
-use Rattle.miette_layout.specs.Labels.{DrawnLabel, drawn_from}
+use Rattle.miette_lines.specs.Labels.{DrawnLabel, drawn_from}
 use Rattle.miette_layout.specs.Layout.{line_rows, rows_of_lines, cells_of, all_snippets, place_of}
-use Rattle.miette_layout.specs.Walking.{highlight_of}
+use Rattle.miette_layout.specs.TellingCells.{highlight_of}
 
 same_pieces : (ps : List Piece) → map piece_of (map highlight_of ps) ≡ ps
 same_pieces [] = refl

@@ -6,8 +6,9 @@ use Rattle.miette_protocol.specs.Meaning.{Label}
 use Rattle.miette_style.specs.declared.style.Style.{Style}
 use Rattle.miette_style.specs.declared.theme.ThemeCharacters.{ThemeCharacters}
 use Rattle.miette_layout.specs.declared.marks.Mark.{Mark as MadeMark}
-use Rattle.miette_layout.specs.Rows.{Row, plain, styled}
-use Rattle.miette_layout.specs.Labels.{cut_at_lf}
+use Rattle.miette_layout.specs.Rows.{Row, styled}
+use Rattle.miette_style.specs.Styles.{plain}
+use Rattle.miette_lines.specs.Labels.{cut_at_lf}
 use Rattle.miette_layout.specs.Marks.{Mark, anchor}
 use Rattle.miette_layout.specs.Drawing.{blank, lead_runs, text_row, beside, corner, corner_of_several, rows_of_parts, rows_below}
 use Rattle.miette_layout.specs.Layout.{before_each}

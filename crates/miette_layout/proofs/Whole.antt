@@ -6,9 +6,9 @@ use Rattle.std.proofs.lemmas.Int.Digits.{digits_value-lt}
 use Rattle.std.specs.List.{AllByRecursion}
 use Rattle.miette_protocol.specs.Lines.{Line}
 use Rattle.miette_protocol.specs.Reading.{Contents}
-use Rattle.miette_layout.specs.Answers.{Highlight, first_of, later_of}
-use Rattle.miette_layout.specs.Contexts.{lines_of_contents}
-use Rattle.miette_layout.specs.Labels.{DrawnLabel}
+use Rattle.miette_lines.specs.Answers.{Highlight, first_of, later_of}
+use Rattle.miette_lines.specs.Contexts.{lines_of_contents}
+use Rattle.miette_lines.specs.Labels.{DrawnLabel}
 use Rattle.miette_layout.specs.Drawing.{IsNarrow}
 use Rattle.miette_layout.specs.Gutters.{gutter_columns}
 use Rattle.miette_layout.specs.Frames.{Settings, width_of_lines}

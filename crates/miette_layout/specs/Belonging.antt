@@ -3,8 +3,8 @@ use Rattle.std.specs.Prelude.{ℕ, ◌≡◌, List, length, Bool, ◌&&◌, nat_
 use Rattle.std.specs.List.{filter}
 use Rattle.miette_protocol.specs.Meaning.{Label}
 use Rattle.miette_protocol.specs.Reading.{Span, Source}
-use Rattle.miette_layout.specs.Contexts.{end_of_span}
-use Rattle.miette_layout.specs.Groups.{own_groups, stretch}
+use Rattle.miette_lines.specs.Contexts.{end_of_span}
+use Rattle.miette_lines.specs.Groups.{own_groups, stretch}
 use Rattle.miette_layout.specs.Layout.{is_within}
 
 -- whether a group's bytes hold some data

@@ -2,8 +2,9 @@
 use Rattle.std.specs.Prelude.{ℕ, ◌+◌, ◌-◌, ◌<◌, ◌≤◌, ◌≡◌, List, [], ◌∷◌, ◌++◌, map, replicate, if◌then◌else◌, ◌==◌}
 use Rattle.std.specs.List.{range_with_len}
 use Rattle.miette_style.specs.declared.theme.ThemeCharacters.{ThemeCharacters}
-use Rattle.miette_layout.specs.Rows.{Run, Row, plain, drawn, styled}
-use Rattle.miette_layout.specs.Labels.{is_empty}
+use Rattle.miette_layout.specs.Rows.{Run, Row, drawn, styled}
+use Rattle.miette_style.specs.Styles.{plain}
+use Rattle.miette_lines.specs.Labels.{is_empty}
 use Rattle.miette_layout.specs.Marks.{Mark, anchor}
 
 -- the drawing characters are one column wide, and so are a space and the digits

@@ -5,10 +5,10 @@ use Rattle.miette_protocol.specs.Meaning.{Label}
 use Rattle.miette_protocol.specs.Reading.{Source}
 use Rattle.miette_protocol.specs.declared.error.RenderError.{RenderError}
 use Rattle.miette_protocol.specs.declared.error.RenderError.TheVariants as errors
-use Rattle.miette_layout.specs.Answers.{Answers, AlwaysReads}
-use Rattle.miette_layout.specs.Around.{group_context}
+use Rattle.miette_lines.specs.Answers.{Answers, AlwaysReads}
+use Rattle.miette_lines.specs.Around.{group_context}
 use Rattle.miette_layout.specs.Frames.{Settings}
-use Rattle.miette_layout.specs.Groups.{in_order, groups_of}
+use Rattle.miette_lines.specs.Groups.{in_order, groups_of}
 use Rattle.miette_layout.specs.Highlighted.{SnippetsHavePieces}
 use Rattle.miette_layout.specs.Layout.{snippet_rows}
 use Rattle.miette_layout.specs.Told.{Token, told_rows}

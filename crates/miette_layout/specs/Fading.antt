@@ -1,9 +1,10 @@
 -- Settings and answers without colours, and rows that are plain.
 use Rattle.std.specs.Prelude.{◌≡◌, [], map}
 use Rattle.std.specs.List.{AllByRecursion}
-use Rattle.miette_layout.specs.Answers.{Answers}
+use Rattle.miette_lines.specs.Answers.{Answers}
 use Rattle.miette_layout.specs.Frames.{Styles, Settings}
-use Rattle.miette_layout.specs.Rows.{Row, plain}
+use Rattle.miette_layout.specs.Rows.{Row}
+use Rattle.miette_style.specs.Styles.{plain}
 
 abbrev pub faded : Styles → Styles
 faded s = record { error = plain; warning = plain; link = plain; linum = plain; highlights = map (λ _. plain) s.highlights }

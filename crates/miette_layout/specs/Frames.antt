@@ -5,9 +5,9 @@ use Rattle.miette_style.specs.declared.theme.ThemeCharacters.{ThemeCharacters}
 use Rattle.miette_layout.specs.Rows.{Row, styled, unstyled}
 use Rattle.miette_protocol.specs.Lines.{Line}
 use Rattle.miette_protocol.specs.Reading.{Contents}
-use Rattle.miette_layout.specs.Contexts.{lines_of_contents}
+use Rattle.miette_lines.specs.Contexts.{lines_of_contents}
 use Rattle.miette_layout.specs.Drawing.{blank}
-use Rattle.miette_layout.specs.Groups.{Refusal}
+use Rattle.miette_lines.specs.Groups.{Refusal}
 
 pub record Styles : Type 0 where
   pub error : Style

@@ -3,7 +3,7 @@ use Rattle.std.specs.Prelude.{ℕ, ◌+◌, ◌-◌, max, List, [], ◌∷◌, �
 use Rattle.miette_style.specs.declared.theme.ThemeCharacters.{ThemeCharacters}
 use Rattle.miette_layout.specs.Rows.{Run, Row, styled}
 use Rattle.miette_protocol.specs.Lines.{Line}
-use Rattle.miette_layout.specs.Labels.{DrawnLabel, starts_on, ends_on, multi_line}
+use Rattle.miette_lines.specs.Labels.{DrawnLabel, starts_on, ends_on, multi_line}
 use Rattle.miette_layout.specs.Drawing.{blank}
 
 -- the greatest number of labels of several lines on one line

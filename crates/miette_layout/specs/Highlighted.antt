@@ -5,8 +5,8 @@ use Rattle.bstr.specs.Utf8.{lossy_chars}
 use Rattle.miette_protocol.specs.Lines.{Line}
 use Rattle.miette_protocol.specs.Reading.{Span, Source}
 use Rattle.miette_style.specs.Pieces.{CutsLine, Piece}
-use Rattle.miette_layout.specs.Answers.{Highlight, first_of, later_of}
-use Rattle.miette_layout.specs.Contexts.{contents, lines_of_contents}
+use Rattle.miette_lines.specs.Answers.{Highlight, first_of, later_of}
+use Rattle.miette_lines.specs.Contexts.{contents, lines_of_contents}
 
 -- whether lines are left plain: there is no highlighter, or a blank one
 abbrev pub leaves_plain : {H : Type 0} → (H → Bool) → Option H → Bool

@@ -6,12 +6,13 @@ use Rattle.miette_protocol.specs.Lines.{Line}
 use Rattle.miette_protocol.specs.Meaning.{Label}
 use Rattle.miette_protocol.specs.Reading.{Span, Source, Contents}
 use Rattle.miette_layout.specs.Rows.{Row}
-use Rattle.miette_layout.specs.Answers.{Answers, Highlight, first_of, later_of}
-use Rattle.miette_layout.specs.Around.{has_own, group_context}
-use Rattle.miette_layout.specs.Contexts.{end_of_span, contents, lines_of_contents}
-use Rattle.miette_layout.specs.Groups.{in_order, refusal, groups_of, some_fails, groups_fail}
-use Rattle.miette_layout.specs.Cells.{Cell, characters, cells_from, cells_width, line_runs}
-use Rattle.miette_layout.specs.Labels.{DrawnLabel, drawn_from, one_line, multi_line, closing}
+use Rattle.miette_lines.specs.Answers.{Answers, Highlight, first_of, later_of}
+use Rattle.miette_lines.specs.Around.{has_own, group_context}
+use Rattle.miette_lines.specs.Contexts.{end_of_span, contents, lines_of_contents}
+use Rattle.miette_lines.specs.Groups.{in_order, refusal, groups_of, some_fails, groups_fail}
+use Rattle.miette_layout.specs.PrintedCells.{cells_width, line_runs}
+use Rattle.miette_lines.specs.Cells.{Cell, characters, cells_from}
+use Rattle.miette_lines.specs.Labels.{DrawnLabel, drawn_from, one_line, multi_line, closing}
 use Rattle.miette_layout.specs.Marks.{Text, marks}
 use Rattle.miette_layout.specs.Drawing.{marked_rows}
 use Rattle.miette_layout.specs.Gutters.{gutter_columns, number_gutter, other_gutter, closing_rows}

@@ -3,13 +3,13 @@ use Rattle.std.specs.Prelude.{ℕ, ◌+◌, ◌-◌, ◌==◌, ◌≡◌, if◌t
 use Rattle.miette_protocol.specs.Lines.{Line}
 use Rattle.miette_protocol.specs.Reading.{Contents}
 use Rattle.miette_layout.specs.Rows.{Row}
-use Rattle.miette_layout.specs.Answers.{Highlight, first_of, later_of}
-use Rattle.miette_layout.specs.Cells.{Cell, characters, cells_from}
-use Rattle.miette_layout.specs.Contexts.{lines_of_contents}
+use Rattle.miette_lines.specs.Answers.{Highlight, first_of, later_of}
+use Rattle.miette_lines.specs.Cells.{Cell, characters, cells_from}
+use Rattle.miette_lines.specs.Contexts.{lines_of_contents}
 use Rattle.miette_layout.specs.Frames.{Settings, Place, top_row, bottom_row, number_width}
 use Rattle.miette_layout.specs.Gutters.{gutter_columns}
 use Rattle.miette_layout.specs.Highlighted.{decoded_text, EachHasPieces}
-use Rattle.miette_layout.specs.Labels.{DrawnLabel}
+use Rattle.miette_lines.specs.Labels.{DrawnLabel}
 use Rattle.miette_layout.specs.Layout.{line_rows}
 use Rattle.miette_layout.specs.Told.{Token, told_rows}
 

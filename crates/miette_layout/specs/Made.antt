@@ -2,10 +2,11 @@
 use Rattle.std.specs.Prelude.{ℕ, ◌≡◌, ◌<◌, ◌≤◌, List, [], ◌∷◌}
 use Rattle.miette_protocol.specs.Meaning.{Label}
 use Rattle.miette_layout.specs.declared.marks.Stop.{Stop}
-use Rattle.miette_layout.specs.Cells.{Cell, first_column, last_column}
+use Rattle.miette_layout.specs.PrintedCells.{first_column, last_column}
+use Rattle.miette_lines.specs.Cells.{Cell}
 use Rattle.miette_layout.specs.declared.marks.Mark.{Mark as MadeMark}
 use Rattle.miette_layout.specs.Marks.{Mark}
-use Rattle.miette_layout.specs.Given.{drawn_of}
+use Rattle.miette_lines.specs.Given.{drawn_of}
 
 abbrev pub mark_of : List Label → MadeMark → Mark
 mark_of labels m = record { from = m.from; until = m.until; label = drawn_of labels m.label }

@@ -1,8 +1,9 @@
 -- The marks of the one-line labels of a line, by offset.
 use Rattle.std.specs.Prelude.{ℕ, ◌+◌, ◌/◌, ◌<◌, ◌≤◌, max, List, [], ◌∷◌, ◌&&◌, nat_lt, nat_le, if◌then◌else◌}
 use Rattle.std.specs.List.{filter}
-use Rattle.miette_layout.specs.Labels.{DrawnLabel, is_empty}
-use Rattle.miette_layout.specs.Cells.{Cell, first_column, last_column}
+use Rattle.miette_lines.specs.Labels.{DrawnLabel, is_empty}
+use Rattle.miette_layout.specs.PrintedCells.{first_column, last_column}
+use Rattle.miette_lines.specs.Cells.{Cell}
 
 -- a line's text: its cells, where it ends, and its columns
 pub record Text : Type 0 where

@@ -1,7 +1,7 @@
 -- The marks of a page as they are kept.
 use Rattle.std.specs.Prelude.{ℕ, ◌+◌, ◌-◌, ◌*◌, ◌<◌, List, [], ◌∷◌, Option, Some, None, if◌then◌else◌, ◌==◌, slice_index_or}
 use Rattle.miette_style.specs.declared.style.Style.{Style}
-use Rattle.miette_layout.specs.Rows.{plain}
+use Rattle.miette_style.specs.Styles.{plain}
 use Rattle.miette_layout.specs.declared.page_marks.Mark.{Mark}
 use Rattle.miette_layout.specs.declared.page_marks.Kept.{Kept}
 

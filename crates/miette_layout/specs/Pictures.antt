@@ -4,14 +4,15 @@ use Rattle.std.specs.List.{AllByRecursion}
 use Rattle.miette_style.specs.declared.theme.ThemeCharacters.{ThemeCharacters}
 use Rattle.miette_layout.specs.Rows.{Piece, Row, pieces_of, drawn, code_at, Begins}
 use Rattle.miette_protocol.specs.Lines.{Line}
-use Rattle.miette_layout.specs.Cells.{Cell, line_runs}
-use Rattle.miette_layout.specs.Labels.{DrawnLabel, one_line}
+use Rattle.miette_layout.specs.PrintedCells.{line_runs}
+use Rattle.miette_lines.specs.Cells.{Cell}
+use Rattle.miette_lines.specs.Labels.{DrawnLabel, one_line}
 use Rattle.miette_layout.specs.Marks.{Mark, marks, anchor}
 use Rattle.miette_layout.specs.Drawing.{mark_code}
 use Rattle.miette_layout.specs.Frames.{Settings, number_width}
 use Rattle.miette_protocol.specs.Reading.{Contents}
-use Rattle.miette_layout.specs.Answers.{Highlight, first_of, later_of}
-use Rattle.miette_layout.specs.Contexts.{lines_of_contents}
+use Rattle.miette_lines.specs.Answers.{Highlight, first_of, later_of}
+use Rattle.miette_lines.specs.Contexts.{lines_of_contents}
 use Rattle.miette_layout.specs.Gutters.{gutter_columns}
 use Rattle.miette_layout.specs.Layout.{line_rows, text_of_cells, cells_of}
 

@@ -1,6 +1,7 @@
 -- Rows of characters in styles, and what begins at each column of a row.
 use Rattle.std.specs.Prelude.{ℕ, ◌+◌, ◌-◌, ◌≡◌, List, [], ◌∷◌, ◌++◌, map, Option, Some, None, false, if◌then◌else◌, ◌==◌, nat_lt}
 use Rattle.miette_style.specs.declared.style.Style.{Style}
+use Rattle.miette_style.specs.Styles.{plain}
 
 -- a character, and how many columns it takes
 pub record Piece : Type 0 where
@@ -37,9 +38,6 @@ code_at (p ∷ pieces) column =
 -- a text begins at a column and goes on to the end
 abbrev pub Begins : List Piece → ℕ → List Piece → Type 0
 Begins pieces column text = (front : List Piece) × (pieces ≡ front ++ text) × (columns_of front ≡ column)
-
-abbrev pub plain : Style
-plain = record { fg = None; bold = false; dimmed = false; italic = false; underline = false }
 
 abbrev pub drawn : (ℕ → ℕ) → ℕ → Piece
 drawn width code = record { code = code; columns = width code }

@@ -1,20 +1,18 @@
 -- What a sheet stands for.
 use Rattle.std.specs.Prelude.{ℕ, List, [], ◌∷◌, ◌++◌, map}
-use Rattle.miette_protocol.specs.Lines.{Line}
-use Rattle.miette_layout.specs.declared.sheet.LineOfText.{LineOfText}
 use Rattle.miette_layout.specs.declared.sheet.Sheet.{Sheet}
 use Rattle.miette_layout.specs.Rows.{Row}
 use Rattle.miette_layout.specs.Marks.{Mark}
 use Rattle.miette_layout.specs.Drawing.{text_row}
-use Rattle.miette_layout.specs.Labels.{DrawnLabel}
-use Rattle.miette_layout.specs.Given.{settings_of, drawn_of}
+use Rattle.miette_lines.specs.Labels.{DrawnLabel}
+use Rattle.miette_layout.specs.ThemeSettings.{settings_of}
+use Rattle.miette_lines.specs.Given.{drawn_of}
 use Rattle.miette_layout.specs.Gutters.{number_gutter, other_gutter, open_gutter, part_run}
 use Rattle.miette_layout.specs.Frames.{Settings, number_start, other_start}
-use Rattle.miette_layout.specs.Cells.{Cell, line_runs}
-use Rattle.miette_layout.specs.Answers.{Highlight}
-
-abbrev pub line_of_text : LineOfText → Line
-line_of_text l = record { start = l.start; text_end = l.text_end; end = l.end }
+use Rattle.miette_layout.specs.PrintedCells.{line_runs}
+use Rattle.miette_lines.specs.Cells.{Cell}
+use Rattle.miette_lines.specs.Answers.{Highlight}
+use Rattle.miette_lines.specs.TextLines.{line_of_text}
 
 abbrev pub settings : Sheet → Settings
 settings sheet = settings_of sheet.theme.now sheet.options

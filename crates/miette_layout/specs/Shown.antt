@@ -6,10 +6,10 @@ use Rattle.miette_protocol.specs.Reading.{Span, Source}
 use Rattle.miette_layout.specs.Numbers.{last_of}
 use Rattle.miette_layout.specs.Rows.{Row}
 use Rattle.miette_layout.specs.Snippets.{snippets}
-use Rattle.miette_layout.specs.Answers.{Answers, Highlight, first_of, later_of}
-use Rattle.miette_layout.specs.Contexts.{contents}
-use Rattle.miette_layout.specs.Groups.{in_order, groups_of}
-use Rattle.miette_layout.specs.Labels.{DrawnLabel, drawn_from}
+use Rattle.miette_lines.specs.Answers.{Answers, Highlight, first_of, later_of}
+use Rattle.miette_lines.specs.Contexts.{contents}
+use Rattle.miette_lines.specs.Groups.{in_order, groups_of}
+use Rattle.miette_lines.specs.Labels.{DrawnLabel, drawn_from}
 use Rattle.miette_layout.specs.Gutters.{gutter_columns}
 use Rattle.miette_layout.specs.Frames.{Settings, top_row, bottom_row, number_width}
 use Rattle.miette_layout.specs.Layout.{cells_of, line_rows, body_rows, place_of, settings_around}

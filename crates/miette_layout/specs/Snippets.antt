@@ -4,9 +4,9 @@ use Rattle.std.specs.List.{range_with_len, filter, list_any}
 use Rattle.miette_protocol.specs.Lines.{lines_of}
 use Rattle.miette_protocol.specs.Meaning.{Label}
 use Rattle.miette_protocol.specs.Reading.{Span}
-use Rattle.miette_layout.specs.Around.{lines_around}
+use Rattle.miette_lines.specs.Around.{lines_around}
 use Rattle.miette_layout.specs.Numbers.{runs}
-use Rattle.miette_layout.specs.Contexts.{first_line, last_line}
+use Rattle.miette_lines.specs.Contexts.{first_line, last_line}
 
 -- whether line k is in the context of a span
 abbrev pub is_in_context : ℕ → List ℕ → ℕ → Span → Bool

@@ -2,20 +2,23 @@
 
 ghost use Rattle.std.specs.Prelude.{◌≡◌, ◌++◌, ◌∷◌, [], not, ◌&&◌, chars, map, OnOk};
 ghost use Rattle.miette_layout.specs.Told.{row_end, told_rows, run_told};
-ghost use Rattle.miette_layout.specs.Labels.{starts_on, ends_on, cut_at_lf, closing};
+ghost use Rattle.miette_lines.specs.Labels.{starts_on, ends_on, cut_at_lf, closing};
 ghost use Rattle.miette_layout.specs.Gutters.{closing_parts, closing_rows};
 ghost use Rattle.miette_layout.specs.Frames.{other_start};
 ghost use Rattle.miette_layout.specs.Layout.{before_each};
-ghost use Rattle.miette_layout.specs.Sweeping.{label_of};
-ghost use Rattle.miette_layout.specs.Given.{drawn_of};
-ghost use Rattle.miette_layout.specs.Sheets.{settings, line_of_text, multi_labels, closed_line, open_line};
+ghost use Rattle.miette_lines.specs.Sweeping.{label_of};
+ghost use Rattle.miette_lines.specs.Given.{drawn_of};
+ghost use Rattle.miette_layout.specs.Sheets.{settings, multi_labels, closed_line, open_line};
+ghost use Rattle.miette_lines.specs.TextLines.{line_of_text};
 
 use crate::gutters::{ends, push_open_gutter, push_other_gutter, starts};
 use crate::page::Page;
 use crate::parts::first_part;
-use crate::sheet::{LineOfText, Sheet, text_of};
-use crate::sweep::Placed;
+use crate::sheet::Sheet;
 use crate::texts::push_other_start;
+use miette_lines::drawn_labels::text_of;
+use miette_lines::sweep::Placed;
+use miette_lines::text_line::LineOfText;
 use miette_style::style::Style;
 use std::alloc::AllocError;
 

@@ -2,15 +2,18 @@
 
 ghost use Rattle.std.specs.Prelude.{◌≡◌, ◌++◌, ◌-◌, ◌∷◌, [], replicate, map, OnOk};
 ghost use Rattle.miette_layout.specs.Told.{told, run_told};
-ghost use Rattle.miette_layout.specs.Labels.{starts_on, ends_on};
-ghost use Rattle.miette_layout.specs.Sweeping.{label_of};
+ghost use Rattle.miette_lines.specs.Labels.{starts_on, ends_on};
+ghost use Rattle.miette_lines.specs.Sweeping.{label_of};
 ghost use Rattle.miette_layout.specs.Gutters.{number_gutter, other_gutter, open_gutter, ending_corner};
-ghost use Rattle.miette_layout.specs.Given.{drawn_of};
-ghost use Rattle.miette_layout.specs.Sheets.{line_of_text, settings, multi_labels};
+ghost use Rattle.miette_lines.specs.Given.{drawn_of};
+ghost use Rattle.miette_layout.specs.Sheets.{settings, multi_labels};
+ghost use Rattle.miette_lines.specs.TextLines.{line_of_text};
 
 use crate::page::{PLAIN, Page};
-use crate::sheet::{LineOfText, Sheet, text_of};
-use crate::sweep::Placed;
+use crate::sheet::Sheet;
+use miette_lines::drawn_labels::text_of;
+use miette_lines::sweep::Placed;
+use miette_lines::text_line::LineOfText;
 use miette_style::style::Style;
 use std::alloc::AllocError;
 

@@ -2,7 +2,7 @@
 
 ghost use Rattle.std.specs.Prelude.{◌≡◌, ℕ, List, true, map, IfOk};
 ghost use Rattle.miette_layout.specs.Highlighted.{ArePieces, decoded_text, leaves_plain};
-ghost use Rattle.miette_layout.specs.Walking.{highlight_of};
+ghost use Rattle.miette_layout.specs.TellingCells.{highlight_of};
 ghost use Rattle.miette_style.specs.Pieces.{CutsLine, plain_pieces};
 
 use crate::page::PLAIN;

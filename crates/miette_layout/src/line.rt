@@ -2,27 +2,30 @@
 
 ghost use Rattle.std.specs.Prelude.{◌≡◌, ◌++◌, ◌+◌, ◌^◌, ◌<◌, ◌∷◌, [], false, map, length, OnOk};
 ghost use Rattle.std.specs.List.{All};
-ghost use Rattle.miette_layout.specs.Cells.{cells_from, characters, printed, cells_within, cells_beyond, line_runs};
+ghost use Rattle.miette_layout.specs.PrintedCells.{printed, cells_within, cells_beyond, line_runs};
+ghost use Rattle.miette_lines.specs.Cells.{cells_from, characters};
 ghost use Rattle.miette_layout.specs.Marks.{marks};
 ghost use Rattle.miette_layout.specs.Drawing.{marked_rows};
 ghost use Rattle.miette_layout.specs.Frames.{number_start};
 ghost use Rattle.miette_layout.specs.Layout.{before_each, line_rows_of, text_of_cells};
 ghost use Rattle.miette_layout.specs.Told.{told, told_rows, text_told};
-ghost use Rattle.miette_layout.specs.Walking.{cell_of, cells_told, highlight_of};
-ghost use Rattle.miette_layout.specs.Given.{drawn_of, width_of};
+ghost use Rattle.miette_layout.specs.TellingCells.{cells_told, highlight_of};
+ghost use Rattle.miette_lines.specs.Walking.{cell_of};
+ghost use Rattle.miette_lines.specs.Given.{drawn_of, width_of};
 ghost use Rattle.miette_layout.specs.Made.{mark_of};
-ghost use Rattle.miette_layout.specs.Sheets.{settings, line_of_text, multi_labels, before_marks, number_row};
+ghost use Rattle.miette_layout.specs.Sheets.{settings, multi_labels, before_marks, number_row};
+ghost use Rattle.miette_lines.specs.TextLines.{line_of_text};
 
-use crate::cells::{Cell, Walk};
 use crate::closings::push_closings;
 use crate::gutters::push_number_gutter;
 use crate::marks::{Mark, marks_on};
 use crate::page::{PLAIN, Page};
-use crate::plain::printable;
 use crate::sheet::Sheet;
 use crate::strokes::push_marks;
-use crate::sweep::Placed;
 use crate::texts::{push_before_marks, push_texts};
+use miette_lines::cells::{Cell, Walk};
+use miette_lines::plain::printable;
+use miette_lines::sweep::Placed;
 use miette_style::style::Style;
 use std::alloc::{AllocError, Global};
 

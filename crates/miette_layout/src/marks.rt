@@ -3,17 +3,18 @@
 ghost use Rattle.std.specs.Prelude.{◌≡◌, ◌+◌, ◌^◌, ◌<◌, ◌≤◌, [], ℕ, List, map, length, false, IfOk, MatchOption};
 ghost use Rattle.std.specs.List.{All};
 ghost use Rattle.miette_protocol.specs.Meaning.{Label};
-ghost use Rattle.miette_layout.specs.Cells.{cells_from, cells_width, characters, first_column as first_of_cells, last_column as last_of_cells};
+ghost use Rattle.miette_layout.specs.PrintedCells.{cells_width, first_column as first_of_cells, last_column as last_of_cells};
+ghost use Rattle.miette_lines.specs.Cells.{cells_from, characters};
 ghost use Rattle.miette_layout.specs.Marks.{mark_from, mark_until, marks};
 ghost use Rattle.miette_layout.specs.Layout.{text_of_cells};
-ghost use Rattle.miette_layout.specs.Sweeping.{label_of};
-ghost use Rattle.miette_layout.specs.Given.{drawn_of, width_of};
+ghost use Rattle.miette_lines.specs.Sweeping.{label_of};
+ghost use Rattle.miette_lines.specs.Given.{drawn_of, width_of};
 ghost use Rattle.miette_layout.specs.Made.{mark_of, ComeFrom, IsStop};
 
-use crate::cells::Walk;
-use crate::plain::all_printable;
-use crate::sheet::LineOfText;
-use crate::sweep::Placed;
+use miette_lines::cells::Walk;
+use miette_lines::plain::all_printable;
+use miette_lines::sweep::Placed;
+use miette_lines::text_line::LineOfText;
 use std::alloc::{AllocError, Global};
 use std::marker::Model;
 
@@ -43,7 +44,7 @@ impl<'a> Model for Columns<'a> {
     ghost use Rattle.std.specs.List.{All};
     ghost use Rattle.miette_layout.specs.Marks.{Text};
     ghost use Rattle.miette_layout.specs.Made.{IsStop};
-    ghost use Rattle.miette_layout.specs.Printable.{plain_cells};
+    ghost use Rattle.miette_lines.specs.Printable.{plain_cells};
 
     ghost Value = { Text };
 

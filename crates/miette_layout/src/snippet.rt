@@ -4,21 +4,22 @@ ghost use Rattle.std.specs.Prelude.{◌≡◌, ◌+◌, ◌<◌, ◌^◌, map, l
 ghost use Rattle.std.specs.Option.{option_map};
 ghost use Rattle.miette_protocol.specs.Lines.{lines_from};
 ghost use Rattle.miette_layout.specs.Framed.{place_at};
-ghost use Rattle.miette_layout.specs.Given.{settings_of, drawn_of};
-ghost use Rattle.miette_layout.specs.Contexts.{lines_of_contents};
+ghost use Rattle.miette_layout.specs.ThemeSettings.{settings_of};
+ghost use Rattle.miette_lines.specs.Given.{drawn_of};
+ghost use Rattle.miette_lines.specs.Contexts.{lines_of_contents};
 ghost use Rattle.miette_layout.specs.Highlighted.{leaves_plain};
 ghost use Rattle.miette_layout.specs.Lent.{PutsRows, texts_in, lent_rows, lent_snippet, width_of_count, gutter_of};
-ghost use Rattle.miette_layout.specs.Sweeping.{IsAt, AreSorted};
+ghost use Rattle.miette_lines.specs.Sweeping.{IsAt, AreSorted};
 
 use crate::frame::{Frame, push_bottom_row, push_top_row};
 use crate::highlighting::{pieces_of, restart};
 use crate::line::push_line_rows;
-use crate::line_sweep::{extent_of, line_at};
 use crate::options::LayoutOptions;
 use crate::page::Page;
 use crate::sheet::Sheet;
-use crate::sweep::{Bounds, Placed, Sweep, advance};
 use itoa::Buffer;
+use miette_lines::line_sweep::{extent_of, line_at};
+use miette_lines::sweep::{Bounds, Placed, Sweep, advance};
 use miette_protocol::protocol::LabeledSpan;
 use miette_protocol::source::MietteSpanContents;
 use miette_style::highlight::Highlighter;

@@ -3,15 +3,16 @@
 ghost use Rattle.std.specs.Prelude.{◌≡◌, ◌++◌, ◌+◌, ◌/◌, ◌^◌, ◌<◌, ◌≤◌, if◌then◌else◌, map, OnOk};
 ghost use Rattle.std.specs.List.{All};
 ghost use Rattle.miette_layout.specs.Told.{told, told_run};
-ghost use Rattle.miette_layout.specs.Labels.{is_empty};
+ghost use Rattle.miette_lines.specs.Labels.{is_empty};
 ghost use Rattle.miette_layout.specs.Drawing.{code_with_parts, mark_run, mark_runs};
-ghost use Rattle.miette_layout.specs.Given.{drawn_of};
+ghost use Rattle.miette_lines.specs.Given.{drawn_of};
 ghost use Rattle.miette_layout.specs.Made.{mark_of};
 ghost use Rattle.miette_layout.specs.Sheets.{settings};
 
 use crate::marks::Mark;
 use crate::page::Page;
-use crate::sheet::{Sheet, text_of};
+use crate::sheet::Sheet;
+use miette_lines::drawn_labels::text_of;
 use std::alloc::AllocError;
 
 /// The column of a mark at which its text hangs: the middle one, rounded down.

@@ -3,11 +3,11 @@
 ghost use Rattle.std.specs.Prelude.{◌≡◌, ◌++◌, ◌+◌, ◌∷◌, [], ◌<◌, List, chars, map, replicate, OnOk};
 ghost use Rattle.std.specs.List.{All};
 ghost use Rattle.miette_layout.specs.Told.{told, told_rows};
-ghost use Rattle.miette_layout.specs.Labels.{cut_at_lf};
+ghost use Rattle.miette_lines.specs.Labels.{cut_at_lf};
 ghost use Rattle.miette_layout.specs.Drawing.{lead_runs, beside, rows_of_parts, rows_below};
 ghost use Rattle.miette_layout.specs.Frames.{other_start};
 ghost use Rattle.miette_layout.specs.Layout.{before_each};
-ghost use Rattle.miette_layout.specs.Given.{drawn_of};
+ghost use Rattle.miette_lines.specs.Given.{drawn_of};
 ghost use Rattle.miette_layout.specs.Made.{mark_of};
 ghost use Rattle.miette_layout.specs.Sheets.{settings, before_marks, text_line};
 
@@ -15,8 +15,9 @@ use crate::gutters::push_other_gutter;
 use crate::marks::Mark;
 use crate::page::{PLAIN, Page};
 use crate::parts::first_part;
-use crate::sheet::{Sheet, text_of};
+use crate::sheet::Sheet;
 use crate::strokes::anchor_of;
+use miette_lines::drawn_labels::text_of;
 use std::alloc::AllocError;
 
 /// What stands before the gutter of a row that isn't the number row: `   · `. `AllocError` where memory is refused, or

@@ -5,7 +5,7 @@ use Rattle.std.proofs.lemmas.Bool.{leb-true, leb-false, le-ltb}
 use Rattle.std.proofs.lemmas.Bool.Decides.{nat_tests}
 use Rattle.miette_protocol.specs.Meaning.{Label}
 use Rattle.miette_protocol.specs.Lines.{Line}
-use Rattle.miette_layout.specs.declared.sweep.Placed.{Placed}
+use Rattle.miette_lines.specs.declared.sweep.Placed.{Placed}
 use Rattle.miette_narrated.specs.Labels.{Shown, label_row, label_rows}
 use Rattle.miette_narrated.specs.Ends.{is_ended, is_begun}
 use Rattle.miette_narrated.specs.Made.{told_of, all_told}

@@ -4,9 +4,9 @@ use Rattle.std.specs.Prelude.{IsUtf8, chars, encode_utf8, encode_utf8_all}
 use Rattle.std.proofs.lemmas.Str.{chars_from_encodes, encodes-append, encodes-chars, chars-nil}
 use Rattle.std.proofs.lemmas.Bool.{ne_eqb, le-ltb, lt-ltb}
 use Rattle.unicode_width.specs.Width.{str_width}
-use Rattle.miette_layout.specs.Cells.{Character, characters}
-use Rattle.miette_layout.specs.Given.{width_of}
-use Rattle.miette_layout.proofs.Stepping.{IsFirst, made, characters_step, characters_end}
+use Rattle.miette_lines.specs.Cells.{Character, characters}
+use Rattle.miette_lines.specs.Given.{width_of}
+use Rattle.miette_lines.proofs.Stepping.{IsFirst, made, characters_step, characters_end}
 use Rattle.miette_narrated.specs.Columns.{begun, is_boundary, widths, column}
 use Rattle.miette_narrated.specs.Lines.{decoded_text}
 use Rattle.miette_narrated.specs.declared.places.Place.{Place}

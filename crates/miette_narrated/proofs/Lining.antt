@@ -4,8 +4,8 @@ use Rattle.std.proofs.Math.Seq.{drop-cons}
 use Rattle.std.proofs.lemmas.Bool.{ne_eqb, eq-eqb, eqb-true, eqb-false}
 use Rattle.miette_protocol.specs.Lines.{Line}
 use Rattle.miette_protocol.specs.Reading.{Contents}
-use Rattle.miette_layout.specs.declared.line_sweep.SweptLine.{SweptLine}
-use Rattle.miette_layout.specs.Sheets.{line_of_text}
+use Rattle.miette_lines.specs.declared.line_sweep.SweptLine.{SweptLine}
+use Rattle.miette_lines.specs.TextLines.{line_of_text}
 use Rattle.miette_narrated.specs.Labels.{Told, Shown}
 use Rattle.miette_narrated.proofs.Sweeps.{by_cases}
 use Rattle.miette_narrated.specs.Lines.{shown, is_nil, rows_of_line, rows_of_lines}

@@ -3,9 +3,9 @@ use Rattle.std.proofs.Common.{ℕ, zero, suc, ◌+◌, ◌-◌, ◌<◌, ◌≤�
 use Rattle.std.specs.Prelude.{IsUtf8, chars, encode_utf8}
 use Rattle.std.proofs.lemmas.List.{drop-drop}
 use Rattle.unicode_width.specs.Width.{str_width}
-use Rattle.miette_layout.specs.Cells.{characters}
-use Rattle.miette_layout.specs.Given.{width_of}
-use Rattle.miette_layout.proofs.Stepping.{IsFirst, characters_step}
+use Rattle.miette_lines.specs.Cells.{characters}
+use Rattle.miette_lines.specs.Given.{width_of}
+use Rattle.miette_lines.proofs.Stepping.{IsFirst, characters_step}
 use Rattle.miette_narrated.specs.declared.places.Place.{Place}
 use Rattle.miette_narrated.specs.Columns.{begun, is_boundary, widths, column}
 use Rattle.miette_narrated.specs.Parting.{may_part}

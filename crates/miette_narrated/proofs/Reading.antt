@@ -7,20 +7,20 @@ use Rattle.std.proofs.Math.Seq.{drop-cons}
 use Rattle.std.proofs.lemmas.Bool.{leb-true, leb-false, and_parts}
 use Rattle.miette_protocol.specs.Meaning.{Label}
 use Rattle.miette_protocol.specs.Reading.{Span, Source, IsAccepted, contents_of}
-use Rattle.miette_layout.specs.declared.sweep.Placed.{Placed}
-use Rattle.miette_layout.specs.declared.grouping.Group.{Group}
-use Rattle.miette_layout.specs.declared.reading.ReadLabel.{ReadLabel}
-use Rattle.miette_layout.specs.declared.reading.Refusal.{Refusal}
-use Rattle.miette_layout.specs.declared.reading.ReadLabels.{ReadLabels}
-use Rattle.miette_layout.specs.declared.reading.ReadLabels.TheVariants as reads
-use Rattle.miette_layout.specs.Answers.{NoneFails}
-use Rattle.miette_layout.specs.Contexts.{contents, end_of_span, is_accepted}
-use Rattle.miette_layout.specs.Given.{label_at}
-use Rattle.miette_layout.specs.Around.{has_own, lines_around, group_context}
-use Rattle.miette_layout.specs.Groups.{put_label, in_order, refusal, AreAccepted, groups_of, some_fails}
-use Rattle.miette_layout.specs.Groups as groups
-use Rattle.miette_layout.specs.Placing.{placed_one, placed_from}
-use Rattle.miette_layout.specs.Read.{IsRead, AreRead, IsLent, AreGroups, AreGrouped, IsUnread}
+use Rattle.miette_lines.specs.declared.sweep.Placed.{Placed}
+use Rattle.miette_lines.specs.declared.grouping.Group.{Group}
+use Rattle.miette_lines.specs.declared.reading.ReadLabel.{ReadLabel}
+use Rattle.miette_lines.specs.declared.reading.Refusal.{Refusal}
+use Rattle.miette_lines.specs.declared.reading.ReadLabels.{ReadLabels}
+use Rattle.miette_lines.specs.declared.reading.ReadLabels.TheVariants as reads
+use Rattle.miette_lines.specs.Answers.{NoneFails}
+use Rattle.miette_lines.specs.Contexts.{contents, end_of_span, is_accepted}
+use Rattle.miette_lines.specs.Given.{label_at}
+use Rattle.miette_lines.specs.Around.{has_own, lines_around, group_context}
+use Rattle.miette_lines.specs.Groups.{put_label, in_order, refusal, AreAccepted, groups_of, some_fails}
+use Rattle.miette_lines.specs.Groups as groups
+use Rattle.miette_lines.specs.Placing.{placed_one, placed_from}
+use Rattle.miette_lines.specs.Read.{IsRead, AreRead, IsLent, AreGroups, AreGrouped, IsUnread}
 use Rattle.miette_narrated.specs.Labels.{Told, told}
 use Rattle.miette_narrated.specs.Made.{told_of, all_told}
 use Rattle.miette_narrated.specs.Snippets.{snippet, snippets_of}

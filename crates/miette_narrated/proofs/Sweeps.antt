@@ -4,7 +4,7 @@ use Rattle.std.specs.Prelude.{if◌then◌else◌}
 use Rattle.std.specs.List.{filter}
 use Rattle.std.proofs.lemmas.Bool.{leb-false, lt-leb}
 use Rattle.miette_protocol.specs.Meaning.{Label}
-use Rattle.miette_layout.specs.declared.sweep.Placed.{Placed}
+use Rattle.miette_lines.specs.declared.sweep.Placed.{Placed}
 use Rattle.miette_narrated.specs.Labels.{Shown, ends_before, whole_row, start_row, end_row, label_row, label_rows}
 use Rattle.miette_narrated.specs.Made.{told_of, all_told}
 use Rattle.miette_narrated.specs.Sweeping.{reaches, IsAt, BeginsFrom, AreOrdered, last_start}

@@ -5,9 +5,9 @@ use Rattle.std.proofs.lemmas.Bool.{and_parts}
 use Rattle.miette_protocol.specs.Reading.{Source, Span}
 use Rattle.miette_protocol.specs.Meaning.{Label}
 use Rattle.miette_tree.specs.Tree.{Tree, tree, Trees, no_trees, more_trees, trees, effective, head, source_of, cause_of, causes_of, related_of}
-use Rattle.miette_layout.specs.Answers.{NoneFails}
-use Rattle.miette_layout.specs.Around.{has_own, group_context}
-use Rattle.miette_layout.specs.Groups.{groups_from, groups_answered, own_groups, groups_of, joins_before, joined, in_order, spans_of}
+use Rattle.miette_lines.specs.Answers.{NoneFails}
+use Rattle.miette_lines.specs.Around.{has_own, group_context}
+use Rattle.miette_lines.specs.Groups.{groups_from, groups_answered, own_groups, groups_of, joins_before, joined, in_order, spans_of}
 use Rattle.miette_narrated.specs.Labels.{told}
 use Rattle.miette_narrated.specs.Snippets.{snippets_of}
 use Rattle.miette_narrated.specs.Report.{Settings, Answers, unlisted, listed, RelatedAnswers, no_more, and_more, own_answer, related_answers, first_answers, later_answers, head_rows, titled_rows, cause_rows, causes_if, advice_rows, row_if, snippet_rows, blank_before, related_report, related_reports, narrated}

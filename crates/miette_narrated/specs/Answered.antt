@@ -4,9 +4,9 @@ use Rattle.std.specs.List.{list_all}
 use Rattle.miette_protocol.specs.Meaning.{Label}
 use Rattle.miette_protocol.specs.Reading.{Source}
 use Rattle.miette_tree.specs.Tree.{Tree, tree, Trees, no_trees, more_trees, effective}
-use Rattle.miette_layout.specs.Answers.{NoneFails}
-use Rattle.miette_layout.specs.Contexts.{is_accepted}
-use Rattle.miette_layout.specs.Groups.{in_order, AreAccepted}
+use Rattle.miette_lines.specs.Answers.{NoneFails}
+use Rattle.miette_lines.specs.Contexts.{is_accepted}
+use Rattle.miette_lines.specs.Groups.{in_order, AreAccepted}
 use Rattle.miette_narrated.specs.Report.{Settings, Answers, RelatedAnswers, own_answer, related_answers, first_answers, later_answers, snippet_rows, related_report, related_reports, blank_before, narrated}
 use Rattle.miette_tree.specs.Parts.{given_labels}
 

@@ -3,7 +3,7 @@ use Rattle.std.specs.Prelude.{ℕ, ◌+◌, ◌≡◌, ◌==◌, map, List, [], 
 use Rattle.std.specs.List.{filter}
 use Rattle.std.specs.List.Sorted.{IsNonDecreasingBy}
 use Rattle.miette_protocol.specs.Lines.{Line}
-use Rattle.miette_layout.specs.declared.sweep.Placed.{Placed}
+use Rattle.miette_lines.specs.declared.sweep.Placed.{Placed}
 use Rattle.miette_narrated.specs.declared.label_order.LabelOrder.{LabelOrder}
 use Rattle.miette_narrated.specs.declared.label_order.Ranked.{Ranked}
 use Rattle.miette_narrated.specs.Sweeping.{AreOrdered}

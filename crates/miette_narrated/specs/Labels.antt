@@ -2,8 +2,8 @@
 use Rattle.std.specs.Prelude.{ℕ, ◌+◌, ◌-◌, ◌==◌, min, max, List, [], ◌∷◌, ◌++◌, Option, Some, None, Bool, ◌&&◌, ◌||◌, if◌then◌else◌, nat_le, decimal, codes}
 use Rattle.miette_protocol.specs.Lines.{Line}
 use Rattle.miette_protocol.specs.Meaning.{Label}
-use Rattle.miette_layout.specs.Cells.{Character}
-use Rattle.miette_layout.specs.Contexts.{end_of_span}
+use Rattle.miette_lines.specs.Cells.{Character}
+use Rattle.miette_lines.specs.Contexts.{end_of_span}
 use Rattle.miette_narrated.specs.Columns.{column}
 
 -- a row is a text and a line feed

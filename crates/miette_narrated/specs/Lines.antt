@@ -2,7 +2,7 @@
 use Rattle.std.specs.Prelude.{ℕ, ◌+◌, ◌-◌, List, [], ◌∷◌, ◌++◌, map, length, Bool, true, false, slice_range, decimal, codes, encode_utf8_all}
 use Rattle.miette_protocol.specs.Lines.{Line}
 use Rattle.miette_protocol.specs.Reading.{Contents}
-use Rattle.miette_layout.specs.Cells.{Character, characters}
+use Rattle.miette_lines.specs.Cells.{Character, characters}
 use Rattle.miette_narrated.specs.Labels.{Shown, Told, row, label_rows}
 
 -- characters as a text

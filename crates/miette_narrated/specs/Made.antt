@@ -1,10 +1,10 @@
 -- What a program gives, in the words of the definitions.
 use Rattle.std.specs.Prelude.{List, map}
 use Rattle.miette_protocol.specs.Meaning.{Label}
-use Rattle.miette_layout.specs.declared.sweep.Placed.{Placed}
-use Rattle.miette_layout.specs.Cells.{characters}
-use Rattle.miette_layout.specs.Given.{text_at}
-use Rattle.miette_layout.specs.Sheets.{line_of_text}
+use Rattle.miette_lines.specs.declared.sweep.Placed.{Placed}
+use Rattle.miette_lines.specs.Cells.{characters}
+use Rattle.miette_lines.specs.Given.{text_at}
+use Rattle.miette_lines.specs.TextLines.{line_of_text}
 use Rattle.miette_narrated.specs.declared.shown.ShownLine.{ShownLine}
 use Rattle.miette_narrated.specs.Labels.{Told, Shown}
 

@@ -2,7 +2,7 @@
 use Rattle.std.specs.Prelude.{ℕ, Bool, not, nat_lt, nat_le, ◌==◌, ◌&&◌, ◌||◌, if◌then◌else◌}
 use Rattle.std.specs.Int.{is_in_range}
 use Rattle.unicode_width.specs.Width.{is_indicator}
-use Rattle.miette_layout.specs.Given.{width_of}
+use Rattle.miette_lines.specs.Given.{width_of}
 
 -- ASCII characters and letters of scripts that join nothing that stands behind them
 abbrev pub is_lone : ℕ → Bool

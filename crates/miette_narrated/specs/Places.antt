@@ -1,7 +1,7 @@
 -- Places of a line's text from which a walk over its characters may go on.
 use Rattle.std.specs.Prelude.{ℕ, ◌+◌, ◌≤◌, ◌≡◌, List, length, drop, false, if◌then◌else◌}
 use Rattle.unicode_width.specs.Width.{str_width}
-use Rattle.miette_layout.specs.Cells.{Character, characters}
+use Rattle.miette_lines.specs.Cells.{Character, characters}
 use Rattle.miette_narrated.specs.declared.places.Place.{Place}
 use Rattle.miette_narrated.specs.Columns.{begun, is_boundary, widths, column}
 

@@ -2,9 +2,9 @@
 use Rattle.std.specs.Prelude.{ℕ, ◌+◌, List, [], ◌∷◌, ◌++◌, map, length, Option, Some, None, Bool, decimal, codes}
 use Rattle.miette_protocol.specs.Meaning.{Label}
 use Rattle.miette_protocol.specs.Reading.{Span, Source, Contents}
-use Rattle.miette_layout.specs.Contexts.{contents, lines_of_contents}
-use Rattle.miette_layout.specs.Around.{group_context}
-use Rattle.miette_layout.specs.Groups.{in_order, groups_of}
+use Rattle.miette_lines.specs.Contexts.{contents, lines_of_contents}
+use Rattle.miette_lines.specs.Around.{group_context}
+use Rattle.miette_lines.specs.Groups.{in_order, groups_of}
 use Rattle.miette_narrated.specs.Labels.{Told, told, row}
 use Rattle.miette_narrated.specs.Lines.{rows_of_lines}
 

@@ -1,14 +1,14 @@
 //! Characters of a line's text, and their columns.
 
 ghost use Rattle.std.specs.Prelude.{◌≡◌, ◌≤◌, ◌++◌, IfOk, OnOk, string_bytes};
-ghost use Rattle.miette_layout.specs.Cells.{characters};
+ghost use Rattle.miette_lines.specs.Cells.{characters};
 ghost use Rattle.miette_narrated.specs.Columns.{column};
 ghost use Rattle.miette_narrated.specs.Lines.{decoded_text};
 ghost use Rattle.miette_narrated.specs.Places.{IsPlace};
 
 use crate::line_text::LineText;
 use crate::places::{Place, column_after, place_before};
-use miette_layout::cells::{columns_of, first_character};
+use miette_lines::cells::{columns_of, first_character};
 use std::alloc::{AllocError, Global};
 
 /// Appends bytes as characters, U+FFFD for those that are none.

@@ -3,12 +3,12 @@
 ghost use Rattle.std.specs.Prelude.{◌≡◌, nat_lt, IfOk};
 ghost use Rattle.std.specs.List.{filter};
 ghost use Rattle.std.specs.List.Sorted.{IsNonDecreasingBy};
-ghost use Rattle.miette_layout.specs.Sheets.{line_of_text};
+ghost use Rattle.miette_lines.specs.TextLines.{line_of_text};
 ghost use Rattle.miette_narrated.specs.Ends.{is_begun, is_ended, ends_within, labels_of, ranked, AreEnds, IsOrder};
 ghost use Rattle.miette_narrated.specs.Sweeping.{AreOrdered};
 
-use miette_layout::sheet::LineOfText;
-use miette_layout::sweep::Placed;
+use miette_lines::sweep::Placed;
+use miette_lines::text_line::LineOfText;
 use miette_protocol::protocol::LabeledSpan;
 use std::alloc::{AllocError, Global};
 

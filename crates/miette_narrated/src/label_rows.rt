@@ -13,8 +13,8 @@ use crate::line_text::LineText;
 use crate::places::{Place, places};
 use crate::shown::ShownLine;
 use crate::words::push_number;
-use miette_layout::sheet::text_of;
-use miette_layout::sweep::Placed;
+use miette_lines::drawn_labels::text_of;
+use miette_lines::sweep::Placed;
 use miette_protocol::protocol::LabeledSpan;
 use std::alloc::{AllocError, Global};
 

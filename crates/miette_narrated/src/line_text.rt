@@ -2,11 +2,11 @@
 
 ghost use Rattle.std.specs.Prelude.{◌≡◌};
 ghost use Rattle.std.specs.List.{All, list_all};
-ghost use Rattle.miette_layout.specs.Printable.{is_printable};
+ghost use Rattle.miette_lines.specs.Printable.{is_printable};
 ghost use Rattle.miette_narrated.specs.Places.{IsPlace};
 
 use crate::places::Place;
-use miette_layout::plain::all_printable;
+use miette_lines::plain::all_printable;
 
 /// The bytes of a line's text, whether each is a printable ASCII character, and places from which a walk over its characters may go on.
 #[derive(Clone, Copy)]

@@ -2,8 +2,8 @@
 
 ghost use Rattle.std.specs.Prelude.{◌≡◌, false, ◌++◌, ◌+◌, ◌<◌, ◌≤◌, ◌^◌, map, length, OnOk, string_bytes};
 ghost use Rattle.std.specs.List.{All};
-ghost use Rattle.miette_layout.specs.Sheets.{line_of_text};
-ghost use Rattle.miette_layout.specs.Swept.{LiesIn};
+ghost use Rattle.miette_lines.specs.TextLines.{line_of_text};
+ghost use Rattle.miette_lines.specs.Swept.{LiesIn};
 ghost use Rattle.miette_narrated.specs.Made.{all_told, shown_of};
 ghost use Rattle.miette_narrated.specs.Lines.{shown, line_row, rows_of_line, rows_of_lines};
 ghost use Rattle.miette_narrated.specs.Ends.{IsOrder};
@@ -17,8 +17,8 @@ use crate::line_text::LineText;
 use crate::shown::ShownLine;
 use crate::sweeping::{Sweep, come_to};
 use crate::words::push_number;
-use miette_layout::line_sweep::SweptLine;
-use miette_layout::sheet::LineOfText;
+use miette_lines::line_sweep::SweptLine;
+use miette_lines::text_line::LineOfText;
 use miette_protocol::source::MietteSpanContents;
 use std::alloc::{AllocError, Global};
 

@@ -5,7 +5,7 @@ ghost use Rattle.std.specs.Int.{is_in_range};
 ghost use Rattle.miette_narrated.specs.Parting.{is_lone, is_joining, is_closing, may_part, may_part_flags};
 ghost use Rattle.unicode_width.specs.Width.{is_indicator};
 
-use miette_layout::cells::columns_of;
+use miette_lines::cells::columns_of;
 
 fn in_range(code: u32, low: u32, high: u32) -> bool
     ensures { result ≡ is_in_range low high code }

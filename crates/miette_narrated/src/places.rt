@@ -6,7 +6,7 @@ ghost use Rattle.unicode_width.specs.Width.{str_width};
 ghost use Rattle.miette_narrated.specs.Places.{IsPlace};
 
 use crate::parting::{is_indicator, may_part, may_part_flags};
-use miette_layout::cells::{columns_of, first_character};
+use miette_lines::cells::{columns_of, first_character};
 use std::alloc::{AllocError, Global};
 use unicode_width::UnicodeWidthStr;
 

@@ -7,7 +7,7 @@ ghost use Rattle.miette_narrated.specs.Places.{IsPlace};
 
 use crate::line_text::LineText;
 use crate::places::Place;
-use miette_layout::sheet::LineOfText;
+use miette_lines::text_line::LineOfText;
 
 /// A line of a snippet: where it lies, its number, whether it is the snippet's last, where the snippet's data end, and its text.
 #[derive(Clone, Copy)]

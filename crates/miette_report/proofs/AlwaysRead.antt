@@ -5,8 +5,8 @@ use Rattle.std.specs.List.{list_all}
 use Rattle.std.specs.Prelude.{◌&&◌, ◌||◌, if◌then◌else◌}
 use Rattle.miette_protocol.specs.Meaning.{Label, Meaning}
 use Rattle.miette_protocol.specs.Reading.{Source, Span, IsAccepted}
-use Rattle.miette_layout.specs.Contexts.{end_of_span, is_accepted}
-use Rattle.miette_layout.specs.Groups.{in_order, AreAccepted}
+use Rattle.miette_lines.specs.Contexts.{end_of_span, is_accepted}
+use Rattle.miette_lines.specs.Groups.{in_order, AreAccepted}
 use Rattle.miette_text.specs.Tame.{is_nil}
 use Rattle.miette_tree.specs.Tree.{Tree, tree, Cause, diagnostic, texts, Trees, no_trees, more_trees, effective}
 use Rattle.miette_tree.specs.Parts.{given_labels}

@@ -4,8 +4,8 @@ use Rattle.std.specs.Option.{option_and_then, option_map, option_map_or}
 use Rattle.std.specs.List.{last_or}
 use Rattle.miette_protocol.specs.Lines.{Line, is_terminated, lines_of}
 use Rattle.miette_protocol.specs.Meaning.{Label}
-use Rattle.miette_layout.specs.Cells.{Cell, cells_from, characters}
-use Rattle.miette_layout.specs.Given.{width_of}
+use Rattle.miette_lines.specs.Cells.{Cell, cells_from, characters}
+use Rattle.miette_lines.specs.Given.{width_of}
 
 -- a space or a tab
 abbrev pub is_blank : ℕ → Bool

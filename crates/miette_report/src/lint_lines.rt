@@ -4,16 +4,16 @@ ghost use Rattle.std.specs.Prelude.{◌≡◌, ◌+◌, ◌++◌, ◌<◌, ◌�
 ghost use Rattle.std.specs.List.{All, last_or};
 ghost use Rattle.std.specs.Option.{option_map};
 ghost use Rattle.miette_protocol.specs.Lines.{lines_of};
-ghost use Rattle.miette_layout.specs.Sheets.{line_of_text};
-ghost use Rattle.miette_layout.specs.Swept.{LiesIn};
-ghost use Rattle.miette_layout.specs.Walking.{cell_of};
+ghost use Rattle.miette_lines.specs.TextLines.{line_of_text};
+ghost use Rattle.miette_lines.specs.Swept.{LiesIn};
+ghost use Rattle.miette_lines.specs.Walking.{cell_of};
 ghost use Rattle.miette_report.specs.Findings.{cells_of, ending_blanks, finding, findings_of, is_blank, line_findings, misplaced_tab, overlong, tab_after_space, tab_behind, too_wide, trailing, unended};
 
 use itoa::Buffer;
-use miette_layout::cells::{Cell, Walk};
-use miette_layout::line_sweep::{SweptLine, swept_lines};
-use miette_layout::sheet::LineOfText;
-use miette_layout::sweep::Sweep;
+use miette_lines::cells::{Cell, Walk};
+use miette_lines::line_sweep::{SweptLine, swept_lines};
+use miette_lines::sweep::Sweep;
+use miette_lines::text_line::LineOfText;
 use miette_protocol::protocol::LabeledSpan;
 use std::alloc::{AllocError, Global};
 use std::ops::Range;

@@ -1,6 +1,6 @@
 use Rattle.std.proofs.Common.{List, [], ◌∷◌, Option, Some, None, IfSome, ap}
 use Rattle.std.specs.List.{AllByRecursion}
-use Rattle.miette_layout.specs.Contexts.{contents}
+use Rattle.miette_lines.specs.Contexts.{contents}
 use Rattle.miette_graphical.specs.Answers.{pieces_listed}
 use Rattle.miette_graphical.specs.Headline.{LinesAreShown, MarksAreApart, TextsHang, SnippetHangs, drawn_labels, groups_of, group_settings, shown_lines}
 use Rattle.miette_tree.specs.Parts.{given_labels}

@@ -2,8 +2,8 @@ use Rattle.std.proofs.Common.{◌≡◌, ◌++◌, ◌+◌, map, length}
 use Rattle.std.specs.Prelude.{chars}
 use Rattle.std.specs.Option.{option_map_or, option_copied}
 use Rattle.miette_layout.specs.Told.{told_rows}
-use Rattle.miette_layout.specs.Labels.{cut_at_lf, parts_of}
-use Rattle.miette_layout.specs.Given.{drawn_of}
+use Rattle.miette_lines.specs.Labels.{cut_at_lf, parts_of}
+use Rattle.miette_lines.specs.Given.{drawn_of}
 use Rattle.miette_layout.specs.Sheets.{open_line}
 use Rattle.miette_layout.proofs.closings.push_open_rows.Given as goal
 

@@ -1,8 +1,10 @@
 use Rattle.std.proofs.Common.{[], ◌∷◌, ◌++◌, ◌∙◌, ap}
 use Rattle.std.specs.Prelude.{codes, chars, decimal}
-use Rattle.miette_layout.specs.Rows.{Row, plain, styled}
+use Rattle.miette_layout.specs.Rows.{Row, styled}
+use Rattle.miette_style.specs.Styles.{plain}
 use Rattle.miette_layout.specs.Framed.{refused_front}
-use Rattle.miette_layout.specs.Given.{settings_of, width_of}
+use Rattle.miette_layout.specs.ThemeSettings.{settings_of}
+use Rattle.miette_lines.specs.Given.{width_of}
 use Rattle.miette_layout.specs.Told.{run_told}
 use Rattle.miette_layout.proofs.Texting.{row_done, parts_then}
 use Rattle.miette_layout.proofs.Framing.{run_then, run_last}

@@ -1,7 +1,7 @@
 use Rattle.std.proofs.Common.{◌∙◌, map, drop, get_or, ◌+◌, sym}
-use Rattle.miette_layout.specs.Sweeping.{nothing}
-use Rattle.miette_layout.specs.Given.{drawn_of, width_of}
-use Rattle.miette_layout.specs.Sheets.{line_of_text}
+use Rattle.miette_lines.specs.Sweeping.{nothing}
+use Rattle.miette_lines.specs.Given.{drawn_of, width_of}
+use Rattle.miette_lines.specs.TextLines.{line_of_text}
 use Rattle.miette_layout.specs.Gutters.{open_gutter}
 use Rattle.miette_layout.proofs.Telling.{blank_row}
 use Rattle.miette_layout.proofs.Guttering.{at_end, at_last, open_last}

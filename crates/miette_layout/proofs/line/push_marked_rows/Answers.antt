@@ -2,7 +2,7 @@ use Rattle.std.proofs.Common.{◌∙◌, ◌++◌, ◌<◌, ap, map, [], length,
 use Rattle.miette_layout.specs.Drawing.{mark_runs, rows_below}
 use Rattle.miette_layout.specs.Told.{told_rows}
 use Rattle.miette_layout.specs.Layout.{before_each}
-use Rattle.miette_layout.specs.Given.{width_of}
+use Rattle.miette_lines.specs.Given.{width_of}
 use Rattle.miette_layout.specs.Made.{mark_of}
 use Rattle.miette_layout.specs.Sheets.{before_marks}
 use Rattle.miette_layout.proofs.Lining.{marked_put, marked_some}

@@ -1,6 +1,6 @@
 use Rattle.std.proofs.Common.{◌≡◌, ◌∷◌, [], ◌∙◌, sym, ap, rules}
-use Rattle.miette_layout.specs.Walking.{cell_of}
-use Rattle.miette_layout.specs.Cells.{last_column}
+use Rattle.miette_lines.specs.Walking.{cell_of}
+use Rattle.miette_layout.specs.PrintedCells.{last_column}
 use Rattle.miette_layout.proofs.Stopping.{last_passed}
 use Rattle.miette_layout.proofs.marks.column_from.Goals as goal
 

@@ -1,8 +1,9 @@
 use Rattle.std.proofs.Common.{◌≡◌, ◌≤◌, ◌∷◌, ◌∙◌, ℕ, List, sym, subst, arith, rules}
 use Rattle.std.specs.List.{All}
 use Rattle.std.proofs.lemmas.List.Elements.{All-push}
-use Rattle.miette_layout.specs.Cells.{Cell, first_column, last_column}
-use Rattle.miette_layout.specs.Walking.{cell_of}
+use Rattle.miette_layout.specs.PrintedCells.{first_column, last_column}
+use Rattle.miette_lines.specs.Cells.{Cell}
+use Rattle.miette_lines.specs.Walking.{cell_of}
 use Rattle.miette_layout.specs.Made.{IsStop}
 use Rattle.miette_layout.specs.declared.marks.Stop.{Stop}
 use Rattle.miette_layout.proofs.Stopping.{first_passed, last_passed, width_passed, cells_left}

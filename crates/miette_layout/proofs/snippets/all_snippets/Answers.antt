@@ -1,5 +1,6 @@
 use Rattle.std.proofs.Common.{ap, map, ◌∙◌}
-use Rattle.miette_layout.specs.Given.{settings_of, label_at}
+use Rattle.miette_layout.specs.ThemeSettings.{settings_of}
+use Rattle.miette_lines.specs.Given.{label_at}
 use Rattle.miette_layout.specs.Highlighted.{leaves_plain}
 use Rattle.miette_layout.proofs.Progressing.{gives_refused}
 use Rattle.miette_layout.proofs.snippets.all_snippets.Goals as goal

@@ -1,5 +1,5 @@
 use Rattle.std.proofs.Common.{rules, ◌-◌}
-use Rattle.miette_layout.specs.Given.{width_of}
+use Rattle.miette_lines.specs.Given.{width_of}
 use Rattle.miette_layout.specs.Made.{mark_of}
 use Rattle.miette_layout.proofs.Stroking.{mark_put}
 use Rattle.miette_layout.proofs.strokes.push_mark.Goals as goal

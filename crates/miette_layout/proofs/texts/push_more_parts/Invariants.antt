@@ -2,7 +2,7 @@ use Rattle.std.proofs.Common.{◌≡◌, ◌++◌, ◌+◌, map, length}
 use Rattle.std.specs.Prelude.{chars}
 use Rattle.std.specs.Option.{option_map_or, option_copied}
 use Rattle.miette_layout.specs.Told.{told_rows}
-use Rattle.miette_layout.specs.Labels.{cut_at_lf, parts_of}
+use Rattle.miette_lines.specs.Labels.{cut_at_lf, parts_of}
 use Rattle.miette_layout.specs.Drawing.{beside}
 use Rattle.miette_layout.specs.Made.{mark_of}
 use Rattle.miette_layout.specs.Sheets.{settings, text_line}

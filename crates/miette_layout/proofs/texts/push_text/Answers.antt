@@ -1,7 +1,7 @@
 use Rattle.std.proofs.Common.{◌∙◌, ◌∷◌, ap, sym, map}
 use Rattle.std.specs.Prelude.{chars, option_copied}
-use Rattle.miette_layout.specs.Labels.{parts_of}
-use Rattle.miette_layout.specs.Given.{width_of}
+use Rattle.miette_lines.specs.Labels.{parts_of}
+use Rattle.miette_lines.specs.Given.{width_of}
 use Rattle.miette_layout.specs.Made.{mark_of}
 use Rattle.miette_layout.specs.Sheets.{before_marks}
 use Rattle.miette_layout.proofs.Texting.{several_parts}

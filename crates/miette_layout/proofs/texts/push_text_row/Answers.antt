@@ -1,6 +1,6 @@
 use Rattle.std.proofs.Common.{map}
 use Rattle.std.specs.Prelude.{chars}
-use Rattle.miette_layout.specs.Given.{width_of}
+use Rattle.miette_lines.specs.Given.{width_of}
 use Rattle.miette_layout.specs.Made.{mark_of}
 use Rattle.miette_layout.specs.Sheets.{before_marks}
 use Rattle.miette_layout.proofs.Texting.{text_put}

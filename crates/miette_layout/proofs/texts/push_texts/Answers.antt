@@ -1,5 +1,5 @@
 use Rattle.std.proofs.Common.{◌<◌, ◌-◌, ◌+◌, ◌≡◌, ◌≤◌, length, arith}
-use Rattle.miette_layout.specs.Given.{width_of}
+use Rattle.miette_lines.specs.Given.{width_of}
 use Rattle.miette_layout.specs.Sheets.{before_marks}
 use Rattle.miette_layout.proofs.Placing.{no_mark}
 use Rattle.miette_layout.proofs.Texting.{below_more}

@@ -1,5 +1,5 @@
 use Rattle.std.proofs.Common.{◌≡◌, ◌++◌, string_bytes, length}
-use Rattle.miette_layout.specs.Cells.{characters}
+use Rattle.miette_lines.specs.Cells.{characters}
 use Rattle.miette_narrated.specs.Lines.{decoded_text}
 use Rattle.miette_narrated.proofs.columns.push_decoded.Given as goal
 

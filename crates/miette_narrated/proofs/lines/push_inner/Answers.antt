@@ -1,5 +1,5 @@
 use Rattle.std.proofs.Common.{ℕ, List, ap, ap₂, sym, ◌∙◌, ◌++◌, append_assoc, string_bytes}
-use Rattle.miette_layout.specs.declared.sweep.Placed.{Placed}
+use Rattle.miette_lines.specs.declared.sweep.Placed.{Placed}
 use Rattle.miette_narrated.specs.Ends.{labels_of}
 use Rattle.miette_narrated.specs.Labels.{label_rows}
 use Rattle.miette_narrated.specs.Made.{all_told, shown_of}

@@ -1,9 +1,9 @@
 use Rattle.std.proofs.Common.{ap, ◌∙◌, List, string_bytes, subst, sym}
 use Rattle.std.specs.Option.{option_map}
-use Rattle.miette_layout.specs.Around.{group_context}
-use Rattle.miette_layout.specs.Groups.{in_order}
-use Rattle.miette_layout.specs.declared.sweep.Placed.{Placed}
-use Rattle.miette_layout.specs.Read.{AreGroups}
+use Rattle.miette_lines.specs.Around.{group_context}
+use Rattle.miette_lines.specs.Groups.{in_order}
+use Rattle.miette_lines.specs.declared.sweep.Placed.{Placed}
+use Rattle.miette_lines.specs.Read.{AreGroups}
 use Rattle.miette_narrated.specs.Ends.{AreEnds}
 use Rattle.miette_narrated.specs.declared.label_order.Ranked.{Ranked}
 use Rattle.miette_narrated.specs.Made.{all_told}

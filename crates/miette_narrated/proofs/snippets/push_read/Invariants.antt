@@ -1,5 +1,5 @@
-use Rattle.miette_layout.specs.Around.{group_context}
-use Rattle.miette_layout.specs.Groups.{in_order}
+use Rattle.miette_lines.specs.Around.{group_context}
+use Rattle.miette_lines.specs.Groups.{in_order}
 use Rattle.std.proofs.Common.{◌≡◌, ◌++◌, string_bytes, drop, map}
 use Rattle.miette_narrated.specs.Made.{all_told}
 use Rattle.miette_narrated.specs.Snippets.{snippets_of}

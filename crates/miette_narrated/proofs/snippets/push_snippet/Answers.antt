@@ -1,5 +1,5 @@
 use Rattle.std.proofs.Common.{ap, ◌∙◌, ◌+◌, ◌++◌, string_bytes}
-use Rattle.miette_layout.specs.Contexts.{lines_of_contents}
+use Rattle.miette_lines.specs.Contexts.{lines_of_contents}
 use Rattle.miette_narrated.specs.Lines.{rows_of_lines}
 use Rattle.miette_narrated.specs.Made.{all_told}
 use Rattle.miette_narrated.specs.Snippets.{begin_rows}

@@ -1,0 +1,14 @@
+//! Labels over lines: their reads, groups and columns, and which lie on which line.
+#![tactic(auto)]
+
+pub mod cells;
+pub mod drawn_labels;
+pub mod grouping;
+pub mod line_sweep;
+pub mod order;
+pub mod plain;
+pub mod primary;
+pub mod reading;
+mod stretches;
+pub mod sweep;
+pub mod text_line;
