@@ -1,6 +1,6 @@
 //! Three hundred texts of control characters, wide ones and marks, by each handler at each width from 0 to 10.
 
-use crate::jobs::{words_of, written};
+use crate::hostile_jobs::{words_of, written};
 use serde_json::Value;
 use std::alloc::{AllocError, Global};
 use std::process::Abort;

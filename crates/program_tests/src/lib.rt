@@ -1,4 +1,4 @@
-//! Callers of `miette_report` from a crate above: the programs over devices that work, that are slow, and that fail; and reports with a highlighter.
+//! Tests of programs: over devices that work, that are slow and that fail; options and highlighters; hostile input.
 #![tactic(auto)]
 
 #[cfg(test)]
@@ -8,9 +8,13 @@ mod devices;
 #[cfg(test)]
 mod draw;
 #[cfg(test)]
+mod failing_writers;
+#[cfg(test)]
 mod gallery;
 #[cfg(test)]
 mod highlighting;
+#[cfg(test)]
+mod hostile_jobs;
 #[cfg(test)]
 mod job;
 #[cfg(test)]
@@ -19,5 +23,11 @@ mod job_words;
 mod lint;
 #[cfg(test)]
 mod options;
+#[cfg(test)]
+mod sizes;
+#[cfg(test)]
+mod sources;
+#[cfg(test)]
+mod texts;
 #[cfg(test)]
 mod words;

@@ -1,6 +1,6 @@
 //! Writers that fail after each number of bytes, through `job_with`.
 
-use crate::jobs::{words_of, written};
+use crate::hostile_jobs::{words_of, written};
 use miette_report::job::job_with;
 use std::alloc::Global;
 use std::io;

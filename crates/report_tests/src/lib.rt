@@ -1,4 +1,5 @@
-//! Worked reports: what each handler gives, as the rules ask for it. The expected texts were written by hand from the rules.
+//! Tests of reports: chains, causes and sources as callers write them, and worked reports by each handler. The expected texts were
+//! written by hand from the rules.
 #![tactic(auto)]
 
 #[cfg(test)]
@@ -8,9 +9,12 @@ mod debug;
 #[cfg(test)]
 mod drawn;
 #[cfg(test)]
+mod drops;
+#[cfg(test)]
 mod edges;
 #[cfg(test)]
 mod json;
+pub mod load;
 #[cfg(test)]
 mod narrated;
 #[cfg(test)]
@@ -19,5 +23,8 @@ mod own_context;
 mod reports;
 #[cfg(test)]
 mod snippets;
+pub mod told;
+#[cfg(test)]
+mod trees;
 #[cfg(test)]
 mod written;

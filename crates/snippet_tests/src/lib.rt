@@ -1,0 +1,9 @@
+//! Tests of snippets: the rows of single lines, and of whole snippets.
+#![tactic(auto)]
+
+#[cfg(test)]
+mod lines;
+#[cfg(test)]
+mod own_context;
+#[cfg(test)]
+mod snippets;
