@@ -1,0 +1,177 @@
+#!/usr/bin/env python3
+"""Makes the workloads: descriptions, the words of `bench` that they are rendered by, and the source
+of a workload that is drawn by `draw`.
+
+    bench/workloads.py FOLDER           writes all of them, and manifest.json
+    bench/workloads.py FOLDER NAME ..   writes those whose names begin so
+
+The bytes are the same each time. The manifest says of each workload its name, its family (the rows
+of a family differ in size alone), its file, its program and its words, and the words that the
+original takes beside them. count.py makes what it counts by itself.
+"""
+import json
+import os
+import sys
+from typing import Callable, NamedTuple
+
+import reports as of
+from texts import coloured
+
+PLAIN = ("--theme", "unicode_nocolor")
+COLOUR = ("--theme", "unicode")
+NARRATED = ("--narrated",)
+JSON = ("--json",)
+NESTED = (*PLAIN, "--nested", "yes")
+WIDE_NESTED = (*NESTED, "--width", "400")
+WIDTH = ("--width", "80")
+MB = 1 << 20
+
+
+class Workload(NamedTuple):
+    """An input and how it is rendered. `make` gives its bytes."""
+
+    name: str
+    family: str
+    words: tuple
+    make: Callable[[], bytes]
+    program: str = "bench"
+    # What the original takes beside the words.
+    original: tuple = ()
+
+    def file(self):
+        """The name of its file."""
+        return self.name + (".json" if self.program == "bench" else ".txt")
+
+
+def described(report):
+    """The bytes of a description."""
+    return json.dumps(report, ensure_ascii=False).encode()
+
+
+def bench(name, family, options, make, *given, original=()):
+    """A workload of `bench`."""
+    return Workload(name, family, options, lambda: described(make(*given)), original=original)
+
+
+def everyday():
+    """Reports as programs print them each day."""
+    yield bench("a_small", "a", PLAIN, of.small)
+    yield bench("b_typical", "b", PLAIN, of.typical)
+    yield bench("b_typical_ansi", "b_ansi", COLOUR, of.typical)
+    yield bench("message_alone", "message", PLAIN, of.message_alone)
+    yield bench("message_code_help", "message_code", PLAIN, of.message_code_help)
+    yield bench("ten_warnings", "warnings", PLAIN, of.ten_warnings)
+    yield bench("typical_tabs", "tabs", PLAIN, of.typical_tabs)
+    yield bench("typical_cjk", "cjk", PLAIN, of.typical_cjk)
+
+
+def big_sources():
+    """Big sources, with a label or with many."""
+    for size in (5, 10, 20):
+        yield bench(f"c_big_{size}mb", "c", PLAIN, of.big, size)
+    for count in (500, 1000, 2000, 4000):
+        grown = (of.spread, count, 512 * count)
+        yield bench(f"d_spread_grow_{count}", "d_spread_grow", PLAIN, *grown)
+        yield bench(f"k_narrated_spread_{count}", "k_spread", NARRATED, *grown)
+        yield bench(f"d_spread_1mb_{count}", "d_spread_1mb", PLAIN, of.spread, count, MB)
+        yield bench(f"d_near_{count}", "d_near", PLAIN, of.near, count)
+        yield bench(f"k_narrated_near_{count}", "k_near", NARRATED, of.near, count)
+
+
+def long_lines():
+    """One line of many bytes, and many labels on one line."""
+    for size in (512, 1024, 2048):
+        yield bench(f"e_line_{size}kb", "e", PLAIN, of.long_line, size)
+        yield bench(f"e_head_{size}kb", "e_head", PLAIN, of.long_line, size, True)
+    for size in (30, 60, 120):
+        yield bench(f"e_short_{size}kb", "e_short", PLAIN, of.long_line, size)
+    for count in (100, 200, 400):
+        yield bench(f"f_oneline_{count}", "f", PLAIN, of.one_line, count)
+
+
+def long_texts():
+    """A message of many words, or of one."""
+    plain, colour, ascii_only = (*PLAIN, *WIDTH), (*COLOUR, *WIDTH), ("--separator", "ascii")
+    for size in (100, 200, 400):
+        name, message = f"g_wrap_{size}kb", (of.long_message, size)
+        yield bench(name, "g", plain, *message)
+        yield bench(f"{name}_ansi", "g_ansi", colour, *message)
+        yield bench(f"{name}_ascii", "g_ascii", plain, *message, original=ascii_only)
+        changed = (of.changed_message, size, coloured)
+        yield bench(f"{name}_textcolour", "g_textcolour", plain, *changed)
+        joined = (of.changed_message, size, lambda it: it.replace(" ", ""))
+        yield bench(f"g_word_{size}kb", "g_word", plain, *joined)
+
+
+def inner_reports():
+    """Related reports and causes."""
+    for count in (1000, 2000, 4000):
+        yield bench(f"h_related_{count}", "h", PLAIN, of.related, count)
+        yield bench(f"h_nested_{count}", "h_nested", NESTED, of.related, count)
+    for depth in (15, 30, 60):
+        yield bench(f"i_causes_{depth}", "i", PLAIN, of.causes, depth)
+        yield bench(f"i_causes_{depth}_ansi", "i_ansi", COLOUR, of.causes, depth)
+        if depth < 60:
+            inner = (of.nested_related, depth)
+            yield bench(f"i_nested_related_{depth}", "i_nested", WIDE_NESTED, *inner)
+
+
+def others():
+    """JSON with escapes, and labels over many lines."""
+    for size in (512, 1024, 2048):
+        yield bench(f"j_json_{size}kb", "j", JSON, of.escaped_message, size)
+    for count in (50, 100, 200):
+        yield bench(f"l_gutter_{count}", "l", PLAIN, of.blocks, count)
+
+
+def hard():
+    """What is hard in one way, in one size each."""
+    unwrapped = (*PLAIN, "--wrap", "no")
+    yield bench("span_lines_100000", "span_lines", PLAIN, of.span_of_lines, 100_000)
+    yield bench("help_200kb_unwrapped", "help", unwrapped, of.long_help)
+    yield bench("url_200kb", "url", PLAIN, of.long_url)
+    yield bench("label_text_200kb", "label_text", PLAIN, of.label_text)
+    yield bench("same_span_1000", "same_span", PLAIN, of.same_span, 1000)
+    yield bench("line_labels_5000", "line_labels", PLAIN, of.line_labels, 5000)
+    yield bench("nested_labels_2000", "nested_labels", PLAIN, of.nested_labels, 2000)
+
+
+def hard_lines():
+    """Lines of 1 MB of one kind of character."""
+    kinds = {"wide": "漢", "marks": "e\u0301\u0302", "emoji": "👩\u200d👧", "tabs": "\t"}
+    kinds |= {"nul": "\0", "esc": "\x1b"}
+    for kind, unit in kinds.items():
+        yield bench(f"line_{kind}_1mb", f"line_{kind}", PLAIN, of.line_of, unit)
+    drawn = ("x.txt", "100", "3", "head", "findings")
+    yield Workload("line_bad_utf8_1mb", "line_bad", drawn, lambda: b"\xff" * MB, "draw")
+    yield bench("middle_marks_1mb", "middle_marks", PLAIN, of.line_of, kinds["marks"], False)
+
+
+FAMILIES = (everyday, big_sources, long_lines, long_texts, inner_reports, others, hard, hard_lines)
+ALL = [workload for family in FAMILIES for workload in family()]
+
+
+def chosen(names):
+    """The workloads whose names begin with one of these, or all of them."""
+    return [it for it in ALL if not names or it.name.startswith(tuple(names))]
+
+
+def main():
+    """Writes the workloads and their manifest."""
+    if len(sys.argv) < 2:
+        sys.exit(__doc__)
+    folder, *names = sys.argv[1:]
+    os.makedirs(folder, exist_ok=True)
+    entries = []
+    for workload in chosen(names):
+        with open(os.path.join(folder, workload.file()), "wb") as file:
+            file.write(workload.make())
+        entry = {**workload._asdict(), "file": workload.file()}
+        del entry["make"]
+        entries.append(entry)
+    with open(os.path.join(folder, "manifest.json"), "w", encoding="utf-8") as file:
+        json.dump(entries, file, indent=1)
+
+
+if __name__ == "__main__":
+    main()
