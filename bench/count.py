@@ -19,13 +19,14 @@ one rendering of ours takes memory or grows a block.
 
 `indexed` is codespan-reporting with its index of lines made before. `grows by` is the count over
 that of the row before of the same family; `of original` and the like are ours over theirs. A dash
-stands where a program has no such output, fails, or takes more than N seconds (300) for a run. FILE
-keeps all counts as JSON: what stands there isn't counted again. It takes one processor.
+stands where a program has no such output, fails, or takes more than N seconds (300) of the
+processor for a run. FILE keeps all counts as JSON: what stands there isn't counted again.
 """
 import argparse
 import json
 import os
 import re
+import resource
 import subprocess
 import sys
 import tempfile
@@ -51,7 +52,7 @@ HEAPS = """| Workload | text | ours | original | codespan | of text | of origina
 
 
 class Failed(Exception):
-    """A run that ended as it should not, or was too long."""
+    """A run that ended as it should not, or took too long."""
 
 
 def peer_words(who, workload):
@@ -79,18 +80,15 @@ def command(who, workload, times, asked, suffix=""):
 
 def run(words, path, asked):
     """What a run writes, to standard output and to standard error."""
-    try:
-        with open(path, "rb") as given:
-            ended = subprocess.run(
-                words,
-                stdin=given,
-                capture_output=True,
-                timeout=asked.seconds,
-                env={"PATH": os.environ["PATH"]},
-                check=False,
-            )
-    except subprocess.TimeoutExpired:
-        raise Failed(f"more than {asked.seconds} seconds") from None
+
+    def limit():
+        resource.setrlimit(resource.RLIMIT_CPU, (asked.seconds, asked.seconds))
+
+    kept = {"PATH": os.environ["PATH"]}
+    with open(path, "rb") as given:
+        ended = subprocess.run(
+            words, stdin=given, capture_output=True, env=kept, preexec_fn=limit, check=False
+        )
     said = ended.stderr.decode(errors="replace")
     if ended.returncode != 0:
         lines = [it for it in said.split("\n") if it and not it.startswith("==")]
@@ -236,7 +234,7 @@ def words():
     """What is asked for."""
     reader = argparse.ArgumentParser(description=__doc__.split("\n", maxsplit=1)[0])
     reader.add_argument("--peers", default="", help="the folder of the peers' programs")
-    reader.add_argument("--seconds", type=int, default=300, help="most seconds for a run")
+    reader.add_argument("--seconds", type=int, default=300, help="most seconds of the processor")
     reader.add_argument("--keep", default="", help="a file for the counts")
     reader.add_argument("names", nargs="*", metavar="NAME", help="how the names begin")
     return reader.parse_args()
