@@ -190,7 +190,10 @@ def ratio(one, other):
     """One of another, where there are both."""
     if not one or not other:
         return ""
-    return f"{one / other:.2f}" if one >= 0.1 * other else f"{one / other:.2g}"
+    found = one / other
+    if found < 0.001:
+        return "< 0.001"
+    return f"{found:.2f}" if found >= 0.1 else f"{found:.3f}"
 
 
 def counts_row(workload, row, before):
