@@ -65,12 +65,16 @@ def peer_words(who, workload):
     return [*colour, *(["--indexed"] if who == INDEXED else [])]
 
 
+def built(name):
+    """Where the gate leaves a program of ours."""
+    return os.path.join(TOP, "crates", name, "out", name)
+
+
 def command(who, workload, times, asked, suffix=""):
     """How a program is called to render so many times; nothing where it can't."""
     name = workload.program
     if who == OURS:
-        program = os.path.join(TOP, "crates", name, "out", name)
-        return [program, *([] if name == "draw" else [str(times)]), *workload.words]
+        return [built(name), *([] if name == "draw" else [str(times)]), *workload.words]
     words, programs = peer_words(who, workload), PEER_PROGRAMS[who]
     if not asked.peers or name not in programs or words is None:
         return None
@@ -246,9 +250,13 @@ def words():
 def main():
     """Counts what is asked for."""
     asked = words()
+    workloads = chosen(asked.names)
+    for program in sorted({built(it.program) for it in workloads}):
+        if not os.path.exists(program):
+            sys.exit(f"{program} isn't built: bench/README.md says how")
     with tempfile.TemporaryDirectory() as folder:
         asked.folder, asked.library = folder, built_library(folder)
-        print_tables(chosen(asked.names), asked)
+        print_tables(workloads, asked)
     return 0
 
 
