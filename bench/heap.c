@@ -1,5 +1,6 @@
-/* Loaded before the C library: writes to the file HEAP_NOTES, for each call that takes, grows or gives back memory, by how
-   many bytes the blocks in use grew, as a number of 8 bytes. The length of a block stands in the 16 bytes before it. */
+/* Loaded before the C library: writes to the file HEAP_NOTES, for each call that takes, grows or
+   gives back memory, by how many bytes the blocks in use grew, as a number of 8 bytes. The length
+   of a block stands in the 16 bytes before it. */
 #include <fcntl.h>
 #include <stdint.h>
 #include <stdlib.h>
