@@ -16,7 +16,8 @@ use Rattle.miette_graphical.specs.Handling.{Handling, draws_plain}
 use Rattle.miette_graphical.specs.Snippets.{drawn_rows}
 use Rattle.miette_graphical.specs.Text.{report_text}
 use Rattle.miette_report.specs.Chosen.{IsAsked, IsGiven, MayRefuse, Stays}
-use Rattle.miette_report.specs.Job.{tree_for, IsBuiltText, IsJobText, IsNarrating, IsRefused, Writes}
+use Rattle.miette_description.specs.Description.{tree_for}
+use Rattle.miette_report.specs.Job.{IsBuiltText, IsJobText, IsNarrating, IsRefused, Writes}
 use Rattle.miette_report.specs.declared.chosen.Chosen.{Chosen}
 use Rattle.miette_report.specs.declared.chosen.Chosen.TheVariants as chosen
 use Rattle.miette_report.specs.declared.settings.Choice.{Choice}

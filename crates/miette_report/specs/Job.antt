@@ -1,6 +1,5 @@
 -- The text of a job: by the bytes that were read, and by what was asked for.
-use Rattle.std.specs.Prelude.{◌≡◌, ℕ, Bool, List, Option, Some, true, false, ⊤, IsUtf8, encode_utf8_all, option_and_then}
-use Rattle.serde_json.specs.Read.{read}
+use Rattle.std.specs.Prelude.{◌≡◌, ℕ, Bool, List, Option, Some, true, false, ⊤, IsUtf8, encode_utf8_all}
 use Rattle.miette.specs.Choice.{IsChosen, is_graphical}
 use Rattle.miette.specs.Options.{Options}
 use Rattle.miette.specs.declared.options.handler.MietteHandler.{MietteHandler}
@@ -16,13 +15,9 @@ use Rattle.miette_json.specs.Json.{json_text}
 use Rattle.miette_json.specs.JsonReport.{value_of}
 use Rattle.miette_graphical.specs.Snippets.{drawn_rows}
 use Rattle.miette_graphical.specs.Text.{report_text}
-use Rattle.miette_report.specs.Description.{described}
+use Rattle.miette_description.specs.Description.{tree_for}
 use Rattle.miette_report.specs.declared.settings.Choice.{Choice}
 use Rattle.miette_report.specs.declared.settings.Choice.TheVariants.{Build, Json, Debug}
-
--- the tree that the bytes describe, by the JSON value that is read from them (at most 127 deep)
-abbrev pub tree_for : List ℕ → Option Tree
-tree_for bytes = option_and_then described (read bytes)
 
 -- A text that a handler gives for a tree whose sources always read: a picture, one alone where no highlighter or a blank one is set; a
 -- narrated text only where every label that is told is accepted.

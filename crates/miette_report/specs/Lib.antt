@@ -1,9 +1,6 @@
 pub mod Marked
 pub mod Device
 pub mod Words
-pub mod Members
-pub mod Description
-pub mod Built
 pub mod Asked
 pub mod Job
 pub mod Chosen

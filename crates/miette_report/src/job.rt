@@ -2,7 +2,8 @@
 
 ghost use Rattle.std.specs.Prelude.{◌≡◌, IfSome, IsUtf8, None, map, string_bytes};
 ghost use Rattle.miette_report.specs.Asked.{choice_in};
-ghost use Rattle.miette_report.specs.Job.{tree_for, IsDescription, IsRefused};
+ghost use Rattle.miette_description.specs.Description.{tree_for};
+ghost use Rattle.miette_report.specs.Job.{IsDescription, IsRefused};
 ghost use Rattle.miette_report.specs.Statuses.{words_status};
 
 use crate::device::Device;

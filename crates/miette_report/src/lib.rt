@@ -3,11 +3,6 @@
 
 pub mod bench;
 mod chosen;
-mod description;
-pub mod description_laws;
-mod description_members;
-mod description_numbers;
-mod description_parts;
 pub mod device;
 pub mod draw;
 pub mod job;
@@ -20,3 +15,5 @@ mod settings;
 mod statuses;
 pub mod whole;
 pub mod words;
+
+pub use miette_description::laws as description_laws;

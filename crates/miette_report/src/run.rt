@@ -3,22 +3,20 @@
 ghost use Rattle.std.specs.Prelude.{◌≡◌, ◌<◌, ◌↔◌, length, ◌⊎◌, false, string_bytes, IsTrue, IsUtf8, IfOk, OnOk, OnErr, IfSome, Some, None};
 ghost use Rattle.std.specs.Io.KnownBytes.{Appends};
 ghost use Rattle.miette_report.specs.Device.{TakesBeginning};
-ghost use Rattle.serde_json.specs.Read.{read};
-ghost use Rattle.serde_json.specs.View.{view};
 ghost use Rattle.miette_tree.specs.Report.{tree_of};
 ghost use Rattle.miette_json.specs.Reads.{AlwaysReads};
-ghost use Rattle.miette_report.specs.Job.{tree_for, IsDescription, IsNarrating, IsRefused, Writes};
+ghost use Rattle.miette_description.specs.Description.{tree_for};
+ghost use Rattle.miette_report.specs.Job.{IsDescription, IsNarrating, IsRefused, Writes};
 
 use crate::chosen::Chosen;
-use crate::description::{BuildError, build};
 use crate::device::Device;
 use crate::settings::Settings;
 use crate::whole::{ReadError, read_whole, write_whole};
 use miette::highlight::Highlighter;
+use miette_description::error::BuildError;
 use miette_protocol::protocol::Diagnostic;
 use miette_protocol::source::SourceCode;
 use miette_tree::report::Report;
-use serde_json::Value;
 use std::alloc::{AllocError, Global};
 use std::io::{Read, Write};
 
@@ -35,24 +33,6 @@ pub enum JobError {
     Description,
     /// The chosen handler refused the report.
     Refused,
-}
-
-/// The value that the bytes are.
-fn value_of(alloc: Global, bytes: &[u8]) -> Result<Value, JobError>
-    ensures ok { IfOk result (λ v. IsUtf8 bytes.now × (read bytes.now ≡ Some (view v))) }
-    ensures description { (result ≡ Err JobError.Description) → IsUtf8 bytes.now → read bytes.now ≡ None }
-    ensures others { OnErr result ((result ≡ Err JobError.Description) ⊎ (result ≡ Err JobError.Memory)) }
-{
-    match Value::from_slice(alloc, bytes) {
-        Ok(value) => Ok(value),
-        Err(e) => {
-            if e.is_memory() {
-                Err(JobError::Memory)
-            } else {
-                Err(JobError::Description)
-            }
-        }
-    }
 }
 
 impl From<AllocError> for JobError {
@@ -73,8 +53,7 @@ fn report_of(alloc: Global, bytes: &[u8]) -> Result<Report, JobError>
     ensures description { (result ≡ Err JobError.Description) → IsUtf8 bytes.now → tree_for bytes.now ≡ None }
     ensures others { OnErr result ((result ≡ Err JobError.Description) ⊎ (result ≡ Err JobError.Memory)) }
 {
-    let value = value_of(alloc, bytes)?;
-    match build(alloc, &value) {
+    match miette_description::report::report_of(alloc, bytes) {
         Ok(report) => Ok(report),
         Err(BuildError::Memory) => Err(JobError::Memory),
         Err(BuildError::Description) => Err(JobError::Description),

@@ -1,0 +1,5 @@
+pub mod Shape
+pub mod Lists
+pub mod Sources
+pub mod SeenLaws
+pub mod NumberSteps

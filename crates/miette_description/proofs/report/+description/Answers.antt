@@ -1,0 +1,89 @@
+use Rattle.std.proofs.Common.{rules, ◌≡◌, ◌<◌, ◌+◌, ◌*◌, ◌++◌, [], ◌∷◌, ap, sym, ◌∙◌, Some, Result, Ok, Err, IfOk, option_map, arith}
+use Rattle.miette_description.proofs.Lists.{one_fails, one_read_as}
+use Rattle.serde_json.specs.Data.{depth, items_depth}
+use Rattle.miette_description.specs.Seen.{seen, items_seen}
+use Rattle.miette_tree.specs.Tree.{trees}
+use Rattle.miette_tree.specs.Report.{tree_of}
+use Rattle.miette_description.specs.Members.{at_key}
+use Rattle.miette_description.specs.Description.{report_in}
+use Rattle.miette_description.proofs.Shape.{report_parts, at_key-depth, array-depth, item-depth, given_some, given_none, related_read}
+use Rattle.miette_description.proofs.report.+description.Goals as goal
+
+pub cause_at-report_from-requires : goal.cause_at-report_from-requires
+cause_at-report_from-requires g t c =
+    let less : depth (seen c.in-Some.found.now) < depth (seen c.args.value.now) = at_key-depth c.args.key.now (seen c.args.value.now) (seen c.in-Some.found.now) (sym c.in-Some.ensures) in
+    let small : 4 * depth (seen c.in-Some.found.now) + 2 < 4 * depth (seen c.args.value.now) + 1 = omega arith in
+    search rules
+
+pub related_at-reports_from-requires : goal.related_at-reports_from-requires
+related_at-reports_from-requires g t c =
+    let found = seen c.in-Some.found.now in
+    let less : depth found < depth (seen c.args.value.now) = at_key-depth c.args.key.now (seen c.args.value.now) found (sym c.in-Some.ensures) in
+    let within : items_depth (items_seen c.in-Some-list_in.list.now) < depth found =
+    array-depth found (items_seen c.in-Some-list_in.list.now) (sym c.in-Some-list_in.ensures) in
+    let small : 4 * items_depth (items_seen c.in-Some-list_in.list.now) + 3 < 4 * depth (seen c.args.value.now) + 1 = omega arith in
+    search rules
+
+pub related_at-returns-in_err-reports_from-clause-description : goal.related_at-returns-in_err-reports_from-clause-description
+related_at-returns-in_err-reports_from-clause-description g t c e =
+    related_read (at_key c.args.key.now (seen c.args.value.now)) (seen c.in-Some.found.now) (items_seen c.in-Some-list_in.list.now) c.in-Some.ensures c.in-Some-list_in.ensures
+    ∙ ap (λ o. option_map Some (option_map trees o)) (c.in_err-reports_from.ensures.description (search rules))
+
+pub related_at-returns-clause-ok : goal.related_at-returns-clause-ok
+related_at-returns-clause-ok g t c =
+    related_read (at_key c.args.key.now (seen c.args.value.now)) (seen c.in-Some.found.now) (items_seen c.in-Some-list_in.list.now) c.in-Some.ensures c.in-Some-list_in.ensures
+    ∙ ap (λ o. option_map Some (option_map trees o)) c.in_ok-reports_from.ensures.ok
+
+pub report_from-returns-in_err-one-clause-description : goal.report_from-returns-in_err-one-clause-description
+report_from-returns-in_err-one-clause-description g t c e =
+    report_parts (seen c.args.value.now) ∙ given_some _ _ c.in_ok-diagnostic.ensures.ok ∙ given_some _ _ c.in_ok-source.ensures.ok
+    ∙ given_none _ (c.in_err-one.ensures.description (search rules))
+
+pub report_from-returns-in_err-several-clause-description : goal.report_from-returns-in_err-several-clause-description
+report_from-returns-in_err-several-clause-description g t c e =
+    report_parts (seen c.args.value.now) ∙ given_some _ _ c.in_ok-diagnostic.ensures.ok ∙ given_some _ _ c.in_ok-source.ensures.ok
+    ∙ given_some _ _ c.in_ok-one.ensures.ok ∙ given_none _ (c.in_err-several.ensures.description (search rules))
+
+pub report_from-returns-in_err-list-clause-description : goal.report_from-returns-in_err-list-clause-description
+report_from-returns-in_err-list-clause-description g t c e =
+    report_parts (seen c.args.value.now) ∙ given_some _ _ c.in_ok-diagnostic.ensures.ok ∙ given_some _ _ c.in_ok-source.ensures.ok
+    ∙ given_some _ _ c.in_ok-one.ensures.ok ∙ given_some _ _ c.in_ok-several.ensures.ok ∙ given_none _ (c.in_err-list.ensures.description (search rules))
+
+pub report_from-returns-in_err-contexts-clause-description : goal.report_from-returns-in_err-contexts-clause-description
+report_from-returns-in_err-contexts-clause-description g t c e =
+    report_parts (seen c.args.value.now) ∙ given_some _ _ c.in_ok-diagnostic.ensures.ok ∙ given_some _ _ c.in_ok-source.ensures.ok
+    ∙ given_some _ _ c.in_ok-one.ensures.ok ∙ given_some _ _ c.in_ok-several.ensures.ok ∙ given_some _ _ c.in_ok-list.ensures.ok
+    ∙ given_none _ (c.in_err-contexts.ensures.description (search rules))
+
+pub reports_from-report_from-requires : goal.reports_from-report_from-requires
+reports_from-report_from-requires g t c =
+    let less = item-depth c.args.list.now c.loop-value.value-index c.value-item.result c.loop-value-test.true in
+    let item = ap (λ v. depth (seen v)) c.value-item.is in
+    let small : 4 * depth (seen c.value-item.result) + 2 < 4 * items_depth (items_seen c.args.list.now) + 3 = omega arith in
+    search rules
+
+if_ok : {A E : Type 0} {P Q : A → Type 0} (r : Result A E) → ((x : A) → P x → Q x) → IfOk r P → IfOk r Q
+if_ok (Ok x) f p = f x p
+if_ok (Err e) f p = p
+
+pub report_from-returns-clause-ok : goal.report_from-returns-clause-ok
+report_from-returns-clause-ok g t c =
+    let chain = report_parts (seen c.args.value.now) ∙ given_some _ _ c.in_ok-diagnostic.ensures.ok ∙ given_some _ _ c.in_ok-source.ensures.ok
+    ∙ given_some _ _ c.in_ok-one.ensures.ok ∙ given_some _ _ c.in_ok-several.ensures.ok ∙ given_some _ _ c.in_ok-list.ensures.ok ∙ given_some _ _ c.in_ok-contexts.ensures.ok in
+    if_ok c.assembled.result (λ r p. chain ∙ p) c.assembled.ensures.ok
+
+pub report_from-returns-clause-description : goal.report_from-returns-clause-description
+report_from-returns-clause-description g t c e =
+    report_parts (seen c.args.value.now) ∙ given_some _ _ c.in_ok-diagnostic.ensures.ok ∙ given_some _ _ c.in_ok-source.ensures.ok
+    ∙ given_some _ _ c.in_ok-one.ensures.ok ∙ given_some _ _ c.in_ok-several.ensures.ok ∙ given_some _ _ c.in_ok-list.ensures.ok ∙ given_some _ _ c.in_ok-contexts.ensures.ok
+    ∙ c.assembled.ensures.description e
+
+pub reports_from-returns-in_err-report-clause-description : goal.reports_from-returns-in_err-report-clause-description
+reports_from-returns-in_err-report-clause-description g t c e =
+    one_fails report_in c.args.list.now _ c.loop-value.value-index c.value-item.result c.loop-value-test.true c.value-item.is (c.in_err-report.ensures.description (search rules)) c.loop-value.invariant
+
+pub reports_from-loop-value-preserved : goal.reports_from-loop-value-preserved
+reports_from-loop-value-preserved g t c =
+    let pushed : c.push.new.self.items ≡ c.loop-value.reports.items ++ c.in_ok-report.report ∷ [] = search rules in
+    one_read_as report_in (tree_of g.D.Diagnostic.meaning g.S.SourceCode.source) c.args.list.now c.loop-value.reports.items c.push.new.self.items c.loop-value.value-index c.value-item.result
+    c.in_ok-report.report pushed c.loop-value-test.true c.value-item.is c.in_ok-report.ensures.ok c.loop-value.invariant

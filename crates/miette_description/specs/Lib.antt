@@ -1,0 +1,4 @@
+pub mod Members
+pub mod Description
+pub mod Built
+pub mod Seen

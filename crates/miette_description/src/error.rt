@@ -1,0 +1,23 @@
+//! Why a description gives no report.
+
+use std::alloc::AllocError;
+
+/// Why no report was built.
+#[derive(Clone, Copy, Debug, PartialEq, Eq)]
+pub enum BuildError {
+    /// Memory was refused.
+    Memory,
+    /// What was read describes no report.
+    Description,
+}
+
+impl From<AllocError> for BuildError {
+    ghost use Rattle.std.specs.Prelude.{◌≡◌};
+    ghost use Rattle.miette_description.specs.declared.error.BuildError.TheVariants.{Memory};
+
+    ghost from_gives = { λ _ e. e ≡ Memory };
+
+    fn from(_refused: AllocError) -> BuildError {
+        BuildError::Memory
+    }
+}

@@ -1,0 +1,18 @@
+//! What holds of every description. Each law is the contract of a function that does nothing.
+
+ghost use Rattle.std.specs.Prelude.{◌≡◌, Some, codes};
+ghost use Rattle.serde_json.specs.Data.{Data};
+ghost use Rattle.miette_tree.specs.Tree.{Tree};
+ghost use Rattle.miette_json.specs.Reads.{AlwaysReads};
+ghost use Rattle.miette_description.specs.Members.{typed, at_key};
+ghost use Rattle.miette_description.specs.Description.{report_from, report_in, reports_in, described};
+
+/// A description is read by what stands at its keys, and each of its cause and related reports is a description.
+pub fn a_description_is_read_by_its_keys()
+    ensures { (d : Data) → report_in d ≡ report_from (typed report_in (at_key (codes "cause") d)) (typed reports_in (at_key (codes "related") d)) d }
+{}
+
+/// The sources of a described report always read, so that its text is determined.
+pub fn a_described_report_always_reads()
+    ensures { (d : Data) (t : Tree) → described d ≡ Some t → AlwaysReads t }
+{}

@@ -1,0 +1,10 @@
+//! Reports from their descriptions, which are JSON.
+#![tactic(auto)]
+
+pub mod error;
+pub mod laws;
+mod members;
+mod numbers;
+mod parsed;
+mod parts;
+pub mod report;

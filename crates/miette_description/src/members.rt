@@ -1,0 +1,64 @@
+//! The members of a description, by their types.
+
+ghost use Rattle.std.specs.Prelude.{◌≡◌, ◌≤◌, ℕ, Option, Some, None, option_map};
+ghost use Rattle.std.specs.Option.{option_copied};
+ghost use Rattle.serde_json.specs.Find.{as_bool, as_str};
+ghost use Rattle.miette_description.specs.Seen.{seen};
+ghost use Rattle.miette_description.specs.Members.{given, at_key, typed, whole, lines_of};
+
+use crate::parsed::{member_at, text_in, truth_in, whole_in};
+use json::Value;
+
+/// A text that may be absent; `None` where it is no text.
+pub(crate) fn text_at<'a>(value: &Value<'a>, key: &str) -> Option<Option<&'a str>>
+    ensures { option_map option_copied result ≡ typed as_str (at_key key.now (seen value.now)) }
+{
+    match member_at(value, key) {
+        None => Some(None),
+        Some(found) => match text_in(found) {
+            Some(text) => Some(Some(text)),
+            None => None,
+        },
+    }
+}
+
+/// A text that has to be there.
+pub(crate) fn needed_text_at<'a>(value: &Value<'a>, key: &str) -> Option<&'a str>
+    ensures { option_copied result ≡ given (at_key key.now (seen value.now)) as_str }
+{
+    text_in(member_at(value, key)?)
+}
+
+/// A number that has to be there.
+pub(crate) fn whole_at(value: &Value<'_>, key: &str) -> Option<u64>
+    ensures { result ≡ given (at_key key.now (seen value.now)) whole }
+{
+    whole_in(member_at(value, key)?)
+}
+
+/// A truth value that may be absent.
+pub(crate) fn truth_at(value: &Value<'_>, key: &str) -> Option<Option<bool>>
+    ensures { result ≡ typed as_bool (at_key key.now (seen value.now)) }
+{
+    match member_at(value, key) {
+        None => Some(None),
+        Some(found) => match truth_in(found) {
+            Some(b) => Some(Some(b)),
+            None => None,
+        },
+    }
+}
+
+/// A number of context lines that may be absent; `None` where it is no number from 1.
+pub(crate) fn lines_at(value: &Value<'_>, key: &str) -> Option<Option<u64>>
+    ensures read { result ≡ typed lines_of (at_key key.now (seen value.now)) }
+    ensures positive { (n : ℕ) → result ≡ Some (Some n) → 1 ≤ n }
+{
+    match member_at(value, key) {
+        None => Some(None),
+        Some(found) => match whole_in(found) {
+            None | Some(0) => None,
+            Some(lines) => Some(Some(lines)),
+        },
+    }
+}

@@ -1,0 +1,56 @@
+//! What stands in a parsed text, as in the JSON value that it is.
+
+ghost use Rattle.std.specs.Prelude.{◌≡◌, option_map};
+ghost use Rattle.std.specs.Option.{option_copied};
+ghost use Rattle.serde_json.specs.Find.{as_bool, as_str, as_array, get};
+ghost use Rattle.miette_description.specs.Members.{at_key, whole};
+ghost use Rattle.miette_description.specs.Seen.{seen, items_seen};
+
+use crate::numbers::natural;
+use json::Value;
+
+/// What stands at a key, null too.
+fn found_at<'v, 'a>(value: &'v Value<'a>, key: &str) -> Option<&'v Value<'a>>
+    ensures { option_map (λ v. seen v.now) result ≡ get key.now (seen value.now) }
+{
+    value.get(key)
+}
+
+/// What stands at a key; null is as absent.
+pub(crate) fn member_at<'v, 'a>(value: &'v Value<'a>, key: &str) -> Option<&'v Value<'a>>
+    ensures { option_map (λ v. seen v.now) result ≡ at_key key.now (seen value.now) }
+{
+    let found = found_at(value, key)?;
+    if found.is_null() { None } else { Some(found) }
+}
+
+/// The text that it is.
+pub(crate) fn text_in<'a>(value: &Value<'a>) -> Option<&'a str>
+    ensures { option_copied result ≡ as_str (seen value.now) }
+{
+    value.as_str()
+}
+
+/// The truth value that it is.
+pub(crate) fn truth_in(value: &Value<'_>) -> Option<bool>
+    ensures { result ≡ as_bool (seen value.now) }
+{
+    value.as_bool()
+}
+
+/// The number that it is.
+pub(crate) fn whole_in(value: &Value<'_>) -> Option<u64>
+    ensures { result ≡ whole (seen value.now) }
+{
+    natural(value.as_number()?)
+}
+
+/// The list that it is.
+pub(crate) fn list_in<'v, 'a>(value: &'v Value<'a>) -> Option<&'v [Value<'a>]>
+    ensures { option_map (λ list. items_seen list.now) result ≡ as_array (seen value.now) }
+{
+    match value {
+        Value::Array(list) => Some(list.as_slice()),
+        _ => None,
+    }
+}

@@ -1,0 +1,218 @@
+//! The parts of a report, from the members of its description.
+
+ghost use Rattle.std.specs.Prelude.{◌≡◌, Option, Some, None, IfOk, option_map, map, string_bytes};
+ghost use Rattle.std.specs.Option.{option_copied};
+ghost use Rattle.serde_json.specs.Find.{as_str};
+ghost use Rattle.miette_description.specs.Seen.{seen, items_seen};
+ghost use Rattle.miette_protocol.specs.Diagnostic.{meaning_of};
+ghost use Rattle.miette_tree.specs.Owned.{owned_source};
+ghost use Rattle.miette_description.specs.Members.{given, at_key, typed, all_of, list_of, severity_of, label_of, source_of, meaning_in};
+
+use crate::error::BuildError;
+use crate::members::{lines_at, needed_text_at, text_at, truth_at, whole_at};
+use crate::parsed::{list_in, member_at, text_in};
+use json::Value;
+use miette_protocol::diagnostic::MietteDiagnostic;
+use miette_protocol::protocol::{LabeledSpan, Severity};
+use miette_tree::report::OwnedSource;
+use std::alloc::{AllocError, Global};
+
+fn copied(alloc: Global, text: Option<&str>) -> Result<Option<String>, AllocError>
+    ensures { IfOk result (λ o. option_map string_bytes o ≡ option_copied text.entry) }
+{
+    match text {
+        Some(text) => Ok(Some(String::from_str(alloc, text)?)),
+        None => Ok(None),
+    }
+}
+
+fn label_from(alloc: Global, value: &Value<'_>) -> Result<LabeledSpan, BuildError>
+    ensures ok { IfOk result (λ l. label_of (seen value.now) ≡ Some l) }
+    ensures description { (result ≡ Err BuildError.Description) → label_of (seen value.now) ≡ None }
+{
+    let Some(offset) = whole_at(value, "offset") else {
+        return Err(BuildError::Description);
+    };
+    let Some(length) = whole_at(value, "length") else {
+        return Err(BuildError::Description);
+    };
+    let Some(text) = text_at(value, "label") else {
+        return Err(BuildError::Description);
+    };
+    let Some(primary) = truth_at(value, "primary") else {
+        return Err(BuildError::Description);
+    };
+    let Some(lines) = lines_at(value, "context") else {
+        return Err(BuildError::Description);
+    };
+    let text = copied(alloc, text)?;
+    let span = (offset as usize, length as usize);
+    let label = if primary.unwrap_or(false) {
+        LabeledSpan::new_primary_with_span(text, span)
+    } else {
+        LabeledSpan::new_with_span(text, span)
+    };
+    match lines {
+        Some(lines) => Ok(label.with_context_lines(lines as usize)),
+        None => Ok(label),
+    }
+}
+
+fn labels_from(alloc: Global, list: &[Value<'_>]) -> Result<Vec<LabeledSpan>, BuildError>
+    ensures ok { IfOk result (λ v. all_of label_of (items_seen list.now) ≡ Some v.items) }
+    ensures description { (result ≡ Err BuildError.Description) → all_of label_of (items_seen list.now) ≡ None }
+{
+    let mut labels = Vec::new(alloc);
+    for value in list {
+        let label = label_from(alloc, value)?;
+        if labels.push(label).is_err() {
+            return Err(BuildError::Memory);
+        }
+    }
+    Ok(labels)
+}
+
+fn labels_at(
+    alloc: Global,
+    value: &Value<'_>,
+    key: &str,
+) -> Result<Option<Vec<LabeledSpan>>, BuildError>
+    ensures ok { IfOk result (λ o. typed (list_of label_of) (at_key key.now (seen value.now)) ≡ Some (option_map (λ v. v.items) o)) }
+    ensures description { (result ≡ Err BuildError.Description) → typed (list_of label_of) (at_key key.now (seen value.now)) ≡ None }
+{
+    let Some(found) = member_at(value, key) else {
+        return Ok(None);
+    };
+    let Some(list) = list_in(found) else {
+        return Err(BuildError::Description);
+    };
+    Ok(Some(labels_from(alloc, list)?))
+}
+
+fn texts_from(alloc: Global, list: &[Value<'_>]) -> Result<Vec<String>, BuildError>
+    ensures ok { IfOk result (λ v. all_of as_str (items_seen list.now) ≡ Some (map string_bytes v.items)) }
+    ensures description { (result ≡ Err BuildError.Description) → all_of as_str (items_seen list.now) ≡ None }
+{
+    let mut texts = Vec::new(alloc);
+    for value in list {
+        let Some(text) = text_in(value) else {
+            return Err(BuildError::Description);
+        };
+        let copy = String::from_str(alloc, text)?;
+        if texts.push(copy).is_err() {
+            return Err(BuildError::Memory);
+        }
+    }
+    Ok(texts)
+}
+
+pub(crate) fn texts_at(
+    alloc: Global,
+    value: &Value<'_>,
+    key: &str,
+) -> Result<Option<Vec<String>>, BuildError>
+    ensures ok { IfOk result (λ o. typed (list_of as_str) (at_key key.now (seen value.now)) ≡ Some (option_map (λ v. map string_bytes v.items) o)) }
+    ensures description { (result ≡ Err BuildError.Description) → typed (list_of as_str) (at_key key.now (seen value.now)) ≡ None }
+{
+    let Some(found) = member_at(value, key) else {
+        return Ok(None);
+    };
+    let Some(list) = list_in(found) else {
+        return Err(BuildError::Description);
+    };
+    Ok(Some(texts_from(alloc, list)?))
+}
+
+fn severity_named(value: &Value<'_>) -> Option<Severity>
+    ensures { result ≡ severity_of (seen value.now) }
+{
+    let text = text_in(value)?;
+    if text == "advice" {
+        Some(Severity::Advice)
+    } else if text == "warning" {
+        Some(Severity::Warning)
+    } else if text == "error" {
+        Some(Severity::Error)
+    } else {
+        None
+    }
+}
+
+fn severity_at(value: &Value<'_>, key: &str) -> Option<Option<Severity>>
+    ensures { result ≡ typed severity_of (at_key key.now (seen value.now)) }
+{
+    match member_at(value, key) {
+        None => Some(None),
+        Some(found) => match severity_named(found) {
+            Some(severity) => Some(Some(severity)),
+            None => None,
+        },
+    }
+}
+
+fn source_from(alloc: Global, value: &Value<'_>) -> Result<OwnedSource, BuildError>
+    ensures ok { IfOk result (λ s. source_of (seen value.now) ≡ Some (owned_source s)) }
+    ensures description { (result ≡ Err BuildError.Description) → source_of (seen value.now) ≡ None }
+{
+    let Some(text) = needed_text_at(value, "text") else {
+        return Err(BuildError::Description);
+    };
+    let Some(name) = text_at(value, "name") else {
+        return Err(BuildError::Description);
+    };
+    let Some(language) = text_at(value, "language") else {
+        return Err(BuildError::Description);
+    };
+    let bytes = Vec::from_slice(alloc, text.as_bytes())?;
+    match name {
+        Some(name) => Ok(OwnedSource::named(alloc, name, language, bytes)?),
+        None => Ok(OwnedSource::new(alloc, bytes)?),
+    }
+}
+
+pub(crate) fn source_at(
+    alloc: Global,
+    value: &Value<'_>,
+    key: &str,
+) -> Result<Option<OwnedSource>, BuildError>
+    ensures ok { IfOk result (λ o. typed source_of (at_key key.now (seen value.now)) ≡ Some (option_map owned_source o)) }
+    ensures description { (result ≡ Err BuildError.Description) → typed source_of (at_key key.now (seen value.now)) ≡ None }
+{
+    let Some(found) = member_at(value, key) else {
+        return Ok(None);
+    };
+    Ok(Some(source_from(alloc, found)?))
+}
+
+pub(crate) fn diagnostic_from(
+    alloc: Global,
+    value: &Value<'_>,
+) -> Result<MietteDiagnostic, BuildError>
+    ensures ok { IfOk result (λ d. meaning_in (seen value.now) ≡ Some (meaning_of d)) }
+    ensures description { (result ≡ Err BuildError.Description) → meaning_in (seen value.now) ≡ None }
+{
+    let Some(message) = needed_text_at(value, "message") else {
+        return Err(BuildError::Description);
+    };
+    let Some(code) = text_at(value, "code") else {
+        return Err(BuildError::Description);
+    };
+    let Some(severity) = severity_at(value, "severity") else {
+        return Err(BuildError::Description);
+    };
+    let Some(help) = text_at(value, "help") else {
+        return Err(BuildError::Description);
+    };
+    let Some(url) = text_at(value, "url") else {
+        return Err(BuildError::Description);
+    };
+    let labels = labels_at(alloc, value, "labels")?;
+    Ok(MietteDiagnostic {
+        message: String::from_str(alloc, message)?,
+        code: copied(alloc, code)?,
+        severity,
+        help: copied(alloc, help)?,
+        url: copied(alloc, url)?,
+        labels,
+    })
+}

@@ -1,0 +1,284 @@
+//! The report that a description asks for.
+
+ghost use Rattle.std.specs.Prelude.{◌≡◌, List, [], Option, Some, None, IfOk, OnOk, IfSome, IsSome, IsUtf8, false, option_and_then, option_map, unwrap_or, map, string_bytes};
+ghost use Rattle.json.specs.Value.{value_view};
+ghost use Rattle.serde_json.specs.Read.{read, of_json};
+ghost use Rattle.serde_json.specs.Written.{has_float};
+ghost use Rattle.miette_description.specs.Seen.{seen, items_seen};
+ghost use Rattle.miette_tree.specs.Tree.{tree, head, source_of, cause_of, related_of, texts, no_trees, trees, with_source, with_cause, with_related};
+ghost use Rattle.miette_tree.specs.Report.{tree_of};
+ghost use Rattle.miette_json.specs.Reads.{AlwaysReads};
+ghost use Rattle.miette_description.specs.Members.{given, typed, at_key, all_of};
+ghost use Rattle.miette_protocol.specs.Diagnostic.{meaning_of};
+ghost use Rattle.miette_tree.specs.Owned.{owned_source};
+ghost use Rattle.miette_description.specs.Description.{one_cause, wrapped_in, assembled, report_in, reports_in, described, tree_for};
+ghost use Rattle.miette_description.specs.Built.{maybe_sourced, maybe_related};
+
+use crate::error::BuildError;
+use crate::numbers::{is_whole, value_has_float};
+use crate::parsed::{list_in, member_at};
+use crate::parts::{diagnostic_from, source_at, texts_at};
+use json::{Error, Reader, Scratch, Value};
+use miette_protocol::diagnostic::MietteDiagnostic;
+use miette_protocol::protocol::Diagnostic;
+use miette_protocol::source::SourceCode;
+use miette_tree::report::{OwnedSource, Report};
+use std::alloc::Global;
+
+// How deep a text may nest.
+const DEPTH: usize = 127;
+
+/// The parsed text, at most 127 deep.
+fn value_of<'a>(
+    alloc: Global,
+    text: &'a str,
+    scratch: &'a mut Scratch,
+) -> Result<Value<'a>, BuildError>
+    ensures ok { IfOk result (λ v. read text.now ≡ of_json (value_view v)) }
+    ensures description { (result ≡ Err BuildError.Description) → read text.now ≡ None }
+{
+    let mut reader = Reader::new(text, scratch)?;
+    match Value::read(alloc, &mut reader, DEPTH) {
+        Ok(value) => match reader.next() {
+            None => Ok(value),
+            Some(_) => Err(BuildError::Description),
+        },
+        Err(Error::Invalid) => Err(BuildError::Description),
+        Err(Error::OutOfMemory | Error::TooLong | Error::DuplicateKey) => Err(BuildError::Memory),
+    }
+}
+
+/// Whether the JSON value of a text has a number that is neither a `u64` nor an `i64`.
+fn text_has_float(alloc: Global, text: &str) -> Result<bool, BuildError>
+    ensures ok { IfOk result (λ b. IfSome (read text.now) (λ d. b ≡ has_float d)) }
+    ensures some { OnOk result (IsSome (read text.now)) }
+    ensures description { (result ≡ Err BuildError.Description) → read text.now ≡ None }
+{
+    match serde_json::Value::from_str(alloc, text) {
+        Ok(value) => Ok(value_has_float(&value)),
+        Err(e) => {
+            if e.is_memory() {
+                Err(BuildError::Memory)
+            } else {
+                Err(BuildError::Description)
+            }
+        }
+    }
+}
+
+/// Refuses a text whose value has a number that is neither a `u64` nor an `i64`, and one with a number that is too large for
+/// any. Where each number is a `u64` the parsed text shows it. Otherwise the whole value is made: in the parsed text there may
+/// be numbers that a later value of their key hides.
+fn refuse_float(alloc: Global, text: &str, value: &Value<'_>) -> Result<(), BuildError>
+    requires { read text.now ≡ of_json (value_view value.now) }
+    ensures ok { OnOk result ((read text.now ≡ Some (seen value.now)) × (has_float (seen value.now) ≡ false)) }
+    ensures description { (result ≡ Err BuildError.Description) → option_and_then described (read text.now) ≡ None }
+{
+    if is_whole(value) {
+        return Ok(());
+    }
+    if text_has_float(alloc, text)? {
+        return Err(BuildError::Description);
+    }
+    Ok(())
+}
+
+/// The report that a text describes, for boxes of any kind. Its sources always read.
+///
+/// # Errors
+/// `Description` where the bytes are no text in UTF-8 or describe no report, and `Memory` where none is found.
+pub fn report_of<D: Diagnostic, S: SourceCode>(
+    alloc: Global,
+    bytes: &[u8],
+) -> Result<Report<D, S>, BuildError>
+    ensures ok { IfOk result (λ r. IsUtf8 bytes.now × (tree_for bytes.now ≡ Some (tree_of D.meaning S.source r))) }
+    ensures sources { IfOk result (λ r. AlwaysReads (tree_of D.meaning S.source r)) }
+    ensures description { (result ≡ Err BuildError.Description) → IsUtf8 bytes.now → tree_for bytes.now ≡ None }
+{
+    let Ok(text) = str::from_utf8(bytes) else {
+        return Err(BuildError::Description);
+    };
+    let mut scratch = Scratch::new(alloc);
+    let value = value_of(alloc, text, &mut scratch)?;
+    refuse_float(alloc, text, &value)?;
+    let report = report_from(alloc, &value)?;
+    Ok(report)
+}
+
+/// The report with its cause: one of its own or texts, and not both.
+fn caused<D: Diagnostic, S: SourceCode>(
+    alloc: Global,
+    report: Report<D, S>,
+    one: Option<Report<D, S>>,
+    several: Option<Vec<String>>,
+) -> Result<Report<D, S>, BuildError>
+    requires { cause_of (tree_of D.meaning S.source report) ≡ texts [] }
+    ensures ok { IfOk result (λ r.
+        let value = tree_of D.meaning S.source in
+        option_map (λ c. with_cause c (value report)) (one_cause (option_map value one) (option_map (λ v. map string_bytes v.items) several)) ≡ Some (value r)) }
+    ensures description { (result ≡ Err BuildError.Description) →
+        one_cause (option_map (tree_of D.meaning S.source) one) (option_map (λ v. map string_bytes v.items) several) ≡ None }
+{
+    match one {
+        None => match several {
+            None => Ok(report),
+            Some(list) => Ok(report.with_cause_texts(list)),
+        },
+        Some(cause) => match several {
+            Some(_) => Err(BuildError::Description),
+            None => match report.with_diagnostic_cause(alloc, cause) {
+                Ok(made) => Ok(made),
+                Err(_) => Err(BuildError::Memory),
+            },
+        },
+    }
+}
+
+/// The report with each text put in front, in order.
+fn wrapped<D: Diagnostic, S: SourceCode>(
+    alloc: Global,
+    report: Report<D, S>,
+    contexts: Option<Vec<String>>,
+) -> Result<Report<D, S>, BuildError>
+    ensures ok { IfOk result (λ r.
+        let value = tree_of D.meaning S.source in
+        value r ≡ wrapped_in (unwrap_or (option_map (λ v. map string_bytes v.items) contexts) []) (value report)) }
+    ensures memory { (result ≡ Err BuildError.Description) → ⊥ }
+{
+    let Some(contexts) = contexts else {
+        return Ok(report);
+    };
+    let mut report = report;
+    for context in contexts {
+        match report.wrap_err(alloc, context.as_str()) {
+            Ok(made) => report = made,
+            Err(_) => return Err(BuildError::Memory),
+        }
+    }
+    Ok(report)
+}
+
+/// The report with its source, where there is one.
+fn sourced<D: Diagnostic, S: SourceCode>(
+    report: Report<D, S>,
+    source: Option<OwnedSource>,
+) -> Report<D, S>
+    ensures { tree_of D.meaning S.source result
+        ≡ maybe_sourced (option_map owned_source source) (tree_of D.meaning S.source report) }
+{
+    match source {
+        Some(source) => report.with_owned_source(source),
+        None => report,
+    }
+}
+
+/// The report with its related reports, where there are any.
+fn related<D: Diagnostic, S: SourceCode>(
+    report: Report<D, S>,
+    list: Option<Vec<Report<D, S>>>,
+) -> Report<D, S>
+    ensures { tree_of D.meaning S.source result
+        ≡ maybe_related (option_map (λ v. trees (map (tree_of D.meaning S.source) v.items)) list) (tree_of D.meaning S.source report) }
+{
+    match list {
+        Some(list) => report.with_related(list),
+        None => report,
+    }
+}
+
+/// The report of all parts.
+fn assembled<D: Diagnostic, S: SourceCode>(
+    alloc: Global,
+    diagnostic: MietteDiagnostic,
+    source: Option<OwnedSource>,
+    one: Option<Report<D, S>>,
+    several: Option<Vec<String>>,
+    list: Option<Vec<Report<D, S>>>,
+    contexts: Option<Vec<String>>,
+) -> Result<Report<D, S>, BuildError>
+    ensures ok { IfOk result (λ r.
+        assembled (meaning_of diagnostic) (option_map owned_source source) (option_map (tree_of D.meaning S.source) one)
+        (option_map (λ v. map string_bytes v.items) several) (option_map (λ v. trees (map (tree_of D.meaning S.source) v.items)) list)
+        (option_map (λ v. map string_bytes v.items) contexts) ≡ Some (tree_of D.meaning S.source r)) }
+    ensures description { (result ≡ Err BuildError.Description) →
+        assembled (meaning_of diagnostic) (option_map owned_source source) (option_map (tree_of D.meaning S.source) one)
+        (option_map (λ v. map string_bytes v.items) several) (option_map (λ v. trees (map (tree_of D.meaning S.source) v.items)) list)
+        (option_map (λ v. map string_bytes v.items) contexts) ≡ None }
+{
+    let report = sourced(Report::built(diagnostic), source);
+    let report = caused(alloc, report, one, several)?;
+    wrapped(alloc, related(report, list), contexts)
+}
+
+/// The report of a description.
+#[cycle(description)]
+fn report_from<D: Diagnostic, S: SourceCode>(
+    alloc: Global,
+    value: &Value<'_>,
+) -> Result<Report<D, S>, BuildError>
+    ensures ok { IfOk result (λ r. report_in (seen value.now) ≡ Some (tree_of D.meaning S.source r)) }
+    ensures description { (result ≡ Err BuildError.Description) → report_in (seen value.now) ≡ None }
+{
+    let diagnostic = diagnostic_from(alloc, value)?;
+    let source = source_at(alloc, value, "source")?;
+    let one = cause_at(alloc, value, "cause")?;
+    let several = texts_at(alloc, value, "causes")?;
+    let list = related_at(alloc, value, "related")?;
+    let contexts = texts_at(alloc, value, "contexts")?;
+    assembled(alloc, diagnostic, source, one, several, list, contexts)
+}
+
+/// The cause that is a description, where one stands at the key.
+#[cycle(description)]
+fn cause_at<D: Diagnostic, S: SourceCode>(
+    alloc: Global,
+    value: &Value<'_>,
+    key: &str,
+) -> Result<Option<Report<D, S>>, BuildError>
+    ensures ok { IfOk result (λ o.
+        typed report_in (at_key key.now (seen value.now)) ≡ Some (option_map (tree_of D.meaning S.source) o)) }
+    ensures description { (result ≡ Err BuildError.Description) → typed report_in (at_key key.now (seen value.now)) ≡ None }
+{
+    let Some(found) = member_at(value, key) else {
+        return Ok(None);
+    };
+    Ok(Some(report_from(alloc, found)?))
+}
+
+/// The list of descriptions at the key, where there is one.
+#[cycle(description)]
+fn related_at<D: Diagnostic, S: SourceCode>(
+    alloc: Global,
+    value: &Value<'_>,
+    key: &str,
+) -> Result<Option<Vec<Report<D, S>>>, BuildError>
+    ensures ok { IfOk result (λ o.
+        typed reports_in (at_key key.now (seen value.now)) ≡ Some (option_map (λ v. trees (map (tree_of D.meaning S.source) v.items)) o)) }
+    ensures description { (result ≡ Err BuildError.Description) → typed reports_in (at_key key.now (seen value.now)) ≡ None }
+{
+    let Some(found) = member_at(value, key) else {
+        return Ok(None);
+    };
+    let Some(list) = list_in(found) else {
+        return Err(BuildError::Description);
+    };
+    Ok(Some(reports_from(alloc, list)?))
+}
+
+#[cycle(description)]
+fn reports_from<D: Diagnostic, S: SourceCode>(
+    alloc: Global,
+    list: &[Value<'_>],
+) -> Result<Vec<Report<D, S>>, BuildError>
+    ensures ok { IfOk result (λ v. all_of report_in (items_seen list.now) ≡ Some (map (tree_of D.meaning S.source) v.items)) }
+    ensures description { (result ≡ Err BuildError.Description) → all_of report_in (items_seen list.now) ≡ None }
+{
+    let mut reports = Vec::new(alloc);
+    for value in list {
+        let report = report_from(alloc, value)?;
+        if reports.push(report).is_err() {
+            return Err(BuildError::Memory);
+        }
+    }
+    Ok(reports)
+}
