@@ -1,36 +1,17 @@
-//! The graphical handler: the picture of a report.
+//! The graphical handler and its settings.
 
-ghost use Rattle.std.specs.Prelude.{◌≡◌, ◌≤◌, ◌++◌, Some, IfOk, OnErr, OnOk, false, true, chars, string_bytes, encode_utf8_all, option_map};
-ghost use Rattle.std.specs.List.{AllByRecursion};
-ghost use Rattle.miette_graphical.specs.Answered.{Appends, IsTextOf};
-ghost use Rattle.miette_graphical.specs.Answers.{unlisted};
-ghost use Rattle.miette_graphical.specs.Clean.{AreCleanSettings, IsCleanTree};
-ghost use Rattle.miette_graphical.specs.Colourless.{IsColouredText, colourless};
-ghost use Rattle.miette_tree.specs.Handler.{AppendsOne};
-ghost use Rattle.miette_graphical.specs.Handling.{draws_plain, without_highlighter};
-ghost use Rattle.miette_graphical.specs.Headline.{LinesAreShown, MarksAreApart, TextsHang};
-ghost use Rattle.miette_graphical.specs.Printed.{all_read, printed};
+ghost use Rattle.std.specs.Prelude.{◌≡◌, ◌≤◌, Some, IfOk, false, true, chars, string_bytes};
+ghost use Rattle.miette_graphical.specs.Handling.{without_highlighter};
 ghost use Rattle.miette_graphical.specs.Settings.{default_settings, links_shown, urls_shown};
-ghost use Rattle.miette_graphical.specs.Snippets.{drawn_rows};
-ghost use Rattle.miette_graphical.specs.Text.{report_text};
 ghost use Rattle.miette_graphical.specs.Modes.{splits};
-ghost use Rattle.miette_graphical.specs.Views.{settings_of};
-ghost use Rattle.miette_text.specs.Filling.{AppendsErasing};
 ghost use Rattle.miette_style.specs.Themes.{characters_of, styles_of, terminal_theme};
-ghost use Rattle.miette_tree.specs.Report.{tree_of};
 
-use crate::laws::snippets_law;
-use crate::pen::Pen;
-use crate::report;
-use crate::settings::{Layout, UrlMode};
-use miette_protocol::error::RenderError;
-use miette_protocol::protocol::Diagnostic;
-use miette_protocol::source::SourceCode;
+mod rendering;
+
+use crate::settings::UrlMode;
 use miette_style::highlight::Highlighter;
 use miette_style::theme::{GraphicalTheme, Terminal};
 use miette_text::wrap::{WordSeparator, WordSplitter};
-use miette_tree::report::Report;
-use miette_tree::report_handler::ReportHandler;
 use std::alloc::{AllocError, Global};
 use std::marker::Model;
 
@@ -320,127 +301,5 @@ impl<H: Highlighter> GraphicalReportHandler<H> {
             highlighter,
             ..self
         }
-    }
-
-    fn link_text(&self) -> &str
-        ensures { chars result.now ≡ self.now.settings.link_text }
-    {
-        match &self.link_display_text {
-            Some(text) => text.as_str(),
-            None => "(link)",
-        }
-    }
-
-    fn footer(&self) -> Option<&str>
-        ensures { option_map (λ t. chars t.now) result ≡ self.now.settings.footer }
-    {
-        match &self.footer {
-            Some(text) => Some(text.as_str()),
-            None => None,
-        }
-    }
-
-    fn layout(&self) -> Layout<'_>
-        ensures { settings_of result ≡ self.now.settings }
-    {
-        Layout {
-            theme: &self.theme,
-            width: self.width,
-            tab: self.tab_width,
-            context: self.context_lines,
-            primary_start: self.primary_span_start,
-            urls: self.urls,
-            link_text: self.link_text(),
-            chain: self.cause_chain,
-            nested: self.related_as_nested,
-            wraps: self.wrap_lines,
-            breaks: self.break_words,
-            splitter: self.word_splitter,
-            footer: self.footer(),
-        }
-    }
-
-    // Appends the picture of a report.
-    fn draw<D: Diagnostic, S: SourceCode>(
-        &mut self,
-        report: &Report<D, S>,
-        out: &mut String,
-    ) -> Result<(), RenderError>
-        ensures settings { self.new.settings ≡ self.old.settings }
-        ensures blank { draws_plain H.is_blank self.new ≡ draws_plain H.is_blank self.old }
-        ensures ok { OnOk result (Appends drawn_rows self.old.settings (draws_plain H.is_blank self.old) (tree_of D.meaning S.source report.now) (string_bytes out.old) (string_bytes out.new)) }
-        ensures only { OnOk result (draws_plain H.is_blank self.old ≡ true → all_read (printed self.old.settings (tree_of D.meaning S.source report.now)) ≡ true →
-            string_bytes out.new ≡ string_bytes out.old ++ encode_utf8_all (report_text drawn_rows self.old.settings (tree_of D.meaning S.source report.now) unlisted)) }
-        ensures colours { OnOk result (AreCleanSettings self.old.settings → IsCleanTree (tree_of D.meaning S.source report.now) →
-            AppendsOne (IsColouredText drawn_rows self.old.settings (draws_plain H.is_blank self.old) (tree_of D.meaning S.source report.now)) (string_bytes out.old) (string_bytes out.new)) }
-        ensures colourless { OnOk result (all_read (printed self.old.settings (tree_of D.meaning S.source report.now)) ≡ true →
-            AreCleanSettings self.old.settings → IsCleanTree (tree_of D.meaning S.source report.now) →
-            AppendsErasing (string_bytes out.old) (string_bytes out.new) (encode_utf8_all (report_text drawn_rows (colourless self.old.settings) (tree_of D.meaning S.source report.now) unlisted))) }
-        ensures refused { (result ≡ Err RenderError.Refused) → all_read (printed self.old.settings (tree_of D.meaning S.source report.now)) ≡ false }
-        ensures err { OnErr result (string_bytes out.new ≡ string_bytes out.old) }
-    {
-        let mut pen = Pen {
-            alloc: *out.allocator(),
-            highlighter: self.highlighter.take(),
-        };
-        let done = report::render(&mut pen, self.layout(), report, out);
-        self.highlighter = pen.highlighter;
-        done
-    }
-
-    /// Appends the picture of a report. The highlighter is restarted before each snippet with the contents of the snippet's read, and is
-    /// then given the text of each line in order. After an error `out` is as before: `Memory` where memory was refused, to the highlighter
-    /// too; `Refused` where a printed diagnostic has labels over a source that doesn't always read, and that source refused the place of a
-    /// snippet, or a group of labels of which one has its own number of context lines, which is read again.
-    pub fn render_report(&mut self, report: &Report, out: &mut String) -> Result<(), RenderError>
-        ensures settings { self.new.settings ≡ self.old.settings }
-        // a blank highlighter stays blank, and one that isn't blank doesn't become so
-        ensures blank { draws_plain H.is_blank self.new ≡ draws_plain H.is_blank self.old }
-        ensures ok { let tree = tree_of ⟦<Box<dyn Diagnostic> as Diagnostic>⟧.meaning ⟦<Box<dyn SourceCode> as SourceCode>⟧.source report.now in
-            OnOk result (Appends drawn_rows self.old.settings (draws_plain H.is_blank self.old) tree (string_bytes out.old) (string_bytes out.new)) }
-        // where every source always reads, and no highlighter or a blank one is set, there is one such text
-        ensures only { let tree = tree_of ⟦<Box<dyn Diagnostic> as Diagnostic>⟧.meaning ⟦<Box<dyn SourceCode> as SourceCode>⟧.source report.now in
-            OnOk result (draws_plain H.is_blank self.old ≡ true → all_read (printed self.old.settings tree) ≡ true →
-            string_bytes out.new ≡ string_bytes out.old ++ encode_utf8_all (report_text drawn_rows self.old.settings tree unlisted)) }
-        // where the texts, the sources with their names, the settings and the theme's characters hold no escape: without its colours,
-        // what was appended is the text in plain styles and without a highlighter under the same reads,
-        ensures colours { let tree = tree_of ⟦<Box<dyn Diagnostic> as Diagnostic>⟧.meaning ⟦<Box<dyn SourceCode> as SourceCode>⟧.source report.now in
-            OnOk result (AreCleanSettings self.old.settings → IsCleanTree tree →
-            AppendsOne (IsColouredText drawn_rows self.old.settings (draws_plain H.is_blank self.old) tree) (string_bytes out.old) (string_bytes out.new)) }
-        // which is one text where every source always reads, whatever a highlighter says
-        ensures colourless { let tree = tree_of ⟦<Box<dyn Diagnostic> as Diagnostic>⟧.meaning ⟦<Box<dyn SourceCode> as SourceCode>⟧.source report.now in
-            OnOk result (all_read (printed self.old.settings tree) ≡ true → AreCleanSettings self.old.settings → IsCleanTree tree →
-            AppendsErasing (string_bytes out.old) (string_bytes out.new) (encode_utf8_all (report_text drawn_rows (colourless self.old.settings) tree unlisted))) }
-        // of each printed diagnostic: its snippets show the lines in the context of its labels, once and in order,
-        ensures lines { let tree = tree_of ⟦<Box<dyn Diagnostic> as Diagnostic>⟧.meaning ⟦<Box<dyn SourceCode> as SourceCode>⟧.source report.now in
-            OnOk result (AllByRecursion (LinesAreShown self.old.settings) (printed self.old.settings tree)) }
-        // its marks have columns of their own,
-        ensures marks { let tree = tree_of ⟦<Box<dyn Diagnostic> as Diagnostic>⟧.meaning ⟦<Box<dyn SourceCode> as SourceCode>⟧.source report.now in
-            OnOk result (AllByRecursion (MarksAreApart self.old.settings) (printed self.old.settings tree)) }
-        // and each text of a label on one line hangs from its own mark
-        ensures texts { let tree = tree_of ⟦<Box<dyn Diagnostic> as Diagnostic>⟧.meaning ⟦<Box<dyn SourceCode> as SourceCode>⟧.source report.now in
-            OnOk result (AllByRecursion (TextsHang self.old.settings) (printed self.old.settings tree)) }
-        ensures refused { let tree = tree_of ⟦<Box<dyn Diagnostic> as Diagnostic>⟧.meaning ⟦<Box<dyn SourceCode> as SourceCode>⟧.source report.now in
-            (result ≡ Err RenderError.Refused) → all_read (printed self.old.settings tree) ≡ false }
-        ensures err { OnErr result (string_bytes out.new ≡ string_bytes out.old) }
-    {
-        snippets_law();
-        self.draw(report, out)
-    }
-}
-
-impl<H: Highlighter> ReportHandler for GraphicalReportHandler<H> {
-    ghost gives = { λ it t. IsTextOf drawn_rows it.settings (draws_plain H.is_blank it) t };
-
-    ghost refuses = { λ it t. all_read (printed it.settings t) ≡ false };
-
-    ghost keeps = { λ old new. (new.settings ≡ old.settings) × (draws_plain H.is_blank new ≡ draws_plain H.is_blank old) };
-
-    fn debug<D: Diagnostic, S: SourceCode>(
-        &mut self,
-        report: &Report<D, S>,
-        out: &mut String,
-    ) -> Result<(), RenderError> {
-        self.draw::<D, S>(report, out)
     }
 }

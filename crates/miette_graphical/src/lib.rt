@@ -1,6 +1,7 @@
 //! The graphical report: from a tree to its picture.
 #![tactic(auto)]
 
+mod diagnostic;
 pub mod handler;
 mod header;
 mod indents;
@@ -9,3 +10,4 @@ mod pen;
 mod printing;
 mod report;
 mod settings;
+mod whole;

@@ -1,32 +1,24 @@
-//! The text of a whole report.
+//! The causes of a report, what stands below them, and its related reports.
 
-ghost use Rattle.std.specs.Prelude.{◌≡◌, ◌++◌, IfOk, OnOk, OnErr, option_map, map, not, string_bytes, encode_utf8_all};
-ghost use Rattle.std.specs.Prelude.{false, true};
-ghost use Rattle.miette_graphical.specs.Answers.{unlisted};
-ghost use Rattle.miette_graphical.specs.Answered.{Appends, AreCauses, AreDrawn, AreRelated, AreRootCauses, IsBelow, IsDrawn, IsInner, IsNested, IsOneCause, IsOneRelated, IsReport, IsSibling};
-ghost use Rattle.miette_graphical.specs.Clean.{AreCleanSettings, IsCleanTree};
-ghost use Rattle.miette_graphical.specs.Colourless.{IsColouredText, colourless};
+ghost use Rattle.std.specs.Prelude.{◌≡◌, IfOk, OnOk, option_map, map};
+ghost use Rattle.std.specs.Prelude.{false};
+ghost use Rattle.miette_graphical.specs.Answered.{AreCauses, AreDrawn, AreRelated, IsBelow, IsDrawn, IsInner, IsNested, IsOneCause, IsOneRelated, IsSibling};
 ghost use Rattle.miette_tree.specs.Handler.{AppendsOne};
-ghost use Rattle.miette_graphical.specs.Printed.{all_read, always_reads, printed, printed_causes, printed_inner, printed_one, printed_related, printed_root_causes, printed_sibling};
+ghost use Rattle.miette_graphical.specs.Printed.{all_read, always_reads, printed_causes, printed_inner, printed_one, printed_related, printed_sibling};
 ghost use Rattle.miette_layout.specs.Highlighted.{leaves_plain};
 ghost use Rattle.miette_tree.specs.Owned.{shown_source};
-ghost use Rattle.miette_graphical.specs.Parts as parts;
 ghost use Rattle.miette_graphical.specs.Snippets.{drawn_rows};
 ghost use Rattle.miette_graphical.specs.Text as texts;
 ghost use Rattle.miette_graphical.specs.Views.{settings_of};
 ghost use Rattle.miette_tree.specs.Report.{tree_of};
 ghost use Rattle.miette_tree.specs.Tree.{cause_of, effective, head, source_of, trees};
-ghost use Rattle.miette_text.specs.Runs as runs;
 ghost use Rattle.miette_text.specs.Sequences.{spell};
-ghost use Rattle.miette_text.specs.Filling.{AppendsErasing};
-ghost use Rattle.miette_text.specs.Tame.{is_nil};
 
-use crate::header::{push_header, severity_title};
-use crate::indents::{Branch, narrowed, push_footer, push_help, push_message, push_under_arrow};
-use crate::laws::erasing_law;
+use crate::diagnostic::{is_nil, push_cause_texts, push_header_of, push_message_of, push_title};
+use crate::indents::{Branch, narrowed, push_help, push_under_arrow};
 use crate::pen::Pen;
-use crate::printing::{append_printed, push_page};
-use crate::settings::{Layout, severity_style};
+use crate::printing::push_page;
+use crate::settings::Layout;
 use miette_layout::options::LayoutOptions;
 use miette_layout::snippets::snippets;
 use miette_protocol::error::RenderError;
@@ -35,11 +27,9 @@ use miette_protocol::source::SourceCode;
 use miette_style::highlight::Highlighter;
 use miette_text::runs::Runs;
 use miette_text::runs::output::Output;
-use miette_text::runs::reading::read_text;
 use miette_text::wrap::cutting::{without_leading, without_trailing};
 use miette_tree::parts::{cause_texts, labels_of, own_or};
 use miette_tree::report::{Cause, Report, SourceRef};
-use std::alloc::{AllocError, Global};
 
 /// Appends the text of the rows of a diagnostic's snippets, over its effective source.
 fn push_rows<D: Diagnostic, S: SourceCode, H: Highlighter>(
@@ -111,83 +101,6 @@ fn push_drawn<S: SourceCode, H: Highlighter>(
     Ok(())
 }
 
-/// Appends a report's header, and says whether there is one.
-fn push_header_of<D: Diagnostic, S: SourceCode>(
-    layout: Layout<'_>,
-    report: &Report<D, S>,
-    out: &mut Output,
-) -> Result<bool, AllocError>
-    ensures text { OnOk result (out.new ≡ out.old ++ runs.print (parts.header (settings_of layout.entry) (head (tree_of D.meaning S.source report.now)))) }
-    ensures shown { IfOk result (λ shown. shown ≡ not (is_nil (parts.header (settings_of layout.entry) (head (tree_of D.meaning S.source report.now))))) }
-{
-    push_header(
-        layout,
-        severity_style(layout, report.severity()),
-        report.url(),
-        report.code(),
-        out,
-    )
-}
-
-fn push_message_of<D: Diagnostic, S: SourceCode>(
-    alloc: Global,
-    layout: Layout<'_>,
-    report: &Report<D, S>,
-    out: &mut Output,
-) -> Result<(), AllocError>
-    ensures { OnOk result (out.new ≡ out.old ++ parts.message_text (settings_of layout.entry) (head (tree_of D.meaning S.source report.now))) }
-{
-    push_message(alloc, layout, report.severity(), report.message(), out)
-}
-
-/// Appends what a sibling begins with: its severity, and its header or else the end of the row.
-fn push_title<D: Diagnostic, S: SourceCode>(
-    layout: Layout<'_>,
-    report: &Report<D, S>,
-    out: &mut Output,
-) -> Result<(), AllocError>
-    ensures { OnOk result (out.new ≡ out.old ++ parts.title_text (settings_of layout.entry) (head (tree_of D.meaning S.source report.now))) }
-{
-    out.push('\n')?;
-    out.push_str(severity_title(report.severity()))?;
-    if !push_header_of(layout, report, out)? {
-        out.push('\n')?;
-    }
-    Ok(())
-}
-
-fn is_nil(list: &[String]) -> bool
-    ensures { result ≡ is_nil (map string_bytes list.now) }
-{
-    match list {
-        [] => true,
-        [_, ..] => false,
-    }
-}
-
-/// Appends causes that are texts, each under its arrow.
-fn push_cause_texts(
-    alloc: Global,
-    layout: Layout<'_>,
-    outer: Option<Severity>,
-    list: &[String],
-    out: &mut Output,
-) -> Result<(), AllocError>
-    ensures { OnOk result (out.new ≡ out.old ++ texts.cause_texts (settings_of layout.entry) outer (map string_bytes list.now)) }
-{
-    let mut rest = list;
-    while let [text, more @ ..] = rest {
-        let branch = Branch {
-            outer,
-            is_last: is_nil(more),
-        };
-        let cause = read_text(alloc, text.as_str())?;
-        push_under_arrow(alloc, layout, branch, &cause, out)?;
-        rest = more;
-    }
-    Ok(())
-}
-
 fn ends_there<D: Diagnostic, S: SourceCode>(report: &Report<D, S>) -> bool
     ensures { result ≡ texts.ends_there (cause_of (tree_of D.meaning S.source report.now)) }
 {
@@ -209,7 +122,7 @@ fn are_last<D: Diagnostic, S: SourceCode>(reports: &[Report<D, S>]) -> bool
 
 /// Appends the causes of a report, under arrows in the style of the outer severity.
 #[cycle(report)]
-fn push_causes<D: Diagnostic, S: SourceCode, H: Highlighter>(
+pub fn push_causes<D: Diagnostic, S: SourceCode, H: Highlighter>(
     pen: &mut Pen<H>,
     layout: Layout<'_>,
     outer: Option<Severity>,
@@ -277,7 +190,7 @@ fn inner_text<D: Diagnostic, S: SourceCode, H: Highlighter>(
 /// Appends what stands below a report's causes, over its effective source: the rows of its snippets, its help, and its related
 /// reports.
 #[cycle(report)]
-fn push_below<D: Diagnostic, S: SourceCode, H: Highlighter>(
+pub fn push_below<D: Diagnostic, S: SourceCode, H: Highlighter>(
     pen: &mut Pen<H>,
     layout: Layout<'_>,
     source: Option<SourceRef<'_, S>>,
@@ -381,67 +294,5 @@ fn push_related<D: Diagnostic, S: SourceCode, H: Highlighter>(
         push_one_related(pen, layout, branch, source, report, out)?;
         rest = more;
     }
-    Ok(())
-}
-
-/// Appends the causes of the outermost report, where they are shown.
-fn push_root_causes<D: Diagnostic, S: SourceCode, H: Highlighter>(
-    pen: &mut Pen<H>,
-    layout: Layout<'_>,
-    report: &Report<D, S>,
-    out: &mut Output,
-) -> Result<(), RenderError>
-    ensures ok { OnOk result (AppendsOne (AreRootCauses drawn_rows (settings_of layout.entry) (leaves_plain H.is_blank pen.old.highlighter) (tree_of D.meaning S.source report.now)) out.old out.new) }
-    ensures refused { (result ≡ Err RenderError.Refused) → all_read (printed_root_causes layout.entry.chain layout.entry.nested (tree_of D.meaning S.source report.now)) ≡ false }
-    ensures stays { leaves_plain H.is_blank pen.new.highlighter ≡ leaves_plain H.is_blank pen.old.highlighter }
-{
-    if !layout.chain {
-        return Ok(());
-    }
-    let source = report.source_code();
-    push_causes(pen, layout, report.severity(), source, report, out)
-}
-
-/// The outermost report, from its header to its footer.
-fn report_output<D: Diagnostic, S: SourceCode, H: Highlighter>(
-    pen: &mut Pen<H>,
-    layout: Layout<'_>,
-    report: &Report<D, S>,
-) -> Result<Output, RenderError>
-    ensures ok { IfOk result (λ o. IsReport drawn_rows (settings_of layout.entry) (leaves_plain H.is_blank pen.old.highlighter) (tree_of D.meaning S.source report.now) o) }
-    ensures refused { (result ≡ Err RenderError.Refused) → all_read (printed (settings_of layout.entry) (tree_of D.meaning S.source report.now)) ≡ false }
-    ensures stays { leaves_plain H.is_blank pen.new.highlighter ≡ leaves_plain H.is_blank pen.old.highlighter }
-{
-    let mut text = Output::printed(pen.alloc);
-    push_header_of(layout, report, &mut text)?;
-    push_message_of(pen.alloc, layout, report, &mut text)?;
-    push_root_causes(pen, layout, report, &mut text)?;
-    push_below(pen, layout, report.source_code(), report, &mut text)?;
-    push_footer(pen.alloc, layout, &mut text)?;
-    Ok(text)
-}
-
-/// Appends a report's text. An `Err` leaves the text as it was.
-pub fn render<D: Diagnostic, S: SourceCode, H: Highlighter>(
-    pen: &mut Pen<H>,
-    layout: Layout<'_>,
-    report: &Report<D, S>,
-    out: &mut String,
-) -> Result<(), RenderError>
-    ensures ok { OnOk result (Appends drawn_rows (settings_of layout.entry) (leaves_plain H.is_blank pen.old.highlighter) (tree_of D.meaning S.source report.now) (string_bytes out.old) (string_bytes out.new)) }
-    ensures refused { (result ≡ Err RenderError.Refused) → all_read (printed (settings_of layout.entry) (tree_of D.meaning S.source report.now)) ≡ false }
-    ensures only { OnOk result (leaves_plain H.is_blank pen.old.highlighter ≡ true → all_read (printed (settings_of layout.entry) (tree_of D.meaning S.source report.now)) ≡ true →
-        string_bytes out.new ≡ string_bytes out.old ++ encode_utf8_all (texts.report_text drawn_rows (settings_of layout.entry) (tree_of D.meaning S.source report.now) unlisted)) }
-    ensures colours { OnOk result (AreCleanSettings (settings_of layout.entry) → IsCleanTree (tree_of D.meaning S.source report.now) →
-        AppendsOne (IsColouredText drawn_rows (settings_of layout.entry) (leaves_plain H.is_blank pen.old.highlighter) (tree_of D.meaning S.source report.now)) (string_bytes out.old) (string_bytes out.new)) }
-    ensures colourless { OnOk result (all_read (printed (settings_of layout.entry) (tree_of D.meaning S.source report.now)) ≡ true →
-        AreCleanSettings (settings_of layout.entry) → IsCleanTree (tree_of D.meaning S.source report.now) →
-        AppendsErasing (string_bytes out.old) (string_bytes out.new) (encode_utf8_all (texts.report_text drawn_rows (colourless (settings_of layout.entry)) (tree_of D.meaning S.source report.now) unlisted))) }
-    ensures err { OnErr result (string_bytes out.new ≡ string_bytes out.old) }
-    ensures stays { leaves_plain H.is_blank pen.new.highlighter ≡ leaves_plain H.is_blank pen.old.highlighter }
-{
-    erasing_law();
-    let printed = report_output(pen, layout, report)?;
-    append_printed(pen.alloc, printed, out)?;
     Ok(())
 }

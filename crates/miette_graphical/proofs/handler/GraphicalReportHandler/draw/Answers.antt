@@ -1,42 +1,54 @@
-use Rattle.std.proofs.Common.{rules, ◌≡◌, ◌++◌, OnOk, true, string_bytes, encode_utf8_all, subst}
-use Rattle.miette_text.specs.Filling.{AppendsErasing}
+use Rattle.std.proofs.Common.{rules, ◌≡◌, ◌++◌, true, refl, ap, ◌∙◌, string_bytes, encode_utf8_all, subst}
 use Rattle.miette_layout.specs.Highlighted.{leaves_plain}
 use Rattle.miette_tree.specs.Report.{tree_of}
+use Rattle.miette_graphical.specs.Answered.{IsReport}
 use Rattle.miette_graphical.specs.Answers.{unlisted}
-use Rattle.miette_graphical.specs.Clean.{AreCleanSettings, IsCleanTree}
-use Rattle.miette_graphical.specs.Colourless.{IsColouredText, colourless}
-use Rattle.miette_tree.specs.Handler.{AppendsOne}
 use Rattle.miette_graphical.specs.Handling.{draws_plain}
-use Rattle.miette_graphical.specs.Printed.{all_read, printed}
 use Rattle.miette_graphical.specs.Snippets.{drawn_rows}
 use Rattle.miette_graphical.specs.Text.{report_text}
 use Rattle.miette_graphical.specs.Views.{settings_of}
+use Rattle.miette_graphical.proofs.Only.{same-report}
 use Rattle.miette_graphical.proofs.handler.GraphicalReportHandler.draw.Goals as goal
 
 pub returns-clause-only : goal.returns-clause-only
-returns-clause-only g c =
-    let tree = tree_of g.D.Diagnostic.meaning g.S.SourceCode.source c.args.report.now in
-    let same : settings_of c.layout.result ≡ c.args.self.now.settings = search rules in
-    let plain : leaves_plain g.H.Highlighter.is_blank c.take.result ≡ draws_plain g.H.Highlighter.is_blank c.args.self.now = search rules in
-    subst (λ s. OnOk c.render-done.result (draws_plain g.H.Highlighter.is_blank c.args.self.now ≡ true → all_read (printed s tree) ≡ true →
-    string_bytes c.render-done.new.out ≡ string_bytes c.args.out.now ++ encode_utf8_all (report_text drawn_rows s tree unlisted))) same
-    (subst (λ b. OnOk c.render-done.result (b ≡ true → all_read (printed (settings_of c.layout.result) tree) ≡ true →
-    string_bytes c.render-done.new.out ≡ string_bytes c.args.out.now ++ encode_utf8_all (report_text drawn_rows (settings_of c.layout.result) tree unlisted))) plain c.render-done.ensures.only)
+returns-clause-only g c = λ b h.
+    let s = c.args.self.now.settings in
+    let blank = draws_plain g.H.Highlighter.is_blank c.args.self.now in
+    let value = tree_of g.D.Diagnostic.meaning g.S.SourceCode.source c.args.report.now in
+    let text = c.in_ok-drawn.field-0 in
+    let same : settings_of c.layout.result ≡ s = search rules in
+    let plain : leaves_plain g.H.Highlighter.is_blank c.take.result ≡ blank = search rules in
+    let answered : IsReport drawn_rows s true value text =
+    subst (λ x. IsReport drawn_rows x true value text) same (subst (λ k. IsReport drawn_rows (settings_of c.layout.result) k value text) (plain ∙ b) c.in_ok-drawn.ensures.ok) in
+    let only : text ≡ report_text drawn_rows s value unlisted = answered.2 ∙ same-report drawn_rows s value answered.0 answered.1 h in
+    c.in_ok-append_printed.ensures.ok ∙ ap (λ t. string_bytes c.args.out.now ++ encode_utf8_all t) only
 
 pub returns-clause-colours : goal.returns-clause-colours
-returns-clause-colours g c =
-    let tree = tree_of g.D.Diagnostic.meaning g.S.SourceCode.source c.args.report.now in
-    let same : settings_of c.layout.result ≡ c.args.self.now.settings = search rules in
-    let plain : leaves_plain g.H.Highlighter.is_blank c.take.result ≡ draws_plain g.H.Highlighter.is_blank c.args.self.now = search rules in
-    subst (λ s. OnOk c.render-done.result (AreCleanSettings s → IsCleanTree tree →
-    AppendsOne (IsColouredText drawn_rows s (draws_plain g.H.Highlighter.is_blank c.args.self.now) tree) (string_bytes c.args.out.now) (string_bytes c.render-done.new.out))) same
-    (subst (λ b. OnOk c.render-done.result (AreCleanSettings (settings_of c.layout.result) → IsCleanTree tree →
-    AppendsOne (IsColouredText drawn_rows (settings_of c.layout.result) b tree) (string_bytes c.args.out.now) (string_bytes c.render-done.new.out))) plain c.render-done.ensures.colours)
+returns-clause-colours g c = λ settings tree.
+    let s = c.args.self.now.settings in
+    let blank = draws_plain g.H.Highlighter.is_blank c.args.self.now in
+    let value = tree_of g.D.Diagnostic.meaning g.S.SourceCode.source c.args.report.now in
+    let text = c.in_ok-drawn.field-0 in
+    let same : settings_of c.layout.result ≡ s = search rules in
+    let plain : leaves_plain g.H.Highlighter.is_blank c.take.result ≡ blank = search rules in
+    let answered : IsReport drawn_rows s blank value text =
+    subst (λ x. IsReport drawn_rows x blank value text) same (subst (λ k. IsReport drawn_rows (settings_of c.layout.result) k value text) plain c.in_ok-drawn.ensures.ok) in record {
+      text = encode_utf8_all text;
+      is_given = c.erasing_law.ensures.text s blank value (encode_utf8_all text) settings tree (text, answered, refl);
+      appended = c.in_ok-append_printed.ensures.ok;
+    }
 
 pub returns-clause-colourless : goal.returns-clause-colourless
-returns-clause-colourless g c =
-    let tree = tree_of g.D.Diagnostic.meaning g.S.SourceCode.source c.args.report.now in
-    let same : settings_of c.layout.result ≡ c.args.self.now.settings = search rules in
-    subst (λ s. OnOk c.render-done.result (all_read (printed s tree) ≡ true → AreCleanSettings s → IsCleanTree tree →
-    AppendsErasing (string_bytes c.args.out.now) (string_bytes c.render-done.new.out) (encode_utf8_all (report_text drawn_rows (colourless s) tree unlisted)))) same
-    c.render-done.ensures.colourless
+returns-clause-colourless g c = λ reads settings tree.
+    let s = c.args.self.now.settings in
+    let blank = draws_plain g.H.Highlighter.is_blank c.args.self.now in
+    let value = tree_of g.D.Diagnostic.meaning g.S.SourceCode.source c.args.report.now in
+    let text = c.in_ok-drawn.field-0 in
+    let same : settings_of c.layout.result ≡ s = search rules in
+    let plain : leaves_plain g.H.Highlighter.is_blank c.take.result ≡ blank = search rules in
+    let answered : IsReport drawn_rows s blank value text =
+    subst (λ x. IsReport drawn_rows x blank value text) same (subst (λ k. IsReport drawn_rows (settings_of c.layout.result) k value text) plain c.in_ok-drawn.ensures.ok) in (
+      encode_utf8_all text,
+      c.in_ok-append_printed.ensures.ok,
+      c.erasing_law.ensures.only s blank value (encode_utf8_all text) settings tree (text, answered, refl) reads,
+    )

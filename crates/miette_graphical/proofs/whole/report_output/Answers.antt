@@ -9,7 +9,7 @@ use Rattle.miette_graphical.specs.Printed.{all_read, printed_inner}
 use Rattle.miette_graphical.specs.Snippets.{drawn_rows}
 use Rattle.miette_graphical.specs.Views.{settings_of}
 use Rattle.miette_graphical.proofs.Steps.{report_whole, root_causes_fail, root_below_fails}
-use Rattle.miette_graphical.proofs.report.report_output.Goals as goal
+use Rattle.miette_graphical.proofs.whole.report_output.Goals as goal
 
 pub returns-in_err-push_root_causes-clause-refused : goal.returns-in_err-push_root_causes-clause-refused
 returns-in_err-push_root_causes-clause-refused g c = λ h.

@@ -1,7 +1,7 @@
 use Rattle.std.proofs.Common.{◌≡◌, ◌++◌, length, map, string_bytes}
 use Rattle.miette_graphical.specs.Text.{cause_texts}
 use Rattle.miette_graphical.specs.Views.{settings_of}
-use Rattle.miette_graphical.proofs.report.push_cause_texts.Given as goal
+use Rattle.miette_graphical.proofs.diagnostic.push_cause_texts.Given as goal
 
 abbrev pub decreases-loop-rest : goal.decreases-loop-rest
 decreases-loop-rest l = length l.rest

@@ -1,0 +1,99 @@
+//! The texts of one diagnostic: its header, its message, what a sibling begins with, and causes that are texts.
+
+ghost use Rattle.std.specs.Prelude.{◌≡◌, ◌++◌, IfOk, OnOk, map, not, string_bytes};
+ghost use Rattle.miette_graphical.specs.Parts as parts;
+ghost use Rattle.miette_graphical.specs.Text as texts;
+ghost use Rattle.miette_graphical.specs.Views.{settings_of};
+ghost use Rattle.miette_tree.specs.Report.{tree_of};
+ghost use Rattle.miette_tree.specs.Tree.{head};
+ghost use Rattle.miette_text.specs.Runs as runs;
+ghost use Rattle.miette_text.specs.Tame.{is_nil};
+
+use crate::header::{push_header, severity_title};
+use crate::indents::{Branch, push_message, push_under_arrow};
+use crate::settings::{Layout, severity_style};
+use miette_protocol::protocol::{Diagnostic, Severity};
+use miette_protocol::source::SourceCode;
+use miette_text::runs::output::Output;
+use miette_text::runs::reading::read_text;
+use miette_tree::report::Report;
+use std::alloc::{AllocError, Global};
+
+/// Appends a report's header, and says whether there is one.
+pub fn push_header_of<D: Diagnostic, S: SourceCode>(
+    layout: Layout<'_>,
+    report: &Report<D, S>,
+    out: &mut Output,
+) -> Result<bool, AllocError>
+    ensures text { OnOk result (out.new ≡ out.old ++ runs.print (parts.header (settings_of layout.entry) (head (tree_of D.meaning S.source report.now)))) }
+    ensures shown { IfOk result (λ shown. shown ≡ not (is_nil (parts.header (settings_of layout.entry) (head (tree_of D.meaning S.source report.now))))) }
+{
+    push_header(
+        layout,
+        severity_style(layout, report.severity()),
+        report.url(),
+        report.code(),
+        out,
+    )
+}
+
+/// Appends a report's message behind its icon.
+pub fn push_message_of<D: Diagnostic, S: SourceCode>(
+    alloc: Global,
+    layout: Layout<'_>,
+    report: &Report<D, S>,
+    out: &mut Output,
+) -> Result<(), AllocError>
+    ensures { OnOk result (out.new ≡ out.old ++ parts.message_text (settings_of layout.entry) (head (tree_of D.meaning S.source report.now))) }
+{
+    push_message(alloc, layout, report.severity(), report.message(), out)
+}
+
+/// Appends what a sibling begins with: its severity, and its header or else the end of the row.
+pub fn push_title<D: Diagnostic, S: SourceCode>(
+    layout: Layout<'_>,
+    report: &Report<D, S>,
+    out: &mut Output,
+) -> Result<(), AllocError>
+    ensures { OnOk result (out.new ≡ out.old ++ parts.title_text (settings_of layout.entry) (head (tree_of D.meaning S.source report.now))) }
+{
+    out.push('\n')?;
+    out.push_str(severity_title(report.severity()))?;
+    if !push_header_of(layout, report, out)? {
+        out.push('\n')?;
+    }
+    Ok(())
+}
+
+/// Whether there is no text.
+pub fn is_nil(list: &[String]) -> bool
+    ensures { result ≡ is_nil (map string_bytes list.now) }
+{
+    match list {
+        [] => true,
+        [_, ..] => false,
+    }
+}
+
+/// Appends causes that are texts, each under its arrow.
+pub fn push_cause_texts(
+    alloc: Global,
+    layout: Layout<'_>,
+    outer: Option<Severity>,
+    list: &[String],
+    out: &mut Output,
+) -> Result<(), AllocError>
+    ensures { OnOk result (out.new ≡ out.old ++ texts.cause_texts (settings_of layout.entry) outer (map string_bytes list.now)) }
+{
+    let mut rest = list;
+    while let [text, more @ ..] = rest {
+        let branch = Branch {
+            outer,
+            is_last: is_nil(more),
+        };
+        let cause = read_text(alloc, text.as_str())?;
+        push_under_arrow(alloc, layout, branch, &cause, out)?;
+        rest = more;
+    }
+    Ok(())
+}

@@ -1,0 +1,59 @@
+//! The outermost report, from its header to its footer.
+
+ghost use Rattle.std.specs.Prelude.{◌≡◌, IfOk, OnOk, false};
+ghost use Rattle.miette_graphical.specs.Answered.{AreRootCauses, IsReport};
+ghost use Rattle.miette_tree.specs.Handler.{AppendsOne};
+ghost use Rattle.miette_graphical.specs.Printed.{all_read, printed, printed_root_causes};
+ghost use Rattle.miette_layout.specs.Highlighted.{leaves_plain};
+ghost use Rattle.miette_graphical.specs.Snippets.{drawn_rows};
+ghost use Rattle.miette_graphical.specs.Views.{settings_of};
+ghost use Rattle.miette_tree.specs.Report.{tree_of};
+
+use crate::diagnostic::{push_header_of, push_message_of};
+use crate::indents::push_footer;
+use crate::pen::Pen;
+use crate::report::{push_below, push_causes};
+use crate::settings::Layout;
+use miette_protocol::error::RenderError;
+use miette_protocol::protocol::Diagnostic;
+use miette_protocol::source::SourceCode;
+use miette_style::highlight::Highlighter;
+use miette_text::runs::output::Output;
+use miette_tree::report::Report;
+
+/// Appends the causes of the outermost report, where they are shown.
+fn push_root_causes<D: Diagnostic, S: SourceCode, H: Highlighter>(
+    pen: &mut Pen<H>,
+    layout: Layout<'_>,
+    report: &Report<D, S>,
+    out: &mut Output,
+) -> Result<(), RenderError>
+    ensures ok { OnOk result (AppendsOne (AreRootCauses drawn_rows (settings_of layout.entry) (leaves_plain H.is_blank pen.old.highlighter) (tree_of D.meaning S.source report.now)) out.old out.new) }
+    ensures refused { (result ≡ Err RenderError.Refused) → all_read (printed_root_causes layout.entry.chain layout.entry.nested (tree_of D.meaning S.source report.now)) ≡ false }
+    ensures stays { leaves_plain H.is_blank pen.new.highlighter ≡ leaves_plain H.is_blank pen.old.highlighter }
+{
+    if !layout.chain {
+        return Ok(());
+    }
+    let source = report.source_code();
+    push_causes(pen, layout, report.severity(), source, report, out)
+}
+
+/// The outermost report, from its header to its footer.
+pub fn report_output<D: Diagnostic, S: SourceCode, H: Highlighter>(
+    pen: &mut Pen<H>,
+    layout: Layout<'_>,
+    report: &Report<D, S>,
+) -> Result<Output, RenderError>
+    ensures ok { IfOk result (λ o. IsReport drawn_rows (settings_of layout.entry) (leaves_plain H.is_blank pen.old.highlighter) (tree_of D.meaning S.source report.now) o) }
+    ensures refused { (result ≡ Err RenderError.Refused) → all_read (printed (settings_of layout.entry) (tree_of D.meaning S.source report.now)) ≡ false }
+    ensures stays { leaves_plain H.is_blank pen.new.highlighter ≡ leaves_plain H.is_blank pen.old.highlighter }
+{
+    let mut text = Output::printed(pen.alloc);
+    push_header_of(layout, report, &mut text)?;
+    push_message_of(pen.alloc, layout, report, &mut text)?;
+    push_root_causes(pen, layout, report, &mut text)?;
+    push_below(pen, layout, report.source_code(), report, &mut text)?;
+    push_footer(pen.alloc, layout, &mut text)?;
+    Ok(text)
+}
