@@ -1,8 +1,10 @@
--- The texts of an error of a source.
+-- The texts of errors.
 use Rattle.std.specs.Prelude.{ℕ, List, Option, Some, None, codes}
 use Rattle.miette_protocol.specs.Meaning.{Meaning}
 use Rattle.miette_protocol.specs.declared.error.MietteError.{MietteError}
 use Rattle.miette_protocol.specs.declared.error.MietteError.TheVariants.{IoError, OutOfBounds}
+use Rattle.miette_protocol.specs.declared.error.RenderError.{RenderError}
+use Rattle.miette_protocol.specs.declared.error.RenderError.TheVariants.{Memory, Refused}
 
 -- what is printed, where a contract states it: an error of the system prints itself
 abbrev pub error_text : MietteError → Option (List ℕ)
@@ -27,3 +29,12 @@ error_meaning OutOfBounds = record {
   url = Some (codes "https://docs.rs/miette/7.6.0/miette/enum.MietteError.html#variant.OutOfBounds");
   labels = None;
 }
+
+-- what is printed of a report that was not written
+abbrev pub render_text : RenderError → List ℕ
+render_text Memory = codes "memory allocation failed"
+render_text Refused = codes "a source could not be read where a label points"
+
+-- what is printed of a range that is too long
+abbrev pub overflow_text : List ℕ
+overflow_text = codes "the length of the range is greater than a usize can say"

@@ -4,6 +4,7 @@ ghost use Rattle.std.specs.Prelude.{◌≡◌, ◌↔◌, IsTrue};
 
 use crate::protocol::{Diagnostic, LabeledSpan, Severity};
 use std::alloc::AllocError;
+use std::error::Error;
 use std::{fmt, io};
 
 /// Why a span was not read.
@@ -42,6 +43,8 @@ impl fmt::Display for MietteError {
         }
     }
 }
+
+impl Error for MietteError {}
 
 /// Fixed texts for each of the two errors, with no severity and no labels.
 impl Diagnostic for MietteError {
@@ -116,5 +119,33 @@ impl From<AllocError> for RenderError {
 
     fn from(_: AllocError) -> Self {
         RenderError::Memory
+    }
+}
+
+/// Prints which of the two it is.
+impl fmt::Display for RenderError {
+    ghost use Rattle.std.specs.Prelude.{Some};
+    ghost use Rattle.miette_protocol.specs.Texts.{render_text};
+
+    ghost output = { λ it. Some (render_text it) };
+
+    fn fmt<W: fmt::Write>(&self, f: &mut fmt::Formatter<W>) -> fmt::Result {
+        f.write_str(self.text())
+    }
+}
+
+impl Error for RenderError {}
+
+impl RenderError {
+    ghost use Rattle.miette_protocol.specs.Texts.{render_text};
+
+    /// What it prints. Takes no memory.
+    pub fn text(&self) -> &'static str
+        ensures { result.now ≡ render_text self.now }
+    {
+        match self {
+            RenderError::Memory => "memory allocation failed",
+            RenderError::Refused => "a source could not be read where a label points",
+        }
     }
 }

@@ -5,6 +5,8 @@ ghost use Rattle.miette_protocol.specs.Location.{IsLocation};
 ghost use Rattle.std.specs.Range.{range_inclusive_start, range_inclusive_end};
 
 use serde::{Deserialize, Serialize};
+use std::error::Error;
+use std::fmt;
 use std::marker::Model;
 use std::ops::{Range, RangeInclusive};
 
@@ -102,6 +104,16 @@ impl SourceSpan {
         }
     }
 
+    /// The span of so many bytes from a line and a column on, which count as in
+    /// `SourceOffset::from_location`: from 1, and columns in characters. Behind the text's last
+    /// character it begins at the text's end.
+    pub fn at_line_column(text: &str, line: usize, column: usize, length: usize) -> Self
+        ensures offset { IsLocation text.now line column result.offset }
+        ensures len { result.len ≡ length }
+    {
+        SourceSpan::new(SourceOffset::from_location(text, line, column), length)
+    }
+
     /// Where the span begins, in bytes from the start of the source.
     pub fn offset(&self) -> usize
         ensures { result ≡ self.now.offset }
@@ -180,6 +192,20 @@ impl From<ByteOffset> for SourceSpan {
 /// this is so for `0..=usize::MAX` alone. (The original crate panics there.)
 #[derive(Clone, Copy, Debug, PartialEq, Eq)]
 pub struct LengthOverflow;
+
+/// Prints that the length is too great.
+impl fmt::Display for LengthOverflow {
+    ghost use Rattle.std.specs.Prelude.{Some};
+    ghost use Rattle.miette_protocol.specs.Texts.{overflow_text};
+
+    ghost output = { λ _. Some overflow_text };
+
+    fn fmt<W: fmt::Write>(&self, f: &mut fmt::Formatter<W>) -> fmt::Result {
+        f.write_str("the length of the range is greater than a usize can say")
+    }
+}
+
+impl Error for LengthOverflow {}
 
 /// From the range's start up to its end, the end included. A range that ends before it starts has
 /// length 0.
