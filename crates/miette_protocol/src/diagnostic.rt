@@ -1,7 +1,10 @@
 //! A diagnostic that is plain data, as in the crate miette 7.6.0.
 
-ghost use Rattle.std.specs.Prelude.{◌≡◌, ◌↔◌, [], ◌∷◌, IfOk, IsTrue, Some, None};
+ghost use Rattle.std.specs.Prelude.{◌≡◌, ◌↔◌, List, [], ◌∷◌, IfOk, IsTrue, Some, None, string_bytes};
+ghost use Rattle.std.specs.Iterator.{Drains, IsFinite};
+ghost use Rattle.std.specs.Option.{option_copied, option_map};
 ghost use Rattle.miette_protocol.specs.Diagnostic.{meaning_of};
+ghost use Rattle.miette_protocol.specs.Meaning.{Label};
 
 use crate::protocol::{Diagnostic, LabeledSpan, Severity};
 use serde::{Deserialize, Serialize};
@@ -37,6 +40,29 @@ pub fn diagnostic_equality_law()
         → IsTrue (⟦<MietteDiagnostic as PartialEq>⟧.eq a b) ↔ (meaning_of a ≡ meaning_of b) }
 {}
 
+// A copy of a text that may be missing.
+fn copied_text(alloc: Global, text: Option<&str>) -> Result<Option<String>, AllocError>
+    ensures { IfOk result (λ it. option_map string_bytes it ≡ option_copied text.entry) }
+{
+    match text {
+        Some(text) => Ok(Some(String::from_str(alloc, text)?)),
+        None => Ok(None),
+    }
+}
+
+// A copy of labels that may be missing.
+fn copied_labels(
+    alloc: Global,
+    labels: Option<&[LabeledSpan]>,
+) -> Result<Option<Vec<LabeledSpan>>, AllocError>
+    ensures { IfOk result (λ it. option_map (λ list. list.items) it ≡ option_copied labels.entry) }
+{
+    match labels {
+        Some(labels) => Ok(Some(labels.to_vec(alloc)?)),
+        None => Ok(None),
+    }
+}
+
 impl MietteDiagnostic {
     ghost use Rattle.miette_protocol.specs.Diagnostic.{meaning_of, message_alone, appended};
 
@@ -54,6 +80,24 @@ impl MietteDiagnostic {
             help: None,
             url: None,
             labels: None,
+        })
+    }
+
+    /// A plain diagnostic that says what another one says now, labels included: its texts and
+    /// labels are copied.
+    ///
+    /// # Errors
+    /// `AllocError` where memory for the copies is refused.
+    pub fn copied<D: Diagnostic>(alloc: Global, diagnostic: &D) -> Result<Self, AllocError>
+        ensures { IfOk result (λ it. meaning_of it ≡ D.meaning diagnostic.now) }
+    {
+        Ok(MietteDiagnostic {
+            message: String::from_str(alloc, diagnostic.message())?,
+            code: copied_text(alloc, diagnostic.code())?,
+            severity: diagnostic.severity(),
+            help: copied_text(alloc, diagnostic.help())?,
+            url: copied_text(alloc, diagnostic.url())?,
+            labels: copied_labels(alloc, diagnostic.labels())?,
         })
     }
 
@@ -121,6 +165,24 @@ impl MietteDiagnostic {
             labels: Some(labels),
             ..self
         }
+    }
+
+    /// With the labels that an iterator gives, in place of all that were there.
+    ///
+    /// # Errors
+    /// `AllocError` where memory for the list is refused; the value is dropped.
+    pub fn with_labels_from<I: IntoIterator<Item = LabeledSpan>>(
+        self,
+        alloc: Global,
+        labels: I,
+    ) -> Result<Self, AllocError>
+        requires { (it : I.IntoIter) → I.into_iter_gives labels it → I.IntoIter.can_next it × IsFinite (I.IntoIter.remaining it) }
+        ensures { IfOk result (λ it. (from : I.IntoIter) × (given : List Label) × I.into_iter_gives labels from
+            × Drains I.IntoIter.next_gives from given
+            × (meaning_of it ≡ record (meaning_of self) { labels = Some given })) }
+    {
+        let list = Vec::from_iter(alloc, labels)?;
+        Ok(self.with_labels(list))
     }
 
     /// With one label after those that were there.
