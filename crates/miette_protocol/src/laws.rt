@@ -4,7 +4,11 @@ ghost use Rattle.std.specs.Prelude.{◌≡◌, ◌↔◌, ℕ, ◌+◌, ◌<◌,
 ghost use Rattle.miette_protocol.specs.Context.{first_line, last_line};
 ghost use Rattle.miette_protocol.specs.Cutting.{AreLines};
 ghost use Rattle.miette_protocol.specs.Lines.{Line, IsCut, lines_of, lines_from, line_of, line_start, line_end};
-ghost use Rattle.miette_protocol.specs.Reading.{Span, Source, IsAccepted, contents_of};
+ghost use Rattle.miette_protocol.specs.Reading.{Span, Source, Contents, IsAccepted, contents_of};
+
+use crate::error::RenderError;
+use crate::protocol::{LengthOverflow, Severity, SourceOffset, SourceSpan};
+use crate::source::MietteSpanContents;
 
 /// The lines of a source are its pieces, one after the other, each a text without CR and LF and its
 /// terminator: LF, CRLF, a CR that no LF follows, or nothing at the end of the source. No other list of
@@ -40,4 +44,15 @@ pub fn data_reach_the_span()
     ensures { (source : Source) → (span : Span) → (before after : ℕ) → IsAccepted source.bytes span →
         min (span.offset + span.len) (length source.bytes)
         ≡ min (span.offset + span.len) ((contents_of source span before after).span.offset + (contents_of source span before after).span.len) }
+{}
+
+/// Offsets, spans, severities, contents and the errors without a text are cloned without memory: no such clone is
+/// refused.
+pub fn clones_take_no_memory<'a>()
+    ensures offsets { (it : ℕ) → ⟦<SourceOffset as Clone>⟧.is_infallible it }
+    ensures spans { (it : Span) → ⟦<SourceSpan as Clone>⟧.is_infallible it }
+    ensures severities { (it : Severity) → ⟦<Severity as Clone>⟧.is_infallible it }
+    ensures contents { (it : Contents) → ⟦<MietteSpanContents<'a> as Clone>⟧.is_infallible it }
+    ensures overflows { (it : LengthOverflow) → ⟦<LengthOverflow as Clone>⟧.is_infallible it }
+    ensures render_errors { (it : RenderError) → ⟦<RenderError as Clone>⟧.is_infallible it }
 {}
