@@ -5,6 +5,9 @@ use Rattle.std.specs.declared.alloc.Global.{Global}
 use Rattle.miette_protocol.specs.Meaning.{Meaning}
 use Rattle.miette_protocol.specs.Reading.{Source}
 use Rattle.miette_protocol.specs.Diagnostic.{message_alone}
+use Rattle.miette_protocol.specs.Texts.{render_text}
+use Rattle.miette_protocol.specs.declared.error.RenderError.{RenderError}
+use Rattle.miette_protocol.specs.declared.error.RenderError.TheVariants as unwritten
 use Rattle.miette_tree.specs.Tree.{alone, wrapped}
 use Rattle.miette_tree.specs.Kind.{kind_of, message, out_of_memory}
 use Rattle.miette_tree.specs.Report.{tree_of, out_of_memory_alone}
@@ -14,6 +17,11 @@ module _ {D S : Type 0} (means : D → Meaning) (is : S → Source) where
   -- the report of refused memory
   abbrev pub IsRefused : Report D S → Type 0
   IsRefused r = (tree_of means is r ≡ alone out_of_memory_alone) × (kind_of r ≡ out_of_memory)
+
+  -- the report of a report that was not written: that of refused memory, or what the error prints
+  abbrev pub IsUnwritten : RenderError → Report D S → Type 0
+  IsUnwritten unwritten.Memory r = IsRefused r
+  IsUnwritten unwritten.Refused r = (tree_of means is r ≡ alone (message_alone (render_text unwritten.Refused))) × (kind_of r ≡ message)
 
   -- a text in front of a report, or with no report behind it
   abbrev pub IsFronted : List ℕ → Option (Report D S) → Report D S → Type 0

@@ -4,9 +4,10 @@ ghost use Rattle.std.specs.Prelude.{◌≡◌, Some, IfOk};
 use crate::innermost::Innermost;
 use crate::report::Report;
 use miette_protocol::diagnostic::MietteDiagnostic;
+use miette_protocol::error::RenderError;
 use miette_protocol::protocol::Diagnostic;
 use miette_protocol::source::SourceCode;
-use std::alloc::{AllocError, Global};
+use std::alloc::{AllocError, AllocFailed, Global};
 use std::fmt;
 use std::fmt::Display;
 
@@ -44,6 +45,15 @@ where
         Report::from_innermost(Innermost::Boxed(diagnostic))
     }
 
+    /// The report of what a diagnostic says now: its texts and labels are copied. `AllocError` where
+    /// memory for the copies is refused.
+    pub fn copied<E: Diagnostic>(alloc: Global, error: &E) -> Result<Report<D, S>, AllocError>
+        ensures tree { IfOk result (λ r. tree_of D.meaning S.source r ≡ alone (E.meaning error.now)) }
+        ensures kind { IfOk result (λ r. (copy : MietteDiagnostic) × (meaning_of copy ≡ E.meaning error.now) × (kind_of r ≡ built copy)) }
+    {
+        Ok(Report::built(MietteDiagnostic::copied(alloc, error)?))
+    }
+
     /// The report of a message alone. `AllocError` where memory for the copy is refused.
     pub fn msg(alloc: Global, text: &str) -> Result<Report<D, S>, AllocError>
         ensures tree { IfOk result (λ r. tree_of D.meaning S.source r ≡ alone (message_alone text.now)) }
@@ -73,6 +83,22 @@ impl<D: Diagnostic, S: SourceCode> fmt::Display for Report<D, S> {
     }
 }
 
+/// Prints the message and the causes, joined by `: `, as a program does that returns a report from
+/// its `main`.
+impl<D: Diagnostic, S: SourceCode> fmt::Debug for Report<D, S> {
+    fn fmt<W: fmt::Write>(&self, f: &mut fmt::Formatter<W>) -> fmt::Result {
+        let mut is_behind = false;
+        for text in self.chain() {
+            if is_behind {
+                f.write_str(": ")?;
+            }
+            f.write_str(text)?;
+            is_behind = true;
+        }
+        Ok(())
+    }
+}
+
 /// The report of a plain diagnostic, as `Report::new`. Takes no memory.
 impl<D: Diagnostic, S: SourceCode> From<MietteDiagnostic> for Report<D, S> {
     ghost use Rattle.miette_protocol.specs.Diagnostic.{meaning_of};
@@ -95,5 +121,31 @@ impl<D: Diagnostic, S: SourceCode> From<AllocError> for Report<D, S> {
 
     fn from(_refused: AllocError) -> Report<D, S> {
         Report::from_innermost(Innermost::OutOfMemory)
+    }
+}
+
+/// As of an `AllocError`; the value that was not stored is let go.
+impl<T: Drop, D: Diagnostic, S: SourceCode> From<AllocFailed<T>> for Report<D, S> {
+    ghost use Rattle.miette_tree.specs.WrapErr.{IsRefused};
+
+    ghost from_gives = { λ _ r. IsRefused D.meaning S.source r };
+
+    fn from(_refused: AllocFailed<T>) -> Report<D, S> {
+        Report::from_innermost(Innermost::OutOfMemory)
+    }
+}
+
+/// A report that was not written: as of an `AllocError`, or the message is what the error prints.
+/// Takes no memory.
+impl<D: Diagnostic, S: SourceCode> From<RenderError> for Report<D, S> {
+    ghost use Rattle.miette_tree.specs.WrapErr.{IsUnwritten};
+
+    ghost from_gives = { λ error r. IsUnwritten D.meaning S.source error r };
+
+    fn from(error: RenderError) -> Report<D, S> {
+        match error {
+            RenderError::Memory => Report::from_innermost(Innermost::OutOfMemory),
+            RenderError::Refused => Report::from_innermost(Innermost::Fixed(error.text())),
+        }
     }
 }

@@ -12,6 +12,7 @@ pub(crate) enum Innermost<D> {
     Message(String),
     Built(MietteDiagnostic),
     Boxed(D),
+    Fixed(&'static str),
     OutOfMemory,
 }
 
@@ -51,6 +52,7 @@ impl<D: Diagnostic> Innermost<D> {
             Innermost::Message(text) => text.as_str(),
             Innermost::Built(diagnostic) => diagnostic.message(),
             Innermost::Boxed(diagnostic) => diagnostic.message(),
+            Innermost::Fixed(text) => text,
             Innermost::OutOfMemory => "memory allocation failed",
         }
     }
@@ -109,7 +111,7 @@ impl<D: Diagnostic> Innermost<D> {
         ensures { kind_shown result ≡ innermost_kind self.now }
     {
         match self {
-            Innermost::Message(_) => ReportKind::Message,
+            Innermost::Message(_) | Innermost::Fixed(_) => ReportKind::Message,
             Innermost::Built(diagnostic) => ReportKind::Built(diagnostic),
             Innermost::Boxed(diagnostic) => ReportKind::Boxed(diagnostic),
             Innermost::OutOfMemory => ReportKind::OutOfMemory,
