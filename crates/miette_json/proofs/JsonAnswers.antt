@@ -1,12 +1,12 @@
 -- Answers of reads, put together from those of the parts.
 use Rattle.std.proofs.Common.{◌≡◌, ℕ, suc, zero, ◌+◌, ◌<◌, ◌≤◌, List, [], ◌∷◌, ◌++◌, length, get_or, map, drop, add-one, Bool, true, false, Option, Some, None, refl, sym, ap, subst, ◌∙◌, append_assoc, codes, arith}
-use Rattle.std.specs.Prelude.{if◌then◌else◌, IfSome, option_map}
+use Rattle.std.specs.Prelude.{IsUtf8, if◌then◌else◌, IfSome, option_map}
 use Rattle.std.proofs.Math.Seq.{drop-cons}
 use Rattle.miette_protocol.specs.Reading.{Source}
 use Rattle.miette_protocol.specs.Meaning.{Label}
 use Rattle.miette_tree.specs.Tree.{Tree, tree, Trees, no_trees, more_trees, trees, effective, head, source_of, cause_of, causes_of, related_of}
 use Rattle.miette_json.specs.Json.{Json, string, array, object, Items, item, no_members, member, items_text, json_text}
-use Rattle.miette_json.specs.Denotes.{Denotes}
+use Rattle.miette_json.specs.Denotes.{Denotes, HasTokensOf}
 use Rattle.miette_json.specs.JsonReport.{NameAnswers, unlisted, listed, RelatedNameAnswers, no_more, and_more, own_fault, related_answers, first_answers, later_answers, MayFail, ArePossible, AllPossible, report_json, reports_json, maybe, strings, labels_json, file_name}
 use Rattle.miette_tree.specs.Parts.{given_labels, severity_text}
 use Rattle.miette_json.specs.Reads.{AlwaysReads, AllAlwaysRead}
@@ -118,11 +118,11 @@ mutual
       ∙ ap (item (report_json inherited unlisted t)) (same_values inherited (later_answers a) ts p.1 reads.1 i)
 
 -- all that is claimed of a report's text
-pub is_json : ((v : Json) → Denotes (json_text v) v) → ((bytes : List ℕ) (v w : Json) → Denotes bytes v → Denotes bytes w → v ≡ w)
-    → (t : Tree) (text : List ℕ) → AppendsReport None t [] text → IsJsonOf t text
-is_json denoting one t text a =
+pub is_json : ((v : Json) → HasTokensOf (json_text v) v) → ((bytes : List ℕ) (v w : Json) → Denotes bytes v → Denotes bytes w → v ≡ w)
+    → (t : Tree) (text : List ℕ) → IsUtf8 text → AppendsReport None t [] text → IsJsonOf t text
+is_json tokens one t text utf8 a =
     let value = report_json None a.answers t in
-    let denotes : Denotes text value = subst (λ l. Denotes l value) (sym a.appended) (denoting value) in record {
+    let denotes : Denotes text value = (utf8, subst (λ l. HasTokensOf l value) (sym a.appended) (tokens value)) in record {
       value = value;
       of_tree = record { answers = a.answers; possible = a.possible; is = refl };
       always = λ reads. same_value None a.answers t a.possible reads tt;

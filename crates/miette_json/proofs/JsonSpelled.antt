@@ -11,7 +11,7 @@ use Rattle.std.proofs.lemmas.Bool.{ltb-true, ltb-false, lt-ltb, le-ltb}
 use Rattle.std.proofs.lemmas.Bool.Decides.{eqb_tells, nat_tests}
 use Rattle.std.proofs.lemmas.Str.{encode_ascii, digit_value-digit_char}
 use Rattle.miette_json.specs.Json.{Json, number, string, array, object, Items, no_items, item, Members, no_members, member, digits_within, numeral, is_escaped, escape_letter, escaped_byte, escaped, quoted, json_text, items_text, more_items_text, members_text, more_members_text}
-use Rattle.miette_json.specs.Denotes.{Token, mark, text, whole, tokens_then, items_then, more_items_then, members_then, more_members_then, Piece, plain, short, unit, short_for, IsPiece, hex, written, meant, ArePieces, all_written, all_meant, IsDigit, AreDigits, value_after, NoLeadingZero, NoDigitNext, IsMark, IsString, IsNumber, Begins, Next, AreTokens, Denotes}
+use Rattle.miette_json.specs.Denotes.{Token, mark, text, whole, tokens_then, items_then, more_items_then, members_then, more_members_then, Piece, plain, short, unit, short_for, IsPiece, hex, written, meant, ArePieces, all_written, all_meant, IsDigit, AreDigits, value_after, NoLeadingZero, NoDigitNext, IsMark, IsString, IsNumber, Begins, Next, AreTokens, HasTokensOf}
 
 -- ---- numbers
 
@@ -70,7 +70,7 @@ zero_free : (x : ℕ) (xs : List ℕ) → (xs ≡ []) ⊎ (48 < x) → NoLeading
 zero_free x xs (inl e) = subst (λ l. NoLeadingZero (x ∷ l)) (sym e) tt
 zero_free x xs (inr h) = no_zero x xs h
 
-number_spelled : (n : ℕ) (rest : List ℕ) → NoDigitNext rest → IsNumber n (numeral n ++ rest) rest
+pub number_spelled : (n : ℕ) (rest : List ℕ) → NoDigitNext rest → IsNumber n (numeral n ++ rest) rest
 unfolding numeral
 number_spelled n rest h =
     let r = reads_within (suc n) n (omega arith) in
@@ -111,13 +111,13 @@ numeral_decimal n h = decimal_by_steps (λ m ds. numeral m ≡ ds) (λ m l. nume
 -- ---- escapes
 
 -- a byte with a short escape
-record HasLetter (x : ℕ) : Type 0 where
-  above : 0 < escape_letter x
-  back : short_for (escape_letter x) ≡ x
-  low : x < 128
-  seen : 0 < x
+pub record HasLetter (x : ℕ) : Type 0 where
+  pub above : 0 < escape_letter x
+  pub back : short_for (escape_letter x) ≡ x
+  pub low : x < 128
+  pub seen : 0 < x
 
-letter_cases : (x : ℕ) → HasLetter x ⊎ (escape_letter x ≡ 0)
+pub letter_cases : (x : ℕ) → HasLetter x ⊎ (escape_letter x ≡ 0)
 letter_cases x =
     elim (eqb_tells x 34) [
       | inl a ↦ inl (subst HasLetter (sym a.1) (record { above = omega arith; back = refl; low = omega arith; seen = omega arith }))
@@ -147,7 +147,7 @@ pub byte_short : (x : ℕ) → 0 < escape_letter x → escaped_byte x ≡ 92 ∷
 unfolding escaped_byte
 byte_short x h = rw (lt-ltb 0 (escape_letter x) h) refl
 
-byte_low : (x : ℕ) → escape_letter x ≡ 0 → x < 32 → escaped_byte x ≡ 92 ∷ 117 ∷ 48 ∷ 48 ∷ digit_char (x / 16) ∷ digit_char (x % 16) ∷ []
+pub byte_low : (x : ℕ) → escape_letter x ≡ 0 → x < 32 → escaped_byte x ≡ 92 ∷ 117 ∷ 48 ∷ 48 ∷ digit_char (x / 16) ∷ digit_char (x % 16) ∷ []
 unfolding escaped_byte
 byte_low x e h = rw (le-ltb 0 (escape_letter x) (omega arith), lt-ltb x 32 h) refl
 
@@ -164,13 +164,13 @@ byte_control x a b d f g h k e =
     byte_low x none low
 
 -- a byte that may stand for itself does
-byte_itself : (x : ℕ) → is_escaped x ≡ false → escaped_byte x ≡ x ∷ []
+pub byte_itself : (x : ℕ) → is_escaped x ≡ false → escaped_byte x ≡ x ∷ []
 byte_itself x e =
     let none : escape_letter x ≡ 0 = grind (arith, nat_tests) in
     let high : 32 ≤ x = grind (arith, nat_tests) in
     byte_plain x none high
 
-escaped_is_ascii : (x : ℕ) → is_escaped x ≡ true → x < 128
+pub escaped_is_ascii : (x : ℕ) → is_escaped x ≡ true → x < 128
 escaped_is_ascii x e = grind (arith, nat_tests)
 
 -- bytes that stand for themselves, in front of others
@@ -226,7 +226,7 @@ ltb_split : (a b : ℕ) (t : Bool) → nat_lt a b ≡ t → (a < b) ⊎ (b ≤ a
 ltb_split a b true e = inl (ltb-true a b e)
 ltb_split a b false e = inr (ltb-false a b e)
 
-ltb_cases : (a b : ℕ) → (a < b) ⊎ (b ≤ a)
+pub ltb_cases : (a b : ℕ) → (a < b) ⊎ (b ≤ a)
 ltb_cases a b = ltb_split a b (nat_lt a b) refl
 
 -- a letter that has a short escape isn't among those that have none
@@ -376,5 +376,5 @@ mutual
       put 44 (text k ∷ mark 58 ∷ tokens_then v (more_members_then more ts)) _ (inl refl)
       (key_spelled k v more ts rest (value_spelled v (more_members_then more ts) (more_members_text more ++ rest) (more_members_end more rest) (more_members_spelled more ts rest r)))
 
-pub spelling_denotes_lem : (v : Json) → Denotes (json_text v) v
-spelling_denotes_lem v = subst (AreTokens (tokens_then v [])) (append-nil (json_text v)) (value_spelled v [] [] tt tt)
+pub spelling_tokens_lem : (v : Json) → HasTokensOf (json_text v) v
+spelling_tokens_lem v = subst (AreTokens (tokens_then v [])) (append-nil (json_text v)) (value_spelled v [] [] tt tt)

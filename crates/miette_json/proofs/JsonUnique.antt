@@ -2,7 +2,7 @@
 use Rattle.std.proofs.Common.{◌≡◌, ◌≢◌, ◌⊎◌, inl, inr, ℕ, ◌+◌, ◌-◌, ◌*◌, ◌<◌, ◌≤◌, List, [], ◌∷◌, ◌++◌, get_or, refl, sym, ap, ◌∙◌, subst, arith}
 use Rattle.std.specs.Char.{encode_utf8}
 use Rattle.miette_json.specs.Json.{Json, number, string, array, object, Items, no_items, item, Members, no_members, member}
-use Rattle.miette_json.specs.Denotes.{Token, mark, text, whole, tokens_then, items_then, more_items_then, members_then, more_members_then, Piece, plain, short, unit, pair, IsPiece, hex, written, meant, ArePieces, all_written, all_meant, IsDigit, AreDigits, value_after, NoDigitNext, IsMark, IsBlank, AreBlank, IsString, IsNumber, Begins, Next, AreTokens, Denotes}
+use Rattle.miette_json.specs.Denotes.{Token, mark, text, whole, tokens_then, items_then, more_items_then, members_then, more_members_then, Piece, plain, short, unit, pair, IsPiece, hex, written, meant, ArePieces, all_written, all_meant, IsDigit, AreDigits, value_after, NoDigitNext, IsMark, IsBlank, AreBlank, IsString, IsNumber, Begins, Next, AreTokens, HasTokensOf}
 
 -- ---- the tokens of two values
 
@@ -271,5 +271,5 @@ tokens_one (t ∷ ts) (u ∷ us) bytes f g =
     let rest : ts ≡ us = tokens_one ts us g.0 (subst (AreTokens ts) p.1 f.2) g.2 in
     cc
 
-pub one_value_lem : (bytes : List ℕ) (v w : Json) → Denotes bytes v → Denotes bytes w → v ≡ w
+pub one_value_lem : (bytes : List ℕ) (v w : Json) → HasTokensOf bytes v → HasTokensOf bytes w → v ≡ w
 one_value_lem bytes v w f g = (value_one v w [] [] (tokens_one (tokens_then v []) (tokens_then w []) bytes f g)).0

@@ -1,4 +1,5 @@
 pub mod JsonSpelled
 pub mod JsonUnique
+pub mod JsonUtf8
 pub mod JsonJoined
 pub mod JsonAnswers

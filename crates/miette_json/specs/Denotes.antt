@@ -1,6 +1,6 @@
--- RFC 8259 as a relation between bytes and values: a text is tokens with white space before, between and
+-- RFC 8259 as a relation between bytes and values: a text is UTF-8, and tokens with white space before, between and
 -- after them, and the tokens are those of the value.
-use Rattle.std.specs.Prelude.{◌≡◌, ◌⊎◌, ◌≢◌, ℕ, ◌+◌, ◌-◌, ◌*◌, ◌<◌, ◌≤◌, List, [], ◌∷◌, ◌++◌, ⊤, cond, ◌||◌, ◌==◌}
+use Rattle.std.specs.Prelude.{IsUtf8, ◌≡◌, ◌⊎◌, ◌≢◌, ℕ, ◌+◌, ◌-◌, ◌*◌, ◌<◌, ◌≤◌, List, [], ◌∷◌, ◌++◌, ⊤, cond, ◌||◌, ◌==◌}
 use Rattle.std.specs.Char.{digit_value, encode_utf8}
 use Rattle.miette_json.specs.Json.{Json, number, string, array, object, Items, no_items, item, Members, no_members, member}
 
@@ -162,6 +162,22 @@ abbrev pub AreTokens : List Token → List ℕ → Type 0
 AreTokens [] bytes = AreBlank bytes
 AreTokens (t ∷ ts) bytes = (rest : List ℕ) × Next t bytes rest × AreTokens ts rest
 
--- the text stands for the value
+-- byte by byte, the text is the tokens of the value
+abbrev pub HasTokensOf : List ℕ → Json → Type 0
+HasTokensOf bytes v = AreTokens (tokens_then v []) bytes
+
+-- the text stands for the value: it is UTF-8, and its tokens are those of the value
 abbrev pub Denotes : List ℕ → Json → Type 0
-Denotes bytes v = AreTokens (tokens_then v []) bytes
+Denotes bytes v = IsUtf8 bytes × HasTokensOf bytes v
+
+-- ---- values that a text may stand for
+
+abbrev pub TextsAreUtf8 : List Token → Type 0
+TextsAreUtf8 [] = ⊤
+TextsAreUtf8 (mark x ∷ ts) = TextsAreUtf8 ts
+TextsAreUtf8 (text s ∷ ts) = IsUtf8 s × TextsAreUtf8 ts
+TextsAreUtf8 (whole n ∷ ts) = TextsAreUtf8 ts
+
+-- each string of the value and each key in it is UTF-8
+abbrev pub HasUtf8Texts : Json → Type 0
+HasUtf8Texts v = TextsAreUtf8 (tokens_then v [])

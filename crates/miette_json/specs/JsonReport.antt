@@ -2,8 +2,6 @@
 use Rattle.std.specs.Prelude.{◌≡◌, ℕ, ◌+◌, Bool, true, false, ◌&&◌, nat_le, if◌then◌else◌, List, [], ◌∷◌, length, Option, Some, None, option_map, unwrap_or, codes, ⊤}
 use Rattle.miette_protocol.specs.Meaning.{Label}
 use Rattle.miette_protocol.specs.Reading.{Source, Span}
-use Rattle.miette_protocol.specs.declared.protocol.Severity.{Severity}
-use Rattle.miette_protocol.specs.declared.protocol.Severity.TheVariants.{Advice, Warning, Error}
 use Rattle.miette_tree.specs.Tree.{Tree, tree, causes_of, Trees, no_trees, more_trees, effective}
 use Rattle.miette_json.specs.Json.{Json, number, string, array, object, Items, no_items, item, Members, no_members, member}
 use Rattle.miette_tree.specs.Parts.{given_labels, severity_text}

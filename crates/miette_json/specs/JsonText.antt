@@ -2,7 +2,7 @@
 use Rattle.std.specs.Prelude.{◌≡◌, ℕ, Bool, true, false, List, [], ◌∷◌, ◌++◌, Option, Some, None, option_map, codes}
 use Rattle.miette_protocol.specs.Meaning.{Label, Meaning}
 use Rattle.miette_protocol.specs.Reading.{Source}
-use Rattle.miette_tree.specs.Tree.{Tree, Trees, Cause, diagnostic, texts}
+use Rattle.miette_tree.specs.Tree.{Tree, Trees}
 use Rattle.miette_json.specs.Json.{Json, Items, quoted, json_text, items_text, more_items_text}
 use Rattle.miette_json.specs.Denotes.{Denotes}
 use Rattle.miette_json.specs.Reads.{AlwaysReads}

@@ -3,16 +3,24 @@
 
 ghost use Rattle.std.specs.Prelude.{◌≡◌, ℕ, List};
 ghost use Rattle.miette_json.specs.Json.{Json, json_text};
-ghost use Rattle.miette_json.specs.Denotes.{Denotes};
+ghost use Rattle.miette_json.specs.Denotes.{Denotes, HasTokensOf, HasUtf8Texts};
 
 /// A text stands for at most one value (RFC 8259, over whole numbers, strings, lists and objects).
 pub fn a_text_denotes_one_value()
     ensures { (bytes : List ℕ) (v w : Json) → Denotes bytes v → Denotes bytes w → v ≡ w }
 {}
 
-/// The spelling that the handler writes for a value stands for that value.
+/// The strings of a value that a text stands for, and the keys in it, are UTF-8: a text with other bytes stands for
+/// nothing.
+pub fn a_text_denotes_utf8()
+    ensures { (bytes : List ℕ) (v : Json) → Denotes bytes v → HasUtf8Texts v }
+{}
+
+/// The spelling that the handler writes for a value has its tokens, and stands for it where its strings and keys are
+/// UTF-8.
 pub fn the_spelling_denotes_its_value()
-    ensures { (v : Json) → Denotes (json_text v) v }
+    ensures tokens { (v : Json) → HasTokensOf (json_text v) v }
+    ensures value { (v : Json) → HasUtf8Texts v → Denotes (json_text v) v }
 {}
 
 /// Values with one spelling are one value.

@@ -1,9 +1,9 @@
 use Rattle.std.proofs.Common.{sym, subst}
 use Rattle.miette_json.specs.Json.{json_text}
-use Rattle.miette_json.specs.Denotes.{Denotes}
+use Rattle.miette_json.specs.Denotes.{HasTokensOf}
 use Rattle.miette_json.proofs.JsonUnique.{one_value_lem}
-use Rattle.miette_json.proofs.JsonSpelled.{spelling_denotes_lem}
+use Rattle.miette_json.proofs.JsonSpelled.{spelling_tokens_lem}
 use Rattle.miette_json.proofs.laws.equal_spellings_are_of_equal_values.Goals as goal
 
 pub returns : goal.returns
-returns c v w e = one_value_lem (json_text v) v w (spelling_denotes_lem v) (subst (λ b. Denotes b w) (sym e) (spelling_denotes_lem w))
+returns c v w e = one_value_lem (json_text v) v w (spelling_tokens_lem v) (subst (λ b. HasTokensOf b w) (sym e) (spelling_tokens_lem w))
