@@ -1,6 +1,6 @@
 //! Rows in the making: one text, with the places where runs begin and rows end.
 
-ghost use Rattle.std.specs.Prelude.{◌≡◌, ◌++◌, ◌∷◌, [], ℕ, List, replicate, decimal, chars, length, ◌-◌, encode_utf8, encode_utf8_all, string_bytes, OnOk, Some, None, Option};
+ghost use Rattle.std.specs.Prelude.{◌≡◌, ◌++◌, ◌∷◌, [], ℕ, List, replicate, decimal, chars, length, ◌-◌, encode_utf8, encode_utf8_all, string_bytes, OnOk, Some, None, Option, IfOk};
 ghost use Rattle.miette_layout.specs.PageMarks.{marks_ahead};
 ghost use Rattle.miette_layout.specs.Seams.{first_mark};
 ghost use Rattle.miette_layout.specs.declared.page_marks.Mark.{Mark};
@@ -52,6 +52,16 @@ impl Page {
             text: String::new(alloc),
             marks: PageMarks::new(alloc),
         }
+    }
+
+    /// A page without rows, with room for so many bytes of text and so many beginnings of runs and ends of rows. `AllocError` where memory
+    /// is refused.
+    pub(crate) fn with_room(alloc: Global, bytes: usize, marks: usize) -> Result<Self, AllocError>
+        ensures { IfOk result (λ page. page ≡ []) }
+    {
+        let text = String::with_capacity(alloc, bytes)?;
+        let marks = PageMarks::with_room(alloc, marks)?;
+        Ok(Page { text, marks })
     }
 
     /// Begins a run in a style. `AllocError` where memory is refused.

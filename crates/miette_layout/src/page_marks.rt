@@ -131,6 +131,17 @@ impl PageMarks {
         }
     }
 
+    /// No marks, with room for so many. `AllocError` where memory is refused.
+    pub(crate) fn with_room(alloc: Global, marks: usize) -> Result<Self, AllocError>
+        ensures { IfOk result (λ marks. marks ≡ []) }
+    {
+        Ok(PageMarks {
+            kept: Vec::with_capacity(alloc, marks)?,
+            styles: Vec::new(alloc),
+            last: 0,
+        })
+    }
+
     /// Puts a mark behind the others. `AllocError` where memory is refused, where there are more styles than a `u32` counts, or where the
     /// mark stands before the last one; the marks then stay as they are.
     pub(crate) fn push(&mut self, at: usize, style: Option<Style>) -> Result<(), AllocError>

@@ -1,6 +1,6 @@
 //! The rows of a diagnostic's snippets.
 
-ghost use Rattle.std.specs.Prelude.{◌≡◌, List, Some, map, IfOk, MatchResult};
+ghost use Rattle.std.specs.Prelude.{◌≡◌, [], List, Some, map, IfOk, MatchResult};
 ghost use Rattle.std.specs.List.{All};
 ghost use Rattle.miette_layout.specs.Drawn.{MayGive, RefusesWith};
 ghost use Rattle.miette_layout.specs.ThemeSettings.{settings_of};
@@ -14,7 +14,7 @@ use crate::options::LayoutOptions;
 use crate::page::Page;
 use crate::snippet::{Drawing, Passage, push_snippet};
 use miette_lines::drawn_labels::placed;
-use miette_lines::grouping::groups;
+use miette_lines::grouping::{Group, groups};
 use miette_lines::order::by_offset;
 use miette_lines::primary::{near, place_of};
 use miette_lines::reading::{ReadLabel, ReadLabels, Refusal, read_labels, some_own};
@@ -26,6 +26,11 @@ use miette_style::highlight::Highlighter;
 use miette_style::theme::GraphicalTheme;
 use std::alloc::{AllocError, Global};
 
+// The room of a new page: so many bytes more than the lines have that are drawn, and so many marks.
+const MORE_BYTES: usize = 256;
+
+const MARKS: usize = 64;
+
 // The bare name of a reason.
 fn name_of(refusal: Refusal) -> &'static str
     ensures { result.now ≡ name_of_reason refusal }
@@ -34,6 +39,17 @@ fn name_of(refusal: Refusal) -> &'static str
         Refusal::IoError => "IoError",
         Refusal::OutOfBounds => "OutOfBounds",
     }
+}
+
+// A page without rows, with room for the rows of these groups.
+fn page_for(alloc: Global, groups: &[Group<'_>]) -> Result<Page, AllocError>
+    ensures { IfOk result (λ page. page ≡ []) }
+{
+    let mut bytes = MORE_BYTES;
+    for group in groups {
+        bytes = bytes.saturating_add(group.contents.data().len());
+    }
+    Page::with_room(alloc, bytes, MARKS)
 }
 
 // The snippets of labels that were read, or none where the read of a group or of some place failed.
@@ -63,7 +79,7 @@ fn read_snippets<'a, 'b, S: SourceCode, H: Highlighter>(
         labels,
         placed: &placed,
     };
-    let mut page = Page::new(alloc);
+    let mut page = page_for(alloc, &groups)?;
     let mut passage = Passage {
         sweep: Sweep::new(alloc),
         at: 0,

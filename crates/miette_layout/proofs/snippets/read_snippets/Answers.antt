@@ -41,7 +41,7 @@ push_snippet-requires-clause-sorted g c =
 
 pub loop-group-init : goal.loop-group-init
 loop-group-init g c = record {
-  drawn = none_drawn (settings_around (settings_of c.args.theme.now c.args.options.now) (in_order c.args.labels.now)) (g.S.SourceCode.source c.args.source.now) c.args.labels.now (leaves_plain g.H.Highlighter.is_blank c.args.highlighter.now) c.deref-group-items.result.now c.new-page.result c.new-page.ensures;
+  drawn = none_drawn (settings_around (settings_of c.args.theme.now c.args.options.now) (in_order c.args.labels.now)) (g.S.SourceCode.source c.args.source.now) c.args.labels.now (leaves_plain g.H.Highlighter.is_blank c.args.highlighter.now) c.deref-group-items.result.now c.in_ok-page.page c.in_ok-page.ensures;
   state = search rules;
   stays = refl;
 }
