@@ -54,8 +54,8 @@ impl Page {
         }
     }
 
-    /// A page without rows, with room for so many bytes of text and so many beginnings of runs and ends of rows. `AllocError` where memory
-    /// is refused.
+    /// A page without rows, with room for so many bytes of text and so many beginnings of runs and ends of rows.
+    /// `AllocError` where memory is refused.
     pub(crate) fn with_room(alloc: Global, bytes: usize, marks: usize) -> Result<Self, AllocError>
         ensures { IfOk result (λ page. page ≡ []) }
     {
