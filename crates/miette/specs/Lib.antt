@@ -6,3 +6,5 @@ pub use Rattle.miette_tree.specs.Tree
 pub mod Options
 pub mod Choice
 pub mod Handler
+pub mod Detected
+pub mod Printed

@@ -3,10 +3,14 @@
 #![tactic(auto)]
 
 pub mod options;
+pub mod prelude;
+pub mod print;
+pub mod terminal;
 
 pub use miette_handlers::handlers;
 pub use miette_handlers::handlers::ReportHandler as EyreContext;
 pub use miette_protocol::{diagnostic, error, protocol, source};
 pub use miette_text::{highlight, style, theme, wrap};
 pub use miette_tree::report;
+pub use miette_tree::{bail, ensure, miette};
 pub use miette_tree::report::{Report as ErrReport, Report as Error};

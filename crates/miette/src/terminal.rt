@@ -1,0 +1,323 @@
+//! What a program is told of its terminal: by variables, and by its streams.
+
+ghost use Rattle.std.specs.Prelude.{◌≡◌, IfOk, Some, option_map, string_bytes};
+ghost use Rattle.miette_style.specs.Themes.{refuses_colours};
+ghost use Rattle.miette.specs.Detected.{IsDetected, IsWidth, colours_of, draws_unicode, forced_colours, goes_to_terminal, has_many_colours, is_dumb, is_linking_kind, is_linking_program, is_set_to, is_utf8_locale, lacks_colours, names_utf8, own_colours, shows_links};
+
+use miette_style::theme::Terminal;
+use std::alloc::AllocError;
+use std::env;
+use std::env::{Env, VarError};
+use std::io::{IsTerminal, Write};
+use std::rt::{Stderr, Stdout};
+
+/// Where a text goes.
+#[derive(Clone, Copy, Debug, PartialEq, Eq)]
+pub enum Stream {
+    /// Standard output.
+    Stdout,
+    /// Standard error.
+    Stderr,
+}
+
+/// A handle that gives standard output and standard error.
+pub trait Streams {
+    /// Standard output.
+    type Out: Write + IsTerminal + Drop;
+    /// Standard error.
+    type Faults: Write + IsTerminal + Drop;
+
+    /// Standard output.
+    fn output(&self) -> Self::Out;
+
+    /// Standard error.
+    fn faults(&self) -> Self::Faults;
+}
+
+impl Streams for HostRuntime {
+    type Out = Stdout;
+    type Faults = Stderr;
+
+    fn output(&self) -> Stdout {
+        self.stdout()
+    }
+
+    fn faults(&self) -> Stderr {
+        self.stderr()
+    }
+}
+
+/// What is said of a terminal: variables, each where it is set, and which streams go to one.
+#[derive(Debug, Default, Drop)]
+pub struct Variables {
+    /// `FORCE_COLOR`: `0` and `false` ask for no colours, `3` for 16 million, all else for some. It counts first.
+    pub force_color: Option<String>,
+    /// `NO_COLOR`: all but `0` asks for no colours.
+    pub no_color: Option<String>,
+    /// `CLICOLOR`: `0` asks for no colours.
+    pub clicolor: Option<String>,
+    /// `COLORTERM`: `truecolor` and `24bit` tell of 16 million colours.
+    pub colorterm: Option<String>,
+    /// `TERM`, the kind of the terminal: without one, or where it is `dumb`, there are no colours.
+    pub term: Option<String>,
+    /// `TERM_PROGRAM`, the terminal's name, by which some are known to show links.
+    pub term_program: Option<String>,
+    /// `VTE_VERSION`, which is set where links are shown, as the next two.
+    pub vte_version: Option<String>,
+    /// `KONSOLE_VERSION`.
+    pub konsole_version: Option<String>,
+    /// `WT_SESSION`.
+    pub wt_session: Option<String>,
+    /// `LC_ALL`: a locale that ends in `UTF-8` has characters of Unicode. The first that is set counts, of this one and the
+    /// next two.
+    pub lc_all: Option<String>,
+    /// `LC_CTYPE`.
+    pub lc_ctype: Option<String>,
+    /// `LANG`.
+    pub lang: Option<String>,
+    /// `COLUMNS`: the width, from 1.
+    pub columns: Option<String>,
+    /// `NO_GRAPHICS`: `0` asks for pictures, all else for none.
+    pub no_graphics: Option<String>,
+    /// Whether standard output goes to a terminal.
+    pub stdout_terminal: bool,
+    /// Whether standard error goes to a terminal.
+    pub stderr_terminal: bool,
+}
+
+/// What is known of the terminal that a text for this stream goes to.
+///
+/// # Errors
+/// Where no memory is found for the variables.
+pub fn detect<R: Env + AllocGlobal + Streams>(
+    rt: &R,
+    stream: Stream,
+) -> Result<Terminal, AllocError>
+    ensures { IfOk result (λ it. (v : _) × IsDetected v stream it) }
+{
+    let out = rt.output().is_terminal();
+    let faults = rt.faults().is_terminal();
+    Ok(Variables::read(rt, out, faults)?.terminal(stream))
+}
+
+impl Variables {
+    /// The variables of the program, with what is known of its two streams. One that isn't UTF-8 counts as not set.
+    ///
+    /// # Errors
+    /// Where no memory is found for them.
+    pub fn read<R: Env + AllocGlobal>(
+        rt: &R,
+        stdout_terminal: bool,
+        stderr_terminal: bool,
+    ) -> Result<Variables, AllocError>
+        ensures output { IfOk result (λ it. it.stdout_terminal ≡ stdout_terminal) }
+        ensures faults { IfOk result (λ it. it.stderr_terminal ≡ stderr_terminal) }
+    {
+        Ok(Variables {
+            force_color: variable(rt, "FORCE_COLOR")?,
+            no_color: variable(rt, "NO_COLOR")?,
+            clicolor: variable(rt, "CLICOLOR")?,
+            colorterm: variable(rt, "COLORTERM")?,
+            term: variable(rt, "TERM")?,
+            term_program: variable(rt, "TERM_PROGRAM")?,
+            vte_version: variable(rt, "VTE_VERSION")?,
+            konsole_version: variable(rt, "KONSOLE_VERSION")?,
+            wt_session: variable(rt, "WT_SESSION")?,
+            lc_all: variable(rt, "LC_ALL")?,
+            lc_ctype: variable(rt, "LC_CTYPE")?,
+            lang: variable(rt, "LANG")?,
+            columns: variable(rt, "COLUMNS")?,
+            no_graphics: variable(rt, "NO_GRAPHICS")?,
+            stdout_terminal,
+            stderr_terminal,
+        })
+    }
+
+    /// What they say of the terminal that a text for this stream goes to. Takes no memory.
+    pub fn terminal(self, stream: Stream) -> Terminal
+        ensures { IsDetected self stream result }
+    {
+        Terminal {
+            width: self.width(),
+            color: self.colours(stream),
+            unicode: self.draws_unicode(),
+            hyperlinks: self.shows_links(stream),
+            stdout_terminal: self.stdout_terminal,
+            stderr_terminal: self.stderr_terminal,
+            no_graphics: self.no_graphics,
+            no_color: self.no_color,
+        }
+    }
+
+    fn goes_to_terminal(&self, stream: Stream) -> bool
+        ensures { result ≡ goes_to_terminal self.now stream }
+    {
+        match stream {
+            Stream::Stdout => self.stdout_terminal,
+            Stream::Stderr => self.stderr_terminal,
+        }
+    }
+
+    fn colours(&self, stream: Stream) -> Option<bool>
+        ensures { result ≡ colours_of self.now stream }
+    {
+        match &self.force_color {
+            Some(text) => forced_colours(text.as_str()),
+            None => self.own_colours(stream),
+        }
+    }
+
+    fn own_colours(&self, stream: Stream) -> Option<bool>
+        ensures { result ≡ own_colours self.now stream }
+    {
+        if self.lacks_colours(stream) {
+            return None;
+        }
+        Some(self.has_many_colours())
+    }
+
+    fn lacks_colours(&self, stream: Stream) -> bool
+        ensures { result ≡ lacks_colours self.now stream }
+    {
+        self.refuses_colours()
+            || !self.goes_to_terminal(stream)
+            || is_set_to(&self.clicolor, "0")
+            || is_dumb(&self.term)
+    }
+
+    fn refuses_colours(&self) -> bool
+        ensures { result ≡ refuses_colours (option_map string_bytes self.now.no_color) }
+    {
+        match &self.no_color {
+            Some(text) => text.as_str() != "0",
+            None => false,
+        }
+    }
+
+    fn has_many_colours(&self) -> bool
+        ensures { result ≡ has_many_colours self.now }
+    {
+        is_set_to(&self.colorterm, "truecolor") || is_set_to(&self.colorterm, "24bit")
+    }
+
+    fn draws_unicode(&self) -> bool
+        ensures { result ≡ draws_unicode self.now }
+    {
+        if is_set_to(&self.term, "linux") {
+            return false;
+        }
+        match (&self.lc_all, &self.lc_ctype) {
+            (Some(text), _) => names_utf8(text.as_str()),
+            (None, Some(text)) => names_utf8(text.as_str()),
+            (None, None) => is_utf8_locale(&self.lang),
+        }
+    }
+
+    fn shows_links(&self, stream: Stream) -> bool
+        ensures { result ≡ shows_links self.now stream }
+    {
+        self.goes_to_terminal(stream)
+            && (is_linking_program(&self.term_program)
+                || is_linking_kind(&self.term)
+                || self.vte_version.is_some()
+                || self.konsole_version.is_some()
+                || self.wt_session.is_some())
+    }
+
+    fn width(&self) -> Option<usize>
+        ensures { IsWidth (option_map string_bytes self.now.columns) result }
+    {
+        match &self.columns {
+            Some(text) => width_of(text.as_str()),
+            None => None,
+        }
+    }
+}
+
+// A variable where it is set.
+fn variable<R: Env + AllocGlobal>(rt: &R, name: &str) -> Result<Option<String>, AllocError> {
+    match env::var(rt, name) {
+        Ok(text) => Ok(Some(text)),
+        Err(VarError::OutOfMemory) => Err(AllocError),
+        Err(VarError::NotPresent | VarError::NotUnicode) => Ok(None),
+    }
+}
+
+fn is_set_to(variable: &Option<String>, wanted: &str) -> bool
+    ensures { result ≡ is_set_to variable.now wanted.now }
+{
+    match variable {
+        Some(text) => text.as_str() == wanted,
+        None => false,
+    }
+}
+
+// The colours that are asked for, where this is the text of `FORCE_COLOR`.
+fn forced_colours(text: &str) -> Option<bool>
+    ensures { result ≡ forced_colours text.now }
+{
+    if text == "0" || text == "false" {
+        None
+    } else {
+        Some(text == "3")
+    }
+}
+
+fn is_dumb(term: &Option<String>) -> bool
+    ensures { result ≡ is_dumb term.now }
+{
+    match term {
+        Some(text) => text.as_str() == "dumb",
+        None => true,
+    }
+}
+
+fn names_utf8(text: &str) -> bool
+    ensures { result ≡ names_utf8 text.now }
+{
+    let bytes = text.as_bytes();
+    bytes.ends_with(b"UTF-8")
+        || bytes.ends_with(b"utf-8")
+        || bytes.ends_with(b"UTF8")
+        || bytes.ends_with(b"utf8")
+}
+
+fn is_utf8_locale(locale: &Option<String>) -> bool
+    ensures { result ≡ is_utf8_locale locale.now }
+{
+    match locale {
+        Some(text) => names_utf8(text.as_str()),
+        None => false,
+    }
+}
+
+fn is_linking_program(name: &Option<String>) -> bool
+    ensures { result ≡ is_linking_program name.now }
+{
+    is_set_to(name, "iTerm.app")
+        || is_set_to(name, "WezTerm")
+        || is_set_to(name, "vscode")
+        || is_set_to(name, "Hyper")
+        || is_set_to(name, "ghostty")
+        || is_set_to(name, "zed")
+}
+
+fn is_linking_kind(kind: &Option<String>) -> bool
+    ensures { result ≡ is_linking_kind kind.now }
+{
+    is_set_to(kind, "xterm-kitty") || is_set_to(kind, "alacritty") || is_set_to(kind, "xterm-ghostty")
+}
+
+// The width that a text of digits alone writes, from 1.
+fn width_of(text: &str) -> Option<usize>
+    ensures { IsWidth (Some text.now) result }
+{
+    if text.starts_with('+') {
+        return None;
+    }
+    match text.parse() {
+        Ok(0) => None,
+        Ok(width) => Some(width),
+        Err(_) => None,
+    }
+}
