@@ -80,7 +80,7 @@ abbrev pub shows_links : Variables → Stream → Bool
 shows_links v stream =
     goes_to_terminal v stream
     && (is_linking_program v.term_program || is_linking_kind v.term
-        || is_some v.vte_version || is_some v.konsole_version || is_some v.wt_session)
+    || is_some v.vte_version || is_some v.konsole_version || is_some v.wt_session)
 
 -- ---- the width
 

@@ -36,6 +36,7 @@ pub trait Streams {
 
 impl Streams for HostRuntime {
     type Out = Stdout;
+
     type Faults = Stderr;
 
     fn output(&self) -> Stdout {
@@ -305,7 +306,9 @@ fn is_linking_program(name: &Option<String>) -> bool
 fn is_linking_kind(kind: &Option<String>) -> bool
     ensures { result ≡ is_linking_kind kind.now }
 {
-    is_set_to(kind, "xterm-kitty") || is_set_to(kind, "alacritty") || is_set_to(kind, "xterm-ghostty")
+    is_set_to(kind, "xterm-kitty")
+        || is_set_to(kind, "alacritty")
+        || is_set_to(kind, "xterm-ghostty")
 }
 
 // The width that a text of digits alone writes, from 1.
