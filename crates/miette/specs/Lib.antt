@@ -1,10 +1,7 @@
-pub use Rattle.miette_protocol.specs.Diagnostic
-pub use Rattle.miette_protocol.specs.Meaning
-pub use Rattle.miette_protocol.specs.Reading
-pub use Rattle.miette_tree.specs.Report
-pub use Rattle.miette_tree.specs.Tree
-pub mod Options
-pub mod Choice
-pub mod Handler
-pub mod Detected
-pub mod Printed
+pub mod rules
+pub mod views
+pub use Rattle.miette_protocol.specs.views.Diagnostic
+pub use Rattle.miette_protocol.specs.views.Meaning
+pub use Rattle.miette_protocol.specs.rules.Reading
+pub use Rattle.miette_tree.specs.views.Report
+pub use Rattle.miette_tree.specs.rules.Tree

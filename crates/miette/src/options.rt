@@ -1,9 +1,9 @@
 //! What a user may ask of a handler, and the handler that comes of it.
 
 ghost use Rattle.std.specs.Prelude.{◌≡◌, ◌↔◌, ◌≤◌, IsTrue, None, Some, false, string_bytes, true};
-ghost use Rattle.miette_graphical.specs.Modes.{splits};
-ghost use Rattle.miette_style.specs.Themes.{theme_of};
-ghost use Rattle.miette.specs.Options.{no_options};
+ghost use Rattle.miette_graphical.specs.views.Modes.{splits};
+ghost use Rattle.miette_style.specs.rules.Themes.{theme_of};
+ghost use Rattle.miette.specs.rules.Options.{no_options};
 
 mod building;
 mod handler;
@@ -63,9 +63,9 @@ pub struct MietteHandlerOpts<H = Box<dyn Highlighter>> {
 
 impl<H> Model for MietteHandlerOpts<H> {
     ghost use Rattle.std.specs.Prelude.{◌≤◌, option_map, string_bytes, unwrap_or};
-    ghost use Rattle.miette_graphical.specs.Modes.{splits};
-    ghost use Rattle.miette_style.specs.Themes.{theme_of};
-    ghost use Rattle.miette.specs.Options.{Options};
+    ghost use Rattle.miette_graphical.specs.views.Modes.{splits};
+    ghost use Rattle.miette_style.specs.rules.Themes.{theme_of};
+    ghost use Rattle.miette.specs.rules.Options.{Options};
 
     ghost Value = { Options H };
 

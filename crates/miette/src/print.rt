@@ -2,9 +2,9 @@
 
 ghost use Rattle.std.specs.Prelude.{◌≡◌, ◌⊎◌, OnOk, OnErr};
 ghost use Rattle.std.specs.Process.{exit_status};
-ghost use Rattle.miette_tree.specs.Report.{tree_of};
-ghost use Rattle.miette.specs.Options.{no_options};
-ghost use Rattle.miette.specs.Printed.{IsPrinted, WritesOne};
+ghost use Rattle.miette_tree.specs.views.Report.{tree_of};
+ghost use Rattle.miette.specs.rules.Options.{no_options};
+ghost use Rattle.miette.specs.rules.Printed.{IsPrinted, WritesOne};
 
 use crate::options::MietteHandlerOpts;
 use crate::terminal::{Stream, Streams, detect};
@@ -53,7 +53,7 @@ impl From<AllocError> for PrintError {
 }
 
 impl From<RenderError> for PrintError {
-    ghost use Rattle.miette.specs.Printed.{print_error};
+    ghost use Rattle.miette.specs.rules.Printed.{print_error};
 
     ghost from_gives = { λ error it. it ≡ print_error error };
 

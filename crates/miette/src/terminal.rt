@@ -1,8 +1,8 @@
 //! What a program is told of its terminal: by variables, and by its streams.
 
 ghost use Rattle.std.specs.Prelude.{◌≡◌, IfOk, Some, option_map, string_bytes};
-ghost use Rattle.miette_style.specs.Themes.{refuses_colours};
-ghost use Rattle.miette.specs.Detected.{IsDetected, IsWidth, colours_of, draws_unicode, forced_colours, goes_to_terminal, has_many_colours, is_dumb, is_linking_kind, is_linking_program, is_set_to, is_utf8_locale, lacks_colours, names_utf8, own_colours, shows_links};
+ghost use Rattle.miette_style.specs.rules.Themes.{refuses_colours};
+ghost use Rattle.miette.specs.rules.Detected.{IsDetected, IsWidth, colours_of, draws_unicode, forced_colours, goes_to_terminal, has_many_colours, is_dumb, is_linking_kind, is_linking_program, is_set_to, is_utf8_locale, lacks_colours, names_utf8, own_colours, shows_links};
 
 use miette_style::theme::Terminal;
 use std::alloc::AllocError;

@@ -3,9 +3,9 @@ use Rattle.std.proofs.Common.{Global, ◌≡◌, ℕ, suc, zero, ◌+◌, ◌<�
 use Rattle.std.proofs.Math.Seq.{drop-cons}
 use Rattle.std.proofs.lemmas.List.{map-append}
 use Rattle.serde_json.specs.Data.{Data, item}
-use Rattle.miette_description.specs.Seen.{seen, items_seen}
+use Rattle.miette_description.specs.views.Seen.{seen, items_seen}
 use Rattle.json.specs.declared.value.Value.{Value}
-use Rattle.miette_description.specs.Members.{given, all_of}
+use Rattle.miette_description.specs.rules.Members.{given, all_of}
 
 carried : {A : Type 0} (old : List A) (x : A) (o : Option (List A)) → option_map (λ r. old ++ r) (given o (λ xs. Some (x ∷ xs))) ≡ option_map (λ r. (old ++ x ∷ []) ++ r) o
 carried old x None = refl

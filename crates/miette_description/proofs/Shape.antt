@@ -5,11 +5,11 @@ use Rattle.std.specs.Ordering.{match_ordering}
 use Rattle.std.specs.Cmp.Lexicographic.{slice_cmp}
 use Rattle.serde_json.specs.Data.{Data, null, boolean, number, string, array, object, Items, no_items, item, Members, no_members, member, depth, items_depth, members_depth}
 use Rattle.serde_json.specs.Find.{get, get_member, as_null, as_array}
-use Rattle.miette_description.specs.Seen.{seen, items_seen}
+use Rattle.miette_description.specs.views.Seen.{seen, items_seen}
 use Rattle.json.specs.declared.value.Value.{Value}
-use Rattle.miette_tree.specs.Tree.{Tree, Trees, trees}
-use Rattle.miette_description.specs.Members.{given, present, at_key, typed, all_of}
-use Rattle.miette_description.specs.Description.{nullable, report_from, report_in, cause_in, related_in, reports_in, each_in}
+use Rattle.miette_tree.specs.rules.Tree.{Tree, Trees, trees}
+use Rattle.miette_description.specs.rules.Members.{given, present, at_key, typed, all_of}
+use Rattle.miette_description.specs.rules.Description.{nullable, report_from, report_in, cause_in, related_in, reports_in, each_in}
 
 typed_here : {A : Type 0} (b : Bool) (reads : Data → Option A) (d : Data) → is_some (as_null d) ≡ b → nullable d (reads d) ≡ typed reads (present (Some d))
 typed_here true reads d e = simp e

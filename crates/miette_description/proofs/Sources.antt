@@ -6,12 +6,12 @@ use Rattle.std.specs.Cmp.Lexicographic.{slice_cmp}
 use Rattle.serde_json.specs.Data.{Data, null, boolean, number, string, array, object, Items, no_items, item, Members, no_members, member}
 use Rattle.serde_json.specs.Find.{as_null, as_str}
 use Rattle.serde_json.specs.Written.{has_float}
-use Rattle.miette_protocol.specs.Reading.{Source}
-use Rattle.miette_protocol.specs.Meaning.{Meaning}
-use Rattle.miette_tree.specs.Tree.{Tree, tree, Trees, no_trees, wrapped}
-use Rattle.miette_json.specs.Reads.{AlwaysReads, CauseAlwaysReads, AllAlwaysRead}
-use Rattle.miette_description.specs.Members.{given, at_key, typed, list_of, source_named, source_of, meaning_in}
-use Rattle.miette_description.specs.Description.{one_cause, wrapped_in, assembled, report_from, nullable, report_in, cause_in, related_in, reports_in, each_in, described}
+use Rattle.miette_protocol.specs.rules.Reading.{Source}
+use Rattle.miette_protocol.specs.views.Meaning.{Meaning}
+use Rattle.miette_tree.specs.rules.Tree.{Tree, tree, Trees, no_trees, wrapped}
+use Rattle.miette_json.specs.rules.Reads.{AlwaysReads, CauseAlwaysReads, AllAlwaysRead}
+use Rattle.miette_description.specs.rules.Members.{given, at_key, typed, list_of, source_named, source_of, meaning_in}
+use Rattle.miette_description.specs.rules.Description.{one_cause, wrapped_in, assembled, report_from, nullable, report_in, cause_in, related_in, reports_in, each_in, described}
 
 -- ---- through options
 

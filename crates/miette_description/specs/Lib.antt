@@ -1,4 +1,3 @@
-pub mod Members
-pub mod Description
-pub mod Built
-pub mod Seen
+pub mod rules
+pub mod views
+pub mod steps

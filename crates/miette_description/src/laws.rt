@@ -2,10 +2,10 @@
 
 ghost use Rattle.std.specs.Prelude.{◌≡◌, Some, codes};
 ghost use Rattle.serde_json.specs.Data.{Data};
-ghost use Rattle.miette_tree.specs.Tree.{Tree};
-ghost use Rattle.miette_json.specs.Reads.{AlwaysReads};
-ghost use Rattle.miette_description.specs.Members.{typed, at_key};
-ghost use Rattle.miette_description.specs.Description.{report_from, report_in, reports_in, described};
+ghost use Rattle.miette_tree.specs.rules.Tree.{Tree};
+ghost use Rattle.miette_json.specs.rules.Reads.{AlwaysReads};
+ghost use Rattle.miette_description.specs.rules.Members.{typed, at_key};
+ghost use Rattle.miette_description.specs.rules.Description.{report_from, report_in, reports_in, described};
 
 /// A description is read by what stands at its keys, and each of its cause and related reports is a description.
 pub fn a_description_is_read_by_its_keys()

@@ -3,10 +3,10 @@
 ghost use Rattle.std.specs.Prelude.{◌≡◌, Option, Some, None, IfOk, option_map, map, string_bytes};
 ghost use Rattle.std.specs.Option.{option_copied};
 ghost use Rattle.serde_json.specs.Find.{as_str};
-ghost use Rattle.miette_description.specs.Seen.{seen, items_seen};
-ghost use Rattle.miette_protocol.specs.Diagnostic.{meaning_of};
-ghost use Rattle.miette_tree.specs.Owned.{owned_source};
-ghost use Rattle.miette_description.specs.Members.{given, at_key, typed, all_of, list_of, severity_of, label_of, source_of, meaning_in};
+ghost use Rattle.miette_description.specs.views.Seen.{seen, items_seen};
+ghost use Rattle.miette_protocol.specs.views.Diagnostic.{meaning_of};
+ghost use Rattle.miette_tree.specs.views.Owned.{owned_source};
+ghost use Rattle.miette_description.specs.rules.Members.{given, at_key, typed, all_of, list_of, severity_of, label_of, source_of, meaning_in};
 
 use crate::error::BuildError;
 use crate::members::{lines_at, needed_text_at, text_at, truth_at, whole_at};

@@ -4,15 +4,15 @@ ghost use Rattle.std.specs.Prelude.{◌≡◌, List, [], Option, Some, None, IfO
 ghost use Rattle.json.specs.Value.{value_view};
 ghost use Rattle.serde_json.specs.Read.{read, of_json};
 ghost use Rattle.serde_json.specs.Written.{has_float};
-ghost use Rattle.miette_description.specs.Seen.{seen, items_seen};
-ghost use Rattle.miette_tree.specs.Tree.{tree, head, source_of, cause_of, related_of, texts, no_trees, trees, with_source, with_cause, with_related};
-ghost use Rattle.miette_tree.specs.Report.{tree_of};
-ghost use Rattle.miette_json.specs.Reads.{AlwaysReads};
-ghost use Rattle.miette_description.specs.Members.{given, typed, at_key, all_of};
-ghost use Rattle.miette_protocol.specs.Diagnostic.{meaning_of};
-ghost use Rattle.miette_tree.specs.Owned.{owned_source};
-ghost use Rattle.miette_description.specs.Description.{one_cause, wrapped_in, assembled, report_in, reports_in, described, tree_for};
-ghost use Rattle.miette_description.specs.Built.{maybe_sourced, maybe_related};
+ghost use Rattle.miette_description.specs.views.Seen.{seen, items_seen};
+ghost use Rattle.miette_tree.specs.rules.Tree.{tree, head, source_of, cause_of, related_of, texts, no_trees, trees, with_source, with_cause, with_related};
+ghost use Rattle.miette_tree.specs.views.Report.{tree_of};
+ghost use Rattle.miette_json.specs.rules.Reads.{AlwaysReads};
+ghost use Rattle.miette_description.specs.rules.Members.{given, typed, at_key, all_of};
+ghost use Rattle.miette_protocol.specs.views.Diagnostic.{meaning_of};
+ghost use Rattle.miette_tree.specs.views.Owned.{owned_source};
+ghost use Rattle.miette_description.specs.rules.Description.{one_cause, wrapped_in, assembled, report_in, reports_in, described, tree_for};
+ghost use Rattle.miette_description.specs.steps.Built.{maybe_sourced, maybe_related};
 
 use crate::error::BuildError;
 use crate::numbers::{is_whole, value_has_float};

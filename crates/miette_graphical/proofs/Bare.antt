@@ -1,22 +1,22 @@
 -- Answers without a highlighter. Where every source always reads they say nothing: the text is the one in which nothing is listed.
 use Rattle.std.proofs.Common.{◌≡◌, ℕ, Bool, true, false, List, [], ◌++◌, refl, sym, ap, ap₂, ◌∙◌, Option, if◌then◌else◌}
 use Rattle.std.proofs.lemmas.Bool.{and_parts}
-use Rattle.miette_text.specs.Cutting.{without_trailing}
-use Rattle.miette_protocol.specs.Meaning.{Meaning}
-use Rattle.miette_protocol.specs.Reading.{Source}
+use Rattle.miette_text.specs.rules.Cutting.{without_trailing}
+use Rattle.miette_protocol.specs.views.Meaning.{Meaning}
+use Rattle.miette_protocol.specs.rules.Reading.{Source}
 use Rattle.miette_protocol.specs.declared.protocol.Severity.{Severity}
-use Rattle.miette_tree.specs.Tree.{Tree, tree, Cause, diagnostic, texts, Trees, no_trees, more_trees, effective}
-use Rattle.miette_layout.specs.Frames as frames
-use Rattle.miette_graphical.specs.Settings.{Settings}
-use Rattle.miette_graphical.specs.Answers.{Answers, unlisted, listed, RelatedAnswers, no_more, and_more, nothing_listed, own_answer, cause_answers, related_answers, first_answers, later_answers}
-use Rattle.miette_graphical.specs.Colourless.{colourless, unhighlighted_answer, unhighlighted, unhighlighted_related}
-use Rattle.miette_graphical.specs.Indents.{narrowed}
-use Rattle.miette_graphical.specs.Parts.{SnippetRows, rows_text, under_arrow, title_text}
-use Rattle.miette_tree.specs.Parts.{given_labels}
-use Rattle.miette_graphical.specs.Printed.{always_reads, all_read, printed, printed_causes, printed_related, printed_inner, printed_sibling}
-use Rattle.miette_graphical.specs.Snippets.{layout_settings}
-use Rattle.miette_graphical.specs.Text.{ends_there, are_last, only_if, body, inner_text, causes_text, related_text, report_text}
-use Rattle.miette_graphical.specs.Answered.{IsAnswer, AreCauseAnswers, AreRelatedAnswers, AreAnswers}
+use Rattle.miette_tree.specs.rules.Tree.{Tree, tree, Cause, diagnostic, texts, Trees, no_trees, more_trees, effective}
+use Rattle.miette_layout.specs.rules.Frames as frames
+use Rattle.miette_graphical.specs.rules.Settings.{Settings}
+use Rattle.miette_graphical.specs.rules.Answers.{Answers, unlisted, listed, RelatedAnswers, no_more, and_more, nothing_listed, own_answer, cause_answers, related_answers, first_answers, later_answers}
+use Rattle.miette_graphical.specs.laws.Colourless.{colourless, unhighlighted_answer, unhighlighted, unhighlighted_related}
+use Rattle.miette_graphical.specs.rules.Indents.{narrowed}
+use Rattle.miette_graphical.specs.rules.Parts.{SnippetRows, rows_text, under_arrow, title_text}
+use Rattle.miette_tree.specs.rules.Parts.{given_labels}
+use Rattle.miette_graphical.specs.rules.Printed.{always_reads, all_read, printed, printed_causes, printed_related, printed_inner, printed_sibling}
+use Rattle.miette_graphical.specs.rules.Snippets.{layout_settings}
+use Rattle.miette_graphical.specs.rules.Text.{ends_there, are_last, only_if, body, inner_text, causes_text, related_text, report_text}
+use Rattle.miette_graphical.specs.rules.Answered.{IsAnswer, AreCauseAnswers, AreRelatedAnswers, AreAnswers}
 use Rattle.miette_graphical.proofs.Lists.{both_read}
 use Rattle.miette_graphical.proofs.Outermost.{report_over}
 

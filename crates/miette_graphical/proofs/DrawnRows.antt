@@ -1,27 +1,27 @@
 -- The rows of snippets under answers: where nothing fails, they are those in which nothing is listed.
 use Rattle.std.proofs.Common.{◌≡◌, ◌≢◌, ℕ, Bool, true, false, ◌&&◌, ◌||◌, if◌then◌else◌, ◌⊎◌, inl, inr, List, [], ◌∷◌, refl, sym, ap, ap₂, ◌∙◌, subst, Option, Some, None, is_some, option_map, codes, length, ◌<◌, ◌≤◌, arith}
-use Rattle.miette_protocol.specs.Meaning.{Label, Meaning}
-use Rattle.miette_protocol.specs.Reading.{Source, Span}
-use Rattle.miette_text.specs.Tame.{is_nil}
-use Rattle.miette_lines.specs.Answers.{Highlight, NoneFails, AlwaysReads, next_answer, later_answers}
-use Rattle.miette_lines.specs.Contexts.{is_accepted, contents, lines_of_contents}
-use Rattle.miette_layout.specs.Drawn.{MayGive}
-use Rattle.miette_layout.specs.Frames as frames
-use Rattle.miette_layout.specs.Frames.{refused_row}
-use Rattle.miette_lines.specs.Around.{has_own, group_context}
-use Rattle.miette_lines.specs.Groups.{refusal, joins_before, joined, groups_from, groups_answered, own_groups, groups_of, some_fails, groups_fail, in_order, spans_of}
-use Rattle.miette_layout.specs.Highlighted.{EachHasPieces, SnippetsHavePieces, texts_of}
-use Rattle.miette_layout.specs.Layout.{snippet_rows, rows_unless, rows_of_groups, settings_around, all_snippets}
-use Rattle.miette_layout.specs.Rows.{Row}
-use Rattle.miette_layout.specs.Told.{Token, told_rows}
-use Rattle.miette_graphical.specs.Answers.{Answer, nothing_listed, pieces_listed}
-use Rattle.miette_graphical.specs.Answered.{HasRows, HasPieces, IsAnswerOf, AreDrawn, IsDrawn}
-use Rattle.miette_graphical.specs.Printed.{always_reads}
-use Rattle.miette_graphical.specs.Parts.{rows_text}
-use Rattle.miette_tree.specs.Parts.{given_labels}
-use Rattle.miette_graphical.specs.Printing.{page_text}
-use Rattle.miette_graphical.specs.Settings.{Settings}
-use Rattle.miette_graphical.specs.Snippets.{layout_settings, shown_rows, drawn_rows}
+use Rattle.miette_protocol.specs.views.Meaning.{Label, Meaning}
+use Rattle.miette_protocol.specs.rules.Reading.{Source, Span}
+use Rattle.miette_text.specs.rules.Tame.{is_nil}
+use Rattle.miette_lines.specs.rules.Answers.{Highlight, NoneFails, AlwaysReads, next_answer, later_answers}
+use Rattle.miette_lines.specs.rules.Contexts.{is_accepted, contents, lines_of_contents}
+use Rattle.miette_layout.specs.views.Drawn.{MayGive}
+use Rattle.miette_layout.specs.rules.Frames as frames
+use Rattle.miette_layout.specs.rules.Frames.{refused_row}
+use Rattle.miette_lines.specs.rules.Around.{has_own, group_context}
+use Rattle.miette_lines.specs.rules.Groups.{refusal, joins_before, joined, groups_from, groups_answered, own_groups, groups_of, some_fails, groups_fail, in_order, spans_of}
+use Rattle.miette_layout.specs.rules.Highlighted.{EachHasPieces, SnippetsHavePieces, texts_of}
+use Rattle.miette_layout.specs.rules.Layout.{snippet_rows, rows_unless, rows_of_groups, settings_around, all_snippets}
+use Rattle.miette_layout.specs.rules.Rows.{Row}
+use Rattle.miette_layout.specs.views.Told.{Token, told_rows}
+use Rattle.miette_graphical.specs.rules.Answers.{Answer, nothing_listed, pieces_listed}
+use Rattle.miette_graphical.specs.rules.Answered.{HasRows, HasPieces, IsAnswerOf, AreDrawn, IsDrawn}
+use Rattle.miette_graphical.specs.rules.Printed.{always_reads}
+use Rattle.miette_graphical.specs.rules.Parts.{rows_text}
+use Rattle.miette_tree.specs.rules.Parts.{given_labels}
+use Rattle.miette_graphical.specs.views.Printing.{page_text}
+use Rattle.miette_graphical.specs.rules.Settings.{Settings}
+use Rattle.miette_graphical.specs.rules.Snippets.{layout_settings, shown_rows, drawn_rows}
 use Rattle.miette_graphical.proofs.Printed.{rows_printed}
 
 next_none : (fails : List Bool) → NoneFails fails → next_answer fails ≡ false

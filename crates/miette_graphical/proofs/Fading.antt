@@ -1,18 +1,18 @@
 -- Texts that are tame, and the same texts without their colours.
 use Rattle.std.proofs.Common.{◌≡◌, ℕ, ◌-◌, Bool, true, false, List, [], ◌∷◌, ◌++◌, map, refl, sym, ap, ap₂, ◌∙◌, if◌then◌else◌}
-use Rattle.miette_text.specs.Sequences.{tokens, erase}
-use Rattle.miette_text.specs.Tame.{IsTame, AllTame}
-use Rattle.miette_text.specs.Runs.{Run, HaveNoEscape, plain_run, print}
-use Rattle.miette_text.specs.Cutting.{without_leading, without_trailing}
-use Rattle.miette_text.specs.Wrapping.{Layout, columns_of, wrapped}
+use Rattle.miette_text.specs.rules.Sequences.{tokens, erase}
+use Rattle.miette_text.specs.rules.Tame.{IsTame, AllTame}
+use Rattle.miette_text.specs.rules.Runs.{Run, HaveNoEscape, plain_run, print}
+use Rattle.miette_text.specs.rules.Cutting.{without_leading, without_trailing}
+use Rattle.miette_text.specs.rules.Wrapping.{Layout, columns_of, wrapped}
 use Rattle.miette_graphical.proofs.TextLaws.{TextLaws, plain-tame, plain-erase}
-use Rattle.miette_graphical.specs.Settings.{Settings}
-use Rattle.miette_layout.specs.Clean.{IsClean}
-use Rattle.miette_graphical.specs.Clean.{HaveNoEscapes}
-use Rattle.miette_graphical.specs.Colourless.{colourless}
-use Rattle.miette_graphical.specs.Indents.{wrapped_under}
-use Rattle.miette_graphical.specs.Parts.{rows_text, line_feed}
-use Rattle.miette_graphical.specs.Text.{only_if}
+use Rattle.miette_graphical.specs.rules.Settings.{Settings}
+use Rattle.miette_layout.specs.laws.Clean.{IsClean}
+use Rattle.miette_graphical.specs.laws.Clean.{HaveNoEscapes}
+use Rattle.miette_graphical.specs.laws.Colourless.{colourless}
+use Rattle.miette_graphical.specs.rules.Indents.{wrapped_under}
+use Rattle.miette_graphical.specs.rules.Parts.{rows_text, line_feed}
+use Rattle.miette_graphical.specs.rules.Text.{only_if}
 
 -- The first text is tame, and the second is what it is without its colours.
 pub record Fades (x y : List ℕ) : Type 0 where

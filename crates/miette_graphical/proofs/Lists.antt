@@ -1,7 +1,7 @@
 -- Lists of printed diagnostics, of which every one always reads, or not.
 use Rattle.std.proofs.Common.{◌≡◌, Bool, true, false, ◌&&◌, List, [], ◌∷◌, ◌++◌, refl, sym, ap, ◌∙◌}
 use Rattle.std.proofs.lemmas.Bool.{and_parts}
-use Rattle.miette_graphical.specs.Printed.{Printed, always_reads, all_read}
+use Rattle.miette_graphical.specs.rules.Printed.{Printed, always_reads, all_read}
 
 and_assoc : (x y z : Bool) → (x && (y && z)) ≡ (x && y && z)
 and_assoc true y z = refl

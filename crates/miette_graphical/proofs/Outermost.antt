@@ -1,10 +1,10 @@
 -- The text of the outermost report, from the texts of its parts.
 use Rattle.std.specs.Prelude.{ℕ, List, ◌++◌}
-use Rattle.miette_text.specs.Runs.{print}
-use Rattle.miette_protocol.specs.Meaning.{Meaning}
-use Rattle.miette_graphical.specs.Settings.{Settings}
-use Rattle.miette_graphical.specs.Parts.{header, footer_text}
-use Rattle.miette_graphical.specs.Text.{body_over}
+use Rattle.miette_text.specs.rules.Runs.{print}
+use Rattle.miette_protocol.specs.views.Meaning.{Meaning}
+use Rattle.miette_graphical.specs.rules.Settings.{Settings}
+use Rattle.miette_graphical.specs.rules.Parts.{header, footer_text}
+use Rattle.miette_graphical.specs.rules.Text.{body_over}
 
 -- header, body, footer
 abbrev pub report_over : Settings → Meaning → List ℕ → List ℕ → List ℕ → List ℕ

@@ -1,29 +1,29 @@
 -- The parts of a diagnostic's text, without their colours.
 use Rattle.std.proofs.Common.{◌≡◌, ℕ, ◌-◌, Bool, true, false, not, ◌&&◌, List, [], ◌∷◌, ◌++◌, refl, sym, ap, ap₂, ◌∙◌, chars, Option, Some, None, IfSome}
 use Rattle.std.proofs.lemmas.Bool.{and_parts}
-use Rattle.miette_style.specs.Escapes.{is_escape}
-use Rattle.miette_text.specs.Tame.{is_nil}
-use Rattle.miette_style.specs.Escapes.{no_escape}
-use Rattle.miette_text.specs.Runs.{Run, Styled, print}
-use Rattle.miette_style.specs.Styles.{plain}
-use Rattle.miette_protocol.specs.Meaning.{Meaning, Label}
-use Rattle.miette_protocol.specs.Reading.{Source}
+use Rattle.miette_style.specs.rules.Escapes.{is_escape}
+use Rattle.miette_text.specs.rules.Tame.{is_nil}
+use Rattle.miette_style.specs.rules.Escapes.{no_escape}
+use Rattle.miette_text.specs.rules.Runs.{Run, Styled, print}
+use Rattle.miette_style.specs.rules.Styles.{plain}
+use Rattle.miette_protocol.specs.views.Meaning.{Meaning, Label}
+use Rattle.miette_protocol.specs.rules.Reading.{Source}
 use Rattle.miette_protocol.specs.declared.protocol.Severity.{Severity}
 use Rattle.miette_protocol.specs.declared.protocol.Severity.TheVariants.{Advice, Warning, Error}
-use Rattle.miette_graphical.specs.Settings.{Settings, Urls, AsLinks, AsText, Hidden, icon, icon_in, style_in, severity_style}
-use Rattle.miette_style.specs.Themes.{Styles}
+use Rattle.miette_graphical.specs.rules.Settings.{Settings, Urls, AsLinks, AsText, Hidden, icon, icon_in, style_in, severity_style}
+use Rattle.miette_style.specs.rules.Themes.{Styles}
 use Rattle.miette_style.specs.declared.theme.ThemeCharacters.{ThemeCharacters}
 use Rattle.miette_graphical.proofs.TextLaws.{TextLaws}
-use Rattle.miette_graphical.specs.Answers.{Answer}
-use Rattle.miette_graphical.specs.Indents.{bare, spaces, wrapped_under, icon_indent, bar_indent, arrow_text, stem_text, arrow_indent, stem_indent, help_indent, further_help_indent, footer_indent, narrowed}
-use Rattle.miette_graphical.specs.Parts.{footer_of, line_feed, header, header_by, message_text, help_text, footer_text, under_arrow, severity_title, header_or_end, title_text, SnippetRows, rows_text}
-use Rattle.miette_tree.specs.Parts.{given_labels}
-use Rattle.miette_graphical.specs.Text.{cause_texts, body, inner_text}
-use Rattle.miette_tree.specs.Tree.{effective}
+use Rattle.miette_graphical.specs.rules.Answers.{Answer}
+use Rattle.miette_graphical.specs.rules.Indents.{bare, spaces, wrapped_under, icon_indent, bar_indent, arrow_text, stem_text, arrow_indent, stem_indent, help_indent, further_help_indent, footer_indent, narrowed}
+use Rattle.miette_graphical.specs.rules.Parts.{footer_of, line_feed, header, header_by, message_text, help_text, footer_text, under_arrow, severity_title, header_or_end, title_text, SnippetRows, rows_text}
+use Rattle.miette_tree.specs.rules.Parts.{given_labels}
+use Rattle.miette_graphical.specs.rules.Text.{cause_texts, body, inner_text}
+use Rattle.miette_tree.specs.rules.Tree.{effective}
 use Rattle.std.specs.List.{AllByRecursion}
-use Rattle.miette_layout.specs.Clean.{IsClean, IsCleanCode, IsCleanText, IsCleanLabel, IsCleanSource}
-use Rattle.miette_graphical.specs.Clean.{AreCleanCharacters, AreCleanSettings, AreCleanLabels, IsCleanMeaning}
-use Rattle.miette_graphical.specs.Colourless.{faded, colourless, unhighlighted_answer, AreSnippets}
+use Rattle.miette_layout.specs.laws.Clean.{IsClean, IsCleanCode, IsCleanText, IsCleanLabel, IsCleanSource}
+use Rattle.miette_graphical.specs.laws.Clean.{AreCleanCharacters, AreCleanSettings, AreCleanLabels, IsCleanMeaning}
+use Rattle.miette_graphical.specs.laws.Colourless.{faded, colourless, unhighlighted_answer, AreSnippets}
 use Rattle.miette_graphical.proofs.Fading.{Fades, Pales, fades-to, fades-append, fades-clean, fades-print, fades-leading, fades-under, fades-feed, fades-rows, columns-pale}
 
 module _ (laws : TextLaws) where

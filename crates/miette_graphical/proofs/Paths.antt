@@ -2,11 +2,11 @@
 use Rattle.std.proofs.Common.{◌≡◌, ℕ, zero, suc, ◌⊎◌, inl, inr, Bool, true, false, if◌then◌else◌, List, [], ◌∷◌, ◌++◌, Option, Some, None, refl, ap, subst, arith}
 use Rattle.std.specs.List.{Contains}
 use Rattle.std.proofs.lemmas.List.Elements.{Contains-append_left, Contains-append_right, Contains-append_cases, Contains-push_cases}
-use Rattle.miette_protocol.specs.Reading.{Source}
-use Rattle.miette_tree.specs.Tree.{effective, Tree, tree, Cause, diagnostic, texts, Trees, no_trees, more_trees}
-use Rattle.miette_graphical.specs.Settings.{Settings}
-use Rattle.miette_graphical.specs.Printed.{Printed, over, printed, printed_causes, printed_related}
-use Rattle.miette_graphical.specs.Paths.{Step, to_cause, to_related, at_cause, at_related, printed_at, HasPath}
+use Rattle.miette_protocol.specs.rules.Reading.{Source}
+use Rattle.miette_tree.specs.rules.Tree.{effective, Tree, tree, Cause, diagnostic, texts, Trees, no_trees, more_trees}
+use Rattle.miette_graphical.specs.rules.Settings.{Settings}
+use Rattle.miette_graphical.specs.rules.Printed.{Printed, over, printed, printed_causes, printed_related}
+use Rattle.miette_graphical.specs.laws.Paths.{Step, to_cause, to_related, at_cause, at_related, printed_at, HasPath}
 
 -- ---- lists
 

@@ -1,17 +1,17 @@
 -- What a page prints, part by part, and that it is what its rows print.
 use Rattle.std.proofs.Common.{◌≡◌, ℕ, false, List, [], ◌∷◌, ◌++◌, map, refl, sym, ap, ◌∙◌, append_assoc, append-nil, chars, encode_utf8_all}
 use Rattle.std.proofs.lemmas.Str.{chars-nil}
-use Rattle.miette_text.specs.Runs.{print, printed_run}
-use Rattle.miette_style.specs.Styles.{plain}
+use Rattle.miette_text.specs.rules.Runs.{print, printed_run}
+use Rattle.miette_style.specs.rules.Styles.{plain}
 use Rattle.miette_style.specs.declared.style.Style.{Style}
-use Rattle.miette_layout.specs.Rows.{Row}
-use Rattle.miette_layout.specs.Told.{Token, begins, byte, row_end, bytes_told, told, told_rows}
-use Rattle.miette_layout.specs.PageParts.{part_told, begins_with_byte, EndsBefore}
+use Rattle.miette_layout.specs.rules.Rows.{Row}
+use Rattle.miette_layout.specs.views.Told.{Token, begins, byte, row_end, bytes_told, told, told_rows}
+use Rattle.miette_layout.specs.views.PageParts.{part_told, begins_with_byte, EndsBefore}
 use Rattle.miette_layout.specs.declared.page.Part.{Part}
 use Rattle.miette_layout.specs.declared.page.Part.TheVariants as parts
-use Rattle.miette_graphical.specs.Parts.{rows_text}
-use Rattle.miette_graphical.specs.Printing.{page_text_from, page_text, part_text}
-use Rattle.miette_graphical.specs.Snippets.{run_text, runs_of_row}
+use Rattle.miette_graphical.specs.rules.Parts.{rows_text}
+use Rattle.miette_graphical.specs.views.Printing.{page_text_from, page_text, part_text}
+use Rattle.miette_graphical.specs.rules.Snippets.{run_text, runs_of_row}
 
 -- the bytes of a run are gathered
 gathered : (style : Style) (bytes more : List ℕ) (tokens : List Token) → page_text_from style bytes (bytes_told more ++ tokens) ≡ page_text_from style (bytes ++ more) tokens

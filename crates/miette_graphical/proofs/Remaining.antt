@@ -1,21 +1,21 @@
 -- Going along a list of causes or of related reports: some are printed, and some remain.
 use Rattle.std.proofs.Common.{◌≡◌, ◌≤◌, ◌<◌, Bool, false, List, [], ◌∷◌, ℕ, suc, length, get_or, map, refl, sym, subst, arith, Option}
 use Rattle.std.specs.Borrow.{Bor}
-use Rattle.miette_protocol.specs.Meaning.{Meaning}
-use Rattle.miette_protocol.specs.Reading.{Source}
+use Rattle.miette_protocol.specs.views.Meaning.{Meaning}
+use Rattle.miette_protocol.specs.rules.Reading.{Source}
 use Rattle.miette_protocol.specs.declared.protocol.Severity.{Severity}
-use Rattle.miette_tree.specs.Tree.{Tree, Cause, diagnostic, texts, Trees, more_trees, trees, cause_of, source_of, effective}
-use Rattle.miette_tree.specs.Report.{cause_shown}
+use Rattle.miette_tree.specs.rules.Tree.{Tree, Cause, diagnostic, texts, Trees, more_trees, trees, cause_of, source_of, effective}
+use Rattle.miette_tree.specs.views.Report.{cause_shown}
 use Rattle.miette_tree.specs.declared.report.Report.{Report}
 use Rattle.miette_tree.specs.declared.report.Cause as shown
 use Rattle.miette_tree.specs.declared.report.Cause.TheVariants as seen
-use Rattle.miette_graphical.specs.Answered.{AreCauses, AreRelated, IsOneCause, IsOneRelated}
-use Rattle.miette_tree.specs.Handler.{AppendsOne}
-use Rattle.miette_tree.specs.Chain.{texts_below}
-use Rattle.miette_graphical.specs.Parts.{SnippetRows}
-use Rattle.miette_graphical.specs.Printed.{Printed, all_read, printed_causes, printed_related}
-use Rattle.miette_graphical.specs.Settings.{Settings}
-use Rattle.miette_graphical.specs.Text.{are_last}
+use Rattle.miette_graphical.specs.rules.Answered.{AreCauses, AreRelated, IsOneCause, IsOneRelated}
+use Rattle.miette_tree.specs.views.Handler.{AppendsOne}
+use Rattle.miette_tree.specs.rules.Chain.{texts_below}
+use Rattle.miette_graphical.specs.rules.Parts.{SnippetRows}
+use Rattle.miette_graphical.specs.rules.Printed.{Printed, all_read, printed_causes, printed_related}
+use Rattle.miette_graphical.specs.rules.Settings.{Settings}
+use Rattle.miette_graphical.specs.rules.Text.{are_last}
 use Rattle.miette_graphical.proofs.Sizes.{cause_size, tree_size, trees_size, cause_falls}
 use Rattle.miette_graphical.proofs.Steps.{cause_behind, later_cause_fails, related_behind, later_related_fails}
 

@@ -1,21 +1,21 @@
 -- A whole report without its colours, by induction over the tree.
 use Rattle.std.proofs.Common.{◌≡◌, ℕ, Bool, List, [], ◌++◌, refl, ap, ap₂, ◌∙◌, Option, IfSome, if◌then◌else◌}
-use Rattle.miette_text.specs.Runs.{print}
-use Rattle.miette_text.specs.Cutting.{without_trailing}
-use Rattle.miette_protocol.specs.Meaning.{Meaning}
-use Rattle.miette_protocol.specs.Reading.{Source}
-use Rattle.miette_tree.specs.Tree.{Tree, tree, Cause, diagnostic, texts, Trees, no_trees, more_trees}
+use Rattle.miette_text.specs.rules.Runs.{print}
+use Rattle.miette_text.specs.rules.Cutting.{without_trailing}
+use Rattle.miette_protocol.specs.views.Meaning.{Meaning}
+use Rattle.miette_protocol.specs.rules.Reading.{Source}
+use Rattle.miette_tree.specs.rules.Tree.{Tree, tree, Cause, diagnostic, texts, Trees, no_trees, more_trees}
 use Rattle.miette_protocol.specs.declared.protocol.Severity.{Severity}
 use Rattle.miette_graphical.proofs.TextLaws.{TextLaws}
-use Rattle.miette_graphical.specs.Settings.{Settings}
-use Rattle.miette_graphical.specs.Answers.{Answer, Answers, RelatedAnswers, own_answer, cause_answers, related_answers, first_answers, later_answers}
-use Rattle.miette_graphical.specs.Indents.{narrowed}
-use Rattle.miette_graphical.specs.Parts.{SnippetRows, header, footer_text, under_arrow, title_text}
-use Rattle.miette_graphical.specs.Text.{ends_there, are_last, only_if, body, inner_text, causes_text, related_text, report_text}
-use Rattle.miette_tree.specs.Tree.{effective}
-use Rattle.miette_layout.specs.Clean.{IsCleanSource}
-use Rattle.miette_graphical.specs.Clean.{AreCleanSettings, IsCleanMeaning, IsCleanTree, IsCleanCause, AreCleanTrees}
-use Rattle.miette_graphical.specs.Colourless.{colourless, unhighlighted_answer, unhighlighted, unhighlighted_related, AreSnippets}
+use Rattle.miette_graphical.specs.rules.Settings.{Settings}
+use Rattle.miette_graphical.specs.rules.Answers.{Answer, Answers, RelatedAnswers, own_answer, cause_answers, related_answers, first_answers, later_answers}
+use Rattle.miette_graphical.specs.rules.Indents.{narrowed}
+use Rattle.miette_graphical.specs.rules.Parts.{SnippetRows, header, footer_text, under_arrow, title_text}
+use Rattle.miette_graphical.specs.rules.Text.{ends_there, are_last, only_if, body, inner_text, causes_text, related_text, report_text}
+use Rattle.miette_tree.specs.rules.Tree.{effective}
+use Rattle.miette_layout.specs.laws.Clean.{IsCleanSource}
+use Rattle.miette_graphical.specs.laws.Clean.{AreCleanSettings, IsCleanMeaning, IsCleanTree, IsCleanCause, AreCleanTrees}
+use Rattle.miette_graphical.specs.laws.Colourless.{colourless, unhighlighted_answer, unhighlighted, unhighlighted_related, AreSnippets}
 use Rattle.miette_graphical.proofs.Bare.{own-bare, cause-bare, related-bare, first-bare, later-bare}
 use Rattle.miette_graphical.proofs.Fading.{Fades, fades-to, fades-append, fades-trailing, fades-if, fades-only_if, fades-clean}
 use Rattle.miette_graphical.proofs.PartFading.{narrowed-faded, fades-header, fades-title, fades-footer, fades-under_arrow, fades-cause_texts, effective-clean, fades-body, fades-inner}

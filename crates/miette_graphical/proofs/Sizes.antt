@@ -1,6 +1,6 @@
 -- A number that falls on the way down a tree.
 use Rattle.std.proofs.Common.{ℕ, suc, zero, ◌+◌, ◌<◌, List, [], ◌∷◌, length, get_or, map, arith}
-use Rattle.miette_tree.specs.Tree.{Tree, tree, Cause, diagnostic, texts, Trees, no_trees, more_trees, cause_of, related_of, trees}
+use Rattle.miette_tree.specs.rules.Tree.{Tree, tree, Cause, diagnostic, texts, Trees, no_trees, more_trees, cause_of, related_of, trees}
 
 abbrev mutual
   pub tree_size : Tree → ℕ

@@ -6,24 +6,24 @@ use Rattle.std.specs.List.{AllByRecursion}
 use Rattle.std.proofs.lemmas.Bool.{cases_lt}
 use Rattle.std.proofs.lemmas.List.{map-append}
 use Rattle.std.proofs.lemmas.Str.{chars-nil}
-use Rattle.miette_protocol.specs.Meaning.{Label}
-use Rattle.miette_protocol.specs.Reading.{Source}
-use Rattle.miette_text.specs.Runs.{HaveNoEscape, print, printed_run, plain_run}
-use Rattle.miette_style.specs.Styles.{plain}
-use Rattle.miette_style.specs.Escapes.{no_escape}
-use Rattle.miette_lines.specs.Answers as layout
-use Rattle.miette_layout.specs.Clean.{IsCleanLabel, IsCleanRow, IsCleanSource, AreCleanDrawings}
-use Rattle.miette_layout.specs.Fading as fading
-use Rattle.miette_layout.specs.Fading.{IsPlainRow}
-use Rattle.miette_layout.specs.Frames as frames
-use Rattle.miette_layout.specs.Layout.{snippet_rows}
-use Rattle.miette_layout.specs.Rows.{Piece, Row, Run, pieces_of}
-use Rattle.miette_graphical.specs.Answers.{Answer}
-use Rattle.miette_graphical.specs.Clean.{AreCleanSettings, HaveNoEscapes}
-use Rattle.miette_graphical.specs.Colourless.{AreSnippets, colourless, unhighlighted_answer}
-use Rattle.miette_graphical.specs.Parts.{line_feed, rows_text}
-use Rattle.miette_graphical.specs.Settings.{Settings}
-use Rattle.miette_graphical.specs.Snippets.{drawn_rows, layout_settings, run_text, runs_of_row, shown_rows}
+use Rattle.miette_protocol.specs.views.Meaning.{Label}
+use Rattle.miette_protocol.specs.rules.Reading.{Source}
+use Rattle.miette_text.specs.rules.Runs.{HaveNoEscape, print, printed_run, plain_run}
+use Rattle.miette_style.specs.rules.Styles.{plain}
+use Rattle.miette_style.specs.rules.Escapes.{no_escape}
+use Rattle.miette_lines.specs.rules.Answers as layout
+use Rattle.miette_layout.specs.laws.Clean.{IsCleanLabel, IsCleanRow, IsCleanSource, AreCleanDrawings}
+use Rattle.miette_layout.specs.laws.Fading as fading
+use Rattle.miette_layout.specs.laws.Fading.{IsPlainRow}
+use Rattle.miette_layout.specs.rules.Frames as frames
+use Rattle.miette_layout.specs.rules.Layout.{snippet_rows}
+use Rattle.miette_layout.specs.rules.Rows.{Piece, Row, Run, pieces_of}
+use Rattle.miette_graphical.specs.rules.Answers.{Answer}
+use Rattle.miette_graphical.specs.laws.Clean.{AreCleanSettings, HaveNoEscapes}
+use Rattle.miette_graphical.specs.laws.Colourless.{AreSnippets, colourless, unhighlighted_answer}
+use Rattle.miette_graphical.specs.rules.Parts.{line_feed, rows_text}
+use Rattle.miette_graphical.specs.rules.Settings.{Settings}
+use Rattle.miette_graphical.specs.rules.Snippets.{drawn_rows, layout_settings, run_text, runs_of_row, shown_rows}
 
 -- the clauses of the laws of that layer
 pub record LayoutLaws : Type 0 where

@@ -1,27 +1,27 @@
 -- Printing a report, step by step: the answers of a whole are put together from those of its parts.
 use Rattle.std.proofs.Common.{◌≡◌, ◌≤◌, ◌<◌, Bool, true, false, ◌&&◌, List, [], ◌∷◌, ◌++◌, ℕ, length, map, drop, take, ◌-◌, get_or, refl, sym, subst, ap, ap₂, ◌∙◌, append_assoc, append-nil, arith, Option, MatchBool, if◌then◌else◌}
 use Rattle.std.proofs.lemmas.List.{take_rest}
-use Rattle.miette_text.specs.Cutting.{without_leading, without_trailing}
-use Rattle.miette_text.specs.Runs.{print}
-use Rattle.miette_protocol.specs.Meaning.{Meaning}
-use Rattle.miette_protocol.specs.Reading.{Source}
-use Rattle.miette_tree.specs.Tree.{Tree, tree, Cause, diagnostic, texts, Trees, no_trees, more_trees, head, source_of, cause_of, related_of, trees}
+use Rattle.miette_text.specs.rules.Cutting.{without_leading, without_trailing}
+use Rattle.miette_text.specs.rules.Runs.{print}
+use Rattle.miette_protocol.specs.views.Meaning.{Meaning}
+use Rattle.miette_protocol.specs.rules.Reading.{Source}
+use Rattle.miette_tree.specs.rules.Tree.{Tree, tree, Cause, diagnostic, texts, Trees, no_trees, more_trees, head, source_of, cause_of, related_of, trees}
 use Rattle.miette_protocol.specs.declared.protocol.Severity.{Severity}
-use Rattle.miette_graphical.specs.Settings.{Settings}
-use Rattle.miette_graphical.specs.Answers.{Answers, unlisted, listed, no_more, and_more, own_answer, cause_answers, related_answers}
-use Rattle.miette_graphical.specs.Indents.{narrowed}
-use Rattle.miette_graphical.specs.Parts.{SnippetRows, rows_text, under_arrow, header, message_text, help_text, footer_text, title_text}
-use Rattle.miette_tree.specs.Parts.{given_labels}
-use Rattle.miette_graphical.specs.Text.{cause_texts, ends_there, are_last, body, body_over, inner_over, inner_text, causes_text, related_text, only_if}
-use Rattle.miette_tree.specs.Tree.{effective}
-use Rattle.miette_layout.specs.Frames as frames
-use Rattle.miette_graphical.specs.Printed.{all_read, always_reads, over, printed, printed_causes, printed_related, printed_inner, printed_sibling, printed_one, printed_root_causes}
-use Rattle.miette_graphical.specs.Snippets.{layout_settings}
+use Rattle.miette_graphical.specs.rules.Settings.{Settings}
+use Rattle.miette_graphical.specs.rules.Answers.{Answers, unlisted, listed, no_more, and_more, own_answer, cause_answers, related_answers}
+use Rattle.miette_graphical.specs.rules.Indents.{narrowed}
+use Rattle.miette_graphical.specs.rules.Parts.{SnippetRows, rows_text, under_arrow, header, message_text, help_text, footer_text, title_text}
+use Rattle.miette_tree.specs.rules.Parts.{given_labels}
+use Rattle.miette_graphical.specs.rules.Text.{cause_texts, ends_there, are_last, body, body_over, inner_over, inner_text, causes_text, related_text, only_if}
+use Rattle.miette_tree.specs.rules.Tree.{effective}
+use Rattle.miette_layout.specs.rules.Frames as frames
+use Rattle.miette_graphical.specs.rules.Printed.{all_read, always_reads, over, printed, printed_causes, printed_related, printed_inner, printed_sibling, printed_one, printed_root_causes}
+use Rattle.miette_graphical.specs.rules.Snippets.{layout_settings}
 use Rattle.miette_graphical.proofs.DrawnRows.{unlisted_is}
 use Rattle.miette_graphical.proofs.Lists.{first_fails, later_fails}
 use Rattle.miette_graphical.proofs.Outermost.{report_over}
-use Rattle.miette_tree.specs.Handler.{AppendsOne}
-use Rattle.miette_graphical.specs.Answered.{IsAnswer, AreCauseAnswers, AreRelatedAnswers, IsDrawn, AreCauses, AreRelated, IsInner, IsSibling, IsOneCause, IsNested, IsOneRelated, AreRootCauses, IsBelow, IsReport}
+use Rattle.miette_tree.specs.views.Handler.{AppendsOne}
+use Rattle.miette_graphical.specs.rules.Answered.{IsAnswer, AreCauseAnswers, AreRelatedAnswers, IsDrawn, AreCauses, AreRelated, IsInner, IsSibling, IsOneCause, IsNested, IsOneRelated, AreRootCauses, IsBelow, IsReport}
 
 pub not_last : {R : Type 0} (value : R → Tree) (rs : List R) → 1 ≤ length rs → false ≡ are_last (trees (map value rs))
 not_last value [] h = absurd (omega arith)

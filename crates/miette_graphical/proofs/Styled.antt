@@ -1,12 +1,12 @@
 -- A text in a style, and a header or the end of its row.
 use Rattle.std.proofs.Common.{◌≡◌, ◌≢◌, ℕ, Bool, true, false, not, List, [], ◌∷◌, ◌++◌, Option, Some, None, codes, refl, sym}
 use Rattle.std.specs.Str.{chars}
-use Rattle.miette_text.specs.Runs.{Run, colour_start, colour_stop, flag, foreground_codes, printed_run, style_codes}
-use Rattle.miette_style.specs.Styles.{plain}
-use Rattle.miette_text.specs.Tame.{is_nil}
+use Rattle.miette_text.specs.rules.Runs.{Run, colour_start, colour_stop, flag, foreground_codes, printed_run, style_codes}
+use Rattle.miette_style.specs.rules.Styles.{plain}
+use Rattle.miette_text.specs.rules.Tame.{is_nil}
 use Rattle.miette_style.specs.declared.style.Color.{Color}
 use Rattle.miette_style.specs.declared.style.Style.{Style}
-use Rattle.miette_graphical.specs.Parts.{header_or_end}
+use Rattle.miette_graphical.specs.rules.Parts.{header_or_end}
 
 -- a style in which something is set has codes
 some_codes : (fg : Option Color) (bold dimmed italic underline : Bool) →

@@ -1,13 +1,13 @@
 -- What the layer of texts promises of deleting colours: the clauses of its laws, gathered.
 use Rattle.std.proofs.Common.{◌≡◌, ℕ, true, List, [], ◌∷◌, ◌++◌, map, refl, ap, ◌∙◌, sym, subst}
-use Rattle.miette_text.specs.Sequences.{tokens, erase}
-use Rattle.miette_text.specs.Tame.{IsTame, AllTame}
-use Rattle.miette_style.specs.Escapes.{no_escape}
-use Rattle.miette_text.specs.Tame as tame
-use Rattle.miette_text.specs.Runs.{Run, Styled, HaveNoEscape, plain_run, print}
-use Rattle.miette_style.specs.Styles.{plain}
-use Rattle.miette_text.specs.Cutting.{without_leading, without_trailing}
-use Rattle.miette_text.specs.Wrapping.{Layout, columns_of, wrapped}
+use Rattle.miette_text.specs.rules.Sequences.{tokens, erase}
+use Rattle.miette_text.specs.rules.Tame.{IsTame, AllTame}
+use Rattle.miette_style.specs.rules.Escapes.{no_escape}
+use Rattle.miette_text.specs.rules.Tame as tame
+use Rattle.miette_text.specs.rules.Runs.{Run, Styled, HaveNoEscape, plain_run, print}
+use Rattle.miette_style.specs.rules.Styles.{plain}
+use Rattle.miette_text.specs.rules.Cutting.{without_leading, without_trailing}
+use Rattle.miette_text.specs.rules.Wrapping.{Layout, columns_of, wrapped}
 
 pub record TextLaws : Type 0 where
   pub wrapped-tame : (l : Layout) (text : List ℕ) → AllTame l text → IsTame (wrapped l text)

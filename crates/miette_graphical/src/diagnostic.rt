@@ -1,13 +1,13 @@
 //! The texts of one diagnostic: its header, its message, what a sibling begins with, and causes that are texts.
 
 ghost use Rattle.std.specs.Prelude.{◌≡◌, ◌++◌, IfOk, OnOk, map, not, string_bytes};
-ghost use Rattle.miette_graphical.specs.Parts as parts;
-ghost use Rattle.miette_graphical.specs.Text as texts;
-ghost use Rattle.miette_graphical.specs.Views.{settings_of};
-ghost use Rattle.miette_tree.specs.Report.{tree_of};
-ghost use Rattle.miette_tree.specs.Tree.{head};
-ghost use Rattle.miette_text.specs.Runs as runs;
-ghost use Rattle.miette_text.specs.Tame.{is_nil};
+ghost use Rattle.miette_graphical.specs.rules.Parts as parts;
+ghost use Rattle.miette_graphical.specs.rules.Text as texts;
+ghost use Rattle.miette_graphical.specs.views.SettingsView.{settings_of};
+ghost use Rattle.miette_tree.specs.views.Report.{tree_of};
+ghost use Rattle.miette_tree.specs.rules.Tree.{head};
+ghost use Rattle.miette_text.specs.rules.Runs as runs;
+ghost use Rattle.miette_text.specs.rules.Tame.{is_nil};
 
 use crate::header::{push_header, severity_title};
 use crate::indents::{Branch, push_message, push_under_arrow};

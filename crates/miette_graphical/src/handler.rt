@@ -1,10 +1,10 @@
 //! The graphical handler and its settings.
 
 ghost use Rattle.std.specs.Prelude.{◌≡◌, ◌≤◌, Some, IfOk, false, true, chars, string_bytes};
-ghost use Rattle.miette_graphical.specs.Handling.{without_highlighter};
-ghost use Rattle.miette_graphical.specs.Settings.{default_settings, links_shown, urls_shown};
-ghost use Rattle.miette_graphical.specs.Modes.{splits};
-ghost use Rattle.miette_style.specs.Themes.{characters_of, styles_of, terminal_theme};
+ghost use Rattle.miette_graphical.specs.views.Handling.{without_highlighter};
+ghost use Rattle.miette_graphical.specs.rules.Settings.{default_settings, links_shown, urls_shown};
+ghost use Rattle.miette_graphical.specs.views.Modes.{splits};
+ghost use Rattle.miette_style.specs.rules.Themes.{characters_of, styles_of, terminal_theme};
 
 mod rendering;
 
@@ -42,9 +42,9 @@ pub struct GraphicalReportHandler<H = Box<dyn Highlighter>> {
 impl<H> Model for GraphicalReportHandler<H> {
     ghost use Rattle.std.specs.Prelude.{◌≤◌, option_map, chars, codes, string_bytes};
     ghost use Rattle.std.specs.Option.{option_map_or};
-    ghost use Rattle.miette_style.specs.Themes.{styles_of};
-    ghost use Rattle.miette_graphical.specs.Handling.{Handling};
-    ghost use Rattle.miette_graphical.specs.Modes.{urls_of, splits};
+    ghost use Rattle.miette_style.specs.rules.Themes.{styles_of};
+    ghost use Rattle.miette_graphical.specs.views.Handling.{Handling};
+    ghost use Rattle.miette_graphical.specs.views.Modes.{urls_of, splits};
 
     ghost Value = { Handling H };
 

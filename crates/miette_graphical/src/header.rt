@@ -1,11 +1,11 @@
 //! Headers: a code, and a url as a link or as a text.
 
 ghost use Rattle.std.specs.Prelude.{◌≡◌, ◌++◌, [], IfOk, OnOk, chars, not, option_map};
-ghost use Rattle.miette_text.specs.Runs.{print, printed_run};
-ghost use Rattle.miette_text.specs.Tame.{is_nil};
-ghost use Rattle.miette_graphical.specs.Parts as parts;
-ghost use Rattle.miette_graphical.specs.Modes.{urls_of};
-ghost use Rattle.miette_graphical.specs.Views.{settings_of};
+ghost use Rattle.miette_text.specs.rules.Runs.{print, printed_run};
+ghost use Rattle.miette_text.specs.rules.Tame.{is_nil};
+ghost use Rattle.miette_graphical.specs.rules.Parts as parts;
+ghost use Rattle.miette_graphical.specs.views.Modes.{urls_of};
+ghost use Rattle.miette_graphical.specs.views.SettingsView.{settings_of};
 
 use crate::settings::{Layout, UrlMode};
 use miette_layout::page::PLAIN;

@@ -1,14 +1,14 @@
 //! What stands in front of rows, and text wrapped under it.
 
 ghost use Rattle.std.specs.Prelude.{◌≡◌, ◌++◌, ◌-◌, IfOk, OnOk, chars, option_map};
-ghost use Rattle.miette_graphical.specs.Indents as indents;
-ghost use Rattle.miette_graphical.specs.Parts as parts;
-ghost use Rattle.miette_graphical.specs.Modes.{splits};
-ghost use Rattle.miette_graphical.specs.Views.{settings_of};
-ghost use Rattle.miette_text.specs.Filling.{layout_with};
-ghost use Rattle.miette_text.specs.Runs.{print};
-ghost use Rattle.miette_text.specs.Sequences.{spell};
-ghost use Rattle.miette_text.specs.Wrapping.{wrapped};
+ghost use Rattle.miette_graphical.specs.rules.Indents as indents;
+ghost use Rattle.miette_graphical.specs.rules.Parts as parts;
+ghost use Rattle.miette_graphical.specs.views.Modes.{splits};
+ghost use Rattle.miette_graphical.specs.views.SettingsView.{settings_of};
+ghost use Rattle.miette_text.specs.views.Filling.{layout_with};
+ghost use Rattle.miette_text.specs.rules.Runs.{print};
+ghost use Rattle.miette_text.specs.rules.Sequences.{spell};
+ghost use Rattle.miette_text.specs.rules.Wrapping.{wrapped};
 
 use crate::settings::{Layout, icon, severity_style};
 use miette_protocol::protocol::Severity;

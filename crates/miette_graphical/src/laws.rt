@@ -1,21 +1,21 @@
 //! What holds of the definition of a report's text: of its colours, and of the snippets of each diagnostic that it prints.
 
 ghost use Rattle.std.specs.Prelude.{◌≡◌, ℕ, Bool, List, Some, encode_utf8_all, true};
-ghost use Rattle.miette_graphical.specs.Answered.{IsTextOf};
-ghost use Rattle.miette_graphical.specs.Answers.{Answers, unlisted};
-ghost use Rattle.miette_graphical.specs.Clean.{AreCleanSettings, IsCleanTree};
-ghost use Rattle.miette_graphical.specs.Colourless.{AreSnippets, IsColouredText, colourless, unhighlighted};
+ghost use Rattle.miette_graphical.specs.rules.Answered.{IsTextOf};
+ghost use Rattle.miette_graphical.specs.rules.Answers.{Answers, unlisted};
+ghost use Rattle.miette_graphical.specs.laws.Clean.{AreCleanSettings, IsCleanTree};
+ghost use Rattle.miette_graphical.specs.laws.Colourless.{AreSnippets, IsColouredText, colourless, unhighlighted};
 ghost use Rattle.std.specs.List.{AllByRecursion, Contains};
-ghost use Rattle.miette_graphical.specs.Headline.{LinesAreShown, MarksAreApart, TextsHang};
-ghost use Rattle.miette_graphical.specs.Parts.{SnippetRows};
-ghost use Rattle.miette_graphical.specs.Paths.{HasPath, Step, printed_at};
-ghost use Rattle.miette_graphical.specs.Printed.{Printed, all_read, printed};
-ghost use Rattle.miette_graphical.specs.Settings.{Settings};
-ghost use Rattle.miette_graphical.specs.Snippets.{drawn_rows};
-ghost use Rattle.miette_graphical.specs.Text.{report_text};
-ghost use Rattle.miette_tree.specs.Tree.{Tree};
-ghost use Rattle.miette_text.specs.Sequences.{erase};
-ghost use Rattle.miette_text.specs.Tame.{IsTame};
+ghost use Rattle.miette_graphical.specs.laws.Headline.{LinesAreShown, MarksAreApart, TextsHang};
+ghost use Rattle.miette_graphical.specs.rules.Parts.{SnippetRows};
+ghost use Rattle.miette_graphical.specs.laws.Paths.{HasPath, Step, printed_at};
+ghost use Rattle.miette_graphical.specs.rules.Printed.{Printed, all_read, printed};
+ghost use Rattle.miette_graphical.specs.rules.Settings.{Settings};
+ghost use Rattle.miette_graphical.specs.rules.Snippets.{drawn_rows};
+ghost use Rattle.miette_graphical.specs.rules.Text.{report_text};
+ghost use Rattle.miette_tree.specs.rules.Tree.{Tree};
+ghost use Rattle.miette_text.specs.rules.Sequences.{erase};
+ghost use Rattle.miette_text.specs.rules.Tame.{IsTame};
 
 use miette_layout::laws::{
     groups_are_runs, marks_are_apart, rows_fade, rows_hold_no_escape, runs_are_maximal,

@@ -1,7 +1,7 @@
 //! Pages of rows, and what was printed put behind a text.
 
 ghost use Rattle.std.specs.Prelude.{◌≡◌, ◌++◌, OnErr, OnOk, encode_utf8_all, string_bytes};
-ghost use Rattle.miette_graphical.specs.Printing.{page_text, part_text};
+ghost use Rattle.miette_graphical.specs.views.Printing.{page_text, part_text};
 
 use miette_layout::page::{Page, Part};
 use miette_text::runs::output::Output;

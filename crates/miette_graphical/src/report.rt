@@ -2,17 +2,17 @@
 
 ghost use Rattle.std.specs.Prelude.{◌≡◌, IfOk, OnOk, option_map, map};
 ghost use Rattle.std.specs.Prelude.{false};
-ghost use Rattle.miette_graphical.specs.Answered.{AreCauses, AreDrawn, AreRelated, IsBelow, IsDrawn, IsInner, IsNested, IsOneCause, IsOneRelated, IsSibling};
-ghost use Rattle.miette_tree.specs.Handler.{AppendsOne};
-ghost use Rattle.miette_graphical.specs.Printed.{all_read, always_reads, printed_causes, printed_inner, printed_one, printed_related, printed_sibling};
-ghost use Rattle.miette_layout.specs.Highlighted.{leaves_plain};
-ghost use Rattle.miette_tree.specs.Owned.{shown_source};
-ghost use Rattle.miette_graphical.specs.Snippets.{drawn_rows};
-ghost use Rattle.miette_graphical.specs.Text as texts;
-ghost use Rattle.miette_graphical.specs.Views.{settings_of};
-ghost use Rattle.miette_tree.specs.Report.{tree_of};
-ghost use Rattle.miette_tree.specs.Tree.{cause_of, effective, head, source_of, trees};
-ghost use Rattle.miette_text.specs.Sequences.{spell};
+ghost use Rattle.miette_graphical.specs.rules.Answered.{AreCauses, AreDrawn, AreRelated, IsBelow, IsDrawn, IsInner, IsNested, IsOneCause, IsOneRelated, IsSibling};
+ghost use Rattle.miette_tree.specs.views.Handler.{AppendsOne};
+ghost use Rattle.miette_graphical.specs.rules.Printed.{all_read, always_reads, printed_causes, printed_inner, printed_one, printed_related, printed_sibling};
+ghost use Rattle.miette_layout.specs.rules.Highlighted.{leaves_plain};
+ghost use Rattle.miette_tree.specs.views.Owned.{shown_source};
+ghost use Rattle.miette_graphical.specs.rules.Snippets.{drawn_rows};
+ghost use Rattle.miette_graphical.specs.rules.Text as texts;
+ghost use Rattle.miette_graphical.specs.views.SettingsView.{settings_of};
+ghost use Rattle.miette_tree.specs.views.Report.{tree_of};
+ghost use Rattle.miette_tree.specs.rules.Tree.{cause_of, effective, head, source_of, trees};
+ghost use Rattle.miette_text.specs.rules.Sequences.{spell};
 
 use crate::diagnostic::{is_nil, push_cause_texts, push_header_of, push_message_of, push_title};
 use crate::indents::{Branch, narrowed, push_help, push_under_arrow};

@@ -1,13 +1,13 @@
 //! The outermost report, from its header to its footer.
 
 ghost use Rattle.std.specs.Prelude.{◌≡◌, IfOk, OnOk, false};
-ghost use Rattle.miette_graphical.specs.Answered.{AreRootCauses, IsReport};
-ghost use Rattle.miette_tree.specs.Handler.{AppendsOne};
-ghost use Rattle.miette_graphical.specs.Printed.{all_read, printed, printed_root_causes};
-ghost use Rattle.miette_layout.specs.Highlighted.{leaves_plain};
-ghost use Rattle.miette_graphical.specs.Snippets.{drawn_rows};
-ghost use Rattle.miette_graphical.specs.Views.{settings_of};
-ghost use Rattle.miette_tree.specs.Report.{tree_of};
+ghost use Rattle.miette_graphical.specs.rules.Answered.{AreRootCauses, IsReport};
+ghost use Rattle.miette_tree.specs.views.Handler.{AppendsOne};
+ghost use Rattle.miette_graphical.specs.rules.Printed.{all_read, printed, printed_root_causes};
+ghost use Rattle.miette_layout.specs.rules.Highlighted.{leaves_plain};
+ghost use Rattle.miette_graphical.specs.rules.Snippets.{drawn_rows};
+ghost use Rattle.miette_graphical.specs.views.SettingsView.{settings_of};
+ghost use Rattle.miette_tree.specs.views.Report.{tree_of};
 
 use crate::diagnostic::{push_header_of, push_message_of};
 use crate::indents::push_footer;

@@ -1,7 +1,7 @@
 //! The debug report.
 
 ghost use Rattle.std.specs.Prelude.{◌≡◌, ⊤, OnOk, OnErr, string_bytes};
-ghost use Rattle.miette_tree.specs.Handler.{AppendsOne};
+ghost use Rattle.miette_tree.specs.views.Handler.{AppendsOne};
 
 use miette_protocol::error::RenderError;
 use miette_protocol::protocol::{Diagnostic, LabeledSpan, Severity};

@@ -2,15 +2,15 @@
 use Rattle.std.proofs.Common.{◌≡◌, ℕ, suc, zero, ◌+◌, ◌<◌, ◌≤◌, List, [], ◌∷◌, ◌++◌, length, get_or, map, drop, add-one, Bool, true, false, Option, Some, None, refl, sym, ap, subst, ◌∙◌, append_assoc, codes, arith}
 use Rattle.std.specs.Prelude.{IsUtf8, if◌then◌else◌, IfSome, option_map}
 use Rattle.std.proofs.Math.Seq.{drop-cons}
-use Rattle.miette_protocol.specs.Reading.{Source}
-use Rattle.miette_protocol.specs.Meaning.{Label}
-use Rattle.miette_tree.specs.Tree.{Tree, tree, Trees, no_trees, more_trees, trees, effective, head, source_of, cause_of, causes_of, related_of}
-use Rattle.miette_json.specs.Json.{Json, string, array, object, Items, item, no_members, member, items_text, json_text}
-use Rattle.miette_json.specs.Denotes.{Denotes, HasTokensOf}
-use Rattle.miette_json.specs.JsonReport.{NameAnswers, unlisted, listed, RelatedNameAnswers, no_more, and_more, own_fault, related_answers, first_answers, later_answers, MayFail, ArePossible, AllPossible, report_json, reports_json, maybe, strings, labels_json, file_name}
-use Rattle.miette_tree.specs.Parts.{given_labels, severity_text}
-use Rattle.miette_json.specs.Reads.{AlwaysReads, AllAlwaysRead}
-use Rattle.miette_json.specs.JsonText.{IsJsonOf, rest_text, AppendsReport, AppendsRelated, AppendsPlaces, head_text, reasons_text, key_text}
+use Rattle.miette_protocol.specs.rules.Reading.{Source}
+use Rattle.miette_protocol.specs.views.Meaning.{Label}
+use Rattle.miette_tree.specs.rules.Tree.{Tree, tree, Trees, no_trees, more_trees, trees, effective, head, source_of, cause_of, causes_of, related_of}
+use Rattle.miette_json.specs.rules.Json.{Json, string, array, object, Items, item, no_members, member, items_text, json_text}
+use Rattle.miette_json.specs.rules.Denotes.{Denotes, HasTokensOf}
+use Rattle.miette_json.specs.rules.JsonReport.{NameAnswers, unlisted, listed, RelatedNameAnswers, no_more, and_more, own_fault, related_answers, first_answers, later_answers, MayFail, ArePossible, AllPossible, report_json, reports_json, maybe, strings, labels_json, file_name}
+use Rattle.miette_tree.specs.rules.Parts.{given_labels, severity_text}
+use Rattle.miette_json.specs.rules.Reads.{AlwaysReads, AllAlwaysRead}
+use Rattle.miette_json.specs.rules.JsonText.{IsJsonOf, rest_text, AppendsReport, AppendsRelated, AppendsPlaces, head_text, reasons_text, key_text}
 use Rattle.miette_json.proofs.JsonJoined.{last_piece, report_parts}
 
 -- Some related reports are written, and these are left: whatever answers these have, the whole has some.

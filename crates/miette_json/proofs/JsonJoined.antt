@@ -1,12 +1,12 @@
 -- The parts that are written make up the text of the value.
 use Rattle.std.proofs.Common.{◌≡◌, ℕ, List, [], ◌∷◌, ◌++◌, Option, Some, None, refl, sym, ap, ◌∙◌, append_assoc, append-nil, Bool, true, false, codes, option_map}
 use Rattle.std.specs.Prelude.{if◌then◌else◌}
-use Rattle.miette_json.specs.Json.{Json, string, array, object, Items, item, Members, no_members, member, quoted, json_text, items_text, more_members_text}
-use Rattle.miette_protocol.specs.Reading.{Source}
-use Rattle.miette_tree.specs.Tree.{Tree, tree, head, source_of, cause_of, causes_of, related_of, effective}
-use Rattle.miette_json.specs.JsonReport.{NameAnswers, own_fault, related_answers, maybe, strings, labels_json, file_name, report_json, reports_json}
-use Rattle.miette_tree.specs.Parts.{severity_text, given_labels}
-use Rattle.miette_json.specs.JsonText.{key_text, maybe_text, rest_text, start_text, head_text, reasons_text, places_text}
+use Rattle.miette_json.specs.rules.Json.{Json, string, array, object, Items, item, Members, no_members, member, quoted, json_text, items_text, more_members_text}
+use Rattle.miette_protocol.specs.rules.Reading.{Source}
+use Rattle.miette_tree.specs.rules.Tree.{Tree, tree, head, source_of, cause_of, causes_of, related_of, effective}
+use Rattle.miette_json.specs.rules.JsonReport.{NameAnswers, own_fault, related_answers, maybe, strings, labels_json, file_name, report_json, reports_json}
+use Rattle.miette_tree.specs.rules.Parts.{severity_text, given_labels}
+use Rattle.miette_json.specs.rules.JsonText.{key_text, maybe_text, rest_text, start_text, head_text, reasons_text, places_text}
 
 -- what is left to write grows shorter
 pub step : (out new piece rest goal : List ℕ) → out ++ (piece ++ rest) ≡ goal → new ≡ out ++ piece → new ++ rest ≡ goal

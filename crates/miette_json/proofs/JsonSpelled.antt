@@ -10,8 +10,8 @@ use Rattle.std.proofs.lemmas.Fmt.{decimal_by_steps}
 use Rattle.std.proofs.lemmas.Bool.{ltb-true, ltb-false, lt-ltb, le-ltb}
 use Rattle.std.proofs.lemmas.Bool.Decides.{eqb_tells, nat_tests}
 use Rattle.std.proofs.lemmas.Str.{encode_ascii, digit_value-digit_char}
-use Rattle.miette_json.specs.Json.{Json, number, string, array, object, Items, no_items, item, Members, no_members, member, digits_within, numeral, is_escaped, escape_letter, escaped_byte, escaped, quoted, json_text, items_text, more_items_text, members_text, more_members_text}
-use Rattle.miette_json.specs.Denotes.{Token, mark, text, whole, tokens_then, items_then, more_items_then, members_then, more_members_then, Piece, plain, short, unit, short_for, IsPiece, hex, written, meant, ArePieces, all_written, all_meant, IsDigit, AreDigits, value_after, NoLeadingZero, NoDigitNext, IsMark, IsString, IsNumber, Begins, Next, AreTokens, HasTokensOf}
+use Rattle.miette_json.specs.rules.Json.{Json, number, string, array, object, Items, no_items, item, Members, no_members, member, digits_within, numeral, is_escaped, escape_letter, escaped_byte, escaped, quoted, json_text, items_text, more_items_text, members_text, more_members_text}
+use Rattle.miette_json.specs.rules.Denotes.{Token, mark, text, whole, tokens_then, items_then, more_items_then, members_then, more_members_then, Piece, plain, short, unit, short_for, IsPiece, hex, written, meant, ArePieces, all_written, all_meant, IsDigit, AreDigits, value_after, NoLeadingZero, NoDigitNext, IsMark, IsString, IsNumber, Begins, Next, AreTokens, HasTokensOf}
 
 -- ---- numbers
 

@@ -5,8 +5,8 @@ use Rattle.std.specs.Char.{digit_char, digit_value, IsScalar}
 use Rattle.std.proofs.lemmas.Bool.{le-ltb}
 use Rattle.std.proofs.lemmas.Bool.Decides.{nat_tests}
 use Rattle.std.proofs.lemmas.Str.{encode_ascii, digit_value-digit_char, IsUtf8-nil, IsUtf8-append, IsUtf8-encode, IsUtf8-take, IsUtf8-drop, IsCharBoundary-before_ascii, IsCharBoundary-after_ascii}
-use Rattle.miette_json.specs.Json.{Json, number, string, array, object, Items, no_items, item, Members, no_members, member, numeral, is_escaped, escape_letter, escaped_byte, escaped, quoted, json_text, items_text, more_items_text, members_text, more_members_text}
-use Rattle.miette_json.specs.Denotes.{Token, mark, text, whole, tokens_then, items_then, more_items_then, members_then, more_members_then, Piece, plain, short, unit, pair, short_for, IsHex, AreHex, hex, ArePieces, all_written, all_meant, AreDigits, IsMark, AreBlank, IsBlank, IsString, Next, AreTokens, TextsAreUtf8, HasUtf8Texts}
+use Rattle.miette_json.specs.rules.Json.{Json, number, string, array, object, Items, no_items, item, Members, no_members, member, numeral, is_escaped, escape_letter, escaped_byte, escaped, quoted, json_text, items_text, more_items_text, members_text, more_members_text}
+use Rattle.miette_json.specs.rules.Denotes.{Token, mark, text, whole, tokens_then, items_then, more_items_then, members_then, more_members_then, Piece, plain, short, unit, pair, short_for, IsHex, AreHex, hex, ArePieces, all_written, all_meant, AreDigits, IsMark, AreBlank, IsBlank, IsString, Next, AreTokens, TextsAreUtf8, HasUtf8Texts}
 use Rattle.miette_json.proofs.JsonSpelled.{letter_cases, ltb_cases, byte_short, byte_low, byte_itself, escaped_is_ascii, number_spelled}
 
 -- ---- texts are cut at ASCII bytes

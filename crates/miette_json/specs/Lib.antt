@@ -1,5 +1,1 @@
-pub mod Json
-pub mod Denotes
-pub mod Reads
-pub mod JsonReport
-pub mod JsonText
+pub mod rules

@@ -1,12 +1,12 @@
 //! The JSON report.
 
 ghost use Rattle.std.specs.Prelude.{◌≡◌, ◌++◌, List, ℕ, IfOk, OnOk, OnErr, string_bytes};
-ghost use Rattle.miette_tree.specs.Report.{tree_of};
-ghost use Rattle.miette_json.specs.Json.{json_text};
-ghost use Rattle.miette_json.specs.Reads.{AlwaysReads};
-ghost use Rattle.miette_json.specs.JsonReport.{value_of};
-ghost use Rattle.miette_json.specs.JsonText.{IsJsonOf};
-ghost use Rattle.miette_tree.specs.Handler.{AppendsOne};
+ghost use Rattle.miette_tree.specs.views.Report.{tree_of};
+ghost use Rattle.miette_json.specs.rules.Json.{json_text};
+ghost use Rattle.miette_json.specs.rules.Reads.{AlwaysReads};
+ghost use Rattle.miette_json.specs.rules.JsonReport.{value_of};
+ghost use Rattle.miette_json.specs.rules.JsonText.{IsJsonOf};
+ghost use Rattle.miette_tree.specs.views.Handler.{AppendsOne};
 
 use crate::laws;
 use crate::report::push_report;

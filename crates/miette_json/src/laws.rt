@@ -2,8 +2,8 @@
 //! that does nothing; a caller cites it by calling it.
 
 ghost use Rattle.std.specs.Prelude.{◌≡◌, ℕ, List};
-ghost use Rattle.miette_json.specs.Json.{Json, json_text};
-ghost use Rattle.miette_json.specs.Denotes.{Denotes, HasTokensOf, HasUtf8Texts};
+ghost use Rattle.miette_json.specs.rules.Json.{Json, json_text};
+ghost use Rattle.miette_json.specs.rules.Denotes.{Denotes, HasTokensOf, HasUtf8Texts};
 
 /// A text stands for at most one value (RFC 8259, over whole numbers, strings, lists and objects).
 pub fn a_text_denotes_one_value()

@@ -2,12 +2,12 @@
 
 ghost use Rattle.std.specs.Prelude.{◌≡◌, ◌∷◌, [], ◌++◌, if◌then◌else◌, Some, OnOk, string_bytes, map};
 ghost use Rattle.std.specs.Option.{option_map, option_copied};
-ghost use Rattle.miette_tree.specs.Tree.{head, cause_of, causes_of, trees};
-ghost use Rattle.miette_tree.specs.Report.{tree_of};
-ghost use Rattle.miette_tree.specs.Owned.{shown_source};
-ghost use Rattle.miette_json.specs.Json.{json_text, items_text};
-ghost use Rattle.miette_json.specs.JsonReport.{strings, span_json, label_json, labels_json};
-ghost use Rattle.miette_json.specs.JsonText.{key_text, maybe_text, rest_text, head_text, reasons_text, label_start, NamesFile, AppendsPlaces, AppendsReport, AppendsRelated};
+ghost use Rattle.miette_tree.specs.rules.Tree.{head, cause_of, causes_of, trees};
+ghost use Rattle.miette_tree.specs.views.Report.{tree_of};
+ghost use Rattle.miette_tree.specs.views.Owned.{shown_source};
+ghost use Rattle.miette_json.specs.rules.Json.{json_text, items_text};
+ghost use Rattle.miette_json.specs.rules.JsonReport.{strings, span_json, label_json, labels_json};
+ghost use Rattle.miette_json.specs.rules.JsonText.{key_text, maybe_text, rest_text, head_text, reasons_text, label_start, NamesFile, AppendsPlaces, AppendsReport, AppendsRelated};
 
 use crate::text::{push_number, push_quoted};
 use miette_protocol::protocol::{Diagnostic, LabeledSpan};

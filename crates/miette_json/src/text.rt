@@ -2,7 +2,7 @@
 
 ghost use Rattle.std.specs.Prelude.{◌≡◌, ◌<◌, ◌++◌, true, OnOk, position, string_bytes};
 ghost use Rattle.std.specs.Char.{digit_char};
-ghost use Rattle.miette_json.specs.Json.{numeral, is_escaped, escaped_byte, escaped, quoted};
+ghost use Rattle.miette_json.specs.rules.Json.{numeral, is_escaped, escaped_byte, escaped, quoted};
 
 use std::alloc::AllocError;
 

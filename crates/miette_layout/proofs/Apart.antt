@@ -2,8 +2,8 @@
 use Rattle.std.proofs.Common.{ℕ, ◌<◌, ◌≤◌, ◌≡◌, true, false, ltb, leb, List, [], ◌∷◌, refl, ◌∙◌, ◌&&◌, arith}
 use Rattle.std.proofs.lemmas.Bool.{lt-ltb, le-ltb, le-leb, lt-leb, and_right}
 use Rattle.std.specs.List.{AllByRecursion}
-use Rattle.miette_lines.specs.Labels.{DrawnLabel, is_empty}
-use Rattle.miette_layout.specs.Marks.{Text, Mark, mark_from, mark_until, marks_from, marks, anchor, AreApart, marks_at}
+use Rattle.miette_lines.specs.rules.Labels.{DrawnLabel, is_empty}
+use Rattle.miette_layout.specs.rules.Marks.{Text, Mark, mark_from, mark_until, marks_from, marks, anchor, AreApart, marks_at}
 use Rattle.miette_lines.proofs.Numbers.{by_cases}
 
 longer : (text : Text) (reached : ℕ) (label : DrawnLabel) → mark_from text reached label < mark_until text reached label

@@ -2,15 +2,15 @@
 use Rattle.std.proofs.Common.{ℕ, zero, suc, ◌+◌, ◌-◌, ◌<◌, ◌≤◌, ◌≡◌, ◌⊎◌, inl, inr, Bool, true, false, cond, leb, ltb, List, [], ◌∷◌, ◌&&◌, ◌||◌, length, map, refl, sym, ap, ◌∙◌, arith}
 use Rattle.std.proofs.lemmas.Bool.{le-leb, lt-leb, leb-true, leb-false, and_parts, and_from, and_right}
 use Rattle.std.specs.List.{filter, list_any, AllByRecursion}
-use Rattle.miette_protocol.specs.Lines as P
-use Rattle.miette_protocol.specs.Lines.{Line}
-use Rattle.miette_protocol.specs.Meaning.{Label}
-use Rattle.miette_protocol.specs.Reading as R
-use Rattle.miette_protocol.specs.Reading.{Span, Source, IsAccepted}
-use Rattle.miette_lines.specs.Around.{lines_around}
-use Rattle.miette_layout.specs.Belonging.{holds, HasOneGroup}
-use Rattle.miette_lines.specs.Contexts.{contents, end_of_span}
-use Rattle.miette_lines.specs.Groups.{AreAccepted, joined, stretch, put_stretch, by_begin, stretches_from, joined_stretches}
+use Rattle.miette_protocol.specs.rules.Lines as P
+use Rattle.miette_protocol.specs.rules.Lines.{Line}
+use Rattle.miette_protocol.specs.views.Meaning.{Label}
+use Rattle.miette_protocol.specs.rules.Reading as R
+use Rattle.miette_protocol.specs.rules.Reading.{Span, Source, IsAccepted}
+use Rattle.miette_lines.specs.rules.Around.{lines_around}
+use Rattle.miette_layout.specs.laws.Belonging.{holds, HasOneGroup}
+use Rattle.miette_lines.specs.rules.Contexts.{contents, end_of_span}
+use Rattle.miette_lines.specs.rules.Groups.{AreAccepted, joined, stretch, put_stretch, by_begin, stretches_from, joined_stretches}
 use Rattle.miette_lines.proofs.Sources.{IsCut, lines, line_of, start_of}
 use Rattle.miette_lines.proofs.Numbers.{by_cases}
 use Rattle.miette_lines.proofs.Merging.{swap_or}

@@ -8,19 +8,19 @@ use Rattle.std.proofs.lemmas.Bool.{eqb-true}
 use Rattle.std.proofs.lemmas.List.{map-append}
 use Rattle.std.specs.List.{AllByRecursion, range_with_len}
 use Rattle.miette_style.specs.declared.theme.ThemeCharacters.{ThemeCharacters}
-use Rattle.miette_layout.specs.Rows.{Piece, Run, Row, pieces_of, columns_of, code_at, drawn, styled}
-use Rattle.miette_style.specs.Styles.{plain}
-use Rattle.miette_protocol.specs.Lines.{Line}
-use Rattle.miette_layout.specs.PrintedCells.{line_runs}
-use Rattle.miette_lines.specs.Cells.{Cell}
-use Rattle.miette_lines.specs.Answers.{Highlight}
-use Rattle.miette_lines.specs.Labels.{DrawnLabel, starts_on, ends_on, one_line, multi_line, closing}
-use Rattle.miette_layout.specs.Marks.{Mark, AreApart}
-use Rattle.miette_layout.specs.Drawing.{IsNarrow, blank, mark_runs, rows_below, marked_rows}
-use Rattle.miette_layout.specs.Gutters.{most_labels, gutter_columns, number_gutter, other_gutter, closing_rows, ending_corner, arrow}
-use Rattle.miette_layout.specs.Frames.{Settings, other_start, number_start}
-use Rattle.miette_layout.specs.Layout.{line_rows, before_each, text_of_cells}
-use Rattle.miette_layout.specs.Pictures.{mark_at, marks_end, Hangs, AreMarked, ShowMarks, marks_of_line, text_start, HasText}
+use Rattle.miette_layout.specs.rules.Rows.{Piece, Run, Row, pieces_of, columns_of, code_at, drawn, styled}
+use Rattle.miette_style.specs.rules.Styles.{plain}
+use Rattle.miette_protocol.specs.rules.Lines.{Line}
+use Rattle.miette_layout.specs.rules.PrintedCells.{line_runs}
+use Rattle.miette_lines.specs.rules.Cells.{Cell}
+use Rattle.miette_lines.specs.rules.Answers.{Highlight}
+use Rattle.miette_lines.specs.rules.Labels.{DrawnLabel, starts_on, ends_on, one_line, multi_line, closing}
+use Rattle.miette_layout.specs.rules.Marks.{Mark, AreApart}
+use Rattle.miette_layout.specs.rules.Drawing.{IsNarrow, blank, mark_runs, rows_below, marked_rows}
+use Rattle.miette_layout.specs.rules.Gutters.{most_labels, gutter_columns, number_gutter, other_gutter, closing_rows, ending_corner, arrow}
+use Rattle.miette_layout.specs.rules.Frames.{Settings, other_start, number_start}
+use Rattle.miette_layout.specs.rules.Layout.{line_rows, before_each, text_of_cells}
+use Rattle.miette_layout.specs.laws.Pictures.{mark_at, marks_end, Hangs, AreMarked, ShowMarks, marks_of_line, text_start, HasText}
 use Rattle.miette_lines.proofs.Numbers.{by_cases}
 use Rattle.miette_layout.proofs.Apart.{marks_apart}
 use Rattle.miette_layout.proofs.Columns.{columns_of-append, code_at-append}

@@ -1,16 +1,16 @@
 -- Labels in plain: which lie on a line, where their marks are, and how wide a gutter is, doesn't change.
 use Rattle.std.proofs.Common.{◌≡◌, ℕ, zero, suc, ◌+◌, ◌%◌, Bool, true, false, if◌then◌else◌, ◌==◌, List, [], ◌∷◌, map, length, max, refl, ap, ap₂, ◌∙◌, chars, Option, Some, None, IfSome, get_or}
 use Rattle.std.specs.List.{AllByRecursion, filter}
-use Rattle.miette_protocol.specs.Lines.{Line}
-use Rattle.miette_protocol.specs.Meaning.{Label}
+use Rattle.miette_protocol.specs.rules.Lines.{Line}
+use Rattle.miette_protocol.specs.views.Meaning.{Label}
 use Rattle.miette_style.specs.declared.style.Style.{Style}
 use Rattle.std.specs.Prelude.{nat_le}
-use Rattle.miette_layout.specs.Clean.{IsClean, IsCleanText, IsCleanLabel}
-use Rattle.miette_layout.specs.Gutters.{most_labels, gutter_columns}
-use Rattle.miette_lines.specs.Labels.{DrawnLabel, parts_of, style_at, drawn_label, drawn_from, multi_line, is_multi_line}
-use Rattle.miette_layout.specs.Marks.{Text, Mark, marks_from, marks, mark_from, mark_until}
-use Rattle.miette_lines.specs.Groups.{put_label, in_order}
-use Rattle.miette_style.specs.Styles.{plain}
+use Rattle.miette_layout.specs.laws.Clean.{IsClean, IsCleanText, IsCleanLabel}
+use Rattle.miette_layout.specs.rules.Gutters.{most_labels, gutter_columns}
+use Rattle.miette_lines.specs.rules.Labels.{DrawnLabel, parts_of, style_at, drawn_label, drawn_from, multi_line, is_multi_line}
+use Rattle.miette_layout.specs.rules.Marks.{Text, Mark, marks_from, marks, mark_from, mark_until}
+use Rattle.miette_lines.specs.rules.Groups.{put_label, in_order}
+use Rattle.miette_style.specs.rules.Styles.{plain}
 use Rattle.miette_layout.proofs.CleanTexts.{clean_parts}
 use Rattle.miette_lines.proofs.Numbers.{by_cases}
 use Rattle.miette_layout.proofs.Paling.{bleached, bleached_mark, HasCleanParts, IsCleanMark}

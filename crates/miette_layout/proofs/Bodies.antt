@@ -4,23 +4,23 @@ use Rattle.std.specs.Prelude.{decimal, slice_range}
 use Rattle.std.proofs.lemmas.List.{length-drop, length-take}
 use Rattle.std.proofs.lemmas.List.FromFn.{length-map-range_with_len}
 use Rattle.std.specs.List.{range_with_len, filter}
-use Rattle.miette_protocol.specs.Lines as P
-use Rattle.miette_protocol.specs.Lines.{Line, lines_of}
-use Rattle.miette_protocol.specs.Meaning.{Label}
-use Rattle.miette_protocol.specs.Reading as R
-use Rattle.miette_protocol.specs.Reading.{Span, Source, IsAccepted}
-use Rattle.miette_layout.specs.Numbers.{last_of}
-use Rattle.miette_lines.specs.Answers.{Highlight, next_answer, later_answers, first_of, later_of, NoneFails}
-use Rattle.miette_lines.specs.Contexts as C
-use Rattle.miette_lines.specs.Contexts.{contents, lines_of_contents, is_accepted}
-use Rattle.miette_lines.specs.Groups as G
-use Rattle.miette_lines.specs.Groups.{joins_before, joined, groups_from, groups_answered, in_order, spans_of, put_label, refusal, AreAccepted}
-use Rattle.miette_layout.specs.Snippets as N
-use Rattle.miette_lines.specs.Labels.{DrawnLabel, drawn_from}
-use Rattle.miette_layout.specs.Gutters.{gutter_columns}
-use Rattle.miette_layout.specs.Frames.{Settings, width_of_lines}
-use Rattle.miette_layout.specs.Layout.{rows_of_lines, body_rows, line_rows, cells_of, snippet, all_snippets}
-use Rattle.miette_layout.specs.Shown.{line_at, numbered_rows, run_width, run_rows, rows_of_runs, bodies, framed}
+use Rattle.miette_protocol.specs.rules.Lines as P
+use Rattle.miette_protocol.specs.rules.Lines.{Line, lines_of}
+use Rattle.miette_protocol.specs.views.Meaning.{Label}
+use Rattle.miette_protocol.specs.rules.Reading as R
+use Rattle.miette_protocol.specs.rules.Reading.{Span, Source, IsAccepted}
+use Rattle.miette_layout.specs.rules.Numbers.{last_of}
+use Rattle.miette_lines.specs.rules.Answers.{Highlight, next_answer, later_answers, first_of, later_of, NoneFails}
+use Rattle.miette_lines.specs.rules.Contexts as C
+use Rattle.miette_lines.specs.rules.Contexts.{contents, lines_of_contents, is_accepted}
+use Rattle.miette_lines.specs.rules.Groups as G
+use Rattle.miette_lines.specs.rules.Groups.{joins_before, joined, groups_from, groups_answered, in_order, spans_of, put_label, refusal, AreAccepted}
+use Rattle.miette_layout.specs.rules.Snippets as N
+use Rattle.miette_lines.specs.rules.Labels.{DrawnLabel, drawn_from}
+use Rattle.miette_layout.specs.rules.Gutters.{gutter_columns}
+use Rattle.miette_layout.specs.rules.Frames.{Settings, width_of_lines}
+use Rattle.miette_layout.specs.rules.Layout.{rows_of_lines, body_rows, line_rows, cells_of, snippet, all_snippets}
+use Rattle.miette_layout.specs.rules.Shown.{line_at, numbered_rows, run_width, run_rows, rows_of_runs, bodies, framed}
 use Rattle.miette_lines.proofs.Sources.{lines, start_of, end_of, first_line, last_line, read, lines_in}
 use Rattle.miette_layout.proofs.Joining as J
 use Rattle.miette_layout.proofs.Joining.{by_offset, put_by_offset, lines_of_groups}

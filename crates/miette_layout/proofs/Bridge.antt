@@ -4,11 +4,11 @@ use Rattle.std.specs.Prelude.{slice_get}
 use Rattle.std.specs.Option.{option_map_or}
 use Rattle.std.proofs.lemmas.Bool.{ne_eqb}
 use Rattle.std.proofs.lemmas.List.Sums.{sum_by-cons}
-use Rattle.miette_protocol.specs.Lines as P
-use Rattle.miette_protocol.specs.Lines.{Line}
-use Rattle.miette_protocol.specs.Reading as R
-use Rattle.miette_protocol.specs.Reading.{Span, Source}
-use Rattle.miette_lines.specs.Contexts as C
+use Rattle.miette_protocol.specs.rules.Lines as P
+use Rattle.miette_protocol.specs.rules.Lines.{Line}
+use Rattle.miette_protocol.specs.rules.Reading as R
+use Rattle.miette_protocol.specs.rules.Reading.{Span, Source}
+use Rattle.miette_lines.specs.rules.Contexts as C
 use Rattle.miette_lines.proofs.Sources.{lines, is_ended, line_of, terminators_in, start_of, end_of_span, past_lf, reading_end, first_line, last_line, read}
 use Rattle.miette_layout.proofs.Data.{first-lt}
 use Rattle.miette_lines.proofs.Bridge.{end_same, lines_same, some-context}

@@ -2,18 +2,18 @@
 use Rattle.std.proofs.Common.{ℕ, Bool, suc, ◌≡◌, true, false, cond, List, [], ◌∷◌, map, Option, Some, None, refl, sym, ap, ◌∙◌, subst, arith, All}
 use Rattle.std.specs.List.{filter}
 use Rattle.std.specs.Option.{option_map}
-use Rattle.miette_protocol.specs.Meaning.{Label}
-use Rattle.miette_protocol.specs.Reading.{Span, Source, IsAccepted}
+use Rattle.miette_protocol.specs.views.Meaning.{Label}
+use Rattle.miette_protocol.specs.rules.Reading.{Span, Source, IsAccepted}
 use Rattle.miette_lines.specs.declared.primary.Place.{Place as Found}
 use Rattle.miette_lines.specs.declared.primary.Place.TheVariants as places
 use Rattle.miette_lines.specs.declared.reading.ReadLabel.{ReadLabel}
-use Rattle.miette_lines.specs.Around.{has_own}
-use Rattle.miette_lines.specs.Contexts.{contents}
-use Rattle.miette_layout.specs.Frames.{Place}
-use Rattle.miette_lines.specs.Given.{label_at}
-use Rattle.miette_layout.specs.Layout.{is_within, first_marked, primary_of, begins_at, place_of}
-use Rattle.miette_lines.specs.Primary.{lies_within, or_else, chosen, PointsTo, begins_of, is_unread}
-use Rattle.miette_lines.specs.Read.{IsRead}
+use Rattle.miette_lines.specs.rules.Around.{has_own}
+use Rattle.miette_lines.specs.rules.Contexts.{contents}
+use Rattle.miette_layout.specs.rules.Frames.{Place}
+use Rattle.miette_lines.specs.views.Given.{label_at}
+use Rattle.miette_layout.specs.rules.Layout.{is_within, first_marked, primary_of, begins_at, place_of}
+use Rattle.miette_lines.specs.views.Primary.{lies_within, or_else, chosen, PointsTo, begins_of, is_unread}
+use Rattle.miette_lines.specs.views.Read.{IsRead}
 use Rattle.miette_lines.proofs.Numbers.{by_cases}
 use Rattle.miette_lines.proofs.Refusing.{read_of}
 

@@ -9,14 +9,14 @@ use Rattle.std.proofs.lemmas.List.{map-append}
 use Rattle.std.proofs.lemmas.Str.{encode_ascii}
 use Rattle.bstr.specs.Utf8.{Decoded, decoded, or_replacement, pieces, pieces_from}
 use Rattle.bstr.proofs.lemmas.SoundLemmas.{SpellsChar-decoded}
-use Rattle.miette_style.specs.Escapes.{is_escape}
-use Rattle.miette_style.specs.Escapes.{no_escape}
-use Rattle.miette_lines.specs.Answers.{Highlight}
-use Rattle.miette_layout.specs.PrintedCells.{printed, printed_cells, cells_within, cells_beyond, line_runs, text_bytes}
-use Rattle.miette_lines.specs.Cells.{Character, Cell, cells_from, characters, hides_next, width_at}
-use Rattle.miette_layout.specs.Clean.{IsCleanCode, IsClean, IsCleanRow}
-use Rattle.miette_lines.specs.Labels.{cut_at_lf, onto_part}
-use Rattle.miette_layout.specs.Rows.{Piece, pieces_of, drawn}
+use Rattle.miette_style.specs.rules.Escapes.{is_escape}
+use Rattle.miette_style.specs.rules.Escapes.{no_escape}
+use Rattle.miette_lines.specs.rules.Answers.{Highlight}
+use Rattle.miette_layout.specs.rules.PrintedCells.{printed, printed_cells, cells_within, cells_beyond, line_runs, text_bytes}
+use Rattle.miette_lines.specs.rules.Cells.{Character, Cell, cells_from, characters, hides_next, width_at}
+use Rattle.miette_layout.specs.laws.Clean.{IsCleanCode, IsClean, IsCleanRow}
+use Rattle.miette_lines.specs.rules.Labels.{cut_at_lf, onto_part}
+use Rattle.miette_layout.specs.rules.Rows.{Piece, pieces_of, drawn}
 use Rattle.miette_layout.proofs.Telling.{codes_drawn}
 
 -- ---- joining and cutting

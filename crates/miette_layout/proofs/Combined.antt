@@ -4,20 +4,20 @@ use Rattle.std.specs.Prelude.{unwrap_or, is_some}
 use Rattle.std.specs.Option.{option_map}
 use Rattle.std.specs.List.{range_with_len, list_any, AllByRecursion}
 use Rattle.std.proofs.lemmas.List.Elements.{filter_agree}
-use Rattle.miette_protocol.specs.Lines.{lines_of}
-use Rattle.miette_protocol.specs.Meaning.{Label}
-use Rattle.miette_protocol.specs.Reading.{Span, Source}
-use Rattle.miette_lines.specs.Answers.{Answers, Highlight, first_of, NoneFails, AlwaysReads}
-use Rattle.miette_lines.specs.Around.{has_own, lines_around, HaveContext, group_context}
-use Rattle.miette_lines.specs.Contexts.{contents}
-use Rattle.miette_layout.specs.Frames.{Settings, refused_row}
-use Rattle.miette_lines.specs.Groups as G
-use Rattle.miette_lines.specs.Groups.{in_order, spans_of, groups_answered, own_groups, groups_of, AreAccepted}
-use Rattle.miette_lines.specs.Labels.{DrawnLabel, drawn_from}
-use Rattle.miette_layout.specs.Layout.{body_rows, all_snippets, settings_around, rows_unless, snippet_rows}
-use Rattle.miette_layout.specs.Numbers.{runs}
-use Rattle.miette_layout.specs.Shown.{rows_of_runs, bodies, framed, framed_runs}
-use Rattle.miette_layout.specs.Snippets as N
+use Rattle.miette_protocol.specs.rules.Lines.{lines_of}
+use Rattle.miette_protocol.specs.views.Meaning.{Label}
+use Rattle.miette_protocol.specs.rules.Reading.{Span, Source}
+use Rattle.miette_lines.specs.rules.Answers.{Answers, Highlight, first_of, NoneFails, AlwaysReads}
+use Rattle.miette_lines.specs.rules.Around.{has_own, lines_around, HaveContext, group_context}
+use Rattle.miette_lines.specs.rules.Contexts.{contents}
+use Rattle.miette_layout.specs.rules.Frames.{Settings, refused_row}
+use Rattle.miette_lines.specs.rules.Groups as G
+use Rattle.miette_lines.specs.rules.Groups.{in_order, spans_of, groups_answered, own_groups, groups_of, AreAccepted}
+use Rattle.miette_lines.specs.rules.Labels.{DrawnLabel, drawn_from}
+use Rattle.miette_layout.specs.rules.Layout.{body_rows, all_snippets, settings_around, rows_unless, snippet_rows}
+use Rattle.miette_layout.specs.rules.Numbers.{runs}
+use Rattle.miette_layout.specs.rules.Shown.{rows_of_runs, bodies, framed, framed_runs}
+use Rattle.miette_layout.specs.rules.Snippets as N
 use Rattle.miette_lines.proofs.Sources.{lines}
 use Rattle.miette_layout.proofs.Joining as J
 use Rattle.miette_layout.proofs.Numbers.{filter-none}

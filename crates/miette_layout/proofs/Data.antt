@@ -4,7 +4,7 @@ use Rattle.std.specs.Prelude.{slice_index}
 use Rattle.std.proofs.lemmas.Bool.{le-leb, lt-leb, cases_lt, and_from, and_left, and_right}
 use Rattle.std.specs.List.{range_with_len, filter}
 use Rattle.miette_lines.proofs.Sources.{lines, line_of, start_of, end_of, past_lf, reading_end, end_of_span, first_line, last_line, read, lines_in, lines_between}
-use Rattle.miette_protocol.specs.Reading.{Span}
+use Rattle.miette_protocol.specs.rules.Reading.{Span}
 use Rattle.miette_layout.proofs.Numbers.{filter-range}
 use Rattle.miette_lines.proofs.Numbers.{by_cases}
 use Rattle.miette_layout.proofs.Lines.{cut-long, end-gt, cut-some, line-mono, line-le, line-le-length, terminators, line-start, line-end, start-le-end, end-mono, end-strict}

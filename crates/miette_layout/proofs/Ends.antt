@@ -1,20 +1,20 @@
 -- A label's end, cut to the end of what its read lent, is cut to the source's end. So labels are drawn as the definition says.
 use Rattle.std.proofs.Common.{ℕ, zero, suc, ◌+◌, ◌-◌, ◌<◌, ◌≤◌, ◌≡◌, ◌⊎◌, inl, inr, min, max, true, false, cond, ltb, leb, ◌&&◌, List, [], ◌∷◌, length, map, refl, ap, ◌∙◌, ⊎_elim, subst, arith, All}
 use Rattle.std.proofs.lemmas.Bool.{leb-false, ltb-false, cases_lt}
-use Rattle.miette_protocol.specs.Lines as P
-use Rattle.miette_protocol.specs.Lines.{Line}
-use Rattle.miette_protocol.specs.Meaning.{Label}
-use Rattle.miette_protocol.specs.Reading as R
-use Rattle.miette_protocol.specs.Reading.{Span, Source, Contents, IsAccepted}
+use Rattle.miette_protocol.specs.rules.Lines as P
+use Rattle.miette_protocol.specs.rules.Lines.{Line}
+use Rattle.miette_protocol.specs.views.Meaning.{Label}
+use Rattle.miette_protocol.specs.rules.Reading as R
+use Rattle.miette_protocol.specs.rules.Reading.{Span, Source, Contents, IsAccepted}
 use Rattle.miette_style.specs.declared.style.Style.{Style}
 use Rattle.miette_lines.specs.declared.reading.ReadLabel.{ReadLabel}
-use Rattle.miette_lines.specs.Around.{lines_around}
-use Rattle.miette_lines.specs.Contexts as C
-use Rattle.miette_lines.specs.Contexts.{contents}
-use Rattle.miette_lines.specs.Labels.{drawn_from, drawn_label, style_at, parts_of}
-use Rattle.miette_lines.specs.Given.{label_at, text_at, drawn_of}
-use Rattle.miette_lines.specs.Read.{IsRead}
-use Rattle.miette_lines.specs.Placing.{end_drawn, placed_one, placed_from}
+use Rattle.miette_lines.specs.rules.Around.{lines_around}
+use Rattle.miette_lines.specs.rules.Contexts as C
+use Rattle.miette_lines.specs.rules.Contexts.{contents}
+use Rattle.miette_lines.specs.rules.Labels.{drawn_from, drawn_label, style_at, parts_of}
+use Rattle.miette_lines.specs.views.Given.{label_at, text_at, drawn_of}
+use Rattle.miette_lines.specs.views.Read.{IsRead}
+use Rattle.miette_lines.specs.views.Placing.{end_drawn, placed_one, placed_from}
 use Rattle.miette_lines.proofs.Sources.{IsCut, line_of, end_of, lines, end_of_span, reading_end, last_line, read}
 use Rattle.miette_lines.proofs.Numbers.{by_cases}
 use Rattle.miette_layout.proofs.Lines.{end-ge, line-mono}

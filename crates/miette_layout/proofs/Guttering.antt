@@ -2,19 +2,19 @@
 use Rattle.std.proofs.Common.{ℕ, ◌+◌, ◌-◌, ◌<◌, ◌≤◌, ◌≡◌, Bool, true, false, cond, List, [], ◌∷◌, ◌++◌, map, length, drop, get_or, replicate, refl, sym, ap, ◌∙◌, append_assoc}
 use Rattle.std.specs.Prelude.{chars, encode_utf8, ◌==◌, Option, Some}
 use Rattle.std.proofs.lemmas.List.{at_drop_more, at_drop_all}
-use Rattle.miette_protocol.specs.Lines.{Line}
-use Rattle.miette_protocol.specs.Meaning.{Label}
+use Rattle.miette_protocol.specs.rules.Lines.{Line}
+use Rattle.miette_protocol.specs.views.Meaning.{Label}
 use Rattle.miette_style.specs.declared.style.Style.{Style}
 use Rattle.miette_style.specs.declared.theme.ThemeCharacters.{ThemeCharacters}
 use Rattle.miette_lines.specs.declared.sweep.Placed.{Placed}
-use Rattle.miette_layout.specs.Rows.{Row, styled}
-use Rattle.miette_style.specs.Styles.{plain}
-use Rattle.miette_lines.specs.Labels.{DrawnLabel, starts_on, ends_on, parts_of, cut_at_lf, onto_part}
-use Rattle.miette_layout.specs.Drawing.{blank}
-use Rattle.miette_layout.specs.Gutters.{number_gutter, other_gutter, open_gutter, ending_corner, arrow}
-use Rattle.miette_lines.specs.Given.{drawn_of}
-use Rattle.miette_lines.specs.Sweeping.{nothing}
-use Rattle.miette_layout.specs.Told.{Token, told, run_told, bytes_told}
+use Rattle.miette_layout.specs.rules.Rows.{Row, styled}
+use Rattle.miette_style.specs.rules.Styles.{plain}
+use Rattle.miette_lines.specs.rules.Labels.{DrawnLabel, starts_on, ends_on, parts_of, cut_at_lf, onto_part}
+use Rattle.miette_layout.specs.rules.Drawing.{blank}
+use Rattle.miette_layout.specs.rules.Gutters.{number_gutter, other_gutter, open_gutter, ending_corner, arrow}
+use Rattle.miette_lines.specs.views.Given.{drawn_of}
+use Rattle.miette_lines.specs.views.Sweeping.{nothing}
+use Rattle.miette_layout.specs.views.Told.{Token, told, run_told, bytes_told}
 use Rattle.miette_lines.proofs.Numbers.{by_cases}
 use Rattle.miette_layout.proofs.Telling.{styled_told, styled_row, blank_row, then, run_one}
 

@@ -3,11 +3,11 @@ use Rattle.std.proofs.Common.{ℕ, ◌+◌, ◌<◌, ◌≡◌, Bool, true, ltb,
 use Rattle.std.proofs.lemmas.Bool.{eq-eqb, or_right}
 use Rattle.std.specs.List.{AllByRecursion, list_any}
 use Rattle.miette_style.specs.declared.theme.ThemeCharacters.{ThemeCharacters}
-use Rattle.miette_layout.specs.Rows.{Piece, drawn, code_at, columns_of, Begins}
-use Rattle.miette_lines.specs.Labels.{is_empty}
-use Rattle.miette_layout.specs.Marks.{Mark, anchor, AreApart}
-use Rattle.miette_layout.specs.Drawing.{IsNarrow, code_with_parts, mark_code}
-use Rattle.miette_layout.specs.Pictures.{mark_at, marks_end, HangsFrom, PartHangs, Hangs}
+use Rattle.miette_layout.specs.rules.Rows.{Piece, drawn, code_at, columns_of, Begins}
+use Rattle.miette_lines.specs.rules.Labels.{is_empty}
+use Rattle.miette_layout.specs.rules.Marks.{Mark, anchor, AreApart}
+use Rattle.miette_layout.specs.rules.Drawing.{IsNarrow, code_with_parts, mark_code}
+use Rattle.miette_layout.specs.laws.Pictures.{mark_at, marks_end, HangsFrom, PartHangs, Hangs}
 use Rattle.miette_layout.proofs.Unstyled.{mark_row, lead_at, lead, corner_pieces, beside_pieces, plain_parts, plain_below}
 use Rattle.miette_lines.proofs.Numbers.{by_cases}
 use Rattle.miette_layout.proofs.Apart.{anchor-within}

@@ -1,8 +1,8 @@
 -- Groups and shown lines in the forms that the proofs go by.
 use Rattle.std.specs.Prelude.{ℕ, List, [], ◌∷◌, length, map, Bool, ◌&&◌, if◌then◌else◌, nat_le}
 use Rattle.std.specs.List.{range_with_len, filter, list_any}
-use Rattle.miette_protocol.specs.Reading.{Span}
-use Rattle.miette_layout.specs.Numbers.{runs}
+use Rattle.miette_protocol.specs.rules.Reading.{Span}
+use Rattle.miette_layout.specs.rules.Numbers.{runs}
 use Rattle.miette_lines.proofs.Sources.{lines, first_line, last_line, read, lines_in}
 use Rattle.miette_lines.proofs.Joining.{groups}
 

@@ -3,9 +3,9 @@ use Rattle.std.proofs.Common.{ℕ, ◌+◌, ◌-◌, ◌*◌, ◌^◌, ◌<◌, 
 use Rattle.std.proofs.lemmas.Bool.{ne_eqb, eqb-false, eq-eqb}
 use Rattle.std.proofs.lemmas.List.{get_or_append_left, take_all}
 use Rattle.miette_style.specs.declared.style.Style.{Style}
-use Rattle.miette_style.specs.Styles.{plain}
+use Rattle.miette_style.specs.rules.Styles.{plain}
 use Rattle.miette_layout.specs.declared.page_marks.Kept.{Kept}
-use Rattle.miette_layout.specs.PageMarks.{kind_told, marks_kept, end_kept, AreKinds}
+use Rattle.miette_layout.specs.steps.PageMarks.{kind_told, marks_kept, end_kept, AreKinds}
 use Rattle.miette_lines.proofs.Numbers.{by_cases}
 
 -- more styles

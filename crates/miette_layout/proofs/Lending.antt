@@ -5,32 +5,32 @@ use Rattle.std.specs.List.{AllByRecursion, filter}
 use Rattle.std.proofs.lemmas.List.{drop-take, length-take, length-map, drop_all}
 use Rattle.std.proofs.Math.Seq.{take-take}
 use Rattle.std.proofs.lemmas.Bool.{ne_eqb}
-use Rattle.miette_protocol.specs.Lines as P
-use Rattle.miette_protocol.specs.Lines.{Line}
-use Rattle.miette_protocol.specs.Meaning.{Label}
-use Rattle.miette_protocol.specs.Reading.{Span, Source, Contents, data_start, data_end}
+use Rattle.miette_protocol.specs.rules.Lines as P
+use Rattle.miette_protocol.specs.rules.Lines.{Line}
+use Rattle.miette_protocol.specs.views.Meaning.{Label}
+use Rattle.miette_protocol.specs.rules.Reading.{Span, Source, Contents, data_start, data_end}
 use Rattle.miette_style.specs.declared.style.Style.{Style}
 use Rattle.miette_lines.specs.declared.reading.ReadLabel.{ReadLabel}
 use Rattle.miette_lines.specs.declared.text_line.LineOfText.{LineOfText}
 use Rattle.miette_lines.specs.declared.sweep.Placed.{Placed}
-use Rattle.miette_lines.specs.Answers.{Highlight, first_of, later_of}
-use Rattle.miette_layout.specs.Rows.{Row}
-use Rattle.miette_lines.specs.Cells.{Cell, characters, cells_from}
-use Rattle.miette_lines.specs.Contexts.{contents, lines_of_contents}
-use Rattle.miette_layout.specs.Frames.{Settings, Place, top_row, top_row_of, bottom_row, number_width, width_of_lines}
-use Rattle.miette_lines.specs.Given.{drawn_of, label_at}
-use Rattle.miette_lines.specs.Groups.{in_order, spans_of}
-use Rattle.miette_layout.specs.Gutters.{gutter_columns, most_labels}
-use Rattle.miette_lines.specs.Labels.{DrawnLabel, is_one_line, is_multi_line, one_line, multi_line}
-use Rattle.miette_layout.specs.Layout.{cells_of, line_rows, line_rows_of, rows_of_lines, body_rows}
-use Rattle.miette_layout.specs.Highlighted.{EachHasPieces, ArePieces, decoded_text, texts_of}
-use Rattle.miette_layout.specs.Lent.{cells_in, text_in, texts_in, lent_rows, lent_snippet, width_of_count, gutter_of, PutsRows}
-use Rattle.miette_lines.specs.Placing.{placed_from}
-use Rattle.miette_lines.specs.Read.{IsRead}
-use Rattle.miette_lines.specs.TextLines.{line_of_text}
-use Rattle.miette_lines.specs.Sweeping.{is_one, is_multi, nothing, start_at, AreSorted, IsAt}
-use Rattle.miette_lines.specs.Swept.{most_multi}
-use Rattle.miette_layout.specs.Told.{Token, told, told_rows, row_end}
+use Rattle.miette_lines.specs.rules.Answers.{Highlight, first_of, later_of}
+use Rattle.miette_layout.specs.rules.Rows.{Row}
+use Rattle.miette_lines.specs.rules.Cells.{Cell, characters, cells_from}
+use Rattle.miette_lines.specs.rules.Contexts.{contents, lines_of_contents}
+use Rattle.miette_layout.specs.rules.Frames.{Settings, Place, top_row, top_row_of, bottom_row, number_width, width_of_lines}
+use Rattle.miette_lines.specs.views.Given.{drawn_of, label_at}
+use Rattle.miette_lines.specs.rules.Groups.{in_order, spans_of}
+use Rattle.miette_layout.specs.rules.Gutters.{gutter_columns, most_labels}
+use Rattle.miette_lines.specs.rules.Labels.{DrawnLabel, is_one_line, is_multi_line, one_line, multi_line}
+use Rattle.miette_layout.specs.rules.Layout.{cells_of, line_rows, line_rows_of, rows_of_lines, body_rows}
+use Rattle.miette_layout.specs.rules.Highlighted.{EachHasPieces, ArePieces, decoded_text, texts_of}
+use Rattle.miette_layout.specs.views.Lent.{cells_in, text_in, texts_in, lent_rows, lent_snippet, width_of_count, gutter_of, PutsRows}
+use Rattle.miette_lines.specs.views.Placing.{placed_from}
+use Rattle.miette_lines.specs.views.Read.{IsRead}
+use Rattle.miette_lines.specs.views.TextLines.{line_of_text}
+use Rattle.miette_lines.specs.views.Sweeping.{is_one, is_multi, nothing, start_at, AreSorted, IsAt}
+use Rattle.miette_lines.specs.views.Swept.{most_multi}
+use Rattle.miette_layout.specs.views.Told.{Token, told, told_rows, row_end}
 use Rattle.miette_lines.proofs.Numbers.{by_cases}
 use Rattle.miette_lines.proofs.Sources.{IsCut, lines_from}
 use Rattle.miette_lines.proofs.Lines.{cut_lines, cut-le}

@@ -2,7 +2,7 @@
 use Rattle.std.proofs.Common.{ℕ, ◌+◌, ◌≡◌, eqb, List, [], ◌∷◌, refl, ap}
 use Rattle.std.proofs.lemmas.Bool.{eqb-true, eqb-false}
 use Rattle.std.specs.List.{AllByRecursion, concat}
-use Rattle.miette_layout.specs.Numbers.{onto_run, runs, IsRun, AreParted}
+use Rattle.miette_layout.specs.rules.Numbers.{onto_run, runs, IsRun, AreParted}
 use Rattle.miette_lines.proofs.Numbers.{by_cases}
 
 -- what runs have

@@ -4,10 +4,10 @@ use Rattle.std.proofs.lemmas.Bool.{le-leb, lt-leb, leb-true, leb-false, cases_lt
 use Rattle.std.proofs.lemmas.Bool.Decides.{nat_tests}
 use Rattle.std.proofs.lemmas.List.Elements.{filter_agree}
 use Rattle.std.specs.List.{range_with_len, filter, list_any}
-use Rattle.miette_layout.specs.Numbers.{runs}
+use Rattle.miette_layout.specs.rules.Numbers.{runs}
 use Rattle.miette_lines.proofs.Sources.{lines, line_of, reading_end, end_of_span, first_line, last_line, read, lines_in}
-use Rattle.miette_protocol.specs.Reading.{Span}
-use Rattle.miette_lines.specs.Groups.{joined}
+use Rattle.miette_protocol.specs.rules.Reading.{Span}
+use Rattle.miette_lines.specs.rules.Groups.{joined}
 use Rattle.miette_layout.proofs.Joining.{put_by_offset, by_offset, lines_of_groups, is_in_context, is_shown, shown, snippets}
 use Rattle.miette_lines.proofs.Joining.{joins, groups_from, groups}
 use Rattle.miette_layout.proofs.Numbers.{filter-none, filter-front, begins-other, runs-block, BeginsOtherThan}

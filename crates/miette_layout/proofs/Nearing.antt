@@ -1,11 +1,11 @@
 -- Labels by offset that begin in a span or where it ends: all others lie outside of it.
 use Rattle.std.proofs.Common.{ℕ, ◌≡◌, List, map, sym, ap, ◌∙◌, subst, All}
 use Rattle.std.specs.List.Sorted.{IsNonDecreasingBy}
-use Rattle.miette_protocol.specs.Meaning.{Label}
-use Rattle.miette_protocol.specs.Reading.{Span, Source}
+use Rattle.miette_protocol.specs.views.Meaning.{Label}
+use Rattle.miette_protocol.specs.rules.Reading.{Span, Source}
 use Rattle.miette_lines.specs.declared.reading.ReadLabel.{ReadLabel}
-use Rattle.miette_lines.specs.Groups.{in_order, spans_of}
-use Rattle.miette_lines.specs.Read.{IsRead}
+use Rattle.miette_lines.specs.rules.Groups.{in_order, spans_of}
+use Rattle.miette_lines.specs.views.Read.{IsRead}
 use Rattle.miette_layout.proofs.Bodies.{order_same}
 use Rattle.miette_layout.proofs.Merging.{sorted}
 use Rattle.miette_lines.proofs.Merging.{IsAscending}

@@ -3,7 +3,7 @@ use Rattle.std.proofs.Common.{ℕ, zero, suc, ◌+◌, ◌<◌, ◌≤◌, ◌�
 use Rattle.std.proofs.lemmas.Bool.{eq-eqb, ne_eqb}
 use Rattle.std.proofs.lemmas.List.Elements.{filter-append}
 use Rattle.std.specs.List.{range_with_len, filter}
-use Rattle.miette_layout.specs.Numbers.{onto_run, runs}
+use Rattle.miette_layout.specs.rules.Numbers.{onto_run, runs}
 use Rattle.miette_lines.proofs.Numbers.{by_cases}
 
 pub range_with_len-append : (from x y : ℕ) → range_with_len from (x + y) ≡ range_with_len from x ++ range_with_len (from + x) y

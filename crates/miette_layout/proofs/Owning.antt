@@ -3,24 +3,24 @@ use Rattle.std.proofs.Common.{ℕ, suc, ◌+◌, ◌-◌, ◌<◌, ◌≤◌, �
 use Rattle.std.specs.Prelude.{is_some}
 use Rattle.std.proofs.lemmas.List.Elements.{filter_agree}
 use Rattle.std.specs.List.{range_with_len, filter, list_any, AllByRecursion}
-use Rattle.miette_protocol.specs.Lines as P
-use Rattle.miette_protocol.specs.Lines.{Line}
-use Rattle.miette_protocol.specs.Meaning.{Label}
-use Rattle.miette_protocol.specs.Reading as R
-use Rattle.miette_protocol.specs.Reading.{Span, Source, Contents}
-use Rattle.miette_lines.specs.Answers.{Highlight, first_of, later_of}
-use Rattle.miette_lines.specs.Around.{has_own, lines_around}
-use Rattle.miette_lines.specs.Contexts as C
-use Rattle.miette_lines.specs.Contexts.{contents, lines_of_contents}
-use Rattle.miette_layout.specs.Frames.{Settings, width_of_lines}
-use Rattle.miette_lines.specs.Groups as G
-use Rattle.miette_lines.specs.Groups.{in_order, put_label, stretch, put_stretch, by_begin, stretches_from, joined_stretches, own_groups}
-use Rattle.miette_layout.specs.Gutters.{gutter_columns}
-use Rattle.miette_lines.specs.Labels.{DrawnLabel}
-use Rattle.miette_layout.specs.Layout.{rows_of_lines, body_rows}
-use Rattle.miette_layout.specs.Numbers.{runs}
-use Rattle.miette_layout.specs.Shown.{run_rows, rows_of_runs, bodies}
-use Rattle.miette_layout.specs.Snippets as N
+use Rattle.miette_protocol.specs.rules.Lines as P
+use Rattle.miette_protocol.specs.rules.Lines.{Line}
+use Rattle.miette_protocol.specs.views.Meaning.{Label}
+use Rattle.miette_protocol.specs.rules.Reading as R
+use Rattle.miette_protocol.specs.rules.Reading.{Span, Source, Contents}
+use Rattle.miette_lines.specs.rules.Answers.{Highlight, first_of, later_of}
+use Rattle.miette_lines.specs.rules.Around.{has_own, lines_around}
+use Rattle.miette_lines.specs.rules.Contexts as C
+use Rattle.miette_lines.specs.rules.Contexts.{contents, lines_of_contents}
+use Rattle.miette_layout.specs.rules.Frames.{Settings, width_of_lines}
+use Rattle.miette_lines.specs.rules.Groups as G
+use Rattle.miette_lines.specs.rules.Groups.{in_order, put_label, stretch, put_stretch, by_begin, stretches_from, joined_stretches, own_groups}
+use Rattle.miette_layout.specs.rules.Gutters.{gutter_columns}
+use Rattle.miette_lines.specs.rules.Labels.{DrawnLabel}
+use Rattle.miette_layout.specs.rules.Layout.{rows_of_lines, body_rows}
+use Rattle.miette_layout.specs.rules.Numbers.{runs}
+use Rattle.miette_layout.specs.rules.Shown.{run_rows, rows_of_runs, bodies}
+use Rattle.miette_layout.specs.rules.Snippets as N
 use Rattle.miette_lines.proofs.Sources.{lines, first_line, last_line}
 use Rattle.miette_layout.proofs.Joining as J
 use Rattle.miette_lines.proofs.Numbers.{by_cases}

@@ -6,10 +6,10 @@ use Rattle.std.proofs.lemmas.Bool.{cases_lt}
 use Rattle.std.proofs.lemmas.Str.{IsCharBoundary-start, IsCharBoundary-end, encodes-append, encodes-IsAscii}
 use Rattle.std.proofs.lemmas.List.{map-append, get_or_append_left, get_or-append-add, drop-append-le, take-append-le, take_all, drop_all, length-drop, replicate_more, take_more}
 use Rattle.miette_layout.specs.declared.page_marks.Mark.{Mark}
-use Rattle.miette_layout.specs.Told.{Token, bytes_told, text_told}
-use Rattle.miette_layout.specs.Pages.{token_of, tokens_from, AreMarks}
-use Rattle.miette_layout.specs.PageMarks.{marks_ahead}
-use Rattle.miette_layout.specs.Seams.{first_mark}
+use Rattle.miette_layout.specs.views.Told.{Token, bytes_told, text_told}
+use Rattle.miette_layout.specs.views.Pages.{token_of, tokens_from, AreMarks}
+use Rattle.miette_layout.specs.steps.PageMarks.{marks_ahead}
+use Rattle.miette_layout.specs.steps.Seams.{first_mark}
 
 -- text behind a text moves no boundary
 lead_behind : (text more : List ℕ) (i : ℕ) → i ≡ length text → IsUtf8 more → i < length (text ++ more) → 128 ≤ slice_index (text ++ more) i → 192 ≤ slice_index (text ++ more) i

@@ -2,24 +2,24 @@
 use Rattle.std.proofs.Common.{◌≡◌, ℕ, ◌+◌, ◌-◌, Bool, true, false, ◌&&◌, ◌||◌, not, if◌then◌else◌, List, [], ◌∷◌, ◌++◌, map, length, replicate, decimal, codes, chars, Option, Some, None, IfSome, option_map, refl, sym, ap, ap₂, ◌∙◌, subst, append-nil}
 use Rattle.std.specs.Prelude.{nat_lt, slice_range}
 use Rattle.std.specs.List.{AllByRecursion}
-use Rattle.miette_protocol.specs.Lines.{Line}
-use Rattle.miette_protocol.specs.Meaning.{Label}
-use Rattle.miette_protocol.specs.Reading.{Span, Source, Contents}
-use Rattle.miette_lines.specs.Answers.{Answers, Highlight, next_answer, later_answers, first_of, later_of}
-use Rattle.miette_layout.specs.PrintedCells.{printed_cells, line_runs}
-use Rattle.miette_lines.specs.Cells.{Cell, characters}
-use Rattle.miette_layout.specs.Clean.{IsClean, IsCleanText, IsCleanRow, IsCleanLabel, IsCleanSource, AreCleanDrawings}
-use Rattle.miette_lines.specs.Contexts.{contents, lines_of_contents, is_accepted}
-use Rattle.miette_layout.specs.Drawing.{marked_rows}
-use Rattle.miette_layout.specs.Fading.{colourless, unhighlighted, IsPlainRow}
-use Rattle.miette_layout.specs.Frames.{Settings, Place, text_or_none, refused_row, number_start, other_start, place_text, location, location_of, top_row_of, bottom_row, number_width}
-use Rattle.miette_lines.specs.Groups.{Refusal, refusal, in_order, groups_of, some_fails, groups_fail}
-use Rattle.miette_layout.specs.Gutters.{number_gutter, other_gutter, closing_rows, gutter_columns}
-use Rattle.miette_lines.specs.Labels.{DrawnLabel, drawn_from, one_line, multi_line, closing, is_one_line, is_multi_line, ends_on, starts_on}
-use Rattle.miette_layout.specs.Layout.{text_of_cells, cells_of, before_each, line_rows_of, line_rows, rows_of_lines, body_rows, place_of, snippet, all_snippets, settings_around, rows_unless, snippet_rows}
-use Rattle.miette_layout.specs.Marks.{marks}
-use Rattle.miette_layout.specs.Rows.{Run, Row, pieces_of, unstyled}
-use Rattle.miette_style.specs.Styles.{plain}
+use Rattle.miette_protocol.specs.rules.Lines.{Line}
+use Rattle.miette_protocol.specs.views.Meaning.{Label}
+use Rattle.miette_protocol.specs.rules.Reading.{Span, Source, Contents}
+use Rattle.miette_lines.specs.rules.Answers.{Answers, Highlight, next_answer, later_answers, first_of, later_of}
+use Rattle.miette_layout.specs.rules.PrintedCells.{printed_cells, line_runs}
+use Rattle.miette_lines.specs.rules.Cells.{Cell, characters}
+use Rattle.miette_layout.specs.laws.Clean.{IsClean, IsCleanText, IsCleanRow, IsCleanLabel, IsCleanSource, AreCleanDrawings}
+use Rattle.miette_lines.specs.rules.Contexts.{contents, lines_of_contents, is_accepted}
+use Rattle.miette_layout.specs.rules.Drawing.{marked_rows}
+use Rattle.miette_layout.specs.laws.Fading.{colourless, unhighlighted, IsPlainRow}
+use Rattle.miette_layout.specs.rules.Frames.{Settings, Place, text_or_none, refused_row, number_start, other_start, place_text, location, location_of, top_row_of, bottom_row, number_width}
+use Rattle.miette_lines.specs.rules.Groups.{Refusal, refusal, in_order, groups_of, some_fails, groups_fail}
+use Rattle.miette_layout.specs.rules.Gutters.{number_gutter, other_gutter, closing_rows, gutter_columns}
+use Rattle.miette_lines.specs.rules.Labels.{DrawnLabel, drawn_from, one_line, multi_line, closing, is_one_line, is_multi_line, ends_on, starts_on}
+use Rattle.miette_layout.specs.rules.Layout.{text_of_cells, cells_of, before_each, line_rows_of, line_rows, rows_of_lines, body_rows, place_of, snippet, all_snippets, settings_around, rows_unless, snippet_rows}
+use Rattle.miette_layout.specs.rules.Marks.{marks}
+use Rattle.miette_layout.specs.rules.Rows.{Run, Row, pieces_of, unstyled}
+use Rattle.miette_style.specs.rules.Styles.{plain}
 use Rattle.miette_layout.proofs.Bleaching.{filter_bleached, all_filter, marks_bleached, marks_clean, gutter_bleached, drawn_bleached, drawn_clean, ordered_clean}
 use Rattle.miette_layout.proofs.CleanTexts.{AreCleanCells, clean_cons, clean_append, clean_replicate, clean_if, clean_range, clean_decimal, clean_characters, clean_cells, clean_line, line_same}
 use Rattle.miette_layout.proofs.Paling.{bleached, HasCleanParts, PaleRow, PaleRows, pale_nil, pale_cons, pale_append, pale_if, rows_nil, rows_cons, rows_append, pale_styled, pale_blank, pale_number_gutter, pale_other_gutter, pale_closing_rows, pale_marked, all_append}

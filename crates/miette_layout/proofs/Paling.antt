@@ -4,15 +4,15 @@ use Rattle.std.specs.List.{AllByRecursion, range_with_len}
 use Rattle.std.proofs.lemmas.List.{map-append}
 use Rattle.miette_style.specs.declared.style.Style.{Style}
 use Rattle.miette_style.specs.declared.theme.ThemeCharacters.{ThemeCharacters}
-use Rattle.miette_protocol.specs.Lines.{Line}
-use Rattle.miette_layout.specs.Clean.{IsCleanCode, IsClean, IsCleanRow, AreCleanDrawings}
-use Rattle.miette_layout.specs.Drawing.{blank, code_with_parts, mark_code, mark_run, mark_runs, lead_runs, text_row, corner, corner_of_several, beside, rows_of_parts, rows_below, marked_rows}
-use Rattle.miette_layout.specs.Fading.{IsPlainRow}
-use Rattle.miette_layout.specs.Gutters.{ending_corner, arrow, number_gutter, other_gutter, open_gutter, part_run, closing_parts, closing_rows}
-use Rattle.miette_lines.specs.Labels.{DrawnLabel, is_empty, starts_on, ends_on}
-use Rattle.miette_layout.specs.Marks.{Mark, anchor}
-use Rattle.miette_layout.specs.Rows.{Run, Row, pieces_of, styled}
-use Rattle.miette_style.specs.Styles.{plain}
+use Rattle.miette_protocol.specs.rules.Lines.{Line}
+use Rattle.miette_layout.specs.laws.Clean.{IsCleanCode, IsClean, IsCleanRow, AreCleanDrawings}
+use Rattle.miette_layout.specs.rules.Drawing.{blank, code_with_parts, mark_code, mark_run, mark_runs, lead_runs, text_row, corner, corner_of_several, beside, rows_of_parts, rows_below, marked_rows}
+use Rattle.miette_layout.specs.laws.Fading.{IsPlainRow}
+use Rattle.miette_layout.specs.rules.Gutters.{ending_corner, arrow, number_gutter, other_gutter, open_gutter, part_run, closing_parts, closing_rows}
+use Rattle.miette_lines.specs.rules.Labels.{DrawnLabel, is_empty, starts_on, ends_on}
+use Rattle.miette_layout.specs.rules.Marks.{Mark, anchor}
+use Rattle.miette_layout.specs.rules.Rows.{Run, Row, pieces_of, styled}
+use Rattle.miette_style.specs.rules.Styles.{plain}
 use Rattle.miette_layout.proofs.CleanTexts.{AreCleanPieces, clean_cons, clean_append, clean_replicate, clean_code_if, clean_copies, clean_drawn, clean_each}
 use Rattle.miette_layout.proofs.Flat.{pieces_of-append}
 

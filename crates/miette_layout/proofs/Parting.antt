@@ -6,7 +6,7 @@ use Rattle.std.proofs.Math.Seq.{take-append_seam, drop-append-add}
 use Rattle.std.proofs.lemmas.Bool.{and_parts}
 use Rattle.std.proofs.lemmas.List.{get_or-append-add}
 use Rattle.std.proofs.lemmas.Str.{encode_ascii, encodes-append, encodes-chars, chars-encodes, scalars-chars, IsUtf8-take, IsUtf8-drop, IsCharBoundary-before_ascii, IsCharBoundary-after_ascii}
-use Rattle.miette_lines.specs.Labels.{cut_at_lf, onto_part}
+use Rattle.miette_lines.specs.rules.Labels.{cut_at_lf, onto_part}
 use Rattle.miette_lines.proofs.Numbers.{by_cases}
 
 -- no character is an LF

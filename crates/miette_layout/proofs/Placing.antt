@@ -1,14 +1,14 @@
 -- Columns of offsets.
 use Rattle.std.proofs.Common.{ℕ, ◌+◌, ◌<◌, ◌≤◌, ◌≡◌, List, [], ◌∷◌, ◌++◌, map, length, drop, get_or, append_assoc, append-nil, sym, ap, ◌∙◌}
 use Rattle.std.proofs.lemmas.List.{at_drop_more, at_drop_all, map-append}
-use Rattle.miette_protocol.specs.Meaning.{Label}
+use Rattle.miette_protocol.specs.views.Meaning.{Label}
 use Rattle.miette_lines.specs.declared.sweep.Placed.{Placed}
 use Rattle.miette_layout.specs.declared.marks.Mark.{Mark as MadeMark}
-use Rattle.miette_lines.specs.Labels.{DrawnLabel}
-use Rattle.miette_layout.specs.Marks.{Text, Mark, mark_from, mark_until, marks_from}
-use Rattle.miette_lines.specs.Sweeping.{label_of, nothing}
-use Rattle.miette_lines.specs.Given.{drawn_of}
-use Rattle.miette_layout.specs.Made.{mark_of}
+use Rattle.miette_lines.specs.rules.Labels.{DrawnLabel}
+use Rattle.miette_layout.specs.rules.Marks.{Text, Mark, mark_from, mark_until, marks_from}
+use Rattle.miette_lines.specs.views.Sweeping.{label_of, nothing}
+use Rattle.miette_lines.specs.views.Given.{drawn_of}
+use Rattle.miette_layout.specs.views.Made.{mark_of}
 
 abbrev pub no_mark : MadeMark
 no_mark = record { from = 0; until = 0; label = nothing }

@@ -3,9 +3,9 @@ use Rattle.std.proofs.Common.{ℕ, zero, suc, ◌+◌, ◌<◌, ◌≤◌, ◌�
 use Rattle.std.specs.Option.{option_map}
 use Rattle.std.specs.Str.{chars}
 use Rattle.std.proofs.lemmas.List.{drop_all, length-map}
-use Rattle.miette_protocol.specs.Lines.{Line}
-use Rattle.miette_protocol.specs.Meaning.{Label}
-use Rattle.miette_protocol.specs.Reading.{Span, Source, Contents}
+use Rattle.miette_protocol.specs.rules.Lines.{Line}
+use Rattle.miette_protocol.specs.views.Meaning.{Label}
+use Rattle.miette_protocol.specs.rules.Reading.{Span, Source, Contents}
 use Rattle.miette_style.specs.declared.style.Style.{Style}
 use Rattle.miette_lines.specs.declared.grouping.Group.{Group}
 use Rattle.miette_lines.specs.declared.primary.Place.{Place as Found}
@@ -15,23 +15,23 @@ use Rattle.miette_lines.specs.declared.reading.ReadLabels.TheVariants as reads
 use Rattle.miette_lines.specs.declared.reading.Refusal.{Refusal}
 use Rattle.miette_lines.specs.declared.reading.Refusal.TheVariants as reasons
 use Rattle.miette_lines.specs.declared.sweep.Placed.{Placed}
-use Rattle.miette_layout.specs.Rows.{Row}
-use Rattle.miette_lines.specs.Answers.{Answers, Highlight, first_of, later_of}
-use Rattle.miette_lines.specs.Around.{has_own, group_context}
-use Rattle.miette_lines.specs.Contexts.{contents, lines_of_contents}
-use Rattle.miette_layout.specs.Drawn.{MayGive}
-use Rattle.miette_layout.specs.Frames.{Settings, Place, refused_row, top_row, bottom_row, number_width}
-use Rattle.miette_lines.specs.Given.{drawn_of, label_at}
-use Rattle.miette_layout.specs.Gutters.{gutter_columns}
-use Rattle.miette_lines.specs.Groups.{in_order, refusal, groups_of, some_fails, AreAccepted}
-use Rattle.miette_layout.specs.Highlighted.{EachHasPieces, SnippetsHavePieces, texts_of}
-use Rattle.miette_lines.specs.Labels.{DrawnLabel, drawn_from}
-use Rattle.miette_layout.specs.Layout.{snippet, all_snippets, line_rows, settings_around, rows_unless, place_of, body_rows}
-use Rattle.miette_layout.specs.Lent.{cells_in, lent_rows, lent_snippet, PutsRows}
-use Rattle.miette_lines.specs.Placing.{placed_from}
-use Rattle.miette_lines.specs.Primary.{chosen, PointsTo, is_unread}
-use Rattle.miette_lines.specs.Read.{IsRead, IsLent, AreGroups, AreGrouped, IsUnread, AreRead, name_of}
-use Rattle.miette_layout.specs.Told.{Token, told_rows}
+use Rattle.miette_layout.specs.rules.Rows.{Row}
+use Rattle.miette_lines.specs.rules.Answers.{Answers, Highlight, first_of, later_of}
+use Rattle.miette_lines.specs.rules.Around.{has_own, group_context}
+use Rattle.miette_lines.specs.rules.Contexts.{contents, lines_of_contents}
+use Rattle.miette_layout.specs.views.Drawn.{MayGive}
+use Rattle.miette_layout.specs.rules.Frames.{Settings, Place, refused_row, top_row, bottom_row, number_width}
+use Rattle.miette_lines.specs.views.Given.{drawn_of, label_at}
+use Rattle.miette_layout.specs.rules.Gutters.{gutter_columns}
+use Rattle.miette_lines.specs.rules.Groups.{in_order, refusal, groups_of, some_fails, AreAccepted}
+use Rattle.miette_layout.specs.rules.Highlighted.{EachHasPieces, SnippetsHavePieces, texts_of}
+use Rattle.miette_lines.specs.rules.Labels.{DrawnLabel, drawn_from}
+use Rattle.miette_layout.specs.rules.Layout.{snippet, all_snippets, line_rows, settings_around, rows_unless, place_of, body_rows}
+use Rattle.miette_layout.specs.views.Lent.{cells_in, lent_rows, lent_snippet, PutsRows}
+use Rattle.miette_lines.specs.views.Placing.{placed_from}
+use Rattle.miette_lines.specs.views.Primary.{chosen, PointsTo, is_unread}
+use Rattle.miette_lines.specs.views.Read.{IsRead, IsLent, AreGroups, AreGrouped, IsUnread, AreRead, name_of}
+use Rattle.miette_layout.specs.views.Told.{Token, told_rows}
 use Rattle.miette_layout.proofs.Bodies.{none_refused}
 use Rattle.miette_lines.proofs.Bodies.{some_none}
 use Rattle.miette_layout.proofs.Choosing.{framed_place, place_is, unread_fails}

@@ -3,13 +3,13 @@ use Rattle.std.proofs.Common.{ℕ, zero, suc, ◌+◌, ◌-◌, ◌<◌, ◌≤�
 use Rattle.std.specs.Prelude.{slice_index, slice_range}
 use Rattle.std.specs.List.{range_with_len, filter}
 use Rattle.std.proofs.lemmas.Bool.{cases_lt, and_right, ne_eqb, eqb-true}
-use Rattle.miette_protocol.specs.Lines as P
-use Rattle.miette_protocol.specs.Lines.{Line, lines_of}
-use Rattle.miette_protocol.specs.Reading as R
-use Rattle.miette_protocol.specs.Reading.{Span, Source}
-use Rattle.miette_lines.specs.Contexts as C
-use Rattle.miette_lines.specs.Contexts.{contents, lines_of_contents}
-use Rattle.miette_layout.specs.Shown.{line_at}
+use Rattle.miette_protocol.specs.rules.Lines as P
+use Rattle.miette_protocol.specs.rules.Lines.{Line, lines_of}
+use Rattle.miette_protocol.specs.rules.Reading as R
+use Rattle.miette_protocol.specs.rules.Reading.{Span, Source}
+use Rattle.miette_lines.specs.rules.Contexts as C
+use Rattle.miette_lines.specs.rules.Contexts.{contents, lines_of_contents}
+use Rattle.miette_layout.specs.rules.Shown.{line_at}
 use Rattle.miette_layout.proofs.Numbers.{filter-same}
 use Rattle.miette_lines.proofs.Numbers.{by_cases}
 use Rattle.miette_lines.proofs.Sources.{begins_with_lf, with_text, with_cr, lines_from, lines, IsCut, start_of, end_of, past_lf, reading_end}

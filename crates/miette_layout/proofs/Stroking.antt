@@ -4,17 +4,17 @@ use Rattle.std.specs.Prelude.{encode_utf8, chars}
 use Rattle.std.proofs.lemmas.Bool.Decides.{nat_tests}
 use Rattle.std.proofs.lemmas.List.{at_drop_more, at_drop_all, map-append}
 use Rattle.std.specs.List.{range_with_len}
-use Rattle.miette_protocol.specs.Meaning.{Label}
+use Rattle.miette_protocol.specs.views.Meaning.{Label}
 use Rattle.miette_style.specs.declared.style.Style.{Style}
 use Rattle.miette_style.specs.declared.theme.ThemeCharacters.{ThemeCharacters}
 use Rattle.miette_layout.specs.declared.marks.Mark.{Mark as MadeMark}
-use Rattle.miette_layout.specs.Rows.{drawn}
-use Rattle.miette_style.specs.Styles.{plain}
-use Rattle.miette_lines.specs.Labels.{parts_of, cut_at_lf, onto_part, is_empty}
-use Rattle.miette_layout.specs.Marks.{Mark, anchor}
-use Rattle.miette_layout.specs.Drawing.{mark_code, mark_run, mark_runs, code_with_parts}
-use Rattle.miette_layout.specs.Made.{mark_of}
-use Rattle.miette_layout.specs.Told.{Token, begins, told, told_run, run_told, text_told, bytes_told}
+use Rattle.miette_layout.specs.rules.Rows.{drawn}
+use Rattle.miette_style.specs.rules.Styles.{plain}
+use Rattle.miette_lines.specs.rules.Labels.{parts_of, cut_at_lf, onto_part, is_empty}
+use Rattle.miette_layout.specs.rules.Marks.{Mark, anchor}
+use Rattle.miette_layout.specs.rules.Drawing.{mark_code, mark_run, mark_runs, code_with_parts}
+use Rattle.miette_layout.specs.views.Made.{mark_of}
+use Rattle.miette_layout.specs.views.Told.{Token, begins, told, told_run, run_told, text_told, bytes_told}
 use Rattle.miette_layout.proofs.Numbers.{range_with_len-append}
 use Rattle.miette_lines.proofs.Numbers.{by_cases}
 use Rattle.miette_layout.proofs.Telling.{then, told_as, run_one, run_more, blank_told}

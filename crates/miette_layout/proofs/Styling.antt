@@ -1,17 +1,17 @@
 -- Pieces of a highlighter, and rows of lines that are left plain.
 use Rattle.std.proofs.Common.{ℕ, ◌+◌, ◌≡◌, ◌++◌, length, Bool, true, List, [], ◌∷◌, map, refl, sym, ap, ap₂, subst}
-use Rattle.miette_protocol.specs.Lines.{Line}
-use Rattle.miette_protocol.specs.Meaning.{Label}
-use Rattle.miette_protocol.specs.Reading.{Span, Source, Contents}
-use Rattle.miette_style.specs.Pieces.{CutsLine, Piece}
-use Rattle.miette_lines.specs.Answers.{Highlight, first_of, later_of}
-use Rattle.miette_lines.specs.Contexts.{contents, lines_of_contents}
-use Rattle.miette_layout.specs.Frames.{Settings, top_row, bottom_row, number_width}
-use Rattle.miette_layout.specs.Gutters.{gutter_columns}
-use Rattle.miette_layout.specs.Highlighted.{ArePieces, EachHasPieces, SnippetsHavePieces, piece_of, texts_of}
-use Rattle.miette_lines.specs.Labels.{DrawnLabel, drawn_from}
-use Rattle.miette_layout.specs.Layout.{line_rows, rows_of_lines, cells_of, all_snippets, place_of}
-use Rattle.miette_layout.specs.TellingCells.{highlight_of}
+use Rattle.miette_protocol.specs.rules.Lines.{Line}
+use Rattle.miette_protocol.specs.views.Meaning.{Label}
+use Rattle.miette_protocol.specs.rules.Reading.{Span, Source, Contents}
+use Rattle.miette_style.specs.rules.Pieces.{CutsLine, Piece}
+use Rattle.miette_lines.specs.rules.Answers.{Highlight, first_of, later_of}
+use Rattle.miette_lines.specs.rules.Contexts.{contents, lines_of_contents}
+use Rattle.miette_layout.specs.rules.Frames.{Settings, top_row, bottom_row, number_width}
+use Rattle.miette_layout.specs.rules.Gutters.{gutter_columns}
+use Rattle.miette_layout.specs.rules.Highlighted.{ArePieces, EachHasPieces, SnippetsHavePieces, piece_of, texts_of}
+use Rattle.miette_lines.specs.rules.Labels.{DrawnLabel, drawn_from}
+use Rattle.miette_layout.specs.rules.Layout.{line_rows, rows_of_lines, cells_of, all_snippets, place_of}
+use Rattle.miette_layout.specs.views.TellingCells.{highlight_of}
 
 same_pieces : (ps : List Piece) → map piece_of (map highlight_of ps) ≡ ps
 same_pieces [] = refl

@@ -2,9 +2,9 @@
 use Rattle.std.proofs.Common.{ℕ, List, [], ◌∷◌, ◌++◌, map, cond, eqb}
 use Rattle.std.specs.List.{range_with_len}
 use Rattle.miette_style.specs.declared.theme.ThemeCharacters.{ThemeCharacters}
-use Rattle.miette_layout.specs.Rows.{Piece, drawn}
-use Rattle.miette_layout.specs.Marks.{Mark, anchor}
-use Rattle.miette_layout.specs.Pictures.{mark_at, marks_end}
+use Rattle.miette_layout.specs.rules.Rows.{Piece, drawn}
+use Rattle.miette_layout.specs.rules.Marks.{Mark, anchor}
+use Rattle.miette_layout.specs.laws.Pictures.{mark_at, marks_end}
 
 abbrev pub mark_row : (ℕ → ℕ) → ThemeCharacters → List Mark → List Piece
 mark_row width t marks = map (mark_at width t marks) (range_with_len 0 (marks_end 0 marks))

@@ -4,16 +4,16 @@ use Rattle.std.specs.Prelude.{decimal}
 use Rattle.std.proofs.lemmas.Fmt.{decimal_is_IsNumeral, decimal_nonempty, length-decimal-le}
 use Rattle.std.proofs.lemmas.Int.Digits.{digits_value-lt}
 use Rattle.std.specs.List.{AllByRecursion}
-use Rattle.miette_protocol.specs.Lines.{Line}
-use Rattle.miette_protocol.specs.Reading.{Contents}
-use Rattle.miette_lines.specs.Answers.{Highlight, first_of, later_of}
-use Rattle.miette_lines.specs.Contexts.{lines_of_contents}
-use Rattle.miette_lines.specs.Labels.{DrawnLabel}
-use Rattle.miette_layout.specs.Drawing.{IsNarrow}
-use Rattle.miette_layout.specs.Gutters.{gutter_columns}
-use Rattle.miette_layout.specs.Frames.{Settings, width_of_lines}
-use Rattle.miette_layout.specs.Layout.{cells_of}
-use Rattle.miette_layout.specs.Pictures.{LinesShow, BodyShows}
+use Rattle.miette_protocol.specs.rules.Lines.{Line}
+use Rattle.miette_protocol.specs.rules.Reading.{Contents}
+use Rattle.miette_lines.specs.rules.Answers.{Highlight, first_of, later_of}
+use Rattle.miette_lines.specs.rules.Contexts.{lines_of_contents}
+use Rattle.miette_lines.specs.rules.Labels.{DrawnLabel}
+use Rattle.miette_layout.specs.rules.Drawing.{IsNarrow}
+use Rattle.miette_layout.specs.rules.Gutters.{gutter_columns}
+use Rattle.miette_layout.specs.rules.Frames.{Settings, width_of_lines}
+use Rattle.miette_layout.specs.rules.Layout.{cells_of}
+use Rattle.miette_layout.specs.laws.Pictures.{LinesShow, BodyShows}
 use Rattle.miette_layout.proofs.Beneath.{HasRoom, line_shows, line_begins, all_room}
 
 -- a smaller number has no more digits

@@ -1,15 +1,15 @@
 //! The texts of the labels of several lines that end on a line.
 
 ghost use Rattle.std.specs.Prelude.{◌≡◌, ◌++◌, ◌∷◌, [], not, ◌&&◌, chars, map, OnOk};
-ghost use Rattle.miette_layout.specs.Told.{row_end, told_rows, run_told};
-ghost use Rattle.miette_lines.specs.Labels.{starts_on, ends_on, cut_at_lf, closing};
-ghost use Rattle.miette_layout.specs.Gutters.{closing_parts, closing_rows};
-ghost use Rattle.miette_layout.specs.Frames.{other_start};
-ghost use Rattle.miette_layout.specs.Layout.{before_each};
-ghost use Rattle.miette_lines.specs.Sweeping.{label_of};
-ghost use Rattle.miette_lines.specs.Given.{drawn_of};
-ghost use Rattle.miette_layout.specs.Sheets.{settings, multi_labels, closed_line, open_line};
-ghost use Rattle.miette_lines.specs.TextLines.{line_of_text};
+ghost use Rattle.miette_layout.specs.views.Told.{row_end, told_rows, run_told};
+ghost use Rattle.miette_lines.specs.rules.Labels.{starts_on, ends_on, cut_at_lf, closing};
+ghost use Rattle.miette_layout.specs.rules.Gutters.{closing_parts, closing_rows};
+ghost use Rattle.miette_layout.specs.rules.Frames.{other_start};
+ghost use Rattle.miette_layout.specs.rules.Layout.{before_each};
+ghost use Rattle.miette_lines.specs.views.Sweeping.{label_of};
+ghost use Rattle.miette_lines.specs.views.Given.{drawn_of};
+ghost use Rattle.miette_layout.specs.views.Sheets.{settings, multi_labels, closed_line, open_line};
+ghost use Rattle.miette_lines.specs.views.TextLines.{line_of_text};
 
 use crate::gutters::{ends, push_open_gutter, push_other_gutter, starts};
 use crate::page::Page;

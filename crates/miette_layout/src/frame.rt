@@ -3,10 +3,10 @@
 ghost use Rattle.std.specs.Prelude.{◌≡◌, ◌++◌, ◌∷◌, [], IsTrue, nat_lt, chars, codes, decimal, option_copied, if◌then◌else◌, false, OnOk};
 ghost use Rattle.std.specs.List.{list_all};
 ghost use Rattle.std.specs.Option.{option_map};
-ghost use Rattle.miette_layout.specs.Told.{told, told_rows, run_told, text_told};
-ghost use Rattle.miette_layout.specs.Frames.{top_row_of, bottom_row, location, location_of, place_text, refused_row, text_or_none};
-ghost use Rattle.miette_layout.specs.ThemeSettings.{settings_of};
-ghost use Rattle.miette_layout.specs.Framed.{corner_row, place_at, refused_front};
+ghost use Rattle.miette_layout.specs.views.Told.{told, told_rows, run_told, text_told};
+ghost use Rattle.miette_layout.specs.rules.Frames.{top_row_of, bottom_row, location, location_of, place_text, refused_row, text_or_none};
+ghost use Rattle.miette_layout.specs.views.ThemeSettings.{settings_of};
+ghost use Rattle.miette_layout.specs.rules.Framed.{corner_row, place_at, refused_front};
 
 use crate::options::LayoutOptions;
 use crate::page::{PLAIN, Page};

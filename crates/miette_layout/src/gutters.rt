@@ -1,13 +1,13 @@
 //! The gutter of a row, over the labels of several lines that lie on its line.
 
 ghost use Rattle.std.specs.Prelude.{◌≡◌, ◌++◌, ◌-◌, ◌∷◌, [], replicate, map, OnOk};
-ghost use Rattle.miette_layout.specs.Told.{told, run_told};
-ghost use Rattle.miette_lines.specs.Labels.{starts_on, ends_on};
-ghost use Rattle.miette_lines.specs.Sweeping.{label_of};
-ghost use Rattle.miette_layout.specs.Gutters.{number_gutter, other_gutter, open_gutter, ending_corner};
-ghost use Rattle.miette_lines.specs.Given.{drawn_of};
-ghost use Rattle.miette_layout.specs.Sheets.{settings, multi_labels};
-ghost use Rattle.miette_lines.specs.TextLines.{line_of_text};
+ghost use Rattle.miette_layout.specs.views.Told.{told, run_told};
+ghost use Rattle.miette_lines.specs.rules.Labels.{starts_on, ends_on};
+ghost use Rattle.miette_lines.specs.views.Sweeping.{label_of};
+ghost use Rattle.miette_layout.specs.rules.Gutters.{number_gutter, other_gutter, open_gutter, ending_corner};
+ghost use Rattle.miette_lines.specs.views.Given.{drawn_of};
+ghost use Rattle.miette_layout.specs.views.Sheets.{settings, multi_labels};
+ghost use Rattle.miette_lines.specs.views.TextLines.{line_of_text};
 
 use crate::page::{PLAIN, Page};
 use crate::sheet::Sheet;

@@ -1,9 +1,9 @@
 //! What a highlighter answers for the lines of a snippet.
 
 ghost use Rattle.std.specs.Prelude.{◌≡◌, ℕ, List, true, map, IfOk};
-ghost use Rattle.miette_layout.specs.Highlighted.{ArePieces, decoded_text, leaves_plain};
-ghost use Rattle.miette_layout.specs.TellingCells.{highlight_of};
-ghost use Rattle.miette_style.specs.Pieces.{CutsLine, plain_pieces};
+ghost use Rattle.miette_layout.specs.rules.Highlighted.{ArePieces, decoded_text, leaves_plain};
+ghost use Rattle.miette_layout.specs.views.TellingCells.{highlight_of};
+ghost use Rattle.miette_style.specs.rules.Pieces.{CutsLine, plain_pieces};
 
 use crate::page::PLAIN;
 use bstr::ByteSlice;

@@ -3,25 +3,25 @@
 ghost use Rattle.std.specs.Prelude.{◌≡◌, ◌<◌, ◌≤◌, ◌+◌, ◌^◌, ℕ, List, ◌∷◌, [], Some, Bool, length, map, IfSome};
 ghost use Rattle.std.specs.Option.{option_map};
 ghost use Rattle.std.specs.List.{AllByRecursion, concat};
-ghost use Rattle.miette_layout.specs.Numbers.{runs, IsRun, AreParted};
-ghost use Rattle.miette_protocol.specs.Meaning.{Label};
-ghost use Rattle.miette_protocol.specs.Reading.{Source, Contents, Span};
-ghost use Rattle.miette_layout.specs.Belonging.{HasOneGroup};
-ghost use Rattle.miette_layout.specs.Clean.{AreCleanDrawings, IsCleanLabel, IsCleanRow, IsCleanSource};
-ghost use Rattle.miette_lines.specs.Contexts.{lines_of_contents};
-ghost use Rattle.miette_layout.specs.Fading.{IsPlainRow, colourless, unhighlighted};
-ghost use Rattle.miette_layout.specs.Rows.{pieces_of};
-ghost use Rattle.miette_lines.specs.Answers.{Answers, AlwaysReads, Highlight, NoneFails};
-ghost use Rattle.miette_lines.specs.Around.{HaveContext, group_context};
-ghost use Rattle.miette_lines.specs.Groups.{AreAccepted, in_order, groups_of, lines_of_groups};
-ghost use Rattle.miette_layout.specs.Snippets.{snippets};
-ghost use Rattle.miette_lines.specs.Labels.{DrawnLabel};
-ghost use Rattle.miette_layout.specs.Marks.{Text, marks, anchor, marks_at, AreApart};
-ghost use Rattle.miette_layout.specs.Drawing.{IsNarrow};
-ghost use Rattle.miette_layout.specs.Frames.{Settings};
-ghost use Rattle.miette_layout.specs.Layout.{snippet_rows};
-ghost use Rattle.miette_layout.specs.Pictures.{BodyShows};
-ghost use Rattle.miette_layout.specs.Shown.{framed_runs};
+ghost use Rattle.miette_layout.specs.rules.Numbers.{runs, IsRun, AreParted};
+ghost use Rattle.miette_protocol.specs.views.Meaning.{Label};
+ghost use Rattle.miette_protocol.specs.rules.Reading.{Source, Contents, Span};
+ghost use Rattle.miette_layout.specs.laws.Belonging.{HasOneGroup};
+ghost use Rattle.miette_layout.specs.laws.Clean.{AreCleanDrawings, IsCleanLabel, IsCleanRow, IsCleanSource};
+ghost use Rattle.miette_lines.specs.rules.Contexts.{lines_of_contents};
+ghost use Rattle.miette_layout.specs.laws.Fading.{IsPlainRow, colourless, unhighlighted};
+ghost use Rattle.miette_layout.specs.rules.Rows.{pieces_of};
+ghost use Rattle.miette_lines.specs.rules.Answers.{Answers, AlwaysReads, Highlight, NoneFails};
+ghost use Rattle.miette_lines.specs.rules.Around.{HaveContext, group_context};
+ghost use Rattle.miette_lines.specs.rules.Groups.{AreAccepted, in_order, groups_of, lines_of_groups};
+ghost use Rattle.miette_layout.specs.rules.Snippets.{snippets};
+ghost use Rattle.miette_lines.specs.rules.Labels.{DrawnLabel};
+ghost use Rattle.miette_layout.specs.rules.Marks.{Text, marks, anchor, marks_at, AreApart};
+ghost use Rattle.miette_layout.specs.rules.Drawing.{IsNarrow};
+ghost use Rattle.miette_layout.specs.rules.Frames.{Settings};
+ghost use Rattle.miette_layout.specs.rules.Layout.{snippet_rows};
+ghost use Rattle.miette_layout.specs.laws.Pictures.{BodyShows};
+ghost use Rattle.miette_layout.specs.rules.Shown.{framed_runs};
 
 /// Where no read fails, and there is at least one line of context for each label, the lines that the groups of labels show are the
 /// maximal runs of all lines that lie in the context of a label.

@@ -2,19 +2,19 @@
 
 ghost use Rattle.std.specs.Prelude.{◌≡◌, ◌++◌, ◌+◌, ◌^◌, ◌<◌, ◌∷◌, [], false, map, length, OnOk};
 ghost use Rattle.std.specs.List.{All};
-ghost use Rattle.miette_layout.specs.PrintedCells.{printed, cells_within, cells_beyond, line_runs};
-ghost use Rattle.miette_lines.specs.Cells.{cells_from, characters};
-ghost use Rattle.miette_layout.specs.Marks.{marks};
-ghost use Rattle.miette_layout.specs.Drawing.{marked_rows};
-ghost use Rattle.miette_layout.specs.Frames.{number_start};
-ghost use Rattle.miette_layout.specs.Layout.{before_each, line_rows_of, text_of_cells};
-ghost use Rattle.miette_layout.specs.Told.{told, told_rows, text_told};
-ghost use Rattle.miette_layout.specs.TellingCells.{cells_told, highlight_of};
-ghost use Rattle.miette_lines.specs.Walking.{cell_of};
-ghost use Rattle.miette_lines.specs.Given.{drawn_of, width_of};
-ghost use Rattle.miette_layout.specs.Made.{mark_of};
-ghost use Rattle.miette_layout.specs.Sheets.{settings, multi_labels, before_marks, number_row};
-ghost use Rattle.miette_lines.specs.TextLines.{line_of_text};
+ghost use Rattle.miette_layout.specs.rules.PrintedCells.{printed, cells_within, cells_beyond, line_runs};
+ghost use Rattle.miette_lines.specs.rules.Cells.{cells_from, characters};
+ghost use Rattle.miette_layout.specs.rules.Marks.{marks};
+ghost use Rattle.miette_layout.specs.rules.Drawing.{marked_rows};
+ghost use Rattle.miette_layout.specs.rules.Frames.{number_start};
+ghost use Rattle.miette_layout.specs.rules.Layout.{before_each, line_rows_of, text_of_cells};
+ghost use Rattle.miette_layout.specs.views.Told.{told, told_rows, text_told};
+ghost use Rattle.miette_layout.specs.views.TellingCells.{cells_told, highlight_of};
+ghost use Rattle.miette_lines.specs.views.Walking.{cell_of};
+ghost use Rattle.miette_lines.specs.views.Given.{drawn_of, width_of};
+ghost use Rattle.miette_layout.specs.views.Made.{mark_of};
+ghost use Rattle.miette_layout.specs.views.Sheets.{settings, multi_labels, before_marks, number_row};
+ghost use Rattle.miette_lines.specs.views.TextLines.{line_of_text};
 
 use crate::closings::push_closings;
 use crate::gutters::push_number_gutter;

@@ -2,14 +2,14 @@
 
 ghost use Rattle.std.specs.Prelude.{◌≡◌, ◌+◌, ◌^◌, ◌<◌, ◌≤◌, [], ℕ, List, map, length, false, IfOk, MatchOption};
 ghost use Rattle.std.specs.List.{All};
-ghost use Rattle.miette_protocol.specs.Meaning.{Label};
-ghost use Rattle.miette_layout.specs.PrintedCells.{cells_width, first_column as first_of_cells, last_column as last_of_cells};
-ghost use Rattle.miette_lines.specs.Cells.{cells_from, characters};
-ghost use Rattle.miette_layout.specs.Marks.{mark_from, mark_until, marks};
-ghost use Rattle.miette_layout.specs.Layout.{text_of_cells};
-ghost use Rattle.miette_lines.specs.Sweeping.{label_of};
-ghost use Rattle.miette_lines.specs.Given.{drawn_of, width_of};
-ghost use Rattle.miette_layout.specs.Made.{mark_of, ComeFrom, IsStop};
+ghost use Rattle.miette_protocol.specs.views.Meaning.{Label};
+ghost use Rattle.miette_layout.specs.rules.PrintedCells.{cells_width, first_column as first_of_cells, last_column as last_of_cells};
+ghost use Rattle.miette_lines.specs.rules.Cells.{cells_from, characters};
+ghost use Rattle.miette_layout.specs.rules.Marks.{mark_from, mark_until, marks};
+ghost use Rattle.miette_layout.specs.rules.Layout.{text_of_cells};
+ghost use Rattle.miette_lines.specs.views.Sweeping.{label_of};
+ghost use Rattle.miette_lines.specs.views.Given.{drawn_of, width_of};
+ghost use Rattle.miette_layout.specs.views.Made.{mark_of, ComeFrom, IsStop};
 
 use miette_lines::cells::Walk;
 use miette_lines::plain::all_printable;
@@ -42,9 +42,9 @@ pub struct Columns<'a> {
 impl<'a> Model for Columns<'a> {
     ghost use Rattle.std.specs.Prelude.{◌++◌};
     ghost use Rattle.std.specs.List.{All};
-    ghost use Rattle.miette_layout.specs.Marks.{Text};
-    ghost use Rattle.miette_layout.specs.Made.{IsStop};
-    ghost use Rattle.miette_lines.specs.Printable.{plain_cells};
+    ghost use Rattle.miette_layout.specs.rules.Marks.{Text};
+    ghost use Rattle.miette_layout.specs.views.Made.{IsStop};
+    ghost use Rattle.miette_lines.specs.views.Printable.{plain_cells};
 
     ghost Value = { Text };
 

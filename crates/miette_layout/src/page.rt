@@ -1,10 +1,10 @@
 //! Rows in the making: one text, with the places where runs begin and rows end.
 
 ghost use Rattle.std.specs.Prelude.{◌≡◌, ◌++◌, ◌∷◌, [], ℕ, List, replicate, decimal, chars, length, ◌-◌, encode_utf8, encode_utf8_all, string_bytes, OnOk, Some, None, Option, IfOk};
-ghost use Rattle.miette_layout.specs.PageMarks.{marks_ahead};
-ghost use Rattle.miette_layout.specs.Seams.{first_mark};
+ghost use Rattle.miette_layout.specs.steps.PageMarks.{marks_ahead};
+ghost use Rattle.miette_layout.specs.steps.Seams.{first_mark};
 ghost use Rattle.miette_layout.specs.declared.page_marks.Mark.{Mark};
-ghost use Rattle.miette_layout.specs.Told.{Token, begins, row_end, bytes_told, text_told, run_told};
+ghost use Rattle.miette_layout.specs.views.Told.{Token, begins, row_end, bytes_told, text_told, run_told};
 
 use crate::page_marks::{Mark, MarksLeft, PageMarks};
 use itoa::Buffer;
@@ -33,8 +33,8 @@ pub struct Page {
 
 impl Model for Page {
     ghost use Rattle.std.specs.Prelude.{List, string_bytes};
-    ghost use Rattle.miette_layout.specs.Told.{Token};
-    ghost use Rattle.miette_layout.specs.Pages.{tokens_from, AreMarks};
+    ghost use Rattle.miette_layout.specs.views.Told.{Token};
+    ghost use Rattle.miette_layout.specs.views.Pages.{tokens_from, AreMarks};
 
     ghost Value = { List Token };
 
@@ -206,9 +206,9 @@ pub struct Parts<'a> {
 
 impl<'a> Model for Parts<'a> {
     ghost use Rattle.std.specs.Prelude.{List};
-    ghost use Rattle.miette_layout.specs.Told.{Token};
-    ghost use Rattle.miette_layout.specs.Pages.{tokens_from, AreMarks};
-    ghost use Rattle.miette_layout.specs.PageMarks.{marks_ahead};
+    ghost use Rattle.miette_layout.specs.views.Told.{Token};
+    ghost use Rattle.miette_layout.specs.views.Pages.{tokens_from, AreMarks};
+    ghost use Rattle.miette_layout.specs.steps.PageMarks.{marks_ahead};
 
     ghost Value = { List Token };
 
@@ -229,7 +229,7 @@ fn place_of(text: &str, mark: Option<Mark>) -> usize
 
 impl<'a> Parts<'a> {
     ghost use Rattle.std.specs.Prelude.{◌≡◌, ◌<◌, ◌++◌, [], length, IfSome, IsSome, MatchOption};
-    ghost use Rattle.miette_layout.specs.PageParts.{part_told, EndsBefore};
+    ghost use Rattle.miette_layout.specs.views.PageParts.{part_told, EndsBefore};
 
     /// The next part, if there is one.
     pub fn next(&mut self) -> Option<Part<'a>>

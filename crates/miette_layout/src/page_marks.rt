@@ -1,7 +1,7 @@
 //! The marks of a page: where runs begin and rows end. Each is kept in eight bytes.
 
 ghost use Rattle.std.specs.Prelude.{◌≡◌, ◌≢◌, ◌++◌, ◌∷◌, [], ◌<◌, ◌+◌, ◌^◌, List, length, slice_index_or, MatchResult, IfSome, IfOk, OnOk, IsErr};
-ghost use Rattle.miette_layout.specs.PageMarks.{kind_told, marks_ahead};
+ghost use Rattle.miette_layout.specs.steps.PageMarks.{kind_told, marks_ahead};
 
 use miette_style::style::Style;
 use std::alloc::{AllocError, Global};
@@ -47,7 +47,7 @@ pub(crate) struct PageMarks {
 impl Model for PageMarks {
     ghost use Rattle.std.specs.Prelude.{List, ◌≡◌, ◌<◌, ◌^◌, length};
     ghost use Rattle.miette_layout.specs.declared.page_marks.Mark.{Mark};
-    ghost use Rattle.miette_layout.specs.PageMarks.{marks_kept, end_kept, AreKinds};
+    ghost use Rattle.miette_layout.specs.steps.PageMarks.{marks_kept, end_kept, AreKinds};
 
     ghost Value = { List Mark };
 
@@ -187,7 +187,7 @@ pub(crate) struct MarksLeft<'a> {
 impl<'a> Model for MarksLeft<'a> {
     ghost use Rattle.std.specs.Prelude.{List, ◌<◌, ◌^◌, length};
     ghost use Rattle.miette_layout.specs.declared.page_marks.Mark.{Mark};
-    ghost use Rattle.miette_layout.specs.PageMarks.{marks_kept, end_kept, AreKinds};
+    ghost use Rattle.miette_layout.specs.steps.PageMarks.{marks_kept, end_kept, AreKinds};
 
     ghost Value = { List Mark };
 

@@ -1,7 +1,7 @@
 //! The parts of a label's text, which is cut at each LF.
 
 ghost use Rattle.std.specs.Prelude.{◌≡◌, ◌<◌, ◌∷◌, chars, length, option_copied, IfSome};
-ghost use Rattle.miette_lines.specs.Labels.{cut_at_lf, parts_of};
+ghost use Rattle.miette_lines.specs.rules.Labels.{cut_at_lf, parts_of};
 
 /// A text's first part, and the text behind the LF after it, if there is one.
 pub fn first_part(text: &str) -> (&str, Option<&str>)

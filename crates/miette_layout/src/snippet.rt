@@ -2,14 +2,14 @@
 
 ghost use Rattle.std.specs.Prelude.{◌≡◌, ◌+◌, ◌<◌, ◌^◌, map, length, decimal, IfOk, OnOk};
 ghost use Rattle.std.specs.Option.{option_map};
-ghost use Rattle.miette_protocol.specs.Lines.{lines_from};
-ghost use Rattle.miette_layout.specs.Framed.{place_at};
-ghost use Rattle.miette_layout.specs.ThemeSettings.{settings_of};
-ghost use Rattle.miette_lines.specs.Given.{drawn_of};
-ghost use Rattle.miette_lines.specs.Contexts.{lines_of_contents};
-ghost use Rattle.miette_layout.specs.Highlighted.{leaves_plain};
-ghost use Rattle.miette_layout.specs.Lent.{PutsRows, texts_in, lent_rows, lent_snippet, width_of_count, gutter_of};
-ghost use Rattle.miette_lines.specs.Sweeping.{IsAt, AreSorted};
+ghost use Rattle.miette_protocol.specs.rules.Lines.{lines_from};
+ghost use Rattle.miette_layout.specs.rules.Framed.{place_at};
+ghost use Rattle.miette_layout.specs.views.ThemeSettings.{settings_of};
+ghost use Rattle.miette_lines.specs.views.Given.{drawn_of};
+ghost use Rattle.miette_lines.specs.rules.Contexts.{lines_of_contents};
+ghost use Rattle.miette_layout.specs.rules.Highlighted.{leaves_plain};
+ghost use Rattle.miette_layout.specs.views.Lent.{PutsRows, texts_in, lent_rows, lent_snippet, width_of_count, gutter_of};
+ghost use Rattle.miette_lines.specs.views.Sweeping.{IsAt, AreSorted};
 
 use crate::frame::{Frame, push_bottom_row, push_top_row};
 use crate::highlighting::{pieces_of, restart};

@@ -2,12 +2,12 @@
 
 ghost use Rattle.std.specs.Prelude.{◌≡◌, [], List, Some, map, IfOk, MatchResult};
 ghost use Rattle.std.specs.List.{All};
-ghost use Rattle.miette_layout.specs.Drawn.{MayGive, RefusesWith};
-ghost use Rattle.miette_layout.specs.ThemeSettings.{settings_of};
-ghost use Rattle.miette_lines.specs.Given.{label_at};
-ghost use Rattle.miette_lines.specs.Groups.{in_order};
-ghost use Rattle.miette_layout.specs.Highlighted.{leaves_plain};
-ghost use Rattle.miette_lines.specs.Read.{IsRead, name_of as name_of_reason};
+ghost use Rattle.miette_layout.specs.views.Drawn.{MayGive, RefusesWith};
+ghost use Rattle.miette_layout.specs.views.ThemeSettings.{settings_of};
+ghost use Rattle.miette_lines.specs.views.Given.{label_at};
+ghost use Rattle.miette_lines.specs.rules.Groups.{in_order};
+ghost use Rattle.miette_layout.specs.rules.Highlighted.{leaves_plain};
+ghost use Rattle.miette_lines.specs.views.Read.{IsRead, name_of as name_of_reason};
 
 use crate::frame::{Frame, push_refused_row};
 use crate::options::LayoutOptions;

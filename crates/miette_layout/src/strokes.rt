@@ -2,12 +2,12 @@
 
 ghost use Rattle.std.specs.Prelude.{◌≡◌, ◌++◌, ◌+◌, ◌/◌, ◌^◌, ◌<◌, ◌≤◌, if◌then◌else◌, map, OnOk};
 ghost use Rattle.std.specs.List.{All};
-ghost use Rattle.miette_layout.specs.Told.{told, told_run};
-ghost use Rattle.miette_lines.specs.Labels.{is_empty};
-ghost use Rattle.miette_layout.specs.Drawing.{code_with_parts, mark_run, mark_runs};
-ghost use Rattle.miette_lines.specs.Given.{drawn_of};
-ghost use Rattle.miette_layout.specs.Made.{mark_of};
-ghost use Rattle.miette_layout.specs.Sheets.{settings};
+ghost use Rattle.miette_layout.specs.views.Told.{told, told_run};
+ghost use Rattle.miette_lines.specs.rules.Labels.{is_empty};
+ghost use Rattle.miette_layout.specs.rules.Drawing.{code_with_parts, mark_run, mark_runs};
+ghost use Rattle.miette_lines.specs.views.Given.{drawn_of};
+ghost use Rattle.miette_layout.specs.views.Made.{mark_of};
+ghost use Rattle.miette_layout.specs.views.Sheets.{settings};
 
 use crate::marks::Mark;
 use crate::page::Page;

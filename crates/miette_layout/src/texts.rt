@@ -2,14 +2,14 @@
 
 ghost use Rattle.std.specs.Prelude.{◌≡◌, ◌++◌, ◌+◌, ◌∷◌, [], ◌<◌, List, chars, map, replicate, OnOk};
 ghost use Rattle.std.specs.List.{All};
-ghost use Rattle.miette_layout.specs.Told.{told, told_rows};
-ghost use Rattle.miette_lines.specs.Labels.{cut_at_lf};
-ghost use Rattle.miette_layout.specs.Drawing.{lead_runs, beside, rows_of_parts, rows_below};
-ghost use Rattle.miette_layout.specs.Frames.{other_start};
-ghost use Rattle.miette_layout.specs.Layout.{before_each};
-ghost use Rattle.miette_lines.specs.Given.{drawn_of};
-ghost use Rattle.miette_layout.specs.Made.{mark_of};
-ghost use Rattle.miette_layout.specs.Sheets.{settings, before_marks, text_line};
+ghost use Rattle.miette_layout.specs.views.Told.{told, told_rows};
+ghost use Rattle.miette_lines.specs.rules.Labels.{cut_at_lf};
+ghost use Rattle.miette_layout.specs.rules.Drawing.{lead_runs, beside, rows_of_parts, rows_below};
+ghost use Rattle.miette_layout.specs.rules.Frames.{other_start};
+ghost use Rattle.miette_layout.specs.rules.Layout.{before_each};
+ghost use Rattle.miette_lines.specs.views.Given.{drawn_of};
+ghost use Rattle.miette_layout.specs.views.Made.{mark_of};
+ghost use Rattle.miette_layout.specs.views.Sheets.{settings, before_marks, text_line};
 
 use crate::gutters::push_other_gutter;
 use crate::marks::Mark;

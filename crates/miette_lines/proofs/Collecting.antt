@@ -8,18 +8,18 @@ use Rattle.std.specs.Ordering.{nat_cmp}
 use Rattle.std.proofs.lemmas.Bool.{le-leb, lt-leb}
 use Rattle.std.proofs.lemmas.List.{map-append, take_more, drop_all}
 use Rattle.std.proofs.lemmas.List.Elements.{All-push}
-use Rattle.miette_protocol.specs.Lines as P
-use Rattle.miette_protocol.specs.Lines.{Line}
-use Rattle.miette_protocol.specs.Meaning.{Label}
-use Rattle.miette_protocol.specs.Reading as R
-use Rattle.miette_protocol.specs.Reading.{Span, Source, Contents, IsAccepted}
+use Rattle.miette_protocol.specs.rules.Lines as P
+use Rattle.miette_protocol.specs.rules.Lines.{Line}
+use Rattle.miette_protocol.specs.views.Meaning.{Label}
+use Rattle.miette_protocol.specs.rules.Reading as R
+use Rattle.miette_protocol.specs.rules.Reading.{Span, Source, Contents, IsAccepted}
 use Rattle.miette_lines.specs.declared.grouping.Group.{Group}
 use Rattle.miette_lines.specs.declared.reading.ReadLabel.{ReadLabel}
-use Rattle.miette_lines.specs.Around.{has_own, lines_around}
-use Rattle.miette_lines.specs.Contexts.{contents, end_of_span}
-use Rattle.miette_lines.specs.Given.{label_at}
-use Rattle.miette_lines.specs.Groups.{in_order, spans_of, joined, stretch, put_stretch, by_begin, stretches_from, joined_stretches, own_groups, groups_answered, groups_of, some_fails}
-use Rattle.miette_lines.specs.Read.{IsRead, IsLent, AreJoined, AreGroups, AreGrouped}
+use Rattle.miette_lines.specs.rules.Around.{has_own, lines_around}
+use Rattle.miette_lines.specs.rules.Contexts.{contents, end_of_span}
+use Rattle.miette_lines.specs.views.Given.{label_at}
+use Rattle.miette_lines.specs.rules.Groups.{in_order, spans_of, joined, stretch, put_stretch, by_begin, stretches_from, joined_stretches, own_groups, groups_answered, groups_of, some_fails}
+use Rattle.miette_lines.specs.views.Read.{IsRead, IsLent, AreJoined, AreGroups, AreGrouped}
 use Rattle.miette_lines.proofs.Sources.{IsCut, lines}
 use Rattle.miette_lines.proofs.Numbers.{by_cases}
 use Rattle.miette_lines.proofs.Lines.{cut-le, end-in}

@@ -1,11 +1,11 @@
 -- No answer fails where none is listed.
 use Rattle.std.proofs.Common.{ℕ, ◌≡◌, Bool, false, List}
 use Rattle.std.proofs.lemmas.Bool.{and_right}
-use Rattle.miette_protocol.specs.Meaning.{Label}
-use Rattle.miette_protocol.specs.Reading.{Source}
-use Rattle.miette_lines.specs.Answers.{NoneFails}
-use Rattle.miette_lines.specs.Around.{has_own}
-use Rattle.miette_lines.specs.Groups.{groups_of, some_fails, groups_fail}
+use Rattle.miette_protocol.specs.views.Meaning.{Label}
+use Rattle.miette_protocol.specs.rules.Reading.{Source}
+use Rattle.miette_lines.specs.rules.Answers.{NoneFails}
+use Rattle.miette_lines.specs.rules.Around.{has_own}
+use Rattle.miette_lines.specs.rules.Groups.{groups_of, some_fails, groups_fail}
 use Rattle.miette_lines.proofs.Bodies.{some_none}
 
 -- ---- whole snippets

@@ -5,14 +5,14 @@ use Rattle.std.proofs.lemmas.List.{map-append, length-drop, take_all, drop_all}
 use Rattle.std.proofs.lemmas.List.Elements.{All-push}
 use Rattle.std.proofs.lemmas.Bool.{ltb-true, ltb-false, lt-ltb, le-ltb}
 use Rattle.memchr.specs.Find.{IsFirstByte, is_byte2}
-use Rattle.miette_protocol.specs.Lines as P
-use Rattle.miette_protocol.specs.Lines.{Line}
+use Rattle.miette_protocol.specs.rules.Lines as P
+use Rattle.miette_protocol.specs.rules.Lines.{Line}
 use Rattle.miette_lines.specs.declared.line_sweep.SweptLine.{SweptLine}
 use Rattle.miette_lines.specs.declared.sweep.Placed.{Placed}
-use Rattle.miette_lines.specs.TextLines.{line_of_text}
+use Rattle.miette_lines.specs.views.TextLines.{line_of_text}
 use Rattle.miette_lines.specs.declared.text_line.LineOfText.{LineOfText}
-use Rattle.miette_lines.specs.Sweeping.{line_of_bounds, passes, is_multi, IsAt, IsOn, AreSorted}
-use Rattle.miette_lines.specs.Swept.{HasLabels, LiesIn, most_multi}
+use Rattle.miette_lines.specs.views.Sweeping.{line_of_bounds, passes, is_multi, IsAt, IsOn, AreSorted}
+use Rattle.miette_lines.specs.views.Swept.{HasLabels, LiesIn, most_multi}
 use Rattle.miette_lines.proofs.Numbers.{by_cases}
 use Rattle.miette_lines.proofs.Sources.{begins_with_lf, lines_from}
 use Rattle.miette_lines.proofs.Segments.{first_text, first_size, parted, drop_drop}

@@ -3,15 +3,15 @@ use Rattle.std.proofs.Common.{ℕ, zero, suc, ◌+◌, ◌<◌, ◌≤◌, ◌�
 use Rattle.std.specs.Prelude.{MatchOption}
 use Rattle.std.proofs.lemmas.List.{map-append, drop_all}
 use Rattle.std.proofs.lemmas.List.Elements.{All-push}
-use Rattle.miette_protocol.specs.Reading.{Span, Source, IsAccepted}
-use Rattle.miette_protocol.specs.Outcome.{Refuses}
+use Rattle.miette_protocol.specs.rules.Reading.{Span, Source, IsAccepted}
+use Rattle.miette_protocol.specs.rules.Outcome.{Refuses}
 use Rattle.miette_protocol.specs.declared.error.MietteError.{MietteError}
 use Rattle.miette_protocol.specs.declared.error.MietteError.TheVariants as errors
 use Rattle.miette_lines.specs.declared.grouping.Group.{Group}
 use Rattle.miette_lines.specs.declared.reading.ReadLabel.{ReadLabel}
-use Rattle.miette_lines.specs.Answers.{NoneFails, next_answer, later_answers}
-use Rattle.miette_lines.specs.Groups.{joined, joins_before, groups_from, groups_answered}
-use Rattle.miette_lines.specs.Read.{IsLent, AreJoined}
+use Rattle.miette_lines.specs.rules.Answers.{NoneFails, next_answer, later_answers}
+use Rattle.miette_lines.specs.rules.Groups.{joined, joins_before, groups_from, groups_answered}
+use Rattle.miette_lines.specs.views.Read.{IsLent, AreJoined}
 use Rattle.miette_lines.proofs.Numbers.{by_cases}
 
 -- the groups of what is left, in front of which some are done

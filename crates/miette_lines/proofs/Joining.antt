@@ -1,7 +1,7 @@
 -- Labels by offset join as their spans do.
 use Rattle.std.specs.Prelude.{ℕ, ◌+◌, List, [], ◌∷◌, Bool, if◌then◌else◌, nat_le}
-use Rattle.miette_protocol.specs.Reading.{Span}
-use Rattle.miette_lines.specs.Groups.{joined}
+use Rattle.miette_protocol.specs.rules.Reading.{Span}
+use Rattle.miette_lines.specs.rules.Groups.{joined}
 use Rattle.miette_lines.proofs.Sources.{read}
 
 -- whether a label joins the snippet before it

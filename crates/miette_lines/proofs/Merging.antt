@@ -1,6 +1,6 @@
 -- Numbers that ascend.
 use Rattle.std.proofs.Common.{ℕ, ◌-◌, ◌≤◌, ◌≡◌, Bool, true, false, List, [], ◌∷◌, refl, ◌||◌}
-use Rattle.miette_protocol.specs.Reading.{Span}
+use Rattle.miette_protocol.specs.rules.Reading.{Span}
 
 -- each begins where the one before it does, or later
 abbrev pub IsAscending : ℕ → List Span → Type 0

@@ -1,14 +1,14 @@
 -- The label that a frame points to.
 use Rattle.std.proofs.Common.{ℕ, zero, suc, ◌+◌, ◌-◌, ◌<◌, ◌≤◌, ◌≡◌, Bool, true, false, leb, ltb, List, [], ◌∷◌, length, map, take, drop, get_or, Option, Some, None, refl, sym, ap, arith, All}
 use Rattle.std.proofs.lemmas.Bool.Decides.{nat_tests}
-use Rattle.miette_protocol.specs.Meaning.{Label}
-use Rattle.miette_protocol.specs.Reading.{Span, Source}
+use Rattle.miette_protocol.specs.views.Meaning.{Label}
+use Rattle.miette_protocol.specs.rules.Reading.{Span, Source}
 use Rattle.miette_lines.specs.declared.reading.ReadLabel.{ReadLabel}
-use Rattle.miette_lines.specs.Contexts.{end_of_span}
-use Rattle.miette_lines.specs.Given.{label_at}
-use Rattle.miette_lines.specs.Groups.{spans_of}
-use Rattle.miette_lines.specs.Primary.{end_within, lies_within, or_else, chosen}
-use Rattle.miette_lines.specs.Read.{IsRead}
+use Rattle.miette_lines.specs.rules.Contexts.{end_of_span}
+use Rattle.miette_lines.specs.views.Given.{label_at}
+use Rattle.miette_lines.specs.rules.Groups.{spans_of}
+use Rattle.miette_lines.specs.views.Primary.{end_within, lies_within, or_else, chosen}
+use Rattle.miette_lines.specs.views.Read.{IsRead}
 use Rattle.miette_lines.proofs.Numbers.{by_cases}
 use Rattle.miette_lines.proofs.Merging.{IsAscending}
 use Rattle.miette_lines.proofs.Refusing.{read_of}

@@ -2,9 +2,9 @@
 use Rattle.std.proofs.Common.{ℕ, ◌-◌, ◌≡◌, max, Bool, true, false, cond, leb, List, [], ◌∷◌, ◌||◌, Option, Some, None, refl, ap, ◌∙◌}
 use Rattle.std.specs.Prelude.{unwrap_or, is_some}
 use Rattle.std.specs.List.{list_any}
-use Rattle.miette_protocol.specs.Meaning.{Label}
-use Rattle.miette_lines.specs.Around.{has_own, lines_around}
-use Rattle.miette_lines.specs.Groups.{in_order, put_label}
+use Rattle.miette_protocol.specs.views.Meaning.{Label}
+use Rattle.miette_lines.specs.rules.Around.{has_own, lines_around}
+use Rattle.miette_lines.specs.rules.Groups.{in_order, put_label}
 use Rattle.miette_lines.proofs.Numbers.{by_cases}
 use Rattle.miette_lines.proofs.Merging.{swap_or}
 

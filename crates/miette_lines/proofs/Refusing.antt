@@ -4,20 +4,20 @@ use Rattle.std.specs.Prelude.{codes, unwrap_or}
 use Rattle.std.proofs.lemmas.Bool.{leb-true, and_left, and_right}
 use Rattle.std.proofs.lemmas.List.{map-append, get_or-map, take_more, length-map}
 use Rattle.std.proofs.lemmas.List.Elements.{All-push}
-use Rattle.miette_protocol.specs.Meaning.{Label}
-use Rattle.miette_protocol.specs.Reading.{Span, Source, IsAccepted}
-use Rattle.miette_protocol.specs.Outcome.{Refuses}
+use Rattle.miette_protocol.specs.views.Meaning.{Label}
+use Rattle.miette_protocol.specs.rules.Reading.{Span, Source, IsAccepted}
+use Rattle.miette_protocol.specs.rules.Outcome.{Refuses}
 use Rattle.miette_protocol.specs.declared.error.MietteError.{MietteError}
 use Rattle.miette_protocol.specs.declared.error.MietteError.TheVariants as errors
 use Rattle.miette_lines.specs.declared.order.Turn.{Turn}
 use Rattle.miette_lines.specs.declared.reading.ReadLabel.{ReadLabel}
 use Rattle.miette_lines.specs.declared.reading.ReadLabels.TheVariants as reads
 use Rattle.miette_lines.specs.declared.reading.Refusal.{Refusal}
-use Rattle.miette_lines.specs.Around.{has_own, contents_around}
-use Rattle.miette_lines.specs.Contexts.{contents, is_accepted}
-use Rattle.miette_lines.specs.Given.{label_at}
-use Rattle.miette_lines.specs.Groups.{refusal, AreAccepted}
-use Rattle.miette_lines.specs.Read.{IsRead, AreRead, Reason, name_of}
+use Rattle.miette_lines.specs.rules.Around.{has_own, contents_around}
+use Rattle.miette_lines.specs.rules.Contexts.{contents, is_accepted}
+use Rattle.miette_lines.specs.views.Given.{label_at}
+use Rattle.miette_lines.specs.rules.Groups.{refusal, AreAccepted}
+use Rattle.miette_lines.specs.views.Read.{IsRead, AreRead, Reason, name_of}
 use Rattle.miette_lines.proofs.Numbers.{by_cases}
 use Rattle.miette_lines.proofs.Bodies.{accepted_is}
 use Rattle.miette_lines.proofs.Sorting.{label_got}

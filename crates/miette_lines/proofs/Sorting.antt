@@ -5,13 +5,13 @@ use Rattle.std.specs.List.Sorted.{IsNonDecreasingBy, IsStableByKey}
 use Rattle.std.specs.Ordering.{nat_cmp, is_lt}
 use Rattle.std.proofs.lemmas.Bool.{leb-true, leb-false, eq-eqb, ne_eqb, eqb-true, cases_lt, ltb-true, ltb-false}
 use Rattle.std.proofs.lemmas.List.Elements.{filter_agree}
-use Rattle.miette_protocol.specs.Meaning.{Label}
+use Rattle.miette_protocol.specs.views.Meaning.{Label}
 use Rattle.std.specs.Prelude.{slice_get, unwrap_or}
 use Rattle.std.proofs.lemmas.List.{map-append}
 use Rattle.std.proofs.lemmas.List.Elements.{All-push}
 use Rattle.miette_lines.specs.declared.order.Turn.{Turn}
-use Rattle.miette_lines.specs.Given.{label_at}
-use Rattle.miette_lines.specs.Groups.{put_label, in_order}
+use Rattle.miette_lines.specs.views.Given.{label_at}
+use Rattle.miette_lines.specs.rules.Groups.{put_label, in_order}
 use Rattle.miette_lines.proofs.Numbers.{by_cases}
 
 abbrev pub put : {X : Type 0} → (X → ℕ) → X → List X → List X

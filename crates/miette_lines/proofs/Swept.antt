@@ -7,8 +7,8 @@ use Rattle.std.proofs.lemmas.List.Elements.{filter-append}
 use Rattle.std.specs.List.{filter}
 use Rattle.miette_lines.specs.declared.sweep.Placed.{Placed}
 use Rattle.miette_lines.specs.declared.sweep.Bounds.{Bounds}
-use Rattle.miette_lines.specs.Labels.{reach}
-use Rattle.miette_lines.specs.Sweeping.{label_of, line_of_bounds, passes, is_one, is_multi, nothing, start_at, AreSorted, IsAt, IsOn}
+use Rattle.miette_lines.specs.rules.Labels.{reach}
+use Rattle.miette_lines.specs.views.Sweeping.{label_of, line_of_bounds, passes, is_one, is_multi, nothing, start_at, AreSorted, IsAt, IsOn}
 use Rattle.miette_lines.proofs.Numbers.{by_cases}
 
 -- on the way through a line

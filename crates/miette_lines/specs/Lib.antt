@@ -1,15 +1,2 @@
-pub mod Answers
-pub mod Around
-pub mod Cells
-pub mod Contexts
-pub mod Given
-pub mod Groups
-pub mod Labels
-pub mod Placing
-pub mod Primary
-pub mod Printable
-pub mod Read
-pub mod TextLines
-pub mod Sweeping
-pub mod Swept
-pub mod Walking
+pub mod rules
+pub mod views

@@ -2,9 +2,9 @@
 
 ghost use Rattle.std.specs.Prelude.{◌≡◌, ◌<◌, ◌≤◌, ◌+◌, ◌-◌, ◌%◌, ◌^◌, ℕ, List, [], ◌∷◌, map, length, false, IfOk, MatchOption};
 ghost use Rattle.bstr.specs.Utf8.{decoded, or_replacement};
-ghost use Rattle.miette_lines.specs.Cells.{Cell as TextCell, cells_from, characters, is_hidden, hides_next, width_at};
-ghost use Rattle.miette_lines.specs.Walking.{cell_of};
-ghost use Rattle.miette_lines.specs.Given.{width_of};
+ghost use Rattle.miette_lines.specs.rules.Cells.{Cell as TextCell, cells_from, characters, is_hidden, hides_next, width_at};
+ghost use Rattle.miette_lines.specs.views.Walking.{cell_of};
+ghost use Rattle.miette_lines.specs.views.Given.{width_of};
 
 use std::alloc::AllocError;
 use std::marker::Model;

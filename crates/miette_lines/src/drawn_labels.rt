@@ -1,9 +1,9 @@
 //! Labels as they are drawn.
 
 ghost use Rattle.std.specs.Prelude.{option_copied, ◌≡◌, ℕ, List, IfOk, is_some};
-ghost use Rattle.miette_lines.specs.Labels.{style_at};
-ghost use Rattle.miette_lines.specs.Given.{text_at};
-ghost use Rattle.miette_lines.specs.Placing.{placed_from, end_drawn};
+ghost use Rattle.miette_lines.specs.rules.Labels.{style_at};
+ghost use Rattle.miette_lines.specs.views.Given.{text_at};
+ghost use Rattle.miette_lines.specs.views.Placing.{placed_from, end_drawn};
 
 use crate::grouping::end_of;
 use crate::reading::ReadLabel;

@@ -3,11 +3,11 @@
 ghost use Rattle.std.specs.Prelude.{◌≡◌, ◌+◌, nat_le, true, false, ℕ, List, map, length, IfOk, MatchOption};
 ghost use Rattle.std.specs.List.{All};
 ghost use Rattle.std.specs.Option.{option_map};
-ghost use Rattle.miette_protocol.specs.Reading.{IsAccepted};
-ghost use Rattle.miette_lines.specs.Contexts.{contents, end_of_span};
-ghost use Rattle.miette_lines.specs.Given.{label_at};
-ghost use Rattle.miette_lines.specs.Groups.{in_order, joined, joins_before};
-ghost use Rattle.miette_lines.specs.Read.{IsLent, IsRead, AreJoined, AreGrouped};
+ghost use Rattle.miette_protocol.specs.rules.Reading.{IsAccepted};
+ghost use Rattle.miette_lines.specs.rules.Contexts.{contents, end_of_span};
+ghost use Rattle.miette_lines.specs.views.Given.{label_at};
+ghost use Rattle.miette_lines.specs.rules.Groups.{in_order, joined, joins_before};
+ghost use Rattle.miette_lines.specs.views.Read.{IsLent, IsRead, AreJoined, AreGrouped};
 
 use crate::reading::{ReadLabel, some_own};
 use crate::stretches::own_groups;

@@ -2,10 +2,10 @@
 
 ghost use Rattle.std.specs.Prelude.{◌≡◌, ◌+◌, ◌-◌, ◌<◌, ◌≤◌, ◌∷◌, ◌^◌, ◌==◌, ◌||◌, ◌&&◌, not, ℕ, List, map, drop, position, slice_index, length, IfOk, OnOk};
 ghost use Rattle.std.specs.List.{All};
-ghost use Rattle.miette_protocol.specs.Lines.{lines_from};
-ghost use Rattle.miette_lines.specs.TextLines.{line_of_text};
-ghost use Rattle.miette_lines.specs.Sweeping.{IsAt, AreSorted};
-ghost use Rattle.miette_lines.specs.Swept.{HasLabels, LiesIn, most_multi};
+ghost use Rattle.miette_protocol.specs.rules.Lines.{lines_from};
+ghost use Rattle.miette_lines.specs.views.TextLines.{line_of_text};
+ghost use Rattle.miette_lines.specs.views.Sweeping.{IsAt, AreSorted};
+ghost use Rattle.miette_lines.specs.views.Swept.{HasLabels, LiesIn, most_multi};
 
 use crate::sweep::{Bounds, OnLine, Placed, Sweep, advance};
 use crate::text_line::LineOfText;

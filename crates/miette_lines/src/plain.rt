@@ -2,7 +2,7 @@
 
 ghost use Rattle.std.specs.Prelude.{◌≡◌, true, false, IfSome, IsNone};
 ghost use Rattle.std.specs.List.{list_all};
-ghost use Rattle.miette_lines.specs.Printable.{is_printable};
+ghost use Rattle.miette_lines.specs.views.Printable.{is_printable};
 
 use std::str;
 

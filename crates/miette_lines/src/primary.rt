@@ -2,7 +2,7 @@
 
 ghost use Rattle.std.specs.Prelude.{◌≡◌, ℕ, List, None, IfOk};
 ghost use Rattle.std.specs.List.Sorted.{IsNonDecreasingBy};
-ghost use Rattle.miette_lines.specs.Primary.{chosen, end_within as end_of_label, PointsTo};
+ghost use Rattle.miette_lines.specs.views.Primary.{chosen, end_within as end_of_label, PointsTo};
 
 use crate::grouping::end_of;
 use crate::reading::ReadLabel;
@@ -22,7 +22,7 @@ pub enum Place {
 }
 
 impl Place {
-    ghost use Rattle.miette_lines.specs.Primary.{begins_of, is_unread};
+    ghost use Rattle.miette_lines.specs.views.Primary.{begins_of, is_unread};
 
     /// The line and the column, where there are any.
     pub fn begins(self) -> Option<(usize, usize)>

@@ -2,9 +2,9 @@
 
 ghost use Rattle.std.specs.Prelude.{◌≡◌, ◌≢◌, false, [], map, IfOk, MatchOption};
 ghost use Rattle.std.specs.List.{All};
-ghost use Rattle.miette_protocol.specs.Reading.{IsAccepted};
-ghost use Rattle.miette_lines.specs.Groups.{by_begin, joined_stretches};
-ghost use Rattle.miette_lines.specs.Read.{IsLent};
+ghost use Rattle.miette_protocol.specs.rules.Reading.{IsAccepted};
+ghost use Rattle.miette_lines.specs.rules.Groups.{by_begin, joined_stretches};
+ghost use Rattle.miette_lines.specs.views.Read.{IsLent};
 
 use crate::grouping::{Group, end_of, join};
 use crate::reading::ReadLabel;

@@ -2,7 +2,7 @@
 
 ghost use Rattle.std.specs.Prelude.{◌≡◌, ◌<◌, ◌≤◌, nat_lt, ℕ, List, [], length, take, OnOk, IfOk};
 ghost use Rattle.std.specs.List.{filter};
-ghost use Rattle.miette_lines.specs.Sweeping.{label_of, passes, is_one, is_multi, IsAt, IsOn, AreSorted, line_of_bounds};
+ghost use Rattle.miette_lines.specs.views.Sweeping.{label_of, passes, is_one, is_multi, IsAt, IsOn, AreSorted, line_of_bounds};
 
 use miette_style::style::Style;
 use std::alloc::{AllocError, Global};

@@ -3,13 +3,13 @@ use Rattle.std.proofs.Common.{ℕ, ◌≤◌, ◌≡◌, Bool, true, false, cond
 use Rattle.std.specs.List.{filter}
 use Rattle.std.proofs.lemmas.Bool.{leb-true, leb-false, le-ltb}
 use Rattle.std.proofs.lemmas.Bool.Decides.{nat_tests}
-use Rattle.miette_protocol.specs.Meaning.{Label}
-use Rattle.miette_protocol.specs.Lines.{Line}
+use Rattle.miette_protocol.specs.views.Meaning.{Label}
+use Rattle.miette_protocol.specs.rules.Lines.{Line}
 use Rattle.miette_lines.specs.declared.sweep.Placed.{Placed}
-use Rattle.miette_narrated.specs.Labels.{Shown, label_row, label_rows}
-use Rattle.miette_narrated.specs.Ends.{is_ended, is_begun}
-use Rattle.miette_narrated.specs.Made.{told_of, all_told}
-use Rattle.miette_narrated.specs.Sweeping.{BeginsFrom, AreOrdered}
+use Rattle.miette_narrated.specs.rules.Labels.{Shown, label_row, label_rows}
+use Rattle.miette_narrated.specs.steps.Ends.{is_ended, is_begun}
+use Rattle.miette_narrated.specs.views.Made.{told_of, all_told}
+use Rattle.miette_narrated.specs.steps.Sweeping.{BeginsFrom, AreOrdered}
 use Rattle.miette_narrated.proofs.Sweeps.{by_cases, lower, row_beyond}
 
 row_before : (it : Shown) (labels : List Label) (p : Placed) → it.is_last ≡ false → leb it.line.start p.start ≡ false → (leb it.line.start p.after && leb p.after it.line.text_end) ≡ false →

@@ -4,13 +4,13 @@ use Rattle.std.specs.Prelude.{IsUtf8, chars, encode_utf8, encode_utf8_all}
 use Rattle.std.proofs.lemmas.Str.{chars_from_encodes, encodes-append, encodes-chars, chars-nil}
 use Rattle.std.proofs.lemmas.Bool.{ne_eqb, le-ltb, lt-ltb}
 use Rattle.unicode_width.specs.Width.{str_width}
-use Rattle.miette_lines.specs.Cells.{Character, characters}
-use Rattle.miette_lines.specs.Given.{width_of}
+use Rattle.miette_lines.specs.rules.Cells.{Character, characters}
+use Rattle.miette_lines.specs.views.Given.{width_of}
 use Rattle.miette_lines.proofs.Stepping.{IsFirst, made, characters_step, characters_end}
-use Rattle.miette_narrated.specs.Columns.{begun, is_boundary, widths, column}
-use Rattle.miette_narrated.specs.Lines.{decoded_text}
+use Rattle.miette_narrated.specs.rules.Columns.{begun, is_boundary, widths, column}
+use Rattle.miette_narrated.specs.rules.Lines.{decoded_text}
 use Rattle.miette_narrated.specs.declared.places.Place.{Place}
-use Rattle.miette_narrated.specs.Places.{column_behind}
+use Rattle.miette_narrated.specs.steps.Places.{column_behind}
 
 pub decoded_more : (old new rest left : List ℕ) (code size : ℕ) (goal : List ℕ) → IsFirst rest left code size → new ≡ old ++ encode_utf8 code →
     old ++ decoded_text (characters rest) ≡ goal → new ++ decoded_text (characters left) ≡ goal

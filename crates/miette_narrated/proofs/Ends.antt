@@ -6,12 +6,12 @@ use Rattle.std.specs.Ordering.{nat_cmp}
 use Rattle.std.proofs.lemmas.Bool.{leb-true, le-leb, ne_eqb, eqb-true, and_right}
 use Rattle.std.proofs.lemmas.Bool.Decides.{nat_tests}
 use Rattle.std.proofs.lemmas.List.Elements.{filter_agree}
-use Rattle.miette_protocol.specs.Lines.{Line}
+use Rattle.miette_protocol.specs.rules.Lines.{Line}
 use Rattle.miette_lines.specs.declared.sweep.Placed.{Placed}
 use Rattle.miette_lines.proofs.Sorting.{put, sorted, Rises, at_key, same_list, sorted_rises, sorted_at, rises_from, sort_is}
 use Rattle.miette_narrated.specs.declared.label_order.Ranked.{Ranked}
-use Rattle.miette_narrated.specs.Ends.{ends_within, is_ended, ranked, AreEnds}
-use Rattle.miette_narrated.specs.Sweeping.{BeginsFrom, AreOrdered}
+use Rattle.miette_narrated.specs.steps.Ends.{ends_within, is_ended, ranked, AreEnds}
+use Rattle.miette_narrated.specs.steps.Sweeping.{BeginsFrom, AreOrdered}
 use Rattle.miette_narrated.proofs.Sweeps.{by_cases}
 
 -- ---- elements of a list between two of its places

@@ -2,13 +2,13 @@
 use Rattle.std.proofs.Common.{ℕ, zero, suc, ◌+◌, ◌<◌, ◌≤◌, ◌≡◌, List, [], ◌∷◌, ◌++◌, map, length, drop, get_or, eqb, refl, sym, ap, ◌∙◌, append_assoc, append-nil, arith, add-one}
 use Rattle.std.proofs.Math.Seq.{drop-cons}
 use Rattle.std.proofs.lemmas.Bool.{ne_eqb, eq-eqb, eqb-true, eqb-false}
-use Rattle.miette_protocol.specs.Lines.{Line}
-use Rattle.miette_protocol.specs.Reading.{Contents}
+use Rattle.miette_protocol.specs.rules.Lines.{Line}
+use Rattle.miette_protocol.specs.rules.Reading.{Contents}
 use Rattle.miette_lines.specs.declared.line_sweep.SweptLine.{SweptLine}
-use Rattle.miette_lines.specs.TextLines.{line_of_text}
-use Rattle.miette_narrated.specs.Labels.{Told, Shown}
+use Rattle.miette_lines.specs.views.TextLines.{line_of_text}
+use Rattle.miette_narrated.specs.rules.Labels.{Told, Shown}
 use Rattle.miette_narrated.proofs.Sweeps.{by_cases}
-use Rattle.miette_narrated.specs.Lines.{shown, is_nil, rows_of_line, rows_of_lines}
+use Rattle.miette_narrated.specs.rules.Lines.{shown, is_nil, rows_of_line, rows_of_lines}
 
 abbrev pub lines_of_swept : List SweptLine → List Line
 lines_of_swept ls = map (λ l. line_of_text l.line) ls

@@ -22,7 +22,7 @@ use Rattle.unicode_width.specs.Width.{before, plain, is_joined_emoji, of_kind, a
 use Rattle.unicode_width.proofs.KindLemmas.{kind_stepped, is_ligature_transparent_stepped, is_text_presentation_base_stepped}
 use Rattle.unicode_width.proofs.Computing.{unicode_width}
 use Rattle.unicode_width.proofs.Rules.{is_simple, str_width-append_simple}
-use Rattle.miette_narrated.specs.Parting.{is_lone}
+use Rattle.miette_narrated.specs.steps.Parting.{is_lone}
 use Rattle.miette_narrated.proofs.Sweeps.{by_cases}
 
 -- ---- what such a character is not

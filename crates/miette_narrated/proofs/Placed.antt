@@ -3,13 +3,13 @@ use Rattle.std.proofs.Common.{ℕ, zero, suc, ◌+◌, ◌-◌, ◌<◌, ◌≤�
 use Rattle.std.specs.Prelude.{IsUtf8, chars, encode_utf8}
 use Rattle.std.proofs.lemmas.List.{drop-drop}
 use Rattle.unicode_width.specs.Width.{str_width}
-use Rattle.miette_lines.specs.Cells.{characters}
-use Rattle.miette_lines.specs.Given.{width_of}
+use Rattle.miette_lines.specs.rules.Cells.{characters}
+use Rattle.miette_lines.specs.views.Given.{width_of}
 use Rattle.miette_lines.proofs.Stepping.{IsFirst, characters_step}
 use Rattle.miette_narrated.specs.declared.places.Place.{Place}
-use Rattle.miette_narrated.specs.Columns.{begun, is_boundary, widths, column}
-use Rattle.miette_narrated.specs.Parting.{may_part}
-use Rattle.miette_narrated.specs.Places.{column_behind, IsPlace}
+use Rattle.miette_narrated.specs.rules.Columns.{begun, is_boundary, widths, column}
+use Rattle.miette_narrated.specs.steps.Parting.{may_part}
+use Rattle.miette_narrated.specs.steps.Places.{column_behind, IsPlace}
 use Rattle.miette_narrated.proofs.Columning.{IsOver, none_over, one_over, begun_more, begun_zero, chars_pushed, at_boundary, off_boundary, behind_boundary, behind_other}
 use Rattle.miette_narrated.proofs.Parted.{parted, no_width}
 use Rattle.miette_narrated.proofs.Sweeps.{by_cases}

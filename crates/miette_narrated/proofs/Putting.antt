@@ -1,7 +1,7 @@
 -- Parts of rows, put one behind the other.
 use Rattle.std.proofs.Common.{ℕ, suc, ◌+◌, ◌≡◌, ◌<◌, List, [], ◌∷◌, ◌++◌, length, get_or, drop, add-one, sym, ap, ◌∙◌, append_assoc}
 use Rattle.std.proofs.Math.Seq.{drop-cons}
-use Rattle.miette_narrated.specs.Labels.{row}
+use Rattle.miette_narrated.specs.rules.Labels.{row}
 
 pub then : (old q r a b : List ℕ) → q ≡ old ++ a → r ≡ q ++ b → r ≡ old ++ (a ++ b)
 then old q r a b e f = f ∙ ap (λ x. x ++ b) e ∙ append_assoc old a b

@@ -5,27 +5,27 @@ use Rattle.std.specs.Option.{option_map_or}
 use Rattle.std.specs.List.{list_all}
 use Rattle.std.proofs.Math.Seq.{drop-cons}
 use Rattle.std.proofs.lemmas.Bool.{leb-true, leb-false, and_parts}
-use Rattle.miette_protocol.specs.Meaning.{Label}
-use Rattle.miette_protocol.specs.Reading.{Span, Source, IsAccepted, contents_of}
+use Rattle.miette_protocol.specs.views.Meaning.{Label}
+use Rattle.miette_protocol.specs.rules.Reading.{Span, Source, IsAccepted, contents_of}
 use Rattle.miette_lines.specs.declared.sweep.Placed.{Placed}
 use Rattle.miette_lines.specs.declared.grouping.Group.{Group}
 use Rattle.miette_lines.specs.declared.reading.ReadLabel.{ReadLabel}
 use Rattle.miette_lines.specs.declared.reading.Refusal.{Refusal}
 use Rattle.miette_lines.specs.declared.reading.ReadLabels.{ReadLabels}
 use Rattle.miette_lines.specs.declared.reading.ReadLabels.TheVariants as reads
-use Rattle.miette_lines.specs.Answers.{NoneFails}
-use Rattle.miette_lines.specs.Contexts.{contents, end_of_span, is_accepted}
-use Rattle.miette_lines.specs.Given.{label_at}
-use Rattle.miette_lines.specs.Around.{has_own, lines_around, group_context}
-use Rattle.miette_lines.specs.Groups.{put_label, in_order, refusal, AreAccepted, groups_of, some_fails}
-use Rattle.miette_lines.specs.Groups as groups
-use Rattle.miette_lines.specs.Placing.{placed_one, placed_from}
-use Rattle.miette_lines.specs.Read.{IsRead, AreRead, IsLent, AreGroups, AreGrouped, IsUnread}
-use Rattle.miette_narrated.specs.Labels.{Told, told}
-use Rattle.miette_narrated.specs.Made.{told_of, all_told}
-use Rattle.miette_narrated.specs.Snippets.{snippet, snippets_of}
-use Rattle.miette_narrated.specs.Answered.{AppendsSnippets, accepts, is_nil}
-use Rattle.miette_narrated.specs.Sweeping.{BeginsFrom, AreOrdered}
+use Rattle.miette_lines.specs.rules.Answers.{NoneFails}
+use Rattle.miette_lines.specs.rules.Contexts.{contents, end_of_span, is_accepted}
+use Rattle.miette_lines.specs.views.Given.{label_at}
+use Rattle.miette_lines.specs.rules.Around.{has_own, lines_around, group_context}
+use Rattle.miette_lines.specs.rules.Groups.{put_label, in_order, refusal, AreAccepted, groups_of, some_fails}
+use Rattle.miette_lines.specs.rules.Groups as groups
+use Rattle.miette_lines.specs.views.Placing.{placed_one, placed_from}
+use Rattle.miette_lines.specs.views.Read.{IsRead, AreRead, IsLent, AreGroups, AreGrouped, IsUnread}
+use Rattle.miette_narrated.specs.rules.Labels.{Told, told}
+use Rattle.miette_narrated.specs.views.Made.{told_of, all_told}
+use Rattle.miette_narrated.specs.rules.Snippets.{snippet, snippets_of}
+use Rattle.miette_narrated.specs.rules.Answered.{AppendsSnippets, accepts, is_nil}
+use Rattle.miette_narrated.specs.steps.Sweeping.{BeginsFrom, AreOrdered}
 use Rattle.miette_narrated.proofs.Sweeps.{by_cases}
 use Rattle.miette_narrated.proofs.Lining.{none_left}
 

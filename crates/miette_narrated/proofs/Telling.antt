@@ -2,17 +2,17 @@
 use Rattle.std.proofs.Common.{◌≡◌, ℕ, suc, zero, ◌+◌, ◌<◌, ◌≤◌, List, [], ◌∷◌, ◌++◌, length, get_or, map, drop, add-one, Bool, true, false, cond, ◌&&◌, Option, Some, None, refl, sym, ap, ap₂, subst, ◌∙◌, append_assoc, append-nil, arith}
 use Rattle.std.proofs.Math.Seq.{drop-cons}
 use Rattle.std.proofs.lemmas.Bool.{and_parts}
-use Rattle.miette_protocol.specs.Reading.{Source, Span}
-use Rattle.miette_protocol.specs.Meaning.{Label}
-use Rattle.miette_tree.specs.Tree.{Tree, tree, Trees, no_trees, more_trees, trees, effective, head, source_of, cause_of, causes_of, related_of}
-use Rattle.miette_lines.specs.Answers.{NoneFails}
-use Rattle.miette_lines.specs.Around.{has_own, group_context}
-use Rattle.miette_lines.specs.Groups.{groups_from, groups_answered, own_groups, groups_of, joins_before, joined, in_order, spans_of}
-use Rattle.miette_narrated.specs.Labels.{told}
-use Rattle.miette_narrated.specs.Snippets.{snippets_of}
-use Rattle.miette_narrated.specs.Report.{Settings, Answers, unlisted, listed, RelatedAnswers, no_more, and_more, own_answer, related_answers, first_answers, later_answers, head_rows, titled_rows, cause_rows, causes_if, advice_rows, row_if, snippet_rows, blank_before, related_report, related_reports, narrated}
-use Rattle.miette_tree.specs.Parts.{given_labels}
-use Rattle.miette_narrated.specs.Answered.{holds_of, holds_of_all, always_reads, accepts, report_reads, IsAnswered, AreAnswers, AllAnswers, AppendsSnippets, AppendsReport, AppendsRelated, IsNarrated, Appends}
+use Rattle.miette_protocol.specs.rules.Reading.{Source, Span}
+use Rattle.miette_protocol.specs.views.Meaning.{Label}
+use Rattle.miette_tree.specs.rules.Tree.{Tree, tree, Trees, no_trees, more_trees, trees, effective, head, source_of, cause_of, causes_of, related_of}
+use Rattle.miette_lines.specs.rules.Answers.{NoneFails}
+use Rattle.miette_lines.specs.rules.Around.{has_own, group_context}
+use Rattle.miette_lines.specs.rules.Groups.{groups_from, groups_answered, own_groups, groups_of, joins_before, joined, in_order, spans_of}
+use Rattle.miette_narrated.specs.rules.Labels.{told}
+use Rattle.miette_narrated.specs.rules.Snippets.{snippets_of}
+use Rattle.miette_narrated.specs.rules.Report.{Settings, Answers, unlisted, listed, RelatedAnswers, no_more, and_more, own_answer, related_answers, first_answers, later_answers, head_rows, titled_rows, cause_rows, causes_if, advice_rows, row_if, snippet_rows, blank_before, related_report, related_reports, narrated}
+use Rattle.miette_tree.specs.rules.Parts.{given_labels}
+use Rattle.miette_narrated.specs.rules.Answered.{holds_of, holds_of_all, always_reads, accepts, report_reads, IsAnswered, AreAnswers, AllAnswers, AppendsSnippets, AppendsReport, AppendsRelated, IsNarrated, Appends}
 use Rattle.miette_narrated.proofs.Sweeps.{by_cases}
 use Rattle.miette_narrated.proofs.Lining.{none_left}
 

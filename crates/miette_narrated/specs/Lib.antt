@@ -1,12 +1,3 @@
-pub mod Columns
-pub mod Parting
-pub mod Places
-pub mod Labels
-pub mod Lines
-pub mod Snippets
-pub mod Report
-pub mod Answered
-pub mod Made
-pub mod Sweeping
-pub mod Settings
-pub mod Ends
+pub mod rules
+pub mod views
+pub mod steps

@@ -1,10 +1,10 @@
 //! Characters of a line's text, and their columns.
 
 ghost use Rattle.std.specs.Prelude.{◌≡◌, ◌≤◌, ◌++◌, IfOk, OnOk, string_bytes};
-ghost use Rattle.miette_lines.specs.Cells.{characters};
-ghost use Rattle.miette_narrated.specs.Columns.{column};
-ghost use Rattle.miette_narrated.specs.Lines.{decoded_text};
-ghost use Rattle.miette_narrated.specs.Places.{IsPlace};
+ghost use Rattle.miette_lines.specs.rules.Cells.{characters};
+ghost use Rattle.miette_narrated.specs.rules.Columns.{column};
+ghost use Rattle.miette_narrated.specs.rules.Lines.{decoded_text};
+ghost use Rattle.miette_narrated.specs.steps.Places.{IsPlace};
 
 use crate::line_text::LineText;
 use crate::places::{Place, column_after, place_before};

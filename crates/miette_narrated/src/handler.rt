@@ -1,10 +1,10 @@
 //! The handler of narrated reports.
 
 ghost use Rattle.std.specs.Prelude.{◌≡◌, ◌++◌, true, false, Some, OnOk, OnErr, string_bytes, option_copied};
-ghost use Rattle.miette_tree.specs.Report.{tree_of};
-ghost use Rattle.miette_narrated.specs.Report.{default_settings, narrated as narrated_text, unlisted};
-ghost use Rattle.miette_narrated.specs.Answered.{Appends, report_reads, report_accepted};
-ghost use Rattle.miette_narrated.specs.Settings.{settings_of};
+ghost use Rattle.miette_tree.specs.views.Report.{tree_of};
+ghost use Rattle.miette_narrated.specs.rules.Report.{default_settings, narrated as narrated_text, unlisted};
+ghost use Rattle.miette_narrated.specs.rules.Answered.{Appends, report_reads, report_accepted};
+ghost use Rattle.miette_narrated.specs.rules.Settings.{settings_of};
 
 use crate::report::narrated;
 use miette_protocol::error::RenderError;
@@ -34,7 +34,7 @@ pub struct NarratableReportHandler {
 
 impl Model for NarratableReportHandler {
     ghost use Rattle.std.specs.Prelude.{option_map, string_bytes};
-    ghost use Rattle.miette_narrated.specs.Report.{Settings};
+    ghost use Rattle.miette_narrated.specs.rules.Report.{Settings};
 
     ghost Value = { Settings };
 

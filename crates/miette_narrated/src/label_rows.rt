@@ -1,11 +1,11 @@
 //! The rows of labels under a line.
 
 ghost use Rattle.std.specs.Prelude.{◌≡◌, ◌++◌, IfOk, OnOk, string_bytes, option_copied};
-ghost use Rattle.miette_narrated.specs.Labels.{row, begins, begins_within, reaches_line, ends_before, first_number, last_number, columns_text, text_behind, whole_row, start_row, end_row, begun_row, reaching_row, label_row, label_rows};
+ghost use Rattle.miette_narrated.specs.rules.Labels.{row, begins, begins_within, reaches_line, ends_before, first_number, last_number, columns_text, text_behind, whole_row, start_row, end_row, begun_row, reaching_row, label_row, label_rows};
 ghost use Rattle.std.specs.List.{All};
-ghost use Rattle.miette_narrated.specs.Ends.{labels_of};
-ghost use Rattle.miette_narrated.specs.Made.{told_of, all_told, shown_of};
-ghost use Rattle.miette_narrated.specs.Places.{IsPlace};
+ghost use Rattle.miette_narrated.specs.steps.Ends.{labels_of};
+ghost use Rattle.miette_narrated.specs.views.Made.{told_of, all_told, shown_of};
+ghost use Rattle.miette_narrated.specs.steps.Places.{IsPlace};
 
 use crate::columns::column;
 use crate::label_order::Ranked;

@@ -2,8 +2,8 @@
 
 ghost use Rattle.std.specs.Prelude.{◌≡◌};
 ghost use Rattle.std.specs.List.{All, list_all};
-ghost use Rattle.miette_lines.specs.Printable.{is_printable};
-ghost use Rattle.miette_narrated.specs.Places.{IsPlace};
+ghost use Rattle.miette_lines.specs.views.Printable.{is_printable};
+ghost use Rattle.miette_narrated.specs.steps.Places.{IsPlace};
 
 use crate::places::Place;
 use miette_lines::plain::all_printable;

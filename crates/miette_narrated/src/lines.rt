@@ -2,13 +2,13 @@
 
 ghost use Rattle.std.specs.Prelude.{◌≡◌, false, ◌++◌, ◌+◌, ◌<◌, ◌≤◌, ◌^◌, map, length, OnOk, string_bytes};
 ghost use Rattle.std.specs.List.{All};
-ghost use Rattle.miette_lines.specs.TextLines.{line_of_text};
-ghost use Rattle.miette_lines.specs.Swept.{LiesIn};
-ghost use Rattle.miette_narrated.specs.Made.{all_told, shown_of};
-ghost use Rattle.miette_narrated.specs.Lines.{shown, line_row, rows_of_line, rows_of_lines};
-ghost use Rattle.miette_narrated.specs.Ends.{IsOrder};
-ghost use Rattle.miette_narrated.specs.Labels.{label_rows};
-ghost use Rattle.miette_narrated.specs.Sweeping.{IsAt, last_start};
+ghost use Rattle.miette_lines.specs.views.TextLines.{line_of_text};
+ghost use Rattle.miette_lines.specs.views.Swept.{LiesIn};
+ghost use Rattle.miette_narrated.specs.views.Made.{all_told, shown_of};
+ghost use Rattle.miette_narrated.specs.rules.Lines.{shown, line_row, rows_of_line, rows_of_lines};
+ghost use Rattle.miette_narrated.specs.steps.Ends.{IsOrder};
+ghost use Rattle.miette_narrated.specs.rules.Labels.{label_rows};
+ghost use Rattle.miette_narrated.specs.steps.Sweeping.{IsAt, last_start};
 
 use crate::columns::push_decoded;
 use crate::label_order::{LabelOrder, begun_on, ended_on};

@@ -2,7 +2,7 @@
 
 ghost use Rattle.std.specs.Prelude.{◌≡◌};
 ghost use Rattle.std.specs.Int.{is_in_range};
-ghost use Rattle.miette_narrated.specs.Parting.{is_lone, is_joining, is_closing, may_part, may_part_flags};
+ghost use Rattle.miette_narrated.specs.steps.Parting.{is_lone, is_joining, is_closing, may_part, may_part_flags};
 ghost use Rattle.unicode_width.specs.Width.{is_indicator};
 
 use miette_lines::cells::columns_of;

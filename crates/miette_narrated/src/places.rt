@@ -3,7 +3,7 @@
 ghost use Rattle.std.specs.Prelude.{◌≡◌, ◌<◌, ◌≤◌, ◌+◌, false, chars, IfOk, IfSome};
 ghost use Rattle.std.specs.List.{All};
 ghost use Rattle.unicode_width.specs.Width.{str_width};
-ghost use Rattle.miette_narrated.specs.Places.{IsPlace};
+ghost use Rattle.miette_narrated.specs.steps.Places.{IsPlace};
 
 use crate::parting::{is_indicator, may_part, may_part_flags};
 use miette_lines::cells::{columns_of, first_character};

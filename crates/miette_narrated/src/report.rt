@@ -2,12 +2,12 @@
 
 ghost use Rattle.std.specs.Prelude.{◌≡◌, ◌++◌, false, OnOk, IfOk, string_bytes, map, option_copied};
 ghost use Rattle.std.specs.Option.{option_map};
-ghost use Rattle.miette_tree.specs.Tree.{head, cause_of, causes_of, trees};
-ghost use Rattle.miette_tree.specs.Report.{tree_of};
-ghost use Rattle.miette_tree.specs.Owned.{shown_source};
-ghost use Rattle.miette_narrated.specs.Report.{title, severity_row, head_rows, titled_rows, cause_rows, causes_if, advice_rows, url_rows, blank_before};
-ghost use Rattle.miette_narrated.specs.Answered.{AppendsSnippets, AppendsReport, AppendsRelated, IsNarrated, accepts, holds_of, holds_of_all, report_accepted};
-ghost use Rattle.miette_narrated.specs.Settings.{settings_of};
+ghost use Rattle.miette_tree.specs.rules.Tree.{head, cause_of, causes_of, trees};
+ghost use Rattle.miette_tree.specs.views.Report.{tree_of};
+ghost use Rattle.miette_tree.specs.views.Owned.{shown_source};
+ghost use Rattle.miette_narrated.specs.rules.Report.{title, severity_row, head_rows, titled_rows, cause_rows, causes_if, advice_rows, url_rows, blank_before};
+ghost use Rattle.miette_narrated.specs.rules.Answered.{AppendsSnippets, AppendsReport, AppendsRelated, IsNarrated, accepts, holds_of, holds_of_all, report_accepted};
+ghost use Rattle.miette_narrated.specs.rules.Settings.{settings_of};
 
 use crate::handler::Settings;
 use crate::snippets::push_snippets;

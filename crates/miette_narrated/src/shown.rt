@@ -2,8 +2,8 @@
 
 ghost use Rattle.std.specs.Prelude.{◌≡◌};
 ghost use Rattle.std.specs.List.{All};
-ghost use Rattle.miette_narrated.specs.Made.{shown_of};
-ghost use Rattle.miette_narrated.specs.Places.{IsPlace};
+ghost use Rattle.miette_narrated.specs.views.Made.{shown_of};
+ghost use Rattle.miette_narrated.specs.steps.Places.{IsPlace};
 
 use crate::line_text::LineText;
 use crate::places::Place;

@@ -2,17 +2,17 @@
 
 ghost use Rattle.std.specs.Prelude.{◌≡◌, ◌++◌, ◌+◌, ◌<◌, ◌^◌, false, Some, map, length, decimal, IfOk, OnOk, string_bytes, option_copied};
 ghost use Rattle.std.specs.List.{All};
-ghost use Rattle.miette_lines.specs.Contexts.{lines_of_contents};
-ghost use Rattle.miette_lines.specs.Groups.{in_order};
-ghost use Rattle.miette_lines.specs.Given.{label_at};
-ghost use Rattle.miette_lines.specs.Read.{IsRead};
-ghost use Rattle.miette_lines.specs.TextLines.{line_of_text};
-ghost use Rattle.miette_lines.specs.Swept.{LiesIn};
-ghost use Rattle.miette_narrated.specs.Made.{all_told};
-ghost use Rattle.miette_narrated.specs.Snippets.{name_text, begin_rows, snippet};
-ghost use Rattle.miette_narrated.specs.Answered.{AppendsSnippets, accepts};
-ghost use Rattle.miette_narrated.specs.Ends.{IsOrder};
-ghost use Rattle.miette_narrated.specs.Sweeping.{IsAt};
+ghost use Rattle.miette_lines.specs.rules.Contexts.{lines_of_contents};
+ghost use Rattle.miette_lines.specs.rules.Groups.{in_order};
+ghost use Rattle.miette_lines.specs.views.Given.{label_at};
+ghost use Rattle.miette_lines.specs.views.Read.{IsRead};
+ghost use Rattle.miette_lines.specs.views.TextLines.{line_of_text};
+ghost use Rattle.miette_lines.specs.views.Swept.{LiesIn};
+ghost use Rattle.miette_narrated.specs.views.Made.{all_told};
+ghost use Rattle.miette_narrated.specs.rules.Snippets.{name_text, begin_rows, snippet};
+ghost use Rattle.miette_narrated.specs.rules.Answered.{AppendsSnippets, accepts};
+ghost use Rattle.miette_narrated.specs.steps.Ends.{IsOrder};
+ghost use Rattle.miette_narrated.specs.steps.Sweeping.{IsAt};
 
 use crate::label_order::{LabelOrder, by_end};
 use crate::lines::push_lines;

@@ -2,7 +2,7 @@
 
 ghost use Rattle.std.specs.Prelude.{◌≡◌, OnOk, drop, suc};
 ghost use Rattle.std.specs.List.{filter};
-ghost use Rattle.miette_narrated.specs.Sweeping.{reaches, IsAt, BeginsFrom};
+ghost use Rattle.miette_narrated.specs.steps.Sweeping.{reaches, IsAt, BeginsFrom};
 
 use miette_lines::sweep::Placed;
 use std::alloc::{AllocError, Global};

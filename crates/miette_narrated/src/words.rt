@@ -1,8 +1,8 @@
 //! Rows put together from words and numbers.
 
 ghost use Rattle.std.specs.Prelude.{◌≡◌, ◌++◌, ◌∷◌, [], OnOk, OnErr, decimal, string_bytes, option_copied};
-ghost use Rattle.miette_narrated.specs.Labels.{row};
-ghost use Rattle.miette_narrated.specs.Report.{row_if};
+ghost use Rattle.miette_narrated.specs.rules.Labels.{row};
+ghost use Rattle.miette_narrated.specs.rules.Report.{row_if};
 
 use itoa::Buffer;
 use std::alloc::AllocError;

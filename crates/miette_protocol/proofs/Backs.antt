@@ -2,7 +2,7 @@
 use Rattle.std.proofs.Common.{◌≡◌, ℕ, suc, zero, ◌+◌, ◌-◌, ◌<◌, ◌≤◌, Bool, true, false, not, ◌&&◌, ◌||◌, ◌==◌, List, length, take, drop, slice_index, Option, Some, None, IsNone, IfSome, refl, sym, ap, subst, ◌∙◌, arith}
 use Rattle.std.proofs.lemmas.List.{get_or-take, length-take-le, get_or-drop, length-drop, take_rest}
 use Rattle.memchr.specs.Find.{Nowhere, NoneBefore, Passes, IsLastByte, is_byte2}
-use Rattle.miette_protocol.specs.Lines.{LF, CR, ends_line, line_of}
+use Rattle.miette_protocol.specs.rules.Lines.{LF, CR, ends_line, line_of}
 use Rattle.miette_protocol.proofs.Places.{line_of_none, line_of_no}
 
 no_mark : (x y z : Bool) → ((x || y) ≡ true → ⊥) → (x || (y && not z)) ≡ false

@@ -4,7 +4,7 @@ use Rattle.std.proofs.lemmas.List.{get_or-drop, length-drop}
 use Rattle.std.proofs.lemmas.List.Sums.{count_by_more_yes, count_by_more_no}
 use Rattle.std.proofs.lemmas.Bool.{cases_lt}
 use Rattle.std.proofs.Common.{inl, inr}
-use Rattle.miette_protocol.specs.Lines.{LF, CR, ends_line, is_text, line_of, line_start, column_of}
+use Rattle.miette_protocol.specs.rules.Lines.{LF, CR, ends_line, is_text, line_of, line_start, column_of}
 use Rattle.miette_protocol.proofs.Places.{line_of_yes, line_end_here, line_start_next, line_start_mono, line_of_mono}
 
 not_true : (x : Bool) → (x ≡ true → ⊥) → x ≡ false

@@ -9,7 +9,7 @@ use Rattle.std.specs.String.{string_eq}
 use Rattle.std.proofs.Common.{String, Global}
 use Rattle.std.specs.Prelude.{string_bytes}
 use Rattle.std.proofs.lemmas.Slice.Eq.{slice_eq-Decides}
-use Rattle.miette_protocol.specs.Meaning.{Meaning, Label}
+use Rattle.miette_protocol.specs.views.Meaning.{Meaning, Label}
 
 inner_same : {A : Type 0} (x y : A) → Some x ≡ Some y → x ≡ y
 inner_same x y e = ap (λ o. unwrap_or o x) e

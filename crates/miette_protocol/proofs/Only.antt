@@ -5,8 +5,8 @@ use Rattle.std.specs.Option.{option_map_or}
 use Rattle.std.proofs.lemmas.Bool.Decides.{nat_tests}
 use Rattle.std.proofs.lemmas.List.{take-append-drop, length-append, append_assoc}
 use Rattle.std.proofs.Math.Seq.{drop-append_seam, take-append_seam}
-use Rattle.miette_protocol.specs.Lines.{Line, LF, CR, ends_line, with_byte, lines_from, lines_of, is_text, line_start}
-use Rattle.miette_protocol.specs.Cutting.{IsTerminator, AreLines, BeginsWith}
+use Rattle.miette_protocol.specs.rules.Lines.{Line, LF, CR, ends_line, with_byte, lines_from, lines_of, is_text, line_start}
+use Rattle.miette_protocol.specs.rules.Cutting.{IsTerminator, AreLines, BeginsWith}
 use Rattle.miette_protocol.proofs.Cutting.{lines_are}
 
 abbrev made : ℕ → ℕ → ℕ → Line

@@ -3,8 +3,8 @@ use Rattle.std.proofs.Common.{◌≡◌, ℕ, suc, zero, ◌+◌, ◌-◌, ◌<�
 use Rattle.std.specs.Prelude.{nat_lt, nat_le, slice_index}
 use Rattle.std.proofs.lemmas.Bool.{cases_lt, lt-ltb, le-ltb, le-leb, lt-leb}
 use Rattle.std.proofs.lemmas.List.{get_or_append_left, get_or_push, length_push}
-use Rattle.miette_protocol.specs.Lines.{ends_line, line_of, line_start, line_end, terminators_in}
-use Rattle.miette_protocol.specs.Index.{IsIndex}
+use Rattle.miette_protocol.specs.rules.Lines.{ends_line, line_of, line_start, line_end, terminators_in}
+use Rattle.miette_protocol.specs.views.Index.{IsIndex}
 use Rattle.miette_protocol.proofs.Scans.{ends_before, after, ends_by, ends_count-lines_from, ends_before-suc, ends_before_past, after_here, after_all, after_le, after_gt, after_mono, after_lt, ends_before_all, ends_before_le, end_at-lines_from, start_at-lines_from}
 
 ends_by_none : (x t : Bool) (n : ℕ) → t ≡ false → n ≡ 0 → cond x (cond t 1 0 + n) n ≡ 0

@@ -4,7 +4,7 @@ use Rattle.std.specs.Prelude.{◌==◌, nat_lt, count_by, slice_get, slice_index
 use Rattle.std.specs.Option.{option_map_or}
 use Rattle.std.proofs.lemmas.List.Sums.{sum_by-cons}
 use Rattle.std.proofs.lemmas.Bool.{lt-ltb}
-use Rattle.miette_protocol.specs.Lines.{Line, LF, CR, ends_line, with_byte, lines_from, is_terminated}
+use Rattle.miette_protocol.specs.rules.Lines.{Line, LF, CR, ends_line, with_byte, lines_from, is_terminated}
 
 -- how many terminators end at an offset of the bytes or before
 abbrev pub ends_before : ℕ → List ℕ → ℕ

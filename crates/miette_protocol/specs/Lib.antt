@@ -1,12 +1,2 @@
-pub mod Lines
-pub mod Reading
-pub mod Context
-pub mod Outcome
-pub mod Named
-pub mod Index
-pub mod Texts
-pub mod Meaning
-pub mod ContextLines
-pub mod Diagnostic
-pub mod Location
-pub mod Cutting
+pub mod rules
+pub mod views

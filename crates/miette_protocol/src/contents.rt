@@ -2,7 +2,7 @@
 
 ghost use Rattle.std.specs.Prelude.{◌≡◌, Some, None};
 ghost use Rattle.std.specs.Option.{option_copied};
-ghost use Rattle.miette_protocol.specs.Reading.{Contents};
+ghost use Rattle.miette_protocol.specs.rules.Reading.{Contents};
 
 use crate::protocol::SourceSpan;
 use std::marker::Model;
@@ -22,7 +22,7 @@ pub struct MietteSpanContents<'a> {
 
 impl<'a> Model for MietteSpanContents<'a> {
     ghost use Rattle.std.specs.Option.{option_map};
-    ghost use Rattle.miette_protocol.specs.Reading.{Contents};
+    ghost use Rattle.miette_protocol.specs.rules.Reading.{Contents};
 
     ghost Value = { Contents };
 

@@ -3,8 +3,8 @@
 ghost use Rattle.std.specs.Prelude.{◌≡◌, ◌↔◌, List, [], ◌∷◌, IfOk, IsTrue, Some, None, string_bytes};
 ghost use Rattle.std.specs.Iterator.{Drains, IsFinite};
 ghost use Rattle.std.specs.Option.{option_copied, option_map};
-ghost use Rattle.miette_protocol.specs.Diagnostic.{meaning_of};
-ghost use Rattle.miette_protocol.specs.Meaning.{Label};
+ghost use Rattle.miette_protocol.specs.views.Diagnostic.{meaning_of};
+ghost use Rattle.miette_protocol.specs.views.Meaning.{Label};
 
 use crate::protocol::{Diagnostic, LabeledSpan, Severity};
 use serde::{Deserialize, Serialize};
@@ -64,7 +64,7 @@ fn copied_labels(
 }
 
 impl MietteDiagnostic {
-    ghost use Rattle.miette_protocol.specs.Diagnostic.{meaning_of, message_alone, appended};
+    ghost use Rattle.miette_protocol.specs.views.Diagnostic.{meaning_of, message_alone, appended};
 
     /// A diagnostic with a copy of a message, and nothing else.
     ///
@@ -221,7 +221,7 @@ impl MietteDiagnostic {
 /// A clone means what its source does; `AllocError` where memory is refused.
 impl Clone for MietteDiagnostic {
     ghost use Rattle.std.specs.Prelude.{◌≡◌};
-    ghost use Rattle.miette_protocol.specs.Diagnostic.{meaning_of};
+    ghost use Rattle.miette_protocol.specs.views.Diagnostic.{meaning_of};
 
     ghost is_clone = { λ it made. meaning_of made ≡ meaning_of it };
 
@@ -250,7 +250,7 @@ impl fmt::Display for MietteDiagnostic {
 
 /// Answers its fields.
 impl Diagnostic for MietteDiagnostic {
-    ghost use Rattle.miette_protocol.specs.Diagnostic.{meaning_of};
+    ghost use Rattle.miette_protocol.specs.views.Diagnostic.{meaning_of};
 
     ghost meaning = { meaning_of };
 

@@ -30,7 +30,7 @@ impl From<io::Error> for MietteError {
 
 /// Prints the inner error, or that the span lies outside of the source.
 impl fmt::Display for MietteError {
-    ghost use Rattle.miette_protocol.specs.Texts.{error_text};
+    ghost use Rattle.miette_protocol.specs.rules.Texts.{error_text};
 
     ghost output = { error_text };
 
@@ -48,7 +48,7 @@ impl Error for MietteError {}
 
 /// Fixed texts for each of the two errors, with no severity and no labels.
 impl Diagnostic for MietteError {
-    ghost use Rattle.miette_protocol.specs.Texts.{error_meaning};
+    ghost use Rattle.miette_protocol.specs.rules.Texts.{error_meaning};
 
     ghost meaning = { error_meaning };
 
@@ -125,7 +125,7 @@ impl From<AllocError> for RenderError {
 /// Prints which of the two it is.
 impl fmt::Display for RenderError {
     ghost use Rattle.std.specs.Prelude.{Some};
-    ghost use Rattle.miette_protocol.specs.Texts.{render_text};
+    ghost use Rattle.miette_protocol.specs.rules.Texts.{render_text};
 
     ghost output = { λ it. Some (render_text it) };
 
@@ -137,7 +137,7 @@ impl fmt::Display for RenderError {
 impl Error for RenderError {}
 
 impl RenderError {
-    ghost use Rattle.miette_protocol.specs.Texts.{render_text};
+    ghost use Rattle.miette_protocol.specs.rules.Texts.{render_text};
 
     /// What it prints. Takes no memory.
     pub fn text(&self) -> &'static str

@@ -1,9 +1,9 @@
 //! Reading a span of bytes whose lines can be found.
 
 ghost use Rattle.std.specs.Prelude.{◌≡◌, ℕ, ◌≤◌, ◌+◌, ◌-◌, ◌==◌, if◌then◌else◌, List, MatchBool, min, length};
-ghost use Rattle.miette_protocol.specs.Lines.{line_of, line_start, line_end, column_of};
-ghost use Rattle.miette_protocol.specs.Reading.{IsAccepted, reading_end, data_start, data_end, plain_source};
-ghost use Rattle.miette_protocol.specs.Outcome.{Answers};
+ghost use Rattle.miette_protocol.specs.rules.Lines.{line_of, line_start, line_end, column_of};
+ghost use Rattle.miette_protocol.specs.rules.Reading.{IsAccepted, reading_end, data_start, data_end, plain_source};
+ghost use Rattle.miette_protocol.specs.rules.Outcome.{Answers};
 
 use crate::contents::MietteSpanContents;
 use crate::error::MietteError;

@@ -1,8 +1,8 @@
 //! A source that keeps the ends of its lines.
 
 ghost use Rattle.std.specs.Prelude.{◌≡◌, ℕ, ◌+◌, ◌*◌, ◌<◌, ◌≤◌, ◌^◌, length, slice_index, IfOk};
-ghost use Rattle.miette_protocol.specs.Lines.{line_of};
-ghost use Rattle.miette_protocol.specs.Index.{IsIndex};
+ghost use Rattle.miette_protocol.specs.rules.Lines.{line_of};
+ghost use Rattle.miette_protocol.specs.views.Index.{IsIndex};
 
 use crate::contents::MietteSpanContents;
 use crate::error::MietteError;
@@ -119,7 +119,7 @@ impl FindLines for IndexedSource {
 }
 
 impl SourceCode for IndexedSource {
-    ghost use Rattle.miette_protocol.specs.Reading.{plain_source};
+    ghost use Rattle.miette_protocol.specs.rules.Reading.{plain_source};
 
     ghost source = { λ it. plain_source it };
 

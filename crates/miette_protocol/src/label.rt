@@ -25,7 +25,7 @@ impl Model for LabeledSpan {
     ghost use Rattle.std.specs.Prelude.{string_bytes};
     ghost use Rattle.std.specs.Option.{option_map};
     ghost use Rattle.std.specs.Int.NonZero.{non_zero_usize_get};
-    ghost use Rattle.miette_protocol.specs.Meaning.{Label};
+    ghost use Rattle.miette_protocol.specs.views.Meaning.{Label};
 
     ghost Value = { Label };
 

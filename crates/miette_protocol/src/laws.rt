@@ -1,10 +1,10 @@
 //! Laws of lines and reads. Each function does nothing: its contract is the law, and a proof above calls it.
 
 ghost use Rattle.std.specs.Prelude.{◌≡◌, ◌↔◌, ℕ, ◌+◌, ◌<◌, ◌≤◌, min, List, length, slice_range};
-ghost use Rattle.miette_protocol.specs.Context.{first_line, last_line};
-ghost use Rattle.miette_protocol.specs.Cutting.{AreLines};
-ghost use Rattle.miette_protocol.specs.Lines.{Line, IsCut, lines_of, lines_from, line_of, line_start, line_end};
-ghost use Rattle.miette_protocol.specs.Reading.{Span, Source, Contents, IsAccepted, contents_of};
+ghost use Rattle.miette_protocol.specs.rules.Context.{first_line, last_line};
+ghost use Rattle.miette_protocol.specs.rules.Cutting.{AreLines};
+ghost use Rattle.miette_protocol.specs.rules.Lines.{Line, IsCut, lines_of, lines_from, line_of, line_start, line_end};
+ghost use Rattle.miette_protocol.specs.rules.Reading.{Span, Source, Contents, IsAccepted, contents_of};
 
 use crate::error::RenderError;
 use crate::protocol::{LengthOverflow, Severity, SourceOffset, SourceSpan};

@@ -1,7 +1,7 @@
 //! The ends of all terminators of a source, read one at a time and counted.
 
 ghost use Rattle.std.specs.Prelude.{◌≡◌, ℕ, ◌+◌, ◌<◌, length, slice_index, IfOk};
-ghost use Rattle.miette_protocol.specs.Index.{IsIndex};
+ghost use Rattle.miette_protocol.specs.views.Index.{IsIndex};
 
 use crate::scan;
 use std::alloc::{AllocError, Global};

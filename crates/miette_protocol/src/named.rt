@@ -18,7 +18,7 @@ pub struct NamedSource<S> {
 }
 
 impl<S: SourceCode> NamedSource<S> {
-    ghost use Rattle.miette_protocol.specs.Named.{inner_of, name_of, given_language};
+    ghost use Rattle.miette_protocol.specs.views.Named.{inner_of, name_of, given_language};
 
     /// Gives a source a name.
     ///
@@ -75,8 +75,8 @@ impl<S: SourceCode> NamedSource<S> {
 
 impl<S: SourceCode> SourceCode for NamedSource<S> {
     ghost use Rattle.std.specs.Prelude.{Some};
-    ghost use Rattle.miette_protocol.specs.Reading.{named};
-    ghost use Rattle.miette_protocol.specs.Named.{inner_of, name_of, given_language};
+    ghost use Rattle.miette_protocol.specs.rules.Reading.{named};
+    ghost use Rattle.miette_protocol.specs.views.Named.{inner_of, name_of, given_language};
 
     ghost source = { λ it. named (S.source (inner_of it)) (name_of it) (given_language it) };
 

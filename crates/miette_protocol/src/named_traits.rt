@@ -5,7 +5,7 @@ ghost use Rattle.std.specs.Hash as fed;
 ghost use Rattle.std.specs.Ordering.{on, then_cmp, nat_cmp};
 ghost use Rattle.std.specs.Cmp.Lexicographic.{slice_cmp};
 ghost use Rattle.std.specs.Option.{option_cmp};
-ghost use Rattle.miette_protocol.specs.Named.{inner_of, name_of, given_language};
+ghost use Rattle.miette_protocol.specs.views.Named.{inner_of, name_of, given_language};
 
 use crate::source::NamedSource;
 use std::alloc::AllocError;

@@ -5,8 +5,8 @@ ghost use Rattle.std.specs.Option.{option_copied};
 ghost use Rattle.std.specs.Hash as fed;
 ghost use Rattle.std.specs.Ordering.{on, then_cmp, nat_cmp};
 ghost use Rattle.std.specs.declared.cmp.Ordering.TheVariants.{Less};
-ghost use Rattle.miette_protocol.specs.Meaning.{Meaning, Label};
-ghost use Rattle.miette_protocol.specs.Reading.{Span};
+ghost use Rattle.miette_protocol.specs.views.Meaning.{Meaning, Label};
+ghost use Rattle.miette_protocol.specs.rules.Reading.{Span};
 
 pub use crate::label::LabeledSpan;
 pub use crate::span::{ByteOffset, LengthOverflow, SourceOffset, SourceSpan, location_law};

@@ -1,7 +1,7 @@
 //! Lines of bytes, found by scans.
 
 ghost use Rattle.std.specs.Prelude.{◌≡◌, ℕ, ◌+◌, ◌-◌, ◌<◌, ◌≤◌, IsNone, IfSome, length, slice_index};
-ghost use Rattle.miette_protocol.specs.Lines.{ends_line, line_of, line_start, line_end};
+ghost use Rattle.miette_protocol.specs.rules.Lines.{ends_line, line_of, line_start, line_end};
 
 use crate::find::FindLines;
 use memchr::{memchr2, memrchr2};
@@ -12,7 +12,7 @@ pub(crate) struct Scan<'a>(pub(crate) &'a [u8]);
 
 /// Is a byte the last of a terminator, before the next byte?
 #[inline(always)]
-#[tactic(auto, unfolding(crate::specs::Lines::ends_line))]
+#[tactic(auto, unfolding(crate::specs::rules::Lines::ends_line))]
 fn is_end(byte: u8, next: u8) -> bool
     ensures { result ≡ ends_line byte next }
 {

@@ -1,8 +1,8 @@
 //! Sources, and the reading of a span.
 
 ghost use Rattle.std.specs.Prelude.{ℕ, string_bytes};
-ghost use Rattle.miette_protocol.specs.Reading.{Source, plain_source};
-ghost use Rattle.miette_protocol.specs.Outcome.{Answers};
+ghost use Rattle.miette_protocol.specs.rules.Reading.{Source, plain_source};
+ghost use Rattle.miette_protocol.specs.rules.Outcome.{Answers};
 
 pub use crate::contents::{MietteSpanContents, contents_clone_law};
 use crate::error::MietteError;

@@ -1,7 +1,7 @@
 //! Offsets and spans, in bytes, as in the crate miette 7.6.0.
 
 ghost use Rattle.std.specs.Prelude.{◌≡◌, ◌==◌, ℕ, ◌+◌, ◌-◌, ◌^◌, List, MatchResult};
-ghost use Rattle.miette_protocol.specs.Location.{IsLocation};
+ghost use Rattle.miette_protocol.specs.rules.Location.{IsLocation};
 ghost use Rattle.std.specs.Range.{range_inclusive_start, range_inclusive_end};
 
 use serde::{Deserialize, Serialize};
@@ -84,7 +84,7 @@ pub struct SourceSpan {
 }
 
 impl Model for SourceSpan {
-    ghost use Rattle.miette_protocol.specs.Reading.{Span};
+    ghost use Rattle.miette_protocol.specs.rules.Reading.{Span};
 
     ghost Value = { Span };
 
@@ -196,7 +196,7 @@ pub struct LengthOverflow;
 /// Prints that the length is too great.
 impl fmt::Display for LengthOverflow {
     ghost use Rattle.std.specs.Prelude.{Some};
-    ghost use Rattle.miette_protocol.specs.Texts.{overflow_text};
+    ghost use Rattle.miette_protocol.specs.rules.Texts.{overflow_text};
 
     ghost output = { λ _. Some overflow_text };
 

@@ -3,18 +3,18 @@ use Rattle.std.proofs.Common.{◌≡◌, ℕ, ◌+◌, Bool, true, false, List, 
 use Rattle.std.proofs.lemmas.Bool.{le-leb}
 use Rattle.std.specs.List.{list_all}
 use Rattle.std.specs.Prelude.{◌&&◌, ◌||◌, if◌then◌else◌}
-use Rattle.miette_protocol.specs.Meaning.{Label, Meaning}
-use Rattle.miette_protocol.specs.Reading.{Source, Span, IsAccepted}
-use Rattle.miette_lines.specs.Contexts.{end_of_span, is_accepted}
-use Rattle.miette_lines.specs.Groups.{in_order, AreAccepted}
-use Rattle.miette_text.specs.Tame.{is_nil}
-use Rattle.miette_tree.specs.Tree.{Tree, tree, Cause, diagnostic, texts, Trees, no_trees, more_trees, effective}
-use Rattle.miette_tree.specs.Parts.{given_labels}
-use Rattle.miette_graphical.specs.Printed.{Printed, over, printed, printed_causes, printed_related, source_reads, always_reads, all_read}
-use Rattle.miette_json.specs.Reads.{AlwaysReads, CauseAlwaysReads, AllAlwaysRead}
-use Rattle.miette_graphical.specs.Settings.{Settings}
-use Rattle.miette_narrated.specs.Answered as told
-use Rattle.miette_narrated.specs.Report.{Answers, RelatedAnswers, related_answers, first_answers, later_answers}
+use Rattle.miette_protocol.specs.views.Meaning.{Label, Meaning}
+use Rattle.miette_protocol.specs.rules.Reading.{Source, Span, IsAccepted}
+use Rattle.miette_lines.specs.rules.Contexts.{end_of_span, is_accepted}
+use Rattle.miette_lines.specs.rules.Groups.{in_order, AreAccepted}
+use Rattle.miette_text.specs.rules.Tame.{is_nil}
+use Rattle.miette_tree.specs.rules.Tree.{Tree, tree, Cause, diagnostic, texts, Trees, no_trees, more_trees, effective}
+use Rattle.miette_tree.specs.rules.Parts.{given_labels}
+use Rattle.miette_graphical.specs.rules.Printed.{Printed, over, printed, printed_causes, printed_related, source_reads, always_reads, all_read}
+use Rattle.miette_json.specs.rules.Reads.{AlwaysReads, CauseAlwaysReads, AllAlwaysRead}
+use Rattle.miette_graphical.specs.rules.Settings.{Settings}
+use Rattle.miette_narrated.specs.rules.Answered as told
+use Rattle.miette_narrated.specs.rules.Report.{Answers, RelatedAnswers, related_answers, first_answers, later_answers}
 
 abbrev Reads : Option Source → Type 0
 Reads source = IfSome source (λ s. s.always_reads ≡ true)

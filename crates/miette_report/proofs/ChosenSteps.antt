@@ -1,23 +1,23 @@
 -- Steps from the handler that was chosen to the text that the settings ask for.
 use Rattle.std.proofs.Common.{◌≡◌, ℕ, Bool, List, length, ◌++◌, ◌∙◌, Option, None, Some, IfSome, Result, Ok, Err, IfOk, OnOk, IsUtf8, String, string_bytes, true, false, encode_utf8_all, refl, sym, subst}
 use Rattle.std.proofs.lemmas.List.{append_cancel_left}
-use Rattle.miette.specs.Options.{Options}
+use Rattle.miette.specs.rules.Options.{Options}
 use Rattle.miette.specs.declared.options.handler.MietteHandler.TheVariants as handler
 use Rattle.miette_style.specs.declared.theme.Terminal.{Terminal}
-use Rattle.miette_tree.specs.Tree.{Tree}
-use Rattle.miette_narrated.specs.Answered.{report_accepted, report_reads, Appends}
-use Rattle.miette_narrated.specs.Report as narrated
-use Rattle.miette_graphical.specs.Answers.{unlisted}
-use Rattle.miette_tree.specs.Handler.{AppendsOne}
-use Rattle.miette_graphical.specs.Printed.{all_read, printed}
-use Rattle.miette_json.specs.Reads.{AlwaysReads}
-use Rattle.miette_graphical.specs.Answered as drawn
-use Rattle.miette_graphical.specs.Handling.{Handling, draws_plain}
-use Rattle.miette_graphical.specs.Snippets.{drawn_rows}
-use Rattle.miette_graphical.specs.Text.{report_text}
-use Rattle.miette_report.specs.Chosen.{IsAsked, IsGiven, MayRefuse, Stays}
-use Rattle.miette_description.specs.Description.{tree_for}
-use Rattle.miette_report.specs.Job.{IsBuiltText, IsJobText, IsNarrating, IsRefused, Writes}
+use Rattle.miette_tree.specs.rules.Tree.{Tree}
+use Rattle.miette_narrated.specs.rules.Answered.{report_accepted, report_reads, Appends}
+use Rattle.miette_narrated.specs.rules.Report as narrated
+use Rattle.miette_graphical.specs.rules.Answers.{unlisted}
+use Rattle.miette_tree.specs.views.Handler.{AppendsOne}
+use Rattle.miette_graphical.specs.rules.Printed.{all_read, printed}
+use Rattle.miette_json.specs.rules.Reads.{AlwaysReads}
+use Rattle.miette_graphical.specs.rules.Answered as drawn
+use Rattle.miette_graphical.specs.views.Handling.{Handling, draws_plain}
+use Rattle.miette_graphical.specs.rules.Snippets.{drawn_rows}
+use Rattle.miette_graphical.specs.rules.Text.{report_text}
+use Rattle.miette_report.specs.rules.Chosen.{IsAsked, IsGiven, MayRefuse, Stays}
+use Rattle.miette_description.specs.rules.Description.{tree_for}
+use Rattle.miette_report.specs.rules.Job.{IsBuiltText, IsJobText, IsNarrating, IsRefused, Writes}
 use Rattle.miette_report.specs.declared.chosen.Chosen.{Chosen}
 use Rattle.miette_report.specs.declared.chosen.Chosen.TheVariants as chosen
 use Rattle.miette_report.specs.declared.settings.Choice.{Choice}

@@ -1,7 +1,7 @@
 -- Steps of reading a device to its end and of writing to one.
 use Rattle.std.proofs.Common.{◌≡◌, ℕ, ◌⊎◌, ◌↔◌, ◌++◌, ◌-◌, List, Option, Some, None, Result, Ok, Err, Bool, true, false, IsTrue, IfSome, length, take, drop, refl, sym, ◌∙◌, ap, append-nil, append_assoc, take-append-drop}
 use Rattle.std.specs.Io.KnownBytes.{Consumes, IsAtEnd}
-use Rattle.miette_report.specs.Device.{IsWriteFault}
+use Rattle.miette_report.specs.views.Device.{IsWriteFault}
 use Rattle.std.proofs.Common.{inl, inr}
 use Rattle.std.proofs.Math.Seq.{take-length}
 use Rattle.std.proofs.lemmas.List.{length-drop}

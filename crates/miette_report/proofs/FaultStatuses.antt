@@ -1,6 +1,6 @@
 -- Which fault has which status.
 use Rattle.std.proofs.Common.{◌≡◌, ℕ, ◌↔◌, Result, Err, sym, ◌∙◌, arith}
-use Rattle.miette_report.specs.Faults.{status_of}
+use Rattle.miette_report.specs.rules.Faults.{status_of}
 use Rattle.miette_report.specs.declared.draw.Fault.{Fault}
 use Rattle.miette_report.specs.declared.draw.Fault.TheVariants.{Usage, Memory, Read, Write}
 

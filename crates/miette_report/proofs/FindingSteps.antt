@@ -6,13 +6,13 @@ use Rattle.std.specs.Option.{option_and_then, option_map, option_map_or}
 use Rattle.std.proofs.lemmas.Bool.Decides.{nat_tests}
 use Rattle.std.proofs.lemmas.List.{drop_all, take_rest}
 use Rattle.std.proofs.lemmas.List.Folds.{length-prefix_len}
-use Rattle.miette_protocol.specs.Lines.{Line}
-use Rattle.miette_protocol.specs.Meaning.{Label}
-use Rattle.miette_lines.specs.Cells.{Cell}
+use Rattle.miette_protocol.specs.rules.Lines.{Line}
+use Rattle.miette_protocol.specs.views.Meaning.{Label}
+use Rattle.miette_lines.specs.rules.Cells.{Cell}
 use Rattle.miette_lines.specs.declared.line_sweep.SweptLine.{SweptLine}
-use Rattle.miette_lines.specs.TextLines.{line_of_text}
-use Rattle.miette_lines.specs.Swept.{LiesIn}
-use Rattle.miette_report.specs.Findings.{ending_blanks, finding, is_blank, misplaced_tab, overlong, tab_after_space, tab_behind, too_wide, trailing}
+use Rattle.miette_lines.specs.views.TextLines.{line_of_text}
+use Rattle.miette_lines.specs.views.Swept.{LiesIn}
+use Rattle.miette_report.specs.rules.Findings.{ending_blanks, finding, is_blank, misplaced_tab, overlong, tab_after_space, tab_behind, too_wide, trailing}
 
 pub item_lies : (start size : ℕ) (lines : List SweptLine) (i : ℕ) (it : SweptLine) → All (LiesIn start size) lines → i < length lines → it ≡ get_or lines i it → LiesIn start size it
 item_lies start size lines i it h lt is = subst (λ (l : SweptLine). LiesIn start size l) (sym is) (h i it lt)

@@ -2,11 +2,11 @@
 use Rattle.std.proofs.Common.{◌≡◌, ℕ, ◌<◌, ◌↔◌, Bool, true, false, eqb, eqb-true, List, [], ◌∷◌, length, Option, Some, None, Result, Ok, Err, IfOk, IfSome, arith, sym, ◌∙◌, subst}
 use Rattle.std.proofs.lemmas.Bool.Decides.{nat_tests}
 use Rattle.std.proofs.lemmas.List.{nil_from_length}
-use Rattle.miette_protocol.specs.Meaning.{Label, Meaning}
-use Rattle.miette_report.specs.Drawn.{over_input, IsPicture}
-use Rattle.miette_report.specs.Findings.{findings_of}
-use Rattle.miette_report.specs.Linted.{warning, IsClean, CallIsClean, CallLints, IsLinted, Lints}
-use Rattle.miette_report.specs.Words.{AreLintWords, IsNoLintCall}
+use Rattle.miette_protocol.specs.views.Meaning.{Label, Meaning}
+use Rattle.miette_report.specs.views.Drawn.{over_input, IsPicture}
+use Rattle.miette_report.specs.rules.Findings.{findings_of}
+use Rattle.miette_report.specs.views.Linted.{warning, IsClean, CallIsClean, CallLints, IsLinted, Lints}
+use Rattle.miette_report.specs.rules.Words.{AreLintWords, IsNoLintCall}
 
 pub nothing_linted : (name input text : List ℕ) (found : List Label) → found ≡ [] → text ≡ [] → IsLinted name input found text
 nothing_linted name input text found e none = subst (λ f. IsLinted name input f text) (sym e) none

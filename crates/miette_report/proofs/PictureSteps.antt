@@ -1,19 +1,19 @@
 -- Steps of making a picture and of writing it.
 use Rattle.std.proofs.Common.{◌≡◌, ℕ, Bool, List, [], ◌++◌, Option, Some, None, Result, Err, true, false, IfOk, IfSome, refl, sym, ◌∙◌, ap, ap₂, subst, encode_utf8_all, string_bytes, String}
-use Rattle.miette_protocol.specs.Meaning.{Meaning}
+use Rattle.miette_protocol.specs.views.Meaning.{Meaning}
 use Rattle.miette_protocol.specs.declared.error.RenderError.{RenderError}
 use Rattle.miette_protocol.specs.declared.error.RenderError.TheVariants.{Refused}
-use Rattle.miette_tree.specs.Tree.{Tree}
-use Rattle.miette_style.specs.Themes.{no_styles, styles_of, theme_of, unicode_characters}
+use Rattle.miette_tree.specs.rules.Tree.{Tree}
+use Rattle.miette_style.specs.rules.Themes.{no_styles, styles_of, theme_of, unicode_characters}
 use Rattle.miette_style.specs.declared.theme.GraphicalTheme.{GraphicalTheme}
-use Rattle.miette_graphical.specs.Answers.{unlisted}
-use Rattle.miette_graphical.specs.Printed.{all_read, printed}
-use Rattle.miette_graphical.specs.Handling.{Handling, draws_plain, without_highlighter}
-use Rattle.miette_graphical.specs.Settings.{default_settings}
-use Rattle.miette_graphical.specs.Snippets.{drawn_rows}
-use Rattle.miette_graphical.specs.Text.{report_text}
+use Rattle.miette_graphical.specs.rules.Answers.{unlisted}
+use Rattle.miette_graphical.specs.rules.Printed.{all_read, printed}
+use Rattle.miette_graphical.specs.views.Handling.{Handling, draws_plain, without_highlighter}
+use Rattle.miette_graphical.specs.rules.Settings.{default_settings}
+use Rattle.miette_graphical.specs.rules.Snippets.{drawn_rows}
+use Rattle.miette_graphical.specs.rules.Text.{report_text}
 use Rattle.miette_report.proofs.AlwaysRead.{printed-reads}
-use Rattle.miette_report.specs.Drawn.{draw_settings, drawn_tree, over_input, IsPicture, IsReadWhole, Pictures}
+use Rattle.miette_report.specs.views.Drawn.{draw_settings, drawn_tree, over_input, IsPicture, IsReadWhole, Pictures}
 
 abbrev narrow : {H : Type 0} → Handling H → Handling H
 narrow h = record h { settings = record h.settings { width = 80 } }

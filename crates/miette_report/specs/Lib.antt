@@ -1,11 +1,2 @@
-pub mod Marked
-pub mod Device
-pub mod Words
-pub mod Asked
-pub mod Job
-pub mod Chosen
-pub mod Statuses
-pub mod Drawn
-pub mod Faults
-pub mod Findings
-pub mod Linted
+pub mod rules
+pub mod views

@@ -1,10 +1,10 @@
 //! The program `bench`, which renders one report many times: speed is measured by it.
 
 ghost use Rattle.std.specs.Prelude.{◌≡◌, IfOk, IfSome, IsUtf8, OnOk, None, drop, map, string_bytes};
-ghost use Rattle.miette_report.specs.Asked.{choice_in};
-ghost use Rattle.miette_description.specs.Description.{tree_for};
-ghost use Rattle.miette_report.specs.Job.{IsDescription, IsNarrating, IsRefused};
-ghost use Rattle.miette_report.specs.Statuses.{words_status};
+ghost use Rattle.miette_report.specs.rules.Asked.{choice_in};
+ghost use Rattle.miette_description.specs.rules.Description.{tree_for};
+ghost use Rattle.miette_report.specs.rules.Job.{IsDescription, IsNarrating, IsRefused};
+ghost use Rattle.miette_report.specs.rules.Statuses.{words_status};
 
 use crate::device::Device;
 use crate::run::{JobError, rendered_length};

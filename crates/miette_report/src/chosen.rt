@@ -1,10 +1,10 @@
 //! The handler that a job is asked for.
 
 ghost use Rattle.std.specs.Prelude.{◌≡◌, ◌⊎◌, IfOk, OnOk, OnErr, string_bytes};
-ghost use Rattle.miette_tree.specs.Report.{tree_of};
-ghost use Rattle.miette_tree.specs.Handler.{AppendsOne};
-ghost use Rattle.miette_json.specs.Reads.{AlwaysReads};
-ghost use Rattle.miette_report.specs.Chosen.{IsAsked, IsGiven, MayRefuse, Stays};
+ghost use Rattle.miette_tree.specs.views.Report.{tree_of};
+ghost use Rattle.miette_tree.specs.views.Handler.{AppendsOne};
+ghost use Rattle.miette_json.specs.rules.Reads.{AlwaysReads};
+ghost use Rattle.miette_report.specs.rules.Chosen.{IsAsked, IsGiven, MayRefuse, Stays};
 
 use crate::run::JobError;
 use crate::settings::{Choice, Settings};

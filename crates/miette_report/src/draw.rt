@@ -2,9 +2,9 @@
 
 ghost use Rattle.std.specs.Prelude.{◌≡◌, ◌↔◌, ◌<◌, false, IfSome, IsNone, IsTrue, OnOk, OnErr, map, string_bytes};
 ghost use Rattle.std.specs.Io.KnownBytes.{Appends};
-ghost use Rattle.miette_report.specs.Drawn.{CallPictures};
-ghost use Rattle.miette_report.specs.Faults.{status_of, words_fault};
-ghost use Rattle.miette_report.specs.Words.{AreDrawWords, IsNoDrawCall};
+ghost use Rattle.miette_report.specs.views.Drawn.{CallPictures};
+ghost use Rattle.miette_report.specs.rules.Faults.{status_of, words_fault};
+ghost use Rattle.miette_report.specs.rules.Words.{AreDrawWords, IsNoDrawCall};
 
 use crate::device::Device;
 pub use crate::picture::{DrawError, write_picture};
@@ -62,7 +62,7 @@ enum Fault {
 }
 
 impl Fault {
-    ghost use Rattle.miette_report.specs.Faults.{status_of};
+    ghost use Rattle.miette_report.specs.rules.Faults.{status_of};
 
     fn status(&self) -> u8
         ensures { result ≡ status_of self.now }
@@ -83,7 +83,7 @@ impl Fault {
 }
 
 impl From<WordsFault> for Fault {
-    ghost use Rattle.miette_report.specs.Faults.{words_fault};
+    ghost use Rattle.miette_report.specs.rules.Faults.{words_fault};
 
     ghost from_gives = { λ fault it. it ≡ words_fault fault };
 
@@ -96,7 +96,7 @@ impl From<WordsFault> for Fault {
 }
 
 impl From<DrawError> for Fault {
-    ghost use Rattle.miette_report.specs.Faults.{draw_fault};
+    ghost use Rattle.miette_report.specs.rules.Faults.{draw_fault};
 
     ghost from_gives = { λ error it. it ≡ draw_fault error };
 

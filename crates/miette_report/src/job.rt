@@ -1,10 +1,10 @@
 //! The program `job`, over any reader and writers.
 
 ghost use Rattle.std.specs.Prelude.{◌≡◌, IfSome, IsUtf8, None, map, string_bytes};
-ghost use Rattle.miette_report.specs.Asked.{choice_in};
-ghost use Rattle.miette_description.specs.Description.{tree_for};
-ghost use Rattle.miette_report.specs.Job.{IsDescription, IsRefused};
-ghost use Rattle.miette_report.specs.Statuses.{words_status};
+ghost use Rattle.miette_report.specs.rules.Asked.{choice_in};
+ghost use Rattle.miette_description.specs.rules.Description.{tree_for};
+ghost use Rattle.miette_report.specs.rules.Job.{IsDescription, IsRefused};
+ghost use Rattle.miette_report.specs.rules.Statuses.{words_status};
 
 use crate::device::Device;
 pub use crate::run::{JobError, run};

@@ -3,8 +3,8 @@
 ghost use Rattle.std.specs.Prelude.{◌≡◌, ◌↔◌, ◌<◌, false, true, IfOk, IfSome, IsNone, IsTrue, map, string_bytes};
 ghost use Rattle.std.specs.Io.KnownBytes.{Appends};
 ghost use Rattle.miette.specs.Diagnostic.{meaning_of};
-ghost use Rattle.miette_report.specs.Linted.{counted, warning, CallIsClean, CallLints, IsClean, IsLinted, Lints};
-ghost use Rattle.miette_report.specs.Words.{AreLintWords, IsNoLintCall};
+ghost use Rattle.miette_report.specs.views.Linted.{counted, warning, CallIsClean, CallLints, IsClean, IsLinted, Lints};
+ghost use Rattle.miette_report.specs.rules.Words.{AreLintWords, IsNoLintCall};
 
 use crate::device::Device;
 pub use crate::lint_lines::findings;

@@ -3,11 +3,11 @@
 ghost use Rattle.std.specs.Prelude.{◌≡◌, ◌+◌, ◌++◌, ◌<◌, ◌≤◌, ◌^◌, ◌∷◌, [], nat_lt, length, map, decimal, flat_map, position, ◌==◌, slice_range, take_while, find, IfOk, IfSome, OnOk, Some, None, None as Nothing, string_bytes};
 ghost use Rattle.std.specs.List.{All, last_or};
 ghost use Rattle.std.specs.Option.{option_map};
-ghost use Rattle.miette_protocol.specs.Lines.{lines_of};
-ghost use Rattle.miette_lines.specs.TextLines.{line_of_text};
-ghost use Rattle.miette_lines.specs.Swept.{LiesIn};
-ghost use Rattle.miette_lines.specs.Walking.{cell_of};
-ghost use Rattle.miette_report.specs.Findings.{cells_of, ending_blanks, finding, findings_of, is_blank, line_findings, misplaced_tab, overlong, tab_after_space, tab_behind, too_wide, trailing, unended};
+ghost use Rattle.miette_protocol.specs.rules.Lines.{lines_of};
+ghost use Rattle.miette_lines.specs.views.TextLines.{line_of_text};
+ghost use Rattle.miette_lines.specs.views.Swept.{LiesIn};
+ghost use Rattle.miette_lines.specs.views.Walking.{cell_of};
+ghost use Rattle.miette_report.specs.rules.Findings.{cells_of, ending_blanks, finding, findings_of, is_blank, line_findings, misplaced_tab, overlong, tab_after_space, tab_behind, too_wide, trailing, unended};
 
 use itoa::Buffer;
 use miette_lines::cells::{Cell, Walk};

@@ -1,7 +1,7 @@
 //! What each word asks for that a job may be called with.
 
 ghost use Rattle.std.specs.Prelude.{◌≡◌, ◌<◌, length, true, false, IfSome, IsNone, map, string_bytes};
-ghost use Rattle.miette_report.specs.Asked.{chosen_by, choice_in, is_alone, named_choice};
+ghost use Rattle.miette_report.specs.rules.Asked.{chosen_by, choice_in, is_alone, named_choice};
 
 use crate::settings::Choice;
 use crate::words::number;

@@ -4,8 +4,8 @@ ghost use Rattle.std.specs.Prelude.{◌≡◌, ◌↔◌, ◌⊎◌, false, stri
 ghost use Rattle.std.specs.Io.KnownBytes.{Appends};
 ghost use Rattle.miette.specs.Diagnostic.{meaning_of};
 ghost use Rattle.miette.specs.Report.{tree_of};
-ghost use Rattle.miette_report.specs.Device.{TakesBeginning};
-ghost use Rattle.miette_report.specs.Drawn.{drawn_label, drawn_meaning, drawn_tree, over_input, IsPicture, IsReadWhole, Pictures};
+ghost use Rattle.miette_report.specs.views.Device.{TakesBeginning};
+ghost use Rattle.miette_report.specs.views.Drawn.{drawn_label, drawn_meaning, drawn_tree, over_input, IsPicture, IsReadWhole, Pictures};
 
 use crate::device::Device;
 use crate::draw::DrawWords;

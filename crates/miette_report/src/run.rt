@@ -2,11 +2,11 @@
 
 ghost use Rattle.std.specs.Prelude.{◌≡◌, ◌<◌, ◌↔◌, length, ◌⊎◌, false, string_bytes, IsTrue, IsUtf8, IfOk, OnOk, OnErr, IfSome, Some, None};
 ghost use Rattle.std.specs.Io.KnownBytes.{Appends};
-ghost use Rattle.miette_report.specs.Device.{TakesBeginning};
-ghost use Rattle.miette_tree.specs.Report.{tree_of};
-ghost use Rattle.miette_json.specs.Reads.{AlwaysReads};
-ghost use Rattle.miette_description.specs.Description.{tree_for};
-ghost use Rattle.miette_report.specs.Job.{IsDescription, IsNarrating, IsRefused, Writes};
+ghost use Rattle.miette_report.specs.views.Device.{TakesBeginning};
+ghost use Rattle.miette_tree.specs.views.Report.{tree_of};
+ghost use Rattle.miette_json.specs.rules.Reads.{AlwaysReads};
+ghost use Rattle.miette_description.specs.rules.Description.{tree_for};
+ghost use Rattle.miette_report.specs.rules.Job.{IsDescription, IsNarrating, IsRefused, Writes};
 
 use crate::chosen::Chosen;
 use crate::device::Device;

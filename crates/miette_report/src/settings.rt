@@ -1,7 +1,7 @@
 //! What a job is asked for.
 
 ghost use Rattle.std.specs.Prelude.{◌≡◌, IfOk, map, string_bytes};
-ghost use Rattle.miette_report.specs.Asked.{chosen_by, choice_in};
+ghost use Rattle.miette_report.specs.rules.Asked.{chosen_by, choice_in};
 
 use crate::option_words::{Asked, BuildAsked, OptionAsked, TerminalAsked, ThemeAsked, first_asked};
 use crate::words::WordsFault;

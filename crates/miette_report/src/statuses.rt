@@ -1,7 +1,7 @@
 //! How the programs end that fail: a row on the faults, and a status.
 
 ghost use Rattle.std.specs.Prelude.{◌≡◌};
-ghost use Rattle.miette_report.specs.Statuses.{job_status, words_status};
+ghost use Rattle.miette_report.specs.rules.Statuses.{job_status, words_status};
 
 use crate::run::JobError;
 use crate::words::WordsFault;

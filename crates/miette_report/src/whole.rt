@@ -2,7 +2,7 @@
 
 ghost use Rattle.std.specs.Prelude.{◌≡◌, ◌↔◌, false, IsTrue, IsErr, IfOk, OnOk, OnErr, IfSome};
 ghost use Rattle.std.specs.Io.KnownBytes.{Appends};
-ghost use Rattle.miette_report.specs.Device.{TakesBeginning};
+ghost use Rattle.miette_report.specs.views.Device.{TakesBeginning};
 
 use crate::device::Device;
 use std::alloc::Global;

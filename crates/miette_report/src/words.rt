@@ -1,6 +1,6 @@
 //! The words that a program is called with.
 
-ghost use Rattle.miette_report.specs.Words.{IsReadAs};
+ghost use Rattle.miette_report.specs.rules.Words.{IsReadAs};
 
 use std::alloc::{AllocError, Global};
 use std::env;

@@ -1,4 +1,1 @@
-pub mod Styles
-pub mod Themes
-pub mod Pieces
-pub mod Escapes
+pub mod rules

@@ -2,7 +2,7 @@
 
 ghost use Rattle.std.specs.Prelude.{◌≡◌, ℕ, Bool, true, false, IsTrue, IfOk, List, length, All};
 ghost use Rattle.std.specs.Str.{IsCharBoundary};
-ghost use Rattle.miette_style.specs.Pieces.{CutsLine, Piece, ends_from, plain_pieces, total_length};
+ghost use Rattle.miette_style.specs.rules.Pieces.{CutsLine, Piece, ends_from, plain_pieces, total_length};
 
 use crate::style::Style;
 use miette_protocol::source::MietteSpanContents;

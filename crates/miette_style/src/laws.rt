@@ -1,6 +1,6 @@
 //! Laws of comparing and cloning. The functions do nothing; what they ensure is proved.
 ghost use Rattle.std.specs.Prelude.{◌≡◌, ◌↔◌, IsTrue};
-ghost use Rattle.miette_style.specs.Themes.{characters_of, styles_of, theme_of};
+ghost use Rattle.miette_style.specs.rules.Themes.{characters_of, styles_of, theme_of};
 
 use crate::style::{Color, Style};
 use crate::theme::{GraphicalTheme, ThemeCharacters, ThemeStyles};

@@ -37,7 +37,7 @@ pub struct Style {
 }
 
 impl Style {
-    ghost use Rattle.miette_style.specs.Styles.{plain};
+    ghost use Rattle.miette_style.specs.rules.Styles.{plain};
 
     /// The plain style.
     pub fn new() -> Self

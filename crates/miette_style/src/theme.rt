@@ -53,7 +53,7 @@ pub struct ThemeCharacters {
 
 impl ThemeCharacters {
     ghost use Rattle.std.specs.Prelude.{◌≡◌, IfOk};
-    ghost use Rattle.miette_style.specs.Themes.{ascii_characters, characters_of, emoji_characters, unicode_characters};
+    ghost use Rattle.miette_style.specs.rules.Themes.{ascii_characters, characters_of, emoji_characters, unicode_characters};
 
     /// Lines and arrows of Unicode.
     ///
@@ -141,7 +141,7 @@ impl ThemeCharacters {
 // By hand, so that one line says what a clone keeps.
 impl Clone for ThemeCharacters {
     ghost use Rattle.std.specs.Prelude.{◌≡◌};
-    ghost use Rattle.miette_style.specs.Themes.{characters_of};
+    ghost use Rattle.miette_style.specs.rules.Themes.{characters_of};
 
     ghost is_clone = { λ it made. characters_of made ≡ characters_of it };
 
@@ -176,7 +176,7 @@ pub struct ThemeStyles {
 
 impl ThemeStyles {
     ghost use Rattle.std.specs.Prelude.{◌≡◌, IfOk};
-    ghost use Rattle.miette_style.specs.Themes.{ansi_styles, no_styles, rgb_styles, styles_of};
+    ghost use Rattle.miette_style.specs.rules.Themes.{ansi_styles, no_styles, rgb_styles, styles_of};
 
     /// Colours by their red, green and blue parts, for terminals that have 16 million.
     ///
@@ -244,7 +244,7 @@ impl ThemeStyles {
 
 impl Clone for ThemeStyles {
     ghost use Rattle.std.specs.Prelude.{◌≡◌};
-    ghost use Rattle.miette_style.specs.Themes.{styles_of};
+    ghost use Rattle.miette_style.specs.rules.Themes.{styles_of};
 
     ghost is_clone = { λ it made. styles_of made ≡ styles_of it };
 
@@ -288,7 +288,7 @@ pub struct GraphicalTheme {
 
 impl GraphicalTheme {
     ghost use Rattle.std.specs.Prelude.{◌≡◌, IfOk};
-    ghost use Rattle.miette_style.specs.Themes.{ansi_styles, ascii_characters, no_styles, terminal_theme, theme_of, unicode_characters};
+    ghost use Rattle.miette_style.specs.rules.Themes.{ansi_styles, ascii_characters, no_styles, terminal_theme, theme_of, unicode_characters};
 
     fn new(characters: ThemeCharacters, styles: ThemeStyles) -> Self
         ensures { result ≡ record { characters = characters; styles = styles } }
@@ -356,7 +356,7 @@ impl GraphicalTheme {
 
 impl Clone for GraphicalTheme {
     ghost use Rattle.std.specs.Prelude.{◌≡◌};
-    ghost use Rattle.miette_style.specs.Themes.{theme_of};
+    ghost use Rattle.miette_style.specs.rules.Themes.{theme_of};
 
     ghost is_clone = { λ it made. theme_of made ≡ theme_of it };
 

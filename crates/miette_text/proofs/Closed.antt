@@ -2,10 +2,10 @@
 use Rattle.std.proofs.Common.{◌≡◌, ℕ, ◌+◌, Bool, true, false, ◌&&◌, ◌||◌, ◌==◌, nat_lt, min, List, [], ◌∷◌, ◌++◌, map, flat_map, refl, sym, ap, ap₂, ◌∙◌, subst, arith, eqb-true, append_assoc, append-nil, if◌then◌else◌, ◌⊎◌, inl, inr}
 use Rattle.std.proofs.lemmas.Bool.Decides.{nat_tests}
 use Rattle.std.proofs.lemmas.List.Concat.{flat_map-append}
-use Rattle.miette_text.specs.Sequences.{Token, Character, Sequence, tokens, is_line_feed}
-use Rattle.miette_style.specs.Escapes.{is_escape}
-use Rattle.miette_text.specs.Tame.{State, Free, Escaped, Opened, Waiting, Broken, step, state_behind, AreTame, IsTame, is_colour, is_link, is_nil}
-use Rattle.miette_text.specs.Wrapping.{Cell, Piece, Word, Layout, on_first, with_mark, with_code, no_characters, pieces, cell_tokens, width, columns, is_space, with_letter, with_space, words, onto, is_alphanumeric, begins_alphanumeric, hyphen_parts, broken, with_spaces, first_room, further_room, hyphenated, narrowed, parts, piece_words, word_cells, rows_behind, rows, only_spaces, trimmed, row_tokens, with_rest, piece_rows, text_rows, line_feed, joined, filled, all_white, piece_tokens, indented, last_indented, whole_pieces, unwrapped, wrapped_tokens}
+use Rattle.miette_text.specs.rules.Sequences.{Token, Character, Sequence, tokens, is_line_feed}
+use Rattle.miette_style.specs.rules.Escapes.{is_escape}
+use Rattle.miette_text.specs.rules.Tame.{State, Free, Escaped, Opened, Waiting, Broken, step, state_behind, AreTame, IsTame, is_colour, is_link, is_nil}
+use Rattle.miette_text.specs.rules.Wrapping.{Cell, Piece, Word, Layout, on_first, with_mark, with_code, no_characters, pieces, cell_tokens, width, columns, is_space, with_letter, with_space, words, onto, is_alphanumeric, begins_alphanumeric, hyphen_parts, broken, with_spaces, first_room, further_room, hyphenated, narrowed, parts, piece_words, word_cells, rows_behind, rows, only_spaces, trimmed, row_tokens, with_rest, piece_rows, text_rows, line_feed, joined, filled, all_white, piece_tokens, indented, last_indented, whole_pieces, unwrapped, wrapped_tokens}
 use Rattle.miette_text.proofs.Parsing.{broken_stays}
 
 -- ---- states

@@ -3,9 +3,9 @@ use Rattle.std.proofs.Common.{◌≡◌, ℕ, ◌+◌, ◌-◌, Bool, true, fals
 use Rattle.std.specs.Char.{is_whitespace}
 use Rattle.std.proofs.lemmas.Bool.Decides.{nat_tests}
 use Rattle.std.proofs.lemmas.List.{map-append}
-use Rattle.miette_text.specs.Sequences.{Token, Character, Sequence, tokens, is_line_feed}
-use Rattle.miette_text.specs.Tame.{is_colour}
-use Rattle.miette_text.specs.Wrapping.{Cell, Piece, Word, Layout, on_first, with_mark, with_code, no_characters, pieces, cell_tokens, width, columns, token_width, columns_of, is_space, with_letter, with_space, words, onto, is_alphanumeric, begins_alphanumeric, hyphen_parts, broken, with_spaces, first_room, further_room, hyphenated, narrowed, parts, piece_words, word_cells, rows_behind, rows, only_spaces, trimmed, row_tokens, with_rest, piece_rows, text_rows, line_feed, joined, filled, all_white, piece_tokens, indented, last_indented, whole_pieces, unwrapped, wrapped_tokens}
+use Rattle.miette_text.specs.rules.Sequences.{Token, Character, Sequence, tokens, is_line_feed}
+use Rattle.miette_text.specs.rules.Tame.{is_colour}
+use Rattle.miette_text.specs.rules.Wrapping.{Cell, Piece, Word, Layout, on_first, with_mark, with_code, no_characters, pieces, cell_tokens, width, columns, token_width, columns_of, is_space, with_letter, with_space, words, onto, is_alphanumeric, begins_alphanumeric, hyphen_parts, broken, with_spaces, first_room, further_room, hyphenated, narrowed, parts, piece_words, word_cells, rows_behind, rows, only_spaces, trimmed, row_tokens, with_rest, piece_rows, text_rows, line_feed, joined, filled, all_white, piece_tokens, indented, last_indented, whole_pieces, unwrapped, wrapped_tokens}
 use Rattle.miette_text.proofs.Erased.{erased}
 
 abbrev pub kept : List (List ℕ) → List (List ℕ)

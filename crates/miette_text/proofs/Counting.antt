@@ -2,7 +2,7 @@
 use Rattle.std.proofs.Common.{◌≡◌, ℕ, zero, suc, ◌+◌, ◌<◌, ◌≤◌, true, false, List, [], ◌∷◌, ◌++◌, length, take, drop, get_or, refl, sym, ap, ◌∙◌, arith, append_assoc, drop-drop}
 use Rattle.std.proofs.lemmas.Bool.Decides.{nat_tests}
 use Rattle.std.proofs.lemmas.List.{drop_more}
-use Rattle.miette_text.specs.Sequences.{control_len, command_len, one_more, is_final, is_line_feed, is_bell, begins_terminator, sequence_len, Token, Character, Sequence, tokens, tokens_behind}
+use Rattle.miette_text.specs.rules.Sequences.{control_len, command_len, one_more, is_final, is_line_feed, is_bell, begins_terminator, sequence_len, Token, Character, Sequence, tokens, tokens_behind}
 
 -- i more, where there is any
 abbrev pub counted : ℕ → ℕ → ℕ

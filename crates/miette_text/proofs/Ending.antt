@@ -1,10 +1,10 @@
 -- The first word, and a row without its last spaces.
 use Rattle.std.proofs.Common.{◌≡◌, ℕ, suc, Bool, true, false, not, ◌&&◌, List, [], ◌∷◌, ◌++◌, length, take, drop, refl, sym, ap, ap₂, ◌∙◌, append_assoc, if◌then◌else◌}
-use Rattle.miette_text.specs.Sequences.{flat}
-use Rattle.miette_text.specs.Wrapping.{Cell, Word, words, with_space, with_letter, is_space}
-use Rattle.miette_text.specs.Printing.{all_spaces, shown}
-use Rattle.miette_text.specs.WholeText.{piece_text}
-use Rattle.miette_text.specs.Ends.{bare_len, marks_text}
+use Rattle.miette_text.specs.rules.Sequences.{flat}
+use Rattle.miette_text.specs.rules.Wrapping.{Cell, Word, words, with_space, with_letter, is_space}
+use Rattle.miette_text.specs.steps.Printing.{all_spaces, shown}
+use Rattle.miette_text.specs.steps.WholeText.{piece_text}
+use Rattle.miette_text.specs.steps.Ends.{bare_len, marks_text}
 
 -- ---- the first word
 

@@ -1,9 +1,9 @@
 -- What `fill` appends, without its colours.
 use Rattle.std.proofs.Common.{◌≡◌, ℕ, List, ◌++◌, ap, ◌∙◌, encode_utf8_all, Result, Ok, Err, OnOk}
-use Rattle.miette_text.specs.Sequences.{erase}
-use Rattle.miette_text.specs.Tame.{colourless}
-use Rattle.miette_text.specs.Wrapping.{Layout, wrapped}
-use Rattle.miette_text.specs.Filling.{AppendsErasing, AreColoured}
+use Rattle.miette_text.specs.rules.Sequences.{erase}
+use Rattle.miette_text.specs.rules.Tame.{colourless}
+use Rattle.miette_text.specs.rules.Wrapping.{Layout, wrapped}
+use Rattle.miette_text.specs.views.Filling.{AppendsErasing, AreColoured}
 use Rattle.miette_text.proofs.Encoding.{erase-encode}
 use Rattle.miette_text.proofs.Erasing.{erase-wrapped}
 use Rattle.miette_text.proofs.Coloured.{coloured-tame}

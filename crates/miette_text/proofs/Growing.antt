@@ -3,8 +3,8 @@ use Rattle.std.proofs.Common.{◌≡◌, ℕ, suc, ◌+◌, ◌<◌, ◌≤◌, 
 use Rattle.std.proofs.lemmas.Bool.Decides.{nat_tests}
 use Rattle.std.proofs.lemmas.List.{map-append}
 use Rattle.std.proofs.lemmas.List.Elements.{All-head, All-tail, All-weaker, All-push}
-use Rattle.miette_text.specs.Sequences.{Token, Character, Sequence, spell}
-use Rattle.miette_text.specs.Woven.{mark_token, upto, beyond, woven, AreWithin}
+use Rattle.miette_text.specs.rules.Sequences.{Token, Character, Sequence, spell}
+use Rattle.miette_text.specs.views.Woven.{mark_token, upto, beyond, woven, AreWithin}
 use Rattle.miette_text.specs.declared.runs.sign.Mark.{Mark}
 use Rattle.miette_text.proofs.Joining.{spell-append}
 use Rattle.miette_text.proofs.Weaving.{woven-none}

@@ -1,8 +1,8 @@
 -- What the rows of the rules spell.
 use Rattle.std.proofs.Common.{◌≡◌, ℕ, true, false, not, ◌&&◌, List, [], ◌∷◌, ◌++◌, map, flat_map, refl, sym, ap, ap₂, ◌∙◌, append_assoc, append-nil, if◌then◌else◌}
-use Rattle.miette_text.specs.Sequences.{flat, Token, Character, Sequence, spell, spelling}
-use Rattle.miette_text.specs.Wrapping.{Cell, Word, is_space, cell_tokens, trimmed, only_spaces, row_tokens, with_rest, joined, line_feed}
-use Rattle.miette_text.specs.Printing.{all_spaces, shown, lines_of, behind, joined_lines, row_cells}
+use Rattle.miette_text.specs.rules.Sequences.{flat, Token, Character, Sequence, spell, spelling}
+use Rattle.miette_text.specs.rules.Wrapping.{Cell, Word, is_space, cell_tokens, trimmed, only_spaces, row_tokens, with_rest, joined, line_feed}
+use Rattle.miette_text.specs.steps.Printing.{all_spaces, shown, lines_of, behind, joined_lines, row_cells}
 
 -- ---- what rows spell
 

@@ -1,11 +1,11 @@
 -- A text, line by line.
 use Rattle.std.proofs.Common.{◌≡◌, ℕ, suc, ◌+◌, ◌-◌, ◌<◌, ◌≤◌, min, Bool, true, false, List, [], ◌∷◌, ◌++◌, map, flat_map, length, take, drop, refl, sym, ap, ap₂, ◌∙◌, append_assoc, append-nil, if◌then◌else◌, arith, eqb-true}
-use Rattle.miette_text.specs.Sequences.{Token, Character, Sequence, is_line_feed, flat, spell}
-use Rattle.miette_text.specs.Wrapping.{Cell, Piece, Word, columns_of, on_first, with_mark, with_code, no_characters, pieces, onto, rows, rows_behind, columns, word_cells, words}
-use Rattle.miette_text.specs.Filling.{filled_under, lines_from, parts_with}
-use Rattle.miette_text.specs.Printing.{behind, joined_lines, lines_of, row_cells, shown}
-use Rattle.miette_text.specs.Ends.{line_len}
-use Rattle.miette_text.specs.Woven.{beyond, cells_at, left_at, mark_text, mark_token, marks_spelled, upto, woven}
+use Rattle.miette_text.specs.rules.Sequences.{Token, Character, Sequence, is_line_feed, flat, spell}
+use Rattle.miette_text.specs.rules.Wrapping.{Cell, Piece, Word, columns_of, on_first, with_mark, with_code, no_characters, pieces, onto, rows, rows_behind, columns, word_cells, words}
+use Rattle.miette_text.specs.views.Filling.{filled_under, lines_from, parts_with}
+use Rattle.miette_text.specs.steps.Printing.{behind, joined_lines, lines_of, row_cells, shown}
+use Rattle.miette_text.specs.steps.Ends.{line_len}
+use Rattle.miette_text.specs.views.Woven.{beyond, cells_at, left_at, mark_text, mark_token, marks_spelled, upto, woven}
 use Rattle.miette_text.specs.declared.runs.sign.Mark.{Mark}
 use Rattle.miette_text.proofs.WovenCells.{spelled-flat}
 

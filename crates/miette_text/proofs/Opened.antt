@@ -2,8 +2,8 @@
 use Rattle.std.proofs.Common.{◌≡◌, ℕ, zero, suc, ◌+◌, ◌<◌, Bool, true, false, ◌==◌, List, [], ◌∷◌, length, drop, get_or, refl, sym, ap, ◌∙◌, arith, drop-drop, if◌then◌else◌}
 use Rattle.std.proofs.lemmas.Bool.Decides.{nat_tests}
 use Rattle.std.proofs.lemmas.List.{drop_more}
-use Rattle.miette_text.specs.Sequences.{control_len, command_len, one_more, is_final, is_line_feed, begins_command, after_escape_len, sequence_len}
-use Rattle.miette_style.specs.Escapes.{is_escape}
+use Rattle.miette_text.specs.rules.Sequences.{control_len, command_len, one_more, is_final, is_line_feed, begins_command, after_escape_len, sequence_len}
+use Rattle.miette_style.specs.rules.Escapes.{is_escape}
 
 none_more : (n : ℕ) → one_more n ≡ 0 → n ≡ 0
 none_more zero h = refl

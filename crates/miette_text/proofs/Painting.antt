@@ -4,10 +4,10 @@ use Rattle.std.proofs.lemmas.Bool.{and_parts}
 use Rattle.std.proofs.lemmas.Bool.Decides.{nat_tests}
 use Rattle.std.proofs.lemmas.Str.{encode_ascii, encodes-chars}
 use Rattle.std.specs.Str.{IsUtf8, chars}
-use Rattle.miette_text.specs.Runs.{behind_separators, colour_start, colour_stop, flag, foreground, foreground_codes, printed_run, separated, style_codes}
-use Rattle.miette_style.specs.Escapes.{is_escape}
-use Rattle.miette_text.specs.Tame.{is_colour, is_colour_end, is_nil}
-use Rattle.miette_text.specs.Woven.{further_codes}
+use Rattle.miette_text.specs.rules.Runs.{behind_separators, colour_start, colour_stop, flag, foreground, foreground_codes, printed_run, separated, style_codes}
+use Rattle.miette_style.specs.rules.Escapes.{is_escape}
+use Rattle.miette_text.specs.rules.Tame.{is_colour, is_colour_end, is_nil}
+use Rattle.miette_text.specs.views.Woven.{further_codes}
 use Rattle.miette_style.specs.declared.style.Color.{Color}
 use Rattle.miette_style.specs.declared.style.Style.{Style}
 use Rattle.miette_text.proofs.Printing.{start_colour}

@@ -2,9 +2,9 @@
 use Rattle.std.proofs.Common.{◌≡◌, ℕ, zero, suc, ◌+◌, ◌<◌, Bool, true, false, ◌&&◌, ◌==◌, nat_lt, List, [], ◌∷◌, ◌++◌, flat_map, length, take, drop, refl, sym, ap, ap₂, ◌∙◌, if◌then◌else◌, arith, drop-drop, zero-add, eqb-true}
 use Rattle.std.proofs.lemmas.Bool.Decides.{nat_tests}
 use Rattle.std.proofs.lemmas.List.{drop-map}
-use Rattle.miette_text.specs.Wrapping.{Cell, Word, width, onto, words, is_space, is_alphanumeric, begins_alphanumeric, broken, with_spaces}
-use Rattle.miette_text.specs.Filling.{maybe_broken, parts_with}
-use Rattle.miette_text.specs.Ends.{codes_of, begins_word, part_len, gap_len, code_behind, hyphenated_behind, words_behind}
+use Rattle.miette_text.specs.rules.Wrapping.{Cell, Word, width, onto, words, is_space, is_alphanumeric, begins_alphanumeric, broken, with_spaces}
+use Rattle.miette_text.specs.views.Filling.{maybe_broken, parts_with}
+use Rattle.miette_text.specs.steps.Ends.{codes_of, begins_word, part_len, gap_len, code_behind, hyphenated_behind, words_behind}
 use Rattle.miette_text.proofs.Ending.{letters_len, spaces_len, words-first}
 
 -- ---- cuts at hyphens, and where a part is too wide, in one recursion

@@ -2,15 +2,15 @@
 use Rattle.std.proofs.Common.{◌≡◌, ℕ, zero, suc, ◌/◌, ◌<◌, Bool, true, false, not, ◌&&◌, ◌||◌, ◌==◌, List, [], ◌∷◌, ◌++◌, map, refl, sym, ap, ap₂, ◌∙◌, arith, eqb-true, append_assoc, append-nil, if◌then◌else◌, decimal, codes, Option, Some, None, ◌⊎◌, inl, inr, ◌%◌}
 use Rattle.std.proofs.lemmas.Bool.{and_parts}
 use Rattle.std.proofs.lemmas.Bool.Decides.{nat_tests}
-use Rattle.miette_text.specs.Sequences.{Token, Character, Sequence, tokens, spell, erase, is_line_feed, is_bell, is_parameter}
-use Rattle.miette_style.specs.Escapes.{is_escape}
-use Rattle.miette_text.specs.Tame.{Free, Opened, Waiting, Broken, step, state_behind, AreTame, IsTame, is_colour, is_colour_end, is_link, is_link_end}
-use Rattle.miette_style.specs.Escapes.{no_escape}
-use Rattle.miette_style.specs.Styles.{plain}
+use Rattle.miette_text.specs.rules.Sequences.{Token, Character, Sequence, tokens, spell, erase, is_line_feed, is_bell, is_parameter}
+use Rattle.miette_style.specs.rules.Escapes.{is_escape}
+use Rattle.miette_text.specs.rules.Tame.{Free, Opened, Waiting, Broken, step, state_behind, AreTame, IsTame, is_colour, is_colour_end, is_link, is_link_end}
+use Rattle.miette_style.specs.rules.Escapes.{no_escape}
+use Rattle.miette_style.specs.rules.Styles.{plain}
 use Rattle.miette_style.specs.declared.style.Color.{Color}
 use Rattle.miette_style.specs.declared.style.Color.TheVariants.{Red, Green, Yellow, Blue, Magenta, Cyan, Rgb}
 use Rattle.miette_style.specs.declared.style.Style.{Style}
-use Rattle.miette_text.specs.Runs.{foreground, foreground_codes, flag, style_codes, separated, colour_start, colour_stop, Run, Styled, LinkTo, LinkEnd, printed_run, link_start, printed, print, HaveNoEscape, plain_run, HasNoEscape, behind_separators}
+use Rattle.miette_text.specs.rules.Runs.{foreground, foreground_codes, flag, style_codes, separated, colour_start, colour_stop, Run, Styled, LinkTo, LinkEnd, printed_run, link_start, printed, print, HaveNoEscape, plain_run, HasNoEscape, behind_separators}
 use Rattle.std.specs.Fmt.{digit_glyph, digits, digits_onto}
 use Rattle.miette_text.proofs.Erased.{erased}
 use Rattle.miette_text.proofs.Parsing.{tokens-spell, erase-spell}

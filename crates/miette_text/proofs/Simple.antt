@@ -1,11 +1,11 @@
 -- The code's lines are those of the rules.
 use Rattle.std.proofs.Common.{◌≡◌, ℕ, min, Bool, true, false, List, [], ◌∷◌, ◌++◌, map, flat_map, refl, sym, ap, ap₂, ◌∙◌, append_assoc, if◌then◌else◌}
 use Rattle.std.proofs.lemmas.List.{map-append}
-use Rattle.miette_text.specs.Sequences.{Token, Character, Sequence, tokens, spell, flat}
-use Rattle.miette_text.specs.Wrapping.{Layout, Cell, Piece, pieces, rows, piece_words, piece_rows, text_rows, first_room, further_room, filled, cell_tokens, piece_tokens, indented, last_indented, all_white, trimmed, wrapped}
-use Rattle.miette_text.specs.Printing.{lines_of, row_cells, joined_lines}
-use Rattle.miette_text.specs.Filling.{laid_out, layout_with, lines_from}
-use Rattle.miette_text.specs.WholeText.{piece_text, indent_text}
+use Rattle.miette_text.specs.rules.Sequences.{Token, Character, Sequence, tokens, spell, flat}
+use Rattle.miette_text.specs.rules.Wrapping.{Layout, Cell, Piece, pieces, rows, piece_words, piece_rows, text_rows, first_room, further_room, filled, cell_tokens, piece_tokens, indented, last_indented, all_white, trimmed, wrapped}
+use Rattle.miette_text.specs.steps.Printing.{lines_of, row_cells, joined_lines}
+use Rattle.miette_text.specs.views.Filling.{laid_out, layout_with, lines_from}
+use Rattle.miette_text.specs.steps.WholeText.{piece_text, indent_text}
 use Rattle.miette_text.proofs.Joining.{spell-rows, spell-joined, spell-append, spell-marks}
 
 piece_lines : (l : Layout) (n : ℕ) (p : Piece) → map spell (piece_rows l n p) ≡ lines_of p.rest (map row_cells (rows n (further_room l) (piece_words l p)))

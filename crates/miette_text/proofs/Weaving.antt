@@ -2,11 +2,11 @@
 use Rattle.std.proofs.Common.{◌≡◌, ℕ, zero, suc, ◌+◌, ◌-◌, ◌<◌, ◌≤◌, List, [], ◌∷◌, ◌++◌, map, length, length-drop, min, take, drop, drop-drop, get_or, refl, sym, ap, ap₂, ◌∙◌, arith, append_assoc, append-nil}
 use Rattle.std.proofs.lemmas.Bool.Decides.{nat_tests}
 use Rattle.std.proofs.lemmas.List.{drop_more}
-use Rattle.miette_text.specs.Ends.{marks_text, plain_cell, plain_cells}
-use Rattle.miette_text.specs.Sequences.{Token, Character, spell, flat}
-use Rattle.miette_text.specs.WholeText.{piece_text}
-use Rattle.miette_text.specs.Wrapping.{Cell}
-use Rattle.miette_text.specs.Woven.{mark_text, mark_token, upto, beyond, woven, cells_at, left_at, marks_spelled}
+use Rattle.miette_text.specs.steps.Ends.{marks_text, plain_cell, plain_cells}
+use Rattle.miette_text.specs.rules.Sequences.{Token, Character, spell, flat}
+use Rattle.miette_text.specs.steps.WholeText.{piece_text}
+use Rattle.miette_text.specs.rules.Wrapping.{Cell}
+use Rattle.miette_text.specs.views.Woven.{mark_text, mark_token, upto, beyond, woven, cells_at, left_at, marks_spelled}
 use Rattle.miette_text.specs.declared.runs.sign.Mark.{Mark}
 use Rattle.miette_text.proofs.Appending.{appended}
 

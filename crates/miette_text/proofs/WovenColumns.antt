@@ -1,10 +1,10 @@
 -- Signs have no columns.
 use Rattle.std.proofs.Common.{◌≡◌, ℕ, suc, ◌+◌, List, [], ◌∷◌, map, refl, sym, ap, ap₂, ◌∙◌, zero-add}
 use Rattle.std.proofs.lemmas.List.Sums.{sum_by-append, sum_by-cons}
-use Rattle.miette_text.specs.Ends.{code_columns}
-use Rattle.miette_text.specs.Sequences.{Character}
-use Rattle.miette_text.specs.Woven.{beyond, mark_token, upto, woven}
-use Rattle.miette_text.specs.Wrapping.{columns_of, token_width, width}
+use Rattle.miette_text.specs.steps.Ends.{code_columns}
+use Rattle.miette_text.specs.rules.Sequences.{Character}
+use Rattle.miette_text.specs.views.Woven.{beyond, mark_token, upto, woven}
+use Rattle.miette_text.specs.rules.Wrapping.{columns_of, token_width, width}
 use Rattle.miette_text.specs.declared.runs.sign.Mark.{Mark}
 
 signs-columns : (ms : List Mark) → columns_of (map mark_token ms) ≡ 0

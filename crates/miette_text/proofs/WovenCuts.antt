@@ -4,11 +4,11 @@ use Rattle.std.proofs.lemmas.Bool.{and_parts}
 use Rattle.std.proofs.lemmas.Bool.Decides.{nat_tests}
 use Rattle.std.proofs.lemmas.List.{drop_more, take_all}
 use Rattle.std.proofs.lemmas.List.Elements.{All-map, All-weaker}
-use Rattle.miette_text.specs.Cutting.{cut_end, cut_front, only_feeds}
-use Rattle.miette_text.specs.Feeds.{are_colours, capped, feeds_len, kept_len, lowered}
-use Rattle.miette_text.specs.Sequences.{Token, Character, is_line_feed}
-use Rattle.miette_text.specs.Tame.{is_colour}
-use Rattle.miette_text.specs.Woven.{AreWithin, beyond, mark_text, mark_token, upto, woven}
+use Rattle.miette_text.specs.rules.Cutting.{cut_end, cut_front, only_feeds}
+use Rattle.miette_text.specs.steps.Feeds.{are_colours, capped, feeds_len, kept_len, lowered}
+use Rattle.miette_text.specs.rules.Sequences.{Token, Character, is_line_feed}
+use Rattle.miette_text.specs.rules.Tame.{is_colour}
+use Rattle.miette_text.specs.views.Woven.{AreWithin, beyond, mark_text, mark_token, upto, woven}
 use Rattle.miette_text.specs.declared.runs.sign.Mark.{Mark}
 use Rattle.miette_text.proofs.Weaving.{woven-near}
 use Rattle.miette_text.proofs.WovenWhole.{upto-beyond}

@@ -1,10 +1,10 @@
 -- The rows of a line, from the front.
 use Rattle.std.proofs.Common.{◌≡◌, ℕ, ◌+◌, ◌<◌, ◌≤◌, Bool, List, [], ◌∷◌, ◌++◌, map, length, take, drop, refl, ap, ap₂, ◌∙◌, append-nil, arith, length-drop}
 use Rattle.std.proofs.Math.ListN.{drop_of_length-le}
-use Rattle.miette_text.specs.Wrapping.{Cell, rows}
-use Rattle.miette_text.specs.Printing.{joined_lines, lines_of, row_cells, shown}
-use Rattle.miette_text.specs.Ends.{code_behind, words_behind, rows_left, IsFirstRow}
-use Rattle.miette_text.specs.Woven.{cells_at, left_at}
+use Rattle.miette_text.specs.rules.Wrapping.{Cell, rows}
+use Rattle.miette_text.specs.steps.Printing.{joined_lines, lines_of, row_cells, shown}
+use Rattle.miette_text.specs.steps.Ends.{code_behind, words_behind, rows_left, IsFirstRow}
+use Rattle.miette_text.specs.views.Woven.{cells_at, left_at}
 use Rattle.miette_text.specs.declared.runs.sign.Mark.{Mark}
 use Rattle.miette_text.proofs.LineWise.{rows-some}
 use Rattle.miette_text.proofs.WovenCells.{cells-codes, cells-take, cells-drop}

@@ -2,9 +2,9 @@
 //! between them until they are printed.
 
 ghost use Rattle.std.specs.Prelude.{◌≡◌, ◌++◌, ◌∷◌, [], List, IfOk, OnOk, chars, map, true};
-ghost use Rattle.miette_text.specs.Runs.{colour_start, colour_stop, link_start, printed_run};
-ghost use Rattle.miette_text.specs.Sequences.{Character, Sequence, Token, spell};
-ghost use Rattle.miette_text.specs.Woven.{is_whole, sign_text, woven};
+ghost use Rattle.miette_text.specs.rules.Runs.{colour_start, colour_stop, link_start, printed_run};
+ghost use Rattle.miette_text.specs.rules.Sequences.{Character, Sequence, Token, spell};
+ghost use Rattle.miette_text.specs.views.Woven.{is_whole, sign_text, woven};
 
 pub(crate) mod cells;
 mod colours;
@@ -37,8 +37,8 @@ pub struct Runs {
 
 impl Model for Runs {
     ghost use Rattle.std.specs.Prelude.{List, length};
-    ghost use Rattle.miette_text.specs.Sequences.{Token};
-    ghost use Rattle.miette_text.specs.Woven.{AreWithin, woven};
+    ghost use Rattle.miette_text.specs.rules.Sequences.{Token};
+    ghost use Rattle.miette_text.specs.views.Woven.{AreWithin, woven};
 
     ghost Value = { List Token };
 

@@ -1,10 +1,10 @@
 //! Text, wrapped under indents.
 
 ghost use Rattle.std.specs.Prelude.{◌≡◌, ◌++◌, IfOk, OnErr, OnOk, chars, encode_utf8_all, string_bytes, true};
-ghost use Rattle.miette_text.specs.Filling.{AppendsErasing, AreColoured, cuts_hyphens, filled_under, laid_out, layout_of, layout_with};
-ghost use Rattle.miette_text.specs.Sequences.{erase, spell, tokens};
-ghost use Rattle.miette_text.specs.Tame.{colourless};
-ghost use Rattle.miette_text.specs.Wrapping.{wrapped};
+ghost use Rattle.miette_text.specs.views.Filling.{AppendsErasing, AreColoured, cuts_hyphens, filled_under, laid_out, layout_of, layout_with};
+ghost use Rattle.miette_text.specs.rules.Sequences.{erase, spell, tokens};
+ghost use Rattle.miette_text.specs.rules.Tame.{colourless};
+ghost use Rattle.miette_text.specs.rules.Wrapping.{wrapped};
 
 pub mod cutting;
 mod ends;

@@ -2,7 +2,7 @@
 use Rattle.std.proofs.Common.{◌≡◌, List, [], ◌∷◌, ◌++◌, None, map, reverse, sym, ap, ◌∙◌, append-nil, append_assoc}
 use Rattle.std.specs.Iterator.{YieldsFirstBy, YieldsLastBy, Yields}
 use Rattle.std.proofs.lemmas.List.{reverse-append}
-use Rattle.miette_tree.specs.Laws.{Taken, in_front, behind, Gives, front_of, back_of}
+use Rattle.miette_tree.specs.laws.BothEnds.{Taken, in_front, behind, Gives, front_of, back_of}
 
 module _ {S A B : Type 0} (view : A → B) (rest : S → List B) where
   -- each item once: what was left is what was given in front, what is left now, and what was given behind

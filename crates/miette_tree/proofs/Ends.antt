@@ -4,12 +4,12 @@ use Rattle.std.specs.Prelude.{slice_get}
 use Rattle.std.specs.List.{last_or}
 use Rattle.std.proofs.Math.Seq.{take-append-add}
 use Rattle.std.proofs.lemmas.List.{take_more, take-append-le, take_all, drop_more, length-drop}
-use Rattle.miette_tree.specs.Tree.{Tree, tree, Cause, diagnostic, texts, chain_of, causes_of, cause_of, head}
+use Rattle.miette_tree.specs.rules.Tree.{Tree, tree, Cause, diagnostic, texts, chain_of, causes_of, cause_of, head}
 use Rattle.std.specs.Borrow.{Bor}
-use Rattle.miette_protocol.specs.Meaning.{Meaning}
-use Rattle.miette_protocol.specs.Reading.{Source}
-use Rattle.miette_tree.specs.Chain.{spine, spine_below, tail, tail_below, texts_below}
-use Rattle.miette_tree.specs.Report.{cause_shown}
+use Rattle.miette_protocol.specs.views.Meaning.{Meaning}
+use Rattle.miette_protocol.specs.rules.Reading.{Source}
+use Rattle.miette_tree.specs.rules.Chain.{spine, spine_below, tail, tail_below, texts_below}
+use Rattle.miette_tree.specs.views.Report.{cause_shown}
 use Rattle.miette_tree.specs.declared.report.Report.{Report}
 use Rattle.miette_tree.specs.declared.report.Cause as shown
 use Rattle.miette_tree.specs.declared.report.Cause.TheVariants as seen

@@ -2,9 +2,9 @@
 use Rattle.std.proofs.Common.{◌≡◌, ℕ, List, Option, Result, Ok, Err, IfOk, String, string_bytes, subst, inl, inr, Some, None}
 use Rattle.std.specs.declared.alloc.AllocError.{AllocError}
 use Rattle.std.specs.declared.alloc.Global.{Global}
-use Rattle.miette_protocol.specs.Meaning.{Meaning}
-use Rattle.miette_protocol.specs.Reading.{Source}
-use Rattle.miette_tree.specs.WrapErr.{IsFronted, Tells, TellsMade}
+use Rattle.miette_protocol.specs.views.Meaning.{Meaning}
+use Rattle.miette_protocol.specs.rules.Reading.{Source}
+use Rattle.miette_tree.specs.rules.WrapErr.{IsFronted, Tells, TellsMade}
 use Rattle.miette_tree.specs.declared.report.Report.{Report}
 
 -- a copy that was made tells what the text does

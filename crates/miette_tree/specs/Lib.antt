@@ -1,12 +1,3 @@
-pub mod Tree
-pub mod Owned
-pub mod Kind
-pub mod CauseTexts
-pub mod Report
-pub mod Chain
-pub mod Left
-pub mod WrapErr
-pub mod Laws
-pub mod Parts
-pub mod Displayed
-pub mod Handler
+pub mod rules
+pub mod views
+pub mod laws

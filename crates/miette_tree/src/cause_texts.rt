@@ -14,7 +14,7 @@ pub(crate) struct CauseTexts {
 }
 
 impl CauseTexts {
-    ghost use Rattle.miette_tree.specs.CauseTexts.{texts_in};
+    ghost use Rattle.miette_tree.specs.rules.CauseTexts.{texts_in};
 
     /// These texts, with no room in front of them.
     pub(crate) fn new(list: Vec<String>) -> CauseTexts

@@ -3,9 +3,9 @@ ghost use Rattle.std.specs.Prelude.{◌≡◌, ◌<◌, ◌≤◌, ◌+◌, ◌^
 ghost use Rattle.std.specs.List.{last_or};
 ghost use Rattle.std.specs.Option.{option_map};
 ghost use Rattle.std.specs.Iterator.{YieldsFirstBy, YieldsLastBy, item_count};
-ghost use Rattle.miette_tree.specs.Tree.{chain_of, cause_of};
-ghost use Rattle.miette_tree.specs.Chain.{spine, spine_below, spine_from, tail, texts_below};
-ghost use Rattle.miette_tree.specs.Report.{tree_of};
+ghost use Rattle.miette_tree.specs.rules.Tree.{chain_of, cause_of};
+ghost use Rattle.miette_tree.specs.rules.Chain.{spine, spine_below, spine_from, tail, texts_below};
+ghost use Rattle.miette_tree.specs.views.Report.{tree_of};
 
 use crate::report::{Cause, Report};
 use miette_protocol::protocol::Diagnostic;
@@ -68,7 +68,7 @@ fn count_within<D: Diagnostic, S: SourceCode>(report: &Report<D, S>, count: usiz
 
 /// The first of what is left.
 impl<'a, D: Diagnostic, S: SourceCode> Iterator for Chain<'a, D, S> {
-    ghost use Rattle.miette_tree.specs.Left.{left_of};
+    ghost use Rattle.miette_tree.specs.views.Left.{left_of};
 
     type Item = &'a str;
 
@@ -96,7 +96,7 @@ impl<'a, D: Diagnostic, S: SourceCode> Iterator for Chain<'a, D, S> {
 
 /// The last of what is left.
 impl<'a, D: Diagnostic, S: SourceCode> DoubleEndedIterator for Chain<'a, D, S> {
-    ghost use Rattle.miette_tree.specs.Left.{left_of};
+    ghost use Rattle.miette_tree.specs.views.Left.{left_of};
 
     ghost next_back_gives = { YieldsLastBy (λ x. x.now) (left_of D.meaning S.source) };
 
@@ -128,7 +128,7 @@ impl<'a, D: Diagnostic, S: SourceCode> ExactSizeIterator for Chain<'a, D, S> {
 
 /// The same place in the same chain.
 impl<'a, D: Diagnostic, S: SourceCode> Clone for Chain<'a, D, S> {
-    ghost use Rattle.miette_tree.specs.Left.{left_of};
+    ghost use Rattle.miette_tree.specs.views.Left.{left_of};
 
     ghost is_clone = { λ chain made. left_of D.meaning S.source made ≡ left_of D.meaning S.source chain };
 
@@ -145,7 +145,7 @@ impl<'a, D: Diagnostic, S: SourceCode> Clone for Chain<'a, D, S> {
 
 /// The empty chain.
 impl<'a, D: Diagnostic, S: SourceCode> Default for Chain<'a, D, S> {
-    ghost use Rattle.miette_tree.specs.Left.{left_of};
+    ghost use Rattle.miette_tree.specs.views.Left.{left_of};
 
     ghost is_default = { λ chain. left_of D.meaning S.source chain ≡ [] };
 
@@ -159,7 +159,7 @@ impl<'a, D: Diagnostic, S: SourceCode> Default for Chain<'a, D, S> {
 }
 
 impl<D: Diagnostic, S: SourceCode> Report<D, S> {
-    ghost use Rattle.miette_tree.specs.Left.{left_of};
+    ghost use Rattle.miette_tree.specs.views.Left.{left_of};
 
     /// The message and the causes' messages or texts, as many of them as a `usize` counts.
     pub fn chain(&self) -> Chain<'_, D, S>

@@ -23,11 +23,11 @@ impl<D: Diagnostic, S: SourceCode> Report<D, S>
 where
     Report<D, S>: UsualBoxes,
 {
-    ghost use Rattle.miette_protocol.specs.Diagnostic.{meaning_of, message_alone};
-    ghost use Rattle.miette_tree.specs.Tree.{alone};
-    ghost use Rattle.miette_tree.specs.Report.{tree_of};
-    ghost use Rattle.miette_tree.specs.Kind.{kind_of, message, built, boxed};
-    ghost use Rattle.miette_tree.specs.WrapErr.{Prints};
+    ghost use Rattle.miette_protocol.specs.views.Diagnostic.{meaning_of, message_alone};
+    ghost use Rattle.miette_tree.specs.rules.Tree.{alone};
+    ghost use Rattle.miette_tree.specs.views.Report.{tree_of};
+    ghost use Rattle.miette_tree.specs.views.Kind.{kind_of, message, built, boxed};
+    ghost use Rattle.miette_tree.specs.rules.WrapErr.{Prints};
 
     /// The report of a plain diagnostic. Takes no memory.
     pub fn new(diagnostic: MietteDiagnostic) -> Report<D, S>
@@ -73,8 +73,8 @@ where
 
 /// Prints the message.
 impl<D: Diagnostic, S: SourceCode> fmt::Display for Report<D, S> {
-    ghost use Rattle.miette_tree.specs.Tree.{head};
-    ghost use Rattle.miette_tree.specs.Report.{tree_of};
+    ghost use Rattle.miette_tree.specs.rules.Tree.{head};
+    ghost use Rattle.miette_tree.specs.views.Report.{tree_of};
 
     ghost output = { λ r. Some (head (tree_of D.meaning S.source r)).message };
 
@@ -101,10 +101,10 @@ impl<D: Diagnostic, S: SourceCode> fmt::Debug for Report<D, S> {
 
 /// The report of a plain diagnostic, as `Report::new`. Takes no memory.
 impl<D: Diagnostic, S: SourceCode> From<MietteDiagnostic> for Report<D, S> {
-    ghost use Rattle.miette_protocol.specs.Diagnostic.{meaning_of};
-    ghost use Rattle.miette_tree.specs.Tree.{alone};
-    ghost use Rattle.miette_tree.specs.Report.{tree_of};
-    ghost use Rattle.miette_tree.specs.Kind.{kind_of, built};
+    ghost use Rattle.miette_protocol.specs.views.Diagnostic.{meaning_of};
+    ghost use Rattle.miette_tree.specs.rules.Tree.{alone};
+    ghost use Rattle.miette_tree.specs.views.Report.{tree_of};
+    ghost use Rattle.miette_tree.specs.views.Kind.{kind_of, built};
 
     ghost from_gives = { λ d r. (tree_of D.meaning S.source r ≡ alone (meaning_of d)) × (kind_of r ≡ built d) };
 
@@ -115,7 +115,7 @@ impl<D: Diagnostic, S: SourceCode> From<MietteDiagnostic> for Report<D, S> {
 
 /// The message is `memory allocation failed`.
 impl<D: Diagnostic, S: SourceCode> From<AllocError> for Report<D, S> {
-    ghost use Rattle.miette_tree.specs.WrapErr.{IsRefused};
+    ghost use Rattle.miette_tree.specs.rules.WrapErr.{IsRefused};
 
     ghost from_gives = { λ _ r. IsRefused D.meaning S.source r };
 
@@ -126,7 +126,7 @@ impl<D: Diagnostic, S: SourceCode> From<AllocError> for Report<D, S> {
 
 /// As of an `AllocError`; the value that was not stored is let go.
 impl<T: Drop, D: Diagnostic, S: SourceCode> From<AllocFailed<T>> for Report<D, S> {
-    ghost use Rattle.miette_tree.specs.WrapErr.{IsRefused};
+    ghost use Rattle.miette_tree.specs.rules.WrapErr.{IsRefused};
 
     ghost from_gives = { λ _ r. IsRefused D.meaning S.source r };
 
@@ -138,7 +138,7 @@ impl<T: Drop, D: Diagnostic, S: SourceCode> From<AllocFailed<T>> for Report<D, S
 /// A report that was not written: as of an `AllocError`, or the message is what the error prints.
 /// Takes no memory.
 impl<D: Diagnostic, S: SourceCode> From<RenderError> for Report<D, S> {
-    ghost use Rattle.miette_tree.specs.WrapErr.{IsUnwritten};
+    ghost use Rattle.miette_tree.specs.rules.WrapErr.{IsUnwritten};
 
     ghost from_gives = { λ error r. IsUnwritten D.meaning S.source error r };
 

@@ -42,8 +42,8 @@ impl<'a, D> Clone for ReportKind<'a, D> {
 impl<'a, D> Copy for ReportKind<'a, D> {}
 
 impl<D: Diagnostic> Innermost<D> {
-    ghost use Rattle.miette_tree.specs.Report.{innermost_meaning};
-    ghost use Rattle.miette_tree.specs.Kind.{innermost_kind, kind_shown};
+    ghost use Rattle.miette_tree.specs.views.Report.{innermost_meaning};
+    ghost use Rattle.miette_tree.specs.views.Kind.{innermost_kind, kind_shown};
 
     pub(crate) fn message(&self) -> &str
         ensures { result.now ≡ (innermost_meaning D.meaning self.now).message }

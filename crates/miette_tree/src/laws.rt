@@ -1,8 +1,8 @@
 //! Laws of chains, on their calls. The functions do nothing; what they ensure is proved.
 ghost use Rattle.std.specs.Prelude.{◌≡◌, List, ◌++◌, map, reverse};
 ghost use Rattle.std.specs.Iterator.{Drains};
-ghost use Rattle.miette_tree.specs.Laws.{Taken, Gives, front_of, back_of};
-ghost use Rattle.miette_tree.specs.Left.{left_of};
+ghost use Rattle.miette_tree.specs.laws.BothEnds.{Taken, Gives, front_of, back_of};
+ghost use Rattle.miette_tree.specs.views.Left.{left_of};
 ghost use Rattle.miette_tree.specs.declared.chain.Chain.{Chain};
 
 use crate::chain::Chain;

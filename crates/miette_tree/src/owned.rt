@@ -1,8 +1,8 @@
 //! Sources that a report owns, and the place where it keeps its source.
 ghost use Rattle.std.specs.Prelude.{◌≡◌, Some, IfOk};
 ghost use Rattle.std.specs.Option.{option_copied};
-ghost use Rattle.miette_protocol.specs.Reading.{plain_source, named};
-ghost use Rattle.miette_protocol.specs.Outcome.{Answers};
+ghost use Rattle.miette_protocol.specs.rules.Reading.{plain_source, named};
+ghost use Rattle.miette_protocol.specs.rules.Outcome.{Answers};
 
 use miette_protocol::error::MietteError;
 use miette_protocol::protocol::SourceSpan;
@@ -24,7 +24,7 @@ pub struct OwnedSource {
 }
 
 impl OwnedSource {
-    ghost use Rattle.miette_tree.specs.Owned.{owned_source};
+    ghost use Rattle.miette_tree.specs.views.Owned.{owned_source};
 
     /// These bytes, with no name and no language. `AllocError` where there is no memory for the index; the bytes
     /// are then let go.
@@ -59,7 +59,7 @@ impl OwnedSource {
 
 /// Takes no memory.
 impl SourceCode for OwnedSource {
-    ghost use Rattle.miette_tree.specs.Owned.{owned_source};
+    ghost use Rattle.miette_tree.specs.views.Owned.{owned_source};
 
     ghost source = { owned_source };
 
@@ -109,7 +109,7 @@ impl<'a, S> SourceRef<'a, S> {
 }
 
 impl<'a, S: SourceCode> SourceRef<'a, S> {
-    ghost use Rattle.miette_tree.specs.Owned.{shown_source};
+    ghost use Rattle.miette_tree.specs.views.Owned.{shown_source};
 
     /// Reads a span of the source with so many lines of context before it and after it. Takes memory
     /// only where the source does. The data, name and language are lent by the report. The errors are those
@@ -131,7 +131,7 @@ impl<'a, S: SourceCode> SourceRef<'a, S> {
 
 /// A lent source reads as the source that it shows.
 impl<'a, S: SourceCode> SourceCode for SourceRef<'a, S> {
-    ghost use Rattle.miette_tree.specs.Owned.{shown_source};
+    ghost use Rattle.miette_tree.specs.views.Owned.{shown_source};
 
     ghost source = { shown_source S.source };
 

@@ -91,12 +91,12 @@ impl<'a, D, S> Copy for Cause<'a, D, S> {}
 
 /// Constructors and setters, for boxes of any kind.
 impl<D: Diagnostic, S: SourceCode> Report<D, S> {
-    ghost use Rattle.miette_protocol.specs.Diagnostic.{meaning_of, message_alone};
-    ghost use Rattle.miette_tree.specs.Tree.{alone, texts, diagnostic, trees, wrapped, with_source, with_cause, with_related, chain_of};
-    ghost use Rattle.miette_tree.specs.Report.{tree_of, innermost_meaning};
-    ghost use Rattle.miette_tree.specs.Owned.{owned_source, kept_source};
-    ghost use Rattle.miette_tree.specs.Kind.{kind_of, innermost_kind, built, message};
-    ghost use Rattle.miette_tree.specs.WrapErr.{Prints};
+    ghost use Rattle.miette_protocol.specs.views.Diagnostic.{meaning_of, message_alone};
+    ghost use Rattle.miette_tree.specs.rules.Tree.{alone, texts, diagnostic, trees, wrapped, with_source, with_cause, with_related, chain_of};
+    ghost use Rattle.miette_tree.specs.views.Report.{tree_of, innermost_meaning};
+    ghost use Rattle.miette_tree.specs.views.Owned.{owned_source, kept_source};
+    ghost use Rattle.miette_tree.specs.views.Kind.{kind_of, innermost_kind, built, message};
+    ghost use Rattle.miette_tree.specs.rules.WrapErr.{Prints};
 
     pub(crate) fn from_innermost(innermost: Innermost<D>) -> Report<D, S>
         ensures tree { tree_of D.meaning S.source result ≡ alone (innermost_meaning D.meaning innermost) }
@@ -295,10 +295,10 @@ impl<D: Diagnostic, S: SourceCode> Report<D, S> {
 
 /// Getters. None of them takes memory.
 impl<D: Diagnostic, S: SourceCode> Report<D, S> {
-    ghost use Rattle.miette_tree.specs.Tree.{head, source_of, cause_of, related_of, trees};
-    ghost use Rattle.miette_tree.specs.Report.{tree_of, cause_shown, IsNoEmptyList};
-    ghost use Rattle.miette_tree.specs.Owned.{shown_source};
-    ghost use Rattle.miette_tree.specs.Kind.{kind_of, kind_shown};
+    ghost use Rattle.miette_tree.specs.rules.Tree.{head, source_of, cause_of, related_of, trees};
+    ghost use Rattle.miette_tree.specs.views.Report.{tree_of, cause_shown, IsNoEmptyList};
+    ghost use Rattle.miette_tree.specs.views.Owned.{shown_source};
+    ghost use Rattle.miette_tree.specs.views.Kind.{kind_of, kind_shown};
 
     /// The message: the one that was last put in front, else that of what the report was made of.
     pub fn message(&self) -> &str

@@ -1,10 +1,10 @@
 //! What every handler offers.
 
 ghost use Rattle.std.specs.Prelude.{◌≡◌, ◌++◌, List, ℕ, IfOk, OnOk, OnErr, string_bytes};
-ghost use Rattle.miette_tree.specs.Tree.{Tree, cause_of, causes_of};
-ghost use Rattle.miette_tree.specs.Report.{tree_of};
-ghost use Rattle.miette_tree.specs.Displayed.{displayed, behind_colons};
-ghost use Rattle.miette_tree.specs.Handler.{AppendsOne};
+ghost use Rattle.miette_tree.specs.rules.Tree.{Tree, cause_of, causes_of};
+ghost use Rattle.miette_tree.specs.views.Report.{tree_of};
+ghost use Rattle.miette_tree.specs.rules.Displayed.{displayed, behind_colons};
+ghost use Rattle.miette_tree.specs.views.Handler.{AppendsOne};
 
 use crate::parts::cause_texts;
 use crate::report::{Cause, Report};

@@ -2,7 +2,7 @@
 ghost use Rattle.std.specs.Prelude.{◌≡◌, ◌⊎◌, ℕ, List, Option, IsNone, IfSome, IsErrAnd, IfErr, Some, None};
 ghost use Rattle.std.specs.Option.{option_and_then};
 ghost use Rattle.std.specs.Result.{result_ok, result_err};
-ghost use Rattle.miette_tree.specs.WrapErr.{IsRefused, Tells, TellsMade, Prints};
+ghost use Rattle.miette_tree.specs.rules.WrapErr.{IsRefused, Tells, TellsMade, Prints};
 ghost use Rattle.miette_tree.specs.declared.report.Report.{Report};
 
 use crate::constructors::UsualBoxes;

@@ -34,7 +34,7 @@ struct Owner {
 }
 
 impl Diagnostic for Owner {
-    ghost use Rattle.miette_protocol.specs.Diagnostic.{message_alone};
+    ghost use Rattle.miette_protocol.specs.views.Diagnostic.{message_alone};
     ghost use Rattle.std.specs.Prelude.{codes};
 
     ghost meaning = { λ _. message_alone (codes "m") };

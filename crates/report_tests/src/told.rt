@@ -1,7 +1,7 @@
 //! Reports over boxes, as users write them: what their contracts give there.
 ghost use Rattle.std.specs.Prelude.{◌≡◌, ◌⊎◌, IfOk, IfErr, codes};
-ghost use Rattle.miette_tree.specs.Tree.{head, alone, wrapped};
-ghost use Rattle.miette_tree.specs.Report.{tree_of, out_of_memory_alone};
+ghost use Rattle.miette_tree.specs.rules.Tree.{head, alone, wrapped};
+ghost use Rattle.miette_tree.specs.views.Report.{tree_of, out_of_memory_alone};
 
 use miette_protocol::protocol::Diagnostic;
 use miette_protocol::source::SourceCode;

@@ -292,7 +292,7 @@ struct Lost {
 }
 
 impl Diagnostic for Lost {
-    ghost use Rattle.miette_protocol.specs.Diagnostic.{message_alone};
+    ghost use Rattle.miette_protocol.specs.views.Diagnostic.{message_alone};
     ghost use Rattle.std.specs.Prelude.{string_bytes};
 
     ghost meaning = { λ it. message_alone (string_bytes it.message) };

@@ -13,7 +13,7 @@ struct Missing {
 
 impl Diagnostic for Missing {
     ghost use Rattle.std.specs.Prelude.{Some, string_bytes};
-    ghost use Rattle.miette_protocol.specs.Diagnostic.{message_alone};
+    ghost use Rattle.miette_protocol.specs.views.Diagnostic.{message_alone};
     ghost use Rattle.miette_protocol.specs.declared.protocol.Severity.TheVariants.{Warning};
 
     ghost meaning = { λ it. record (message_alone (string_bytes it.message)) { severity = Some Warning; help = Some (string_bytes it.help) } };

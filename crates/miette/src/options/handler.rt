@@ -1,8 +1,8 @@
 //! The handler that options and a terminal choose.
 
 ghost use Rattle.std.specs.Prelude.{IfOk};
-ghost use Rattle.miette.specs.Choice.{IsChosen};
-ghost use Rattle.miette.specs.Options.{no_options};
+ghost use Rattle.miette.specs.rules.Choice.{IsChosen};
+ghost use Rattle.miette.specs.rules.Options.{no_options};
 
 use crate::options::{MietteHandlerOpts, Terminal};
 use miette_handlers::handlers::{GraphicalReportHandler, NarratableReportHandler, ReportHandler};
@@ -36,7 +36,7 @@ impl MietteHandler {
 }
 
 impl<H: Highlighter> ReportHandler for MietteHandler<H> {
-    ghost use Rattle.miette.specs.Handler.{Gives, Keeps, Refuses};
+    ghost use Rattle.miette.specs.views.Handler.{Gives, Keeps, Refuses};
 
     ghost gives = { Gives H.is_blank };
 

@@ -2,19 +2,19 @@
 
 ghost use Rattle.std.specs.Prelude.{◌≡◌, ◌++◌, OnErr, OnOk, false, true, chars, string_bytes, encode_utf8_all, option_map};
 ghost use Rattle.std.specs.List.{AllByRecursion};
-ghost use Rattle.miette_graphical.specs.Answered.{Appends, IsTextOf};
-ghost use Rattle.miette_graphical.specs.Answers.{unlisted};
-ghost use Rattle.miette_graphical.specs.Clean.{AreCleanSettings, IsCleanTree};
-ghost use Rattle.miette_graphical.specs.Colourless.{IsColouredText, colourless};
-ghost use Rattle.miette_tree.specs.Handler.{AppendsOne};
-ghost use Rattle.miette_graphical.specs.Handling.{draws_plain};
-ghost use Rattle.miette_graphical.specs.Headline.{LinesAreShown, MarksAreApart, TextsHang};
-ghost use Rattle.miette_graphical.specs.Printed.{all_read, printed};
-ghost use Rattle.miette_graphical.specs.Snippets.{drawn_rows};
-ghost use Rattle.miette_graphical.specs.Text.{report_text};
-ghost use Rattle.miette_graphical.specs.Views.{settings_of};
-ghost use Rattle.miette_text.specs.Filling.{AppendsErasing};
-ghost use Rattle.miette_tree.specs.Report.{tree_of};
+ghost use Rattle.miette_graphical.specs.rules.Answered.{Appends, IsTextOf};
+ghost use Rattle.miette_graphical.specs.rules.Answers.{unlisted};
+ghost use Rattle.miette_graphical.specs.laws.Clean.{AreCleanSettings, IsCleanTree};
+ghost use Rattle.miette_graphical.specs.laws.Colourless.{IsColouredText, colourless};
+ghost use Rattle.miette_tree.specs.views.Handler.{AppendsOne};
+ghost use Rattle.miette_graphical.specs.views.Handling.{draws_plain};
+ghost use Rattle.miette_graphical.specs.laws.Headline.{LinesAreShown, MarksAreApart, TextsHang};
+ghost use Rattle.miette_graphical.specs.rules.Printed.{all_read, printed};
+ghost use Rattle.miette_graphical.specs.rules.Snippets.{drawn_rows};
+ghost use Rattle.miette_graphical.specs.rules.Text.{report_text};
+ghost use Rattle.miette_graphical.specs.views.SettingsView.{settings_of};
+ghost use Rattle.miette_text.specs.views.Filling.{AppendsErasing};
+ghost use Rattle.miette_tree.specs.views.Report.{tree_of};
 
 use crate::handler::GraphicalReportHandler;
 use crate::laws::{erasing_law, snippets_law};

@@ -1,10 +1,10 @@
 //! Characters with the signs before them, appended to a sink.
 
 ghost use Rattle.std.specs.Prelude.{◌≡◌, ◌≤◌, ◌++◌, IfOk, OnOk, drop, length};
-ghost use Rattle.miette_text.specs.Ends.{marks_text};
-ghost use Rattle.miette_text.specs.Sequences.{spell};
-ghost use Rattle.miette_text.specs.WholeText.{piece_text};
-ghost use Rattle.miette_text.specs.Woven.{cells_at, left_at, marks_spelled, woven};
+ghost use Rattle.miette_text.specs.steps.Ends.{marks_text};
+ghost use Rattle.miette_text.specs.rules.Sequences.{spell};
+ghost use Rattle.miette_text.specs.steps.WholeText.{piece_text};
+ghost use Rattle.miette_text.specs.views.Woven.{cells_at, left_at, marks_spelled, woven};
 
 use crate::runs::Parts;
 use crate::runs::sign::Mark;

@@ -1,9 +1,9 @@
 //! Styles, printed.
 
 ghost use Rattle.std.specs.Prelude.{◌≡◌, ◌++◌, ◌∷◌, ◌||◌, [], IfOk, IfSome, OnOk, decimal, false, is_some, string_bytes};
-ghost use Rattle.miette_text.specs.Runs.{colour_start, flag, foreground, foreground_codes, style_codes};
-ghost use Rattle.miette_text.specs.Tame.{is_nil};
-ghost use Rattle.miette_text.specs.Woven.{further_codes};
+ghost use Rattle.miette_text.specs.rules.Runs.{colour_start, flag, foreground, foreground_codes, style_codes};
+ghost use Rattle.miette_text.specs.rules.Tame.{is_nil};
+ghost use Rattle.miette_text.specs.views.Woven.{further_codes};
 
 use itoa::Buffer;
 use miette_style::style::{Color, Style};

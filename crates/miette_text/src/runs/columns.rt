@@ -1,8 +1,8 @@
 //! Columns.
 
 ghost use Rattle.std.specs.Prelude.{◌≡◌, ◌+◌, IfOk};
-ghost use Rattle.miette_text.specs.Wrapping.{columns_of, width};
-ghost use Rattle.miette_text.specs.Woven.{woven};
+ghost use Rattle.miette_text.specs.rules.Wrapping.{columns_of, width};
+ghost use Rattle.miette_text.specs.views.Woven.{woven};
 
 use crate::runs::Parts;
 use std::alloc::AllocError;

@@ -1,8 +1,8 @@
 //! Runs without the line feeds at an end.
 
 ghost use Rattle.std.specs.Prelude.{◌≡◌, ◌≤◌, length, map};
-ghost use Rattle.miette_text.specs.Cutting.{cut_end, cut_front};
-ghost use Rattle.miette_text.specs.Feeds.{capped, feeds_len, kept_len, lowered};
+ghost use Rattle.miette_text.specs.rules.Cutting.{cut_end, cut_front};
+ghost use Rattle.miette_text.specs.steps.Feeds.{capped, feeds_len, kept_len, lowered};
 
 use crate::runs::Runs;
 use crate::runs::marks::{are_colours, upto_len};

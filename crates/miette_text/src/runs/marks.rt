@@ -1,10 +1,10 @@
 //! Marks in order: which stand before a character, and whether they are colours.
 
 ghost use Rattle.std.specs.Prelude.{◌≡◌, ◌≤◌, drop, length, take};
-ghost use Rattle.miette_text.specs.Feeds.{are_colours};
-ghost use Rattle.miette_text.specs.Sequences.{is_parameter};
-ghost use Rattle.miette_text.specs.Tame.{is_colour, is_colour_end};
-ghost use Rattle.miette_text.specs.Woven.{beyond, sign_text, upto};
+ghost use Rattle.miette_text.specs.steps.Feeds.{are_colours};
+ghost use Rattle.miette_text.specs.rules.Sequences.{is_parameter};
+ghost use Rattle.miette_text.specs.rules.Tame.{is_colour, is_colour_end};
+ghost use Rattle.miette_text.specs.views.Woven.{beyond, sign_text, upto};
 
 use crate::runs::sign::{Mark, Sign};
 

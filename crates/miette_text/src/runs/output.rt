@@ -1,8 +1,8 @@
 //! What a report is appended to: a text, which prints it at once, or runs, which can be wrapped again.
 
 ghost use Rattle.std.specs.Prelude.{◌≡◌, ◌++◌, ◌∷◌, ℕ, List, [], IfOk, OnOk, chars, encode_utf8_all, refl, string_bytes};
-ghost use Rattle.miette_text.specs.Runs.{colour_start, colour_stop, link_start, printed_run};
-ghost use Rattle.miette_text.specs.Sequences.{spell};
+ghost use Rattle.miette_text.specs.rules.Runs.{colour_start, colour_stop, link_start, printed_run};
+ghost use Rattle.miette_text.specs.rules.Sequences.{spell};
 
 use crate::runs::Runs;
 use crate::runs::colours::{is_plain, push_style};
@@ -38,7 +38,7 @@ impl Model for Output {
 
     ghost Value = { List ℕ };
 
-    ghost use Rattle.miette_text.specs.Outputs.{written};
+    ghost use Rattle.miette_text.specs.views.Outputs.{written};
 
     ghost view = { λ o. written o.target };
 }

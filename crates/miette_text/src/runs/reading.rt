@@ -1,10 +1,10 @@
 //! Texts read into runs, and runs printed.
 
 ghost use Rattle.std.specs.Prelude.{◌≡◌, IfOk, chars, encode_utf8_all, string_bytes, true};
-ghost use Rattle.miette_text.specs.Sequences.{spell, tokens};
-ghost use Rattle.miette_style.specs.Escapes.{no_escape};
-ghost use Rattle.miette_text.specs.Woven.{are_whole, is_whole, sign_text, woven};
-ghost use Rattle.miette_text.specs.Wrapping.{columns_of};
+ghost use Rattle.miette_text.specs.rules.Sequences.{spell, tokens};
+ghost use Rattle.miette_style.specs.rules.Escapes.{no_escape};
+ghost use Rattle.miette_text.specs.views.Woven.{are_whole, is_whole, sign_text, woven};
+ghost use Rattle.miette_text.specs.rules.Wrapping.{columns_of};
 
 use crate::runs::cells::push_all;
 use crate::runs::columns::token_columns;

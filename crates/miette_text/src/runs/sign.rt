@@ -1,7 +1,7 @@
 //! What stands between characters.
 
 ghost use Rattle.std.specs.Prelude.{◌≡◌, IfOk, true};
-ghost use Rattle.miette_text.specs.Woven.{sign_text};
+ghost use Rattle.miette_text.specs.views.Woven.{sign_text};
 
 use crate::laws::comparison_laws;
 use miette_style::style::Style;

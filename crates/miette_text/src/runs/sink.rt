@@ -1,9 +1,9 @@
 //! What runs are appended to: a text, which prints them, or runs again.
 
 ghost use Rattle.std.specs.Prelude.{◌≡◌, ◌++◌, ℕ, List, [], OnOk, encode_utf8_all, refl, string_bytes};
-ghost use Rattle.miette_text.specs.Sequences.{spell};
-ghost use Rattle.miette_text.specs.Sinks.{encode-joins};
-ghost use Rattle.miette_text.specs.Woven.{sign_text};
+ghost use Rattle.miette_text.specs.rules.Sequences.{spell};
+ghost use Rattle.miette_text.specs.views.Sinks.{encode-joins};
+ghost use Rattle.miette_text.specs.views.Woven.{sign_text};
 
 use crate::runs::Runs;
 use crate::runs::colours::push_style;

@@ -1,8 +1,8 @@
 //! Runs without the line feeds at an end of their text.
 
 ghost use Rattle.std.specs.Prelude.{◌≡◌, IfOk};
-ghost use Rattle.miette_text.specs.Cutting.{without_leading, without_trailing};
-ghost use Rattle.miette_text.specs.Sequences.{spell, tokens};
+ghost use Rattle.miette_text.specs.rules.Cutting.{without_leading, without_trailing};
+ghost use Rattle.miette_text.specs.rules.Sequences.{spell, tokens};
 
 use crate::runs::Runs;
 use crate::runs::reading::{is_settled, reread};

@@ -2,12 +2,12 @@
 //! with what runs print.
 
 ghost use Rattle.std.specs.Prelude.{◌≡◌, ℕ, List, ◌++◌, map, encode_utf8_all};
-ghost use Rattle.miette_text.specs.Cutting.{without_leading, without_trailing};
-ghost use Rattle.miette_text.specs.Runs.{HaveNoEscape, Run, plain_run, print};
-ghost use Rattle.miette_text.specs.Sequences.{Token, erase, tokens};
-ghost use Rattle.miette_text.specs.Tame.{AllTame, IsColoured, IsTame, colourless};
-ghost use Rattle.miette_text.specs.Filled.{IsFilled, IsTrimmed, all_words};
-ghost use Rattle.miette_text.specs.Wrapping.{Layout, Word, columns_of, rows, trimmed, wrapped};
+ghost use Rattle.miette_text.specs.rules.Cutting.{without_leading, without_trailing};
+ghost use Rattle.miette_text.specs.rules.Runs.{HaveNoEscape, Run, plain_run, print};
+ghost use Rattle.miette_text.specs.rules.Sequences.{Token, erase, tokens};
+ghost use Rattle.miette_text.specs.rules.Tame.{AllTame, IsColoured, IsTame, colourless};
+ghost use Rattle.miette_text.specs.rules.Filled.{IsFilled, IsTrimmed, all_words};
+ghost use Rattle.miette_text.specs.rules.Wrapping.{Layout, Word, columns_of, rows, trimmed, wrapped};
 
 /// Wrapping tame parts gives a tame text, and colours can be deleted before or after.
 pub fn wrapping_law()

@@ -1,12 +1,12 @@
 //! Lines, wrapped and printed row by row.
 
 ghost use Rattle.std.specs.Prelude.{◌≡◌, ◌≤◌, ◌++◌, ◌∷◌, [], IfOk, OnOk, drop, flat_map, length, map};
-ghost use Rattle.miette_text.specs.Ends.{bare_len, line_len, plain_cells};
-ghost use Rattle.miette_text.specs.Filling.{lines_from, parts_with};
-ghost use Rattle.miette_text.specs.Printing.{joined_lines, lines_of, row_cells, shown};
-ghost use Rattle.miette_text.specs.Sequences.{spell};
-ghost use Rattle.miette_text.specs.Woven.{cells_at, left_at, woven};
-ghost use Rattle.miette_text.specs.Wrapping.{pieces, rows, words};
+ghost use Rattle.miette_text.specs.steps.Ends.{bare_len, line_len, plain_cells};
+ghost use Rattle.miette_text.specs.views.Filling.{lines_from, parts_with};
+ghost use Rattle.miette_text.specs.steps.Printing.{joined_lines, lines_of, row_cells, shown};
+ghost use Rattle.miette_text.specs.rules.Sequences.{spell};
+ghost use Rattle.miette_text.specs.views.Woven.{cells_at, left_at, woven};
+ghost use Rattle.miette_text.specs.rules.Wrapping.{pieces, rows, words};
 
 use crate::runs::Parts;
 use crate::runs::cells::{push_all, push_cells, push_marks, push_signs};

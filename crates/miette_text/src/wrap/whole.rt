@@ -1,11 +1,11 @@
 //! Text under indents, not wrapped.
 
 ghost use Rattle.std.specs.Prelude.{◌≡◌, ◌++◌, OnOk};
-ghost use Rattle.miette_text.specs.Ends.{plain_cells};
-ghost use Rattle.miette_text.specs.Sequences.{spell};
-ghost use Rattle.miette_text.specs.WholeText.{indent_text};
-ghost use Rattle.miette_text.specs.Woven.{woven};
-ghost use Rattle.miette_text.specs.Wrapping.{all_white, pieces, trimmed, whole_pieces};
+ghost use Rattle.miette_text.specs.steps.Ends.{plain_cells};
+ghost use Rattle.miette_text.specs.rules.Sequences.{spell};
+ghost use Rattle.miette_text.specs.steps.WholeText.{indent_text};
+ghost use Rattle.miette_text.specs.views.Woven.{woven};
+ghost use Rattle.miette_text.specs.rules.Wrapping.{all_white, pieces, trimmed, whole_pieces};
 
 use crate::runs::Parts;
 use crate::runs::cells::{push_all, push_cells, push_marks};

@@ -1,4 +1,4 @@
-use Rattle.miette_description.specs.Members.{label_of}
+use Rattle.miette_description.specs.rules.Members.{label_of}
 use Rattle.miette_description.proofs.Lists.{ReadSoFar}
 use Rattle.miette_description.proofs.parts.labels_from.Given as goal
 

@@ -1,11 +1,11 @@
 use Rattle.std.proofs.Common.{rules, ◌≡◌, ◌<◌, ◌+◌, ◌*◌, ◌++◌, [], ◌∷◌, ap, sym, ◌∙◌, Some, Result, Ok, Err, IfOk, option_map, arith}
 use Rattle.miette_description.proofs.Lists.{one_fails, one_read_as}
 use Rattle.serde_json.specs.Data.{depth, items_depth}
-use Rattle.miette_description.specs.Seen.{seen, items_seen}
-use Rattle.miette_tree.specs.Tree.{trees}
-use Rattle.miette_tree.specs.Report.{tree_of}
-use Rattle.miette_description.specs.Members.{at_key}
-use Rattle.miette_description.specs.Description.{report_in}
+use Rattle.miette_description.specs.views.Seen.{seen, items_seen}
+use Rattle.miette_tree.specs.rules.Tree.{trees}
+use Rattle.miette_tree.specs.views.Report.{tree_of}
+use Rattle.miette_description.specs.rules.Members.{at_key}
+use Rattle.miette_description.specs.rules.Description.{report_in}
 use Rattle.miette_description.proofs.Shape.{report_parts, at_key-depth, array-depth, item-depth, given_some, given_none, related_read}
 use Rattle.miette_description.proofs.report.+description.Goals as goal
 

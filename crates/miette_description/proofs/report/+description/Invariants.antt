@@ -1,8 +1,8 @@
 use Rattle.std.proofs.Common.{◌+◌, ◌*◌, map}
 use Rattle.serde_json.specs.Data.{depth, items_depth}
-use Rattle.miette_description.specs.Seen.{seen, items_seen}
-use Rattle.miette_tree.specs.Report.{tree_of}
-use Rattle.miette_description.specs.Description.{report_in}
+use Rattle.miette_description.specs.views.Seen.{seen, items_seen}
+use Rattle.miette_tree.specs.views.Report.{tree_of}
+use Rattle.miette_description.specs.rules.Description.{report_in}
 use Rattle.miette_description.proofs.Lists.{ReadSoFar}
 use Rattle.miette_description.proofs.report.+description.Given as goal
 

@@ -1,7 +1,7 @@
 use Rattle.std.proofs.Common.{◌≡◌, Some}
-use Rattle.miette_tree.specs.Report.{tree_of}
-use Rattle.miette_description.specs.Description.{described}
-use Rattle.miette_description.specs.Seen.{seen}
+use Rattle.miette_tree.specs.views.Report.{tree_of}
+use Rattle.miette_description.specs.rules.Description.{described}
+use Rattle.miette_description.specs.views.Seen.{seen}
 use Rattle.miette_description.proofs.Sources.{described_reads}
 use Rattle.miette_description.proofs.report.report_of.Goals as goal
 

@@ -1,7 +1,7 @@
 use Rattle.std.proofs.Common.{◌≡◌, map, string_bytes}
 use Rattle.std.specs.Vec.Iter.{into_iter_items}
-use Rattle.miette_tree.specs.Report.{tree_of}
-use Rattle.miette_description.specs.Description.{wrapped_in}
+use Rattle.miette_tree.specs.views.Report.{tree_of}
+use Rattle.miette_description.specs.rules.Description.{wrapped_in}
 use Rattle.miette_description.proofs.report.wrapped.Given as goal
 
 abbrev pub invariant-loop-context : goal.invariant-loop-context

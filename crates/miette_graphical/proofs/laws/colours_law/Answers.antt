@@ -1,5 +1,5 @@
 use Rattle.std.proofs.Common.{sym, ap₂, ◌∙◌}
-use Rattle.miette_graphical.specs.Text.{report_text}
+use Rattle.miette_graphical.specs.rules.Text.{report_text}
 use Rattle.miette_graphical.proofs.TextLaws.{TextLaws}
 use Rattle.miette_graphical.proofs.ReportFading.{fades-report}
 use Rattle.miette_graphical.proofs.laws.colours_law.Goals as goal

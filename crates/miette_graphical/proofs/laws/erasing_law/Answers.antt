@@ -1,6 +1,6 @@
 use Rattle.std.proofs.Common.{ap, ◌∙◌, encode_utf8_all}
-use Rattle.miette_text.specs.Sequences.{erase}
-use Rattle.miette_graphical.specs.Snippets.{drawn_rows}
+use Rattle.miette_text.specs.rules.Sequences.{erase}
+use Rattle.miette_graphical.specs.rules.Snippets.{drawn_rows}
 use Rattle.miette_graphical.proofs.Bare.{bare-report}
 use Rattle.miette_graphical.proofs.laws.erasing_law.Goals as goal
 

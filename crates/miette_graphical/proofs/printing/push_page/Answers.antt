@@ -1,5 +1,5 @@
 use Rattle.std.proofs.Common.{◌++◌, sym, ap, ◌∙◌, append_assoc, append-nil}
-use Rattle.miette_graphical.specs.Printing.{page_text, part_text}
+use Rattle.miette_graphical.specs.views.Printing.{page_text, part_text}
 use Rattle.miette_graphical.proofs.Printed.{nothing, part_step}
 use Rattle.miette_graphical.proofs.printing.push_page.Goals as goal
 

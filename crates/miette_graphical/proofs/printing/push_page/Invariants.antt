@@ -1,5 +1,5 @@
 use Rattle.std.proofs.Common.{◌≡◌, ◌++◌, length}
-use Rattle.miette_graphical.specs.Printing.{page_text}
+use Rattle.miette_graphical.specs.views.Printing.{page_text}
 use Rattle.miette_graphical.proofs.printing.push_page.Given as goal
 
 abbrev pub invariant-rest : goal.invariant-rest

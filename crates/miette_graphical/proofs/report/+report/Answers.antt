@@ -1,18 +1,18 @@
 use Rattle.std.proofs.Common.{◌≡◌, ◌≤◌, ◌<◌, suc, sym, ◌++◌, ◌-◌, length, take, drop, get_or, ap, ◌∙◌, subst, map, option_map, false, refl, string_bytes, arith, rules}
-use Rattle.miette_text.specs.Cutting.{without_leading, without_trailing}
-use Rattle.miette_text.specs.Sequences.{spell}
-use Rattle.miette_tree.specs.Tree.{effective, head, texts, trees, cause_of, related_of, source_of}
-use Rattle.miette_tree.specs.Report.{tree_of}
-use Rattle.miette_layout.specs.Highlighted.{leaves_plain}
-use Rattle.miette_tree.specs.Owned.{shown_source}
-use Rattle.miette_graphical.specs.Answered.{IsBelow, AreCauses, AreRelated, IsInner, IsOneCause, IsOneRelated}
-use Rattle.miette_tree.specs.Handler.{AppendsOne}
-use Rattle.miette_graphical.specs.Printed.{all_read, printed_causes, printed_inner, printed_one, printed_related}
-use Rattle.miette_graphical.specs.Snippets.{drawn_rows}
-use Rattle.miette_graphical.specs.Indents.{narrowed}
-use Rattle.miette_graphical.specs.Parts.{help_text, under_arrow}
-use Rattle.miette_graphical.specs.Text.{are_last, ends_there}
-use Rattle.miette_graphical.specs.Views.{settings_of}
+use Rattle.miette_text.specs.rules.Cutting.{without_leading, without_trailing}
+use Rattle.miette_text.specs.rules.Sequences.{spell}
+use Rattle.miette_tree.specs.rules.Tree.{effective, head, texts, trees, cause_of, related_of, source_of}
+use Rattle.miette_tree.specs.views.Report.{tree_of}
+use Rattle.miette_layout.specs.rules.Highlighted.{leaves_plain}
+use Rattle.miette_tree.specs.views.Owned.{shown_source}
+use Rattle.miette_graphical.specs.rules.Answered.{IsBelow, AreCauses, AreRelated, IsInner, IsOneCause, IsOneRelated}
+use Rattle.miette_tree.specs.views.Handler.{AppendsOne}
+use Rattle.miette_graphical.specs.rules.Printed.{all_read, printed_causes, printed_inner, printed_one, printed_related}
+use Rattle.miette_graphical.specs.rules.Snippets.{drawn_rows}
+use Rattle.miette_graphical.specs.rules.Indents.{narrowed}
+use Rattle.miette_graphical.specs.rules.Parts.{help_text, under_arrow}
+use Rattle.miette_graphical.specs.rules.Text.{are_last, ends_there}
+use Rattle.miette_graphical.specs.views.SettingsView.{settings_of}
 use Rattle.miette_graphical.proofs.Remaining.{CausesRemain, RelatedRemain, all_remain, cause_printed, related_printed, first_falls, texts_shown}
 use Rattle.miette_graphical.proofs.Sizes.{tree_size, cause_size, trees_size, related_falls}
 use Rattle.miette_graphical.proofs.Steps.{cause_texts_behind, no_related_behind, below_behind, inner_whole, sibling_behind, first_and_more, one_cause_fails, inner_rows_fail, inner_related_fail, sibling_causes_fail, sibling_below_fails, one_related_fails}

@@ -1,10 +1,10 @@
 use Rattle.std.proofs.Common.{◌≡◌, length, map, option_map, suc}
-use Rattle.miette_layout.specs.Highlighted.{leaves_plain}
-use Rattle.miette_tree.specs.Owned.{shown_source}
-use Rattle.miette_tree.specs.Tree.{trees, cause_of, related_of}
-use Rattle.miette_tree.specs.Report.{tree_of}
-use Rattle.miette_graphical.specs.Snippets.{drawn_rows}
-use Rattle.miette_graphical.specs.Views.{settings_of}
+use Rattle.miette_layout.specs.rules.Highlighted.{leaves_plain}
+use Rattle.miette_tree.specs.views.Owned.{shown_source}
+use Rattle.miette_tree.specs.rules.Tree.{trees, cause_of, related_of}
+use Rattle.miette_tree.specs.views.Report.{tree_of}
+use Rattle.miette_graphical.specs.rules.Snippets.{drawn_rows}
+use Rattle.miette_graphical.specs.views.SettingsView.{settings_of}
 use Rattle.miette_graphical.proofs.Remaining.{CausesRemain, RelatedRemain}
 use Rattle.miette_graphical.proofs.Sizes.{tree_size, cause_size, trees_size}
 use Rattle.miette_graphical.proofs.report.+report.Given as goal

@@ -1,4 +1,4 @@
-use Rattle.miette_tree.specs.Report.{tree_of}
+use Rattle.miette_tree.specs.views.Report.{tree_of}
 use Rattle.miette_graphical.proofs.Steps.{not_last}
 use Rattle.miette_graphical.proofs.report.are_last.Goals as goal
 

@@ -1,10 +1,10 @@
 use Rattle.std.proofs.Common.{refl, subst}
-use Rattle.miette_tree.specs.Owned.{shown_source}
-use Rattle.miette_layout.specs.Drawn.{RefusesWith}
-use Rattle.miette_layout.specs.Highlighted.{leaves_plain}
-use Rattle.miette_graphical.specs.Snippets.{layout_settings}
-use Rattle.miette_graphical.specs.Printing.{page_text}
-use Rattle.miette_graphical.specs.Views.{settings_of}
+use Rattle.miette_tree.specs.views.Owned.{shown_source}
+use Rattle.miette_layout.specs.views.Drawn.{RefusesWith}
+use Rattle.miette_layout.specs.rules.Highlighted.{leaves_plain}
+use Rattle.miette_graphical.specs.rules.Snippets.{layout_settings}
+use Rattle.miette_graphical.specs.views.Printing.{page_text}
+use Rattle.miette_graphical.specs.views.SettingsView.{settings_of}
 use Rattle.miette_graphical.proofs.DrawnRows.{drawn_page, refused_page}
 use Rattle.miette_graphical.proofs.report.push_drawn.Goals as goal
 

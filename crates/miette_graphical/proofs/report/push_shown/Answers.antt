@@ -1,12 +1,12 @@
 use Rattle.std.proofs.Common.{◌≡◌, [], Some, refl, sym, ◌∙◌}
-use Rattle.miette_layout.specs.Highlighted.{leaves_plain}
-use Rattle.miette_tree.specs.Owned.{shown_source}
-use Rattle.miette_tree.specs.Report.{tree_of}
-use Rattle.miette_tree.specs.Tree.{head}
-use Rattle.miette_graphical.specs.Answered.{IsDrawn}
-use Rattle.miette_tree.specs.Parts.{given_labels}
-use Rattle.miette_graphical.specs.Snippets.{drawn_rows}
-use Rattle.miette_graphical.specs.Views.{settings_of}
+use Rattle.miette_layout.specs.rules.Highlighted.{leaves_plain}
+use Rattle.miette_tree.specs.views.Owned.{shown_source}
+use Rattle.miette_tree.specs.views.Report.{tree_of}
+use Rattle.miette_tree.specs.rules.Tree.{head}
+use Rattle.miette_graphical.specs.rules.Answered.{IsDrawn}
+use Rattle.miette_tree.specs.rules.Parts.{given_labels}
+use Rattle.miette_graphical.specs.rules.Snippets.{drawn_rows}
+use Rattle.miette_graphical.specs.views.SettingsView.{settings_of}
 use Rattle.miette_graphical.proofs.DrawnRows.{drawn_unlabelled, empty_list}
 use Rattle.miette_graphical.proofs.Steps.{nothing_behind}
 use Rattle.miette_graphical.proofs.report.push_shown.Goals as goal

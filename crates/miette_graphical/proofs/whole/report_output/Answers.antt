@@ -1,13 +1,13 @@
 use Rattle.std.proofs.Common.{◌≡◌, subst, option_map, false, rules}
-use Rattle.miette_tree.specs.Tree.{source_of}
-use Rattle.miette_tree.specs.Report.{tree_of}
-use Rattle.miette_layout.specs.Highlighted.{leaves_plain}
-use Rattle.miette_tree.specs.Owned.{shown_source}
-use Rattle.miette_graphical.specs.Answered.{IsBelow}
-use Rattle.miette_tree.specs.Handler.{AppendsOne}
-use Rattle.miette_graphical.specs.Printed.{all_read, printed_inner}
-use Rattle.miette_graphical.specs.Snippets.{drawn_rows}
-use Rattle.miette_graphical.specs.Views.{settings_of}
+use Rattle.miette_tree.specs.rules.Tree.{source_of}
+use Rattle.miette_tree.specs.views.Report.{tree_of}
+use Rattle.miette_layout.specs.rules.Highlighted.{leaves_plain}
+use Rattle.miette_tree.specs.views.Owned.{shown_source}
+use Rattle.miette_graphical.specs.rules.Answered.{IsBelow}
+use Rattle.miette_tree.specs.views.Handler.{AppendsOne}
+use Rattle.miette_graphical.specs.rules.Printed.{all_read, printed_inner}
+use Rattle.miette_graphical.specs.rules.Snippets.{drawn_rows}
+use Rattle.miette_graphical.specs.views.SettingsView.{settings_of}
 use Rattle.miette_graphical.proofs.Steps.{report_whole, root_causes_fail, root_below_fails}
 use Rattle.miette_graphical.proofs.whole.report_output.Goals as goal
 

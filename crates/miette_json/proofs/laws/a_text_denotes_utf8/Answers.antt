@@ -1,5 +1,5 @@
 use Rattle.std.proofs.Common.{[]}
-use Rattle.miette_json.specs.Denotes.{tokens_then}
+use Rattle.miette_json.specs.rules.Denotes.{tokens_then}
 use Rattle.miette_json.proofs.JsonUtf8.{tokens_utf8}
 use Rattle.miette_json.proofs.laws.a_text_denotes_utf8.Goals as goal
 

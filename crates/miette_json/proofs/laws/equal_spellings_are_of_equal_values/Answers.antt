@@ -1,6 +1,6 @@
 use Rattle.std.proofs.Common.{sym, subst}
-use Rattle.miette_json.specs.Json.{json_text}
-use Rattle.miette_json.specs.Denotes.{HasTokensOf}
+use Rattle.miette_json.specs.rules.Json.{json_text}
+use Rattle.miette_json.specs.rules.Denotes.{HasTokensOf}
 use Rattle.miette_json.proofs.JsonUnique.{one_value_lem}
 use Rattle.miette_json.proofs.JsonSpelled.{spelling_tokens_lem}
 use Rattle.miette_json.proofs.laws.equal_spellings_are_of_equal_values.Goals as goal

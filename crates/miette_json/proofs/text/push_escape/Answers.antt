@@ -1,6 +1,6 @@
 use Rattle.std.proofs.Common.{◌≡◌, [], ◌∷◌, ◌/◌, ◌%◌, rules}
 use Rattle.std.specs.Char.{digit_char}
-use Rattle.miette_json.specs.Json.{escaped_byte}
+use Rattle.miette_json.specs.rules.Json.{escaped_byte}
 use Rattle.miette_json.proofs.JsonSpelled.{byte_control, control_written}
 use Rattle.miette_json.proofs.text.push_escape.Goals as goal
 

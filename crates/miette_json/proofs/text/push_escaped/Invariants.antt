@@ -1,7 +1,7 @@
 use Rattle.std.proofs.Common.{◌≡◌, ◌++◌, string_bytes, length}
 use denote.Shadow.{shadow}
 use denote.Text.{Utf8}
-use Rattle.miette_json.specs.Json.{escaped}
+use Rattle.miette_json.specs.rules.Json.{escaped}
 use Rattle.miette_json.proofs.text.push_escaped.Given as goal
 
 abbrev pub decreases-loop-at : goal.decreases-loop-at

@@ -1,5 +1,5 @@
 use Rattle.std.proofs.Common.{rules}
-use Rattle.miette_layout.specs.ThemeSettings.{settings_of}
+use Rattle.miette_layout.specs.views.ThemeSettings.{settings_of}
 use Rattle.miette_layout.proofs.Framing.{corner_put}
 use Rattle.miette_layout.proofs.frame.push_corner.Goals as goal
 

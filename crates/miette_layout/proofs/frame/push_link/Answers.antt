@@ -1,8 +1,8 @@
 use Rattle.std.proofs.Common.{◌++◌, ◌≡◌, ◌∙◌, cond, true, ap, sym, rules}
 use Rattle.std.specs.Prelude.{chars, codes}
-use Rattle.miette_layout.specs.Frames.{place_text}
-use Rattle.miette_layout.specs.Framed.{place_at}
-use Rattle.miette_layout.specs.Told.{run_told}
+use Rattle.miette_layout.specs.rules.Frames.{place_text}
+use Rattle.miette_layout.specs.rules.Framed.{place_at}
+use Rattle.miette_layout.specs.views.Told.{run_told}
 use Rattle.miette_layout.proofs.Framing.{link_put}
 use Rattle.miette_layout.proofs.frame.push_link.Goals as goal
 

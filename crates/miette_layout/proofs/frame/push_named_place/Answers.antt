@@ -1,10 +1,10 @@
 use Rattle.std.proofs.Common.{[], ◌∷◌, ◌++◌, cond}
 use Rattle.std.specs.Prelude.{chars, codes}
-use Rattle.miette_layout.specs.Rows.{Row, styled}
-use Rattle.miette_style.specs.Styles.{plain}
-use Rattle.miette_layout.specs.Frames.{place_text}
-use Rattle.miette_layout.specs.Framed.{place_at}
-use Rattle.miette_lines.specs.Given.{width_of}
+use Rattle.miette_layout.specs.rules.Rows.{Row, styled}
+use Rattle.miette_style.specs.rules.Styles.{plain}
+use Rattle.miette_layout.specs.rules.Frames.{place_text}
+use Rattle.miette_layout.specs.rules.Framed.{place_at}
+use Rattle.miette_lines.specs.views.Given.{width_of}
 use Rattle.miette_layout.proofs.Framing.{run_then, run_last}
 use Rattle.miette_layout.proofs.frame.push_named_place.Goals as goal
 

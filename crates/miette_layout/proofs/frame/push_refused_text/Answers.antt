@@ -1,9 +1,9 @@
 use Rattle.std.proofs.Common.{[], ◌∷◌}
 use Rattle.std.specs.Prelude.{codes}
-use Rattle.miette_layout.specs.Rows.{Row, styled}
-use Rattle.miette_style.specs.Styles.{plain}
-use Rattle.miette_layout.specs.Frames.{text_or_none}
-use Rattle.miette_lines.specs.Given.{width_of}
+use Rattle.miette_layout.specs.rules.Rows.{Row, styled}
+use Rattle.miette_style.specs.rules.Styles.{plain}
+use Rattle.miette_layout.specs.rules.Frames.{text_or_none}
+use Rattle.miette_lines.specs.views.Given.{width_of}
 use Rattle.miette_layout.proofs.Framing.{run_then, run_last}
 use Rattle.miette_layout.proofs.frame.push_refused_text.Goals as goal
 

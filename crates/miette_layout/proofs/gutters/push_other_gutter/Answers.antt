@@ -1,8 +1,8 @@
 use Rattle.std.proofs.Common.{◌∙◌, map, drop, get_or, ◌+◌, sym}
-use Rattle.miette_lines.specs.Sweeping.{nothing}
-use Rattle.miette_lines.specs.Given.{drawn_of, width_of}
-use Rattle.miette_lines.specs.TextLines.{line_of_text}
-use Rattle.miette_layout.specs.Gutters.{other_gutter}
+use Rattle.miette_lines.specs.views.Sweeping.{nothing}
+use Rattle.miette_lines.specs.views.Given.{drawn_of, width_of}
+use Rattle.miette_lines.specs.views.TextLines.{line_of_text}
+use Rattle.miette_layout.specs.rules.Gutters.{other_gutter}
 use Rattle.miette_layout.proofs.Telling.{blank_row}
 use Rattle.miette_layout.proofs.Guttering.{at_end, at_last, other_last}
 use Rattle.miette_layout.proofs.gutters.push_other_gutter.Goals as goal

@@ -1,5 +1,5 @@
 use Rattle.std.proofs.Common.{rules, ◌≡◌, true, ◌∙◌}
-use Rattle.miette_layout.specs.Highlighted.{decoded_text, leaves_plain}
+use Rattle.miette_layout.specs.rules.Highlighted.{decoded_text, leaves_plain}
 use Rattle.miette_layout.proofs.Styling.{cut_pieces}
 use Rattle.miette_layout.proofs.highlighting.pieces_of.Goals as goal
 

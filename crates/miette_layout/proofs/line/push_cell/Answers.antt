@@ -1,4 +1,4 @@
-use Rattle.miette_lines.specs.Walking.{cell_of}
+use Rattle.miette_lines.specs.views.Walking.{cell_of}
 use Rattle.miette_layout.proofs.Lining.{tab_put}
 use Rattle.miette_layout.proofs.line.push_cell.Goals as goal
 

@@ -1,5 +1,5 @@
 use Rattle.std.proofs.Common.{◌≡◌, ◌∷◌, rules}
-use Rattle.miette_lines.specs.Walking.{cell_of}
+use Rattle.miette_lines.specs.views.Walking.{cell_of}
 use Rattle.miette_layout.proofs.Lining.{cells_more}
 use Rattle.miette_layout.proofs.line.push_cells.Goals as goal
 

@@ -1,15 +1,15 @@
 use Rattle.std.proofs.Common.{map, false}
-use Rattle.miette_lines.specs.Cells.{cells_from, characters}
-use Rattle.miette_lines.specs.Labels.{closing}
-use Rattle.miette_layout.specs.Marks.{marks}
-use Rattle.miette_layout.specs.Drawing.{marked_rows}
-use Rattle.miette_layout.specs.Gutters.{closing_rows}
-use Rattle.miette_layout.specs.Frames.{other_start}
-use Rattle.miette_layout.specs.Layout.{before_each, text_of_cells}
-use Rattle.miette_lines.specs.Given.{drawn_of, width_of}
-use Rattle.miette_layout.specs.TellingCells.{highlight_of}
-use Rattle.miette_layout.specs.Sheets.{settings, multi_labels, before_marks, number_row}
-use Rattle.miette_lines.specs.TextLines.{line_of_text}
+use Rattle.miette_lines.specs.rules.Cells.{cells_from, characters}
+use Rattle.miette_lines.specs.rules.Labels.{closing}
+use Rattle.miette_layout.specs.rules.Marks.{marks}
+use Rattle.miette_layout.specs.rules.Drawing.{marked_rows}
+use Rattle.miette_layout.specs.rules.Gutters.{closing_rows}
+use Rattle.miette_layout.specs.rules.Frames.{other_start}
+use Rattle.miette_layout.specs.rules.Layout.{before_each, text_of_cells}
+use Rattle.miette_lines.specs.views.Given.{drawn_of, width_of}
+use Rattle.miette_layout.specs.views.TellingCells.{highlight_of}
+use Rattle.miette_layout.specs.views.Sheets.{settings, multi_labels, before_marks, number_row}
+use Rattle.miette_lines.specs.views.TextLines.{line_of_text}
 use Rattle.miette_layout.proofs.Lining.{line_put}
 use Rattle.miette_layout.proofs.line.push_line_rows.Goals as goal
 

@@ -1,10 +1,10 @@
 use Rattle.std.proofs.Common.{◌∙◌, ◌++◌, ◌<◌, ap, map, [], length, rules}
-use Rattle.miette_layout.specs.Drawing.{mark_runs, rows_below}
-use Rattle.miette_layout.specs.Told.{told_rows}
-use Rattle.miette_layout.specs.Layout.{before_each}
-use Rattle.miette_lines.specs.Given.{width_of}
-use Rattle.miette_layout.specs.Made.{mark_of}
-use Rattle.miette_layout.specs.Sheets.{before_marks}
+use Rattle.miette_layout.specs.rules.Drawing.{mark_runs, rows_below}
+use Rattle.miette_layout.specs.views.Told.{told_rows}
+use Rattle.miette_layout.specs.rules.Layout.{before_each}
+use Rattle.miette_lines.specs.views.Given.{width_of}
+use Rattle.miette_layout.specs.views.Made.{mark_of}
+use Rattle.miette_layout.specs.views.Sheets.{before_marks}
 use Rattle.miette_layout.proofs.Lining.{marked_put, marked_some}
 use Rattle.miette_layout.proofs.line.push_marked_rows.Goals as goal
 

@@ -1,12 +1,12 @@
 use Rattle.std.proofs.Common.{map, false}
-use Rattle.miette_layout.specs.PrintedCells.{line_runs}
-use Rattle.miette_lines.specs.Cells.{cells_from, characters}
-use Rattle.miette_layout.specs.Frames.{number_start}
-use Rattle.miette_layout.specs.Gutters.{number_gutter}
-use Rattle.miette_lines.specs.Given.{width_of}
-use Rattle.miette_layout.specs.TellingCells.{highlight_of}
-use Rattle.miette_layout.specs.Sheets.{settings, multi_labels}
-use Rattle.miette_lines.specs.TextLines.{line_of_text}
+use Rattle.miette_layout.specs.rules.PrintedCells.{line_runs}
+use Rattle.miette_lines.specs.rules.Cells.{cells_from, characters}
+use Rattle.miette_layout.specs.rules.Frames.{number_start}
+use Rattle.miette_layout.specs.rules.Gutters.{number_gutter}
+use Rattle.miette_lines.specs.views.Given.{width_of}
+use Rattle.miette_layout.specs.views.TellingCells.{highlight_of}
+use Rattle.miette_layout.specs.views.Sheets.{settings, multi_labels}
+use Rattle.miette_lines.specs.views.TextLines.{line_of_text}
 use Rattle.miette_layout.proofs.Lining.{number_row_put}
 use Rattle.miette_layout.proofs.line.push_number_row.Goals as goal
 

@@ -1,6 +1,6 @@
 use Rattle.std.proofs.Common.{◌≡◌, ◌∷◌, [], ◌∙◌, sym, ap, rules}
-use Rattle.miette_lines.specs.Walking.{cell_of}
-use Rattle.miette_layout.specs.PrintedCells.{first_column}
+use Rattle.miette_lines.specs.views.Walking.{cell_of}
+use Rattle.miette_layout.specs.rules.PrintedCells.{first_column}
 use Rattle.miette_layout.proofs.Stopping.{first_passed}
 use Rattle.miette_layout.proofs.marks.column_behind.Goals as goal
 

@@ -1,8 +1,8 @@
 use Rattle.std.proofs.Common.{ap, ◌∙◌}
 use Rattle.std.specs.Option.{option_map}
-use Rattle.miette_layout.specs.Framed.{place_at}
-use Rattle.miette_layout.specs.ThemeSettings.{settings_of}
-use Rattle.miette_layout.specs.Highlighted.{leaves_plain}
+use Rattle.miette_layout.specs.rules.Framed.{place_at}
+use Rattle.miette_layout.specs.views.ThemeSettings.{settings_of}
+use Rattle.miette_layout.specs.rules.Highlighted.{leaves_plain}
 use Rattle.miette_layout.proofs.Lending.{told_lent}
 use Rattle.miette_layout.proofs.snippet.push_framed.Goals as goal
 

@@ -1,8 +1,8 @@
 use Rattle.std.proofs.Common.{◌≡◌, ◌+◌, ◌-◌, ◌≤◌, length, map}
-use Rattle.miette_layout.specs.ThemeSettings.{settings_of}
-use Rattle.miette_lines.specs.Given.{drawn_of}
-use Rattle.miette_layout.specs.Highlighted.{leaves_plain}
-use Rattle.miette_lines.specs.Sweeping.{IsAt}
+use Rattle.miette_layout.specs.views.ThemeSettings.{settings_of}
+use Rattle.miette_lines.specs.views.Given.{drawn_of}
+use Rattle.miette_layout.specs.rules.Highlighted.{leaves_plain}
+use Rattle.miette_lines.specs.views.Sweeping.{IsAt}
 use Rattle.miette_layout.proofs.Lending.{AreLined}
 use Rattle.miette_layout.proofs.snippet.push_lines.Given as goal
 

@@ -1,19 +1,19 @@
 use Rattle.std.proofs.Common.{rules, refl, ap, sym, ◌∙◌, map, List, Option, subst}
 use Rattle.std.specs.Option.{option_map}
 use Rattle.miette_lines.specs.declared.sweep.Placed.{Placed}
-use Rattle.miette_protocol.specs.Reading.{Span}
-use Rattle.miette_layout.specs.Framed.{place_at}
-use Rattle.miette_lines.specs.Around.{group_context}
-use Rattle.miette_lines.specs.Groups.{in_order}
-use Rattle.miette_layout.specs.Layout.{settings_around}
-use Rattle.miette_layout.specs.ThemeSettings.{settings_of}
-use Rattle.miette_lines.specs.Given.{drawn_of}
-use Rattle.miette_layout.specs.Highlighted.{leaves_plain}
-use Rattle.miette_layout.specs.Lent.{PutsRows, lent_snippet}
-use Rattle.miette_lines.specs.Placing.{placed_from}
-use Rattle.miette_lines.specs.Primary.{PointsTo}
-use Rattle.miette_lines.specs.Read.{AreGroups}
-use Rattle.miette_lines.specs.Sweeping.{AreSorted}
+use Rattle.miette_protocol.specs.rules.Reading.{Span}
+use Rattle.miette_layout.specs.rules.Framed.{place_at}
+use Rattle.miette_lines.specs.rules.Around.{group_context}
+use Rattle.miette_lines.specs.rules.Groups.{in_order}
+use Rattle.miette_layout.specs.rules.Layout.{settings_around}
+use Rattle.miette_layout.specs.views.ThemeSettings.{settings_of}
+use Rattle.miette_lines.specs.views.Given.{drawn_of}
+use Rattle.miette_layout.specs.rules.Highlighted.{leaves_plain}
+use Rattle.miette_layout.specs.views.Lent.{PutsRows, lent_snippet}
+use Rattle.miette_lines.specs.views.Placing.{placed_from}
+use Rattle.miette_lines.specs.views.Primary.{PointsTo}
+use Rattle.miette_lines.specs.views.Read.{AreGroups}
+use Rattle.miette_lines.specs.views.Sweeping.{AreSorted}
 use Rattle.miette_layout.proofs.Lending.{placed_sorted, lent_texts}
 use Rattle.miette_layout.proofs.Nearing.{reads_rise}
 use Rattle.miette_layout.proofs.Progressing.{none_drawn, drawn_more, all_drawn, gives_rows, gives_none, drawn_is, place_ordered, groups_lent, puts_around, are_grouped, none_grouped, gives_unread}

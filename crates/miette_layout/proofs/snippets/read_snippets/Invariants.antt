@@ -1,9 +1,9 @@
-use Rattle.miette_lines.specs.Groups.{in_order}
-use Rattle.miette_layout.specs.Layout.{settings_around}
-use Rattle.miette_layout.specs.ThemeSettings.{settings_of}
+use Rattle.miette_lines.specs.rules.Groups.{in_order}
+use Rattle.miette_layout.specs.rules.Layout.{settings_around}
+use Rattle.miette_layout.specs.views.ThemeSettings.{settings_of}
 use Rattle.std.proofs.Common.{◌≡◌}
-use Rattle.miette_layout.specs.Highlighted.{leaves_plain}
-use Rattle.miette_lines.specs.Sweeping.{IsAt}
+use Rattle.miette_layout.specs.rules.Highlighted.{leaves_plain}
+use Rattle.miette_lines.specs.views.Sweeping.{IsAt}
 use Rattle.miette_layout.proofs.Progressing.{AreDrawn}
 use Rattle.miette_layout.proofs.snippets.read_snippets.Given as goal
 

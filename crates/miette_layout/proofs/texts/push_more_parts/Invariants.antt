@@ -1,11 +1,11 @@
 use Rattle.std.proofs.Common.{◌≡◌, ◌++◌, ◌+◌, map, length}
 use Rattle.std.specs.Prelude.{chars}
 use Rattle.std.specs.Option.{option_map_or, option_copied}
-use Rattle.miette_layout.specs.Told.{told_rows}
-use Rattle.miette_lines.specs.Labels.{cut_at_lf, parts_of}
-use Rattle.miette_layout.specs.Drawing.{beside}
-use Rattle.miette_layout.specs.Made.{mark_of}
-use Rattle.miette_layout.specs.Sheets.{settings, text_line}
+use Rattle.miette_layout.specs.views.Told.{told_rows}
+use Rattle.miette_lines.specs.rules.Labels.{cut_at_lf, parts_of}
+use Rattle.miette_layout.specs.rules.Drawing.{beside}
+use Rattle.miette_layout.specs.views.Made.{mark_of}
+use Rattle.miette_layout.specs.views.Sheets.{settings, text_line}
 use Rattle.miette_layout.proofs.texts.push_more_parts.Given as goal
 
 abbrev pub invariant-loop-left : goal.invariant-loop-left

@@ -1,5 +1,5 @@
 use Rattle.std.proofs.Common.{rules, ◌+◌}
-use Rattle.miette_lines.specs.Given.{width_of}
+use Rattle.miette_lines.specs.views.Given.{width_of}
 use Rattle.miette_layout.proofs.Texting.{start_put}
 use Rattle.miette_layout.proofs.texts.push_other_start.Goals as goal
 

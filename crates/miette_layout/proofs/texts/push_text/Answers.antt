@@ -1,9 +1,9 @@
 use Rattle.std.proofs.Common.{◌∙◌, ◌∷◌, ap, sym, map}
 use Rattle.std.specs.Prelude.{chars, option_copied}
-use Rattle.miette_lines.specs.Labels.{parts_of}
-use Rattle.miette_lines.specs.Given.{width_of}
-use Rattle.miette_layout.specs.Made.{mark_of}
-use Rattle.miette_layout.specs.Sheets.{before_marks}
+use Rattle.miette_lines.specs.rules.Labels.{parts_of}
+use Rattle.miette_lines.specs.views.Given.{width_of}
+use Rattle.miette_layout.specs.views.Made.{mark_of}
+use Rattle.miette_layout.specs.views.Sheets.{before_marks}
 use Rattle.miette_layout.proofs.Texting.{several_parts}
 use Rattle.miette_layout.proofs.texts.push_text.Goals as goal
 

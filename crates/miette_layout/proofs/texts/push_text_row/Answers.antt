@@ -1,8 +1,8 @@
 use Rattle.std.proofs.Common.{map}
 use Rattle.std.specs.Prelude.{chars}
-use Rattle.miette_lines.specs.Given.{width_of}
-use Rattle.miette_layout.specs.Made.{mark_of}
-use Rattle.miette_layout.specs.Sheets.{before_marks}
+use Rattle.miette_lines.specs.views.Given.{width_of}
+use Rattle.miette_layout.specs.views.Made.{mark_of}
+use Rattle.miette_layout.specs.views.Sheets.{before_marks}
 use Rattle.miette_layout.proofs.Texting.{text_put}
 use Rattle.miette_layout.proofs.texts.push_text_row.Goals as goal
 

@@ -1,5 +1,5 @@
 use Rattle.std.proofs.Common.{◌≡◌, ◌++◌, drop}
-use Rattle.miette_lines.specs.Placing.{placed_from}
+use Rattle.miette_lines.specs.views.Placing.{placed_from}
 use Rattle.miette_lines.proofs.drawn_labels.placed.Given as goal
 
 abbrev pub invariant-loop-i : goal.invariant-loop-i

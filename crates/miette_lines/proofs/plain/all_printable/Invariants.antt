@@ -1,6 +1,6 @@
 use Rattle.std.proofs.Common.{◌≡◌, true, take}
 use Rattle.std.specs.List.{list_all}
-use Rattle.miette_lines.specs.Printable.{is_printable}
+use Rattle.miette_lines.specs.views.Printable.{is_printable}
 use Rattle.miette_lines.proofs.plain.all_printable.Given as goal
 
 abbrev pub invariant-loop-byte : goal.invariant-loop-byte

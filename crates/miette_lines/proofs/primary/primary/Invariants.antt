@@ -1,5 +1,5 @@
 use Rattle.std.proofs.Common.{◌≡◌, drop, None}
-use Rattle.miette_lines.specs.Primary.{chosen}
+use Rattle.miette_lines.specs.views.Primary.{chosen}
 use Rattle.miette_lines.proofs.primary.primary.Given as goal
 
 abbrev pub invariant-loop-read : goal.invariant-loop-read

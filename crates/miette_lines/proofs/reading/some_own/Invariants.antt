@@ -1,5 +1,5 @@
 use Rattle.std.proofs.Common.{◌≡◌, drop}
-use Rattle.miette_lines.specs.Around.{has_own}
+use Rattle.miette_lines.specs.rules.Around.{has_own}
 use Rattle.miette_lines.proofs.reading.some_own.Given as goal
 
 abbrev pub invariant-loop-label : goal.invariant-loop-label

@@ -1,5 +1,5 @@
 use Rattle.std.proofs.Common.{◌≡◌, ◌++◌, drop}
-use Rattle.miette_lines.specs.Groups.{joined_stretches, stretches_from}
+use Rattle.miette_lines.specs.rules.Groups.{joined_stretches, stretches_from}
 use Rattle.miette_lines.proofs.stretches.joined.Given as goal
 
 abbrev pub invariant-loop-span : goal.invariant-loop-span

@@ -1,5 +1,5 @@
 use Rattle.std.proofs.Common.{ap, ◌∙◌}
-use Rattle.miette_lines.specs.Groups.{joined_stretches}
+use Rattle.miette_lines.specs.rules.Groups.{joined_stretches}
 use Rattle.miette_lines.proofs.Collecting.{groups_accepted}
 use Rattle.miette_lines.proofs.stretches.own_groups.Goals as goal
 

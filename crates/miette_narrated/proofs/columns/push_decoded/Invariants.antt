@@ -1,6 +1,6 @@
 use Rattle.std.proofs.Common.{◌≡◌, ◌++◌, string_bytes, length}
-use Rattle.miette_lines.specs.Cells.{characters}
-use Rattle.miette_narrated.specs.Lines.{decoded_text}
+use Rattle.miette_lines.specs.rules.Cells.{characters}
+use Rattle.miette_narrated.specs.rules.Lines.{decoded_text}
 use Rattle.miette_narrated.proofs.columns.push_decoded.Given as goal
 
 abbrev pub invariant-loop-rest : goal.invariant-loop-rest

@@ -1,5 +1,5 @@
 use Rattle.std.proofs.Common.{◌≡◌, ◌++◌, drop}
-use Rattle.miette_narrated.specs.Ends.{ranked}
+use Rattle.miette_narrated.specs.steps.Ends.{ranked}
 use Rattle.miette_narrated.proofs.label_order.with_ranks.Given as goal
 
 abbrev pub invariant-loop-rank : goal.invariant-loop-rank

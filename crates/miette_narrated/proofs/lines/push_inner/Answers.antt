@@ -1,8 +1,8 @@
 use Rattle.std.proofs.Common.{ℕ, List, ap, ap₂, sym, ◌∙◌, ◌++◌, append_assoc, string_bytes}
 use Rattle.miette_lines.specs.declared.sweep.Placed.{Placed}
-use Rattle.miette_narrated.specs.Ends.{labels_of}
-use Rattle.miette_narrated.specs.Labels.{label_rows}
-use Rattle.miette_narrated.specs.Made.{all_told, shown_of}
+use Rattle.miette_narrated.specs.steps.Ends.{labels_of}
+use Rattle.miette_narrated.specs.rules.Labels.{label_rows}
+use Rattle.miette_narrated.specs.views.Made.{all_told, shown_of}
 use Rattle.miette_narrated.proofs.Begun.{rows_apart}
 use Rattle.miette_narrated.proofs.lines.push_inner.Goals as goal
 

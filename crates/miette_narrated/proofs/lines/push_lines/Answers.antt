@@ -1,6 +1,6 @@
 use Rattle.std.proofs.Common.{◌≡◌, ◌+◌, ◌++◌, drop, subst, sym, string_bytes, rules}
-use Rattle.miette_narrated.specs.Lines.{rows_of_lines}
-use Rattle.miette_narrated.specs.Made.{all_told, shown_of}
+use Rattle.miette_narrated.specs.rules.Lines.{rows_of_lines}
+use Rattle.miette_narrated.specs.views.Made.{all_told, shown_of}
 use Rattle.miette_narrated.proofs.Lining.{lines_more, lines_of_swept}
 use Rattle.miette_narrated.proofs.lines.push_lines.Goals as goal
 

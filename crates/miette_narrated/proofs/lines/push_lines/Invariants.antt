@@ -1,7 +1,7 @@
 use Rattle.std.proofs.Common.{◌≡◌, ◌+◌, ◌++◌, string_bytes, drop}
-use Rattle.miette_narrated.specs.Made.{all_told}
-use Rattle.miette_narrated.specs.Lines.{rows_of_lines}
-use Rattle.miette_narrated.specs.Sweeping.{IsAt}
+use Rattle.miette_narrated.specs.views.Made.{all_told}
+use Rattle.miette_narrated.specs.rules.Lines.{rows_of_lines}
+use Rattle.miette_narrated.specs.steps.Sweeping.{IsAt}
 use Rattle.miette_narrated.proofs.Lining.{lines_of_swept}
 use Rattle.miette_narrated.proofs.lines.push_lines.Given as goal
 

@@ -1,8 +1,8 @@
 use Rattle.std.proofs.Common.{ap, ◌∙◌, ◌++◌, string_bytes, subst, suc, drop}
-use Rattle.miette_narrated.specs.Labels.{label_rows}
-use Rattle.miette_narrated.specs.Lines.{line_row}
-use Rattle.miette_narrated.specs.Made.{all_told, shown_of}
-use Rattle.miette_narrated.specs.Sweeping.{BeginsFrom}
+use Rattle.miette_narrated.specs.rules.Labels.{label_rows}
+use Rattle.miette_narrated.specs.rules.Lines.{line_row}
+use Rattle.miette_narrated.specs.views.Made.{all_told, shown_of}
+use Rattle.miette_narrated.specs.steps.Sweeping.{BeginsFrom}
 use Rattle.miette_narrated.proofs.Putting.{then}
 use Rattle.miette_narrated.proofs.Sweeps.{rows_swept}
 use Rattle.miette_narrated.proofs.lines.push_shown.Goals as goal

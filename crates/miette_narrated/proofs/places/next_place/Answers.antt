@@ -4,9 +4,9 @@ use Rattle.std.specs.Prelude.{chars}
 use Rattle.std.proofs.lemmas.List.{take_rest}
 use Rattle.std.proofs.lemmas.Str.{IsUtf8-string_bytes}
 use Rattle.unicode_width.specs.Width.{str_width}
-use Rattle.miette_lines.specs.Given.{width_of}
+use Rattle.miette_lines.specs.views.Given.{width_of}
 use Rattle.miette_lines.proofs.Stepping.{IsFirst}
-use Rattle.miette_narrated.specs.Parting.{may_part, may_part_flags}
+use Rattle.miette_narrated.specs.steps.Parting.{may_part, may_part_flags}
 use Rattle.miette_narrated.proofs.Columning.{chars_pushed}
 use Rattle.miette_narrated.proofs.Flags.{no_flags, flags_pushed, flags_part}
 use Rattle.miette_narrated.proofs.Placed.{IsPart, ends_part, none_since, one_since, ends_pushed, next_place}

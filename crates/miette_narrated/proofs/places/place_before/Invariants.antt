@@ -1,5 +1,5 @@
 use Rattle.std.proofs.Common.{◌-◌, ◌≤◌, length}
-use Rattle.miette_narrated.specs.Places.{IsPlace}
+use Rattle.miette_narrated.specs.steps.Places.{IsPlace}
 use Rattle.miette_narrated.proofs.places.place_before.Given as goal
 
 abbrev pub invariant-loop-low : goal.invariant-loop-low

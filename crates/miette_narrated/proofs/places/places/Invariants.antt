@@ -1,6 +1,6 @@
 use Rattle.std.proofs.Common.{◌-◌, length}
 use Rattle.std.specs.List.{All}
-use Rattle.miette_narrated.specs.Places.{IsPlace}
+use Rattle.miette_narrated.specs.steps.Places.{IsPlace}
 use Rattle.miette_narrated.proofs.places.places.Given as goal
 
 abbrev pub invariant-loop-places : goal.invariant-loop-places

@@ -1,8 +1,8 @@
 use Rattle.std.proofs.Common.{string_bytes, map, drop}
 use Rattle.std.specs.Option.{option_map}
-use Rattle.miette_tree.specs.Tree.{trees}
-use Rattle.miette_tree.specs.Owned.{shown_source}
-use Rattle.miette_tree.specs.Report.{tree_of}
+use Rattle.miette_tree.specs.rules.Tree.{trees}
+use Rattle.miette_tree.specs.views.Owned.{shown_source}
+use Rattle.miette_tree.specs.views.Report.{tree_of}
 use Rattle.miette_narrated.proofs.Telling.{RelatedSoFar}
 use Rattle.miette_narrated.proofs.Sizes.{tree_size, trees_size}
 use Rattle.miette_narrated.proofs.report.+report.Given as goal

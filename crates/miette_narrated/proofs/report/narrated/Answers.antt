@@ -1,11 +1,11 @@
 use Rattle.std.proofs.Common.{◌≡◌, false, rules, map}
 use Rattle.std.specs.Prelude.{None}
 use Rattle.std.specs.Option.{option_map}
-use Rattle.miette_tree.specs.Tree.{trees}
-use Rattle.miette_tree.specs.Owned.{shown_source}
-use Rattle.miette_tree.specs.Report.{tree_of}
-use Rattle.miette_narrated.specs.Answered.{accepts, holds_of_all}
-use Rattle.miette_narrated.specs.Settings.{settings_of}
+use Rattle.miette_tree.specs.rules.Tree.{trees}
+use Rattle.miette_tree.specs.views.Owned.{shown_source}
+use Rattle.miette_tree.specs.views.Report.{tree_of}
+use Rattle.miette_narrated.specs.rules.Answered.{accepts, holds_of_all}
+use Rattle.miette_narrated.specs.rules.Settings.{settings_of}
 use Rattle.miette_narrated.proofs.Telling.{whole_told, refused_below}
 use Rattle.miette_narrated.proofs.report.narrated.Goals as goal
 

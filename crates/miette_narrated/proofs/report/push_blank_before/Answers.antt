@@ -1,6 +1,6 @@
 use Rattle.std.proofs.Common.{ap, sym, ◌∙◌, ◌++◌, length, string_bytes}
 use Rattle.std.proofs.lemmas.Bool.{eqb-false}
-use Rattle.miette_tree.specs.Report.{tree_of}
+use Rattle.miette_tree.specs.views.Report.{tree_of}
 use Rattle.miette_narrated.proofs.Telling.{blank_some}
 use Rattle.miette_narrated.proofs.report.push_blank_before.Goals as goal
 

@@ -1,6 +1,6 @@
 use Rattle.std.proofs.Common.{ap, ◌∙◌, ◌++◌, string_bytes, codes, map, refl}
-use Rattle.miette_narrated.specs.Labels.{row}
-use Rattle.miette_narrated.specs.Report.{cause_rows}
+use Rattle.miette_narrated.specs.rules.Labels.{row}
+use Rattle.miette_narrated.specs.rules.Report.{cause_rows}
 use Rattle.miette_narrated.proofs.Putting.{rows_more}
 use Rattle.miette_narrated.proofs.report.push_causes.Goals as goal
 

@@ -1,5 +1,5 @@
 use Rattle.std.proofs.Common.{ap, ◌∙◌, ◌++◌, string_bytes, codes}
-use Rattle.miette_narrated.specs.Labels.{row}
+use Rattle.miette_narrated.specs.rules.Labels.{row}
 use Rattle.miette_narrated.proofs.report.push_severity.Goals as goal
 
 pub returns : goal.returns

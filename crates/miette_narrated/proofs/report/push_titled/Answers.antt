@@ -1,8 +1,8 @@
 use Rattle.std.proofs.Common.{ap, ap₂, ◌∙◌, ◌++◌, string_bytes, []}
-use Rattle.miette_tree.specs.Tree.{head}
-use Rattle.miette_tree.specs.Report.{tree_of}
-use Rattle.miette_narrated.specs.Labels.{row}
-use Rattle.miette_narrated.specs.Report.{title, severity_row}
+use Rattle.miette_tree.specs.rules.Tree.{head}
+use Rattle.miette_tree.specs.views.Report.{tree_of}
+use Rattle.miette_narrated.specs.rules.Labels.{row}
+use Rattle.miette_narrated.specs.rules.Report.{title, severity_row}
 use Rattle.miette_narrated.proofs.Putting.{three}
 use Rattle.miette_narrated.proofs.report.push_titled.Goals as goal
 

@@ -1,5 +1,5 @@
 use Rattle.std.proofs.Common.{codes, string_bytes}
-use Rattle.miette_narrated.specs.Labels.{row}
+use Rattle.miette_narrated.specs.rules.Labels.{row}
 use Rattle.miette_narrated.proofs.Putting.{then}
 use Rattle.miette_narrated.proofs.report.push_url.Goals as goal
 

@@ -1,6 +1,6 @@
 use Rattle.std.proofs.Common.{ap, ◌∙◌, ◌++◌, ◌+◌, string_bytes, codes}
 use Rattle.std.specs.Prelude.{decimal}
-use Rattle.miette_narrated.specs.Snippets.{name_text}
+use Rattle.miette_narrated.specs.rules.Snippets.{name_text}
 use Rattle.miette_narrated.proofs.Putting.{begin_put}
 use Rattle.miette_narrated.proofs.snippets.push_begin.Goals as goal
 

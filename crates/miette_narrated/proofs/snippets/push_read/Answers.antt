@@ -1,12 +1,12 @@
 use Rattle.std.proofs.Common.{ap, ◌∙◌, List, string_bytes, subst, sym}
 use Rattle.std.specs.Option.{option_map}
-use Rattle.miette_lines.specs.Around.{group_context}
-use Rattle.miette_lines.specs.Groups.{in_order}
+use Rattle.miette_lines.specs.rules.Around.{group_context}
+use Rattle.miette_lines.specs.rules.Groups.{in_order}
 use Rattle.miette_lines.specs.declared.sweep.Placed.{Placed}
-use Rattle.miette_lines.specs.Read.{AreGroups}
-use Rattle.miette_narrated.specs.Ends.{AreEnds}
+use Rattle.miette_lines.specs.views.Read.{AreGroups}
+use Rattle.miette_narrated.specs.steps.Ends.{AreEnds}
 use Rattle.miette_narrated.specs.declared.label_order.Ranked.{Ranked}
-use Rattle.miette_narrated.specs.Made.{all_told}
+use Rattle.miette_narrated.specs.views.Made.{all_told}
 use Rattle.miette_narrated.proofs.Reading.{placed_ordered, groups_more, groups_end, snippets_told, are_grouped, unread_group}
 use Rattle.miette_narrated.proofs.snippets.push_read.Goals as goal
 

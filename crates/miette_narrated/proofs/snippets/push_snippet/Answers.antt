@@ -1,8 +1,8 @@
 use Rattle.std.proofs.Common.{ap, ◌∙◌, ◌+◌, ◌++◌, string_bytes}
-use Rattle.miette_lines.specs.Contexts.{lines_of_contents}
-use Rattle.miette_narrated.specs.Lines.{rows_of_lines}
-use Rattle.miette_narrated.specs.Made.{all_told}
-use Rattle.miette_narrated.specs.Snippets.{begin_rows}
+use Rattle.miette_lines.specs.rules.Contexts.{lines_of_contents}
+use Rattle.miette_narrated.specs.rules.Lines.{rows_of_lines}
+use Rattle.miette_narrated.specs.views.Made.{all_told}
+use Rattle.miette_narrated.specs.rules.Snippets.{begin_rows}
 use Rattle.miette_narrated.proofs.Lining.{lines_of_swept}
 use Rattle.miette_narrated.proofs.Putting.{then}
 use Rattle.miette_narrated.proofs.snippets.push_snippet.Goals as goal

@@ -1,6 +1,6 @@
 use Rattle.std.proofs.Common.{ap, ◌∙◌, take, arith}
 use Rattle.std.specs.List.{filter}
-use Rattle.miette_narrated.specs.Sweeping.{reaches}
+use Rattle.miette_narrated.specs.steps.Sweeping.{reaches}
 use Rattle.miette_narrated.proofs.Sweeps.{reach_later}
 use Rattle.miette_narrated.proofs.sweeping.come_to.Goals as goal
 

@@ -1,5 +1,5 @@
 use Rattle.std.proofs.Common.{◌≡◌, ◌-◌, length}
-use Rattle.miette_narrated.specs.Sweeping.{IsAt}
+use Rattle.miette_narrated.specs.steps.Sweeping.{IsAt}
 use Rattle.miette_narrated.proofs.sweeping.take_more.Given as goal
 
 abbrev pub invariant-loop-label : goal.invariant-loop-label

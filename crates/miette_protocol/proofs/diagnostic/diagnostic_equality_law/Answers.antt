@@ -2,7 +2,7 @@
 use Rattle.std.proofs.Common.{rules, refl}
 use Rattle.std.specs.Prelude.{string_bytes}
 use Rattle.std.proofs.lemmas.Slice.Eq.{slice_eq-Decides}
-use Rattle.miette_protocol.specs.Diagnostic.{meaning_of}
+use Rattle.miette_protocol.specs.views.Diagnostic.{meaning_of}
 use Rattle.miette_protocol.proofs.Equality.{lifted, plain, both, texts, same_meaning, same_parts}
 use Rattle.miette_protocol.proofs.diagnostic.diagnostic_equality_law.Goals as goal
 

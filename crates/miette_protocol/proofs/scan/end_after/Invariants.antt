@@ -1,5 +1,5 @@
 use Rattle.std.proofs.Common.{◌≡◌, ◌+◌, ◌-◌, ◌≤◌, length}
-use Rattle.miette_protocol.specs.Lines.{line_of}
+use Rattle.miette_protocol.specs.rules.Lines.{line_of}
 use Rattle.miette_protocol.proofs.scan.end_after.Given as goal
 
 abbrev pub invariant-loop-at : goal.invariant-loop-at

@@ -1,5 +1,5 @@
 use Rattle.std.proofs.Common.{◌≡◌, ◌≤◌, ◌-◌}
-use Rattle.miette_protocol.specs.Lines.{line_of}
+use Rattle.miette_protocol.specs.rules.Lines.{line_of}
 use Rattle.miette_protocol.proofs.scan.line_from.Given as goal
 
 abbrev pub invariant-loop-from : goal.invariant-loop-from

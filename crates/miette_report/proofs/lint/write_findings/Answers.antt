@@ -1,6 +1,6 @@
 use Rattle.std.proofs.Common.{ap, string_bytes, ◌∙◌}
 use Rattle.std.specs.Io.KnownBytes.{Appends}
-use Rattle.miette_report.specs.Findings.{findings_of}
+use Rattle.miette_report.specs.rules.Findings.{findings_of}
 use Rattle.miette_report.proofs.LintSteps.{linted_told}
 use Rattle.miette_report.proofs.lint.write_findings.Goals as goal
 

@@ -1,6 +1,6 @@
 use Rattle.std.proofs.Common.{◌≡◌, length}
 use Rattle.std.specs.Prelude.{find, nat_lt}
-use Rattle.miette_report.specs.Findings.{cells_of}
+use Rattle.miette_report.specs.rules.Findings.{cells_of}
 use Rattle.miette_report.proofs.lint_lines.first_past.Given as goal
 
 abbrev pub invariant-loop-cell : goal.invariant-loop-cell

@@ -1,6 +1,6 @@
 use Rattle.std.proofs.Common.{length, refl, arith}
-use Rattle.miette_lines.specs.Swept.{LiesIn}
-use Rattle.miette_report.specs.Findings.{line_findings}
+use Rattle.miette_lines.specs.views.Swept.{LiesIn}
+use Rattle.miette_report.specs.rules.Findings.{line_findings}
 use Rattle.miette_report.proofs.FindingSteps.{item_lies, lines_all, lines_more}
 use Rattle.miette_report.proofs.lint_lines.push_lines.Goals as goal
 

@@ -1,7 +1,7 @@
 use Rattle.std.proofs.Common.{◌≡◌, ◌++◌, map}
 use Rattle.std.specs.List.{flat_map}
-use Rattle.miette_lines.specs.TextLines.{line_of_text}
-use Rattle.miette_report.specs.Findings.{line_findings}
+use Rattle.miette_lines.specs.views.TextLines.{line_of_text}
+use Rattle.miette_report.specs.rules.Findings.{line_findings}
 use Rattle.miette_report.proofs.FindingSteps.{rest_of}
 use Rattle.miette_report.proofs.lint_lines.push_lines.Given as goal
 

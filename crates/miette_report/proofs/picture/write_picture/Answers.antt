@@ -1,5 +1,5 @@
 use Rattle.miette_report.proofs.PictureSteps.{told}
-use Rattle.miette_report.specs.Device.{TakesBeginning}
+use Rattle.miette_report.specs.views.Device.{TakesBeginning}
 use Rattle.std.specs.Io.KnownBytes.{Appends}
 use Rattle.miette_report.proofs.picture.write_picture.Goals as goal
 

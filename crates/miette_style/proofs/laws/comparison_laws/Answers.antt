@@ -1,7 +1,7 @@
 -- Field by field.
 use Rattle.std.proofs.Common.{◌≡◌, ap, rules}
 use Rattle.std.specs.Cmp.{booleans_Decides, unsigned_Decides}
-use Rattle.miette_style.specs.Themes.{Characters, characters_of}
+use Rattle.miette_style.specs.rules.Themes.{Characters, characters_of}
 use Rattle.miette_style.specs.declared.style.Style.{Style}
 use Rattle.miette_style.proofs.Equality.{options, both, texts}
 use Rattle.miette_style.proofs.laws.comparison_laws.Goals as goal

@@ -1,7 +1,7 @@
 use Rattle.std.proofs.Common.{◌≡◌, ◌∙◌, ◌-◌, ◌++◌, ap, min}
-use Rattle.miette_text.specs.Sequences.{spell}
-use Rattle.miette_text.specs.Woven.{woven}
-use Rattle.miette_text.specs.Wrapping.{columns_of}
+use Rattle.miette_text.specs.rules.Sequences.{spell}
+use Rattle.miette_text.specs.views.Woven.{woven}
+use Rattle.miette_text.specs.rules.Wrapping.{columns_of}
 use Rattle.miette_text.proofs.LineWise.{filled-text, text_of}
 use Rattle.miette_text.proofs.Appending.{appended}
 use Rattle.miette_text.proofs.wrap.push_filled_under.Goals as goal

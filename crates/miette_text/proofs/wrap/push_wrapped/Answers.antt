@@ -1,8 +1,8 @@
 use Rattle.std.proofs.Common.{◌≡◌, ◌∙◌, ◌++◌, ap, ap₂, false, sym, true}
-use Rattle.miette_text.specs.Filling.{filled_under, laid_out}
-use Rattle.miette_text.specs.Sequences.{spell}
-use Rattle.miette_text.specs.Woven.{woven}
-use Rattle.miette_text.specs.Wrapping.{pieces, whole_pieces}
+use Rattle.miette_text.specs.views.Filling.{filled_under, laid_out}
+use Rattle.miette_text.specs.rules.Sequences.{spell}
+use Rattle.miette_text.specs.views.Woven.{woven}
+use Rattle.miette_text.specs.rules.Wrapping.{pieces, whole_pieces}
 use Rattle.miette_text.proofs.wrap.push_wrapped.Goals as goal
 
 pub returns-in_ok-push_filled_under : goal.returns-in_ok-push_filled_under

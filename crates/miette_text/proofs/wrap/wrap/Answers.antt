@@ -1,6 +1,6 @@
 use Rattle.std.proofs.Common.{◌≡◌, ◌∙◌, ◌++◌, ap, sym}
-use Rattle.miette_text.specs.Filling.{laid_out}
-use Rattle.miette_text.specs.Sequences.{spell}
+use Rattle.miette_text.specs.views.Filling.{laid_out}
+use Rattle.miette_text.specs.rules.Sequences.{spell}
 use Rattle.miette_text.proofs.Simple.{laid-read}
 use Rattle.miette_text.proofs.wrap.wrap.Goals as goal
 

@@ -1,6 +1,6 @@
 use Rattle.std.proofs.Common.{◌≡◌, ◌∙◌, ◌++◌, ap, ap₂, chars, encode_utf8_all, string_bytes}
-use Rattle.miette_text.specs.Filling.{laid_out, layout_with}
-use Rattle.miette_text.specs.Wrapping.{wrapped}
+use Rattle.miette_text.specs.views.Filling.{laid_out, layout_with}
+use Rattle.miette_text.specs.rules.Wrapping.{wrapped}
 use Rattle.miette_text.proofs.Simple.{laid-read}
 use Rattle.miette_text.proofs.wrap.wrapped_text.Goals as goal
 

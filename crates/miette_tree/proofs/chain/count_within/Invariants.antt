@@ -1,6 +1,6 @@
 use Rattle.std.proofs.Common.{◌≡◌, ◌+◌, length}
-use Rattle.miette_tree.specs.Chain.{spine}
-use Rattle.miette_tree.specs.Report.{tree_of}
+use Rattle.miette_tree.specs.rules.Chain.{spine}
+use Rattle.miette_tree.specs.views.Report.{tree_of}
 use Rattle.miette_tree.proofs.chain.count_within.Given as goal
 
 -- how many reports were passed

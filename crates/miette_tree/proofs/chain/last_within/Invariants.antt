@@ -1,6 +1,6 @@
 use Rattle.std.proofs.Common.{◌≡◌, ◌-◌, drop}
-use Rattle.miette_tree.specs.Chain.{spine}
-use Rattle.miette_tree.specs.Report.{tree_of}
+use Rattle.miette_tree.specs.rules.Chain.{spine}
+use Rattle.miette_tree.specs.views.Report.{tree_of}
 use Rattle.miette_tree.proofs.chain.last_within.Given as goal
 
 -- what lies behind the reports that were passed

@@ -1,12 +1,12 @@
 use Rattle.std.proofs.Common.{rules, ◌≡◌, ◌++◌, true, refl, ap, ◌∙◌, string_bytes, encode_utf8_all, subst}
-use Rattle.miette_layout.specs.Highlighted.{leaves_plain}
-use Rattle.miette_tree.specs.Report.{tree_of}
-use Rattle.miette_graphical.specs.Answered.{IsReport}
-use Rattle.miette_graphical.specs.Answers.{unlisted}
-use Rattle.miette_graphical.specs.Handling.{draws_plain}
-use Rattle.miette_graphical.specs.Snippets.{drawn_rows}
-use Rattle.miette_graphical.specs.Text.{report_text}
-use Rattle.miette_graphical.specs.Views.{settings_of}
+use Rattle.miette_layout.specs.rules.Highlighted.{leaves_plain}
+use Rattle.miette_tree.specs.views.Report.{tree_of}
+use Rattle.miette_graphical.specs.rules.Answered.{IsReport}
+use Rattle.miette_graphical.specs.rules.Answers.{unlisted}
+use Rattle.miette_graphical.specs.views.Handling.{draws_plain}
+use Rattle.miette_graphical.specs.rules.Snippets.{drawn_rows}
+use Rattle.miette_graphical.specs.rules.Text.{report_text}
+use Rattle.miette_graphical.specs.views.SettingsView.{settings_of}
 use Rattle.miette_graphical.proofs.Only.{same-report}
 use Rattle.miette_graphical.proofs.handler.GraphicalReportHandler.draw.Goals as goal
 

@@ -1,6 +1,6 @@
 use Rattle.std.proofs.Common.{◌∙◌, ap, ◌++◌, ◌∷◌, [], subst, sym, string_bytes, length}
-use Rattle.miette_layout.specs.Told.{row_end}
-use Rattle.miette_layout.specs.Pages.{tokens_from, AreMarks}
+use Rattle.miette_layout.specs.views.Told.{row_end}
+use Rattle.miette_layout.specs.views.Pages.{tokens_from, AreMarks}
 use Rattle.miette_layout.proofs.Paging.{mark_more, marks_more}
 use Rattle.miette_layout.proofs.page.Page.end_row.Goals as goal
 

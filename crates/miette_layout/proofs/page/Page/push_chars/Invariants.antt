@@ -1,5 +1,5 @@
 use Rattle.std.proofs.Common.{◌≡◌, ◌++◌, take}
-use Rattle.miette_layout.specs.Told.{text_told}
+use Rattle.miette_layout.specs.views.Told.{text_told}
 use Rattle.miette_layout.proofs.page.Page.push_chars.Given as goal
 
 abbrev pub invariant-loop-character : goal.invariant-loop-character

@@ -1,5 +1,5 @@
 use Rattle.std.proofs.Common.{◌≡◌, ◌++◌, replicate}
-use Rattle.miette_layout.specs.Told.{text_told}
+use Rattle.miette_layout.specs.views.Told.{text_told}
 use Rattle.miette_layout.proofs.page.Page.push_copies.Given as goal
 
 abbrev pub invariant-loop-i : goal.invariant-loop-i

@@ -1,7 +1,7 @@
 use Rattle.std.proofs.Common.{◌∙◌, ◌++◌, ap, sym, subst, decimal}
 use Rattle.std.specs.Str.{IsAscii}
 use Rattle.std.proofs.lemmas.Str.{encodes-IsAscii}
-use Rattle.miette_layout.specs.Told.{bytes_told}
+use Rattle.miette_layout.specs.views.Told.{bytes_told}
 use Rattle.miette_layout.proofs.page.Page.push_number.Goals as goal
 
 pub returns : goal.returns

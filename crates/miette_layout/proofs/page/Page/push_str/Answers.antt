@@ -1,7 +1,7 @@
 use Rattle.std.proofs.Common.{◌∙◌, ap, ◌++◌, subst, sym, string_bytes}
 use Rattle.std.proofs.lemmas.Str.{encodes-chars}
-use Rattle.miette_layout.specs.Told.{bytes_told}
-use Rattle.miette_layout.specs.Pages.{tokens_from, AreMarks}
+use Rattle.miette_layout.specs.views.Told.{bytes_told}
+use Rattle.miette_layout.specs.views.Pages.{tokens_from, AreMarks}
 use Rattle.miette_layout.proofs.Paging.{text_more, marks_stay}
 use Rattle.miette_layout.proofs.page.Page.push_str.Goals as goal
 

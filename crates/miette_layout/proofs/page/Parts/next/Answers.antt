@@ -1,8 +1,8 @@
 use Rattle.std.proofs.Common.{◌≤◌, sym, subst}
 use Rattle.std.specs.Str.{IsCharBoundary}
-use Rattle.miette_layout.specs.Pages.{AreMarks}
-use Rattle.miette_layout.specs.PageMarks.{marks_ahead}
-use Rattle.miette_layout.specs.Seams.{first_mark}
+use Rattle.miette_layout.specs.views.Pages.{AreMarks}
+use Rattle.miette_layout.specs.steps.PageMarks.{marks_ahead}
+use Rattle.miette_layout.specs.steps.Seams.{first_mark}
 use Rattle.miette_layout.proofs.Paging.{first_boundary, at_first, later_stay}
 use Rattle.miette_layout.proofs.page.Parts.next.Goals as goal
 

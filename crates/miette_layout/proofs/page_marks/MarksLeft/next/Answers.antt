@@ -1,5 +1,5 @@
 use Rattle.std.proofs.Common.{◌≡◌, ◌+◌, ◌<◌, ◌∙◌, ◌∷◌, sym, ap, length, get_or, arith, rules}
-use Rattle.miette_layout.specs.PageMarks.{marks_kept}
+use Rattle.miette_layout.specs.steps.PageMarks.{marks_kept}
 use Rattle.miette_layout.proofs.Keeping.{nothing_kept, later_kept, near_end, near_fits, far_fits, later_kinds, near_view}
 use Rattle.miette_layout.proofs.page_marks.MarksLeft.next.Goals as goal
 

@@ -1,5 +1,5 @@
 use Rattle.std.proofs.Common.{◌≡◌, ◌<◌, ◌^◌, length}
-use Rattle.miette_layout.specs.PageMarks.{marks_kept, end_kept, AreKinds}
+use Rattle.miette_layout.specs.steps.PageMarks.{marks_kept, end_kept, AreKinds}
 use Rattle.miette_layout.proofs.page_marks.MarksLeft.next.Given as goal
 
 abbrev pub invariant-loop-kept : goal.invariant-loop-kept

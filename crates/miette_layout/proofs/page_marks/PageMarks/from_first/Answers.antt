@@ -1,5 +1,5 @@
 use Rattle.std.proofs.Common.{List, length, sym, subst, ap, ◌∙◌, arith}
-use Rattle.miette_layout.specs.PageMarks.{end_kept, AreKinds}
+use Rattle.miette_layout.specs.steps.PageMarks.{end_kept, AreKinds}
 use Rattle.miette_layout.specs.declared.page_marks.Kept.{Kept}
 use Rattle.miette_style.specs.declared.style.Style.{Style}
 use Rattle.miette_layout.proofs.page_marks.PageMarks.from_first.Goals as goal

@@ -1,5 +1,5 @@
 use Rattle.std.proofs.Common.{◌+◌, ◌*◌, ◌/◌, ◌∙◌, ◌++◌, ◌∷◌, [], append-nil, refl, sym, ap, rules}
-use Rattle.miette_layout.specs.PageMarks.{marks_kept}
+use Rattle.miette_layout.specs.steps.PageMarks.{marks_kept}
 use Rattle.miette_layout.proofs.Keeping.{AreKept, state_grown, view_grown, state_near, view_near, state_far, view_far}
 use Rattle.miette_layout.proofs.page_marks.PageMarks.push.Goals as goal
 

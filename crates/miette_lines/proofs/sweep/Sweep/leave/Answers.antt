@@ -1,6 +1,6 @@
 use Rattle.std.proofs.Common.{rules}
 use Rattle.std.proofs.lemmas.Fn.{filter_same}
-use Rattle.miette_lines.specs.Sweeping.{passes}
+use Rattle.miette_lines.specs.views.Sweeping.{passes}
 use Rattle.miette_lines.proofs.sweep.Sweep.leave.Goals as goal
 
 pub returns-clause-running : goal.returns-clause-running

@@ -1,6 +1,6 @@
 use Rattle.std.proofs.Common.{◌≡◌, ℕ, ◌+◌, ◌≤◌, [], ◌∷◌, ◌++◌, length, slice_index, arith, sym, ◌∙◌, ap, true, false, Vec, Global}
 use Rattle.std.proofs.lemmas.List.{length_push}
-use Rattle.miette_protocol.specs.Lines.{ends_line, line_of}
+use Rattle.miette_protocol.specs.rules.Lines.{ends_line, line_of}
 use Rattle.miette_protocol.proofs.Places.{line_of_none, line_of_yes, line_of_no, push_end}
 use Rattle.miette_protocol.proofs.line_ends.LineEnds.new.Goals as goal
 use Rattle.miette_protocol.proofs.line_ends.LineEnds.new.Goals.{then-ends_line+in_ok-push, else-ends_line}

@@ -1,5 +1,5 @@
 use Rattle.std.proofs.Common.{◌≡◌, ℕ, ◌-◌, ◌<◌, ◌≤◌, length, slice_index}
-use Rattle.miette_protocol.specs.Lines.{line_of, line_end}
+use Rattle.miette_protocol.specs.rules.Lines.{line_of, line_end}
 use Rattle.miette_protocol.proofs.line_ends.LineEnds.new.Given as goal
 
 abbrev pub invariant-loop-at : goal.invariant-loop-at

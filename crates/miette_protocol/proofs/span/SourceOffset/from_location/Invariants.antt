@@ -2,7 +2,7 @@
 use Rattle.std.proofs.Common.{◌≡◌, ℕ, ◌<◌, length, take}
 use Rattle.std.specs.Prelude.{encode_utf8_all}
 use Rattle.std.specs.Str.{chars}
-use Rattle.miette_protocol.specs.Location.{line_after, column_after, Reaches}
+use Rattle.miette_protocol.specs.rules.Location.{line_after, column_after, Reaches}
 use Rattle.miette_protocol.proofs.span.SourceOffset.from_location.Given as goal
 
 -- line, column and offset after the characters so far, none of which reaches what is asked for

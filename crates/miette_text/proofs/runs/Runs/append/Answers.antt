@@ -1,7 +1,7 @@
 use Rattle.std.proofs.Common.{◌≡◌, ◌∙◌, ◌+◌, ◌-◌, ◌++◌, [], ap, arith, drop, length, length-drop, map, min, sym, take}
 use Rattle.std.proofs.lemmas.List.{take_rest}
-use Rattle.miette_text.specs.Sequences.{Character}
-use Rattle.miette_text.specs.Woven.{mark_token, woven}
+use Rattle.miette_text.specs.rules.Sequences.{Character}
+use Rattle.miette_text.specs.views.Woven.{mark_token, woven}
 use Rattle.miette_text.proofs.Growing.{appended-next, spell-appended}
 use Rattle.miette_text.proofs.Weaving.{drop-all, woven-none, woven-step}
 use Rattle.miette_text.proofs.runs.Runs.append.Goals as goal

@@ -1,5 +1,5 @@
 use Rattle.std.proofs.Common.{◌≡◌, ◌≤◌, ◌++◌, drop, length}
-use Rattle.miette_text.specs.Woven.{woven}
+use Rattle.miette_text.specs.views.Woven.{woven}
 use Rattle.miette_text.proofs.runs.Runs.append.Given as goal
 
 abbrev pub invariant-loop-mark : goal.invariant-loop-mark

@@ -1,8 +1,8 @@
 use Rattle.std.proofs.Common.{◌≡◌, ◌∙◌, ◌≤◌, ap, ap₂, arith, length, map, sym}
 use Rattle.std.proofs.lemmas.List.{length-map, with_items_is}
 use Rattle.std.specs.Vec.{with_items}
-use Rattle.miette_text.specs.Cutting.{cut_end}
-use Rattle.miette_text.specs.Feeds.{capped, kept_len}
+use Rattle.miette_text.specs.rules.Cutting.{cut_end}
+use Rattle.miette_text.specs.steps.Feeds.{capped, kept_len}
 use Rattle.miette_text.proofs.WovenCuts.{end-cut, end-whole, end-within}
 use Rattle.miette_text.proofs.runs.Runs.cut_end.Goals as goal
 

@@ -1,8 +1,8 @@
 use Rattle.std.proofs.Common.{◌≡◌, ◌∙◌, ap, ap₂, arith, length, map, sym}
 use Rattle.std.proofs.lemmas.List.{length-map, with_items_is}
 use Rattle.std.specs.Vec.{with_items}
-use Rattle.miette_text.specs.Cutting.{cut_front}
-use Rattle.miette_text.specs.Feeds.{feeds_len, lowered}
+use Rattle.miette_text.specs.rules.Cutting.{cut_front}
+use Rattle.miette_text.specs.steps.Feeds.{feeds_len, lowered}
 use Rattle.miette_text.proofs.WovenCuts.{front-cut, front-whole, front-within}
 use Rattle.miette_text.proofs.runs.Runs.cut_front.Goals as goal
 

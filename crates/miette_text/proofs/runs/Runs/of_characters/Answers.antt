@@ -1,5 +1,5 @@
 use Rattle.std.proofs.Common.{◌∙◌, ap}
-use Rattle.miette_text.specs.Woven.{woven}
+use Rattle.miette_text.specs.views.Woven.{woven}
 use Rattle.miette_text.proofs.Weaving.{woven-none}
 use Rattle.miette_text.proofs.runs.Runs.of_characters.Goals as goal
 

@@ -1,6 +1,6 @@
 use Rattle.std.proofs.Common.{◌∙◌, ◌+◌, ◌++◌, ◌∷◌, [], ap, arith, length}
-use Rattle.miette_text.specs.Sequences.{Character}
-use Rattle.miette_text.specs.Woven.{woven}
+use Rattle.miette_text.specs.rules.Sequences.{Character}
+use Rattle.miette_text.specs.views.Woven.{woven}
 use Rattle.miette_text.proofs.Growing.{spell-more, within-more, woven-more}
 use Rattle.miette_text.proofs.runs.Runs.push.Goals as goal
 

@@ -1,6 +1,6 @@
 use Rattle.std.proofs.Common.{◌∙◌, ◌++◌, ap}
-use Rattle.miette_text.specs.Runs.{link_start}
-use Rattle.miette_text.specs.Sequences.{spell}
+use Rattle.miette_text.specs.rules.Runs.{link_start}
+use Rattle.miette_text.specs.rules.Sequences.{spell}
 use Rattle.miette_text.proofs.Painting.{chars-none}
 use Rattle.miette_text.proofs.runs.Runs.push_link_end.Goals as goal
 

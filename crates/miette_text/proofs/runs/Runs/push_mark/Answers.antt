@@ -1,6 +1,6 @@
 use Rattle.std.proofs.Common.{◌∙◌, ◌++◌, ◌∷◌, [], ap, arith}
-use Rattle.miette_text.specs.Sequences.{Sequence}
-use Rattle.miette_text.specs.Woven.{sign_text, woven}
+use Rattle.miette_text.specs.rules.Sequences.{Sequence}
+use Rattle.miette_text.specs.views.Woven.{sign_text, woven}
 use Rattle.miette_text.specs.declared.runs.sign.Mark.{Mark}
 use Rattle.miette_text.proofs.Growing.{spell-sequence, woven-mark}
 use Rattle.miette_text.proofs.runs.Runs.push_mark.Goals as goal

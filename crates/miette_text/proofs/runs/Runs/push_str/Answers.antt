@@ -2,7 +2,7 @@ use Rattle.std.proofs.Common.{◌∙◌, ◌++◌, ◌∷◌, [], ap, append_ass
 use Rattle.std.proofs.lemmas.Iterator.{YieldsList-from_chars}
 use Rattle.std.proofs.lemmas.Iterator.Consumers.{YieldsList-end}
 use Rattle.std.proofs.lemmas.List.{map-append}
-use Rattle.miette_text.specs.Sequences.{Character}
+use Rattle.miette_text.specs.rules.Sequences.{Character}
 use Rattle.miette_text.proofs.Growing.{spell-more}
 use Rattle.miette_text.proofs.runs.Runs.push_str.Goals as goal
 

@@ -1,7 +1,7 @@
 use Rattle.std.proofs.Common.{◌≡◌, ◌∙◌, ◌-◌, ◌++◌, ap, drop, length, sym, take}
 use Rattle.std.proofs.lemmas.List.{take_rest}
-use Rattle.miette_text.specs.WholeText.{piece_text}
-use Rattle.miette_text.specs.Woven.{cells_at, marks_spelled}
+use Rattle.miette_text.specs.steps.WholeText.{piece_text}
+use Rattle.miette_text.specs.views.Woven.{cells_at, marks_spelled}
 use Rattle.miette_text.proofs.Appending.{appended}
 use Rattle.miette_text.proofs.Weaving.{spell-woven}
 use Rattle.miette_text.proofs.runs.cells.push_all.Goals as goal

@@ -1,6 +1,6 @@
 use Rattle.std.proofs.Common.{◌≡◌, ◌<◌, ◌++◌, drop, length}
-use Rattle.miette_text.specs.WholeText.{piece_text}
-use Rattle.miette_text.specs.Woven.{cells_at, left_at}
+use Rattle.miette_text.specs.steps.WholeText.{piece_text}
+use Rattle.miette_text.specs.views.Woven.{cells_at, left_at}
 use Rattle.miette_text.proofs.runs.cells.push_cells.Given as goal
 
 abbrev pub invariant-loop-n : goal.invariant-loop-n

@@ -1,5 +1,5 @@
 use Rattle.std.proofs.Common.{◌≡◌, ◌++◌, drop}
-use Rattle.miette_text.specs.Woven.{marks_spelled}
+use Rattle.miette_text.specs.views.Woven.{marks_spelled}
 use Rattle.miette_text.proofs.runs.cells.push_marks.Given as goal
 
 abbrev pub invariant-loop-mark : goal.invariant-loop-mark

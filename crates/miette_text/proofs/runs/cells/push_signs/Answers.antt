@@ -1,6 +1,6 @@
 use Rattle.std.proofs.Common.{◌∙◌, ◌+◌, ◌<◌, ◌≤◌, ap, arith, drop, length, length-drop, sym}
-use Rattle.miette_text.specs.Ends.{marks_text}
-use Rattle.miette_text.specs.Woven.{cells_at, left_at}
+use Rattle.miette_text.specs.steps.Ends.{marks_text}
+use Rattle.miette_text.specs.views.Woven.{cells_at, left_at}
 use Rattle.miette_text.proofs.Weaving.{drop-all, left-last, left-none, left-step, marks-last, marks-next, marks-none, marks-step, pushed-none}
 use Rattle.miette_text.proofs.runs.cells.push_signs.Goals as goal
 

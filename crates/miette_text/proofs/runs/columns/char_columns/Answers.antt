@@ -1,7 +1,7 @@
 use Rattle.std.proofs.Common.{◌≡◌, ℕ, ◌<◌, ◌≤◌, arith}
 use Rattle.std.proofs.lemmas.Bool.Decides.{nat_tests}
 use Rattle.unicode_width.specs.Width.{char_width}
-use Rattle.miette_text.specs.Wrapping.{width}
+use Rattle.miette_text.specs.rules.Wrapping.{width}
 use Rattle.miette_text.proofs.runs.columns.char_columns.Goals as goal
 
 printed : (c : ℕ) → 32 ≤ c → c < 127 → 1 ≡ width c

@@ -1,7 +1,7 @@
 use Rattle.std.proofs.Common.{◌≡◌, ◌∙◌, ◌+◌, ap, fold, sym}
 use Rattle.std.proofs.Math.ListN.{drop_of_length-le}
-use Rattle.miette_text.specs.Ends.{code_columns}
-use Rattle.miette_text.specs.Wrapping.{width}
+use Rattle.miette_text.specs.steps.Ends.{code_columns}
+use Rattle.miette_text.specs.rules.Wrapping.{width}
 use Rattle.miette_text.proofs.WovenColumns.{woven-columns}
 use Rattle.miette_text.proofs.runs.columns.token_columns.Goals as goal
 

@@ -1,6 +1,6 @@
 use Rattle.std.proofs.Common.{◌≡◌, ◌+◌, fold, drop}
-use Rattle.miette_text.specs.Ends.{code_columns}
-use Rattle.miette_text.specs.Wrapping.{width}
+use Rattle.miette_text.specs.steps.Ends.{code_columns}
+use Rattle.miette_text.specs.rules.Wrapping.{width}
 use Rattle.miette_text.proofs.runs.columns.token_columns.Given as goal
 
 abbrev pub invariant-loop-code : goal.invariant-loop-code

@@ -1,5 +1,5 @@
 use Rattle.std.proofs.Common.{ap, get_or}
-use Rattle.miette_text.specs.Feeds.{capped}
+use Rattle.miette_text.specs.steps.Feeds.{capped}
 use Rattle.miette_text.specs.declared.runs.sign.Mark.{Mark}
 use Rattle.miette_text.proofs.WovenCuts.{change-next}
 use Rattle.miette_text.proofs.runs.cut.cap.Goals as goal

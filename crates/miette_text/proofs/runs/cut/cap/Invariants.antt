@@ -1,5 +1,5 @@
 use Rattle.std.proofs.Common.{◌≡◌, ◌++◌, drop, map, take}
-use Rattle.miette_text.specs.Feeds.{capped}
+use Rattle.miette_text.specs.steps.Feeds.{capped}
 use Rattle.miette_text.proofs.runs.cut.cap.Given as goal
 
 abbrev pub invariant-loop-i : goal.invariant-loop-i

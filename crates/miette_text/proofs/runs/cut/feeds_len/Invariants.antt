@@ -1,5 +1,5 @@
 use Rattle.std.proofs.Common.{◌≡◌, ◌+◌, drop}
-use Rattle.miette_text.specs.Feeds.{feeds_len}
+use Rattle.miette_text.specs.steps.Feeds.{feeds_len}
 use Rattle.miette_text.proofs.runs.cut.feeds_len.Given as goal
 
 abbrev pub invariant-loop-i : goal.invariant-loop-i

@@ -1,8 +1,8 @@
 use Rattle.std.proofs.Common.{◌≡◌, ◌∙◌, ◌+◌, ◌≤◌, ℕ, Bool, false, ap, ap₂, arith, if◌then◌else◌, sym}
 use Rattle.std.proofs.lemmas.Bool.Decides.{nat_tests}
-use Rattle.miette_text.specs.Feeds.{are_colours}
-use Rattle.miette_text.specs.Sequences.{is_line_feed}
-use Rattle.miette_text.specs.Woven.{upto}
+use Rattle.miette_text.specs.steps.Feeds.{are_colours}
+use Rattle.miette_text.specs.rules.Sequences.{is_line_feed}
+use Rattle.miette_text.specs.views.Woven.{upto}
 use Rattle.miette_text.proofs.WovenCuts.{kept-all, kept-next}
 use Rattle.miette_text.proofs.runs.cut.kept_len.Goals as goal
 use Rattle.miette_text.proofs.runs.cut.kept_len.Goals.{then-code-ne10, else-code-ne10+then-not-are_colours, else-code-ne10+else-not-are_colours}

@@ -1,5 +1,5 @@
 use Rattle.std.proofs.Common.{◌≡◌, ◌≤◌, drop}
-use Rattle.miette_text.specs.Feeds.{kept_len}
+use Rattle.miette_text.specs.steps.Feeds.{kept_len}
 use Rattle.miette_text.proofs.WovenCuts.{kept_from}
 use Rattle.miette_text.proofs.runs.cut.kept_len.Given as goal
 

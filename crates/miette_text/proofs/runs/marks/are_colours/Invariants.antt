@@ -1,5 +1,5 @@
 use Rattle.std.proofs.Common.{◌≡◌, drop}
-use Rattle.miette_text.specs.Feeds.{are_colours}
+use Rattle.miette_text.specs.steps.Feeds.{are_colours}
 use Rattle.miette_text.proofs.runs.marks.are_colours.Given as goal
 
 abbrev pub invariant-loop-mark : goal.invariant-loop-mark

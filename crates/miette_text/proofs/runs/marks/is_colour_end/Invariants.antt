@@ -1,5 +1,5 @@
 use Rattle.std.proofs.Common.{◌≡◌, drop}
-use Rattle.miette_text.specs.Tame.{is_colour_end}
+use Rattle.miette_text.specs.rules.Tame.{is_colour_end}
 use Rattle.miette_text.proofs.runs.marks.is_colour_end.Given as goal
 
 abbrev pub invariant-loop-i : goal.invariant-loop-i

@@ -1,6 +1,6 @@
 use Rattle.std.proofs.Common.{◌∙◌, ap, sym}
-use Rattle.miette_text.specs.Tame.{is_colour}
-use Rattle.miette_text.specs.Woven.{sign_text}
+use Rattle.miette_text.specs.rules.Tame.{is_colour}
+use Rattle.miette_text.specs.views.Woven.{sign_text}
 use Rattle.miette_text.proofs.Printing.{start_colour}
 use Rattle.miette_text.proofs.runs.marks.is_colour_sign.Goals as goal
 

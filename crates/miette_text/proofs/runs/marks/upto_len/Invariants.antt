@@ -1,5 +1,5 @@
 use Rattle.std.proofs.Common.{◌≡◌, ◌++◌, drop, take}
-use Rattle.miette_text.specs.Woven.{beyond, upto}
+use Rattle.miette_text.specs.views.Woven.{beyond, upto}
 use Rattle.miette_text.proofs.runs.marks.upto_len.Given as goal
 
 abbrev pub invariant-loop-i : goal.invariant-loop-i

@@ -1,5 +1,5 @@
 use Rattle.std.proofs.Common.{◌≡◌, drop}
-use Rattle.miette_text.specs.Woven.{are_whole}
+use Rattle.miette_text.specs.views.Woven.{are_whole}
 use Rattle.miette_text.proofs.runs.reading.are_whole.Given as goal
 
 abbrev pub invariant-loop-mark : goal.invariant-loop-mark

@@ -1,6 +1,6 @@
 use Rattle.std.proofs.Common.{◌∙◌, ap, sym}
-use Rattle.miette_text.specs.Sequences.{spell, tokens}
-use Rattle.miette_text.specs.Wrapping.{columns_of}
+use Rattle.miette_text.specs.rules.Sequences.{spell, tokens}
+use Rattle.miette_text.specs.rules.Wrapping.{columns_of}
 use Rattle.miette_text.proofs.runs.reading.columns_of.Goals as goal
 
 pub returns-then-is_settled : goal.returns-then-is_settled

@@ -1,5 +1,5 @@
 use Rattle.std.proofs.Common.{◌≡◌, ◌∙◌, ◌+◌, ◌-◌, ◌++◌, ◌∷◌, [], ap, arith, drop, sym, take}
-use Rattle.miette_text.specs.Sequences.{Sequence, sequence_len, tokens}
+use Rattle.miette_text.specs.rules.Sequences.{Sequence, sequence_len, tokens}
 use Rattle.miette_text.proofs.Counting.{cut_sequence}
 use Rattle.miette_text.proofs.Opened.{open_behind}
 use Rattle.miette_text.proofs.runs.reading.cut.Goals as goal

@@ -1,5 +1,5 @@
 use Rattle.std.proofs.Common.{length, ◌-◌, ◌≡◌, true, ◌≤◌, ◌++◌, drop}
-use Rattle.miette_text.specs.Sequences.{command_len, tokens}
+use Rattle.miette_text.specs.rules.Sequences.{command_len, tokens}
 use Rattle.miette_text.proofs.runs.reading.cut.Given as goal
 
 abbrev pub invariant-rest : goal.invariant-rest

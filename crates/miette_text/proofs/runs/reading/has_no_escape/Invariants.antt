@@ -1,5 +1,5 @@
 use Rattle.std.proofs.Common.{◌≡◌, drop}
-use Rattle.miette_style.specs.Escapes.{no_escape}
+use Rattle.miette_style.specs.rules.Escapes.{no_escape}
 use Rattle.miette_text.proofs.runs.reading.has_no_escape.Given as goal
 
 abbrev pub invariant-loop-code : goal.invariant-loop-code

@@ -1,5 +1,5 @@
 use Rattle.std.proofs.Common.{◌∙◌, ap, sym}
-use Rattle.miette_text.specs.Woven.{is_whole, sign_text}
+use Rattle.miette_text.specs.views.Woven.{is_whole, sign_text}
 use Rattle.miette_text.proofs.Settled.{start-whole}
 use Rattle.miette_text.proofs.runs.reading.is_whole_sign.Goals as goal
 

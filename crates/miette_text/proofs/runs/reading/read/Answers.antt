@@ -1,6 +1,6 @@
 use Rattle.std.proofs.Common.{◌≡◌, ◌∙◌, ap, sym, true}
-use Rattle.miette_text.specs.Sequences.{spell, tokens}
-use Rattle.miette_style.specs.Escapes.{no_escape}
+use Rattle.miette_text.specs.rules.Sequences.{spell, tokens}
+use Rattle.miette_style.specs.rules.Escapes.{no_escape}
 use Rattle.miette_text.proofs.Erasing.{spell-tokens}
 use Rattle.miette_text.proofs.Growing.{spell-characters}
 use Rattle.miette_text.proofs.Settled.{tokens-plain}

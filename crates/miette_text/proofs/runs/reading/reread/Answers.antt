@@ -1,6 +1,6 @@
 use Rattle.std.proofs.Common.{◌∙◌, ap, sym}
 use Rattle.std.proofs.lemmas.Str.{chars_from_encodes}
-use Rattle.miette_text.specs.Sequences.{spell, tokens}
+use Rattle.miette_text.specs.rules.Sequences.{spell, tokens}
 use Rattle.miette_text.proofs.runs.reading.reread.Goals as goal
 
 pub returns : goal.returns

@@ -1,6 +1,6 @@
 use Rattle.std.proofs.Common.{◌≡◌, ◌<◌, ◌∙◌, sym, ap, length, drop, arith, get_or, false, ne_eqb}
 use Rattle.std.proofs.lemmas.List.{take_rest, get_or_default}
-use Rattle.miette_text.specs.Sequences.{begins_terminator, is_line_feed, is_bell}
+use Rattle.miette_text.specs.rules.Sequences.{begins_terminator, is_line_feed, is_bell}
 use Rattle.miette_text.proofs.Counting.{command_step}
 use Rattle.miette_text.proofs.runs.sequences.command_len.Goals as goal
 

@@ -1,5 +1,5 @@
 use Rattle.std.proofs.Common.{◌≡◌, drop}
-use Rattle.miette_text.specs.Sequences.{command_len}
+use Rattle.miette_text.specs.rules.Sequences.{command_len}
 use Rattle.miette_text.proofs.Counting.{counted}
 use Rattle.miette_text.proofs.runs.sequences.command_len.Given as goal
 

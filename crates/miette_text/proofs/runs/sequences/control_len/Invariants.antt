@@ -1,5 +1,5 @@
 use Rattle.std.proofs.Common.{◌≡◌, drop}
-use Rattle.miette_text.specs.Sequences.{control_len}
+use Rattle.miette_text.specs.rules.Sequences.{control_len}
 use Rattle.miette_text.proofs.Counting.{counted}
 use Rattle.miette_text.proofs.runs.sequences.control_len.Given as goal
 

@@ -1,6 +1,6 @@
 use Rattle.std.proofs.Common.{◌≡◌, ◌∙◌, true, ap, sym, drop}
 use Rattle.std.proofs.lemmas.List.{take_rest}
-use Rattle.miette_text.specs.Sequences.{begins_command}
+use Rattle.miette_text.specs.rules.Sequences.{begins_command}
 use Rattle.miette_text.proofs.Opened.{opened_behind, plain_behind}
 use Rattle.miette_text.proofs.runs.sequences.stays_open.Goals as goal
 

@@ -1,6 +1,6 @@
 use Rattle.std.proofs.Common.{◌∙◌, ap, sym}
-use Rattle.miette_text.specs.Runs.{colour_start}
-use Rattle.miette_text.specs.Woven.{sign_text}
+use Rattle.miette_text.specs.rules.Runs.{colour_start}
+use Rattle.miette_text.specs.views.Woven.{sign_text}
 use Rattle.miette_text.proofs.runs.sign.are_alike.Goals as goal
 
 pub returns-in-Begin-Begin : goal.returns-in-Begin-Begin

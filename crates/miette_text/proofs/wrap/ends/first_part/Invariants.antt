@@ -1,5 +1,5 @@
 use Rattle.std.proofs.Common.{◌≡◌, ◌+◌, drop, take}
-use Rattle.miette_text.specs.Ends.{part_len, code_columns}
+use Rattle.miette_text.specs.steps.Ends.{part_len, code_columns}
 use Rattle.miette_text.proofs.wrap.ends.first_part.Given as goal
 
 abbrev pub invariant-loop-i : goal.invariant-loop-i

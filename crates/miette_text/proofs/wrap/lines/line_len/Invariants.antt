@@ -1,5 +1,5 @@
 use Rattle.std.proofs.Common.{◌≡◌, ◌+◌, drop}
-use Rattle.miette_text.specs.Ends.{line_len}
+use Rattle.miette_text.specs.steps.Ends.{line_len}
 use Rattle.miette_text.proofs.wrap.lines.line_len.Given as goal
 
 abbrev pub invariant-loop-i : goal.invariant-loop-i

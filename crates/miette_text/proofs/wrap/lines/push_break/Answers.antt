@@ -1,6 +1,6 @@
 use Rattle.std.proofs.Common.{◌≡◌, ◌∙◌, ◌++◌, ◌∷◌, [], ap}
-use Rattle.miette_text.specs.Sequences.{spell}
-use Rattle.miette_text.specs.Woven.{woven}
+use Rattle.miette_text.specs.rules.Sequences.{spell}
+use Rattle.miette_text.specs.views.Woven.{woven}
 use Rattle.miette_text.proofs.Appending.{appended}
 use Rattle.miette_text.proofs.wrap.lines.push_break.Goals as goal
 

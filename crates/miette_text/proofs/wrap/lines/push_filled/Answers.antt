@@ -1,8 +1,8 @@
 use Rattle.std.proofs.Common.{◌≡◌, ◌∙◌, ◌+◌, ◌-◌, ◌<◌, ◌≤◌, ◌++◌, ◌∷◌, [], ap, ap₂, arith, drop, drop-drop, length, length-drop, map, sym, take}
 use Rattle.std.proofs.lemmas.List.{drop-take, take_rest}
-use Rattle.miette_text.specs.Ends.{line_len, marks_text}
-use Rattle.miette_text.specs.Sequences.{flat, spell}
-use Rattle.miette_text.specs.Woven.{beyond, cells_at, left_at, mark_text, marks_spelled, upto, woven}
+use Rattle.miette_text.specs.steps.Ends.{line_len, marks_text}
+use Rattle.miette_text.specs.rules.Sequences.{flat, spell}
+use Rattle.miette_text.specs.views.Woven.{beyond, cells_at, left_at, mark_text, marks_spelled, upto, woven}
 use Rattle.miette_text.proofs.LineWise.{last-line, line-at, line_text, text_of}
 use Rattle.miette_text.proofs.WovenCells.{feed-marks}
 use Rattle.miette_text.proofs.Appending.{appended}

@@ -1,9 +1,9 @@
 use Rattle.std.proofs.Common.{◌≡◌, ◌∙◌, ◌+◌, ◌-◌, ◌++◌, ap, ap₂, drop, drop-drop, length, sym, take}
 use Rattle.std.proofs.lemmas.List.{take_rest}
-use Rattle.miette_text.specs.Ends.{bare_len, marks_text, plain_cells}
-use Rattle.miette_text.specs.Printing.{shown}
-use Rattle.miette_text.specs.WholeText.{piece_text}
-use Rattle.miette_text.specs.Woven.{cells_at, left_at}
+use Rattle.miette_text.specs.steps.Ends.{bare_len, marks_text, plain_cells}
+use Rattle.miette_text.specs.steps.Printing.{shown}
+use Rattle.miette_text.specs.steps.WholeText.{piece_text}
+use Rattle.miette_text.specs.views.Woven.{cells_at, left_at}
 use Rattle.miette_text.proofs.WovenCells.{cells-shown, left-parts}
 use Rattle.miette_text.proofs.Appending.{appended}
 use Rattle.miette_text.proofs.wrap.lines.push_row.Goals as goal

@@ -1,10 +1,10 @@
 use Rattle.std.proofs.Common.{◌≡◌, ◌∙◌, ◌+◌, ◌-◌, ◌<◌, ◌≤◌, ◌++◌, ◌∷◌, [], ap, ap₂, arith, drop, drop-drop, get_or, length, length-drop, map, sym, take}
 use Rattle.std.proofs.lemmas.List.{drop-take, get_or-drop, take_rest}
-use Rattle.miette_text.specs.Ends.{code_behind}
-use Rattle.miette_text.specs.Printing.{joined_lines, lines_of, row_cells, shown}
-use Rattle.miette_text.specs.Sequences.{spell}
-use Rattle.miette_text.specs.Woven.{cells_at, left_at, woven}
-use Rattle.miette_text.specs.Wrapping.{rows}
+use Rattle.miette_text.specs.steps.Ends.{code_behind}
+use Rattle.miette_text.specs.steps.Printing.{joined_lines, lines_of, row_cells, shown}
+use Rattle.miette_text.specs.rules.Sequences.{spell}
+use Rattle.miette_text.specs.views.Woven.{cells_at, left_at, woven}
+use Rattle.miette_text.specs.rules.Wrapping.{rows}
 use Rattle.miette_text.proofs.FirstRow.{behind-last}
 use Rattle.miette_text.proofs.Parting.{words-alone}
 use Rattle.miette_text.proofs.WovenCells.{left-parts}

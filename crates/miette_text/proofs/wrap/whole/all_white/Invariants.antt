@@ -1,6 +1,6 @@
 use Rattle.std.proofs.Common.{◌≡◌, drop}
-use Rattle.miette_text.specs.Ends.{plain_cells}
-use Rattle.miette_text.specs.Wrapping.{all_white}
+use Rattle.miette_text.specs.steps.Ends.{plain_cells}
+use Rattle.miette_text.specs.rules.Wrapping.{all_white}
 use Rattle.miette_text.proofs.wrap.whole.all_white.Given as goal
 
 abbrev pub invariant-loop-code : goal.invariant-loop-code

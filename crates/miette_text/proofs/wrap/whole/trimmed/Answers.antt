@@ -1,5 +1,5 @@
 use Rattle.std.proofs.Common.{◌∙◌, ap, sym, take}
-use Rattle.miette_text.specs.Woven.{woven}
+use Rattle.miette_text.specs.views.Woven.{woven}
 use Rattle.miette_text.proofs.WovenWhole.{trimmed-woven}
 use Rattle.miette_text.proofs.wrap.whole.trimmed.Goals as goal
 

@@ -1,6 +1,6 @@
 use Rattle.std.proofs.Common.{ap, ◌∙◌, map, rules}
-use Rattle.miette_tree.specs.Tree.{trees}
-use Rattle.miette_tree.specs.Report.{tree_of}
+use Rattle.miette_tree.specs.rules.Tree.{trees}
+use Rattle.miette_tree.specs.views.Report.{tree_of}
 use Rattle.miette_tree.specs.declared.report.Report.{the_lemmas}
 use Rattle.miette_tree.proofs.report.Report.related.Goals as goal
 

@@ -1,7 +1,7 @@
 use Rattle.std.proofs.Common.{◌≡◌, [], ◌∷◌, ◌++◌, map, string_bytes, ap, sym, ◌∙◌, rules}
 use Rattle.std.proofs.lemmas.List.{map-append}
-use Rattle.miette_tree.specs.Tree.{cause_of}
-use Rattle.miette_tree.specs.Report.{tree_of}
+use Rattle.miette_tree.specs.rules.Tree.{cause_of}
+use Rattle.miette_tree.specs.views.Report.{tree_of}
 use Rattle.miette_tree.proofs.Ends.{no_diagnostic, last_text}
 use Rattle.miette_tree.proofs.report.Report.root_cause.Goals as goal
 

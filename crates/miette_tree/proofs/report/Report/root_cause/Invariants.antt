@@ -1,8 +1,8 @@
 use Rattle.std.proofs.Common.{◌≡◌, length, None}
 use Rattle.std.specs.List.{last_or}
-use Rattle.miette_tree.specs.Tree.{chain_of}
-use Rattle.miette_tree.specs.Chain.{spine}
-use Rattle.miette_tree.specs.Report.{tree_of}
+use Rattle.miette_tree.specs.rules.Tree.{chain_of}
+use Rattle.miette_tree.specs.rules.Chain.{spine}
+use Rattle.miette_tree.specs.views.Report.{tree_of}
 use Rattle.miette_tree.proofs.report.Report.root_cause.Given as goal
 
 -- the chain of the report that was reached has the same last text

@@ -1,5 +1,5 @@
 use Rattle.std.proofs.Common.{◌∙◌, ap, sym}
-use Rattle.miette_text.specs.Outputs.{written}
+use Rattle.miette_text.specs.views.Outputs.{written}
 use Rattle.miette_text.proofs.Outputs.{text-bytes}
 use Rattle.miette_text.proofs.runs.output.Output.into_text.Goals as goal
 

@@ -1,5 +1,5 @@
 use Rattle.std.proofs.Common.{[], ap, sym, ◌++◌, ◌∙◌, ◌∷◌}
-use Rattle.miette_text.specs.Outputs.{written}
+use Rattle.miette_text.specs.views.Outputs.{written}
 use Rattle.miette_text.proofs.Outputs.{text-grows, code-behind}
 use Rattle.miette_text.proofs.runs.output.Output.push.Goals as goal
 use Rattle.miette_text.proofs.runs.output.Output.push.Goals.{in-Printed+in_ok-push-in-Printed, in-Collected+in_ok-push-in-Collected}

@@ -1,7 +1,7 @@
 use Rattle.std.proofs.Common.{ap, chars, sym, ◌++◌, ◌∙◌}
-use Rattle.miette_text.specs.Outputs.{written}
+use Rattle.miette_text.specs.views.Outputs.{written}
 use Rattle.miette_text.proofs.Outputs.{text-grows}
-use Rattle.miette_text.specs.Runs.{link_start}
+use Rattle.miette_text.specs.rules.Runs.{link_start}
 use Rattle.miette_text.proofs.runs.output.Output.push_link.Goals as goal
 use Rattle.miette_text.proofs.runs.output.Output.push_link.Goals.{in-Printed+in_ok-print_link-in-Printed, in-Collected+in_ok-push_link-in-Collected}
 

@@ -1,6 +1,6 @@
 use Rattle.std.proofs.Common.{◌∙◌, ◌++◌, ap}
 use Rattle.std.proofs.lemmas.Str.{chars-nil}
-use Rattle.miette_text.specs.Runs.{link_start}
+use Rattle.miette_text.specs.rules.Runs.{link_start}
 use Rattle.miette_text.proofs.runs.output.Output.push_link_end.Goals as goal
 
 pub returns : goal.returns

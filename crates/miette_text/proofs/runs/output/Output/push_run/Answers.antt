@@ -1,7 +1,7 @@
 use Rattle.std.proofs.Common.{ap, chars, sym, ◌++◌, ◌∙◌}
-use Rattle.miette_text.specs.Outputs.{written}
+use Rattle.miette_text.specs.views.Outputs.{written}
 use Rattle.miette_text.proofs.Outputs.{text-grows}
-use Rattle.miette_text.specs.Runs.{printed_run}
+use Rattle.miette_text.specs.rules.Runs.{printed_run}
 use Rattle.miette_text.proofs.runs.output.Output.push_run.Goals as goal
 use Rattle.miette_text.proofs.runs.output.Output.push_run.Goals.{in-Printed+in_ok-print_run-in-Printed, in-Collected+in_ok-push_run-in-Collected}
 

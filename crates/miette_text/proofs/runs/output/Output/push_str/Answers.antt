@@ -1,5 +1,5 @@
 use Rattle.std.proofs.Common.{ap, chars, sym, ◌++◌, ◌∙◌}
-use Rattle.miette_text.specs.Outputs.{written}
+use Rattle.miette_text.specs.views.Outputs.{written}
 use Rattle.miette_text.proofs.Outputs.{text-grows, text-behind}
 use Rattle.miette_text.proofs.runs.output.Output.push_str.Goals as goal
 use Rattle.miette_text.proofs.runs.output.Output.push_str.Goals.{in-Printed+in_ok-push_str-in-Printed, in-Collected+in_ok-push_str-in-Collected}

@@ -1,6 +1,6 @@
 use Rattle.std.proofs.Common.{◌++◌, ◌∙◌, sym, ap}
-use Rattle.miette_text.specs.Outputs.{written}
-use Rattle.miette_text.specs.Woven.{sign_text}
+use Rattle.miette_text.specs.views.Outputs.{written}
+use Rattle.miette_text.specs.views.Woven.{sign_text}
 use Rattle.miette_text.proofs.Outputs.{text-grows}
 use Rattle.miette_text.proofs.runs.output.OutputSink.push_sign.Goals as goal
 use Rattle.miette_text.proofs.runs.output.OutputSink.push_sign.Goals.{in-Printed+in_ok-push_sign-in-Printed, in-Collected+in_ok-push_sign-in-Collected}

@@ -1,0 +1,89 @@
+-- Which handler options and a terminal choose, and how it is set. Of several places that may say it, the first that does counts.
+use Rattle.std.specs.Prelude.{◌≡◌, ℕ, Bool, true, false, not, List, Option, None, is_some, if◌then◌else◌, unwrap_or, option_map, chars, codes, string_bytes}
+use Rattle.std.specs.Option.{option_or}
+use Rattle.std.specs.Str.{bytes_eq}
+use Rattle.miette_style.specs.rules.Themes.{Styles, Theme, ansi_styles, ascii_characters, characters_of, no_styles, rgb_styles, unicode_characters}
+use Rattle.miette_style.specs.declared.theme.Terminal.{Terminal}
+use Rattle.miette_style.specs.declared.theme.ThemeCharacters.{ThemeCharacters}
+use Rattle.miette_narrated.specs.rules.Report as narrated
+use Rattle.miette_graphical.specs.views.Handling.{Handling}
+use Rattle.miette_graphical.specs.rules.Settings.{Settings, Urls, default_settings, links_shown}
+use Rattle.miette.specs.rules.Options.{Options}
+use Rattle.miette.specs.declared.options.RgbColors.{RgbColors}
+use Rattle.miette.specs.declared.options.RgbColors.TheVariants.{Always, Preferred, Never}
+use Rattle.miette.specs.declared.options.handler.MietteHandler.{MietteHandler}
+use Rattle.miette.specs.declared.options.handler.MietteHandler.TheVariants.{Graphical, Narrated}
+
+-- what the terminal's user says of graphics: `0` asks for them, all else for none
+abbrev pub asks_for_graphics : List ℕ → Bool
+asks_for_graphics text = bytes_eq text (codes "0")
+
+abbrev pub is_graphical : {H : Type 0} → Options H → Terminal → Bool
+is_graphical o t =
+    unwrap_or (option_map not o.narrated) (unwrap_or o.graphical (unwrap_or (option_map asks_for_graphics (option_map string_bytes t.no_graphics)) true))
+
+abbrev pub chosen_width : {H : Type 0} → Options H → Terminal → ℕ
+chosen_width o t = unwrap_or o.width (unwrap_or t.width 80)
+
+abbrev pub chosen_urls : {H : Type 0} → Options H → Terminal → Urls
+chosen_urls o t = links_shown (unwrap_or o.links t.hyperlinks)
+
+abbrev pub takes_colours : {H : Type 0} → Options H → Terminal → Bool
+takes_colours o t = unwrap_or o.color (is_some t.color)
+
+-- which colours, where there are 16 million or not
+abbrev pub coloured_styles : RgbColors → Bool → Styles
+coloured_styles Always many = rgb_styles
+coloured_styles Preferred many = if many then rgb_styles else ansi_styles
+coloured_styles Never many = ansi_styles
+
+-- the characters and styles where no theme is set
+abbrev pub fitting_theme : {H : Type 0} → Options H → Terminal → Theme
+fitting_theme o t = record {
+  characters = if unwrap_or o.unicode t.unicode then unicode_characters else ascii_characters;
+  styles = if takes_colours o t then coloured_styles o.rgb (unwrap_or t.color false) else no_styles;
+}
+
+abbrev pub chosen_theme : {H : Type 0} → Options H → Terminal → Theme
+chosen_theme o t = unwrap_or o.theme (fitting_theme o t)
+
+abbrev pub chosen_highlighter : {H : Type 0} → Options H → Terminal → Option H
+chosen_highlighter o t = if takes_colours o t then o.highlighter else None
+
+-- how pictures are drawn, with these characters: what isn't set stays as it is
+abbrev pub drawn : {H : Type 0} → Options H → Terminal → ThemeCharacters → Settings
+drawn o t characters =
+    let default = default_settings characters (chosen_theme o t).styles in
+    record default {
+      width = chosen_width o t;
+      tab = unwrap_or o.tab default.tab;
+      context = unwrap_or o.context default.context;
+      urls = chosen_urls o t;
+      chain = unwrap_or o.chain default.chain;
+      nested = unwrap_or o.nested default.nested;
+      wraps = unwrap_or o.wraps default.wraps;
+      breaks = unwrap_or o.breaks default.breaks;
+      hyphens = unwrap_or o.hyphens default.hyphens;
+      footer = option_or (option_map chars o.footer) default.footer;
+    }
+
+-- how reports are narrated: what isn't set stays as it is
+abbrev pub told : {H : Type 0} → Options H → narrated.Settings
+told o =
+    let default = narrated.default_settings in
+    record {
+      chain = unwrap_or o.chain default.chain;
+      context = unwrap_or o.context default.context;
+      footer = option_or o.footer default.footer;
+    }
+
+-- the graphical handler that options and a terminal choose
+pub record IsDrawing {H : Type 0} (o : Options H) (t : Terminal) (it : Handling H) : Type 0 where
+  pub characters : characters_of it.settings.characters ≡ (chosen_theme o t).characters
+  pub settings : it.settings ≡ drawn o t it.settings.characters
+  pub highlighter : it.highlighter ≡ chosen_highlighter o t
+
+-- the handler that options and a terminal choose
+abbrev pub IsChosen : {H : Type 0} → Options H → Terminal → MietteHandler H → Type 0
+IsChosen o t (Graphical it) = (is_graphical o t ≡ true) × IsDrawing o t it
+IsChosen o t (Narrated it) = (is_graphical o t ≡ false) × (it ≡ told o)

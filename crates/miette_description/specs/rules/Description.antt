@@ -1,0 +1,81 @@
+-- The tree of reports that a JSON value describes, where it describes one. Other keys than those that are looked up are ignored.
+use Rattle.std.specs.Prelude.{ℕ, List, [], ◌∷◌, Option, Some, None, option_and_then, option_map, is_some, unwrap_or, if◌then◌else◌, codes}
+use Rattle.std.specs.Ordering.{nat_cmp, match_ordering}
+use Rattle.std.specs.Cmp.Lexicographic.{slice_cmp}
+use Rattle.serde_json.specs.Data.{Data, null, boolean, number, string, array, object, Items, no_items, item, Members, no_members, member}
+use Rattle.serde_json.specs.Find.{as_null, as_str}
+use Rattle.serde_json.specs.Read.{read}
+use Rattle.serde_json.specs.Written.{has_float}
+use Rattle.miette_protocol.specs.rules.Reading.{Source}
+use Rattle.miette_protocol.specs.views.Meaning.{Meaning}
+use Rattle.miette_tree.specs.rules.Tree.{Tree, tree, Cause, diagnostic, texts, Trees, no_trees, more_trees, wrapped}
+use Rattle.miette_description.specs.rules.Members.{given, at_key, typed, list_of, source_of, meaning_in}
+
+-- a description or a list of texts, and not both
+abbrev pub one_cause : Option Tree → Option (List (List ℕ)) → Option Cause
+one_cause None ts = Some (texts (unwrap_or ts []))
+one_cause (Some t) None = Some (diagnostic t)
+one_cause (Some t) (Some ts) = None
+
+abbrev pub wrapped_in : List (List ℕ) → Tree → Tree
+wrapped_in [] t = t
+wrapped_in (m ∷ ms) t = wrapped_in ms (wrapped m t)
+
+-- the report that has these parts
+abbrev pub assembled : Meaning → Option Source → Option Tree → Option (List (List ℕ)) → Option Trees → Option (List (List ℕ)) → Option Tree
+assembled m s one several related contexts =
+    option_map (λ c. wrapped_in (unwrap_or contexts []) (tree m s c (unwrap_or related no_trees))) (one_cause one several)
+
+-- the report of a description whose `cause` and `related` are read
+abbrev pub report_from : Option (Option Tree) → Option (Option Trees) → Data → Option Tree
+report_from cause related d =
+    given (meaning_in d) (λ m.
+    given (typed source_of (at_key (codes "source") d)) (λ s.
+    given cause (λ one.
+    given (typed (list_of as_str) (at_key (codes "causes") d)) (λ several.
+    given related (λ r.
+    given (typed (list_of as_str) (at_key (codes "contexts") d)) (λ contexts.
+    assembled m s one several r contexts))))))
+
+-- null is as absent
+abbrev pub nullable : {A : Type 0} → Data → Option A → Option (Option A)
+nullable d read = if is_some (as_null d) then Some None else option_map Some read
+
+-- Only an object is a description. `cause_in` and `related_in` read what stands at these keys; they go through
+-- the members as a look-up does.
+abbrev mutual
+  pub report_in : Data → Option Tree
+  report_in null = None
+  report_in (boolean b) = None
+  report_in (number n) = None
+  report_in (string s) = None
+  report_in (array ds) = None
+  report_in (object ms) = report_from (cause_in ms) (related_in ms) (object ms)
+
+  pub cause_in : Members → Option (Option Tree)
+  cause_in no_members = Some None
+  cause_in (member k d ms) = match_ordering (slice_cmp nat_cmp (codes "cause") k) (cause_in ms) (nullable d (report_in d)) (cause_in ms)
+
+  pub related_in : Members → Option (Option Trees)
+  related_in no_members = Some None
+  related_in (member k d ms) = match_ordering (slice_cmp nat_cmp (codes "related") k) (related_in ms) (nullable d (reports_in d)) (related_in ms)
+
+  pub reports_in : Data → Option Trees
+  reports_in null = None
+  reports_in (boolean b) = None
+  reports_in (number n) = None
+  reports_in (string s) = None
+  reports_in (array ds) = each_in ds
+  reports_in (object ms) = None
+
+  pub each_in : Items → Option Trees
+  each_in no_items = Some no_trees
+  each_in (item d ds) = given (report_in d) (λ t. given (each_in ds) (λ ts. Some (more_trees t ts)))
+
+-- a number that is neither a `u64` nor an `i64` makes a bad description, wherever it stands
+abbrev pub described : Data → Option Tree
+described d = if has_float d then None else report_in d
+
+-- the tree that the bytes describe, by the JSON value that is read from them (at most 127 deep)
+abbrev pub tree_for : List ℕ → Option Tree
+tree_for bytes = option_and_then described (read bytes)

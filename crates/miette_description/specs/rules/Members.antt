@@ -1,0 +1,82 @@
+-- The members of a description: what may be absent, and what stands there otherwise.
+use Rattle.std.specs.Prelude.{ℕ, List, [], ◌∷◌, Option, Some, None, option_map, option_and_then, is_some, unwrap_or, false, if◌then◌else◌, codes, bytes_eq}
+use Rattle.serde_json.specs.Data.{Data, Items, no_items, item}
+use Rattle.serde_json.specs.Find.{get, as_null, as_bool, as_number, as_str, as_array, as_u64}
+use Rattle.miette_protocol.specs.rules.Reading.{Source, plain_source, named}
+use Rattle.miette_protocol.specs.views.Meaning.{Label, counted, Meaning}
+use Rattle.miette_protocol.specs.declared.protocol.Severity.{Severity}
+use Rattle.miette_protocol.specs.declared.protocol.Severity.TheVariants.{Advice, Warning, Error}
+
+-- nothing where the first is nothing, and else what is made of it
+abbrev pub given : {A B : Type 0} → Option A → (A → Option B) → Option B
+given None f = None
+given (Some x) f = f x
+
+-- null is as absent
+abbrev pub present : Option Data → Option Data
+present None = None
+present (Some d) = if is_some (as_null d) then None else Some d
+
+abbrev pub at_key : List ℕ → Data → Option Data
+at_key key d = present (get key d)
+
+-- what may be absent, and has a type where it is there
+abbrev pub typed : {A : Type 0} → (Data → Option A) → Option Data → Option (Option A)
+typed reads None = Some None
+typed reads (Some d) = option_map Some (reads d)
+
+-- a number that is read as a `u64`
+abbrev pub whole : Data → Option ℕ
+whole d = option_and_then as_u64 (as_number d)
+
+-- a list whose items are all of one type
+abbrev pub all_of : {A : Type 0} → (Data → Option A) → Items → Option (List A)
+all_of reads no_items = Some []
+all_of reads (item d ds) = given (reads d) (λ x. given (all_of reads ds) (λ xs. Some (x ∷ xs)))
+
+abbrev pub list_of : {A : Type 0} → (Data → Option A) → Data → Option (List A)
+list_of reads d = given (as_array d) (all_of reads)
+
+abbrev pub named_severity : List ℕ → Option Severity
+named_severity name =
+    if bytes_eq name (codes "advice") then Some Advice
+    else (if bytes_eq name (codes "warning") then Some Warning else (if bytes_eq name (codes "error") then Some Error else None))
+
+abbrev pub severity_of : Data → Option Severity
+severity_of d = given (as_str d) named_severity
+
+-- a number of context lines, which is at least 1
+abbrev pub lines_of : Data → Option ℕ
+lines_of d = counted (whole d)
+
+abbrev pub label_of : Data → Option Label
+label_of d =
+    given (given (at_key (codes "offset") d) whole) (λ offset.
+    given (given (at_key (codes "length") d) whole) (λ length.
+    given (typed as_str (at_key (codes "label") d)) (λ text.
+    given (typed as_bool (at_key (codes "primary") d)) (λ primary.
+    given (typed lines_of (at_key (codes "context") d)) (λ context.
+    Some (record { text = text; span = record { offset = offset; len = length }; primary = unwrap_or primary false; context = context }))))))
+
+-- bytes, with a name where there is one; a language without a name is ignored
+abbrev pub source_named : List ℕ → Option (List ℕ) → Option (List ℕ) → Source
+source_named bytes None language = plain_source bytes
+source_named bytes (Some name) language = named (plain_source bytes) name language
+
+abbrev pub source_of : Data → Option Source
+source_of d =
+    given (given (at_key (codes "text") d) as_str) (λ bytes.
+    given (typed as_str (at_key (codes "name") d)) (λ name.
+    given (typed as_str (at_key (codes "language") d)) (λ language.
+    Some (source_named bytes name language))))
+
+-- what the diagnostic of a description says
+abbrev pub meaning_in : Data → Option Meaning
+meaning_in d =
+    given (given (at_key (codes "message") d) as_str) (λ message.
+    given (typed as_str (at_key (codes "code") d)) (λ code.
+    given (typed severity_of (at_key (codes "severity") d)) (λ severity.
+    given (typed as_str (at_key (codes "help") d)) (λ help.
+    given (typed as_str (at_key (codes "url") d)) (λ url.
+    given (typed (list_of label_of) (at_key (codes "labels") d)) (λ labels.
+    Some (record { message = message; code = code; severity = severity; help = help; url = url; labels = labels })))))))

@@ -1,0 +1,5 @@
+-- What holds of the rules.
+pub mod Clean
+pub mod Colourless
+pub mod Paths
+pub mod Headline

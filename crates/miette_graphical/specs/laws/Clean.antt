@@ -1,0 +1,52 @@
+-- Trees and settings that hold no escape.
+use Rattle.std.specs.Prelude.{List, string_bytes, Option, IfSome}
+use Rattle.std.specs.List.{AllByRecursion}
+use Rattle.miette_text.specs.rules.Runs.{Run, HaveNoEscape}
+use Rattle.miette_style.specs.declared.theme.ThemeCharacters.{ThemeCharacters}
+use Rattle.miette_protocol.specs.views.Meaning.{Meaning, Label}
+use Rattle.miette_layout.specs.laws.Clean.{IsClean, IsCleanText, IsCleanLabel, IsCleanSource, AreCleanDrawings}
+use Rattle.miette_tree.specs.rules.Tree.{Tree, tree, Cause, diagnostic, texts, Trees, no_trees, more_trees}
+use Rattle.miette_graphical.specs.rules.Settings.{Settings}
+
+-- ---- settings
+
+-- the characters of a theme that are printed: what is drawn, and the icons
+pub record AreCleanCharacters (c : ThemeCharacters) : Type 0 where
+  pub drawings : AreCleanDrawings c
+  pub error : IsCleanText (string_bytes c.error)
+  pub warning : IsCleanText (string_bytes c.warning)
+  pub advice : IsCleanText (string_bytes c.advice)
+
+-- with the text of links, and the footer
+abbrev pub AreCleanSettings : Settings → Type 0
+AreCleanSettings s = AreCleanCharacters s.characters × IsClean s.link_text × IfSome s.footer IsClean
+
+-- ---- trees
+
+abbrev pub AreCleanLabels : Option (List Label) → Type 0
+AreCleanLabels labels = IfSome labels (AllByRecursion IsCleanLabel)
+
+pub record IsCleanMeaning (m : Meaning) : Type 0 where
+  pub message : IsCleanText m.message
+  pub code : IfSome m.code IsCleanText
+  pub help : IfSome m.help IsCleanText
+  pub url : IfSome m.url IsCleanText
+  pub labels : AreCleanLabels m.labels
+
+-- every text of a tree, and every source with its name
+abbrev mutual
+  pub IsCleanTree : Tree → Type 0
+  IsCleanTree (tree m s c r) = IsCleanMeaning m × IfSome s IsCleanSource × IsCleanCause c × AreCleanTrees r
+
+  pub IsCleanCause : Cause → Type 0
+  IsCleanCause (diagnostic t) = IsCleanTree t
+  IsCleanCause (texts ts) = AllByRecursion IsCleanText ts
+
+  pub AreCleanTrees : Trees → Type 0
+  AreCleanTrees no_trees = Unit {0}
+  AreCleanTrees (more_trees t ts) = IsCleanTree t × AreCleanTrees ts
+
+-- ---- snippets
+
+abbrev pub HaveNoEscapes : List (List Run) → Type 0
+HaveNoEscapes = AllByRecursion HaveNoEscape

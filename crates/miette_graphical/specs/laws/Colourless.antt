@@ -1,0 +1,53 @@
+-- The same settings with every style plain, and the same answers with the blank highlighter.
+use Rattle.std.specs.Prelude.{◌≡◌, ℕ, Bool, List, [], map, Option, IfSome, encode_utf8_all}
+use Rattle.miette_text.specs.rules.Runs.{plain_run}
+use Rattle.miette_text.specs.rules.Sequences.{erase}
+use Rattle.miette_style.specs.rules.Styles.{plain}
+use Rattle.miette_protocol.specs.views.Meaning.{Label}
+use Rattle.miette_protocol.specs.rules.Reading.{Source}
+use Rattle.miette_graphical.specs.rules.Settings.{Settings}
+use Rattle.miette_style.specs.rules.Themes.{Styles}
+use Rattle.miette_graphical.specs.rules.Answers.{Answer, Answers, unlisted, listed, RelatedAnswers, no_more, and_more}
+use Rattle.miette_graphical.specs.rules.Answered.{AreAnswers}
+use Rattle.miette_graphical.specs.rules.Parts.{SnippetRows, rows_text}
+use Rattle.miette_graphical.specs.rules.Text.{report_text}
+use Rattle.miette_tree.specs.rules.Tree.{Tree}
+use Rattle.std.specs.List.{AllByRecursion}
+use Rattle.miette_layout.specs.laws.Clean.{IsCleanLabel, IsCleanSource}
+use Rattle.miette_graphical.specs.laws.Clean.{AreCleanSettings, HaveNoEscapes}
+
+abbrev pub faded : Styles → Styles
+faded s = record { error = plain; warning = plain; advice = plain; help = plain; link = plain; linum = plain; highlights = map (λ _. plain) s.highlights }
+
+abbrev pub colourless : Settings → Settings
+colourless s = record s { styles = faded s.styles }
+
+abbrev pub unhighlighted_answer : Answer → Answer
+unhighlighted_answer a = record a { pieces = [] }
+
+abbrev mutual
+  pub unhighlighted : Answers → Answers
+  unhighlighted unlisted = unlisted
+  unhighlighted (listed own cause related) = listed (unhighlighted_answer own) (unhighlighted cause) (unhighlighted_related related)
+
+  pub unhighlighted_related : RelatedAnswers → RelatedAnswers
+  unhighlighted_related no_more = no_more
+  unhighlighted_related (and_more first more) = and_more (unhighlighted first) (unhighlighted_related more)
+
+-- What a diagnostic's snippet rows have to be: in plain styles and without pieces they print the same rows with each style made
+-- plain; and they hold no escape where nothing that they are made of does.
+pub record AreSnippets (rows : SnippetRows) : Type 0 where
+  pub fade : (s : Settings) (source : Option Source) (labels : List Label) (a : Answer) →
+      rows_text (rows (colourless s) source labels (unhighlighted_answer a)) ≡ rows_text (map (map plain_run) (rows s source labels a))
+  pub clean : (s : Settings) (source : Option Source) (labels : List Label) (a : Answer) →
+      AreCleanSettings s → IfSome source IsCleanSource → AllByRecursion IsCleanLabel labels → HaveNoEscapes (rows s source labels a)
+
+-- ---- what is printed
+
+-- The bytes of a report's text under some answers, which without their colours are those of its text in plain styles and without a
+-- highlighter, under the same reads.
+pub record IsColouredText (rows : SnippetRows) (s : Settings) (blank : Bool) (t : Tree) (bytes : List ℕ) : Type 0 where
+  pub answers : Answers
+  pub are : AreAnswers s blank t answers
+  pub text : bytes ≡ encode_utf8_all (report_text rows s t answers)
+  pub erased : erase bytes ≡ encode_utf8_all (report_text rows (colourless s) t (unhighlighted answers))

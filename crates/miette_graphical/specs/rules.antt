@@ -1,0 +1,9 @@
+-- What users rely on, in the words of docs/RULES.md.
+pub mod Settings
+pub mod Answers
+pub mod Indents
+pub mod Parts
+pub mod Text
+pub mod Printed
+pub mod Answered
+pub mod Snippets

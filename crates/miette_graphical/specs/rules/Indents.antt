@@ -1,0 +1,60 @@
+-- What stands in front of rows, in runs, and text that is wrapped under it.
+use Rattle.std.specs.Prelude.{ℕ, ◌-◌, Bool, true, false, List, [], ◌∷◌, ◌++◌, codes, replicate, Option}
+use Rattle.miette_text.specs.rules.Runs.{Run, Styled, print}
+use Rattle.miette_style.specs.rules.Styles.{plain}
+use Rattle.miette_text.specs.rules.Sequences.{tokens}
+use Rattle.miette_text.specs.rules.Wrapping.{columns_of, wrapped}
+use Rattle.miette_protocol.specs.declared.protocol.Severity.{Severity}
+use Rattle.miette_graphical.specs.rules.Settings.{Settings, icon, severity_style}
+
+-- a text in no style
+abbrev pub bare : List ℕ → Run
+bare text = Styled plain text
+
+abbrev pub spaces : ℕ → List ℕ
+spaces n = replicate n 32
+
+-- a text wrapped behind what a first and a further indent print, at the set width less 2
+abbrev pub wrapped_behind : Settings → List ℕ → List ℕ → List ℕ → List ℕ
+wrapped_behind s first further text =
+    wrapped (record { room = s.width - 2; first = first; further = further; breaks = s.breaks; wraps = s.wraps; hyphens = s.hyphens }) text
+
+abbrev pub wrapped_under : Settings → List Run → List Run → List ℕ → List ℕ
+wrapped_under s first further text = wrapped_behind s (print first) (print further) text
+
+-- in front of a message: its icon, and a bar
+abbrev pub icon_indent : Settings → Option Severity → List Run
+icon_indent s severity = bare (spaces 2) ∷ Styled (severity_style s severity) (icon s severity) ∷ bare (spaces 1) ∷ []
+
+abbrev pub bar_indent : Settings → Option Severity → List Run
+bar_indent s severity = bare (spaces 2) ∷ Styled (severity_style s severity) (s.characters.vbar ∷ []) ∷ bare (spaces 1) ∷ []
+
+-- In front of a cause or a nested related report, in the style of the outer severity: an arrow, and a bar that goes down to the
+-- next one.
+abbrev pub arrow_text : Settings → Bool → List ℕ
+arrow_text s true = spaces 2 ++ s.characters.lbot ∷ s.characters.hbar ∷ s.characters.rarrow ∷ spaces 1
+arrow_text s false = spaces 2 ++ s.characters.lcross ∷ s.characters.hbar ∷ s.characters.rarrow ∷ spaces 1
+
+abbrev pub stem_text : Settings → Bool → List ℕ
+stem_text s true = spaces 6
+stem_text s false = spaces 2 ++ s.characters.vbar ∷ spaces 3
+
+abbrev pub arrow_indent : Settings → Option Severity → Bool → List Run
+arrow_indent s outer is_last = Styled (severity_style s outer) (arrow_text s is_last) ∷ []
+
+abbrev pub stem_indent : Settings → Option Severity → Bool → List Run
+stem_indent s outer is_last = Styled (severity_style s outer) (stem_text s is_last) ∷ []
+
+-- in front of a help text
+abbrev pub help_indent : Settings → List Run
+help_indent s = Styled s.styles.help (codes "  help: ") ∷ []
+
+abbrev pub further_help_indent : List Run
+further_help_indent = bare (spaces 8) ∷ []
+
+abbrev pub footer_indent : List Run
+footer_indent = bare (spaces 2) ∷ []
+
+-- For what stands under an arrow: the width less the columns of the further indent.
+abbrev pub narrowed : Settings → Option Severity → Bool → Settings
+narrowed s outer is_last = record s { width = s.width - columns_of (tokens (print (stem_indent s outer is_last))) }

@@ -1,0 +1,78 @@
+-- How a report is printed.
+use Rattle.std.specs.Prelude.{ℕ, Bool, List, Option, Some, None, true, false, chars, codes, string_bytes}
+use Rattle.miette_protocol.specs.declared.protocol.Severity.{Severity}
+use Rattle.miette_protocol.specs.declared.protocol.Severity.TheVariants.{Advice, Warning, Error}
+use Rattle.miette_style.specs.rules.Themes.{Styles}
+use Rattle.miette_style.specs.declared.style.Style.{Style}
+use Rattle.miette_style.specs.declared.theme.ThemeCharacters.{ThemeCharacters}
+
+-- What a url becomes: a link, a text behind the code, or nothing.
+pub data Urls : Type 0 where
+  AsLinks : Urls
+  AsText : Urls
+  Hidden : Urls
+
+pub record Settings : Type 0 where
+  pub characters : ThemeCharacters
+  pub styles : Styles
+  pub width : ℕ
+  pub tab : ℕ
+  pub context : ℕ
+  pub primary_start : Bool
+  pub urls : Urls
+  pub link_text : List ℕ
+  pub chain : Bool
+  pub nested : Bool
+  pub wraps : Bool
+  pub breaks : Bool
+  pub hyphens : Bool
+  pub footer : Option (List ℕ)
+
+-- `error` where a diagnostic has no severity
+abbrev pub icon_in : ThemeCharacters → Option Severity → List ℕ
+icon_in c None = chars (string_bytes c.error)
+icon_in c (Some Error) = chars (string_bytes c.error)
+icon_in c (Some Warning) = chars (string_bytes c.warning)
+icon_in c (Some Advice) = chars (string_bytes c.advice)
+
+abbrev pub style_in : Styles → Option Severity → Style
+style_in s None = s.error
+style_in s (Some Error) = s.error
+style_in s (Some Warning) = s.warning
+style_in s (Some Advice) = s.advice
+
+abbrev pub icon : Settings → Option Severity → List ℕ
+icon s = icon_in s.characters
+
+abbrev pub severity_style : Settings → Option Severity → Style
+severity_style s = style_in s.styles
+
+-- what a handler is made with
+abbrev pub default_settings : ThemeCharacters → Styles → Settings
+default_settings characters styles = record {
+  characters = characters;
+  styles = styles;
+  width = 200;
+  tab = 4;
+  context = 1;
+  primary_start = true;
+  urls = AsLinks;
+  link_text = chars (codes "(link)");
+  chain = true;
+  nested = false;
+  wraps = true;
+  breaks = true;
+  hyphens = true;
+  footer = None;
+}
+
+abbrev pub links_shown : Bool → Urls
+links_shown true = AsLinks
+links_shown false = AsText
+
+-- urls that were hidden become links
+abbrev pub urls_shown : Bool → Urls → Urls
+urls_shown false urls = Hidden
+urls_shown true AsLinks = AsLinks
+urls_shown true AsText = AsText
+urls_shown true Hidden = AsLinks

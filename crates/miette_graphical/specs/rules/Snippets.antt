@@ -1,0 +1,38 @@
+-- The rows of a diagnostic's snippets, as runs.
+use Rattle.std.specs.Prelude.{ℕ, List, [], map, chars, encode_utf8_all, Option, Some, None, unwrap_or}
+use Rattle.miette_text.specs.rules.Runs.{Run, Styled}
+use Rattle.miette_layout.specs.rules.Rows as layout
+use Rattle.miette_layout.specs.rules.Frames as frames
+use Rattle.miette_lines.specs.views.Given.{width_of}
+use Rattle.miette_layout.specs.rules.Layout.{snippet_rows}
+use Rattle.miette_graphical.specs.rules.Settings.{Settings}
+use Rattle.miette_graphical.specs.rules.Parts.{SnippetRows}
+
+-- the settings of the layout
+abbrev pub layout_settings : Settings → frames.Settings
+layout_settings s = record {
+  characters = s.characters;
+  styles = record { error = s.styles.error; warning = s.styles.warning; link = s.styles.link; linum = s.styles.linum; highlights = s.styles.highlights };
+  width = width_of;
+  tab = s.tab;
+  context = s.context;
+  primary_start = s.primary_start;
+}
+
+-- a run's characters, as their bytes read
+abbrev pub run_text : layout.Run → List ℕ
+run_text run = chars (encode_utf8_all (map (λ p. p.code) run.pieces))
+
+abbrev pub run_of_row : layout.Run → Run
+run_of_row run = Styled run.style (run_text run)
+
+abbrev pub runs_of_row : layout.Row → List Run
+runs_of_row row = map run_of_row row
+
+abbrev pub shown_rows : Option (List layout.Row) → List (List Run)
+shown_rows rows = map runs_of_row (unwrap_or rows [])
+
+-- no rows without a source; else the frames, lines and marks of its snippets, or the row of a refused label
+abbrev pub drawn_rows : SnippetRows
+drawn_rows s None labels a = []
+drawn_rows s (Some source) labels a = shown_rows (snippet_rows (layout_settings s) source labels a)

@@ -1,0 +1,5 @@
+-- What the code's values stand for.
+pub mod Handling
+pub mod Modes
+pub mod SettingsView
+pub mod Printing

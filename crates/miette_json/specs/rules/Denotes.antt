@@ -1,0 +1,183 @@
+-- RFC 8259 as a relation between bytes and values: a text is UTF-8, and tokens with white space before, between and
+-- after them, and the tokens are those of the value.
+use Rattle.std.specs.Prelude.{IsUtf8, ◌≡◌, ◌⊎◌, ◌≢◌, ℕ, ◌+◌, ◌-◌, ◌*◌, ◌<◌, ◌≤◌, List, [], ◌∷◌, ◌++◌, ⊤, cond, ◌||◌, ◌==◌}
+use Rattle.std.specs.Char.{digit_value, encode_utf8}
+use Rattle.miette_json.specs.rules.Json.{Json, number, string, array, object, Items, no_items, item, Members, no_members, member}
+
+pub data Token : Type 0 where
+  mark : ℕ → Token
+  text : List ℕ → Token
+  whole : ℕ → Token
+
+-- the tokens of a value, and then those tokens
+abbrev mutual
+  pub tokens_then : Json → List Token → List Token
+  tokens_then (number n) ts = whole n ∷ ts
+  tokens_then (string s) ts = text s ∷ ts
+  tokens_then (array is) ts = mark 91 ∷ items_then is ts
+  tokens_then (object ms) ts = mark 123 ∷ members_then ms ts
+
+  pub items_then : Items → List Token → List Token
+  items_then no_items ts = mark 93 ∷ ts
+  items_then (item v more) ts = tokens_then v (more_items_then more ts)
+
+  pub more_items_then : Items → List Token → List Token
+  more_items_then no_items ts = mark 93 ∷ ts
+  more_items_then (item v more) ts = mark 44 ∷ tokens_then v (more_items_then more ts)
+
+  pub members_then : Members → List Token → List Token
+  members_then no_members ts = mark 125 ∷ ts
+  members_then (member k v more) ts = text k ∷ mark 58 ∷ tokens_then v (more_members_then more ts)
+
+  pub more_members_then : Members → List Token → List Token
+  more_members_then no_members ts = mark 125 ∷ ts
+  more_members_then (member k v more) ts = mark 44 ∷ text k ∷ mark 58 ∷ tokens_then v (more_members_then more ts)
+
+-- ---- the characters of a string
+
+-- a byte that stands for itself; `\` and a letter; `\u` and four hex digits; two of these, a surrogate pair
+pub data Piece : Type 0 where
+  plain : ℕ → Piece
+  short : ℕ → Piece
+  unit : (a b c d : ℕ) → Piece
+  pair : (a b c d e f g h : ℕ) → Piece
+
+-- what `\` and this letter stand for, or 0 where it is no such letter
+abbrev pub short_for : ℕ → ℕ
+short_for x =
+    cond ((x == 34) || ((x == 92) || (x == 47))) x
+    (cond (x == 98) 8 (cond (x == 102) 12 (cond (x == 110) 10 (cond (x == 114) 13 (cond (x == 116) 9 0)))))
+
+-- a digit in base 16, in either case of letter
+abbrev pub IsHex : ℕ → Type 0
+IsHex x = digit_value x < 16
+
+abbrev pub hex : ℕ → ℕ → ℕ → ℕ → ℕ
+hex a b c d = digit_value a * 4096 + digit_value b * 256 + digit_value c * 16 + digit_value d
+
+abbrev pub AreHex : ℕ → ℕ → ℕ → ℕ → Type 0
+AreHex a b c d = IsHex a × IsHex b × IsHex c × IsHex d
+
+abbrev pub IsPiece : Piece → Type 0
+IsPiece (plain x) = (32 ≤ x) × (x ≢ 34) × (x ≢ 92)
+IsPiece (short letter) = short_for letter ≢ 0
+IsPiece (unit a b c d) = AreHex a b c d × ((hex a b c d < 0xd800) ⊎ (0xe000 ≤ hex a b c d))
+IsPiece (pair a b c d e f g h) =
+    AreHex a b c d × AreHex e f g h × (0xd800 ≤ hex a b c d) × (hex a b c d < 0xdc00) × (0xdc00 ≤ hex e f g h) × (hex e f g h < 0xe000)
+
+-- a piece as it is written, before these bytes
+abbrev pub written : Piece → List ℕ → List ℕ
+written (plain x) rest = x ∷ rest
+written (short letter) rest = 92 ∷ letter ∷ rest
+written (unit a b c d) rest = 92 ∷ 117 ∷ a ∷ b ∷ c ∷ d ∷ rest
+written (pair a b c d e f g h) rest = 92 ∷ 117 ∷ a ∷ b ∷ c ∷ d ∷ 92 ∷ 117 ∷ e ∷ f ∷ g ∷ h ∷ rest
+
+-- the bytes that a piece stands for
+abbrev pub meant : Piece → List ℕ
+meant (plain x) = x ∷ []
+meant (short letter) = short_for letter ∷ []
+meant (unit a b c d) = encode_utf8 (hex a b c d)
+meant (pair a b c d e f g h) = encode_utf8 (0x10000 + (hex a b c d - 0xd800) * 1024 + (hex e f g h - 0xdc00))
+
+abbrev pub ArePieces : List Piece → Type 0
+ArePieces [] = ⊤
+ArePieces (p ∷ ps) = IsPiece p × ArePieces ps
+
+abbrev pub all_written : List Piece → List ℕ → List ℕ
+all_written [] rest = rest
+all_written (p ∷ ps) rest = written p (all_written ps rest)
+
+abbrev pub all_meant : List Piece → List ℕ
+all_meant [] = []
+all_meant (p ∷ ps) = meant p ++ all_meant ps
+
+-- ---- numbers
+
+abbrev pub IsDigit : ℕ → Type 0
+IsDigit x = (48 ≤ x) × (x ≤ 57)
+
+abbrev pub AreDigits : List ℕ → Type 0
+AreDigits [] = ⊤
+AreDigits (x ∷ xs) = IsDigit x × AreDigits xs
+
+-- the number that digits go on to, after n
+abbrev pub value_after : ℕ → List ℕ → ℕ
+value_after n [] = n
+value_after n (x ∷ xs) = value_after (n * 10 + (x - 48)) xs
+
+-- a zero stands alone
+abbrev pub NoLeadingZero : List ℕ → Type 0
+NoLeadingZero [] = ⊤
+NoLeadingZero (x ∷ []) = ⊤
+NoLeadingZero (x ∷ y ∷ xs) = 48 < x
+
+-- no digit comes next
+abbrev pub NoDigitNext : List ℕ → Type 0
+NoDigitNext [] = ⊤
+NoDigitNext (x ∷ xs) = (x < 48) ⊎ (57 < x)
+
+-- ---- tokens
+
+abbrev pub IsMark : ℕ → Type 0
+IsMark x = (x ≡ 44) ⊎ ((x ≡ 58) ⊎ ((x ≡ 91) ⊎ ((x ≡ 93) ⊎ ((x ≡ 123) ⊎ (x ≡ 125)))))
+
+abbrev pub IsBlank : ℕ → Type 0
+IsBlank x = (x ≡ 32) ⊎ ((x ≡ 9) ⊎ ((x ≡ 10) ⊎ (x ≡ 13)))
+
+abbrev pub AreBlank : List ℕ → Type 0
+AreBlank [] = ⊤
+AreBlank (x ∷ xs) = IsBlank x × AreBlank xs
+
+pub record IsString (s : List ℕ) (bytes rest : List ℕ) : Type 0 where
+  pub pieces : List Piece
+  pub right : ArePieces pieces
+  pub spelled : bytes ≡ 34 ∷ all_written pieces (34 ∷ rest)
+  pub means : all_meant pieces ≡ s
+
+pub record IsNumber (n : ℕ) (bytes rest : List ℕ) : Type 0 where
+  pub first : ℕ
+  pub others : List ℕ
+  pub digits : AreDigits (first ∷ others)
+  pub no_zero : NoLeadingZero (first ∷ others)
+  pub value : value_after 0 (first ∷ others) ≡ n
+  pub spelled : bytes ≡ first ∷ (others ++ rest)
+  pub ends : NoDigitNext rest
+
+-- the bytes are the token, and then the rest
+abbrev pub Begins : Token → List ℕ → List ℕ → Type 0
+Begins (mark x) bytes rest = IsMark x × (bytes ≡ x ∷ rest)
+Begins (text s) bytes rest = IsString s bytes rest
+Begins (whole n) bytes rest = IsNumber n bytes rest
+
+-- white space, and then the token, and then the rest
+pub record Next (t : Token) (bytes rest : List ℕ) : Type 0 where
+  pub space : List ℕ
+  pub blank : AreBlank space
+  pub after : List ℕ
+  pub spaced : bytes ≡ space ++ after
+  pub begins : Begins t after rest
+
+-- the bytes are these tokens
+abbrev pub AreTokens : List Token → List ℕ → Type 0
+AreTokens [] bytes = AreBlank bytes
+AreTokens (t ∷ ts) bytes = (rest : List ℕ) × Next t bytes rest × AreTokens ts rest
+
+-- byte by byte, the text is the tokens of the value
+abbrev pub HasTokensOf : List ℕ → Json → Type 0
+HasTokensOf bytes v = AreTokens (tokens_then v []) bytes
+
+-- the text stands for the value: it is UTF-8, and its tokens are those of the value
+abbrev pub Denotes : List ℕ → Json → Type 0
+Denotes bytes v = IsUtf8 bytes × HasTokensOf bytes v
+
+-- ---- values that a text may stand for
+
+abbrev pub TextsAreUtf8 : List Token → Type 0
+TextsAreUtf8 [] = ⊤
+TextsAreUtf8 (mark x ∷ ts) = TextsAreUtf8 ts
+TextsAreUtf8 (text s ∷ ts) = IsUtf8 s × TextsAreUtf8 ts
+TextsAreUtf8 (whole n ∷ ts) = TextsAreUtf8 ts
+
+-- each string of the value and each key in it is UTF-8
+abbrev pub HasUtf8Texts : Json → Type 0
+HasUtf8Texts v = TextsAreUtf8 (tokens_then v [])

@@ -1,0 +1,109 @@
+-- The JSON value of a report, by its tree and by what the reads for its file names answered.
+use Rattle.std.specs.Prelude.{◌≡◌, ℕ, ◌+◌, Bool, true, false, ◌&&◌, nat_le, if◌then◌else◌, List, [], ◌∷◌, length, Option, Some, None, option_map, unwrap_or, codes, ⊤}
+use Rattle.miette_protocol.specs.views.Meaning.{Label}
+use Rattle.miette_protocol.specs.rules.Reading.{Source, Span}
+use Rattle.miette_tree.specs.rules.Tree.{Tree, tree, causes_of, Trees, no_trees, more_trees, effective}
+use Rattle.miette_json.specs.rules.Json.{Json, number, string, array, object, Items, no_items, item, Members, no_members, member}
+use Rattle.miette_tree.specs.rules.Parts.{given_labels, severity_text}
+
+-- ---- answers
+
+-- Of a report, and of the reports that are related to it: did the read for the file name meet a fault? What isn't listed met none.
+mutual
+  pub data NameAnswers : Type 0 where
+    unlisted : NameAnswers
+    listed : Bool → RelatedNameAnswers → NameAnswers
+
+  pub data RelatedNameAnswers : Type 0 where
+    no_more : RelatedNameAnswers
+    and_more : NameAnswers → RelatedNameAnswers → RelatedNameAnswers
+
+abbrev pub own_fault : NameAnswers → Bool
+own_fault unlisted = false
+own_fault (listed fault related) = fault
+
+abbrev pub related_answers : NameAnswers → RelatedNameAnswers
+related_answers unlisted = no_more
+related_answers (listed fault related) = related
+
+abbrev pub first_answers : RelatedNameAnswers → NameAnswers
+first_answers no_more = unlisted
+first_answers (and_more first more) = first
+
+abbrev pub later_answers : RelatedNameAnswers → RelatedNameAnswers
+later_answers no_more = no_more
+later_answers (and_more first more) = more
+
+abbrev pub MayFail : Option Source → Type 0
+MayFail None = ⊥
+MayFail (Some s) = s.always_reads ≡ false
+
+-- only a source that doesn't always read meets a fault
+abbrev mutual
+  pub ArePossible : Option Source → NameAnswers → Tree → Type 0
+  ArePossible inherited a (tree m s c r) = (own_fault a ≡ true → MayFail (effective s inherited)) × AllPossible (effective s inherited) (related_answers a) r
+
+  pub AllPossible : Option Source → RelatedNameAnswers → Trees → Type 0
+  AllPossible inherited a no_trees = ⊤
+  AllPossible inherited a (more_trees t ts) = ArePossible inherited (first_answers a) t × AllPossible inherited (later_answers a) ts
+
+-- ---- parts of the value
+
+-- a member with a text, where there is one
+abbrev pub maybe : List ℕ → Option (List ℕ) → Members → Members
+maybe key None more = more
+maybe key (Some s) more = member key (string s) more
+
+abbrev pub strings : List (List ℕ) → Items
+strings [] = no_items
+strings (s ∷ ss) = item (string s) (strings ss)
+
+abbrev pub span_json : Span → Json
+span_json span = object (member (codes "offset") (number span.offset) (member (codes "length") (number span.len) no_members))
+
+abbrev pub label_json : Label → Json
+label_json l = object (maybe (codes "label") l.text (member (codes "span") (span_json l.span) no_members))
+
+abbrev pub labels_json : List Label → Items
+labels_json [] = no_items
+labels_json (l ∷ ls) = item (label_json l) (labels_json ls)
+
+-- whether a source accepts a span: it begins at the end at most, and ends at most one byte past it
+abbrev pub accepts : List ℕ → Span → Bool
+accepts bytes span = nat_le span.offset (length bytes) && nat_le (span.offset + span.len) (length bytes + 1)
+
+-- The name that the read of the first given label answers, without context; empty where it is refused, where there is no name, and
+-- where there is no label.
+abbrev pub file_name : Bool → List Label → Source → List ℕ
+file_name fault [] s = []
+file_name fault (l ∷ ls) s = if accepts s.bytes l.span then (if fault then [] else unwrap_or s.name []) else []
+
+-- ---- the value
+
+abbrev mutual
+  pub report_json : Option Source → NameAnswers → Tree → Json
+  report_json inherited a (tree m s c r) =
+      object
+      (member (codes "message") (string m.message)
+      (maybe (codes "code") m.code
+      (member (codes "severity") (string (severity_text m.severity))
+      (member (codes "causes") (array (strings (causes_of c)))
+      (maybe (codes "url") m.url
+      (maybe (codes "help") m.help
+      (maybe (codes "filename") (option_map (file_name (own_fault a) (given_labels m.labels)) (effective s inherited))
+      (member (codes "labels") (array (labels_json (given_labels m.labels)))
+      (member (codes "related") (array (reports_json (effective s inherited) (related_answers a) r)) no_members)))))))))
+
+  pub reports_json : Option Source → RelatedNameAnswers → Trees → Items
+  reports_json inherited a no_trees = no_items
+  reports_json inherited a (more_trees t ts) = item (report_json inherited (first_answers a) t) (reports_json inherited (later_answers a) ts)
+
+-- a value that a report may have: for some answers of its sources
+pub record IsValueOf (t : Tree) (value : Json) : Type 0 where
+  pub answers : NameAnswers
+  pub possible : ArePossible None answers t
+  pub is : value ≡ report_json None answers t
+
+-- the value of a report whose sources always read
+abbrev pub value_of : Tree → Json
+value_of t = report_json None unlisted t

@@ -1,0 +1,22 @@
+-- Settings and answers without colours, and rows that are plain.
+use Rattle.std.specs.Prelude.{◌≡◌, [], map}
+use Rattle.std.specs.List.{AllByRecursion}
+use Rattle.miette_lines.specs.rules.Answers.{Answers}
+use Rattle.miette_layout.specs.rules.Frames.{Styles, Settings}
+use Rattle.miette_layout.specs.rules.Rows.{Row}
+use Rattle.miette_style.specs.rules.Styles.{plain}
+
+abbrev pub faded : Styles → Styles
+faded s = record { error = plain; warning = plain; link = plain; linum = plain; highlights = map (λ _. plain) s.highlights }
+
+-- the same settings with every style plain
+abbrev pub colourless : Settings → Settings
+colourless s = record s { styles = faded s.styles }
+
+-- the same reads without a highlighter
+abbrev pub unhighlighted : Answers → Answers
+unhighlighted a = record a { pieces = [] }
+
+-- every run of a row is plain
+abbrev pub IsPlainRow : Row → Type 0
+IsPlainRow row = AllByRecursion (λ run. run.style ≡ plain) row

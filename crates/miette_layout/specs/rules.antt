@@ -1,0 +1,13 @@
+-- What users rely on, in the words of docs/RULES.md.
+pub mod PrintedCells
+pub mod Drawing
+pub mod Framed
+pub mod Frames
+pub mod Gutters
+pub mod Highlighted
+pub mod Layout
+pub mod Marks
+pub mod Numbers
+pub mod Rows
+pub mod Shown
+pub mod Snippets

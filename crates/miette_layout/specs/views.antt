@@ -1,0 +1,10 @@
+-- What the code's values stand for.
+pub mod Drawn
+pub mod ThemeSettings
+pub mod Lent
+pub mod Made
+pub mod PageParts
+pub mod Pages
+pub mod Sheets
+pub mod Told
+pub mod TellingCells

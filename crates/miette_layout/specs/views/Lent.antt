@@ -1,0 +1,53 @@
+-- The rows of a snippet from what its read lent, where nothing is known of the source beyond.
+use Rattle.std.specs.Prelude.{ℕ, ◌+◌, ◌-◌, ◌==◌, ◌≡◌, if◌then◌else◌, Bool, List, [], ◌∷◌, ◌++◌, length, map, decimal, slice_range, Option, false}
+use Rattle.miette_protocol.specs.rules.Lines.{Line}
+use Rattle.miette_protocol.specs.rules.Reading.{Contents}
+use Rattle.miette_layout.specs.rules.Rows.{Row}
+use Rattle.miette_lines.specs.rules.Answers.{Highlight, first_of, later_of}
+use Rattle.miette_lines.specs.rules.Cells.{Cell, characters, cells_from}
+use Rattle.miette_lines.specs.rules.Contexts.{lines_of_contents}
+use Rattle.miette_layout.specs.rules.Frames.{Settings, Place, top_row, bottom_row, number_width}
+use Rattle.miette_layout.specs.rules.Gutters.{gutter_columns}
+use Rattle.miette_layout.specs.rules.Highlighted.{decoded_text, EachHasPieces}
+use Rattle.miette_lines.specs.rules.Labels.{DrawnLabel}
+use Rattle.miette_layout.specs.rules.Layout.{line_rows}
+use Rattle.miette_layout.specs.views.Told.{Token, told_rows}
+
+-- the bytes of a line's text, in bytes that begin at an offset
+abbrev pub text_in : ℕ → List ℕ → Line → List ℕ
+text_in start bytes line = slice_range bytes (line.start - start) (line.text_end - start)
+
+-- its cells
+abbrev pub cells_in : Settings → ℕ → List ℕ → Line → List Cell
+cells_in s start bytes line = cells_from s.width s.tab false line.start 0 (characters (text_in start bytes line))
+
+-- the lines' texts as a highlighter is given them
+abbrev pub texts_in : ℕ → List ℕ → List Line → List (List ℕ)
+texts_in start bytes lines = map (λ line. decoded_text (text_in start bytes line)) lines
+
+-- the rows of lines, with numbers from this one on, in bytes that begin at an offset
+abbrev pub lent_rows : Settings → ℕ → ℕ → List DrawnLabel → ℕ → List ℕ → ℕ → List (List Highlight) → List Line → List Row
+lent_rows s w columns drawn start bytes number pieces [] = []
+lent_rows s w columns drawn start bytes number pieces (line ∷ lines) =
+    line_rows s w columns drawn line number (cells_in s start bytes line) (first_of pieces) ++ lent_rows s w columns drawn start bytes (number + 1) (later_of pieces) lines
+
+-- the rows of a snippet, with its frame
+abbrev pub lent_snippet : Settings → List DrawnLabel → Contents → Option Place → List (List Highlight) → List Row
+lent_snippet s drawn lent place pieces =
+    top_row s lent place
+    ∷ lent_rows s (number_width lent) (gutter_columns drawn (lines_of_contents lent)) drawn lent.span.offset lent.bytes (lent.line + 1) pieces (lines_of_contents lent)
+    ++ bottom_row s (number_width lent) ∷ []
+
+-- the digits of the number of the last of so many lines, where this many stand before the first; 1 where there is none
+abbrev pub width_of_count : ℕ → ℕ → ℕ
+width_of_count before many = if many == 0 then 1 else length (decimal (before + many))
+
+-- the columns of a gutter with room for so many labels
+abbrev pub gutter_of : ℕ → ℕ
+gutter_of most = if most == 0 then 0 else most + 3
+
+-- A page has got rows with some pieces, which a highlighter may have answered for these texts.
+pub record PutsRows (blank : Bool) (texts : List (List ℕ)) (rows : List (List Highlight) → List Row) (before after : List Token) : Type 0 where
+  pub pieces : List (List Highlight)
+  pub are : EachHasPieces blank texts pieces
+  pub is : after ≡ before ++ told_rows (rows pieces)

@@ -1,0 +1,51 @@
+-- What a sheet stands for.
+use Rattle.std.specs.Prelude.{ℕ, List, [], ◌∷◌, ◌++◌, map}
+use Rattle.miette_layout.specs.declared.sheet.Sheet.{Sheet}
+use Rattle.miette_layout.specs.rules.Rows.{Row}
+use Rattle.miette_layout.specs.rules.Marks.{Mark}
+use Rattle.miette_layout.specs.rules.Drawing.{text_row}
+use Rattle.miette_lines.specs.rules.Labels.{DrawnLabel}
+use Rattle.miette_layout.specs.views.ThemeSettings.{settings_of}
+use Rattle.miette_lines.specs.views.Given.{drawn_of}
+use Rattle.miette_layout.specs.rules.Gutters.{number_gutter, other_gutter, open_gutter, part_run}
+use Rattle.miette_layout.specs.rules.Frames.{Settings, number_start, other_start}
+use Rattle.miette_layout.specs.rules.PrintedCells.{line_runs}
+use Rattle.miette_lines.specs.rules.Cells.{Cell}
+use Rattle.miette_lines.specs.rules.Answers.{Highlight}
+use Rattle.miette_lines.specs.views.TextLines.{line_of_text}
+
+abbrev pub settings : Sheet → Settings
+settings sheet = settings_of sheet.theme.now sheet.options
+
+-- the labels of several lines, with their texts
+abbrev pub multi_labels : Sheet → List DrawnLabel
+multi_labels sheet = map (drawn_of sheet.labels.now) sheet.multi.now
+
+-- the gutter of the line's rows but its number row
+abbrev pub gutter_below : Sheet → Row
+gutter_below sheet = other_gutter (settings sheet).width (settings sheet).characters (line_of_text sheet.line) sheet.gutter (multi_labels sheet)
+
+-- what stands before the marks and the texts of the labels that lie on the line alone
+abbrev pub before_marks : Sheet → Row
+before_marks sheet = other_start (settings sheet) sheet.number_width ++ gutter_below sheet
+
+-- a row of the text of a label that lies on the line alone
+abbrev pub text_line : Sheet → List Mark → Mark → List ℕ → List ℕ → Row
+text_line sheet earlier mark front part = before_marks sheet ++ text_row (settings sheet).width (settings sheet).characters earlier mark front part
+
+-- a row of the text of a label that ends on the line, in a gutter of so many columns
+abbrev pub closed_line : Sheet → ℕ → DrawnLabel → ℕ → List ℕ → Row
+closed_line sheet columns label bar part =
+    other_start (settings sheet) sheet.number_width
+    ++ (other_gutter (settings sheet).width (settings sheet).characters (line_of_text sheet.line) columns (multi_labels sheet) ++ part_run (settings sheet).width label bar part ∷ [])
+
+abbrev pub open_line : Sheet → ℕ → DrawnLabel → List ℕ → Row
+open_line sheet columns label part =
+    other_start (settings sheet) sheet.number_width
+    ++ (open_gutter (settings sheet).width (settings sheet).characters (line_of_text sheet.line) columns (multi_labels sheet) ++ part_run (settings sheet).width label (settings sheet).characters.vbar part ∷ [])
+
+-- the number row of the line
+abbrev pub number_row : Sheet → ℕ → List Cell → List Highlight → Row
+number_row sheet number cells pieces =
+    number_start (settings sheet) sheet.number_width number
+    ++ number_gutter (settings sheet).width (settings sheet).characters (line_of_text sheet.line) sheet.gutter (multi_labels sheet) ++ line_runs pieces cells

@@ -1,0 +1,52 @@
+-- What a sweep over labels by offset knows at a place between two lines.
+use Rattle.std.specs.Prelude.{ℕ, ◌<◌, ◌≤◌, ◌≡◌, List, [], ◌∷◌, length, take, Bool, false, if◌then◌else◌, nat_lt, slice_index_or}
+use Rattle.std.specs.List.{filter}
+use Rattle.miette_lines.specs.declared.sweep.Placed.{Placed}
+use Rattle.miette_lines.specs.declared.sweep.Bounds.{Bounds}
+use Rattle.miette_style.specs.rules.Styles.{plain}
+use Rattle.miette_protocol.specs.rules.Lines.{Line}
+use Rattle.miette_lines.specs.rules.Labels.{DrawnLabel, reach, is_one_line, is_multi_line}
+
+-- a label of this place; of its text only matters whether it is there
+abbrev pub label_of : Placed → DrawnLabel
+label_of p = record { start = p.start; after = p.after; style = p.style; parts = if p.has_text then [] ∷ [] else [] }
+
+-- a line from here to there; where its text ends decides nothing
+abbrev pub line_of_bounds : Bounds → Line
+line_of_bounds b = record { start = b.start; text_end = b.after; end = b.after }
+
+-- whether a label goes on past a place
+abbrev pub passes : ℕ → Placed → Bool
+passes place p = nat_lt place (reach (label_of p))
+
+abbrev pub is_one : Line → Placed → Bool
+is_one line p = is_one_line line (label_of p)
+
+abbrev pub is_multi : Line → Placed → Bool
+is_multi line p = is_multi_line line (label_of p)
+
+abbrev pub nothing : Placed
+nothing = record { start = 0; after = 0; style = plain; has_text = false; index = 0 }
+
+-- the k-th label's start
+abbrev pub start_at : List Placed → ℕ → ℕ
+start_at labels k = (slice_index_or labels k nothing).start
+
+-- labels by offset, none of which ends before it starts
+pub record AreSorted (labels : List Placed) : Type 0 where
+  pub order : (j k : ℕ) → j ≤ k → k < length labels → start_at labels j ≤ start_at labels k
+  pub drawn : (k : ℕ) → k < length labels → start_at labels k ≤ (slice_index_or labels k nothing).after
+
+-- so many labels began before a place, no other did, and these of them go on past it
+pub record IsAt (labels : List Placed) (place next : ℕ) (running : List Placed) : Type 0 where
+  pub count : next ≤ length labels
+  pub before : (k : ℕ) → k < next → start_at labels k < place
+  pub later : (k : ℕ) → next ≤ k → k < length labels → place ≤ start_at labels k
+  pub carried : running ≡ filter (passes place) (take next labels)
+
+-- so many labels begin before a line's end, no other does, and these of several lines lie on it
+pub record IsOn (labels : List Placed) (line : Line) (next : ℕ) (running : List Placed) : Type 0 where
+  pub count : next ≤ length labels
+  pub before : (k : ℕ) → k < next → start_at labels k < line.end
+  pub later : (k : ℕ) → next ≤ k → k < length labels → line.end ≤ start_at labels k
+  pub multi : running ≡ filter (is_multi line) labels

@@ -1,0 +1,8 @@
+-- What users rely on, in the words of docs/RULES.md.
+pub mod Columns
+pub mod Labels
+pub mod Lines
+pub mod Snippets
+pub mod Report
+pub mod Answered
+pub mod Settings

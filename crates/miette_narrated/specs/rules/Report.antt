@@ -1,0 +1,123 @@
+-- The narrated text of a report, by settings, tree and answers.
+use Rattle.std.specs.Prelude.{ℕ, Bool, true, false, List, [], ◌∷◌, ◌++◌, Option, Some, None, codes}
+use Rattle.miette_protocol.specs.views.Meaning.{Label, Meaning}
+use Rattle.miette_protocol.specs.rules.Reading.{Source}
+use Rattle.miette_protocol.specs.declared.protocol.Severity.{Severity}
+use Rattle.miette_protocol.specs.declared.protocol.Severity.TheVariants.{Advice, Warning, Error}
+use Rattle.miette_tree.specs.rules.Tree.{Tree, tree, causes_of, Trees, no_trees, more_trees, effective}
+use Rattle.miette_narrated.specs.rules.Labels.{row}
+use Rattle.miette_narrated.specs.rules.Snippets.{snippets}
+use Rattle.miette_tree.specs.rules.Parts.{given_labels, severity_text}
+
+-- what a handler is set to: whether the causes of the report are told, the lines of context, and the last row
+pub record Settings : Type 0 where
+  pub chain : Bool
+  pub context : ℕ
+  pub footer : Option (List ℕ)
+
+abbrev pub default_settings : Settings
+default_settings = record { chain = true; context = 1; footer = None }
+
+-- ---- answers
+
+-- Of a report, which reads of groups fail, and the same of its related reports. A read that isn't listed succeeds.
+mutual
+  pub data Answers : Type 0 where
+    unlisted : Answers
+    listed : List Bool → RelatedAnswers → Answers
+
+  pub data RelatedAnswers : Type 0 where
+    no_more : RelatedAnswers
+    and_more : Answers → RelatedAnswers → RelatedAnswers
+
+abbrev pub own_answer : Answers → List Bool
+own_answer unlisted = []
+own_answer (listed fails related) = fails
+
+abbrev pub related_answers : Answers → RelatedAnswers
+related_answers unlisted = no_more
+related_answers (listed fails related) = related
+
+abbrev pub first_answers : RelatedAnswers → Answers
+first_answers no_more = unlisted
+first_answers (and_more first more) = first
+
+abbrev pub later_answers : RelatedAnswers → RelatedAnswers
+later_answers no_more = no_more
+later_answers (and_more first more) = more
+
+-- ---- parts
+
+abbrev pub title : Option Severity → List ℕ
+title None = codes "Error: "
+title (Some Error) = codes "Error: "
+title (Some Warning) = codes "Warning: "
+title (Some Advice) = codes "Advice: "
+
+abbrev pub severity_row : Option Severity → List ℕ
+severity_row severity = row (codes "    Diagnostic severity: " ++ severity_text severity)
+
+-- the outermost report's head: its message and its severity
+abbrev pub head_rows : Meaning → List ℕ
+head_rows m = row m.message ++ severity_row m.severity
+
+-- a related report's head: its message behind its title, its severity, and a blank row
+abbrev pub titled_rows : Meaning → List ℕ
+titled_rows m = row (title m.severity ++ m.message) ++ (severity_row m.severity ++ row [])
+
+abbrev pub cause_rows : List (List ℕ) → List ℕ
+cause_rows [] = []
+cause_rows (text ∷ texts) = row (codes "    Caused by: " ++ text) ++ cause_rows texts
+
+abbrev pub causes_if : Bool → List (List ℕ) → List ℕ
+causes_if true texts = cause_rows texts
+causes_if false texts = []
+
+-- a row with a text behind these words, where there is a text
+abbrev pub row_if : List ℕ → Option (List ℕ) → List ℕ
+row_if words None = []
+row_if words (Some text) = row (words ++ text)
+
+abbrev pub url_rows : Option (List ℕ) → List ℕ
+url_rows None = []
+url_rows (Some url) = row (codes "For more details, see:") ++ row url
+
+-- help, code and url
+abbrev pub advice_rows : Meaning → List ℕ
+advice_rows m = row_if (codes "diagnostic help: ") m.help ++ (row_if (codes "diagnostic code: ") m.code ++ url_rows m.url)
+
+-- the snippets over a source, none without one
+abbrev pub snippet_rows : ℕ → Option Source → List Bool → List Label → List ℕ
+snippet_rows context None fails labels = []
+snippet_rows context (Some source) fails labels = snippets context source fails labels
+
+-- snippets, help, code and url
+abbrev pub rows_below : ℕ → Option Source → List Bool → Meaning → List ℕ
+rows_below context source fails m = snippet_rows context source fails (given_labels m.labels) ++ advice_rows m
+
+-- a blank row where there are related reports
+abbrev pub blank_before : Trees → List ℕ
+blank_before no_trees = []
+blank_before (more_trees t ts) = row []
+
+-- ---- the whole
+
+-- related reports: title, message, severity, causes, snippets, help, code, url, and theirs, each over its effective source
+abbrev mutual
+  pub related_report : ℕ → Option Source → Answers → Tree → List ℕ
+  related_report context inherited a (tree m own c r) =
+      titled_rows m ++ (cause_rows (causes_of c)
+      ++ (rows_below context (effective own inherited) (own_answer a) m
+      ++ (blank_before r ++ related_reports context (effective own inherited) (related_answers a) r)))
+
+  pub related_reports : ℕ → Option Source → RelatedAnswers → Trees → List ℕ
+  related_reports context inherited more no_trees = []
+  related_reports context inherited more (more_trees t ts) =
+      related_report context inherited (first_answers more) t ++ related_reports context inherited (later_answers more) ts
+
+-- the outermost report: message, severity, causes where they are told, snippets, help, code, url, related reports, and the last row
+abbrev pub narrated : Settings → Tree → Answers → List ℕ
+narrated s (tree m own c r) a =
+    head_rows m ++ (causes_if s.chain (causes_of c)
+    ++ (rows_below s.context own (own_answer a) m
+    ++ ((blank_before r ++ related_reports s.context own (related_answers a) r) ++ row_if [] s.footer)))

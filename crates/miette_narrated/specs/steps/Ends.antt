@@ -1,0 +1,39 @@
+-- Labels by where they end, and which of them have a row under a line that isn't a snippet's last.
+use Rattle.std.specs.Prelude.{ℕ, ◌+◌, ◌≡◌, ◌==◌, map, List, [], ◌∷◌, Bool, ◌&&◌, nat_le, nat_lt}
+use Rattle.std.specs.List.{filter}
+use Rattle.std.specs.List.Sorted.{IsNonDecreasingBy}
+use Rattle.miette_protocol.specs.rules.Lines.{Line}
+use Rattle.miette_lines.specs.declared.sweep.Placed.{Placed}
+use Rattle.miette_narrated.specs.declared.label_order.LabelOrder.{LabelOrder}
+use Rattle.miette_narrated.specs.declared.label_order.Ranked.{Ranked}
+use Rattle.miette_narrated.specs.steps.Sweeping.{AreOrdered}
+
+-- whether a label ends within a line's text
+abbrev pub ends_within : Line → Placed → Bool
+ends_within line p = nat_le line.start p.after && nat_le p.after line.text_end
+
+-- whether it begins before the line and ends there
+abbrev pub is_ended : Line → Placed → Bool
+is_ended line p = nat_lt p.start line.start && ends_within line p
+
+-- whether it begins within the line's text
+abbrev pub is_begun : Line → Placed → Bool
+is_begun line p = nat_le line.start p.start && nat_le p.start line.text_end
+
+-- labels with their ranks, from this one on
+abbrev pub ranked : ℕ → List Placed → List Ranked
+ranked rank [] = []
+ranked rank (p ∷ ps) = record { rank = rank; label = p } ∷ ranked (rank + 1) ps
+
+abbrev pub labels_of : List Ranked → List Placed
+labels_of ends = map (λ end. end.label) ends
+
+-- the same labels, by where they end
+pub record AreEnds (labels : List Placed) (ends : List Ranked) : Type 0 where
+  pub rising : IsNonDecreasingBy (λ end. end.label.after) ends
+  pub same : (rank : ℕ) → filter (λ end. end.rank == rank) ends ≡ filter (λ end. end.rank == rank) (ranked 0 labels)
+
+-- the placed labels come by offset, and the same ones by where they end
+pub record IsOrder (order : LabelOrder) : Type 0 where
+  pub ordered : AreOrdered order.placed.now
+  pub ended : AreEnds order.placed.now order.ends.now

@@ -1,0 +1,27 @@
+-- What a sweep over labels by offset knows at a line.
+use Rattle.std.specs.Prelude.{ℕ, ◌≤◌, ◌≡◌, ⊤, List, [], ◌∷◌, take, max, Bool, nat_le, if◌then◌else◌}
+use Rattle.std.specs.List.{filter}
+use Rattle.miette_lines.specs.declared.sweep.Placed.{Placed}
+use Rattle.miette_narrated.specs.rules.Labels.{Shown}
+
+-- whether a label reaches a place
+abbrev pub reaches : ℕ → Placed → Bool
+reaches place p = nat_le place p.after
+
+-- so many labels have come, and these of them reach the place
+abbrev pub IsAt : List Placed → ℕ → ℕ → List Placed → Type 0
+IsAt labels place next running = running ≡ filter (reaches place) (take next labels)
+
+-- the first of some labels begins at a place or behind it
+abbrev pub BeginsFrom : ℕ → List Placed → Type 0
+BeginsFrom place [] = ⊤
+BeginsFrom place (p ∷ ps) = place ≤ p.start
+
+-- labels by offset, none of which ends before it begins
+abbrev pub AreOrdered : List Placed → Type 0
+AreOrdered [] = ⊤
+AreOrdered (p ∷ ps) = (p.start ≤ p.after) × BeginsFrom p.start ps × AreOrdered ps
+
+-- where the labels begin that may have a row on a line
+abbrev pub last_start : Shown → ℕ
+last_start it = if it.is_last then max it.data_end it.line.text_end else it.line.text_end

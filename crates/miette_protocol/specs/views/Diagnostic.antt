@@ -1,0 +1,31 @@
+-- What a `MietteDiagnostic` means, and what its builders make of it.
+use Rattle.std.specs.Prelude.{ℕ, List, [], ◌++◌, Option, Some, None, string_bytes, unwrap_or}
+use Rattle.std.specs.Option.{option_map}
+use Rattle.miette_protocol.specs.views.Meaning.{Meaning, Label}
+use Rattle.miette_protocol.specs.declared.diagnostic.MietteDiagnostic.{MietteDiagnostic}
+
+-- its public fields, as texts and lists
+abbrev pub meaning_of : MietteDiagnostic → Meaning
+meaning_of it = record {
+  message = string_bytes it.message;
+  code = option_map string_bytes it.code;
+  severity = it.severity;
+  help = option_map string_bytes it.help;
+  url = option_map string_bytes it.url;
+  labels = option_map (λ list. list.items) it.labels;
+}
+
+-- a message and nothing else
+abbrev pub message_alone : List ℕ → Meaning
+message_alone message = record {
+  message = message;
+  code = None;
+  severity = None;
+  help = None;
+  url = None;
+  labels = None;
+}
+
+-- labels after those that are there, if any are
+abbrev pub appended : Option (List Label) → List Label → Option (List Label)
+appended labels more = Some (unwrap_or labels [] ++ more)

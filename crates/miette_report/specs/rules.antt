@@ -1,0 +1,8 @@
+-- What users rely on, in the words of docs/RULES.md.
+pub mod Words
+pub mod Asked
+pub mod Job
+pub mod Chosen
+pub mod Statuses
+pub mod Faults
+pub mod Findings

@@ -1,0 +1,51 @@
+-- The text of a job: by the bytes that were read, and by what was asked for.
+use Rattle.std.specs.Prelude.{◌≡◌, ℕ, Bool, List, Option, Some, true, false, ⊤, IsUtf8, encode_utf8_all}
+use Rattle.miette.specs.rules.Choice.{IsChosen, is_graphical}
+use Rattle.miette.specs.rules.Options.{Options}
+use Rattle.miette.specs.declared.options.handler.MietteHandler.{MietteHandler}
+use Rattle.miette.specs.declared.options.handler.MietteHandler.TheVariants.{Graphical, Narrated}
+use Rattle.miette_style.specs.declared.theme.Terminal.{Terminal}
+use Rattle.miette_tree.specs.rules.Tree.{Tree}
+use Rattle.miette_narrated.specs.rules.Answered.{report_accepted}
+use Rattle.miette_narrated.specs.rules.Report as narrated
+use Rattle.miette_graphical.specs.rules.Answered.{IsTextOf}
+use Rattle.miette_graphical.specs.rules.Answers.{unlisted}
+use Rattle.miette_graphical.specs.views.Handling.{draws_plain}
+use Rattle.miette_json.specs.rules.Json.{json_text}
+use Rattle.miette_json.specs.rules.JsonReport.{value_of}
+use Rattle.miette_graphical.specs.rules.Snippets.{drawn_rows}
+use Rattle.miette_graphical.specs.rules.Text.{report_text}
+use Rattle.miette_description.specs.rules.Description.{tree_for}
+use Rattle.miette_report.specs.declared.settings.Choice.{Choice}
+use Rattle.miette_report.specs.declared.settings.Choice.TheVariants.{Build, Json, Debug}
+
+-- A text that a handler gives for a tree whose sources always read: a picture, one alone where no highlighter or a blank one is set; a
+-- narrated text only where every label that is told is accepted.
+abbrev pub IsBuiltText : {H : Type 0} → (H → Bool) → MietteHandler H → Tree → List ℕ → Type 0
+IsBuiltText is_blank (Graphical it) t text =
+    IsTextOf drawn_rows it.settings (draws_plain is_blank it) t text
+    × (draws_plain is_blank it ≡ true → text ≡ encode_utf8_all (report_text drawn_rows it.settings t unlisted))
+IsBuiltText is_blank (Narrated it) t text = (report_accepted t ≡ true) × (text ≡ narrated.narrated it t narrated.unlisted)
+
+-- the same by what was asked for; of the debug report nothing is said
+abbrev pub IsJobText : {H : Type 0} → (H → Bool) → Choice → Options H → Terminal → Tree → List ℕ → Type 0
+IsJobText {H} is_blank Build options terminal t text = (handler : MietteHandler H) × IsChosen options terminal handler × IsBuiltText is_blank handler t text
+IsJobText is_blank Json options terminal t text = text ≡ json_text (value_of t)
+IsJobText is_blank Debug options terminal t text = ⊤
+
+-- the bytes are a description, and this holds of its text
+abbrev pub Writes : {H : Type 0} → (H → Bool) → Choice → Options H → Terminal → List ℕ → (List ℕ → Type 0) → Type 0
+Writes is_blank choice options terminal bytes holds =
+    IsUtf8 bytes × ((t : Tree) × (tree_for bytes ≡ Some t) × ((text : List ℕ) × IsJobText is_blank choice options terminal t text × holds text))
+
+-- the bytes are a description
+abbrev pub IsDescription : List ℕ → Type 0
+IsDescription bytes = IsUtf8 bytes × ((t : Tree) × (tree_for bytes ≡ Some t))
+
+-- the bytes are a description, and a label that is told of its report isn't accepted
+abbrev pub IsRefused : List ℕ → Type 0
+IsRefused bytes = IsUtf8 bytes × ((t : Tree) × (tree_for bytes ≡ Some t) × (report_accepted t ≡ false))
+
+-- the report is narrated
+abbrev pub IsNarrating : {H : Type 0} → Choice → Options H → Terminal → Type 0
+IsNarrating choice options terminal = (choice ≡ Build) × (is_graphical options terminal ≡ false)

@@ -1,0 +1,38 @@
+-- What the program `lint` reports.
+use Rattle.std.specs.Prelude.{◌≡◌, ℕ, ◌<◌, Bool, true, false, List, [], ◌∷◌, ◌++◌, Some, codes, decimal, length}
+use Rattle.miette.specs.Diagnostic.{message_alone}
+use Rattle.miette.specs.Meaning.{Label, Meaning}
+use Rattle.miette_protocol.specs.declared.protocol.Severity.TheVariants.{Warning}
+use Rattle.miette_report.specs.views.Drawn.{over_input, IsPicture}
+use Rattle.miette_report.specs.rules.Findings.{findings_of}
+use Rattle.miette_report.specs.rules.Words.{AreLintWords}
+
+abbrev pub counted : ℕ → List ℕ
+counted n = decimal n ++ codes " findings"
+
+-- a warning with these labels, which says how many there are
+abbrev pub warning : List Label → Meaning
+warning found = record (message_alone (counted (length found))) { severity = Some Warning; labels = Some found }
+
+-- the text for what is found in the input: nothing where that is nothing
+abbrev pub IsLinted : List ℕ → List ℕ → List Label → List ℕ → Type 0
+IsLinted name input [] text = text ≡ []
+IsLinted name input (l ∷ ls) text = IsPicture (over_input name (warning (l ∷ ls)) input) text
+
+-- whether there is none
+abbrev pub IsClean : List Label → Bool → Type 0
+IsClean found true = found ≡ []
+IsClean found false = 0 < length found
+
+-- A fact of the text for these words and this input, with whether nothing is found in it.
+abbrev pub Lints : List ℕ → ℕ → List ℕ → Bool → (List ℕ → Type 0) → Type 0
+Lints name width input clean holds =
+    (text : List ℕ) × IsClean (findings_of input width) clean × IsLinted name input (findings_of input width) text × holds text
+
+-- The same for the words as the program is called with them.
+abbrev pub CallLints : List (List ℕ) → List ℕ → Bool → (List ℕ → Type 0) → Type 0
+CallLints words input clean holds = (name : List ℕ) × (width : ℕ) × AreLintWords words name width × Lints name width input clean holds
+
+-- By the words the program finds nothing in the input, or something.
+abbrev pub CallIsClean : List (List ℕ) → List ℕ → Bool → Type 0
+CallIsClean words input clean = (name : List ℕ) × (width : ℕ) × AreLintWords words name width × IsClean (findings_of input width) clean

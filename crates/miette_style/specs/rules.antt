@@ -1,0 +1,5 @@
+-- What users rely on, in the words of docs/RULES.md.
+pub mod Styles
+pub mod Themes
+pub mod Pieces
+pub mod Escapes

@@ -1,0 +1,92 @@
+-- Texts from which colours can be deleted before or after wrapping.
+use Rattle.std.specs.Prelude.{◌≡◌, ℕ, Bool, true, false, ◌&&◌, ◌||◌, not, ◌==◌, if◌then◌else◌, List, [], ◌∷◌}
+use Rattle.miette_style.specs.rules.Escapes.{no_escape}
+use Rattle.miette_text.specs.rules.Sequences.{Token, Character, Sequence, tokens, erase, is_bell, is_line_feed, is_parameter}
+use Rattle.miette_style.specs.rules.Escapes.{is_escape}
+use Rattle.miette_text.specs.rules.Wrapping.{Layout, is_space}
+
+abbrev pub is_nil : {A : Type 0} → List A → Bool
+is_nil [] = true
+is_nil (x ∷ xs) = false
+
+-- `m`, behind digits and `;`
+abbrev pub is_colour_end : List ℕ → Bool
+is_colour_end [] = false
+is_colour_end (c ∷ cs) = if c == 109 then is_nil cs else is_parameter c && is_colour_end cs
+
+abbrev pub is_colour_behind : List ℕ → Bool
+is_colour_behind [] = false
+is_colour_behind (c ∷ cs) = c == 91 && is_colour_end cs
+
+-- The sequence is a colour: `ESC [`, digits and `;`, `m`.
+abbrev pub is_colour : List ℕ → Bool
+is_colour [] = false
+is_colour (c ∷ cs) = is_escape c && is_colour_behind cs
+
+abbrev pub is_backslash : List ℕ → Bool
+is_backslash [] = false
+is_backslash (c ∷ cs) = c == 92 && is_nil cs
+
+-- BEL or `ESC \`, behind codes that are no escape, BEL or line feed
+abbrev pub is_link_end : List ℕ → Bool
+is_link_end [] = false
+is_link_end (c ∷ cs) =
+    if is_bell c then is_nil cs
+    else if is_escape c then is_backslash cs
+    else not (is_line_feed c) && is_link_end cs
+
+abbrev pub is_link_behind : List ℕ → Bool
+is_link_behind [] = false
+is_link_behind (c ∷ cs) = c == 93 && is_link_end cs
+
+-- The sequence is a link's: `ESC ]`, codes with no escape, BEL or `ESC \`.
+abbrev pub is_link : List ℕ → Bool
+is_link [] = false
+is_link (c ∷ cs) = is_escape c && is_link_behind cs
+
+-- Where a text stands. Free: anywhere. Escaped: behind an escape that is a character. Opened: behind an `ESC ]`
+-- that is finished by no BEL or `ESC \` on this line. Waiting: on a later line than such an escape, and what is to
+-- be seen is still to come. Broken: at what such a text never holds.
+pub data State : Type 0 where
+  Free : State
+  Escaped : State
+  Opened : State
+  Waiting : State
+  Broken : State
+
+abbrev pub step : State → Token → State
+step Free (Sequence s) = if is_colour s || is_link s then Free else Broken
+step Free (Character c) = if is_escape c then Escaped else Free
+step Escaped (Sequence s) = Broken
+step Escaped (Character c) = if c == 93 then Opened else if c == 92 then Free else if is_line_feed c then Waiting else Broken
+step Opened (Sequence s) = Broken
+step Opened (Character c) = if is_line_feed c then Waiting else if is_bell c || is_escape c then Broken else Opened
+step Waiting (Sequence s) = if is_colour s || is_link s then Waiting else Broken
+step Waiting (Character c) = if is_escape c then Escaped else if is_space c || is_line_feed c then Waiting else Free
+step Broken (Sequence s) = Broken
+step Broken (Character c) = Broken
+
+abbrev pub state_behind : State → List Token → State
+state_behind s [] = s
+state_behind s (t ∷ ts) = state_behind (step s t) ts
+
+-- Every escape of the text begins a colour or a link's sequence, or is that of `ESC ] .. LF`, `ESC \` or `ESC LF`; behind
+-- those with a line feed there is something to see.
+abbrev pub AreTame : List Token → Type 0
+AreTame ts = state_behind Free ts ≡ Free
+
+abbrev pub IsTame : List ℕ → Type 0
+IsTame text = AreTame (tokens text)
+
+abbrev pub colourless : Layout → Layout
+colourless l = record l { first = erase l.first; further = erase l.further }
+
+-- Every escape belongs to a colour: none is left without them.
+abbrev pub IsColoured : List ℕ → Type 0
+IsColoured text = no_escape (erase text) ≡ true
+
+-- what is wrapped, and what it is wrapped under
+pub record AllTame (l : Layout) (text : List ℕ) : Type 0 where
+  pub first : IsTame l.first
+  pub further : IsTame l.further
+  pub inner : IsTame text

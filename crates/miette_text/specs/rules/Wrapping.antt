@@ -1,0 +1,236 @@
+-- How a text is wrapped: what stands in each row.
+use Rattle.std.specs.Prelude.{ℕ, ◌+◌, ◌-◌, min, Bool, true, false, ◌&&◌, ◌||◌, ◌==◌, nat_lt, nat_le, if◌then◌else◌, List, [], ◌∷◌, ◌++◌, map, flat_map, sum_by, unwrap_or}
+use Rattle.std.specs.Char.{is_whitespace}
+use Rattle.unicode_width.specs.Width.{char_width}
+use Rattle.miette_text.specs.rules.Sequences.{Token, Character, Sequence, tokens, spell, is_line_feed}
+
+-- ---- characters with their sequences, and pieces
+
+-- A character, with the sequences that stand before it: they go where it goes.
+pub record Cell : Type 0 where
+  pub marks : List (List ℕ)
+  pub code : ℕ
+
+-- What stands between two line feeds: its characters, and the sequences behind the last of them.
+pub record Piece : Type 0 where
+  pub cells : List Cell
+  pub rest : List (List ℕ)
+
+abbrev pub on_first : {A : Type 0} → (A → A) → List A → List A
+on_first f [] = []
+on_first f (x ∷ xs) = f x ∷ xs
+
+abbrev pub with_mark : List ℕ → Piece → Piece
+with_mark mark p = elim p.cells [
+  | [] ↦ record { cells = []; rest = mark ∷ p.rest }
+  | cell ∷ cells ↦ record { cells = record { marks = mark ∷ cell.marks; code = cell.code } ∷ cells; rest = p.rest }
+]
+
+abbrev pub with_code : ℕ → Piece → Piece
+with_code c p = record { cells = record { marks = []; code = c } ∷ p.cells; rest = p.rest }
+
+abbrev pub no_characters : Piece
+no_characters = record { cells = []; rest = [] }
+
+-- The text is cut at each line feed.
+abbrev pub pieces : List Token → List Piece
+pieces [] = no_characters ∷ []
+pieces (Sequence s ∷ ts) = on_first (with_mark s) (pieces ts)
+pieces (Character c ∷ ts) = if is_line_feed c then no_characters ∷ pieces ts else on_first (with_code c) (pieces ts)
+
+abbrev pub cell_tokens : Cell → List Token
+cell_tokens c = map Sequence c.marks ++ Character c.code ∷ []
+
+-- ---- widths
+
+abbrev pub width : ℕ → ℕ
+width c = unwrap_or (char_width false c) 0
+
+abbrev pub columns : List Cell → ℕ
+columns = sum_by (λ c. width c.code)
+
+abbrev pub token_width : Token → ℕ
+token_width (Character c) = width c
+token_width (Sequence s) = 0
+
+abbrev pub columns_of : List Token → ℕ
+columns_of = sum_by token_width
+
+-- ---- words
+
+abbrev pub is_space : ℕ → Bool
+is_space c = c == 32
+
+-- A word, with the spaces behind it.
+pub record Word : Type 0 where
+  pub letters : List Cell
+  pub spaces : List Cell
+
+-- A letter in front makes the first word longer; a space in front makes its spaces longer where it has no letter yet.
+abbrev pub with_letter : Cell → List Word → List Word
+with_letter c [] = record { letters = c ∷ []; spaces = [] } ∷ []
+with_letter c (w ∷ ws) = record { letters = c ∷ w.letters; spaces = w.spaces } ∷ ws
+
+abbrev pub with_space : Cell → List Word → List Word
+with_space c [] = record { letters = []; spaces = c ∷ [] } ∷ []
+with_space c (w ∷ ws) = elim w.letters [
+  | [] ↦ record { letters = []; spaces = c ∷ w.spaces } ∷ ws
+  | letter ∷ letters ↦ record { letters = []; spaces = c ∷ [] } ∷ w ∷ ws
+]
+
+-- The piece is cut behind each run of spaces.
+abbrev pub words : List Cell → List Word
+words [] = []
+words (c ∷ cs) = if is_space c.code then with_space c (words cs) else with_letter c (words cs)
+
+-- The parts of what is cut: one more in front of the first, or a cut in front of it.
+abbrev pub onto : {A : Type 0} → A → List (List A) → List (List A)
+onto x [] = (x ∷ []) ∷ []
+onto x (p ∷ ps) = (x ∷ p) ∷ ps
+
+abbrev pub is_alphanumeric : ℕ → Bool
+is_alphanumeric c = (nat_le 48 c && nat_le c 57) || (nat_le 65 c && nat_le c 90) || (nat_le 97 c && nat_le c 122)
+
+abbrev pub begins_alphanumeric : List Cell → Bool
+begins_alphanumeric [] = false
+begins_alphanumeric (c ∷ cs) = is_alphanumeric c.code
+
+-- A word is also cut behind each `-` between two letters or digits. `before` is the code before.
+abbrev pub hyphen_parts : ℕ → List Cell → List (List Cell)
+hyphen_parts before [] = [] ∷ []
+hyphen_parts before (c ∷ cs) =
+    if (c.code == 45) && is_alphanumeric before && begins_alphanumeric cs then (c ∷ []) ∷ hyphen_parts c.code cs
+    else onto c (hyphen_parts c.code cs)
+
+-- Cut before each character that makes the part since the last cut, which has so many columns, too wide,
+-- unless that part has none.
+abbrev pub broken : ℕ → ℕ → List Cell → List (List Cell)
+broken room used [] = [] ∷ []
+broken room used (c ∷ cs) =
+    if nat_lt 0 used && nat_lt room (used + width c.code) then [] ∷ onto c (broken room (width c.code) cs)
+    else onto c (broken room (used + width c.code) cs)
+
+-- The last part keeps the spaces.
+abbrev pub with_spaces : List Cell → List (List Cell) → List Word
+with_spaces spaces [] = record { letters = []; spaces = spaces } ∷ []
+with_spaces spaces (p ∷ ps) = elim ps [
+  | [] ↦ record { letters = p; spaces = spaces } ∷ []
+  | q ∷ qs ↦ record { letters = p; spaces = [] } ∷ with_spaces spaces ps
+]
+
+-- ---- rows
+
+-- How a text is to be wrapped.
+pub record Layout : Type 0 where
+  pub room : ℕ
+  pub first : List ℕ
+  pub further : List ℕ
+  pub breaks : Bool
+  pub wraps : Bool
+  pub hyphens : Bool
+
+-- the columns that an indent leaves
+abbrev pub first_room : Layout → ℕ
+first_room l = l.room - columns_of (tokens l.first)
+
+abbrev pub further_room : Layout → ℕ
+further_room l = l.room - columns_of (tokens l.further)
+
+abbrev pub hyphenated : Layout → List Cell → List (List Cell)
+hyphenated l letters = if l.hyphens then hyphen_parts 0 letters else letters ∷ []
+
+abbrev pub narrowed : Layout → List Cell → List (List Cell)
+narrowed l letters = if l.breaks then broken (min (first_room l) (further_room l)) 0 letters else letters ∷ []
+
+abbrev pub parts : Layout → Word → List Word
+parts l w = with_spaces w.spaces (flat_map (narrowed l) (hyphenated l w.letters))
+
+abbrev pub piece_words : Layout → Piece → List Word
+piece_words l p = flat_map (parts l) (words p.cells)
+
+abbrev pub word_cells : Word → List Cell
+word_cells w = w.letters ++ w.spaces
+
+-- A word begins a row exactly where the row so far, with its spaces, and the word are wider than the row.
+-- The first of the rows is the rest of the row that has so many columns in use.
+abbrev pub rows_behind : ℕ → ℕ → ℕ → List Word → List (List Word)
+rows_behind used room further [] = [] ∷ []
+rows_behind used room further (w ∷ ws) =
+    if nat_lt room (used + columns w.letters) then [] ∷ onto w (rows_behind (columns (word_cells w)) further further ws)
+    else onto w (rows_behind (used + columns (word_cells w)) room further ws)
+
+-- The first word is in the first row, however wide it is.
+abbrev pub rows : ℕ → ℕ → List Word → List (List Word)
+rows room further [] = [] ∷ []
+rows room further (w ∷ ws) = onto w (rows_behind (columns (word_cells w)) room further ws)
+
+-- ---- what a row prints
+
+-- all characters are spaces
+abbrev pub only_spaces : List Token → Bool
+only_spaces [] = true
+only_spaces (Character c ∷ ts) = is_space c && only_spaces ts
+only_spaces (Sequence s ∷ ts) = only_spaces ts
+
+-- without the last spaces; sequences stay
+abbrev pub trimmed : List Token → List Token
+trimmed [] = []
+trimmed (Character c ∷ ts) = if is_space c && only_spaces ts then trimmed ts else Character c ∷ trimmed ts
+trimmed (Sequence s ∷ ts) = Sequence s ∷ trimmed ts
+
+abbrev pub row_tokens : List Word → List Token
+row_tokens ws = trimmed (flat_map cell_tokens (flat_map word_cells ws))
+
+-- the sequences at the piece's end go to the last row
+abbrev pub with_rest : List (List ℕ) → List (List Token) → List (List Token)
+with_rest rest [] = []
+with_rest rest (r ∷ rs) = elim rs [ [] ↦ (r ++ map Sequence rest) ∷ [] | s ∷ ss ↦ r ∷ with_rest rest rs ]
+
+abbrev pub piece_rows : Layout → ℕ → Piece → List (List Token)
+piece_rows l room p = with_rest p.rest (map row_tokens (rows room (further_room l) (piece_words l p)))
+
+abbrev pub text_rows : Layout → List Piece → List (List Token)
+text_rows l [] = []
+text_rows l (p ∷ ps) = piece_rows l (first_room l) p ++ flat_map (piece_rows l (further_room l)) ps
+
+abbrev pub line_feed : Token
+line_feed = Character 10
+
+-- each row under its indent; line feeds between them
+abbrev pub joined : List Token → List Token → List (List Token) → List Token
+joined indent further [] = []
+joined indent further (r ∷ rs) = elim rs [ [] ↦ indent ++ r | s ∷ ss ↦ indent ++ r ++ line_feed ∷ joined further further rs ]
+
+abbrev pub filled : Layout → List Token → List Token
+filled l ts = joined (tokens l.first) (tokens l.further) (text_rows l (pieces ts))
+
+-- ---- without wrapping
+
+abbrev pub all_white : List Cell → Bool
+all_white [] = true
+all_white (c ∷ cs) = is_whitespace c.code && all_white cs
+
+abbrev pub piece_tokens : Piece → List Token
+piece_tokens p = flat_map cell_tokens p.cells ++ map Sequence p.rest
+
+abbrev pub indented : List Token → Piece → List Token
+indented indent p = (if all_white p.cells then trimmed indent else indent) ++ piece_tokens p
+
+-- Behind the last line feed there is no piece where there is no character; its sequences stay.
+abbrev pub last_indented : List Token → Piece → List Token
+last_indented indent p = elim p.cells [ [] ↦ map Sequence p.rest | cell ∷ cells ↦ indented indent p ]
+
+abbrev pub whole_pieces : List Token → List Token → List Piece → List Token
+whole_pieces indent further [] = []
+whole_pieces indent further (p ∷ ps) = elim ps [ [] ↦ last_indented indent p | q ∷ qs ↦ indented indent p ++ line_feed ∷ whole_pieces further further ps ]
+
+abbrev pub unwrapped : Layout → List Token → List Token
+unwrapped l ts = whole_pieces (tokens l.first) (tokens l.further) (pieces ts)
+
+-- ---- all of it
+
+abbrev pub wrapped_tokens : Layout → List Token → List Token
+wrapped_tokens l ts = if l.wraps then filled l ts else unwrapped l ts
+
+abbrev pub wrapped : Layout → List ℕ → List ℕ
+wrapped l text = spell (wrapped_tokens l (tokens text))

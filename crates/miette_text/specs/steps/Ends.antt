@@ -1,0 +1,81 @@
+-- Where the first part of a word, the first row, and a row without its last spaces end.
+use Rattle.std.specs.Prelude.{◌≡◌, ℕ, zero, suc, ◌+◌, Bool, false, ◌&&◌, ◌==◌, nat_lt, List, [], ◌∷◌, ◌++◌, if◌then◌else◌, map, flat_map, take, drop, sum_by}
+use Rattle.miette_text.specs.views.Filling.{maybe_broken, parts_with}
+use Rattle.miette_text.specs.steps.Printing.{all_spaces, row_cells}
+use Rattle.miette_text.specs.rules.Sequences.{flat, is_line_feed}
+use Rattle.miette_text.specs.rules.Wrapping.{Cell, Word, width, is_space, is_alphanumeric, hyphen_parts, rows, with_spaces, words}
+
+-- without the last spaces
+abbrev pub bare_len : List Cell → ℕ
+bare_len [] = 0
+bare_len (c ∷ cs) = if is_space c.code && all_spaces cs then 0 else suc (bare_len cs)
+
+abbrev pub marks_text : List Cell → List ℕ
+marks_text [] = []
+marks_text (c ∷ cs) = flat c.marks ++ marks_text cs
+
+-- ---- of codes alone, whatever sequences stand between them
+
+abbrev pub codes_of : List Cell → List ℕ
+codes_of = map (λ (c : Cell). c.code)
+
+abbrev pub code_columns : List ℕ → ℕ
+code_columns = sum_by width
+
+abbrev pub begins_word : List ℕ → Bool
+begins_word [] = false
+begins_word (c ∷ cs) = is_alphanumeric c
+
+-- The first part of what is left of a word, behind a code and with so many columns in use: it ends before a space,
+-- before what makes it too wide, and behind a hyphen.
+abbrev pub part_len : Bool → Bool → ℕ → ℕ → ℕ → List ℕ → ℕ
+part_len hyphens breaks narrow before used [] = 0
+part_len hyphens breaks narrow before used (c ∷ cs) =
+    if is_space c then 0
+    else if breaks && (nat_lt 0 used && nat_lt narrow (used + width c)) then 0
+    else if hyphens && ((c == 45) && is_alphanumeric before && begins_word cs) then 1
+    else suc (part_len hyphens breaks narrow c (used + width c) cs)
+
+abbrev pub gap_len : List ℕ → ℕ
+gap_len [] = 0
+gap_len (c ∷ cs) = if is_space c then suc (gap_len cs) else 0
+
+-- the last of so many codes, where there is one
+abbrev pub code_behind : ℕ → ℕ → List ℕ → ℕ
+code_behind before zero cs = before
+code_behind before (suc n) [] = before
+code_behind before (suc n) (c ∷ cs) = code_behind c n cs
+
+abbrev pub hyphenated_behind : Bool → ℕ → List Cell → List (List Cell)
+hyphenated_behind hyphens before letters = if hyphens then hyphen_parts before letters else letters ∷ []
+
+-- the parts of the words of what stands behind a code
+abbrev pub words_behind : Bool → Bool → ℕ → ℕ → List Cell → List Word
+words_behind hyphens breaks narrow before cells = elim (words cells) [
+  | [] ↦ []
+  | w ∷ ws ↦ with_spaces w.spaces (flat_map (maybe_broken breaks narrow) (hyphenated_behind hyphens before w.letters)) ++ flat_map (parts_with hyphens breaks narrow) ws
+]
+
+-- the rows of what stands behind a code; none where nothing is left
+abbrev pub rows_left : Bool → Bool → ℕ → ℕ → ℕ → List Cell → List (List Cell)
+rows_left hyphens breaks narrow before room [] = []
+rows_left hyphens breaks narrow before room (c ∷ cs) = map row_cells (rows room room (words_behind hyphens breaks narrow before (c ∷ cs)))
+
+-- So many codes are in the first row.
+abbrev pub IsFirstRow : Bool → Bool → ℕ → ℕ → ℕ → List ℕ → ℕ → Type 0
+IsFirstRow hyphens breaks narrow before room codes n =
+    (cells : List Cell) (further : ℕ) → codes_of cells ≡ codes →
+    map row_cells (rows room further (words_behind hyphens breaks narrow before cells))
+    ≡ take n cells ∷ rows_left hyphens breaks narrow (code_behind before n codes) further (drop n cells)
+
+-- ---- lines, and characters alone
+
+abbrev pub line_len : List ℕ → ℕ
+line_len [] = 0
+line_len (c ∷ cs) = if is_line_feed c then 0 else suc (line_len cs)
+
+abbrev pub plain_cell : ℕ → Cell
+plain_cell c = record { marks = []; code = c }
+
+abbrev pub plain_cells : List ℕ → List Cell
+plain_cells = map plain_cell

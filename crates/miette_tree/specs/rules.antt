@@ -1,0 +1,7 @@
+-- What users rely on, in the words of docs/RULES.md.
+pub mod Tree
+pub mod CauseTexts
+pub mod Chain
+pub mod WrapErr
+pub mod Parts
+pub mod Displayed

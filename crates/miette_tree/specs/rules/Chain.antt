@@ -1,0 +1,30 @@
+-- The two parts of a chain: the messages of a report and of the reports that are its causes, and the texts behind the last of them.
+use Rattle.std.specs.Prelude.{ℕ, List, [], ◌∷◌, Option, Some, None}
+use Rattle.miette_tree.specs.rules.Tree.{Tree, tree, Cause, diagnostic, texts}
+
+-- the messages of a report and of the reports that are its causes
+abbrev mutual
+  pub spine : Tree → List (List ℕ)
+  spine (tree m s c r) = m.message ∷ spine_below c
+
+  pub spine_below : Cause → List (List ℕ)
+  spine_below (diagnostic t) = spine t
+  spine_below (texts ts) = []
+
+-- the texts behind the last of them
+abbrev mutual
+  pub tail : Tree → List (List ℕ)
+  tail (tree m s c r) = tail_below c
+
+  pub tail_below : Cause → List (List ℕ)
+  tail_below (diagnostic t) = tail t
+  tail_below (texts ts) = ts
+
+abbrev pub spine_from : Option Tree → List (List ℕ)
+spine_from None = []
+spine_from (Some t) = spine t
+
+-- the texts of a cause that is no diagnostic
+abbrev pub texts_below : Cause → List (List ℕ)
+texts_below (diagnostic t) = []
+texts_below (texts ts) = ts

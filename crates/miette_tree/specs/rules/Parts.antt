@@ -1,0 +1,17 @@
+-- Parts of a diagnostic as handlers show them.
+use Rattle.std.specs.Prelude.{ℕ, List, [], codes, Option, Some, None}
+use Rattle.miette_protocol.specs.views.Meaning.{Label}
+use Rattle.miette_protocol.specs.declared.protocol.Severity.{Severity}
+use Rattle.miette_protocol.specs.declared.protocol.Severity.TheVariants.{Advice, Warning, Error}
+
+-- the labels, none where there is no list
+abbrev pub given_labels : Option (List Label) → List Label
+given_labels None = []
+given_labels (Some labels) = labels
+
+-- the name of a severity
+abbrev pub severity_text : Option Severity → List ℕ
+severity_text None = codes "error"
+severity_text (Some Error) = codes "error"
+severity_text (Some Warning) = codes "warning"
+severity_text (Some Advice) = codes "advice"

@@ -1,0 +1,72 @@
+-- The value of a tree of reports: what its parts answer, and nothing of how they are kept.
+use Rattle.std.specs.Prelude.{ℕ, List, [], ◌∷◌, Option, Some, None, unwrap_or}
+use Rattle.miette_protocol.specs.views.Meaning.{Meaning}
+use Rattle.miette_protocol.specs.rules.Reading.{Source}
+
+mutual
+  -- what a report answers, its source, its cause, and the reports that are related to it
+  pub data Tree : Type 0 where
+    tree : Meaning → Option Source → Cause → Trees → Tree
+
+  -- one report, or a list of texts; an empty list is no cause
+  pub data Cause : Type 0 where
+    diagnostic : Tree → Cause
+    texts : List (List ℕ) → Cause
+
+  pub data Trees : Type 0 where
+    no_trees : Trees
+    more_trees : Tree → Trees → Trees
+
+abbrev pub trees : List Tree → Trees
+trees [] = no_trees
+trees (t ∷ ts) = more_trees t (trees ts)
+
+-- ---- its parts
+
+abbrev pub head : Tree → Meaning
+head (tree m s c r) = m
+
+abbrev pub source_of : Tree → Option Source
+source_of (tree m s c r) = s
+
+abbrev pub cause_of : Tree → Cause
+cause_of (tree m s c r) = c
+
+abbrev pub related_of : Tree → Trees
+related_of (tree m s c r) = r
+
+-- the message, and the messages or texts of the causes
+abbrev mutual
+  pub chain_of : Tree → List (List ℕ)
+  chain_of (tree m s c r) = m.message ∷ causes_of c
+
+  pub causes_of : Cause → List (List ℕ)
+  causes_of (diagnostic t) = chain_of t
+  causes_of (texts ts) = ts
+
+-- the source of a report that is printed under one with that source: its own, else the one that it inherits
+abbrev pub effective : Option Source → Option Source → Option Source
+effective (Some own) inherited = Some own
+effective None inherited = inherited
+
+-- ---- what the calls make
+
+-- a report that answers this, and has nothing else
+abbrev pub alone : Meaning → Tree
+alone m = tree m None (texts []) no_trees
+
+-- a message in front: the old chain becomes the causes, and all else stays
+abbrev pub wrapped : List ℕ → Tree → Tree
+wrapped message t = tree (record (head t) { message = message }) (source_of t) (texts (chain_of t)) (related_of t)
+
+-- a source only where there is none
+abbrev pub with_source : Source → Tree → Tree
+with_source new t = tree (head t) (Some (unwrap_or (source_of t) new)) (cause_of t) (related_of t)
+
+-- another cause
+abbrev pub with_cause : Cause → Tree → Tree
+with_cause new t = tree (head t) (source_of t) new (related_of t)
+
+-- other related reports
+abbrev pub with_related : Trees → Tree → Tree
+with_related new t = tree (head t) (source_of t) (cause_of t) new

@@ -1,0 +1,6 @@
+-- What the code's values stand for.
+pub mod Owned
+pub mod Kind
+pub mod Report
+pub mod Left
+pub mod Handler

@@ -1,0 +1,68 @@
+-- The value that a report stands for.
+use Rattle.std.specs.Prelude.{ℕ, ◌<◌, List, [], Option, Some, None, length, option_map, string_bytes, map, codes}
+use Rattle.miette_protocol.specs.views.Meaning.{Meaning}
+use Rattle.miette_protocol.specs.rules.Reading.{Source}
+use Rattle.miette_protocol.specs.views.Diagnostic.{meaning_of, message_alone}
+use Rattle.miette_tree.specs.rules.CauseTexts.{texts_in}
+use Rattle.miette_tree.specs.views.Owned.{kept_source}
+use Rattle.miette_tree.specs.rules.Tree.{Tree, tree, Cause, diagnostic, texts, Trees, no_trees, trees}
+use Rattle.miette_tree.specs.declared.innermost.Innermost.{Innermost}
+use Rattle.miette_tree.specs.declared.innermost.Innermost.TheVariants.{Message, Built, Boxed, Fixed, OutOfMemory}
+use Rattle.miette_tree.specs.declared.report.KeptCause.{KeptCause}
+use Rattle.miette_tree.specs.declared.report.KeptCause.TheVariants as kept
+use Rattle.miette_tree.specs.declared.report.Cause as shown
+use Rattle.miette_tree.specs.declared.report.Cause.TheVariants as seen
+use Rattle.miette_tree.specs.declared.report.Report.{Report}
+use Rattle.miette_tree.specs.declared.report.Report.TheOpen.{Report-F}
+use Rattle.miette_tree.specs.declared.report.Report.TheFolds.{fold-Report}
+
+-- what the report of refused memory answers
+abbrev pub out_of_memory_alone : Meaning
+out_of_memory_alone = message_alone (codes "memory allocation failed")
+
+abbrev pub innermost_meaning : {D : Type 0} → (D → Meaning) → Innermost D → Meaning
+innermost_meaning means (Message text) = message_alone (string_bytes text)
+innermost_meaning means (Built d) = meaning_of d
+innermost_meaning means (Boxed d) = means d
+innermost_meaning means (Fixed text) = message_alone text.now
+innermost_meaning means OutOfMemory = out_of_memory_alone
+
+-- with the message that was put in front, where there is one
+abbrev pub fronted : Option (List ℕ) → Meaning → Meaning
+fronted None m = m
+fronted (Some message) m = record m { message = message }
+
+-- a cause, with a report in it already seen as its tree
+abbrev pub kept_cause : KeptCause Tree → Cause
+kept_cause kept.None = texts []
+kept_cause (kept.Diagnostic b) = diagnostic b.value
+kept_cause (kept.Texts list) = texts (texts_in list)
+
+abbrev pub trees_from : Option (List Tree) → Trees
+trees_from None = no_trees
+trees_from (Some ts) = trees ts
+
+-- one level, with each report inside already seen as its tree
+abbrev pub tree_step : {D S : Type 0} → (D → Meaning) → (S → Source) → Report-F D S Tree → Tree
+tree_step means is r =
+    tree
+    (fronted (option_map string_bytes r.front) (innermost_meaning means r.innermost))
+    (option_map (kept_source is) r.source)
+    (kept_cause r.cause)
+    (trees_from (option_map (λ v. v.items) r.related))
+
+-- the whole tree, given what its boxed diagnostics and sources mean
+abbrev pub tree_of : {D S : Type 0} → (D → Meaning) → (S → Source) → Report D S → Tree
+tree_of {D} {S} means is = fold-Report D S Tree (tree_step means is)
+
+-- the cause that a getter shows
+abbrev pub cause_shown : {D S : Type 0} → (D → Meaning) → (S → Source) → shown.Cause D S → Cause
+cause_shown means is seen.None = texts []
+cause_shown means is (seen.Diagnostic r) = diagnostic (tree_of means is r.now)
+cause_shown means is (seen.Texts list) = texts (map string_bytes list.now)
+
+-- texts are shown only where there is at least one
+abbrev pub IsNoEmptyList : {D S : Type 0} → shown.Cause D S → Type 0
+IsNoEmptyList seen.None = Unit {0}
+IsNoEmptyList (seen.Diagnostic r) = Unit {0}
+IsNoEmptyList (seen.Texts list) = 0 < length list.now
