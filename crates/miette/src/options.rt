@@ -27,18 +27,19 @@ pub enum RgbColors {
     Never,
 }
 
-/// What comparing, cloning and the default of `RgbColors` say: equal where they are the same, a clone is the same, and the
-/// default is `Never`.
+/// What comparing, cloning and the default of `RgbColors` say: equal where they are the same, a clone is the same,
+/// and the default is `Never`.
 pub fn rgb_colors_law()
     ensures equal { (a b : RgbColors) → IsTrue (⟦<RgbColors as PartialEq>⟧.eq a b) ↔ (a ≡ b) }
     ensures cloned { (a b : RgbColors) → ⟦<RgbColors as Clone>⟧.is_clone a b → b ≡ a }
     ensures default { (it : RgbColors) → ⟦<RgbColors as Default>⟧.is_default it → it ≡ RgbColors.Never }
 {}
 
-/// What a user asks of a handler. An option that is set twice counts as it was set last; of one that isn't set the terminal
-/// decides, or the handler's own default stays.
+/// What a user asks of a handler. An option that is set twice counts as it was set last; of one that isn't set the
+/// terminal decides, or the handler's own default stays.
 ///
-/// Users write `MietteHandlerOpts`; the parameter is the type of the highlighter that is used. All calls but `build` take no memory.
+/// Users write `MietteHandlerOpts`; the parameter is the type of the highlighter that is used. All calls but `build`
+/// take no memory.
 #[derive(Drop)]
 pub struct MietteHandlerOpts<H = Box<dyn Highlighter>> {
     force_narrated: Option<bool>,

@@ -141,8 +141,8 @@ pub fn print_to<
 /// Writes the text that a handler gives of a report, and nothing else; the handler's settings stay.
 ///
 /// # Errors
-/// `Memory` where memory is refused, and `Refused` as the handler says: nothing was written then. `Write` where the writer
-/// failed, which may have taken a beginning of the text.
+/// `Memory` where memory is refused, and `Refused` as the handler says: nothing was written then. `Write` where the
+/// writer failed, which may have taken a beginning of the text.
 pub fn write_report<T: ReportHandler, D: Diagnostic, S: SourceCode, W: Write>(
     alloc: Global,
     handler: &mut T,
@@ -151,7 +151,8 @@ pub fn write_report<T: ReportHandler, D: Diagnostic, S: SourceCode, W: Write>(
 ) -> Result<(), PrintError>
     ensures ok { OnOk result (WritesOne (T.gives handler.old (tree_of D.meaning S.source report.now))
         (W.contents writer.old) (W.contents writer.new)) }
-    ensures refused { (result ≡ Err PrintError.Refused) → T.refuses handler.old (tree_of D.meaning S.source report.now) }
+    ensures refused { (result ≡ Err PrintError.Refused) →
+        T.refuses handler.old (tree_of D.meaning S.source report.now) }
     ensures untouched { OnErr result ((result ≡ Err PrintError.Write) ⊎ (writer.new ≡ writer.old)) }
     ensures settings { T.keeps handler.old handler.new }
 {

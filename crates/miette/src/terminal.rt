@@ -2,7 +2,10 @@
 
 ghost use Rattle.std.specs.Prelude.{◌≡◌, IfOk, Some, option_map, string_bytes};
 ghost use Rattle.miette_style.specs.rules.Themes.{refuses_colours};
-ghost use Rattle.miette.specs.rules.Detected.{IsDetected, IsWidth, colours_of, draws_unicode, forced_colours, goes_to_terminal, has_many_colours, is_dumb, is_linking_kind, is_linking_program, is_set_to, is_utf8_locale, lacks_colours, names_utf8, own_colours, shows_links};
+ghost use Rattle.miette.specs.rules.Detected.{IsDetected, IsWidth, colours_of, draws_unicode, forced_colours};
+ghost use Rattle.miette.specs.rules.Detected.{goes_to_terminal, has_many_colours, is_dumb, is_linking_kind};
+ghost use Rattle.miette.specs.rules.Detected.{is_linking_program, is_set_to, is_utf8_locale, lacks_colours, names_utf8};
+ghost use Rattle.miette.specs.rules.Detected.{own_colours, shows_links};
 
 use miette_style::theme::Terminal;
 use std::alloc::AllocError;
@@ -69,8 +72,8 @@ pub struct Variables {
     pub konsole_version: Option<String>,
     /// `WT_SESSION`.
     pub wt_session: Option<String>,
-    /// `LC_ALL`: a locale that ends in `UTF-8` has characters of Unicode. The first that is set counts, of this one and the
-    /// next two.
+    /// `LC_ALL`: a locale that ends in `UTF-8` has characters of Unicode. The first that is set counts, of this one
+    /// and the next two.
     pub lc_all: Option<String>,
     /// `LC_CTYPE`.
     pub lc_ctype: Option<String>,

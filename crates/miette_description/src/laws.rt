@@ -9,7 +9,8 @@ ghost use Rattle.miette_description.specs.rules.Description.{report_from, report
 
 /// A description is read by what stands at its keys, and each of its cause and related reports is a description.
 pub fn a_description_is_read_by_its_keys()
-    ensures { (d : Data) → report_in d ≡ report_from (typed report_in (at_key (codes "cause") d)) (typed reports_in (at_key (codes "related") d)) d }
+    ensures { (d : Data) → report_in d ≡ report_from (typed report_in (at_key (codes "cause") d))
+        (typed reports_in (at_key (codes "related") d)) d }
 {}
 
 /// The sources of a described report always read, so that its text is determined.

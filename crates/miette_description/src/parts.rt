@@ -6,7 +6,8 @@ ghost use Rattle.serde_json.specs.Find.{as_str};
 ghost use Rattle.miette_description.specs.views.Seen.{seen, items_seen};
 ghost use Rattle.miette_protocol.specs.views.Diagnostic.{meaning_of};
 ghost use Rattle.miette_tree.specs.views.Owned.{owned_source};
-ghost use Rattle.miette_description.specs.rules.Members.{given, at_key, typed, all_of, list_of, severity_of, label_of, source_of, meaning_in};
+ghost use Rattle.miette_description.specs.rules.Members.{given, at_key, typed, all_of, list_of, severity_of, label_of};
+ghost use Rattle.miette_description.specs.rules.Members.{source_of, meaning_in};
 
 use crate::error::BuildError;
 use crate::members::{lines_at, needed_text_at, text_at, truth_at, whole_at};
@@ -77,8 +78,10 @@ fn labels_at(
     value: &Value<'_>,
     key: &str,
 ) -> Result<Option<Vec<LabeledSpan>>, BuildError>
-    ensures ok { IfOk result (λ o. typed (list_of label_of) (at_key key.now (seen value.now)) ≡ Some (option_map (λ v. v.items) o)) }
-    ensures description { (result ≡ Err BuildError.Description) → typed (list_of label_of) (at_key key.now (seen value.now)) ≡ None }
+    ensures ok { IfOk result (λ o. typed (list_of label_of) (at_key key.now (seen value.now))
+        ≡ Some (option_map (λ v. v.items) o)) }
+    ensures description { (result ≡ Err BuildError.Description) →
+        typed (list_of label_of) (at_key key.now (seen value.now)) ≡ None }
 {
     let Some(found) = member_at(value, key) else {
         return Ok(None);
@@ -111,8 +114,10 @@ pub(crate) fn texts_at(
     value: &Value<'_>,
     key: &str,
 ) -> Result<Option<Vec<String>>, BuildError>
-    ensures ok { IfOk result (λ o. typed (list_of as_str) (at_key key.now (seen value.now)) ≡ Some (option_map (λ v. map string_bytes v.items) o)) }
-    ensures description { (result ≡ Err BuildError.Description) → typed (list_of as_str) (at_key key.now (seen value.now)) ≡ None }
+    ensures ok { IfOk result (λ o. typed (list_of as_str) (at_key key.now (seen value.now))
+        ≡ Some (option_map (λ v. map string_bytes v.items) o)) }
+    ensures description { (result ≡ Err BuildError.Description) →
+        typed (list_of as_str) (at_key key.now (seen value.now)) ≡ None }
 {
     let Some(found) = member_at(value, key) else {
         return Ok(None);
@@ -175,8 +180,10 @@ pub(crate) fn source_at(
     value: &Value<'_>,
     key: &str,
 ) -> Result<Option<OwnedSource>, BuildError>
-    ensures ok { IfOk result (λ o. typed source_of (at_key key.now (seen value.now)) ≡ Some (option_map owned_source o)) }
-    ensures description { (result ≡ Err BuildError.Description) → typed source_of (at_key key.now (seen value.now)) ≡ None }
+    ensures ok { IfOk result (λ o. typed source_of (at_key key.now (seen value.now))
+        ≡ Some (option_map owned_source o)) }
+    ensures description { (result ≡ Err BuildError.Description) →
+        typed source_of (at_key key.now (seen value.now)) ≡ None }
 {
     let Some(found) = member_at(value, key) else {
         return Ok(None);

@@ -1,17 +1,20 @@
 //! The report that a description asks for.
 
-ghost use Rattle.std.specs.Prelude.{◌≡◌, List, [], Option, Some, None, IfOk, OnOk, IfSome, IsSome, IsUtf8, false, option_and_then, option_map, unwrap_or, map, string_bytes};
+ghost use Rattle.std.specs.Prelude.{◌≡◌, List, [], Option, Some, None, IfOk, OnOk, IfSome, IsSome, IsUtf8, false};
+ghost use Rattle.std.specs.Prelude.{option_and_then, option_map, unwrap_or, map, string_bytes};
 ghost use Rattle.json.specs.Value.{value_view};
 ghost use Rattle.serde_json.specs.Read.{read, of_json};
 ghost use Rattle.serde_json.specs.Written.{has_float};
 ghost use Rattle.miette_description.specs.views.Seen.{seen, items_seen};
-ghost use Rattle.miette_tree.specs.rules.Tree.{tree, head, source_of, cause_of, related_of, texts, no_trees, trees, with_source, with_cause, with_related};
+ghost use Rattle.miette_tree.specs.rules.Tree.{tree, head, source_of, cause_of, related_of, texts, no_trees, trees};
+ghost use Rattle.miette_tree.specs.rules.Tree.{with_source, with_cause, with_related};
 ghost use Rattle.miette_tree.specs.views.Report.{tree_of};
 ghost use Rattle.miette_json.specs.rules.Reads.{AlwaysReads};
 ghost use Rattle.miette_description.specs.rules.Members.{given, typed, at_key, all_of};
 ghost use Rattle.miette_protocol.specs.views.Diagnostic.{meaning_of};
 ghost use Rattle.miette_tree.specs.views.Owned.{owned_source};
-ghost use Rattle.miette_description.specs.rules.Description.{one_cause, wrapped_in, assembled, report_in, reports_in, described, tree_for};
+ghost use Rattle.miette_description.specs.rules.Description.{one_cause, wrapped_in, assembled, report_in, reports_in};
+ghost use Rattle.miette_description.specs.rules.Description.{described, tree_for};
 ghost use Rattle.miette_description.specs.steps.Built.{maybe_sourced, maybe_related};
 
 use crate::error::BuildError;
@@ -66,9 +69,9 @@ fn text_has_float(alloc: Global, text: &str) -> Result<bool, BuildError>
     }
 }
 
-/// Refuses a text whose value has a number that is neither a `u64` nor an `i64`, and one with a number that is too large for
-/// any. Where each number is a `u64` the parsed text shows it. Otherwise the whole value is made: in the parsed text there may
-/// be numbers that a later value of their key hides.
+/// Refuses a text whose value has a number that is neither a `u64` nor an `i64`, and one with a number that is too
+/// large for any. Where each number is a `u64` the parsed text shows it. Otherwise the whole value is made: in the
+/// parsed text there may be numbers that a later value of their key hides.
 fn refuse_float(alloc: Global, text: &str, value: &Value<'_>) -> Result<(), BuildError>
     requires { read text.now ≡ of_json (value_view value.now) }
     ensures ok { OnOk result ((read text.now ≡ Some (seen value.now)) × (has_float (seen value.now) ≡ false)) }
@@ -115,9 +118,11 @@ fn caused<D: Diagnostic, S: SourceCode>(
     requires { cause_of (tree_of D.meaning S.source report) ≡ texts [] }
     ensures ok { IfOk result (λ r.
         let value = tree_of D.meaning S.source in
-        option_map (λ c. with_cause c (value report)) (one_cause (option_map value one) (option_map (λ v. map string_bytes v.items) several)) ≡ Some (value r)) }
+        option_map (λ c. with_cause c (value report))
+        (one_cause (option_map value one) (option_map (λ v. map string_bytes v.items) several)) ≡ Some (value r)) }
     ensures description { (result ≡ Err BuildError.Description) →
-        one_cause (option_map (tree_of D.meaning S.source) one) (option_map (λ v. map string_bytes v.items) several) ≡ None }
+        one_cause (option_map (tree_of D.meaning S.source) one) (option_map (λ v. map string_bytes v.items) several)
+        ≡ None }
 {
     match one {
         None => match several {
@@ -178,7 +183,8 @@ fn related<D: Diagnostic, S: SourceCode>(
     list: Option<Vec<Report<D, S>>>,
 ) -> Report<D, S>
     ensures { tree_of D.meaning S.source result
-        ≡ maybe_related (option_map (λ v. trees (map (tree_of D.meaning S.source) v.items)) list) (tree_of D.meaning S.source report) }
+        ≡ maybe_related (option_map (λ v. trees (map (tree_of D.meaning S.source) v.items)) list)
+        (tree_of D.meaning S.source report) }
 {
     match list {
         Some(list) => report.with_related(list),
@@ -198,11 +204,13 @@ fn assembled<D: Diagnostic, S: SourceCode>(
 ) -> Result<Report<D, S>, BuildError>
     ensures ok { IfOk result (λ r.
         assembled (meaning_of diagnostic) (option_map owned_source source) (option_map (tree_of D.meaning S.source) one)
-        (option_map (λ v. map string_bytes v.items) several) (option_map (λ v. trees (map (tree_of D.meaning S.source) v.items)) list)
+        (option_map (λ v. map string_bytes v.items) several)
+        (option_map (λ v. trees (map (tree_of D.meaning S.source) v.items)) list)
         (option_map (λ v. map string_bytes v.items) contexts) ≡ Some (tree_of D.meaning S.source r)) }
     ensures description { (result ≡ Err BuildError.Description) →
         assembled (meaning_of diagnostic) (option_map owned_source source) (option_map (tree_of D.meaning S.source) one)
-        (option_map (λ v. map string_bytes v.items) several) (option_map (λ v. trees (map (tree_of D.meaning S.source) v.items)) list)
+        (option_map (λ v. map string_bytes v.items) several)
+        (option_map (λ v. trees (map (tree_of D.meaning S.source) v.items)) list)
         (option_map (λ v. map string_bytes v.items) contexts) ≡ None }
 {
     let report = sourced(Report::built(diagnostic), source);
@@ -237,7 +245,8 @@ fn cause_at<D: Diagnostic, S: SourceCode>(
 ) -> Result<Option<Report<D, S>>, BuildError>
     ensures ok { IfOk result (λ o.
         typed report_in (at_key key.now (seen value.now)) ≡ Some (option_map (tree_of D.meaning S.source) o)) }
-    ensures description { (result ≡ Err BuildError.Description) → typed report_in (at_key key.now (seen value.now)) ≡ None }
+    ensures description { (result ≡ Err BuildError.Description) →
+        typed report_in (at_key key.now (seen value.now)) ≡ None }
 {
     let Some(found) = member_at(value, key) else {
         return Ok(None);
@@ -253,8 +262,10 @@ fn related_at<D: Diagnostic, S: SourceCode>(
     key: &str,
 ) -> Result<Option<Vec<Report<D, S>>>, BuildError>
     ensures ok { IfOk result (λ o.
-        typed reports_in (at_key key.now (seen value.now)) ≡ Some (option_map (λ v. trees (map (tree_of D.meaning S.source) v.items)) o)) }
-    ensures description { (result ≡ Err BuildError.Description) → typed reports_in (at_key key.now (seen value.now)) ≡ None }
+        typed reports_in (at_key key.now (seen value.now))
+        ≡ Some (option_map (λ v. trees (map (tree_of D.meaning S.source) v.items)) o)) }
+    ensures description { (result ≡ Err BuildError.Description) →
+        typed reports_in (at_key key.now (seen value.now)) ≡ None }
 {
     let Some(found) = member_at(value, key) else {
         return Ok(None);
@@ -270,7 +281,8 @@ fn reports_from<D: Diagnostic, S: SourceCode>(
     alloc: Global,
     list: &[Value<'_>],
 ) -> Result<Vec<Report<D, S>>, BuildError>
-    ensures ok { IfOk result (λ v. all_of report_in (items_seen list.now) ≡ Some (map (tree_of D.meaning S.source) v.items)) }
+    ensures ok { IfOk result (λ v. all_of report_in (items_seen list.now)
+        ≡ Some (map (tree_of D.meaning S.source) v.items)) }
     ensures description { (result ≡ Err BuildError.Description) → all_of report_in (items_seen list.now) ≡ None }
 {
     let mut reports = Vec::new(alloc);

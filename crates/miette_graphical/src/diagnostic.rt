@@ -25,8 +25,10 @@ pub fn push_header_of<D: Diagnostic, S: SourceCode>(
     report: &Report<D, S>,
     out: &mut Output,
 ) -> Result<bool, AllocError>
-    ensures text { OnOk result (out.new ≡ out.old ++ runs.print (parts.header (settings_of layout.entry) (head (tree_of D.meaning S.source report.now)))) }
-    ensures shown { IfOk result (λ shown. shown ≡ not (is_nil (parts.header (settings_of layout.entry) (head (tree_of D.meaning S.source report.now))))) }
+    ensures text { OnOk result (out.new ≡ out.old
+        ++ runs.print (parts.header (settings_of layout.entry) (head (tree_of D.meaning S.source report.now)))) }
+    ensures shown { IfOk result (λ shown. shown
+        ≡ not (is_nil (parts.header (settings_of layout.entry) (head (tree_of D.meaning S.source report.now))))) }
 {
     push_header(
         layout,
@@ -44,7 +46,8 @@ pub fn push_message_of<D: Diagnostic, S: SourceCode>(
     report: &Report<D, S>,
     out: &mut Output,
 ) -> Result<(), AllocError>
-    ensures { OnOk result (out.new ≡ out.old ++ parts.message_text (settings_of layout.entry) (head (tree_of D.meaning S.source report.now))) }
+    ensures { OnOk result (out.new ≡ out.old ++ parts.message_text (settings_of layout.entry)
+        (head (tree_of D.meaning S.source report.now))) }
 {
     push_message(alloc, layout, report.severity(), report.message(), out)
 }
@@ -55,7 +58,8 @@ pub fn push_title<D: Diagnostic, S: SourceCode>(
     report: &Report<D, S>,
     out: &mut Output,
 ) -> Result<(), AllocError>
-    ensures { OnOk result (out.new ≡ out.old ++ parts.title_text (settings_of layout.entry) (head (tree_of D.meaning S.source report.now))) }
+    ensures { OnOk result (out.new ≡ out.old ++ parts.title_text (settings_of layout.entry)
+        (head (tree_of D.meaning S.source report.now))) }
 {
     out.push('\n')?;
     out.push_str(severity_title(report.severity()))?;
@@ -83,7 +87,8 @@ pub fn push_cause_texts(
     list: &[String],
     out: &mut Output,
 ) -> Result<(), AllocError>
-    ensures { OnOk result (out.new ≡ out.old ++ texts.cause_texts (settings_of layout.entry) outer (map string_bytes list.now)) }
+    ensures { OnOk result (out.new ≡ out.old ++ texts.cause_texts (settings_of layout.entry) outer
+        (map string_bytes list.now)) }
 {
     let mut rest = list;
     while let [text, more @ ..] = rest {

@@ -15,11 +15,11 @@ use miette_text::wrap::{WordSeparator, WordSplitter};
 use std::alloc::{AllocError, Global};
 use std::marker::Model;
 
-/// Draws reports: a message under an icon, causes under arrows, source lines in frames with marks under the text that the
-/// labels speak of.
+/// Draws reports: a message under an icon, causes under arrows, source lines in frames with marks under the text that
+/// the labels speak of.
 ///
-/// Users write `GraphicalReportHandler`; the parameter is the type of the highlighter that is used. All calls but `new`, `render_report`,
-/// `debug` and `display` take no memory.
+/// Users write `GraphicalReportHandler`; the parameter is the type of the highlighter that is used. All calls but
+/// `new`, `render_report`, `debug` and `display` take no memory.
 #[derive(Drop)]
 pub struct GraphicalReportHandler<H = Box<dyn Highlighter>> {
     theme: GraphicalTheme,
@@ -77,14 +77,17 @@ impl GraphicalReportHandler {
     /// # Errors
     /// Where no memory is found for the theme.
     pub fn new(alloc: Global, terminal: &Terminal) -> Result<Self, AllocError>
-        ensures characters { IfOk result (λ it. characters_of it.settings.characters ≡ (terminal_theme terminal.now).characters) }
-        ensures settings { IfOk result (λ it. it ≡ without_highlighter (default_settings it.settings.characters (terminal_theme terminal.now).styles)) }
+        ensures characters { IfOk result (λ it.
+            characters_of it.settings.characters ≡ (terminal_theme terminal.now).characters) }
+        ensures settings { IfOk result (λ it.
+            it ≡ without_highlighter (default_settings it.settings.characters (terminal_theme terminal.now).styles)) }
     {
         Ok(Self::new_themed(GraphicalTheme::for_terminal(alloc, terminal)?))
     }
 
-    /// A handler with this theme: links on, 200 columns wide, one line of context, tabs to each fourth column, with causes, wrapped
-    /// rows, words broken where they are too wide, the place of the primary label in a frame, and related reports one after another.
+    /// A handler with this theme: links on, 200 columns wide, one line of context, tabs to each fourth column, with
+    /// causes, wrapped rows, words broken where they are too wide, the place of the primary label in a frame, and
+    /// related reports one after another.
     pub fn new_themed(theme: GraphicalTheme) -> Self
         ensures { result ≡ without_highlighter (default_settings theme.characters (styles_of theme.styles)) }
     {
@@ -137,7 +140,9 @@ impl<H: Highlighter> GraphicalReportHandler<H> {
 
     /// Whether urls are shown at all. Where they were not, they become links.
     pub fn with_urls(self, urls: bool) -> Self
-        ensures { result ≡ record self { settings = record self.settings { urls = urls_shown urls self.settings.urls } } }
+        ensures { result ≡ record self {
+          settings = record self.settings { urls = urls_shown urls self.settings.urls };
+        } }
     {
         let urls = match (urls, self.urls) {
             (false, _) => UrlMode::Hidden,
@@ -193,7 +198,10 @@ impl<H: Highlighter> GraphicalReportHandler<H> {
 
     /// Draws with this theme.
     pub fn with_theme(self, theme: GraphicalTheme) -> Self
-        ensures { result ≡ record self { settings = record self.settings { characters = theme.characters; styles = styles_of theme.styles } } }
+        ensures { result ≡ record self {
+          settings = record self.settings
+              { characters = theme.characters; styles = styles_of theme.styles };
+        } }
     {
         GraphicalReportHandler { theme, ..self }
     }
@@ -244,7 +252,9 @@ impl<H: Highlighter> GraphicalReportHandler<H> {
 
     /// A text under each outermost report.
     pub fn with_footer(self, footer: String) -> Self
-        ensures { result ≡ record self { settings = record self.settings { footer = Some (chars (string_bytes footer)) } } }
+        ensures { result ≡ record self {
+          settings = record self.settings { footer = Some (chars (string_bytes footer)) };
+        } }
     {
         GraphicalReportHandler {
             footer: Some(footer),

@@ -42,7 +42,8 @@ fn push_link_header(
     code: Option<&str>,
     out: &mut Output,
 ) -> Result<(), AllocError>
-    ensures { OnOk result (out.new ≡ out.old ++ print (parts.link_header (settings_of layout.entry) style url.now (option_map (λ t. t.now) code.entry))) }
+    ensures { OnOk result (out.new ≡ out.old ++ print
+        (parts.link_header (settings_of layout.entry) style url.now (option_map (λ t. t.now) code.entry))) }
 {
     out.push_link(url)?;
     if let Some(code) = code {
@@ -69,7 +70,9 @@ fn push_code_header(
     url: Option<&str>,
     out: &mut Output,
 ) -> Result<(), AllocError>
-    ensures { OnOk result (out.new ≡ out.old ++ print (parts.code_header style (Some code.now) (parts.url_behind (settings_of layout.entry) (option_map (λ t. t.now) url.entry)))) }
+    ensures { OnOk result (out.new ≡ out.old ++ print
+        (parts.code_header style (Some code.now)
+        (parts.url_behind (settings_of layout.entry) (option_map (λ t. t.now) url.entry)))) }
 {
     out.push_run(style, code)?;
     if let Some(url) = url {
@@ -86,8 +89,12 @@ pub fn push_header(
     code: Option<&str>,
     out: &mut Output,
 ) -> Result<bool, AllocError>
-    ensures text { OnOk result (out.new ≡ out.old ++ print (parts.header_by (urls_of layout.entry.urls) (settings_of layout.entry) style (option_map (λ t. t.now) url.entry) (option_map (λ t. t.now) code.entry))) }
-    ensures shown { IfOk result (λ shown. shown ≡ not (is_nil (parts.header_by (urls_of layout.entry.urls) (settings_of layout.entry) style (option_map (λ t. t.now) url.entry) (option_map (λ t. t.now) code.entry)))) }
+    ensures text { OnOk result (out.new ≡ out.old
+        ++ print (parts.header_by (urls_of layout.entry.urls) (settings_of layout.entry) style
+        (option_map (λ t. t.now) url.entry) (option_map (λ t. t.now) code.entry))) }
+    ensures shown { IfOk result (λ shown. shown
+        ≡ not (is_nil (parts.header_by (urls_of layout.entry.urls) (settings_of layout.entry) style
+        (option_map (λ t. t.now) url.entry) (option_map (λ t. t.now) code.entry)))) }
 {
     let behind = match layout.urls {
         UrlMode::Links => {

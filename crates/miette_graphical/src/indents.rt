@@ -18,7 +18,8 @@ use miette_text::runs::reading::{columns_of, read_text};
 use miette_text::wrap::{Plan, cuts_hyphens, wrap};
 use std::alloc::{AllocError, Global};
 
-/// How a cause or a nested report hangs under another one: in the style of that one's severity, and as the last one or not.
+/// How a cause or a nested report hangs under another one: in the style of that one's severity, and as the last one
+/// or not.
 #[derive(Clone, Copy)]
 pub struct Branch {
     pub outer: Option<Severity>,
@@ -51,7 +52,9 @@ fn push_wrapped(
     text: &Runs,
     out: &mut Output,
 ) -> Result<(), AllocError>
-    ensures { OnOk result (out.new ≡ out.old ++ (wrapped (layout_with plan.entry.wraps plan.entry.hyphens plan.entry.breaks plan.entry.width (spell plan.entry.first.now) (spell plan.entry.further.now)) (spell text.now) ++ parts.line_feed)) }
+    ensures { OnOk result (out.new ≡ out.old ++ (wrapped
+        (layout_with plan.entry.wraps plan.entry.hyphens plan.entry.breaks plan.entry.width (spell plan.entry.first.now)
+        (spell plan.entry.further.now)) (spell text.now) ++ parts.line_feed)) }
 {
     wrap(alloc, plan, text, out)?;
     out.push('\n')
@@ -90,7 +93,8 @@ fn bar_indent(
 
 // `  ├─▶ `, the last one `  ╰─▶ `
 fn arrow_indent(alloc: Global, layout: Layout<'_>, branch: Branch) -> Result<Runs, AllocError>
-    ensures { IfOk result (λ r. spell r ≡ print (indents.arrow_indent (settings_of layout.entry) branch.outer branch.is_last)) }
+    ensures { IfOk result (λ r. spell r ≡ print
+        (indents.arrow_indent (settings_of layout.entry) branch.outer branch.is_last)) }
 {
     let characters = &layout.theme.characters;
     let blank = ' ';
@@ -107,7 +111,8 @@ fn arrow_indent(alloc: Global, layout: Layout<'_>, branch: Branch) -> Result<Run
 
 // `  │   `, under the last one six spaces
 fn stem_indent(alloc: Global, layout: Layout<'_>, branch: Branch) -> Result<Runs, AllocError>
-    ensures { IfOk result (λ r. spell r ≡ print (indents.stem_indent (settings_of layout.entry) branch.outer branch.is_last)) }
+    ensures { IfOk result (λ r. spell r ≡ print
+        (indents.stem_indent (settings_of layout.entry) branch.outer branch.is_last)) }
 {
     let blank = ' ';
     let vbar = layout.theme.characters.vbar;
@@ -124,7 +129,8 @@ pub fn narrowed<'a>(
     layout: Layout<'a>,
     branch: Branch,
 ) -> Result<Layout<'a>, AllocError>
-    ensures { IfOk result (λ l. settings_of l ≡ indents.narrowed (settings_of layout.entry) branch.outer branch.is_last) }
+    ensures { IfOk result (λ l. settings_of l
+        ≡ indents.narrowed (settings_of layout.entry) branch.outer branch.is_last) }
 {
     let columns = columns_of(alloc, &stem_indent(alloc, layout, branch)?)?;
     Ok(Layout {
@@ -141,7 +147,8 @@ pub fn push_under_arrow(
     text: &Runs,
     out: &mut Output,
 ) -> Result<(), AllocError>
-    ensures { OnOk result (out.new ≡ out.old ++ parts.under_arrow (settings_of layout.entry) branch.outer branch.is_last (spell text.now)) }
+    ensures { OnOk result (out.new ≡ out.old ++ parts.under_arrow (settings_of layout.entry) branch.outer branch.is_last
+        (spell text.now)) }
 {
     let first = arrow_indent(alloc, layout, branch)?;
     let further = stem_indent(alloc, layout, branch)?;
@@ -156,7 +163,9 @@ pub fn push_message(
     message: &str,
     out: &mut Output,
 ) -> Result<(), AllocError>
-    ensures { OnOk result (out.new ≡ out.old ++ (indents.wrapped_under (settings_of layout.entry) (indents.icon_indent (settings_of layout.entry) severity) (indents.bar_indent (settings_of layout.entry) severity) (chars message.now) ++ parts.line_feed)) }
+    ensures { OnOk result (out.new ≡ out.old ++ (indents.wrapped_under (settings_of layout.entry)
+        (indents.icon_indent (settings_of layout.entry) severity)
+        (indents.bar_indent (settings_of layout.entry) severity) (chars message.now) ++ parts.line_feed)) }
 {
     let first = icon_indent(alloc, layout, severity)?;
     let further = bar_indent(alloc, layout, severity)?;
@@ -189,7 +198,8 @@ pub fn push_help(
     help: Option<&str>,
     out: &mut Output,
 ) -> Result<(), AllocError>
-    ensures { OnOk result (out.new ≡ out.old ++ parts.help_text (settings_of layout.entry) (option_map (λ t. t.now) help.entry)) }
+    ensures { OnOk result (out.new ≡ out.old ++ parts.help_text (settings_of layout.entry)
+        (option_map (λ t. t.now) help.entry)) }
 {
     let Some(help) = help else {
         return Ok(());

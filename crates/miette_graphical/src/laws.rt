@@ -1,4 +1,5 @@
-//! What holds of the definition of a report's text: of its colours, and of the snippets of each diagnostic that it prints.
+//! What holds of the definition of a report's text: of its colours, and of the snippets of each diagnostic that it
+//! prints.
 
 ghost use Rattle.std.specs.Prelude.{◌≡◌, ℕ, Bool, List, Some, encode_utf8_all, true};
 ghost use Rattle.miette_graphical.specs.rules.Answered.{IsTextOf};
@@ -25,16 +26,21 @@ use miette_text::wrap::laws::{
     columns_law, cutting_law, encoding_law, joining_law, printing_law, wrapping_law,
 };
 
-/// For all rows of snippets that fade, where no text, url, source, name, setting or theme character holds an escape: a report's text
-/// without its colours is the text of the same tree in plain styles under the same reads, and can be wrapped again in another one.
+/// For all rows of snippets that fade, where no text, url, source, name, setting or theme character holds an escape:
+/// a report's text without its colours is the text of the same tree in plain styles under the same reads, and can be
+/// wrapped again in another one.
 pub fn colours_law()
-    ensures erase { (rows : SnippetRows) (s : Settings) (t : Tree) (a : Answers) → AreSnippets rows → AreCleanSettings s → IsCleanTree t →
+    ensures erase { (rows : SnippetRows) (s : Settings) (t : Tree) (a : Answers) → AreSnippets rows →
+        AreCleanSettings s → IsCleanTree t →
         erase (report_text rows s t a) ≡ report_text rows (colourless s) t (unhighlighted a) }
-    ensures tame { (rows : SnippetRows) (s : Settings) (t : Tree) (a : Answers) → AreSnippets rows → AreCleanSettings s → IsCleanTree t →
+    ensures tame { (rows : SnippetRows) (s : Settings) (t : Tree) (a : Answers) → AreSnippets rows →
+        AreCleanSettings s → IsCleanTree t →
         IsTame (report_text rows s t a) }
     // Settings that differ in styles alone give the same text but for colours.
-    ensures alike { (rows : SnippetRows) (s u : Settings) (t : Tree) (a b : Answers) → AreSnippets rows → AreCleanSettings s → AreCleanSettings u → IsCleanTree t →
-        colourless s ≡ colourless u → unhighlighted a ≡ unhighlighted b → erase (report_text rows s t a) ≡ erase (report_text rows u t b) }
+    ensures alike { (rows : SnippetRows) (s u : Settings) (t : Tree) (a b : Answers) → AreSnippets rows →
+        AreCleanSettings s → AreCleanSettings u → IsCleanTree t →
+        colourless s ≡ colourless u → unhighlighted a ≡ unhighlighted b →
+        erase (report_text rows s t a) ≡ erase (report_text rows u t b) }
 {
     wrapping_law();
     joining_law();
@@ -51,11 +57,13 @@ pub fn drawn_rows_law()
     rows_hold_no_escape();
 }
 
-/// Of each text that may be printed of such a report: without its colours it is the text in plain styles under the same reads. Where
-/// every source always reads, that is one text.
+/// Of each text that may be printed of such a report: without its colours it is the text in plain styles under the
+/// same reads. Where every source always reads, that is one text.
 pub fn erasing_law()
-    ensures text { (s : Settings) (blank : Bool) (t : Tree) (bytes : List ℕ) → AreCleanSettings s → IsCleanTree t → IsTextOf drawn_rows s blank t bytes → IsColouredText drawn_rows s blank t bytes }
-    ensures only { (s : Settings) (blank : Bool) (t : Tree) (bytes : List ℕ) → AreCleanSettings s → IsCleanTree t → IsTextOf drawn_rows s blank t bytes → all_read (printed s t) ≡ true →
+    ensures text { (s : Settings) (blank : Bool) (t : Tree) (bytes : List ℕ) → AreCleanSettings s → IsCleanTree t →
+        IsTextOf drawn_rows s blank t bytes → IsColouredText drawn_rows s blank t bytes }
+    ensures only { (s : Settings) (blank : Bool) (t : Tree) (bytes : List ℕ) → AreCleanSettings s → IsCleanTree t →
+        IsTextOf drawn_rows s blank t bytes → all_read (printed s t) ≡ true →
         erase bytes ≡ encode_utf8_all (report_text drawn_rows (colourless s) t unlisted) }
 {
     colours_law();
@@ -63,8 +71,8 @@ pub fn erasing_law()
     encoding_law();
 }
 
-/// The snippets of each printed diagnostic show the lines in the context of its labels, its marks are apart, and each text hangs from
-/// its own mark.
+/// The snippets of each printed diagnostic show the lines in the context of its labels, its marks are apart, and each
+/// text hangs from its own mark.
 pub fn snippets_law()
     ensures lines { (s : Settings) (t : Tree) → AllByRecursion (LinesAreShown s) (printed s t) }
     ensures marks { (s : Settings) (t : Tree) → AllByRecursion (MarksAreApart s) (printed s t) }
@@ -77,9 +85,10 @@ pub fn snippets_law()
     texts_hang();
 }
 
-/// The printed diagnostics are those that stand at a path from the outermost one: by steps to a cause where causes are shown, and to
-/// a related report by its number.
+/// The printed diagnostics are those that stand at a path from the outermost one: by steps to a cause where causes
+/// are shown, and to a related report by its number.
 pub fn paths_law()
     ensures named { (s : Settings) (t : Tree) (p : Printed) → Contains (printed s t) p → HasPath s t p }
-    ensures only { (s : Settings) (t : Tree) (path : List Step) (p : Printed) → printed_at s t path ≡ Some p → Contains (printed s t) p }
+    ensures only { (s : Settings) (t : Tree) (path : List Step) (p : Printed) → printed_at s t path ≡ Some p →
+        Contains (printed s t) p }
 {}

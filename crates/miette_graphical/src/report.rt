@@ -2,9 +2,11 @@
 
 ghost use Rattle.std.specs.Prelude.{◌≡◌, IfOk, OnOk, option_map, map};
 ghost use Rattle.std.specs.Prelude.{false};
-ghost use Rattle.miette_graphical.specs.rules.Answered.{AreCauses, AreDrawn, AreRelated, IsBelow, IsDrawn, IsInner, IsNested, IsOneCause, IsOneRelated, IsSibling};
+ghost use Rattle.miette_graphical.specs.rules.Answered.{AreCauses, AreDrawn, AreRelated, IsBelow, IsDrawn, IsInner};
+ghost use Rattle.miette_graphical.specs.rules.Answered.{IsNested, IsOneCause, IsOneRelated, IsSibling};
 ghost use Rattle.miette_tree.specs.views.Handler.{AppendsOne};
-ghost use Rattle.miette_graphical.specs.rules.Printed.{all_read, always_reads, printed_causes, printed_inner, printed_one, printed_related, printed_sibling};
+ghost use Rattle.miette_graphical.specs.rules.Printed.{all_read, always_reads, printed_causes, printed_inner};
+ghost use Rattle.miette_graphical.specs.rules.Printed.{printed_one, printed_related, printed_sibling};
 ghost use Rattle.miette_layout.specs.rules.Highlighted.{leaves_plain};
 ghost use Rattle.miette_tree.specs.views.Owned.{shown_source};
 ghost use Rattle.miette_graphical.specs.rules.Snippets.{drawn_rows};
@@ -39,8 +41,12 @@ fn push_rows<D: Diagnostic, S: SourceCode, H: Highlighter>(
     report: &Report<D, S>,
     out: &mut Output,
 ) -> Result<(), RenderError>
-    ensures ok { OnOk result (AppendsOne (IsDrawn drawn_rows (settings_of layout.entry) (leaves_plain H.is_blank pen.old.highlighter) (option_map (shown_source S.source) source.entry) (head (tree_of D.meaning S.source report.now))) out.old out.new) }
-    ensures refused { (result ≡ Err RenderError.Refused) → always_reads (option_map (shown_source S.source) source.entry) (head (tree_of D.meaning S.source report.now)) ≡ false }
+    ensures ok { OnOk result (AppendsOne (IsDrawn drawn_rows (settings_of layout.entry)
+        (leaves_plain H.is_blank pen.old.highlighter) (option_map (shown_source S.source) source.entry)
+        (head (tree_of D.meaning S.source report.now))) out.old out.new) }
+    ensures refused { (result ≡ Err RenderError.Refused) →
+        always_reads (option_map (shown_source S.source) source.entry) (head (tree_of D.meaning S.source report.now))
+        ≡ false }
     ensures stays { leaves_plain H.is_blank pen.new.highlighter ≡ leaves_plain H.is_blank pen.old.highlighter }
 {
     match source {
@@ -57,8 +63,12 @@ fn push_shown<D: Diagnostic, S: SourceCode, H: Highlighter>(
     report: &Report<D, S>,
     out: &mut Output,
 ) -> Result<(), RenderError>
-    ensures ok { OnOk result (AppendsOne (IsDrawn drawn_rows (settings_of layout.entry) (leaves_plain H.is_blank pen.old.highlighter) (Some (shown_source S.source source.entry)) (head (tree_of D.meaning S.source report.now))) out.old out.new) }
-    ensures refused { (result ≡ Err RenderError.Refused) → always_reads (Some (shown_source S.source source.entry)) (head (tree_of D.meaning S.source report.now)) ≡ false }
+    ensures ok { OnOk result (AppendsOne (IsDrawn drawn_rows (settings_of layout.entry)
+        (leaves_plain H.is_blank pen.old.highlighter) (Some (shown_source S.source source.entry))
+        (head (tree_of D.meaning S.source report.now))) out.old out.new) }
+    ensures refused { (result ≡ Err RenderError.Refused) →
+        always_reads (Some (shown_source S.source source.entry)) (head (tree_of D.meaning S.source report.now))
+        ≡ false }
     ensures stays { leaves_plain H.is_blank pen.new.highlighter ≡ leaves_plain H.is_blank pen.old.highlighter }
 {
     let labels = labels_of(report);
@@ -76,7 +86,9 @@ fn push_drawn<S: SourceCode, H: Highlighter>(
     labels: &[LabeledSpan],
     out: &mut Output,
 ) -> Result<(), RenderError>
-    ensures ok { OnOk result (AppendsOne (AreDrawn (settings_of layout.entry) (leaves_plain H.is_blank pen.old.highlighter) (shown_source S.source source.entry) labels.now) out.old out.new) }
+    ensures ok { OnOk result (AppendsOne (AreDrawn (settings_of layout.entry)
+        (leaves_plain H.is_blank pen.old.highlighter) (shown_source S.source source.entry) labels.now) out.old
+        out.new) }
     ensures refused { (result ≡ Err RenderError.Refused) → (shown_source S.source source.entry).always_reads ≡ false }
     ensures stays { leaves_plain H.is_blank pen.new.highlighter ≡ leaves_plain H.is_blank pen.old.highlighter }
 {
@@ -130,8 +142,12 @@ pub fn push_causes<D: Diagnostic, S: SourceCode, H: Highlighter>(
     report: &Report<D, S>,
     out: &mut Output,
 ) -> Result<(), RenderError>
-    ensures ok { OnOk result (AppendsOne (AreCauses drawn_rows (settings_of layout.entry) (leaves_plain H.is_blank pen.old.highlighter) outer (option_map (shown_source S.source) inherited.entry) (cause_of (tree_of D.meaning S.source report.now))) out.old out.new) }
-    ensures refused { (result ≡ Err RenderError.Refused) → all_read (printed_causes layout.entry.nested (option_map (shown_source S.source) inherited.entry) (cause_of (tree_of D.meaning S.source report.now))) ≡ false }
+    ensures ok { OnOk result (AppendsOne (AreCauses drawn_rows (settings_of layout.entry)
+        (leaves_plain H.is_blank pen.old.highlighter) outer (option_map (shown_source S.source) inherited.entry)
+        (cause_of (tree_of D.meaning S.source report.now))) out.old out.new) }
+    ensures refused { (result ≡ Err RenderError.Refused) →
+        all_read (printed_causes layout.entry.nested (option_map (shown_source S.source) inherited.entry)
+        (cause_of (tree_of D.meaning S.source report.now))) ≡ false }
     ensures stays { leaves_plain H.is_blank pen.new.highlighter ≡ leaves_plain H.is_blank pen.old.highlighter }
 {
     let mut at = report;
@@ -153,8 +169,13 @@ fn push_one_cause<D: Diagnostic, S: SourceCode, H: Highlighter>(
     cause: &Report<D, S>,
     out: &mut Output,
 ) -> Result<(), RenderError>
-    ensures ok { OnOk result (AppendsOne (IsOneCause drawn_rows (settings_of layout.entry) (leaves_plain H.is_blank pen.old.highlighter) outer (option_map (shown_source S.source) inherited.entry) (tree_of D.meaning S.source cause.now)) out.old out.new) }
-    ensures refused { (result ≡ Err RenderError.Refused) → all_read (printed_inner layout.entry.nested (effective (source_of (tree_of D.meaning S.source cause.now)) (option_map (shown_source S.source) inherited.entry)) (tree_of D.meaning S.source cause.now)) ≡ false }
+    ensures ok { OnOk result (AppendsOne (IsOneCause drawn_rows (settings_of layout.entry)
+        (leaves_plain H.is_blank pen.old.highlighter) outer (option_map (shown_source S.source) inherited.entry)
+        (tree_of D.meaning S.source cause.now)) out.old out.new) }
+    ensures refused { (result ≡ Err RenderError.Refused) →
+        all_read (printed_inner layout.entry.nested
+        (effective (source_of (tree_of D.meaning S.source cause.now))
+        (option_map (shown_source S.source) inherited.entry)) (tree_of D.meaning S.source cause.now)) ≡ false }
     ensures stays { leaves_plain H.is_blank pen.new.highlighter ≡ leaves_plain H.is_blank pen.old.highlighter }
 {
     let branch = Branch {
@@ -175,8 +196,12 @@ fn inner_text<D: Diagnostic, S: SourceCode, H: Highlighter>(
     source: Option<SourceRef<'_, S>>,
     report: &Report<D, S>,
 ) -> Result<Runs, RenderError>
-    ensures ok { IfOk result (λ r. IsInner drawn_rows (settings_of layout.entry) (leaves_plain H.is_blank pen.old.highlighter) (option_map (shown_source S.source) source.entry) (tree_of D.meaning S.source report.now) (spell r)) }
-    ensures refused { (result ≡ Err RenderError.Refused) → all_read (printed_inner layout.entry.nested (option_map (shown_source S.source) source.entry) (tree_of D.meaning S.source report.now)) ≡ false }
+    ensures ok { IfOk result (λ r. IsInner drawn_rows (settings_of layout.entry)
+        (leaves_plain H.is_blank pen.old.highlighter) (option_map (shown_source S.source) source.entry)
+        (tree_of D.meaning S.source report.now) (spell r)) }
+    ensures refused { (result ≡ Err RenderError.Refused) →
+        all_read (printed_inner layout.entry.nested (option_map (shown_source S.source) source.entry)
+        (tree_of D.meaning S.source report.now)) ≡ false }
     ensures stays { leaves_plain H.is_blank pen.new.highlighter ≡ leaves_plain H.is_blank pen.old.highlighter }
 {
     let mut text = Output::collected(pen.alloc);
@@ -187,8 +212,8 @@ fn inner_text<D: Diagnostic, S: SourceCode, H: Highlighter>(
     Ok(without_leading(pen.alloc, runs)?)
 }
 
-/// Appends what stands below a report's causes, over its effective source: the rows of its snippets, its help, and its related
-/// reports.
+/// Appends what stands below a report's causes, over its effective source: the rows of its snippets, its help, and
+/// its related reports.
 #[cycle(report)]
 pub fn push_below<D: Diagnostic, S: SourceCode, H: Highlighter>(
     pen: &mut Pen<H>,
@@ -197,8 +222,12 @@ pub fn push_below<D: Diagnostic, S: SourceCode, H: Highlighter>(
     report: &Report<D, S>,
     out: &mut Output,
 ) -> Result<(), RenderError>
-    ensures ok { OnOk result (AppendsOne (IsBelow drawn_rows (settings_of layout.entry) (leaves_plain H.is_blank pen.old.highlighter) (option_map (shown_source S.source) source.entry) (tree_of D.meaning S.source report.now)) out.old out.new) }
-    ensures refused { (result ≡ Err RenderError.Refused) → all_read (printed_inner layout.entry.nested (option_map (shown_source S.source) source.entry) (tree_of D.meaning S.source report.now)) ≡ false }
+    ensures ok { OnOk result (AppendsOne (IsBelow drawn_rows (settings_of layout.entry)
+        (leaves_plain H.is_blank pen.old.highlighter) (option_map (shown_source S.source) source.entry)
+        (tree_of D.meaning S.source report.now)) out.old out.new) }
+    ensures refused { (result ≡ Err RenderError.Refused) →
+        all_read (printed_inner layout.entry.nested (option_map (shown_source S.source) source.entry)
+        (tree_of D.meaning S.source report.now)) ≡ false }
     ensures stays { leaves_plain H.is_blank pen.new.highlighter ≡ leaves_plain H.is_blank pen.old.highlighter }
 {
     push_rows(pen, layout, source, report, out)?;
@@ -217,8 +246,12 @@ fn push_sibling<D: Diagnostic, S: SourceCode, H: Highlighter>(
     report: &Report<D, S>,
     out: &mut Output,
 ) -> Result<(), RenderError>
-    ensures ok { OnOk result (AppendsOne (IsSibling drawn_rows (settings_of layout.entry) (leaves_plain H.is_blank pen.old.highlighter) (option_map (shown_source S.source) source.entry) (tree_of D.meaning S.source report.now)) out.old out.new) }
-    ensures refused { (result ≡ Err RenderError.Refused) → all_read (printed_sibling layout.entry.nested (option_map (shown_source S.source) source.entry) (tree_of D.meaning S.source report.now)) ≡ false }
+    ensures ok { OnOk result (AppendsOne (IsSibling drawn_rows (settings_of layout.entry)
+        (leaves_plain H.is_blank pen.old.highlighter) (option_map (shown_source S.source) source.entry)
+        (tree_of D.meaning S.source report.now)) out.old out.new) }
+    ensures refused { (result ≡ Err RenderError.Refused) →
+        all_read (printed_sibling layout.entry.nested (option_map (shown_source S.source) source.entry)
+        (tree_of D.meaning S.source report.now)) ≡ false }
     ensures stays { leaves_plain H.is_blank pen.new.highlighter ≡ leaves_plain H.is_blank pen.old.highlighter }
 {
     push_title(layout, report, out)?;
@@ -238,8 +271,12 @@ fn push_nested<D: Diagnostic, S: SourceCode, H: Highlighter>(
     report: &Report<D, S>,
     out: &mut Output,
 ) -> Result<(), RenderError>
-    ensures ok { OnOk result (AppendsOne (IsNested drawn_rows (settings_of layout.entry) (leaves_plain H.is_blank pen.old.highlighter) branch.outer (option_map (shown_source S.source) source.entry) branch.is_last (tree_of D.meaning S.source report.now)) out.old out.new) }
-    ensures refused { (result ≡ Err RenderError.Refused) → all_read (printed_inner layout.entry.nested (option_map (shown_source S.source) source.entry) (tree_of D.meaning S.source report.now)) ≡ false }
+    ensures ok { OnOk result (AppendsOne (IsNested drawn_rows (settings_of layout.entry)
+        (leaves_plain H.is_blank pen.old.highlighter) branch.outer (option_map (shown_source S.source) source.entry)
+        branch.is_last (tree_of D.meaning S.source report.now)) out.old out.new) }
+    ensures refused { (result ≡ Err RenderError.Refused) →
+        all_read (printed_inner layout.entry.nested (option_map (shown_source S.source) source.entry)
+        (tree_of D.meaning S.source report.now)) ≡ false }
     ensures stays { leaves_plain H.is_blank pen.new.highlighter ≡ leaves_plain H.is_blank pen.old.highlighter }
 {
     let narrow = narrowed(pen.alloc, layout, branch)?;
@@ -259,8 +296,12 @@ fn push_one_related<D: Diagnostic, S: SourceCode, H: Highlighter>(
     report: &Report<D, S>,
     out: &mut Output,
 ) -> Result<(), RenderError>
-    ensures ok { OnOk result (AppendsOne (IsOneRelated drawn_rows (settings_of layout.entry) (leaves_plain H.is_blank pen.old.highlighter) branch.outer (option_map (shown_source S.source) source.entry) branch.is_last (tree_of D.meaning S.source report.now)) out.old out.new) }
-    ensures refused { (result ≡ Err RenderError.Refused) → all_read (printed_one layout.entry.nested (option_map (shown_source S.source) source.entry) (tree_of D.meaning S.source report.now)) ≡ false }
+    ensures ok { OnOk result (AppendsOne (IsOneRelated drawn_rows (settings_of layout.entry)
+        (leaves_plain H.is_blank pen.old.highlighter) branch.outer (option_map (shown_source S.source) source.entry)
+        branch.is_last (tree_of D.meaning S.source report.now)) out.old out.new) }
+    ensures refused { (result ≡ Err RenderError.Refused) →
+        all_read (printed_one layout.entry.nested (option_map (shown_source S.source) source.entry)
+        (tree_of D.meaning S.source report.now)) ≡ false }
     ensures stays { leaves_plain H.is_blank pen.new.highlighter ≡ leaves_plain H.is_blank pen.old.highlighter }
 {
     if layout.nested {
@@ -280,8 +321,12 @@ fn push_related<D: Diagnostic, S: SourceCode, H: Highlighter>(
     reports: &[Report<D, S>],
     out: &mut Output,
 ) -> Result<(), RenderError>
-    ensures ok { OnOk result (AppendsOne (AreRelated drawn_rows (settings_of layout.entry) (leaves_plain H.is_blank pen.old.highlighter) outer (option_map (shown_source S.source) inherited.entry) (trees (map (tree_of D.meaning S.source) reports.now))) out.old out.new) }
-    ensures refused { (result ≡ Err RenderError.Refused) → all_read (printed_related layout.entry.nested (option_map (shown_source S.source) inherited.entry) (trees (map (tree_of D.meaning S.source) reports.now))) ≡ false }
+    ensures ok { OnOk result (AppendsOne (AreRelated drawn_rows (settings_of layout.entry)
+        (leaves_plain H.is_blank pen.old.highlighter) outer (option_map (shown_source S.source) inherited.entry)
+        (trees (map (tree_of D.meaning S.source) reports.now))) out.old out.new) }
+    ensures refused { (result ≡ Err RenderError.Refused) →
+        all_read (printed_related layout.entry.nested (option_map (shown_source S.source) inherited.entry)
+        (trees (map (tree_of D.meaning S.source) reports.now))) ≡ false }
     ensures stays { leaves_plain H.is_blank pen.new.highlighter ≡ leaves_plain H.is_blank pen.old.highlighter }
 {
     let mut rest = reports;

@@ -28,8 +28,11 @@ fn push_root_causes<D: Diagnostic, S: SourceCode, H: Highlighter>(
     report: &Report<D, S>,
     out: &mut Output,
 ) -> Result<(), RenderError>
-    ensures ok { OnOk result (AppendsOne (AreRootCauses drawn_rows (settings_of layout.entry) (leaves_plain H.is_blank pen.old.highlighter) (tree_of D.meaning S.source report.now)) out.old out.new) }
-    ensures refused { (result ≡ Err RenderError.Refused) → all_read (printed_root_causes layout.entry.chain layout.entry.nested (tree_of D.meaning S.source report.now)) ≡ false }
+    ensures ok { OnOk result (AppendsOne (AreRootCauses drawn_rows (settings_of layout.entry)
+        (leaves_plain H.is_blank pen.old.highlighter) (tree_of D.meaning S.source report.now)) out.old out.new) }
+    ensures refused { (result ≡ Err RenderError.Refused) →
+        all_read (printed_root_causes layout.entry.chain layout.entry.nested (tree_of D.meaning S.source report.now))
+        ≡ false }
     ensures stays { leaves_plain H.is_blank pen.new.highlighter ≡ leaves_plain H.is_blank pen.old.highlighter }
 {
     if !layout.chain {
@@ -45,8 +48,10 @@ pub fn report_output<D: Diagnostic, S: SourceCode, H: Highlighter>(
     layout: Layout<'_>,
     report: &Report<D, S>,
 ) -> Result<Output, RenderError>
-    ensures ok { IfOk result (λ o. IsReport drawn_rows (settings_of layout.entry) (leaves_plain H.is_blank pen.old.highlighter) (tree_of D.meaning S.source report.now) o) }
-    ensures refused { (result ≡ Err RenderError.Refused) → all_read (printed (settings_of layout.entry) (tree_of D.meaning S.source report.now)) ≡ false }
+    ensures ok { IfOk result (λ o. IsReport drawn_rows (settings_of layout.entry)
+        (leaves_plain H.is_blank pen.old.highlighter) (tree_of D.meaning S.source report.now) o) }
+    ensures refused { (result ≡ Err RenderError.Refused) →
+        all_read (printed (settings_of layout.entry) (tree_of D.meaning S.source report.now)) ≡ false }
     ensures stays { leaves_plain H.is_blank pen.new.highlighter ≡ leaves_plain H.is_blank pen.old.highlighter }
 {
     let mut text = Output::printed(pen.alloc);

@@ -10,8 +10,8 @@ use miette_tree::report::{Cause, Report};
 use miette_tree::report_handler::{ReportHandler, append_whole};
 use std::alloc::{AllocError, Global};
 
-/// The handler that shows what a report holds, for people who debug their tool: one row, `Diagnostic { message: "m" }`, with the fields
-/// that are there. There is nothing to set.
+/// The handler that shows what a report holds, for people who debug their tool: one row, `Diagnostic { message: "m"
+/// }`, with the fields that are there. There is nothing to set.
 #[derive(Clone, Debug, Default, Drop)]
 pub struct DebugReportHandler;
 

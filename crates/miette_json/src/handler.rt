@@ -17,8 +17,8 @@ use miette_tree::report::Report;
 use miette_tree::report_handler::{ReportHandler, append_whole};
 use std::alloc::{AllocError, Global};
 
-/// The handler that gives a report as JSON (RFC 8259), for editors and build servers: one object, without a line feed at
-/// its end. There is nothing to set.
+/// The handler that gives a report as JSON (RFC 8259), for editors and build servers: one object, without a line feed
+/// at its end. There is nothing to set.
 #[derive(Clone, Debug, Default, Drop)]
 pub struct JSONReportHandler;
 
@@ -31,10 +31,12 @@ impl JSONReportHandler {
     /// Appends the report's JSON text. After an error, which is want of memory, `out` is as before.
     pub fn render_report(&self, report: &Report, out: &mut String) -> Result<(), RenderError>
         // The text is the spelling of a value that the report has; it stands for that value, and for no other.
-        ensures text { let tree = tree_of ⟦<Box<dyn Diagnostic> as Diagnostic>⟧.meaning ⟦<Box<dyn SourceCode> as SourceCode>⟧.source report.now in
+        ensures text { let tree = tree_of ⟦<Box<dyn Diagnostic> as Diagnostic>⟧.meaning
+            ⟦<Box<dyn SourceCode> as SourceCode>⟧.source report.now in
             OnOk result (AppendsOne (IsJsonOf tree) (string_bytes out.old) (string_bytes out.new)) }
         // Where its sources always read, there is one such value.
-        ensures value { let tree = tree_of ⟦<Box<dyn Diagnostic> as Diagnostic>⟧.meaning ⟦<Box<dyn SourceCode> as SourceCode>⟧.source report.now in
+        ensures value { let tree = tree_of ⟦<Box<dyn Diagnostic> as Diagnostic>⟧.meaning
+            ⟦<Box<dyn SourceCode> as SourceCode>⟧.source report.now in
             OnOk result (AlwaysReads tree → string_bytes out.new ≡ string_bytes out.old ++ json_text (value_of tree)) }
         ensures memory { OnErr result (result ≡ Err RenderError.Memory) }
         ensures err { OnErr result (string_bytes out.new ≡ string_bytes out.old) }
@@ -62,7 +64,8 @@ fn render<D: Diagnostic, S: SourceCode>(
     report: &Report<D, S>,
     out: &mut String,
 ) -> Result<(), RenderError>
-    ensures text { OnOk result (AppendsOne (IsJsonOf (tree_of D.meaning S.source report.now)) (string_bytes out.old) (string_bytes out.new)) }
+    ensures text { OnOk result (AppendsOne (IsJsonOf (tree_of D.meaning S.source report.now)) (string_bytes out.old)
+        (string_bytes out.new)) }
     ensures value { OnOk result (AlwaysReads (tree_of D.meaning S.source report.now)
         → string_bytes out.new ≡ string_bytes out.old ++ json_text (value_of (tree_of D.meaning S.source report.now))) }
     ensures memory { OnErr result (result ≡ Err RenderError.Memory) }

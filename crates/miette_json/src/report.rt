@@ -7,7 +7,9 @@ ghost use Rattle.miette_tree.specs.views.Report.{tree_of};
 ghost use Rattle.miette_tree.specs.views.Owned.{shown_source};
 ghost use Rattle.miette_json.specs.rules.Json.{json_text, items_text};
 ghost use Rattle.miette_json.specs.rules.JsonReport.{strings, span_json, label_json, labels_json};
-ghost use Rattle.miette_json.specs.rules.JsonText.{key_text, maybe_text, rest_text, head_text, reasons_text, label_start, NamesFile, AppendsPlaces, AppendsReport, AppendsRelated};
+ghost use Rattle.miette_json.specs.rules.JsonText.{key_text, maybe_text, rest_text, head_text, reasons_text};
+ghost use Rattle.miette_json.specs.rules.JsonText.{label_start, NamesFile, AppendsPlaces, AppendsReport};
+ghost use Rattle.miette_json.specs.rules.JsonText.{AppendsRelated};
 
 use crate::text::{push_number, push_quoted};
 use miette_protocol::protocol::{Diagnostic, LabeledSpan};
@@ -23,7 +25,8 @@ pub(crate) fn push_report<'a, D: Diagnostic, S: SourceCode>(
     inherited: Option<SourceRef<'a, S>>,
     out: &mut String,
 ) -> Result<(), AllocError>
-    ensures { OnOk result (AppendsReport (option_map (shown_source S.source) inherited.entry) (tree_of D.meaning S.source report.now) (string_bytes out.old) (string_bytes out.new)) }
+    ensures { OnOk result (AppendsReport (option_map (shown_source S.source) inherited.entry)
+        (tree_of D.meaning S.source report.now) (string_bytes out.old) (string_bytes out.new)) }
 {
     let source = own_or(report, inherited);
     push_head(report, out)?;
@@ -43,7 +46,8 @@ fn push_related<'a, D: Diagnostic, S: SourceCode>(
     source: Option<SourceRef<'a, S>>,
     out: &mut String,
 ) -> Result<(), AllocError>
-    ensures { OnOk result (AppendsRelated (option_map (shown_source S.source) source.entry) (trees (map (tree_of D.meaning S.source) reports.now)) (string_bytes out.old) (string_bytes out.new)) }
+    ensures { OnOk result (AppendsRelated (option_map (shown_source S.source) source.entry)
+        (trees (map (tree_of D.meaning S.source) reports.now)) (string_bytes out.old) (string_bytes out.new)) }
 {
     let mut first = true;
     for report in reports {
@@ -60,7 +64,8 @@ fn push_head<D: Diagnostic, S: SourceCode>(
     report: &Report<D, S>,
     out: &mut String,
 ) -> Result<(), AllocError>
-    ensures { OnOk result (string_bytes out.new ≡ string_bytes out.old ++ head_text (head (tree_of D.meaning S.source report.now))) }
+    ensures { OnOk result (string_bytes out.new
+        ≡ string_bytes out.old ++ head_text (head (tree_of D.meaning S.source report.now))) }
 {
     out.push_str("{")?;
     push_quoted(out, "message")?;
@@ -78,7 +83,8 @@ fn push_reasons<D: Diagnostic, S: SourceCode>(
     out: &mut String,
 ) -> Result<(), AllocError>
     ensures { OnOk result (string_bytes out.new ≡ string_bytes out.old
-        ++ reasons_text (causes_of (cause_of (tree_of D.meaning S.source report.now))) (head (tree_of D.meaning S.source report.now))) }
+        ++ reasons_text (causes_of (cause_of (tree_of D.meaning S.source report.now)))
+        (head (tree_of D.meaning S.source report.now))) }
 {
     push_key(out, "causes")?;
     out.push_str("[")?;
@@ -92,7 +98,8 @@ fn push_causes<D: Diagnostic, S: SourceCode>(
     report: &Report<D, S>,
     out: &mut String,
 ) -> Result<(), AllocError>
-    ensures { OnOk result (string_bytes out.new ≡ string_bytes out.old ++ items_text (strings (causes_of (cause_of (tree_of D.meaning S.source report.now))))) }
+    ensures { OnOk result (string_bytes out.new
+        ≡ string_bytes out.old ++ items_text (strings (causes_of (cause_of (tree_of D.meaning S.source report.now))))) }
 {
     let mut at = report;
     let mut first = true;
@@ -107,7 +114,8 @@ fn push_causes<D: Diagnostic, S: SourceCode>(
 
 /// Texts in a list, after its first item or as its first ones, and the end of the list.
 fn push_texts(texts: &[String], mut first: bool, out: &mut String) -> Result<(), AllocError>
-    ensures { OnOk result (string_bytes out.new ≡ string_bytes out.old ++ rest_text first (strings (map string_bytes texts.now))) }
+    ensures { OnOk result (string_bytes out.new
+        ≡ string_bytes out.old ++ rest_text first (strings (map string_bytes texts.now))) }
 {
     for text in texts {
         push_comma(out, first)?;
@@ -123,7 +131,8 @@ fn push_places<S: SourceCode>(
     source: Option<SourceRef<'_, S>>,
     out: &mut String,
 ) -> Result<(), AllocError>
-    ensures { OnOk result (AppendsPlaces (option_map (shown_source S.source) source.entry) labels.now (string_bytes out.old) (string_bytes out.new)) }
+    ensures { OnOk result (AppendsPlaces (option_map (shown_source S.source) source.entry) labels.now
+        (string_bytes out.old) (string_bytes out.new)) }
 {
     push_maybe(out, "filename", file_name_for(labels, source))?;
     push_key(out, "labels")?;
@@ -222,7 +231,8 @@ fn push_key(out: &mut String, key: &str) -> Result<(), AllocError>
 
 /// A member with a text after another, where there is a text.
 fn push_maybe(out: &mut String, key: &str, text: Option<&str>) -> Result<(), AllocError>
-    ensures { OnOk result (string_bytes out.new ≡ string_bytes out.old ++ maybe_text key.now (option_copied text.entry)) }
+    ensures { OnOk result (string_bytes out.new
+        ≡ string_bytes out.old ++ maybe_text key.now (option_copied text.entry)) }
 {
     if let Some(text) = text {
         push_key(out, key)?;

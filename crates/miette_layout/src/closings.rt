@@ -24,7 +24,8 @@ use std::alloc::AllocError;
 
 // Whether a label ends on a line and began before it.
 fn closes(line: &LineOfText, label: &Placed) -> bool
-    ensures { result ≡ ends_on (line_of_text line.now) (label_of label.now) && not (starts_on (line_of_text line.now) (label_of label.now)) }
+    ensures { result ≡ ends_on (line_of_text line.now) (label_of label.now)
+        && not (starts_on (line_of_text line.now) (label_of label.now)) }
 {
     ends(line, label) && !starts(line, label)
 }
@@ -48,7 +49,9 @@ fn push_closed_row(
     bar: char,
     part: &str,
 ) -> Result<(), AllocError>
-    ensures { OnOk result (page.new ≡ page.old ++ told_rows (closed_line sheet.now columns (drawn_of sheet.now.labels.now label.now) bar (chars part.now) ∷ [])) }
+    ensures { OnOk result (page.new ≡ page.old
+        ++ told_rows (closed_line sheet.now columns (drawn_of sheet.now.labels.now label.now) bar (chars part.now)
+        ∷ [])) }
 {
     push_other_start(page, sheet)?;
     push_other_gutter(page, sheet, columns)?;
@@ -64,7 +67,8 @@ fn push_open_row(
     label: &Placed,
     part: &str,
 ) -> Result<(), AllocError>
-    ensures { OnOk result (page.new ≡ page.old ++ told_rows (open_line sheet.now columns (drawn_of sheet.now.labels.now label.now) (chars part.now) ∷ [])) }
+    ensures { OnOk result (page.new ≡ page.old
+        ++ told_rows (open_line sheet.now columns (drawn_of sheet.now.labels.now label.now) (chars part.now) ∷ [])) }
 {
     push_other_start(page, sheet)?;
     push_open_gutter(page, sheet, columns)?;
@@ -80,7 +84,9 @@ fn push_open_rows(
     label: &Placed,
     text: &str,
 ) -> Result<(), AllocError>
-    ensures { OnOk result (page.new ≡ page.old ++ told_rows (map (open_line sheet.now columns (drawn_of sheet.now.labels.now label.now)) (cut_at_lf (chars text.now)))) }
+    ensures { OnOk result (page.new ≡ page.old
+        ++ told_rows (map (open_line sheet.now columns (drawn_of sheet.now.labels.now label.now))
+        (cut_at_lf (chars text.now)))) }
 {
     let mut left = Some(text);
     while let Some(text) = left {
@@ -93,8 +99,10 @@ fn push_open_rows(
 
 // The rows of a label's text: `╰──── text`, or `╰───┤ text` and a row for each further part.
 fn push_closing(page: &mut Page, sheet: &Sheet, label: &Placed) -> Result<(), AllocError>
-    ensures { OnOk result (page.new ≡ page.old ++ told_rows (before_each (other_start (settings sheet.now) sheet.now.number_width)
-        (closing_parts (settings sheet.now).width (settings sheet.now).characters (line_of_text sheet.now.line) sheet.now.gutter (multi_labels sheet.now)
+    ensures { OnOk result (page.new ≡ page.old
+        ++ told_rows (before_each (other_start (settings sheet.now) sheet.now.number_width)
+        (closing_parts (settings sheet.now).width (settings sheet.now).characters (line_of_text sheet.now.line)
+        sheet.now.gutter (multi_labels sheet.now)
         (drawn_of sheet.now.labels.now label.now) (drawn_of sheet.now.labels.now label.now).parts))) }
 {
     let Some(text) = text_of(sheet.labels, label) else {
@@ -112,11 +120,13 @@ fn push_closing(page: &mut Page, sheet: &Sheet, label: &Placed) -> Result<(), Al
     Ok(())
 }
 
-/// The rows of the texts of the labels of several lines that end on the sheet's line, in order. `AllocError` where memory is refused, or
-/// `number_width + 2` is past the largest `usize`.
+/// The rows of the texts of the labels of several lines that end on the sheet's line, in order. `AllocError` where
+/// memory is refused, or `number_width + 2` is past the largest `usize`.
 pub fn push_closings(page: &mut Page, sheet: &Sheet) -> Result<(), AllocError>
-    ensures { OnOk result (page.new ≡ page.old ++ told_rows (before_each (other_start (settings sheet.now) sheet.now.number_width)
-        (closing_rows (settings sheet.now).width (settings sheet.now).characters (line_of_text sheet.now.line) sheet.now.gutter (multi_labels sheet.now)
+    ensures { OnOk result (page.new ≡ page.old
+        ++ told_rows (before_each (other_start (settings sheet.now) sheet.now.number_width)
+        (closing_rows (settings sheet.now).width (settings sheet.now).characters (line_of_text sheet.now.line)
+        sheet.now.gutter (multi_labels sheet.now)
         (closing (line_of_text sheet.now.line) (multi_labels sheet.now))))) }
 {
     for label in sheet.multi {

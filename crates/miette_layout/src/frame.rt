@@ -1,10 +1,12 @@
 //! The rows over and under a snippet's lines, and the row in place of snippets where a label is refused.
 
-ghost use Rattle.std.specs.Prelude.{◌≡◌, ◌++◌, ◌∷◌, [], IsTrue, nat_lt, chars, codes, decimal, option_copied, if◌then◌else◌, false, OnOk};
+ghost use Rattle.std.specs.Prelude.{◌≡◌, ◌++◌, ◌∷◌, [], IsTrue, nat_lt, chars, codes, decimal, option_copied};
+ghost use Rattle.std.specs.Prelude.{if◌then◌else◌, false, OnOk};
 ghost use Rattle.std.specs.List.{list_all};
 ghost use Rattle.std.specs.Option.{option_map};
 ghost use Rattle.miette_layout.specs.views.Told.{told, told_rows, run_told, text_told};
-ghost use Rattle.miette_layout.specs.rules.Frames.{top_row_of, bottom_row, location, location_of, place_text, refused_row, text_or_none};
+ghost use Rattle.miette_layout.specs.rules.Frames.{top_row_of, bottom_row, location, location_of, place_text};
+ghost use Rattle.miette_layout.specs.rules.Frames.{refused_row, text_or_none};
 ghost use Rattle.miette_layout.specs.views.ThemeSettings.{settings_of};
 ghost use Rattle.miette_layout.specs.rules.Framed.{corner_row, place_at, refused_front};
 
@@ -56,7 +58,8 @@ fn push_count(page: &mut Page, style: Style, number: usize) -> Result<(), AllocE
 
 // The spaces before a corner, the corner, and what follows it: `   ╭─`.
 fn push_corner(page: &mut Page, frame: &Frame, corner: char, many: usize) -> Result<(), AllocError>
-    ensures { OnOk result (page.new ≡ page.old ++ told (corner_row (settings_of frame.now.theme.now frame.now.options) frame.now.number_width corner many)) }
+    ensures { OnOk result (page.new ≡ page.old
+        ++ told (corner_row (settings_of frame.now.theme.now frame.now.options) frame.now.number_width corner many)) }
 {
     let Some(columns) = frame.number_width.checked_add(2) else {
         return Err(AllocError);
@@ -90,7 +93,8 @@ fn push_link(
     place: (usize, usize),
 ) -> Result<(), AllocError>
     ensures { OnOk result (page.new ≡ page.old ++ run_told frame.now.theme.now.styles.link
-        (if frame.now.options.primary_start then chars name.now ++ codes ":" ++ place_text (place_at place) else chars name.now)) }
+        (if frame.now.options.primary_start then chars name.now ++ codes ":" ++ place_text (place_at place)
+        else chars name.now)) }
 {
     push_styled(page, frame.theme.styles.link, name)?;
     if !frame.options.primary_start {
@@ -108,7 +112,8 @@ fn push_named_place(
     name: &str,
     place: (usize, usize),
 ) -> Result<(), AllocError>
-    ensures { OnOk result (page.new ≡ page.old ++ told (location (settings_of frame.now.theme.now frame.now.options) (Some name.now) false (place_at place))) }
+    ensures { OnOk result (page.new ≡ page.old
+        ++ told (location (settings_of frame.now.theme.now frame.now.options) (Some name.now) false (place_at place))) }
 {
     push_ascii(page, PLAIN, "[")?;
     push_link(page, frame, name, place)?;
@@ -123,7 +128,8 @@ fn push_bare_place(
     several: bool,
     place: (usize, usize),
 ) -> Result<(), AllocError>
-    ensures { OnOk result (page.new ≡ page.old ++ told (location (settings_of frame.now.theme.now frame.now.options) None several (place_at place))) }
+    ensures { OnOk result (page.new ≡ page.old
+        ++ told (location (settings_of frame.now.theme.now frame.now.options) None several (place_at place))) }
 {
     if several && frame.options.primary_start {
         page.push_line(PLAIN, '[', ' ', 0)?;
@@ -144,7 +150,9 @@ fn push_location(
     several: bool,
     place: Option<(usize, usize)>,
 ) -> Result<(), AllocError>
-    ensures { OnOk result (page.new ≡ page.old ++ told (location_of (settings_of frame.now.theme.now frame.now.options) (option_copied name.entry) several (option_map place_at place))) }
+    ensures { OnOk result (page.new ≡ page.old
+        ++ told (location_of (settings_of frame.now.theme.now frame.now.options) (option_copied name.entry) several
+        (option_map place_at place))) }
 {
     let Some(place) = place else {
         return Ok(());
@@ -163,8 +171,9 @@ fn push_location(
 
 /// The row over a snippet's lines: `   ╭─[name:2:3]`.
 ///
-/// `several` says whether the snippet has more than one line; `place` is where its primary label begins, line and column counted from 0.
-/// `AllocError` where memory is refused, or `number_width + 2` or a number counted from 1 is past the largest `usize`.
+/// `several` says whether the snippet has more than one line; `place` is where its primary label begins, line and
+/// column counted from 0. `AllocError` where memory is refused, or `number_width + 2` or a number counted from 1 is
+/// past the largest `usize`.
 pub fn push_top_row(
     page: &mut Page,
     frame: &Frame,
@@ -172,7 +181,9 @@ pub fn push_top_row(
     several: bool,
     place: Option<(usize, usize)>,
 ) -> Result<(), AllocError>
-    ensures { OnOk result (page.new ≡ page.old ++ told_rows (top_row_of (settings_of frame.now.theme.now frame.now.options) frame.now.number_width (option_copied name.entry) several (option_map place_at place) ∷ [])) }
+    ensures { OnOk result (page.new ≡ page.old
+        ++ told_rows (top_row_of (settings_of frame.now.theme.now frame.now.options) frame.now.number_width
+        (option_copied name.entry) several (option_map place_at place) ∷ [])) }
 {
     push_corner(page, frame, frame.theme.characters.ltop, 1)?;
     push_location(page, frame, name, several, place)?;
@@ -180,9 +191,11 @@ pub fn push_top_row(
     Ok(())
 }
 
-/// The row under a snippet's lines: `   ╰────`. `AllocError` where memory is refused, or `number_width + 2` is past the largest `usize`.
+/// The row under a snippet's lines: `   ╰────`. `AllocError` where memory is refused, or `number_width + 2` is past
+/// the largest `usize`.
 pub fn push_bottom_row(page: &mut Page, frame: &Frame) -> Result<(), AllocError>
-    ensures { OnOk result (page.new ≡ page.old ++ told_rows (bottom_row (settings_of frame.now.theme.now frame.now.options) frame.now.number_width ∷ [])) }
+    ensures { OnOk result (page.new ≡ page.old
+        ++ told_rows (bottom_row (settings_of frame.now.theme.now frame.now.options) frame.now.number_width ∷ [])) }
 {
     push_corner(page, frame, frame.theme.characters.lbot, 4)?;
     page.end_row()?;
@@ -207,7 +220,8 @@ fn push_label_text(page: &mut Page, style: Style, label: &LabeledSpan) -> Result
 
 // What stands before a refused label's offset: "  [Failed to read contents for label `TEXT` (offset: ".
 fn push_refused_text(page: &mut Page, frame: &Frame, label: &LabeledSpan) -> Result<(), AllocError>
-    ensures { OnOk result (page.new ≡ page.old ++ told (refused_front (settings_of frame.now.theme.now frame.now.options) label.now)) }
+    ensures { OnOk result (page.new ≡ page.old
+        ++ told (refused_front (settings_of frame.now.theme.now frame.now.options) label.now)) }
 {
     let styles = &frame.theme.styles;
     push_ascii(page, PLAIN, "  [")?;
@@ -218,15 +232,17 @@ fn push_refused_text(page: &mut Page, frame: &Frame, label: &LabeledSpan) -> Res
     Ok(())
 }
 
-/// The row in place of snippets where a label is refused, with the refusal's name: "  [Failed to read contents for label `TEXT` (offset: O, length: N): NAME]".
-/// `AllocError` where memory is refused.
+/// The row in place of snippets where a label is refused, with the refusal's name: "  [Failed to read contents for
+/// label `TEXT` (offset: O, length: N): NAME]". `AllocError` where memory is refused.
 pub fn push_refused_row(
     page: &mut Page,
     frame: &Frame,
     label: &LabeledSpan,
     name: &str,
 ) -> Result<(), AllocError>
-    ensures { OnOk result (page.new ≡ page.old ++ told_rows (refused_row (settings_of frame.now.theme.now frame.now.options) (record { label = label.now; name = chars name.now }) ∷ [])) }
+    ensures { OnOk result (page.new ≡ page.old
+        ++ told_rows (refused_row (settings_of frame.now.theme.now frame.now.options)
+        (record { label = label.now; name = chars name.now }) ∷ [])) }
 {
     let styles = &frame.theme.styles;
     push_refused_text(page, frame, label)?;

@@ -48,7 +48,9 @@ fn corner_at_end(sheet: &Sheet, label: &Placed) -> char
 /// The gutter of a row that isn't the number row, in so many columns: a bar for each label that goes on,
 /// then a corner for the first one that ends on the line: `│╰───`. `AllocError` where memory is refused.
 pub fn push_other_gutter(page: &mut Page, sheet: &Sheet, columns: usize) -> Result<(), AllocError>
-    ensures { OnOk result (page.new ≡ page.old ++ told (other_gutter (settings sheet.now).width (settings sheet.now).characters (line_of_text sheet.now.line) columns (multi_labels sheet.now))) }
+    ensures { OnOk result (page.new ≡ page.old
+        ++ told (other_gutter (settings sheet.now).width (settings sheet.now).characters (line_of_text sheet.now.line)
+        columns (multi_labels sheet.now))) }
 {
     let characters = &sheet.theme.characters;
     let mut left = columns;
@@ -71,7 +73,9 @@ pub fn push_other_gutter(page: &mut Page, sheet: &Sheet, columns: usize) -> Resu
 
 /// The same with spaces in place of the corner: `│    `. `AllocError` where memory is refused.
 pub fn push_open_gutter(page: &mut Page, sheet: &Sheet, columns: usize) -> Result<(), AllocError>
-    ensures { OnOk result (page.new ≡ page.old ++ told (open_gutter (settings sheet.now).width (settings sheet.now).characters (line_of_text sheet.now.line) columns (multi_labels sheet.now))) }
+    ensures { OnOk result (page.new ≡ page.old
+        ++ told (open_gutter (settings sheet.now).width (settings sheet.now).characters (line_of_text sheet.now.line)
+        columns (multi_labels sheet.now))) }
 {
     let characters = &sheet.theme.characters;
     let mut left = columns;
@@ -95,7 +99,9 @@ fn push_arrow(
     corner: char,
     left: usize,
 ) -> Result<(), AllocError>
-    ensures { OnOk result (page.new ≡ page.old ++ (run_told style (corner ∷ replicate (left - 3) (settings sheet.now).characters.hbar ++ (settings sheet.now).characters.rarrow ∷ []) ++ run_told PLAIN (32 ∷ []))) }
+    ensures { OnOk result (page.new ≡ page.old
+        ++ (run_told style (corner ∷ replicate (left - 3) (settings sheet.now).characters.hbar
+        ++ (settings sheet.now).characters.rarrow ∷ []) ++ run_told PLAIN (32 ∷ []))) }
 {
     let characters = &sheet.theme.characters;
     page.push_line(style, corner, characters.hbar, left.saturating_sub(3))?;
@@ -104,10 +110,12 @@ fn push_arrow(
     Ok(())
 }
 
-/// The gutter of the number row: a bar for each label that runs through, an arrow for the first one that starts or ends on the line: `│╭─▶ `.
-/// `AllocError` where memory is refused.
+/// The gutter of the number row: a bar for each label that runs through, an arrow for the first one that starts or
+/// ends on the line: `│╭─▶ `. `AllocError` where memory is refused.
 pub fn push_number_gutter(page: &mut Page, sheet: &Sheet) -> Result<(), AllocError>
-    ensures { OnOk result (page.new ≡ page.old ++ told (number_gutter (settings sheet.now).width (settings sheet.now).characters (line_of_text sheet.now.line) sheet.now.gutter (multi_labels sheet.now))) }
+    ensures { OnOk result (page.new ≡ page.old
+        ++ told (number_gutter (settings sheet.now).width (settings sheet.now).characters (line_of_text sheet.now.line)
+        sheet.now.gutter (multi_labels sheet.now))) }
 {
     let characters = &sheet.theme.characters;
     let mut left = sheet.gutter;

@@ -29,7 +29,8 @@ fn answered<H: Highlighter>(
     text: &[u8],
 ) -> Result<Vec<(usize, Style)>, AllocError>
     ensures cut { IfOk result (λ pieces. CutsLine (decoded_text text.now) pieces.items) }
-    ensures plain { H.is_blank highlighter.old ≡ true → IfOk result (λ pieces. pieces.items ≡ plain_pieces (decoded_text text.now)) }
+    ensures plain { H.is_blank highlighter.old ≡ true →
+        IfOk result (λ pieces. pieces.items ≡ plain_pieces (decoded_text text.now)) }
     ensures stays { H.is_blank highlighter.new ≡ H.is_blank highlighter.old }
 {
     let line = text.to_str_lossy(alloc)?;
@@ -46,14 +47,16 @@ fn is_plain(pieces: &[(usize, Style)]) -> bool
     }
 }
 
-/// A highlighter's pieces for the bytes of a line's text; none where it leaves the line plain, and where there is no highlighter. Each is a
-/// length in bytes of the decoded text, and a style. `AllocError` where memory is refused, to the highlighter too.
+/// A highlighter's pieces for the bytes of a line's text; none where it leaves the line plain, and where there is no
+/// highlighter. Each is a length in bytes of the decoded text, and a style. `AllocError` where memory is refused, to
+/// the highlighter too.
 pub fn pieces_of<H: Highlighter>(
     alloc: Global,
     highlighter: &mut Option<H>,
     text: &[u8],
 ) -> Result<Vec<(usize, Style)>, AllocError>
-    ensures pieces { IfOk result (λ pieces. ArePieces (leaves_plain H.is_blank highlighter.old) (decoded_text text.now) (map highlight_of pieces.items)) }
+    ensures pieces { IfOk result (λ pieces. ArePieces (leaves_plain H.is_blank highlighter.old) (decoded_text text.now)
+        (map highlight_of pieces.items)) }
     ensures stays { leaves_plain H.is_blank highlighter.new ≡ leaves_plain H.is_blank highlighter.old }
 {
     match highlighter {

@@ -23,11 +23,13 @@ ghost use Rattle.miette_layout.specs.rules.Layout.{snippet_rows};
 ghost use Rattle.miette_layout.specs.laws.Pictures.{BodyShows};
 ghost use Rattle.miette_layout.specs.rules.Shown.{framed_runs};
 
-/// Where no read fails, and there is at least one line of context for each label, the lines that the groups of labels show are the
-/// maximal runs of all lines that lie in the context of a label.
+/// Where no read fails, and there is at least one line of context for each label, the lines that the groups of labels
+/// show are the maximal runs of all lines that lie in the context of a label.
 pub fn groups_are_runs()
-    ensures { (context : ℕ) (source : Source) (fails : List Bool) (labels : List Label) → HaveContext context labels → NoneFails fails →
-        lines_of_groups (group_context context (in_order labels)) source (groups_of context source fails (in_order labels)) ≡ snippets context source.bytes labels }
+    ensures { (context : ℕ) (source : Source) (fails : List Bool) (labels : List Label) → HaveContext context labels →
+        NoneFails fails →
+        lines_of_groups (group_context context (in_order labels)) source
+        (groups_of context source fails (in_order labels)) ≡ snippets context source.bytes labels }
 {}
 
 /// The runs of a list hold its numbers, in order and once. Each is consecutive, and none goes on into the next.
@@ -41,39 +43,44 @@ pub fn labels_have_one_group()
         AllByRecursion (HasOneGroup context source labels) labels }
 {}
 
-/// Where the source always reads and accepts the labels, and there is at least one line of context for each label, the rows of the
-/// snippets are those of the maximal runs of the shown lines: each line once, with its number and its own cells, each run in a frame.
+/// Where the source always reads and accepts the labels, and there is at least one line of context for each label,
+/// the rows of the snippets are those of the maximal runs of the shown lines: each line once, with its number and its
+/// own cells, each run in a frame.
 pub fn snippets_draw_runs()
-    ensures { (s : Settings) (source : Source) (labels : List Label) (answers : Answers) → HaveContext s.context labels → AreAccepted source.bytes labels → AlwaysReads answers →
+    ensures { (s : Settings) (source : Source) (labels : List Label) (answers : Answers) →
+        HaveContext s.context labels → AreAccepted source.bytes labels → AlwaysReads answers →
         snippet_rows s source labels answers ≡ Some (framed_runs s source labels answers) }
 {}
 
-/// The marks of a line's labels are not empty, and each begins where the one before it ends, or later. So an anchor lies in its own
-/// mark and in no other.
+/// The marks of a line's labels are not empty, and each begins where the one before it ends, or later. So an anchor
+/// lies in its own mark and in no other.
 pub fn marks_are_apart()
     ensures apart { (text : Text) (labels : List DrawnLabel) → AreApart 0 (marks text labels) }
     ensures anchors { (text : Text) (labels : List DrawnLabel) →
         AllByRecursion (λ mark. marks_at (anchor mark) (marks text labels) ≡ mark ∷ []) (marks text labels) }
 {}
 
-/// In the rows of each line of a snippet the text begins at one column, the mark row has the marks in their columns counted from there,
-/// and each text hangs from its own mark's anchor.
+/// In the rows of each line of a snippet the text begins at one column, the mark row has the marks in their columns
+/// counted from there, and each text hangs from its own mark's anchor.
 pub fn texts_hang()
-    ensures { (s : Settings) (labels : List DrawnLabel) (source : List ℕ) (read : Contents) (pieces : List (List Highlight)) →
-        IsNarrow s.width s.characters → read.line + length (lines_of_contents read) < 2 ^ 64 → BodyShows s labels source read pieces }
+    ensures { (s : Settings) (labels : List DrawnLabel) (source : List ℕ) (read : Contents)
+        (pieces : List (List Highlight)) →
+        IsNarrow s.width s.characters → read.line + length (lines_of_contents read) < 2 ^ 64 →
+        BodyShows s labels source read pieces }
 {}
 
-/// In plain styles and without a highlighter's pieces the snippets have the same rows of the same characters in the same columns, and
-/// all of them are plain.
+/// In plain styles and without a highlighter's pieces the snippets have the same rows of the same characters in the
+/// same columns, and all of them are plain.
 pub fn rows_fade()
     ensures same { (s : Settings) (source : Source) (labels : List Label) (answers : Answers) →
-        option_map (map pieces_of) (snippet_rows (colourless s) source labels (unhighlighted answers)) ≡ option_map (map pieces_of) (snippet_rows s source labels answers) }
+        option_map (map pieces_of) (snippet_rows (colourless s) source labels (unhighlighted answers))
+        ≡ option_map (map pieces_of) (snippet_rows s source labels answers) }
     ensures plain { (s : Settings) (source : Source) (labels : List Label) (answers : Answers) →
         IfSome (snippet_rows (colourless s) source labels (unhighlighted answers)) (AllByRecursion IsPlainRow) }
 {}
 
-/// Where the characters that are drawn, the source's name and bytes, and the labels' texts hold no escape, the rows of the snippets hold
-/// none, whatever the reads and a highlighter answer.
+/// Where the characters that are drawn, the source's name and bytes, and the labels' texts hold no escape, the rows
+/// of the snippets hold none, whatever the reads and a highlighter answer.
 pub fn rows_hold_no_escape()
     ensures { (s : Settings) (source : Source) (labels : List Label) (answers : Answers) →
         AreCleanDrawings s.characters → IsCleanSource source → AllByRecursion IsCleanLabel labels →

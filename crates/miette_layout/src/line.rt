@@ -31,7 +31,8 @@ use std::alloc::{AllocError, Global};
 
 // The number of a line: ` 12 │ `.
 fn push_number_start(page: &mut Page, sheet: &Sheet, number: usize) -> Result<(), AllocError>
-    ensures { OnOk result (page.new ≡ page.old ++ told (number_start (settings sheet.now) sheet.now.number_width number)) }
+    ensures { OnOk result (page.new ≡ page.old
+        ++ told (number_start (settings sheet.now) sheet.now.number_width number)) }
 {
     page.push_blank(1)?;
     page.begin(sheet.theme.styles.linum)?;
@@ -104,7 +105,9 @@ fn push_text(
     pieces: &[(usize, Style)],
 ) -> Result<(), AllocError>
     requires { sheet.now.line.start + length text.now < 2 ^ 64 }
-    ensures { OnOk result (page.new ≡ page.old ++ told (line_runs (map highlight_of pieces.now) (cells_from width_of sheet.now.options.tab_width false sheet.now.line.start 0 (characters text.now)))) }
+    ensures { OnOk result (page.new ≡ page.old
+        ++ told (line_runs (map highlight_of pieces.now)
+        (cells_from width_of sheet.now.options.tab_width false sheet.now.line.start 0 (characters text.now)))) }
 {
     if pieces.is_empty() {
         if let Some(plain) = printable(text) {
@@ -127,7 +130,10 @@ fn push_number_row(
     pieces: &[(usize, Style)],
 ) -> Result<(), AllocError>
     requires { sheet.now.line.start + length text.now < 2 ^ 64 }
-    ensures { OnOk result (page.new ≡ page.old ++ told_rows (number_row sheet.now number (cells_from width_of sheet.now.options.tab_width false sheet.now.line.start 0 (characters text.now)) (map highlight_of pieces.now) ∷ [])) }
+    ensures { OnOk result (page.new ≡ page.old
+        ++ told_rows (number_row sheet.now number
+        (cells_from width_of sheet.now.options.tab_width false sheet.now.line.start 0 (characters text.now))
+        (map highlight_of pieces.now) ∷ [])) }
 {
     push_number_start(page, sheet, number)?;
     push_number_gutter(page, sheet)?;
@@ -140,7 +146,8 @@ fn push_number_row(
 fn push_marked_rows(page: &mut Page, sheet: &Sheet, marks: &[Mark]) -> Result<(), AllocError>
     requires { All (λ mark. mark.from < mark.until) marks.now }
     ensures { OnOk result (page.new ≡ page.old ++ told_rows (before_each (before_marks sheet.now)
-        (marked_rows (settings sheet.now).width (settings sheet.now).characters (map (mark_of sheet.now.labels.now) marks.now)))) }
+        (marked_rows (settings sheet.now).width (settings sheet.now).characters
+        (map (mark_of sheet.now.labels.now) marks.now)))) }
 {
     if marks.is_empty() {
         return Ok(());
@@ -162,7 +169,9 @@ fn push_one_line_labels(
 ) -> Result<(), AllocError>
     requires { sheet.now.line.start + length text.now < 2 ^ 64 }
     ensures { OnOk result (page.new ≡ page.old ++ told_rows (before_each (before_marks sheet.now)
-        (marked_rows (settings sheet.now).width (settings sheet.now).characters (marks (text_of_cells (cells_from width_of sheet.now.options.tab_width false sheet.now.line.start 0 (characters text.now)) sheet.now.line.text_end) (map (drawn_of sheet.now.labels.now) one.now))))) }
+        (marked_rows (settings sheet.now).width (settings sheet.now).characters
+        (marks (text_of_cells (cells_from width_of sheet.now.options.tab_width false sheet.now.line.start 0
+        (characters text.now)) sheet.now.line.text_end) (map (drawn_of sheet.now.labels.now) one.now))))) }
 {
     if one.is_empty() {
         return Ok(());
@@ -172,11 +181,11 @@ fn push_one_line_labels(
     Ok(())
 }
 
-/// The rows of the sheet's line, which has this number and whose text has these bytes: the number row, the marks and texts of
-/// the labels that lie on it alone, and the texts of the labels of several lines that end there.
+/// The rows of the sheet's line, which has this number and whose text has these bytes: the number row, the marks and
+/// texts of the labels that lie on it alone, and the texts of the labels of several lines that end there.
 ///
-/// `one` are the labels that lie on the line alone, by offset; `pieces` are a highlighter's, each a length in bytes and a style.
-/// `AllocError` where memory is refused, or a column is past the largest `usize`.
+/// `one` are the labels that lie on the line alone, by offset; `pieces` are a highlighter's, each a length in bytes
+/// and a style. `AllocError` where memory is refused, or a column is past the largest `usize`.
 pub fn push_line_rows(
     alloc: Global,
     page: &mut Page,
@@ -187,8 +196,11 @@ pub fn push_line_rows(
     pieces: &[(usize, Style)],
 ) -> Result<(), AllocError>
     requires { sheet.now.line.start + length text.now < 2 ^ 64 }
-    ensures { OnOk result (page.new ≡ page.old ++ told_rows (line_rows_of (settings sheet.now) sheet.now.number_width sheet.now.gutter (map (drawn_of sheet.now.labels.now) one.now) (multi_labels sheet.now)
-        (line_of_text sheet.now.line) number (cells_from width_of sheet.now.options.tab_width false sheet.now.line.start 0 (characters text.now)) (map highlight_of pieces.now))) }
+    ensures { OnOk result (page.new ≡ page.old
+        ++ told_rows (line_rows_of (settings sheet.now) sheet.now.number_width sheet.now.gutter
+        (map (drawn_of sheet.now.labels.now) one.now) (multi_labels sheet.now)
+        (line_of_text sheet.now.line) number (cells_from width_of sheet.now.options.tab_width false sheet.now.line.start
+        0 (characters text.now)) (map highlight_of pieces.now))) }
 {
     push_number_row(page, sheet, number, text, pieces)?;
     push_one_line_labels(alloc, page, sheet, text, one)?;

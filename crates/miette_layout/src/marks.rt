@@ -3,7 +3,8 @@
 ghost use Rattle.std.specs.Prelude.{◌≡◌, ◌+◌, ◌^◌, ◌<◌, ◌≤◌, [], ℕ, List, map, length, false, IfOk, MatchOption};
 ghost use Rattle.std.specs.List.{All};
 ghost use Rattle.miette_protocol.specs.views.Meaning.{Label};
-ghost use Rattle.miette_layout.specs.rules.PrintedCells.{cells_width, first_column as first_of_cells, last_column as last_of_cells};
+ghost use Rattle.miette_layout.specs.rules.PrintedCells.{cells_width, first_column as first_of_cells};
+ghost use Rattle.miette_layout.specs.rules.PrintedCells.{last_column as last_of_cells};
 ghost use Rattle.miette_lines.specs.rules.Cells.{cells_from, characters};
 ghost use Rattle.miette_layout.specs.rules.Marks.{mark_from, mark_until, marks};
 ghost use Rattle.miette_layout.specs.rules.Layout.{text_of_cells};
@@ -28,7 +29,8 @@ struct Stop<'a> {
     walk: Walk<'a>,
 }
 
-/// Where the characters of a line's text stand, by offset. A text of printable ASCII characters needs no walk: its bytes are its columns.
+/// Where the characters of a line's text stand, by offset. A text of printable ASCII characters needs no walk: its
+/// bytes are its columns.
 #[derive(Drop)]
 pub struct Columns<'a> {
     plain: &'a [u8],
@@ -48,14 +50,20 @@ impl<'a> Model for Columns<'a> {
 
     ghost Value = { Text };
 
-    ghost view = { λ c. record { cells = plain_cells c.start 0 c.plain.now ++ c.whole; text_end = c.text_end; width = c.width } };
+    ghost view = { λ c. record {
+      cells = plain_cells c.start 0 c.plain.now ++ c.whole;
+      text_end = c.text_end;
+      width = c.width;
+    } };
 
     ghost invariant = { λ c. All (IsStop c.whole) c.stops.items };
 }
 
 // The first column of the first of these cells that ends behind an offset.
 fn column_behind(walk: Walk<'_>, offset: usize) -> Result<Option<usize>, AllocError>
-    ensures { IfOk result (λ found. (text_end width : ℕ) → MatchOption found (first_of_cells [] text_end width offset ≡ first_of_cells walk.entry text_end width offset) (λ column. column ≡ first_of_cells walk.entry text_end width offset)) }
+    ensures { IfOk result (λ found. (text_end width : ℕ) →
+        MatchOption found (first_of_cells [] text_end width offset ≡ first_of_cells walk.entry text_end width offset)
+        (λ column. column ≡ first_of_cells walk.entry text_end width offset)) }
 {
     let mut walk = walk;
     while let Some(cell) = walk.next()? {
@@ -68,7 +76,9 @@ fn column_behind(walk: Walk<'_>, offset: usize) -> Result<Option<usize>, AllocEr
 
 // The first column of the first of these cells that doesn't begin before an offset.
 fn column_from(walk: Walk<'_>, offset: usize) -> Result<Option<usize>, AllocError>
-    ensures { IfOk result (λ found. (text_end width : ℕ) → MatchOption found (last_of_cells [] text_end width offset ≡ last_of_cells walk.entry text_end width offset) (λ column. column ≡ last_of_cells walk.entry text_end width offset)) }
+    ensures { IfOk result (λ found. (text_end width : ℕ) →
+        MatchOption found (last_of_cells [] text_end width offset ≡ last_of_cells walk.entry text_end width offset)
+        (λ column. column ≡ last_of_cells walk.entry text_end width offset)) }
 {
     let mut walk = walk;
     while let Some(cell) = walk.next()? {
@@ -82,8 +92,10 @@ fn column_from(walk: Walk<'_>, offset: usize) -> Result<Option<usize>, AllocErro
 // The cells from the last of these stops that doesn't stand behind an offset, or all where none does.
 fn walk_to<'a>(whole: &Walk<'a>, stops: &[Stop<'a>], offset: usize) -> Walk<'a>
     requires { All (IsStop whole.now) stops.now }
-    ensures first { (text_end width : ℕ) → first_of_cells result text_end width offset ≡ first_of_cells whole.now text_end width offset }
-    ensures last { (text_end width : ℕ) → last_of_cells result text_end width offset ≡ last_of_cells whole.now text_end width offset }
+    ensures first { (text_end width : ℕ) → first_of_cells result text_end width offset
+        ≡ first_of_cells whole.now text_end width offset }
+    ensures last { (text_end width : ℕ) → last_of_cells result text_end width offset
+        ≡ last_of_cells whole.now text_end width offset }
 {
     let passed = stops.partition_point(|stop| stop.offset <= offset);
     if passed > 0 && passed <= stops.len() {
@@ -122,8 +134,8 @@ fn stops_of<'a>(alloc: Global, walk: Walk<'a>) -> Result<(Vec<Stop<'a>>, usize),
 }
 
 impl<'a> Columns<'a> {
-    /// The columns of a line's text, whose bytes are given, with tabs of so many columns. `AllocError` where memory is refused, or the
-    /// text has more columns than a `usize` counts.
+    /// The columns of a line's text, whose bytes are given, with tabs of so many columns. `AllocError` where memory
+    /// is refused, or the text has more columns than a `usize` counts.
     pub fn new(
         alloc: Global,
         line: &LineOfText,
@@ -131,7 +143,8 @@ impl<'a> Columns<'a> {
         tab: usize,
     ) -> Result<Self, AllocError>
         requires { line.now.start + length text.now < 2 ^ 64 }
-        ensures { IfOk result (λ columns. columns ≡ text_of_cells (cells_from width_of tab false line.now.start 0 (characters text.now)) line.now.text_end) }
+        ensures { IfOk result (λ columns. columns
+            ≡ text_of_cells (cells_from width_of tab false line.now.start 0 (characters text.now)) line.now.text_end) }
     {
         if all_printable(text) {
             return Ok(Columns {
@@ -168,9 +181,11 @@ impl<'a> Columns<'a> {
         }
     }
 
-    /// The column of an offset, rounded down to a character's start. A column past the largest `usize` is refused as want of memory.
+    /// The column of an offset, rounded down to a character's start. A column past the largest `usize` is refused as
+    /// want of memory.
     pub fn first_column(&self, offset: usize) -> Result<usize, AllocError>
-        ensures { IfOk result (λ column. column ≡ first_of_cells self.now.cells self.now.text_end self.now.width offset) }
+        ensures { IfOk result (λ column. column
+            ≡ first_of_cells self.now.cells self.now.text_end self.now.width offset) }
     {
         let at = offset.saturating_sub(self.start);
         if at < self.plain.len() {
@@ -184,7 +199,8 @@ impl<'a> Columns<'a> {
 
     /// The same, rounded up: `AllocError` too where that is past the largest `usize`.
     pub fn last_column(&self, offset: usize) -> Result<usize, AllocError>
-        ensures { IfOk result (λ column. column ≡ last_of_cells self.now.cells self.now.text_end self.now.width offset) }
+        ensures { IfOk result (λ column. column
+            ≡ last_of_cells self.now.cells self.now.text_end self.now.width offset) }
     {
         let at = offset.saturating_sub(self.start);
         if at < self.plain.len() {
@@ -237,7 +253,8 @@ fn marks_in(
     columns: &Columns<'_>,
     placed: &[Placed],
 ) -> Result<Vec<Mark>, AllocError>
-    ensures is { IfOk result (λ made. (labels : List Label) → map (mark_of labels) made.items ≡ marks columns.now (map (drawn_of labels) placed.now)) }
+    ensures is { IfOk result (λ made. (labels : List Label) →
+        map (mark_of labels) made.items ≡ marks columns.now (map (drawn_of labels) placed.now)) }
     ensures some { IfOk result (λ made. All (λ mark. mark.from < mark.until) made.items) }
 {
     let mut made = Vec::new(alloc);
@@ -250,9 +267,10 @@ fn marks_in(
     Ok(made)
 }
 
-/// The marks of the labels that lie on a line alone, by offset, where the line's text has these bytes and tabs so many columns.
-/// Each has at least one column, and begins at its label's first column or where the mark before it ends, whichever is later.
-/// `AllocError` where memory is refused, or a column is past the largest `usize`.
+/// The marks of the labels that lie on a line alone, by offset, where the line's text has these bytes and tabs so
+/// many columns.
+/// Each has at least one column, and begins at its label's first column or where the mark before it ends, whichever
+/// is later. `AllocError` where memory is refused, or a column is past the largest `usize`.
 pub fn marks_on(
     alloc: Global,
     line: &LineOfText,
@@ -262,7 +280,8 @@ pub fn marks_on(
 ) -> Result<Vec<Mark>, AllocError>
     requires { line.now.start + length text.now < 2 ^ 64 }
     ensures is { IfOk result (λ made. (labels : List Label) → map (mark_of labels) made.items
-        ≡ marks (text_of_cells (cells_from width_of tab false line.now.start 0 (characters text.now)) line.now.text_end) (map (drawn_of labels) one.now)) }
+        ≡ marks (text_of_cells (cells_from width_of tab false line.now.start 0 (characters text.now)) line.now.text_end)
+        (map (drawn_of labels) one.now)) }
     ensures some { IfOk result (λ made. All (λ mark. mark.from < mark.until) made.items) }
 {
     let columns = Columns::new(alloc, line, text, tab)?;

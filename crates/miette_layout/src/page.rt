@@ -1,6 +1,7 @@
 //! Rows in the making: one text, with the places where runs begin and rows end.
 
-ghost use Rattle.std.specs.Prelude.{◌≡◌, ◌++◌, ◌∷◌, [], ℕ, List, replicate, decimal, chars, length, ◌-◌, encode_utf8, encode_utf8_all, string_bytes, OnOk, Some, None, Option, IfOk};
+ghost use Rattle.std.specs.Prelude.{◌≡◌, ◌++◌, ◌∷◌, [], ℕ, List, replicate, decimal, chars, length, ◌-◌, encode_utf8};
+ghost use Rattle.std.specs.Prelude.{encode_utf8_all, string_bytes, OnOk, Some, None, Option, IfOk};
 ghost use Rattle.miette_layout.specs.steps.PageMarks.{marks_ahead};
 ghost use Rattle.miette_layout.specs.steps.Seams.{first_mark};
 ghost use Rattle.miette_layout.specs.declared.page_marks.Mark.{Mark};
@@ -99,7 +100,8 @@ impl Page {
         Ok(())
     }
 
-    /// Puts copies of a character behind the run's text. `AllocError` where the memory for them is refused; none is then put.
+    /// Puts copies of a character behind the run's text. `AllocError` where the memory for them is refused; none is
+    /// then put.
     pub fn push_copies(&mut self, character: char, many: usize) -> Result<(), AllocError>
         ensures { OnOk result (self.new ≡ self.old ++ text_told (replicate many character)) }
     {
@@ -149,9 +151,11 @@ impl Page {
         Ok(())
     }
 
-    /// Puts a number behind the run's text, its digits behind the spaces that fill so many columns: `  12`. `AllocError` where memory is refused.
+    /// Puts a number behind the run's text, its digits behind the spaces that fill so many columns: `  12`.
+    /// `AllocError` where memory is refused.
     pub fn push_right(&mut self, number: usize, columns: usize) -> Result<(), AllocError>
-        ensures { OnOk result (self.new ≡ self.old ++ text_told (replicate (columns - length (decimal number)) 32 ++ decimal number)) }
+        ensures { OnOk result (self.new ≡ self.old
+            ++ text_told (replicate (columns - length (decimal number)) 32 ++ decimal number)) }
     {
         let mut buffer = Buffer::new();
         let digits = buffer.format(number);
@@ -233,7 +237,8 @@ impl<'a> Parts<'a> {
 
     /// The next part, if there is one.
     pub fn next(&mut self) -> Option<Part<'a>>
-        ensures parts { MatchOption result ((self.old ≡ []) × (self.new ≡ [])) (λ part. self.old ≡ part_told part ++ self.new) }
+        ensures parts { MatchOption result ((self.old ≡ []) × (self.new ≡ []))
+            (λ part. self.old ≡ part_told part ++ self.new) }
         ensures whole { IfSome result (λ part. EndsBefore part self.new) }
         ensures shorter { IsSome result → length self.new < length self.old }
     {

@@ -1,6 +1,7 @@
 //! The marks of a page: where runs begin and rows end. Each is kept in eight bytes.
 
-ghost use Rattle.std.specs.Prelude.{◌≡◌, ◌≢◌, ◌++◌, ◌∷◌, [], ◌<◌, ◌+◌, ◌^◌, List, length, slice_index_or, MatchResult, IfSome, IfOk, OnOk, IsErr};
+ghost use Rattle.std.specs.Prelude.{◌≡◌, ◌≢◌, ◌++◌, ◌∷◌, [], ◌<◌, ◌+◌, ◌^◌, List, length, slice_index_or, MatchResult};
+ghost use Rattle.std.specs.Prelude.{IfSome, IfOk, OnOk, IsErr};
 ghost use Rattle.miette_layout.specs.steps.PageMarks.{kind_told, marks_ahead};
 
 use miette_style::style::Style;
@@ -16,7 +17,8 @@ pub(crate) struct Mark {
     pub(crate) style: Option<Style>,
 }
 
-// What a kept mark marks: a row's end, nothing, or the beginning of a run in a style, by the style's index and so many more.
+// What a kept mark marks: a row's end, nothing, or the beginning of a run in a style, by the style's index and so
+// many more.
 const ROW_END: u32 = 0;
 
 const NOTHING: u32 = 1;
@@ -53,7 +55,8 @@ impl Model for PageMarks {
 
     ghost view = { λ p. marks_kept p.styles.items 0 p.kept.items };
 
-    ghost invariant = { λ p. AreKinds (length p.styles.items) p.kept.items × (end_kept 0 p.kept.items ≡ p.last) × (p.last < 2 ^ 64) };
+    ghost invariant = { λ p. AreKinds (length p.styles.items) p.kept.items × (end_kept 0 p.kept.items ≡ p.last)
+        × (p.last < 2 ^ 64) };
 }
 
 // The index of a style among the latest ones.
@@ -110,7 +113,8 @@ fn style_of(styles: &[Style], kind: u32) -> Option<Style>
 // Keeps a mark that stands so many bytes behind the mark before it.
 fn keep(kept: &mut Vec<Kept>, bytes: usize, kind: u32) -> Result<(), AllocError>
     requires { bytes < 2 ^ 32 }
-    ensures { MatchResult result (λ _. kept.new.items ≡ kept.old.items ++ record { bytes = bytes; kind = kind } ∷ []) (λ _. kept.new.items ≡ kept.old.items) }
+    ensures { MatchResult result (λ _. kept.new.items ≡ kept.old.items ++ record { bytes = bytes; kind = kind } ∷ [])
+        (λ _. kept.new.items ≡ kept.old.items) }
 {
     kept.push(Kept {
         bytes: bytes as u32,
@@ -142,8 +146,8 @@ impl PageMarks {
         })
     }
 
-    /// Puts a mark behind the others. `AllocError` where memory is refused, where there are more styles than a `u32` counts, or where the
-    /// mark stands before the last one; the marks then stay as they are.
+    /// Puts a mark behind the others. `AllocError` where memory is refused, where there are more styles than a `u32`
+    /// counts, or where the mark stands before the last one; the marks then stay as they are.
     pub(crate) fn push(&mut self, at: usize, style: Option<Style>) -> Result<(), AllocError>
         ensures put { OnOk result (self.new ≡ self.old ++ record { at = at; style = style } ∷ []) }
         ensures refused { IsErr result → self.new ≡ self.old }

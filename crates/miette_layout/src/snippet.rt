@@ -8,7 +8,8 @@ ghost use Rattle.miette_layout.specs.views.ThemeSettings.{settings_of};
 ghost use Rattle.miette_lines.specs.views.Given.{drawn_of};
 ghost use Rattle.miette_lines.specs.rules.Contexts.{lines_of_contents};
 ghost use Rattle.miette_layout.specs.rules.Highlighted.{leaves_plain};
-ghost use Rattle.miette_layout.specs.views.Lent.{PutsRows, texts_in, lent_rows, lent_snippet, width_of_count, gutter_of};
+ghost use Rattle.miette_layout.specs.views.Lent.{PutsRows, texts_in, lent_rows, lent_snippet, width_of_count};
+ghost use Rattle.miette_layout.specs.views.Lent.{gutter_of};
 ghost use Rattle.miette_lines.specs.views.Sweeping.{IsAt, AreSorted};
 
 use crate::frame::{Frame, push_bottom_row, push_top_row};
@@ -50,8 +51,8 @@ pub struct Passage {
     pub at: usize,
 }
 
-// What the lines of a snippet are drawn with: their frame and gutter, how many lines stand before them, and their bytes with where these
-// begin.
+// What the lines of a snippet are drawn with: their frame and gutter, how many lines stand before them, and their
+// bytes with where these begin.
 #[derive(Clone, Copy)]
 struct Body<'a> {
     frame: Frame<'a>,
@@ -132,11 +133,15 @@ fn push_lines<'a, H: Highlighter>(
     requires sorted { AreSorted drawing.now.placed.now }
     requires at { IsAt drawing.now.placed.now body.now.start sweep.old.next sweep.old.running.items }
     requires small { body.now.start + length body.now.bytes.now < 2 ^ 64 }
-    ensures rows { OnOk result (PutsRows (leaves_plain H.is_blank highlighter.old) (texts_in body.now.start body.now.bytes.now (lines_from body.now.start body.now.bytes.now))
-        (λ pieces. lent_rows (settings_of body.now.frame.theme.now body.now.frame.options) body.now.frame.number_width body.now.gutter (map (drawn_of drawing.now.labels.now) drawing.now.placed.now)
-        body.now.start body.now.bytes.now (body.now.before + 1) pieces (lines_from body.now.start body.now.bytes.now)) page.old page.new) }
+    ensures rows { OnOk result (PutsRows (leaves_plain H.is_blank highlighter.old)
+        (texts_in body.now.start body.now.bytes.now (lines_from body.now.start body.now.bytes.now))
+        (λ pieces. lent_rows (settings_of body.now.frame.theme.now body.now.frame.options) body.now.frame.number_width
+        body.now.gutter (map (drawn_of drawing.now.labels.now) drawing.now.placed.now)
+        body.now.start body.now.bytes.now (body.now.before + 1) pieces (lines_from body.now.start body.now.bytes.now))
+        page.old page.new) }
     ensures stays { leaves_plain H.is_blank highlighter.new ≡ leaves_plain H.is_blank highlighter.old }
-    ensures at { OnOk result (IsAt drawing.now.placed.now (body.now.start + length body.now.bytes.now) sweep.new.next sweep.new.running.items) }
+    ensures at { OnOk result (IsAt drawing.now.placed.now (body.now.start + length body.now.bytes.now) sweep.new.next
+        sweep.new.running.items) }
 {
     let mut one = Vec::new(drawing.alloc);
     let mut before = body.before;
@@ -183,10 +188,14 @@ fn push_framed<'a, H: Highlighter>(
     requires sorted { AreSorted drawing.now.placed.now }
     requires at { IsAt drawing.now.placed.now lent.now.span.offset sweep.old.next sweep.old.running.items }
     requires small { lent.now.span.offset + length lent.now.bytes < 2 ^ 64 }
-    ensures rows { OnOk result (PutsRows (leaves_plain H.is_blank highlighter.old) (texts_in lent.now.span.offset lent.now.bytes (lines_of_contents lent.now))
-        (lent_snippet (settings_of drawing.now.theme.now drawing.now.options) (map (drawn_of drawing.now.labels.now) drawing.now.placed.now) lent.now (option_map place_at place)) page.old page.new) }
+    ensures rows { OnOk result (PutsRows (leaves_plain H.is_blank highlighter.old)
+        (texts_in lent.now.span.offset lent.now.bytes (lines_of_contents lent.now))
+        (lent_snippet (settings_of drawing.now.theme.now drawing.now.options)
+        (map (drawn_of drawing.now.labels.now) drawing.now.placed.now) lent.now (option_map place_at place))
+        page.old page.new) }
     ensures stays { leaves_plain H.is_blank highlighter.new ≡ leaves_plain H.is_blank highlighter.old }
-    ensures at { OnOk result (IsAt drawing.now.placed.now (lent.now.span.offset + length lent.now.bytes) sweep.new.next sweep.new.running.items) }
+    ensures at { OnOk result (IsAt drawing.now.placed.now (lent.now.span.offset + length lent.now.bytes) sweep.new.next
+        sweep.new.running.items) }
 {
     let start = lent.span().offset();
     let bytes = lent.data();
@@ -210,9 +219,10 @@ fn push_framed<'a, H: Highlighter>(
     Ok(())
 }
 
-/// The rows of a snippet from what its read lent: its frame, which points to this line and column, and its lines, in the pieces of the
-/// highlighter, which is restarted. The sweep over the labels comes to where the lent bytes end. `AllocError` where memory is refused, to
-/// the highlighter too, or an offset, a line's number or a column is past the largest `usize`.
+/// The rows of a snippet from what its read lent: its frame, which points to this line and column, and its lines, in
+/// the pieces of the highlighter, which is restarted. The sweep over the labels comes to where the lent bytes end.
+/// `AllocError` where memory is refused, to the highlighter too, or an offset, a line's number or a column is past
+/// the largest `usize`.
 pub fn push_snippet<'a, H: Highlighter>(
     drawing: &Drawing<'a>,
     highlighter: &mut Option<H>,
@@ -223,10 +233,14 @@ pub fn push_snippet<'a, H: Highlighter>(
 ) -> Result<(), AllocError>
     requires sorted { AreSorted drawing.now.placed.now }
     requires at { IsAt drawing.now.placed.now passage.old.at passage.old.sweep.next passage.old.sweep.running.items }
-    ensures rows { OnOk result (PutsRows (leaves_plain H.is_blank highlighter.old) (texts_in lent.now.span.offset lent.now.bytes (lines_of_contents lent.now))
-        (lent_snippet (settings_of drawing.now.theme.now drawing.now.options) (map (drawn_of drawing.now.labels.now) drawing.now.placed.now) lent.now (option_map place_at place)) page.old page.new) }
+    ensures rows { OnOk result (PutsRows (leaves_plain H.is_blank highlighter.old)
+        (texts_in lent.now.span.offset lent.now.bytes (lines_of_contents lent.now))
+        (lent_snippet (settings_of drawing.now.theme.now drawing.now.options)
+        (map (drawn_of drawing.now.labels.now) drawing.now.placed.now) lent.now (option_map place_at place))
+        page.old page.new) }
     ensures stays { leaves_plain H.is_blank highlighter.new ≡ leaves_plain H.is_blank highlighter.old }
-    ensures at { OnOk result (IsAt drawing.now.placed.now passage.new.at passage.new.sweep.next passage.new.sweep.running.items) }
+    ensures at { OnOk result (IsAt drawing.now.placed.now passage.new.at passage.new.sweep.next
+        passage.new.sweep.running.items) }
 {
     let start = lent.span().offset();
     let Some(end) = start.checked_add(lent.data().len()) else {

@@ -64,7 +64,8 @@ fn read_snippets<'a, 'b, S: SourceCode, H: Highlighter>(
 ) -> Result<Option<Page>, AllocError>
     requires order { map (λ read. label_at labels.now read.index) reads.now ≡ in_order labels.now }
     requires each { All (IsRead options.now.context_lines (S.source source.now) labels.now) reads.now }
-    ensures gives { IfOk result (λ page. MayGive (settings_of theme.now options.now) (S.source source.now) labels.now (leaves_plain H.is_blank highlighter.old) page) }
+    ensures gives { IfOk result (λ page. MayGive (settings_of theme.now options.now) (S.source source.now) labels.now
+        (leaves_plain H.is_blank highlighter.old) page) }
     ensures stays { leaves_plain H.is_blank highlighter.new ≡ leaves_plain H.is_blank highlighter.old }
 {
     let placed = placed(alloc, &theme.styles.highlights, labels, reads)?;
@@ -111,7 +112,8 @@ fn all_snippets<'b, S: SourceCode, H: Highlighter>(
     source: &S,
     labels: &'b [LabeledSpan],
 ) -> Result<Option<Page>, AllocError>
-    ensures gives { IfOk result (λ page. MayGive (settings_of theme.now options.now) (S.source source.now) labels.now (leaves_plain H.is_blank highlighter.old) page) }
+    ensures gives { IfOk result (λ page. MayGive (settings_of theme.now options.now) (S.source source.now) labels.now
+        (leaves_plain H.is_blank highlighter.old) page) }
     ensures stays { leaves_plain H.is_blank highlighter.new ≡ leaves_plain H.is_blank highlighter.old }
 {
     let order = by_offset(alloc, labels)?;
@@ -132,11 +134,12 @@ fn all_snippets<'b, S: SourceCode, H: Highlighter>(
     }
 }
 
-/// The rows of a diagnostic's snippets, whose labels are given over its source: frames, numbered lines, marks and the labels' texts; or
-/// the one row of the first label that is refused. A highlighter styles the lines: it is restarted for each snippet with the contents of
-/// the snippet's read, and is then given the text of each line in order, decoded. Fails with `Refused` where a group of labels with their
-/// own numbers of context lines or a label's place can't be read, which a source that always reads never does, and with `Memory` where
-/// memory is refused, to the highlighter too.
+/// The rows of a diagnostic's snippets, whose labels are given over its source: frames, numbered lines, marks and the
+/// labels' texts; or the one row of the first label that is refused. A highlighter styles the lines: it is restarted
+/// for each snippet with the contents of the snippet's read, and is then given the text of each line in order,
+/// decoded. Fails with `Refused` where a group of labels with their own numbers of context lines or a label's place
+/// can't be read, which a source that always reads never does, and with `Memory` where memory is refused, to the
+/// highlighter too.
 pub fn snippets<'b, S: SourceCode, H: Highlighter>(
     alloc: Global,
     highlighter: &mut Option<H>,
@@ -146,8 +149,10 @@ pub fn snippets<'b, S: SourceCode, H: Highlighter>(
     labels: &'b [LabeledSpan],
 ) -> Result<Page, RenderError>
     ensures gives { MatchResult result
-        (λ page. MayGive (settings_of theme.now options.now) (S.source source.now) labels.now (leaves_plain H.is_blank highlighter.old) (Some page))
-        (λ e. RefusesWith (settings_of theme.now options.now) (S.source source.now) labels.now (leaves_plain H.is_blank highlighter.old) e) }
+        (λ page. MayGive (settings_of theme.now options.now) (S.source source.now) labels.now
+        (leaves_plain H.is_blank highlighter.old) (Some page))
+        (λ e. RefusesWith (settings_of theme.now options.now) (S.source source.now) labels.now
+        (leaves_plain H.is_blank highlighter.old) e) }
     ensures stays { leaves_plain H.is_blank highlighter.new ≡ leaves_plain H.is_blank highlighter.old }
 {
     match all_snippets(alloc, highlighter, theme, options, source, labels) {

@@ -28,7 +28,8 @@ pub fn anchor_of(mark: &Mark) -> usize
 
 // The character at a mark's anchor.
 fn middle_of(sheet: &Sheet, mark: &Mark) -> char
-    ensures { result ≡ (if is_empty (drawn_of sheet.now.labels.now mark.now.label) then (settings sheet.now).characters.uarrow
+    ensures { result ≡ (if is_empty (drawn_of sheet.now.labels.now mark.now.label)
+        then (settings sheet.now).characters.uarrow
         else code_with_parts (settings sheet.now).characters (drawn_of sheet.now.labels.now mark.now.label).parts) }
 {
     let characters = &sheet.theme.characters;
@@ -44,7 +45,9 @@ fn middle_of(sheet: &Sheet, mark: &Mark) -> char
 // A mark: `──┬──`.
 fn push_mark(page: &mut Page, sheet: &Sheet, mark: &Mark) -> Result<(), AllocError>
     requires { mark.now.from < mark.now.until }
-    ensures { OnOk result (page.new ≡ page.old ++ told_run (mark_run (settings sheet.now).width (settings sheet.now).characters (mark_of sheet.now.labels.now mark.now))) }
+    ensures { OnOk result (page.new ≡ page.old
+        ++ told_run (mark_run (settings sheet.now).width (settings sheet.now).characters
+        (mark_of sheet.now.labels.now mark.now))) }
 {
     let line = sheet.theme.characters.underline;
     let anchor = anchor_of(mark);
@@ -58,7 +61,9 @@ fn push_mark(page: &mut Page, sheet: &Sheet, mark: &Mark) -> Result<(), AllocErr
 /// The marks, each behind the spaces before it: `  ──┬── ▲ ─┬─`. `AllocError` where memory is refused.
 pub fn push_marks(page: &mut Page, sheet: &Sheet, marks: &[Mark]) -> Result<(), AllocError>
     requires { All (λ mark. mark.from < mark.until) marks.now }
-    ensures { OnOk result (page.new ≡ page.old ++ told (mark_runs (settings sheet.now).width (settings sheet.now).characters 0 (map (mark_of sheet.now.labels.now) marks.now))) }
+    ensures { OnOk result (page.new ≡ page.old
+        ++ told (mark_runs (settings sheet.now).width (settings sheet.now).characters 0
+        (map (mark_of sheet.now.labels.now) marks.now))) }
 {
     let mut reached: usize = 0;
     for mark in marks {

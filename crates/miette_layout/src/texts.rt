@@ -50,7 +50,9 @@ fn push_leads(
     column: usize,
 ) -> Result<(), AllocError>
     requires { All (λ mark. mark.from < mark.until) earlier.now }
-    ensures { OnOk result (page.new ≡ page.old ++ told (lead_runs (settings sheet.now).width (settings sheet.now).characters 0 (map (mark_of sheet.now.labels.now) earlier.now) column)) }
+    ensures { OnOk result (page.new ≡ page.old
+        ++ told (lead_runs (settings sheet.now).width (settings sheet.now).characters 0
+        (map (mark_of sheet.now.labels.now) earlier.now) column)) }
 {
     let bar = sheet.theme.characters.vbar;
     let mut reached: usize = 0;
@@ -79,7 +81,9 @@ fn push_text_row(
 ) -> Result<(), AllocError>
     requires earlier { All (λ mark. mark.from < mark.until) earlier.now }
     requires own { mark.now.from < mark.now.until }
-    ensures { OnOk result (page.new ≡ page.old ++ told_rows (text_line sheet.now (map (mark_of sheet.now.labels.now) earlier.now) (mark_of sheet.now.labels.now mark.now) (front.0 ∷ front.1 ∷ front.2 ∷ 32 ∷ []) (chars part.now) ∷ [])) }
+    ensures { OnOk result (page.new ≡ page.old
+        ++ told_rows (text_line sheet.now (map (mark_of sheet.now.labels.now) earlier.now)
+        (mark_of sheet.now.labels.now mark.now) (front.0 ∷ front.1 ∷ front.2 ∷ 32 ∷ []) (chars part.now) ∷ [])) }
 {
     let anchor = anchor_of(mark);
     push_before_marks(page, sheet)?;
@@ -103,7 +107,8 @@ fn push_more_parts(
     requires earlier { All (λ mark. mark.from < mark.until) earlier.now }
     requires own { mark.now.from < mark.now.until }
     ensures { OnOk result (page.new ≡ page.old ++ told_rows (map
-        (text_line sheet.now (map (mark_of sheet.now.labels.now) earlier.now) (mark_of sheet.now.labels.now mark.now) (beside (settings sheet.now).characters))
+        (text_line sheet.now (map (mark_of sheet.now.labels.now) earlier.now) (mark_of sheet.now.labels.now mark.now)
+        (beside (settings sheet.now).characters))
         (cut_at_lf (chars text.now)))) }
 {
     let front = Front(' ', ' ', sheet.theme.characters.vbar);
@@ -116,7 +121,8 @@ fn push_more_parts(
     Ok(())
 }
 
-// The rows of a mark's text, where these marks stand before it: `╰── text`, or `╰─┤ text` and a row for each further part.
+// The rows of a mark's text, where these marks stand before it: `╰── text`, or `╰─┤ text` and a row for each further
+// part.
 fn push_text(
     page: &mut Page,
     sheet: &Sheet,
@@ -126,7 +132,9 @@ fn push_text(
     requires earlier { All (λ mark. mark.from < mark.until) earlier.now }
     requires own { mark.now.from < mark.now.until }
     ensures { OnOk result (page.new ≡ page.old ++ told_rows (before_each (before_marks sheet.now)
-        (rows_of_parts (settings sheet.now).width (settings sheet.now).characters (map (mark_of sheet.now.labels.now) earlier.now) (mark_of sheet.now.labels.now mark.now) (drawn_of sheet.now.labels.now mark.now.label).parts))) }
+        (rows_of_parts (settings sheet.now).width (settings sheet.now).characters
+        (map (mark_of sheet.now.labels.now) earlier.now) (mark_of sheet.now.labels.now mark.now)
+        (drawn_of sheet.now.labels.now mark.now.label).parts))) }
 {
     let Some(text) = text_of(sheet.labels, &mark.label) else {
         return Ok(());
@@ -148,7 +156,8 @@ fn push_text(
 pub fn push_texts(page: &mut Page, sheet: &Sheet, marks: &[Mark]) -> Result<(), AllocError>
     requires { All (λ mark. mark.from < mark.until) marks.now }
     ensures { OnOk result (page.new ≡ page.old ++ told_rows (before_each (before_marks sheet.now)
-        (rows_below (settings sheet.now).width (settings sheet.now).characters [] (map (mark_of sheet.now.labels.now) marks.now)))) }
+        (rows_below (settings sheet.now).width (settings sheet.now).characters []
+        (map (mark_of sheet.now.labels.now) marks.now)))) }
 {
     let mut place = marks.len();
     while place > 0 {

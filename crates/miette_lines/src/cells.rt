@@ -1,8 +1,10 @@
 //! The characters of a line's text, with their bytes and their columns.
 
-ghost use Rattle.std.specs.Prelude.{◌≡◌, ◌<◌, ◌≤◌, ◌+◌, ◌-◌, ◌%◌, ◌^◌, ℕ, List, [], ◌∷◌, map, length, false, IfOk, MatchOption};
+ghost use Rattle.std.specs.Prelude.{◌≡◌, ◌<◌, ◌≤◌, ◌+◌, ◌-◌, ◌%◌, ◌^◌, ℕ, List, [], ◌∷◌, map, length, false, IfOk};
+ghost use Rattle.std.specs.Prelude.{MatchOption};
 ghost use Rattle.bstr.specs.Utf8.{decoded, or_replacement};
-ghost use Rattle.miette_lines.specs.rules.Cells.{Cell as TextCell, cells_from, characters, is_hidden, hides_next, width_at};
+ghost use Rattle.miette_lines.specs.rules.Cells.{Cell as TextCell, cells_from, characters, is_hidden, hides_next};
+ghost use Rattle.miette_lines.specs.rules.Cells.{width_at};
 ghost use Rattle.miette_lines.specs.views.Walking.{cell_of};
 ghost use Rattle.miette_lines.specs.views.Given.{width_of};
 
@@ -10,7 +12,8 @@ use std::alloc::AllocError;
 use std::marker::Model;
 use unicode_width::UnicodeWidthChar;
 
-/// A character of a line's text: its bytes from one offset of the source up to another, its columns from one up to another.
+/// A character of a line's text: its bytes from one offset of the source up to another, its columns from one up to
+/// another.
 /// The columns are counted from where the text begins. A tab is a cell that prints as spaces.
 #[derive(Clone, Copy, Debug, PartialEq, Eq, Drop)]
 pub struct Cell {
@@ -119,7 +122,8 @@ impl<'a> Walk<'a> {
 
     /// The next cell, if there is one. Columns past the largest `usize` are refused as want of memory.
     pub fn next(&mut self) -> Result<Option<Cell>, AllocError>
-        ensures { IfOk result (λ next. MatchOption next ((self.old ≡ []) × (self.new ≡ [])) (λ cell. self.old ≡ cell_of cell ∷ self.new)) }
+        ensures { IfOk result (λ next. MatchOption next ((self.old ≡ []) × (self.new ≡ []))
+            (λ cell. self.old ≡ cell_of cell ∷ self.new)) }
     {
         if self.rest.is_empty() {
             return Ok(None);

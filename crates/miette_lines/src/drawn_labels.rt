@@ -33,8 +33,8 @@ fn has_text(labels: &[LabeledSpan], index: usize) -> bool
     }
 }
 
-// Where a label's drawn end lies: its own end, cut to the end of what its read lent. No read tells where the source ends, but what a
-// label's read lent ends there, or where the label does or later.
+// Where a label's drawn end lies: its own end, cut to the end of what its read lent. No read tells where the source
+// ends, but what a label's read lent ends there, or where the label does or later.
 fn drawn_end(read: &ReadLabel<'_>) -> Result<usize, AllocError>
     ensures { IfOk result (λ end. end ≡ end_drawn read.now) }
 {
@@ -42,8 +42,8 @@ fn drawn_end(read: &ReadLabel<'_>) -> Result<usize, AllocError>
     Ok(end.max(read.span.offset()))
 }
 
-/// The labels that were read, in the same order, as they are drawn: each with its style by its place in that order. `AllocError` where
-/// memory is refused, or the span of a label or of its read ends past the largest `usize`.
+/// The labels that were read, in the same order, as they are drawn: each with its style by its place in that order.
+/// `AllocError` where memory is refused, or the span of a label or of its read ends past the largest `usize`.
 pub fn placed(
     alloc: Global,
     styles: &[Style],

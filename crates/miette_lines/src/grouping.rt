@@ -61,8 +61,10 @@ fn extended<'a, S: SourceCode>(
     requires before { IsLent context (S.source source.now) before.now.span before.now.contents }
     requires label { IsLent context (S.source source.now) label.now.span label.now.contents }
     ensures { IfOk result (λ r. MatchOption r
-        (joins_before context (S.source source.now) before.now.span label.now.span ≡ true → (S.source source.now).always_reads ≡ false)
-        (λ group. (joins_before context (S.source source.now) before.now.span label.now.span ≡ true) × (group.span ≡ joined before.now.span label.now.span)
+        (joins_before context (S.source source.now) before.now.span label.now.span ≡ true →
+        (S.source source.now).always_reads ≡ false)
+        (λ group. (joins_before context (S.source source.now) before.now.span label.now.span ≡ true)
+        × (group.span ≡ joined before.now.span label.now.span)
         × IsLent context (S.source source.now) group.span group.contents)) }
 {
     if !touches(&before.contents, &label.contents) {
@@ -75,8 +77,8 @@ fn extended<'a, S: SourceCode>(
     }
 }
 
-// The groups of labels that come by offset, all read with so many lines of context. A label joins the group before it where their lines
-// touch; that group is read again, and where this read fails the two stay apart.
+// The groups of labels that come by offset, all read with so many lines of context. A label joins the group before it
+// where their lines touch; that group is read again, and where this read fails the two stay apart.
 fn joined_groups<'a, S: SourceCode>(
     alloc: Global,
     source: &'a S,
@@ -84,7 +86,8 @@ fn joined_groups<'a, S: SourceCode>(
     labels: &[ReadLabel<'a>],
 ) -> Result<Vec<Group<'a>>, AllocError>
     requires { All (λ label. IsLent context (S.source source.now) label.span label.contents) labels.now }
-    ensures { IfOk result (λ groups. AreJoined context (S.source source.now) (map (λ label. label.span) labels.now) groups.items) }
+    ensures { IfOk result (λ groups. AreJoined context (S.source source.now) (map (λ label. label.span) labels.now)
+        groups.items) }
 {
     let mut done = Vec::new(alloc);
     let Some((first, rest)) = labels.split_first() else {
@@ -114,9 +117,11 @@ fn own_group<'a>(label: &ReadLabel<'a>) -> Result<Group<'a>, AllocError>
 
 /// The groups of labels that were read by offset; none where the read of one fails.
 ///
-/// A label joins the group before it where their lines touch; that group is read again, and where this read fails the two stay apart.
-/// Where some label has its own number of context lines, the labels are joined by where the data of their reads begin, and each group's
-/// bytes are read again without context. `AllocError` where memory is refused, or a span ends past the largest `usize`.
+/// A label joins the group before it where their lines touch; that group is read again, and where this read fails the
+/// two stay apart.
+/// Where some label has its own number of context lines, the labels are joined by where the data of their reads
+/// begin, and each group's bytes are read again without context. `AllocError` where memory is refused, or a span ends
+/// past the largest `usize`.
 pub fn groups<'a, S: SourceCode>(
     alloc: Global,
     source: &'a S,
@@ -126,7 +131,8 @@ pub fn groups<'a, S: SourceCode>(
 ) -> Result<Option<Vec<Group<'a>>>, AllocError>
     requires order { map (λ read. label_at labels.now read.index) reads.now ≡ in_order labels.now }
     requires each { All (IsRead context (S.source source.now) labels.now) reads.now }
-    ensures { IfOk result (λ groups. AreGrouped context (S.source source.now) (in_order labels.now) (option_map (λ v. v.items) groups)) }
+    ensures { IfOk result (λ groups. AreGrouped context (S.source source.now) (in_order labels.now)
+        (option_map (λ v. v.items) groups)) }
 {
     if some_own(labels) {
         let groups = own_groups(alloc, source, reads)?;

@@ -1,6 +1,7 @@
 //! The lines of a snippet, each with the labels that lie on it.
 
-ghost use Rattle.std.specs.Prelude.{◌≡◌, ◌+◌, ◌-◌, ◌<◌, ◌≤◌, ◌∷◌, ◌^◌, ◌==◌, ◌||◌, ◌&&◌, not, ℕ, List, map, drop, position, slice_index, length, IfOk, OnOk};
+ghost use Rattle.std.specs.Prelude.{◌≡◌, ◌+◌, ◌-◌, ◌<◌, ◌≤◌, ◌∷◌, ◌^◌, ◌==◌, ◌||◌, ◌&&◌, not, ℕ, List, map, drop};
+ghost use Rattle.std.specs.Prelude.{position, slice_index, length, IfOk, OnOk};
 ghost use Rattle.std.specs.List.{All};
 ghost use Rattle.miette_protocol.specs.rules.Lines.{lines_from};
 ghost use Rattle.miette_lines.specs.views.TextLines.{line_of_text};
@@ -48,7 +49,9 @@ fn first_line(bytes: &[u8]) -> FirstLine
     ensures inside { result.text ≤ result.size }
     ensures some { 0 < result.size }
     ensures fits { result.size ≤ length bytes.now }
-    ensures parted { (at : ℕ) → lines_from at bytes.now ≡ record { start = at; text_end = at + result.text; end = at + result.size } ∷ lines_from (at + result.size) (drop result.size bytes.now) }
+    ensures parted { (at : ℕ) → lines_from at bytes.now
+        ≡ record { start = at; text_end = at + result.text; end = at + result.size }
+        ∷ lines_from (at + result.size) (drop result.size bytes.now) }
 {
     let Some(text) = first_end(bytes) else {
         return FirstLine {
@@ -68,7 +71,8 @@ fn first_line(bytes: &[u8]) -> FirstLine
 pub fn line_at(bytes: &[u8], start: usize, at: usize) -> LineOfText
     requires inside { at < length bytes.now }
     requires small { start + length bytes.now < 2 ^ 64 }
-    ensures parted { lines_from (start + at) (drop at bytes.now) ≡ line_of_text result ∷ lines_from result.end (drop (result.end - start) bytes.now) }
+    ensures parted { lines_from (start + at) (drop at bytes.now)
+        ≡ line_of_text result ∷ lines_from result.end (drop (result.end - start) bytes.now) }
     ensures from { result.start ≡ start + at }
     ensures text { result.start ≤ result.text_end }
     ensures ending { result.text_end ≤ result.end }
@@ -83,8 +87,9 @@ pub fn line_at(bytes: &[u8], start: usize, at: usize) -> LineOfText
     }
 }
 
-/// The lines of some bytes of a source, which begin at this offset, with the labels that lie on each. The sweep comes to where they end.
-/// `AllocError` where memory is refused, or the bytes end past the largest `usize`; where the sweep then is, is open.
+/// The lines of some bytes of a source, which begin at this offset, with the labels that lie on each. The sweep comes
+/// to where they end. `AllocError` where memory is refused, or the bytes end past the largest `usize`; where the
+/// sweep then is, is open.
 pub fn swept_lines(
     alloc: Global,
     bytes: &[u8],
@@ -127,7 +132,8 @@ pub struct Extent {
     pub most: usize,
 }
 
-/// The lines of some bytes of a source, which begin at this offset where the sweep is, are counted. `AllocError` where memory is refused.
+/// The lines of some bytes of a source, which begin at this offset where the sweep is, are counted. `AllocError`
+/// where memory is refused.
 pub fn extent_of(
     alloc: Global,
     bytes: &[u8],

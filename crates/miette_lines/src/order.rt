@@ -20,7 +20,8 @@ pub struct Turn {
 // The labels in the order as given.
 fn turns(alloc: Global, labels: &[LabeledSpan]) -> Result<Vec<Turn>, AllocError>
     ensures labels { IfOk result (λ v. map (λ turn. label_at labels.now turn.index) v.items ≡ labels.now) }
-    ensures offsets { IfOk result (λ v. All (λ turn. turn.offset ≡ (label_at labels.now turn.index).span.offset) v.items) }
+    ensures offsets { IfOk result (λ v. All (λ turn. turn.offset ≡ (label_at labels.now turn.index).span.offset)
+        v.items) }
     ensures inside { IfOk result (λ v. All (λ turn. turn.index < length labels.now) v.items) }
 {
     let mut turns = Vec::new(alloc);

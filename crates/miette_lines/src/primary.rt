@@ -79,7 +79,8 @@ fn primary(
     Ok(first)
 }
 
-// Of labels by offset those that begin in a span or where it ends, found by halving: the span's primary label is among them.
+// Of labels by offset those that begin in a span or where it ends, found by halving: the span's primary label is
+// among them.
 pub fn near<'r, 'a>(
     own: bool,
     span: &SourceSpan,
@@ -95,9 +96,10 @@ pub fn near<'r, 'a>(
     Ok(&reads[first.min(after)..after])
 }
 
-/// Where the primary label of a group with this span begins, by a read without context. A label belongs to the group where its span lies
-/// within the group's; or, where labels have their `own` numbers of context lines, where it begins in the group's bytes or at their end.
-/// `AllocError` where the group's span or a label's ends past the largest `usize`; a read that fails is the place `Unread`.
+/// Where the primary label of a group with this span begins, by a read without context. A label belongs to the group
+/// where its span lies within the group's; or, where labels have their `own` numbers of context lines, where it
+/// begins in the group's bytes or at their end. `AllocError` where the group's span or a label's ends past the
+/// largest `usize`; a read that fails is the place `Unread`.
 pub fn place_of<S: SourceCode>(
     source: &S,
     own: bool,

@@ -12,7 +12,8 @@ use miette_protocol::protocol::{LabeledSpan, SourceSpan};
 use miette_protocol::source::{MietteSpanContents, SourceCode};
 use std::alloc::{AllocError, Global};
 
-/// A label that was read: its number in the list as given, its span, whether it is marked as primary, and what the read lent.
+/// A label that was read: its number in the list as given, its span, whether it is marked as primary, and what the
+/// read lent.
 #[derive(Debug, Drop)]
 pub struct ReadLabel<'a> {
     /// Its number in the list as given, counted from 0.
@@ -75,7 +76,8 @@ fn lines_around(context: usize, own: bool, label: &LabeledSpan) -> usize
     }
 }
 
-/// Reads the labels in this order, each with its own number of context lines or with this one, up to the first one that is refused.
+/// Reads the labels in this order, each with its own number of context lines or with this one, up to the first one
+/// that is refused.
 /// Where some label has its own number, this one counts as at least 1. `AllocError` where memory is refused.
 pub fn read_labels<'a, S: SourceCode>(
     alloc: Global,
@@ -85,7 +87,8 @@ pub fn read_labels<'a, S: SourceCode>(
     order: &[Turn],
 ) -> Result<ReadLabels<'a>, AllocError>
     requires { All (λ turn. turn.index < length labels.now) order.now }
-    ensures { IfOk result (λ read. AreRead context (S.source source.now) labels.now (map (λ turn. label_at labels.now turn.index) order.now) read) }
+    ensures { IfOk result (λ read. AreRead context (S.source source.now) labels.now
+        (map (λ turn. label_at labels.now turn.index) order.now) read) }
 {
     let own = some_own(labels);
     let mut reads = Vec::with_capacity(alloc, order.len())?;

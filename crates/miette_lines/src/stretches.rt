@@ -61,7 +61,8 @@ fn read_all<'a, S: SourceCode>(
 ) -> Result<Option<Vec<Group<'a>>>, AllocError>
     requires { All (λ span. IsAccepted (S.source source.now).bytes span) spans.now }
     ensures { IfOk result (λ r. MatchOption r (((S.source source.now).always_reads ≡ false) × (spans.now ≢ []))
-        (λ groups. (map (λ group. group.span) groups.items ≡ spans.now) × All (λ group. IsLent 0 (S.source source.now) group.span group.contents) groups.items)) }
+        (λ groups. (map (λ group. group.span) groups.items ≡ spans.now)
+        × All (λ group. IsLent 0 (S.source source.now) group.span group.contents) groups.items)) }
 {
     let mut groups = Vec::with_capacity(alloc, spans.len())?;
     for span in spans {
@@ -76,16 +77,19 @@ fn read_all<'a, S: SourceCode>(
     Ok(Some(groups))
 }
 
-/// The groups of labels that were read: going by where the bytes that they lent begin, a label joins the group before it where these
-/// begin at or before that group's end. Each group's bytes are read again; none where a read fails.
+/// The groups of labels that were read: going by where the bytes that they lent begin, a label joins the group before
+/// it where these begin at or before that group's end. Each group's bytes are read again; none where a read fails.
 pub(crate) fn own_groups<'a, S: SourceCode>(
     alloc: Global,
     source: &'a S,
     reads: &[ReadLabel<'_>],
 ) -> Result<Option<Vec<Group<'a>>>, AllocError>
     requires { All (λ read. IsAccepted (S.source source.now).bytes read.contents.span) reads.now }
-    ensures { IfOk result (λ r. MatchOption r (((S.source source.now).always_reads ≡ false) × (joined_stretches (by_begin (map (λ read. read.contents.span) reads.now)) ≢ []))
-        (λ groups. (map (λ group. group.span) groups.items ≡ joined_stretches (by_begin (map (λ read. read.contents.span) reads.now)))
+    ensures { IfOk result (λ r. MatchOption r
+        (((S.source source.now).always_reads ≡ false)
+        × (joined_stretches (by_begin (map (λ read. read.contents.span) reads.now)) ≢ []))
+        (λ groups. (map (λ group. group.span) groups.items
+        ≡ joined_stretches (by_begin (map (λ read. read.contents.span) reads.now)))
         × All (λ group. IsLent 0 (S.source source.now) group.span group.contents) groups.items)) }
 {
     let spans = stretches_by_begin(alloc, reads)?;

@@ -2,7 +2,8 @@
 
 ghost use Rattle.std.specs.Prelude.{◌≡◌, ◌<◌, ◌≤◌, nat_lt, ℕ, List, [], length, take, OnOk, IfOk};
 ghost use Rattle.std.specs.List.{filter};
-ghost use Rattle.miette_lines.specs.views.Sweeping.{label_of, passes, is_one, is_multi, IsAt, IsOn, AreSorted, line_of_bounds};
+ghost use Rattle.miette_lines.specs.views.Sweeping.{label_of, passes, is_one, is_multi, IsAt, IsOn, AreSorted};
+ghost use Rattle.miette_lines.specs.views.Sweeping.{line_of_bounds};
 
 use miette_style::style::Style;
 use std::alloc::{AllocError, Global};
@@ -83,8 +84,8 @@ impl Sweep {
         })
     }
 
-    /// Goes on to the labels of the next line: `running` are then those of several lines that lie on it, and `one` gets those that lie on
-    /// it alone. `AllocError` where memory is refused; where the sweep then is, is open.
+    /// Goes on to the labels of the next line: `running` are then those of several lines that lie on it, and `one`
+    /// gets those that lie on it alone. `AllocError` where memory is refused; where the sweep then is, is open.
     pub fn enter(
         &mut self,
         labels: &[Placed],
@@ -131,8 +132,8 @@ fn copied(alloc: Global, labels: &[Placed]) -> Result<Vec<Placed>, AllocError>
     Ok(copy)
 }
 
-/// Goes on to the end of the next line, and answers which labels lie on it. `AllocError` where memory is refused; where the sweep then is,
-/// is open.
+/// Goes on to the end of the next line, and answers which labels lie on it. `AllocError` where memory is refused;
+/// where the sweep then is, is open.
 pub fn advance(
     alloc: Global,
     labels: &[Placed],

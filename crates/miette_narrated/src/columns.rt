@@ -26,7 +26,8 @@ pub(crate) fn push_decoded(out: &mut String, bytes: &[u8]) -> Result<(), AllocEr
 
 /// The column behind so many bytes of a line's text; past the largest `usize` it is refused as want of memory.
 ///
-/// In a text of printable ASCII characters each byte is a column, and no walk is made. Else the walk begins at the last place of the text before.
+/// In a text of printable ASCII characters each byte is a column, and no walk is made. Else the walk begins at the
+/// last place of the text before.
 pub(crate) fn column(
     alloc: Global,
     text: LineText<'_, '_>,

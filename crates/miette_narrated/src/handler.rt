@@ -38,7 +38,11 @@ impl Model for NarratableReportHandler {
 
     ghost Value = { Settings };
 
-    ghost view = { λ it. record { chain = it.cause_chain; context = it.context_lines; footer = option_map string_bytes it.footer } };
+    ghost view = { λ it. record {
+      chain = it.cause_chain;
+      context = it.context_lines;
+      footer = option_map string_bytes it.footer;
+    } };
 }
 
 /// A clone has the same settings; `AllocError` where memory is refused.
@@ -138,16 +142,24 @@ impl NarratableReportHandler {
         }
     }
 
-    /// Appends the narrated text of a report. After an error `out` is as before: `Memory` where memory was refused, `Refused` where a
-    /// label that is told isn't accepted, or where a source that doesn't always read refused one, or a group of labels of which one has
-    /// its own number of context lines, which is read again.
+    /// Appends the narrated text of a report. After an error `out` is as before: `Memory` where memory was refused,
+    /// `Refused` where a label that is told isn't accepted, or where a source that doesn't always read refused one,
+    /// or a group of labels of which one has its own number of context lines, which is read again.
     pub fn render_report(&self, report: &Report, out: &mut String) -> Result<(), RenderError>
         // a text for answers that the sources can have given
-        ensures text { OnOk result (Appends self.now (tree_of ⟦<Box<dyn Diagnostic> as Diagnostic>⟧.meaning ⟦<Box<dyn SourceCode> as SourceCode>⟧.source report.now) (string_bytes out.old) (string_bytes out.new)) }
+        ensures text { OnOk result (Appends self.now
+            (tree_of ⟦<Box<dyn Diagnostic> as Diagnostic>⟧.meaning ⟦<Box<dyn SourceCode> as SourceCode>⟧.source
+            report.now) (string_bytes out.old) (string_bytes out.new)) }
         // where every source that labels are read from always reads, there is one such text
-        ensures only { OnOk result (report_reads (tree_of ⟦<Box<dyn Diagnostic> as Diagnostic>⟧.meaning ⟦<Box<dyn SourceCode> as SourceCode>⟧.source report.now) ≡ true →
-            string_bytes out.new ≡ string_bytes out.old ++ narrated_text self.now (tree_of ⟦<Box<dyn Diagnostic> as Diagnostic>⟧.meaning ⟦<Box<dyn SourceCode> as SourceCode>⟧.source report.now) unlisted) }
-        ensures refused { (result ≡ Err RenderError.Refused) → report_accepted (tree_of ⟦<Box<dyn Diagnostic> as Diagnostic>⟧.meaning ⟦<Box<dyn SourceCode> as SourceCode>⟧.source report.now) ≡ false }
+        ensures only { OnOk result (report_reads
+            (tree_of ⟦<Box<dyn Diagnostic> as Diagnostic>⟧.meaning ⟦<Box<dyn SourceCode> as SourceCode>⟧.source
+            report.now) ≡ true →
+            string_bytes out.new ≡ string_bytes out.old
+            ++ narrated_text self.now (tree_of ⟦<Box<dyn Diagnostic> as Diagnostic>⟧.meaning
+            ⟦<Box<dyn SourceCode> as SourceCode>⟧.source report.now) unlisted) }
+        ensures refused { (result ≡ Err RenderError.Refused) →
+            report_accepted (tree_of ⟦<Box<dyn Diagnostic> as Diagnostic>⟧.meaning
+            ⟦<Box<dyn SourceCode> as SourceCode>⟧.source report.now) ≡ false }
         ensures err { OnErr result (string_bytes out.new ≡ string_bytes out.old) }
     {
         self.render(report, out)
@@ -159,10 +171,13 @@ impl NarratableReportHandler {
         report: &Report<D, S>,
         out: &mut String,
     ) -> Result<(), RenderError>
-        ensures text { OnOk result (Appends self.now (tree_of D.meaning S.source report.now) (string_bytes out.old) (string_bytes out.new)) }
+        ensures text { OnOk result (Appends self.now (tree_of D.meaning S.source report.now) (string_bytes out.old)
+            (string_bytes out.new)) }
         ensures only { OnOk result (report_reads (tree_of D.meaning S.source report.now) ≡ true →
-            string_bytes out.new ≡ string_bytes out.old ++ narrated_text self.now (tree_of D.meaning S.source report.now) unlisted) }
-        ensures refused { (result ≡ Err RenderError.Refused) → report_accepted (tree_of D.meaning S.source report.now) ≡ false }
+            string_bytes out.new ≡ string_bytes out.old
+            ++ narrated_text self.now (tree_of D.meaning S.source report.now) unlisted) }
+        ensures refused { (result ≡ Err RenderError.Refused) →
+            report_accepted (tree_of D.meaning S.source report.now) ≡ false }
         ensures err { OnErr result (string_bytes out.new ≡ string_bytes out.old) }
     {
         let text = narrated(*out.allocator(), self.settings(), report)?;

@@ -1,7 +1,10 @@
 //! The rows of labels under a line.
 
 ghost use Rattle.std.specs.Prelude.{◌≡◌, ◌++◌, IfOk, OnOk, string_bytes, option_copied};
-ghost use Rattle.miette_narrated.specs.rules.Labels.{row, begins, begins_within, reaches_line, ends_before, first_number, last_number, columns_text, text_behind, whole_row, start_row, end_row, begun_row, reaching_row, label_row, label_rows};
+ghost use Rattle.miette_narrated.specs.rules.Labels.{row, begins, begins_within, reaches_line, ends_before};
+ghost use Rattle.miette_narrated.specs.rules.Labels.{first_number, last_number, columns_text, text_behind, whole_row};
+ghost use Rattle.miette_narrated.specs.rules.Labels.{start_row, end_row, begun_row, reaching_row, label_row};
+ghost use Rattle.miette_narrated.specs.rules.Labels.{label_rows};
 ghost use Rattle.std.specs.List.{All};
 ghost use Rattle.miette_narrated.specs.steps.Ends.{labels_of};
 ghost use Rattle.miette_narrated.specs.views.Made.{told_of, all_told, shown_of};
@@ -39,7 +42,8 @@ fn reaches(it: &ShownLine<'_, '_>, label: &Placed) -> bool
     it.line.start <= label.after
 }
 
-/// Whether a label ends before the text's end; on a snippet's last line also one does that begins in the data or where they end.
+/// Whether a label ends before the text's end; on a snippet's last line also one does that begins in the data or
+/// where they end.
 fn ends_before(it: &ShownLine<'_, '_>, label: &Placed) -> bool
     ensures { result ≡ ends_before (shown_of it.now) label.now.start label.now.after }
 {
@@ -71,7 +75,8 @@ fn last_number(alloc: Global, it: &ShownLine<'_, '_>, label: &Placed) -> Result<
 
 /// Appends a label's text behind a colon, where there is one, and a line feed.
 fn push_end(out: &mut String, text: Option<&str>) -> Result<(), AllocError>
-    ensures { OnOk result (string_bytes out.new ≡ string_bytes out.old ++ row (text_behind (option_copied text.entry))) }
+    ensures { OnOk result (string_bytes out.new
+        ≡ string_bytes out.old ++ row (text_behind (option_copied text.entry))) }
 {
     if let Some(text) = text {
         out.push_str(": ")?;
@@ -101,7 +106,8 @@ fn push_whole(
     labels: &[LabeledSpan],
     label: &Placed,
 ) -> Result<(), AllocError>
-    ensures { OnOk result (string_bytes out.new ≡ string_bytes out.old ++ whole_row (shown_of it.now) (told_of labels.now label.now)) }
+    ensures { OnOk result (string_bytes out.new
+        ≡ string_bytes out.old ++ whole_row (shown_of it.now) (told_of labels.now label.now)) }
 {
     let first = first_number(alloc, it, label)?;
     let last = last_number(alloc, it, label)?;
@@ -119,7 +125,8 @@ fn push_start(
     labels: &[LabeledSpan],
     label: &Placed,
 ) -> Result<(), AllocError>
-    ensures { OnOk result (string_bytes out.new ≡ string_bytes out.old ++ start_row (shown_of it.now) (told_of labels.now label.now)) }
+    ensures { OnOk result (string_bytes out.new
+        ≡ string_bytes out.old ++ start_row (shown_of it.now) (told_of labels.now label.now)) }
 {
     let first = first_number(alloc, it, label)?;
     push_number(out, "    label starting at line ", it.number)?;
@@ -136,7 +143,8 @@ fn push_ending(
     labels: &[LabeledSpan],
     label: &Placed,
 ) -> Result<(), AllocError>
-    ensures { OnOk result (string_bytes out.new ≡ string_bytes out.old ++ end_row (shown_of it.now) (told_of labels.now label.now)) }
+    ensures { OnOk result (string_bytes out.new
+        ≡ string_bytes out.old ++ end_row (shown_of it.now) (told_of labels.now label.now)) }
 {
     let last = last_number(alloc, it, label)?;
     push_number(out, "    label ending at line ", it.number)?;
@@ -153,7 +161,8 @@ fn push_begun(
     labels: &[LabeledSpan],
     label: &Placed,
 ) -> Result<(), AllocError>
-    ensures { OnOk result (string_bytes out.new ≡ string_bytes out.old ++ begun_row (shown_of it.now) (told_of labels.now label.now)) }
+    ensures { OnOk result (string_bytes out.new
+        ≡ string_bytes out.old ++ begun_row (shown_of it.now) (told_of labels.now label.now)) }
 {
     if ends_before(it, label) {
         push_whole(alloc, out, it, labels, label)?;
@@ -174,7 +183,8 @@ fn push_reaching(
     labels: &[LabeledSpan],
     label: &Placed,
 ) -> Result<(), AllocError>
-    ensures { OnOk result (string_bytes out.new ≡ string_bytes out.old ++ reaching_row (shown_of it.now) (told_of labels.now label.now)) }
+    ensures { OnOk result (string_bytes out.new
+        ≡ string_bytes out.old ++ reaching_row (shown_of it.now) (told_of labels.now label.now)) }
 {
     if ends_before(it, label) {
         push_ending(alloc, out, it, labels, label)?;
@@ -191,7 +201,8 @@ fn push_label(
     labels: &[LabeledSpan],
     label: &Placed,
 ) -> Result<(), AllocError>
-    ensures { OnOk result (string_bytes out.new ≡ string_bytes out.old ++ label_row (shown_of it.now) (told_of labels.now label.now)) }
+    ensures { OnOk result (string_bytes out.new
+        ≡ string_bytes out.old ++ label_row (shown_of it.now) (told_of labels.now label.now)) }
 {
     if begins(it, label) {
         push_begun(alloc, out, it, labels, label)?;
@@ -226,7 +237,8 @@ fn push_each(
     labels: &[LabeledSpan],
     placed: &[Placed],
 ) -> Result<(), AllocError>
-    ensures { OnOk result (string_bytes out.new ≡ string_bytes out.old ++ label_rows (shown_of it.now) (all_told labels.now placed.now)) }
+    ensures { OnOk result (string_bytes out.new
+        ≡ string_bytes out.old ++ label_rows (shown_of it.now) (all_told labels.now placed.now)) }
 {
     for label in placed {
         push_label(alloc, out, it, labels, label)?;
@@ -242,7 +254,8 @@ pub(crate) fn push_labels(
     labels: &[LabeledSpan],
     placed: &[Placed],
 ) -> Result<(), AllocError>
-    ensures { OnOk result (string_bytes out.new ≡ string_bytes out.old ++ label_rows (shown_of it.now) (all_told labels.now placed.now)) }
+    ensures { OnOk result (string_bytes out.new
+        ≡ string_bytes out.old ++ label_rows (shown_of it.now) (all_told labels.now placed.now)) }
 {
     let places = places_for(alloc, it.text, placed.len())?;
     let marked = it.with_places(&places);
@@ -258,7 +271,8 @@ fn push_ended(
     labels: &[LabeledSpan],
     ended: &[Ranked],
 ) -> Result<(), AllocError>
-    ensures { OnOk result (string_bytes out.new ≡ string_bytes out.old ++ label_rows (shown_of it.now) (all_told labels.now (labels_of ended.now))) }
+    ensures { OnOk result (string_bytes out.new
+        ≡ string_bytes out.old ++ label_rows (shown_of it.now) (all_told labels.now (labels_of ended.now))) }
 {
     for end in ended {
         push_label(alloc, out, it, labels, &end.label)?;
@@ -275,7 +289,9 @@ pub(crate) fn push_ended_and_begun(
     ended: &[Ranked],
     begun: &[Placed],
 ) -> Result<(), AllocError>
-    ensures { OnOk result (string_bytes out.new ≡ (string_bytes out.old ++ label_rows (shown_of it.now) (all_told labels.now (labels_of ended.now))) ++ label_rows (shown_of it.now) (all_told labels.now begun.now)) }
+    ensures { OnOk result (string_bytes out.new
+        ≡ (string_bytes out.old ++ label_rows (shown_of it.now) (all_told labels.now (labels_of ended.now)))
+        ++ label_rows (shown_of it.now) (all_told labels.now begun.now)) }
 {
     let places = places_for(alloc, it.text, ended.len().saturating_add(begun.len()))?;
     let marked = it.with_places(&places);

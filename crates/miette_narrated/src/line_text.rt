@@ -8,7 +8,8 @@ ghost use Rattle.miette_narrated.specs.steps.Places.{IsPlace};
 use crate::places::Place;
 use miette_lines::plain::all_printable;
 
-/// The bytes of a line's text, whether each is a printable ASCII character, and places from which a walk over its characters may go on.
+/// The bytes of a line's text, whether each is a printable ASCII character, and places from which a walk over its
+/// characters may go on.
 #[derive(Clone, Copy)]
 pub(crate) struct LineText<'a, 'p> {
     pub(crate) bytes: &'a [u8],

@@ -54,7 +54,8 @@ fn push_shown(
 ) -> Result<(), AllocError>
     requires order { IsOrder order.now }
     requires at { IsAt order.now.placed.now sweep.old.at sweep.old.next sweep.old.running.items }
-    ensures rows { OnOk result (string_bytes out.new ≡ string_bytes out.old ++ rows_of_line (all_told order.now.labels.now order.now.placed.now) (shown_of it.now)) }
+    ensures rows { OnOk result (string_bytes out.new
+        ≡ string_bytes out.old ++ rows_of_line (all_told order.now.labels.now order.now.placed.now) (shown_of it.now)) }
     ensures at { OnOk result (IsAt order.now.placed.now sweep.new.at sweep.new.next sweep.new.running.items) }
 {
     push_line(out, it)?;
@@ -76,7 +77,8 @@ fn push_inner(
 ) -> Result<(), AllocError>
     requires order { IsOrder order.now }
     requires inner { it.now.is_last ≡ false }
-    ensures { OnOk result (string_bytes out.new ≡ string_bytes out.old ++ label_rows (shown_of it.now) (all_told order.now.labels.now order.now.placed.now)) }
+    ensures { OnOk result (string_bytes out.new
+        ≡ string_bytes out.old ++ label_rows (shown_of it.now) (all_told order.now.labels.now order.now.placed.now)) }
 {
     let ended = ended_on(alloc, order, &it.line)?;
     let begun = begun_on(order.placed, &it.line);
@@ -121,7 +123,9 @@ pub(crate) fn push_lines(
     requires small { lent.now.span.offset + length lent.now.bytes < 2 ^ 64 }
     requires order { IsOrder order.now }
     requires at { IsAt order.now.placed.now sweep.old.at sweep.old.next sweep.old.running.items }
-    ensures rows { OnOk result (string_bytes out.new ≡ string_bytes out.old ++ rows_of_lines (all_told order.now.labels.now order.now.placed.now) lent.now (lent.now.line + 1) (map (λ l. line_of_text l.line) lines.now)) }
+    ensures rows { OnOk result (string_bytes out.new
+        ≡ string_bytes out.old ++ rows_of_lines (all_told order.now.labels.now order.now.placed.now) lent.now
+        (lent.now.line + 1) (map (λ l. line_of_text l.line) lines.now)) }
     ensures at { OnOk result (IsAt order.now.placed.now sweep.new.at sweep.new.next sweep.new.running.items) }
 {
     let mut before = lent.line();

@@ -1,4 +1,5 @@
-//! Places of a line's text from which a walk over its characters may go on, so that a column far behind is found by a short walk.
+//! Places of a line's text from which a walk over its characters may go on, so that a column far behind is found by a
+//! short walk.
 
 ghost use Rattle.std.specs.Prelude.{◌≡◌, ◌<◌, ◌≤◌, ◌+◌, false, chars, IfOk, IfSome};
 ghost use Rattle.std.specs.List.{All};
@@ -10,7 +11,8 @@ use miette_lines::cells::{columns_of, first_character};
 use std::alloc::{AllocError, Global};
 use unicode_width::UnicodeWidthStr;
 
-/// How many bytes of the text lie before a place, how many columns they have, and how many their characters have each by itself.
+/// How many bytes of the text lie before a place, how many columns they have, and how many their characters have each
+/// by itself.
 #[derive(Clone, Copy)]
 pub(crate) struct Place {
     pub(crate) bytes: usize,

@@ -5,8 +5,10 @@ ghost use Rattle.std.specs.Option.{option_map};
 ghost use Rattle.miette_tree.specs.rules.Tree.{head, cause_of, causes_of, trees};
 ghost use Rattle.miette_tree.specs.views.Report.{tree_of};
 ghost use Rattle.miette_tree.specs.views.Owned.{shown_source};
-ghost use Rattle.miette_narrated.specs.rules.Report.{title, severity_row, head_rows, titled_rows, cause_rows, causes_if, advice_rows, url_rows, blank_before};
-ghost use Rattle.miette_narrated.specs.rules.Answered.{AppendsSnippets, AppendsReport, AppendsRelated, IsNarrated, accepts, holds_of, holds_of_all, report_accepted};
+ghost use Rattle.miette_narrated.specs.rules.Report.{title, severity_row, head_rows, titled_rows, cause_rows};
+ghost use Rattle.miette_narrated.specs.rules.Report.{causes_if, advice_rows, url_rows, blank_before};
+ghost use Rattle.miette_narrated.specs.rules.Answered.{AppendsSnippets, AppendsReport, AppendsRelated, IsNarrated};
+ghost use Rattle.miette_narrated.specs.rules.Answered.{accepts, holds_of, holds_of_all, report_accepted};
 ghost use Rattle.miette_narrated.specs.rules.Settings.{settings_of};
 
 use crate::handler::Settings;
@@ -42,7 +44,8 @@ fn push_head<D: Diagnostic, S: SourceCode>(
     report: &Report<D, S>,
     out: &mut String,
 ) -> Result<(), AllocError>
-    ensures { OnOk result (string_bytes out.new ≡ string_bytes out.old ++ head_rows (head (tree_of D.meaning S.source report.now))) }
+    ensures { OnOk result (string_bytes out.new
+        ≡ string_bytes out.old ++ head_rows (head (tree_of D.meaning S.source report.now))) }
 {
     push_row(out, "", report.message())?;
     push_severity(out, report.severity())?;
@@ -54,7 +57,8 @@ fn push_titled<D: Diagnostic, S: SourceCode>(
     report: &Report<D, S>,
     out: &mut String,
 ) -> Result<(), AllocError>
-    ensures { OnOk result (string_bytes out.new ≡ string_bytes out.old ++ titled_rows (head (tree_of D.meaning S.source report.now))) }
+    ensures { OnOk result (string_bytes out.new
+        ≡ string_bytes out.old ++ titled_rows (head (tree_of D.meaning S.source report.now))) }
 {
     push_row(out, title_of(report.severity()), report.message())?;
     push_severity(out, report.severity())?;
@@ -67,7 +71,8 @@ fn push_causes<D: Diagnostic, S: SourceCode>(
     report: &Report<D, S>,
     out: &mut String,
 ) -> Result<(), AllocError>
-    ensures { OnOk result (string_bytes out.new ≡ string_bytes out.old ++ cause_rows (causes_of (cause_of (tree_of D.meaning S.source report.now)))) }
+    ensures { OnOk result (string_bytes out.new
+        ≡ string_bytes out.old ++ cause_rows (causes_of (cause_of (tree_of D.meaning S.source report.now)))) }
 {
     let mut at = report;
     while let Cause::Diagnostic(next) = at.cause() {
@@ -86,7 +91,8 @@ fn push_causes_if<D: Diagnostic, S: SourceCode>(
     report: &Report<D, S>,
     out: &mut String,
 ) -> Result<(), AllocError>
-    ensures { OnOk result (string_bytes out.new ≡ string_bytes out.old ++ causes_if told (causes_of (cause_of (tree_of D.meaning S.source report.now)))) }
+    ensures { OnOk result (string_bytes out.new
+        ≡ string_bytes out.old ++ causes_if told (causes_of (cause_of (tree_of D.meaning S.source report.now)))) }
 {
     if told {
         push_causes(report, out)
@@ -111,7 +117,8 @@ fn push_advice<D: Diagnostic, S: SourceCode>(
     report: &Report<D, S>,
     out: &mut String,
 ) -> Result<(), AllocError>
-    ensures { OnOk result (string_bytes out.new ≡ string_bytes out.old ++ advice_rows (head (tree_of D.meaning S.source report.now))) }
+    ensures { OnOk result (string_bytes out.new
+        ≡ string_bytes out.old ++ advice_rows (head (tree_of D.meaning S.source report.now))) }
 {
     push_row_if(out, "diagnostic help: ", report.help())?;
     push_row_if(out, "diagnostic code: ", report.code())?;
@@ -127,8 +134,10 @@ fn push_snippets_of<S: SourceCode>(
     source: Option<SourceRef<'_, S>>,
     out: &mut String,
 ) -> Result<(), RenderError>
-    ensures text { OnOk result (AppendsSnippets context (option_map (shown_source S.source) source.entry) labels.now (string_bytes out.old) (string_bytes out.new)) }
-    ensures refused { (result ≡ Err RenderError.Refused) → accepts (option_map (shown_source S.source) source.entry) labels.now ≡ false }
+    ensures text { OnOk result (AppendsSnippets context (option_map (shown_source S.source) source.entry) labels.now
+        (string_bytes out.old) (string_bytes out.new)) }
+    ensures refused { (result ≡ Err RenderError.Refused) →
+        accepts (option_map (shown_source S.source) source.entry) labels.now ≡ false }
 {
     match source {
         Some(source) => push_snippets(alloc, out, context, &source, labels),
@@ -141,7 +150,8 @@ fn push_blank_before<D: Diagnostic, S: SourceCode>(
     reports: &[Report<D, S>],
     out: &mut String,
 ) -> Result<(), AllocError>
-    ensures { OnOk result (string_bytes out.new ≡ string_bytes out.old ++ blank_before (trees (map (tree_of D.meaning S.source) reports.now))) }
+    ensures { OnOk result (string_bytes out.new
+        ≡ string_bytes out.old ++ blank_before (trees (map (tree_of D.meaning S.source) reports.now))) }
 {
     if reports.is_empty() {
         return Ok(());
@@ -159,8 +169,11 @@ fn push_report<'a, D: Diagnostic, S: SourceCode>(
     inherited: Option<SourceRef<'a, S>>,
     out: &mut String,
 ) -> Result<(), RenderError>
-    ensures text { OnOk result (AppendsReport context (option_map (shown_source S.source) inherited.entry) (tree_of D.meaning S.source report.now) (string_bytes out.old) (string_bytes out.new)) }
-    ensures refused { (result ≡ Err RenderError.Refused) → holds_of accepts (option_map (shown_source S.source) inherited.entry) (tree_of D.meaning S.source report.now) ≡ false }
+    ensures text { OnOk result (AppendsReport context (option_map (shown_source S.source) inherited.entry)
+        (tree_of D.meaning S.source report.now) (string_bytes out.old) (string_bytes out.new)) }
+    ensures refused { (result ≡ Err RenderError.Refused) →
+        holds_of accepts (option_map (shown_source S.source) inherited.entry) (tree_of D.meaning S.source report.now)
+        ≡ false }
 {
     let source = own_or(report, inherited);
     push_titled(report, out)?;
@@ -180,8 +193,11 @@ fn push_related<'a, D: Diagnostic, S: SourceCode>(
     source: Option<SourceRef<'a, S>>,
     out: &mut String,
 ) -> Result<(), RenderError>
-    ensures text { OnOk result (AppendsRelated context (option_map (shown_source S.source) source.entry) (trees (map (tree_of D.meaning S.source) reports.now)) (string_bytes out.old) (string_bytes out.new)) }
-    ensures refused { (result ≡ Err RenderError.Refused) → holds_of_all accepts (option_map (shown_source S.source) source.entry) (trees (map (tree_of D.meaning S.source) reports.now)) ≡ false }
+    ensures text { OnOk result (AppendsRelated context (option_map (shown_source S.source) source.entry)
+        (trees (map (tree_of D.meaning S.source) reports.now)) (string_bytes out.old) (string_bytes out.new)) }
+    ensures refused { (result ≡ Err RenderError.Refused) →
+        holds_of_all accepts (option_map (shown_source S.source) source.entry)
+        (trees (map (tree_of D.meaning S.source) reports.now)) ≡ false }
 {
     push_blank_before(reports, out)?;
     for report in reports {
@@ -196,8 +212,10 @@ pub(crate) fn narrated<D: Diagnostic, S: SourceCode>(
     settings: Settings<'_>,
     report: &Report<D, S>,
 ) -> Result<String, RenderError>
-    ensures text { IfOk result (λ text. IsNarrated (settings_of settings.entry) (tree_of D.meaning S.source report.now) (string_bytes text)) }
-    ensures refused { (result ≡ Err RenderError.Refused) → report_accepted (tree_of D.meaning S.source report.now) ≡ false }
+    ensures text { IfOk result (λ text. IsNarrated (settings_of settings.entry) (tree_of D.meaning S.source report.now)
+        (string_bytes text)) }
+    ensures refused { (result ≡ Err RenderError.Refused) →
+        report_accepted (tree_of D.meaning S.source report.now) ≡ false }
 {
     let mut text = String::new(alloc);
     let source = own_or(report, None);

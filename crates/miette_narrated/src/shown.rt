@@ -9,7 +9,8 @@ use crate::line_text::LineText;
 use crate::places::Place;
 use miette_lines::text_line::LineOfText;
 
-/// A line of a snippet: where it lies, its number, whether it is the snippet's last, where the snippet's data end, and its text.
+/// A line of a snippet: where it lies, its number, whether it is the snippet's last, where the snippet's data end,
+/// and its text.
 #[derive(Clone, Copy)]
 pub(crate) struct ShownLine<'a, 'p> {
     pub(crate) line: LineOfText,

@@ -1,6 +1,7 @@
 //! The rows of a diagnostic's snippets.
 
-ghost use Rattle.std.specs.Prelude.{◌≡◌, ◌++◌, ◌+◌, ◌<◌, ◌^◌, false, Some, map, length, decimal, IfOk, OnOk, string_bytes, option_copied};
+ghost use Rattle.std.specs.Prelude.{◌≡◌, ◌++◌, ◌+◌, ◌<◌, ◌^◌, false, Some, map, length, decimal, IfOk, OnOk};
+ghost use Rattle.std.specs.Prelude.{string_bytes, option_copied};
 ghost use Rattle.std.specs.List.{All};
 ghost use Rattle.miette_lines.specs.rules.Contexts.{lines_of_contents};
 ghost use Rattle.miette_lines.specs.rules.Groups.{in_order};
@@ -86,7 +87,8 @@ fn push_snippet(
 ) -> Result<(), AllocError>
     requires order { IsOrder order.now }
     requires at { IsAt order.now.placed.now sweep.old.at sweep.old.next sweep.old.running.items }
-    ensures rows { OnOk result (string_bytes out.new ≡ string_bytes out.old ++ snippet (all_told order.now.labels.now order.now.placed.now) lent.now) }
+    ensures rows { OnOk result (string_bytes out.new
+        ≡ string_bytes out.old ++ snippet (all_told order.now.labels.now order.now.placed.now) lent.now) }
     ensures at { OnOk result (IsAt order.now.placed.now sweep.new.at sweep.new.next sweep.new.running.items) }
 {
     push_begin(out, lent)?;
@@ -95,8 +97,8 @@ fn push_snippet(
     Ok(())
 }
 
-/// The snippets of labels that were read. Fails with `Refused` where a group of them can't be read, and with `Memory` where memory is
-/// refused.
+/// The snippets of labels that were read. Fails with `Refused` where a group of them can't be read, and with `Memory`
+/// where memory is refused.
 fn push_read<'a, S: SourceCode>(
     alloc: Global,
     out: &mut String,
@@ -107,7 +109,8 @@ fn push_read<'a, S: SourceCode>(
 ) -> Result<(), RenderError>
     requires order { map (λ read. label_at labels.now read.index) reads.now ≡ in_order labels.now }
     requires each { All (IsRead context (S.source source.now) labels.now) reads.now }
-    ensures text { OnOk result (AppendsSnippets context (Some (S.source source.now)) labels.now (string_bytes out.old) (string_bytes out.new)) }
+    ensures text { OnOk result (AppendsSnippets context (Some (S.source source.now)) labels.now (string_bytes out.old)
+        (string_bytes out.new)) }
     ensures refused { (result ≡ Err RenderError.Refused) → accepts (Some (S.source source.now)) labels.now ≡ false }
 {
     data_reach_the_span();
@@ -132,8 +135,8 @@ fn push_read<'a, S: SourceCode>(
     Ok(())
 }
 
-/// The snippets of a diagnostic whose labels are given over a source. Fails with `Refused` where a label isn't accepted or can't be read,
-/// or a group can't, and with `Memory` where memory is refused.
+/// The snippets of a diagnostic whose labels are given over a source. Fails with `Refused` where a label isn't
+/// accepted or can't be read, or a group can't, and with `Memory` where memory is refused.
 pub(crate) fn push_snippets<S: SourceCode>(
     alloc: Global,
     out: &mut String,
@@ -141,7 +144,8 @@ pub(crate) fn push_snippets<S: SourceCode>(
     source: &S,
     labels: &[LabeledSpan],
 ) -> Result<(), RenderError>
-    ensures text { OnOk result (AppendsSnippets context (Some (S.source source.now)) labels.now (string_bytes out.old) (string_bytes out.new)) }
+    ensures text { OnOk result (AppendsSnippets context (Some (S.source source.now)) labels.now (string_bytes out.old)
+        (string_bytes out.new)) }
     ensures refused { (result ≡ Err RenderError.Refused) → accepts (Some (S.source source.now)) labels.now ≡ false }
 {
     let order = by_offset(alloc, labels)?;

@@ -15,7 +15,8 @@ pub(crate) fn serialize<S: Serializer>(
     lines: &Option<NonZeroUsize>,
     out: &mut S,
 ) -> Result<(), S::Error>
-    ensures { OnOk result (WritesLines (option_map non_zero_usize_get lines.now) (S.written out.old) (S.written out.new)) }
+    ensures { OnOk result (WritesLines (option_map non_zero_usize_get lines.now) (S.written out.old)
+        (S.written out.new)) }
 {
     match lines {
         Some(number) => number.get().serialize(out),

@@ -176,7 +176,8 @@ impl MietteDiagnostic {
         alloc: Global,
         labels: I,
     ) -> Result<Self, AllocError>
-        requires { (it : I.IntoIter) → I.into_iter_gives labels it → I.IntoIter.can_next it × IsFinite (I.IntoIter.remaining it) }
+        requires { (it : I.IntoIter) → I.into_iter_gives labels it →
+            I.IntoIter.can_next it × IsFinite (I.IntoIter.remaining it) }
         ensures { IfOk result (λ it. (from : I.IntoIter) × (given : List Label) × I.into_iter_gives labels from
             × Drains I.IntoIter.next_gives from given
             × (meaning_of it ≡ record (meaning_of self) { labels = Some given })) }

@@ -27,13 +27,16 @@ pub fn lines_cut_the_source()
 pub fn data_are_whole_lines()
     ensures lines { (source : Source) → (span : Span) → (before after : ℕ) → 1 ≤ before → 1 ≤ after →
         lines_from (contents_of source span before after).span.offset (contents_of source span before after).bytes
-        ≡ slice_range (lines_of source.bytes) (first_line source.bytes span before) (last_line source.bytes span after + 1) }
+        ≡ slice_range (lines_of source.bytes) (first_line source.bytes span before)
+        (last_line source.bytes span after + 1) }
     ensures count { (source : Source) → (span : Span) → (before after : ℕ) → 1 ≤ before → 1 ≤ after →
         (contents_of source span before after).line + (contents_of source span before after).line_count
         ≡ min (last_line source.bytes span after + 1) (line_of source.bytes (length source.bytes)) }
-    ensures numbers { (source : Source) → (span : Span) → (before after k : ℕ) → 1 ≤ before → 1 ≤ after → k < length (lines_of source.bytes) →
+    ensures numbers { (source : Source) → (span : Span) → (before after k : ℕ) → 1 ≤ before → 1 ≤ after →
+        k < length (lines_of source.bytes) →
         (((contents_of source span before after).span.offset ≤ line_start source.bytes k)
-        × (line_end source.bytes k ≤ (contents_of source span before after).span.offset + (contents_of source span before after).span.len))
+        × (line_end source.bytes k ≤ (contents_of source span before after).span.offset
+        + (contents_of source span before after).span.len))
         ↔ ((first_line source.bytes span before ≤ k) × (k ≤ last_line source.bytes span after)) }
 {}
 
@@ -43,7 +46,8 @@ pub fn data_are_whole_lines()
 pub fn data_reach_the_span()
     ensures { (source : Source) → (span : Span) → (before after : ℕ) → IsAccepted source.bytes span →
         min (span.offset + span.len) (length source.bytes)
-        ≡ min (span.offset + span.len) ((contents_of source span before after).span.offset + (contents_of source span before after).span.len) }
+        ≡ min (span.offset + span.len) ((contents_of source span before after).span.offset
+        + (contents_of source span before after).span.len) }
 {}
 
 /// Offsets, spans, severities, contents and the errors without a text are cloned without memory: no such clone is

@@ -15,9 +15,10 @@ use crate::words::{WordsFault, number};
 use std::alloc::Global;
 use std::io::{Read, Write};
 
-/// Reads a description, builds its report once, renders it N times, each time into a fresh text, and writes the number of
-/// bytes of one rendering in decimal and a line feed; 0 where N is 0. The words are N and then those of `job`. The status
-/// comes out, with `job`'s meaning; a fault's text and a line feed go to `faults`, whose own faults are ignored.
+/// Reads a description, builds its report once, renders it N times, each time into a fresh text, and writes the
+/// number of bytes of one rendering in decimal and a line feed; 0 where N is 0. The words are N and then those of
+/// `job`. The status comes out, with `job`'s meaning; a fault's text and a line feed go to `faults`, whose own faults
+/// are ignored.
 pub fn bench_with<R: Read + Drop, W: Write + Drop, F: Write + Drop>(
     alloc: Global,
     words: &[String],
@@ -69,8 +70,10 @@ fn measure<R: Read + Drop, W: Write + Drop>(
     settings: Settings,
 ) -> Result<(), JobError>
     ensures described { OnOk result (IfSome (R.remaining reader) IsDescription) }
-    ensures description { (result ≡ Err JobError.Description) → IfSome (R.remaining reader) (λ bytes. IsUtf8 bytes → tree_for bytes ≡ None) }
-    ensures refused { (result ≡ Err JobError.Refused) → IsNarrating settings.choice settings.options settings.terminal × IfSome (R.remaining reader) IsRefused }
+    ensures description { (result ≡ Err JobError.Description) →
+        IfSome (R.remaining reader) (λ bytes. IsUtf8 bytes → tree_for bytes ≡ None) }
+    ensures refused { (result ≡ Err JobError.Refused) →
+        IsNarrating settings.choice settings.options settings.terminal × IfSome (R.remaining reader) IsRefused }
 {
     let bytes = match read_whole(alloc, &mut Device::new(reader)) {
         Ok(bytes) => bytes,

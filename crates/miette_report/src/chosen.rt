@@ -46,9 +46,14 @@ impl Chosen {
 impl<H: Highlighter> Chosen<H> {
     /// The text of a report whose sources always read.
     pub(crate) fn render(&mut self, alloc: Global, report: &Report) -> Result<String, JobError>
-        requires reads { AlwaysReads (tree_of ⟦<Box<dyn Diagnostic> as Diagnostic>⟧.meaning ⟦<Box<dyn SourceCode> as SourceCode>⟧.source report.now) }
-        ensures ok { IfOk result (λ text. IsGiven H.is_blank self.old (tree_of ⟦<Box<dyn Diagnostic> as Diagnostic>⟧.meaning ⟦<Box<dyn SourceCode> as SourceCode>⟧.source report.now) (string_bytes text)) }
-        ensures refused { (result ≡ Err JobError.Refused) → MayRefuse self.old (tree_of ⟦<Box<dyn Diagnostic> as Diagnostic>⟧.meaning ⟦<Box<dyn SourceCode> as SourceCode>⟧.source report.now) }
+        requires reads { AlwaysReads (tree_of ⟦<Box<dyn Diagnostic> as Diagnostic>⟧.meaning
+            ⟦<Box<dyn SourceCode> as SourceCode>⟧.source report.now) }
+        ensures ok { IfOk result (λ text. IsGiven H.is_blank self.old
+            (tree_of ⟦<Box<dyn Diagnostic> as Diagnostic>⟧.meaning ⟦<Box<dyn SourceCode> as SourceCode>⟧.source
+            report.now) (string_bytes text)) }
+        ensures refused { (result ≡ Err JobError.Refused) →
+            MayRefuse self.old (tree_of ⟦<Box<dyn Diagnostic> as Diagnostic>⟧.meaning
+            ⟦<Box<dyn SourceCode> as SourceCode>⟧.source report.now) }
         ensures others { OnErr result ((result ≡ Err JobError.Refused) ⊎ (result ≡ Err JobError.Memory)) }
         ensures stays { Stays H.is_blank self.old self.new }
     {
@@ -67,9 +72,14 @@ impl<H: Highlighter> Chosen<H> {
         report: &Report,
         times: usize,
     ) -> Result<String, JobError>
-        requires reads { AlwaysReads (tree_of ⟦<Box<dyn Diagnostic> as Diagnostic>⟧.meaning ⟦<Box<dyn SourceCode> as SourceCode>⟧.source report.now) }
-        ensures ok { IfOk result (λ text. IsGiven H.is_blank self.old (tree_of ⟦<Box<dyn Diagnostic> as Diagnostic>⟧.meaning ⟦<Box<dyn SourceCode> as SourceCode>⟧.source report.now) (string_bytes text)) }
-        ensures refused { (result ≡ Err JobError.Refused) → MayRefuse self.old (tree_of ⟦<Box<dyn Diagnostic> as Diagnostic>⟧.meaning ⟦<Box<dyn SourceCode> as SourceCode>⟧.source report.now) }
+        requires reads { AlwaysReads (tree_of ⟦<Box<dyn Diagnostic> as Diagnostic>⟧.meaning
+            ⟦<Box<dyn SourceCode> as SourceCode>⟧.source report.now) }
+        ensures ok { IfOk result (λ text. IsGiven H.is_blank self.old
+            (tree_of ⟦<Box<dyn Diagnostic> as Diagnostic>⟧.meaning ⟦<Box<dyn SourceCode> as SourceCode>⟧.source
+            report.now) (string_bytes text)) }
+        ensures refused { (result ≡ Err JobError.Refused) →
+            MayRefuse self.old (tree_of ⟦<Box<dyn Diagnostic> as Diagnostic>⟧.meaning
+            ⟦<Box<dyn SourceCode> as SourceCode>⟧.source report.now) }
         ensures others { OnErr result ((result ≡ Err JobError.Refused) ⊎ (result ≡ Err JobError.Memory)) }
     {
         for _ in 1..times {
@@ -81,9 +91,14 @@ impl<H: Highlighter> Chosen<H> {
 
     /// Appends that text.
     fn append(&mut self, report: &Report, out: &mut String) -> Result<(), RenderError>
-        requires reads { AlwaysReads (tree_of ⟦<Box<dyn Diagnostic> as Diagnostic>⟧.meaning ⟦<Box<dyn SourceCode> as SourceCode>⟧.source report.now) }
-        ensures ok { OnOk result (AppendsOne (IsGiven H.is_blank self.old (tree_of ⟦<Box<dyn Diagnostic> as Diagnostic>⟧.meaning ⟦<Box<dyn SourceCode> as SourceCode>⟧.source report.now)) (string_bytes out.old) (string_bytes out.new)) }
-        ensures refused { (result ≡ Err RenderError.Refused) → MayRefuse self.old (tree_of ⟦<Box<dyn Diagnostic> as Diagnostic>⟧.meaning ⟦<Box<dyn SourceCode> as SourceCode>⟧.source report.now) }
+        requires reads { AlwaysReads (tree_of ⟦<Box<dyn Diagnostic> as Diagnostic>⟧.meaning
+            ⟦<Box<dyn SourceCode> as SourceCode>⟧.source report.now) }
+        ensures ok { OnOk result (AppendsOne (IsGiven H.is_blank self.old
+            (tree_of ⟦<Box<dyn Diagnostic> as Diagnostic>⟧.meaning ⟦<Box<dyn SourceCode> as SourceCode>⟧.source
+            report.now)) (string_bytes out.old) (string_bytes out.new)) }
+        ensures refused { (result ≡ Err RenderError.Refused) →
+            MayRefuse self.old (tree_of ⟦<Box<dyn Diagnostic> as Diagnostic>⟧.meaning
+            ⟦<Box<dyn SourceCode> as SourceCode>⟧.source report.now) }
         ensures stays { Stays H.is_blank self.old self.new }
     {
         match self {

@@ -54,8 +54,8 @@ impl<D> Device<D> {
 }
 
 impl<D: Read> Device<D> {
-    /// Reads into the buffer, and gives how many bytes there were: 0 at the end, or where the buffer is empty. The mark is
-    /// set exactly where it was, or where the inner call answers an error.
+    /// Reads into the buffer, and gives how many bytes there were: 0 at the end, or where the buffer is empty. The
+    /// mark is set exactly where it was, or where the inner call answers an error.
     ///
     /// # Errors
     /// That of the inner call.

@@ -32,7 +32,8 @@ impl<'a> DrawWords<'a> {
     /// Reads the words after the program's name. Nothing, where there are not five, or where the second or the third is
     /// no number.
     pub fn read(words: &'a [String]) -> Option<Self>
-        ensures some { IfSome result (λ it. AreDrawWords (map string_bytes words.now) it.name.now it.offset it.length it.label.now it.message.now) }
+        ensures some { IfSome result (λ it. AreDrawWords (map string_bytes words.now) it.name.now it.offset it.length
+            it.label.now it.message.now) }
         ensures none { IsNone result → IsNoDrawCall (map string_bytes words.now) }
     {
         let [name, offset, length, label, message] = words else {
@@ -120,7 +121,8 @@ fn run<R: Read, W: Write>(
     requires writer_unmarked { writer.old.failed ≡ false }
     // All that the reader had left is the source, and the writer took its picture and nothing else.
     ensures ok { OnOk result (IfSome (R.remaining reader.old.inner) (λ bytes.
-        CallPictures (map string_bytes words.now) bytes (Appends (W.contents writer.old.inner) (W.contents writer.new.inner)))) }
+        CallPictures (map string_bytes words.now) bytes
+        (Appends (W.contents writer.old.inner) (W.contents writer.new.inner)))) }
     ensures usage { (result ≡ Err Fault.Usage) ↔ IsNoDrawCall (map string_bytes words.now) }
     ensures read_mark { IsTrue reader.new.failed ↔ (result ≡ Err Fault.Read) }
     ensures write_mark { IsTrue writer.new.failed ↔ (result ≡ Err Fault.Write) }
@@ -133,8 +135,8 @@ fn run<R: Read, W: Write>(
     Ok(())
 }
 
-/// The program `draw`: in go the words after its name, out comes the status. The words are checked first, then all input
-/// is read, then the report is made, then written.
+/// The program `draw`: in go the words after its name, out comes the status. The words are checked first, then all
+/// input is read, then the report is made, then written.
 ///
 /// The status is 0; 1 where memory, the reader or the writer failed; 2 where the words are wrong. A fault's text and a
 /// line feed go to `faults`, whose own faults are ignored.
@@ -156,7 +158,8 @@ pub fn draw_with<R: Read + Drop, W: Write + Drop, F: Write + Drop>(
     }
 }
 
-/// Ends the program `draw` where its words could not be had: prints the fault's text and a line feed, and gives the status.
+/// Ends the program `draw` where its words could not be had: prints the fault's text and a line feed, and gives the
+/// status.
 pub fn refuse_words<F: Write + Drop>(fault: WordsFault, faults: F) -> u8
     ensures { result ≡ status_of (words_fault fault) }
 {

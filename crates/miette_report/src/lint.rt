@@ -135,7 +135,8 @@ fn write_findings<R: Read, W: Write>(
     requires reader_unmarked { reader.old.failed ≡ false }
     requires writer_unmarked { writer.old.failed ≡ false }
     ensures ok { IfOk result (λ clean. IfSome (R.remaining reader.old.inner) (λ bytes.
-        Lints words.now.name.now words.now.width bytes clean (Appends (W.contents writer.old.inner) (W.contents writer.new.inner)))) }
+        Lints words.now.name.now words.now.width bytes clean
+        (Appends (W.contents writer.old.inner) (W.contents writer.new.inner)))) }
     ensures called { ¬ (result ≡ Err Fault.Usage) }
     ensures read_mark { IsTrue reader.new.failed ↔ (result ≡ Err Fault.Read) }
     ensures write_mark { IsTrue writer.new.failed ↔ (result ≡ Err Fault.Write) }
@@ -163,10 +164,13 @@ fn run<R: Read, W: Write>(
 ) -> Result<bool, Fault>
     requires reader_unmarked { reader.old.failed ≡ false }
     requires writer_unmarked { writer.old.failed ≡ false }
-    // All that the reader had left is the source, and the writer took the text for what is found in it and nothing else.
+    // All that the reader had left is the source, and the writer took the text for what is found in it and nothing
+    // else.
     ensures ok { IfOk result (λ clean. IfSome (R.remaining reader.old.inner) (λ bytes.
-        CallLints (map string_bytes words.now) bytes clean (Appends (W.contents writer.old.inner) (W.contents writer.new.inner)))) }
-    ensures clean { IfOk result (λ clean. IfSome (R.remaining reader.old.inner) (λ bytes. CallIsClean (map string_bytes words.now) bytes clean)) }
+        CallLints (map string_bytes words.now) bytes clean
+        (Appends (W.contents writer.old.inner) (W.contents writer.new.inner)))) }
+    ensures clean { IfOk result (λ clean. IfSome (R.remaining reader.old.inner)
+        (λ bytes. CallIsClean (map string_bytes words.now) bytes clean)) }
     ensures usage { (result ≡ Err Fault.Usage) ↔ IsNoLintCall (map string_bytes words.now) }
     ensures read_mark { IsTrue reader.new.failed ↔ (result ≡ Err Fault.Read) }
     ensures write_mark { IsTrue writer.new.failed ↔ (result ≡ Err Fault.Write) }
@@ -178,11 +182,11 @@ fn run<R: Read, W: Write>(
     write_findings(alloc, &words, reader, writer)
 }
 
-/// The program `lint`: in go the words after its name, out comes the status. The words are checked first, then all input
-/// is read, then the report is made, then written.
+/// The program `lint`: in go the words after its name, out comes the status. The words are checked first, then all
+/// input is read, then the report is made, then written.
 ///
-/// The status is 0 where nothing is found; 1 where something is; 2 where the words are wrong, or where memory, the reader
-/// or the writer failed. A fault's text and a line feed go to `faults`, whose own faults are ignored.
+/// The status is 0 where nothing is found; 1 where something is; 2 where the words are wrong, or where memory, the
+/// reader or the writer failed. A fault's text and a line feed go to `faults`, whose own faults are ignored.
 pub fn lint_with<R: Read + Drop, W: Write + Drop, F: Write + Drop>(
     alloc: Global,
     words: &[String],
@@ -191,8 +195,10 @@ pub fn lint_with<R: Read + Drop, W: Write + Drop, F: Write + Drop>(
     faults: F,
 ) -> u8
     ensures status { result < 3 }
-    ensures clean { result ≡ 0 → IfSome (R.remaining reader) (λ bytes. CallIsClean (map string_bytes words.now) bytes true) }
-    ensures found { result ≡ 1 → IfSome (R.remaining reader) (λ bytes. CallIsClean (map string_bytes words.now) bytes false) }
+    ensures clean { result ≡ 0 → IfSome (R.remaining reader)
+        (λ bytes. CallIsClean (map string_bytes words.now) bytes true) }
+    ensures found { result ≡ 1 → IfSome (R.remaining reader)
+        (λ bytes. CallIsClean (map string_bytes words.now) bytes false) }
     ensures usage { IsNoLintCall (map string_bytes words.now) → result ≡ 2 }
 {
     let mut reader = Device::new(reader);
@@ -204,7 +210,8 @@ pub fn lint_with<R: Read + Drop, W: Write + Drop, F: Write + Drop>(
     }
 }
 
-/// Ends the program `lint` where its words could not be had: prints the fault's text and a line feed, and gives the status.
+/// Ends the program `lint` where its words could not be had: prints the fault's text and a line feed, and gives the
+/// status.
 pub fn refuse_words<F: Write + Drop>(fault: WordsFault, faults: F) -> u8
     ensures { result ≡ 2 }
 {

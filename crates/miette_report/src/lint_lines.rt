@@ -1,13 +1,17 @@
 //! What `lint` finds in the lines of a source.
 
-ghost use Rattle.std.specs.Prelude.{◌≡◌, ◌+◌, ◌++◌, ◌<◌, ◌≤◌, ◌^◌, ◌∷◌, [], nat_lt, length, map, decimal, flat_map, position, ◌==◌, slice_range, take_while, find, IfOk, IfSome, OnOk, Some, None, None as Nothing, string_bytes};
+ghost use Rattle.std.specs.Prelude.{◌≡◌, ◌+◌, ◌++◌, ◌<◌, ◌≤◌, ◌^◌, ◌∷◌, [], nat_lt, length, map, decimal, flat_map};
+ghost use Rattle.std.specs.Prelude.{position, ◌==◌, slice_range, take_while, find, IfOk, IfSome, OnOk, Some, None};
+ghost use Rattle.std.specs.Prelude.{None as Nothing, string_bytes};
 ghost use Rattle.std.specs.List.{All, last_or};
 ghost use Rattle.std.specs.Option.{option_map};
 ghost use Rattle.miette_protocol.specs.rules.Lines.{lines_of};
 ghost use Rattle.miette_lines.specs.views.TextLines.{line_of_text};
 ghost use Rattle.miette_lines.specs.views.Swept.{LiesIn};
 ghost use Rattle.miette_lines.specs.views.Walking.{cell_of};
-ghost use Rattle.miette_report.specs.rules.Findings.{cells_of, ending_blanks, finding, findings_of, is_blank, line_findings, misplaced_tab, overlong, tab_after_space, tab_behind, too_wide, trailing, unended};
+ghost use Rattle.miette_report.specs.rules.Findings.{cells_of, ending_blanks, finding, findings_of, is_blank};
+ghost use Rattle.miette_report.specs.rules.Findings.{line_findings, misplaced_tab, overlong, tab_after_space};
+ghost use Rattle.miette_report.specs.rules.Findings.{tab_behind, too_wide, trailing, unended};
 
 use itoa::Buffer;
 use miette_lines::cells::{Cell, Walk};
@@ -86,7 +90,8 @@ fn tab_after_space(blanks: &[u8]) -> Option<usize>
 // The first cell of a text that goes past a width.
 fn first_past(text: &[u8], start: usize, width: usize) -> Result<Option<Cell>, AllocError>
     requires { start + length text.now < 2 ^ 64 }
-    ensures { IfOk result (λ cell. option_map cell_of cell ≡ find (λ c. nat_lt width c.until) (cells_of start text.now)) }
+    ensures { IfOk result (λ cell. option_map cell_of cell
+        ≡ find (λ c. nat_lt width c.until) (cells_of start text.now)) }
 {
     let mut walk = Walk::new(text, start, TAB);
     while let Some(cell) = walk.next()? {
@@ -187,7 +192,8 @@ fn push_overlong(
     width: usize,
 ) -> Result<(), AllocError>
     requires within { line.start + length text.now < 2 ^ 64 }
-    ensures { OnOk result (found.new.items ≡ found.old.items ++ overlong width line.text_end (cells_of line.start text.now)) }
+    ensures { OnOk result (found.new.items ≡ found.old.items
+        ++ overlong width line.text_end (cells_of line.start text.now)) }
 {
     match first_past(text, line.start, width)? {
         Some(cell) => {
@@ -206,7 +212,8 @@ fn push_unended(
     line: LineOfText,
 ) -> Result<(), AllocError>
     requires within { line.start + length text.now < 2 ^ 64 }
-    ensures { OnOk result (found.new.items ≡ found.old.items ++ unended (line_of_text line) (cells_of line.start text.now)) }
+    ensures { OnOk result (found.new.items ≡ found.old.items
+        ++ unended (line_of_text line) (cells_of line.start text.now)) }
 {
     if line.text_end < line.end {
         return Ok(());
@@ -257,7 +264,8 @@ fn push_lines(
     width: usize,
 ) -> Result<(), AllocError>
     requires inside { All (LiesIn 0 (length source.now)) lines.now }
-    ensures { OnOk result (found.new.items ≡ found.old.items ++ flat_map (line_findings source.now width) (map (λ l. line_of_text l.line) lines.now)) }
+    ensures { OnOk result (found.new.items ≡ found.old.items
+        ++ flat_map (line_findings source.now width) (map (λ l. line_of_text l.line) lines.now)) }
 {
     for swept in lines {
         push_line(alloc, found, source, swept.line, width)?;

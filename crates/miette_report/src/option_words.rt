@@ -70,7 +70,8 @@ pub(crate) enum ThemeAsked {
 pub(crate) fn first_asked<'a>(words: &'a [String]) -> Option<(Asked<'a>, &'a [String])>
     ensures fewer { IfSome result (λ first. length first.1.now < length words.now) }
     ensures choice { IfSome result (λ first. (choice : Choice) →
-        choice_in choice (map string_bytes words.now) ≡ choice_in (chosen_by first.0 choice) (map string_bytes first.1.now)) }
+        choice_in choice (map string_bytes words.now)
+        ≡ choice_in (chosen_by first.0 choice) (map string_bytes first.1.now)) }
 {
     let [word, rest @ ..] = words else {
         return None;
@@ -87,7 +88,8 @@ pub(crate) fn first_asked<'a>(words: &'a [String]) -> Option<(Asked<'a>, &'a [St
 
 /// What a word without a value asks for.
 fn alone<'a>(word: &str) -> Option<Asked<'a>>
-    ensures some { IfSome result (λ asked. (is_alone word.now ≡ true) × ((choice : Choice) → chosen_by asked choice ≡ named_choice choice word.now)) }
+    ensures some { IfSome result (λ asked. (is_alone word.now ≡ true)
+        × ((choice : Choice) → chosen_by asked choice ≡ named_choice choice word.now)) }
     ensures none { IsNone result → is_alone word.now ≡ false }
 {
     match word {

@@ -5,7 +5,8 @@ ghost use Rattle.std.specs.Io.KnownBytes.{Appends};
 ghost use Rattle.miette.specs.Diagnostic.{meaning_of};
 ghost use Rattle.miette.specs.Report.{tree_of};
 ghost use Rattle.miette_report.specs.views.Device.{TakesBeginning};
-ghost use Rattle.miette_report.specs.views.Drawn.{drawn_label, drawn_meaning, drawn_tree, over_input, IsPicture, IsReadWhole, Pictures};
+ghost use Rattle.miette_report.specs.views.Drawn.{drawn_label, drawn_meaning, drawn_tree, over_input, IsPicture};
+ghost use Rattle.miette_report.specs.views.Drawn.{IsReadWhole, Pictures};
 
 use crate::device::Device;
 use crate::draw::DrawWords;
@@ -36,7 +37,8 @@ fn label(alloc: Global, offset: usize, length: usize, text: &str) -> Result<Labe
 
 // The message with the label.
 fn diagnostic(alloc: Global, words: &DrawWords<'_>) -> Result<MietteDiagnostic, AllocError>
-    ensures { IfOk result (λ it. meaning_of it ≡ drawn_meaning words.now.offset words.now.length words.now.label.now words.now.message.now) }
+    ensures { IfOk result (λ it. meaning_of it
+        ≡ drawn_meaning words.now.offset words.now.length words.now.label.now words.now.message.now) }
 {
     let label = label(alloc, words.offset, words.length, words.label)?;
     let diagnostic = MietteDiagnostic::new(alloc, words.message)?.with_label(alloc, label)?;
@@ -50,7 +52,8 @@ fn report<D: Diagnostic, S: SourceCode>(
     diagnostic: MietteDiagnostic,
     input: Vec<u8>,
 ) -> Result<Report<D, S>, AllocError>
-    ensures { IfOk result (λ it. tree_of D.meaning S.source it ≡ over_input name.now (meaning_of diagnostic) input.items) }
+    ensures { IfOk result (λ it. tree_of D.meaning S.source it
+        ≡ over_input name.now (meaning_of diagnostic) input.items) }
 {
     let source = OwnedSource::named(alloc, name, None, input)?;
     Ok(Report::built(diagnostic).with_owned_source(source))
@@ -58,8 +61,11 @@ fn report<D: Diagnostic, S: SourceCode>(
 
 // The picture of a report, in plain characters.
 fn draw(alloc: Global, report: &Report) -> Result<String, RenderError>
-    requires reads { IsReadWhole (tree_of ⟦<Box<dyn Diagnostic> as Diagnostic>⟧.meaning ⟦<Box<dyn SourceCode> as SourceCode>⟧.source report.now) }
-    ensures ok { IfOk result (λ text. IsPicture (tree_of ⟦<Box<dyn Diagnostic> as Diagnostic>⟧.meaning ⟦<Box<dyn SourceCode> as SourceCode>⟧.source report.now) (string_bytes text)) }
+    requires reads { IsReadWhole (tree_of ⟦<Box<dyn Diagnostic> as Diagnostic>⟧.meaning
+        ⟦<Box<dyn SourceCode> as SourceCode>⟧.source report.now) }
+    ensures ok { IfOk result (λ text. IsPicture
+        (tree_of ⟦<Box<dyn Diagnostic> as Diagnostic>⟧.meaning ⟦<Box<dyn SourceCode> as SourceCode>⟧.source report.now)
+        (string_bytes text)) }
     ensures accepted { ¬ (result ≡ Err RenderError.Refused) }
 {
     let theme = match GraphicalTheme::unicode_nocolor(alloc) {
@@ -74,7 +80,8 @@ fn draw(alloc: Global, report: &Report) -> Result<String, RenderError>
     }
 }
 
-/// The picture of a diagnostic over the input under its name, in plain characters: what the programs `draw` and `lint` write.
+/// The picture of a diagnostic over the input under its name, in plain characters: what the programs `draw` and
+/// `lint` write.
 ///
 /// # Errors
 /// Where no memory is found. The source always reads, so nothing else is refused.
@@ -84,7 +91,8 @@ pub(crate) fn picture_over(
     diagnostic: MietteDiagnostic,
     input: Vec<u8>,
 ) -> Result<String, RenderError>
-    ensures ok { IfOk result (λ text. IsPicture (over_input name.now (meaning_of diagnostic) input.items) (string_bytes text)) }
+    ensures ok { IfOk result (λ text. IsPicture (over_input name.now (meaning_of diagnostic) input.items)
+        (string_bytes text)) }
     ensures accepted { ¬ (result ≡ Err RenderError.Refused) }
 {
     let report: Report = match report(alloc, name, diagnostic, input) {
@@ -103,7 +111,9 @@ pub(crate) fn picture(
     words: &DrawWords<'_>,
     input: Vec<u8>,
 ) -> Result<String, RenderError>
-    ensures ok { IfOk result (λ text. IsPicture (drawn_tree words.now.name.now words.now.offset words.now.length words.now.label.now words.now.message.now input.items) (string_bytes text)) }
+    ensures ok { IfOk result (λ text. IsPicture
+        (drawn_tree words.now.name.now words.now.offset words.now.length words.now.label.now words.now.message.now
+        input.items) (string_bytes text)) }
     ensures accepted { ¬ (result ≡ Err RenderError.Refused) }
 {
     let diagnostic = match diagnostic(alloc, words) {
@@ -127,8 +137,9 @@ pub enum DrawError {
 /// Reads all, and writes the picture of the words' label on it, and nothing else.
 ///
 /// # Errors
-/// `Read` exactly where a call of the reader failed. `Write` exactly where one of the writer failed, or took nothing: it has then taken a
-/// beginning of the picture. `Memory` where memory is refused. After all but `Write` nothing was written.
+/// `Read` exactly where a call of the reader failed. `Write` exactly where one of the writer failed, or took nothing:
+/// it has then taken a beginning of the picture. `Memory` where memory is refused. After all but `Write` nothing was
+/// written.
 pub fn write_picture<R: Read, W: Write>(
     alloc: Global,
     words: &DrawWords<'_>,

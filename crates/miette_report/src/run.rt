@@ -1,6 +1,7 @@
 //! A job: read all, build, render, write all.
 
-ghost use Rattle.std.specs.Prelude.{◌≡◌, ◌<◌, ◌↔◌, length, ◌⊎◌, false, string_bytes, IsTrue, IsUtf8, IfOk, OnOk, OnErr, IfSome, Some, None};
+ghost use Rattle.std.specs.Prelude.{◌≡◌, ◌<◌, ◌↔◌, length, ◌⊎◌, false, string_bytes, IsTrue, IsUtf8, IfOk, OnOk, OnErr};
+ghost use Rattle.std.specs.Prelude.{IfSome, Some, None};
 ghost use Rattle.std.specs.Io.KnownBytes.{Appends};
 ghost use Rattle.miette_report.specs.views.Device.{TakesBeginning};
 ghost use Rattle.miette_tree.specs.views.Report.{tree_of};
@@ -48,8 +49,11 @@ impl From<AllocError> for JobError {
 
 /// The report that the bytes describe.
 fn report_of(alloc: Global, bytes: &[u8]) -> Result<Report, JobError>
-    ensures ok { IfOk result (λ r. IsUtf8 bytes.now × (tree_for bytes.now ≡ Some (tree_of ⟦<Box<dyn Diagnostic> as Diagnostic>⟧.meaning ⟦<Box<dyn SourceCode> as SourceCode>⟧.source r))) }
-    ensures sources { IfOk result (λ r. AlwaysReads (tree_of ⟦<Box<dyn Diagnostic> as Diagnostic>⟧.meaning ⟦<Box<dyn SourceCode> as SourceCode>⟧.source r)) }
+    ensures ok { IfOk result (λ r. IsUtf8 bytes.now
+        × (tree_for bytes.now ≡ Some (tree_of ⟦<Box<dyn Diagnostic> as Diagnostic>⟧.meaning
+        ⟦<Box<dyn SourceCode> as SourceCode>⟧.source r))) }
+    ensures sources { IfOk result (λ r. AlwaysReads
+        (tree_of ⟦<Box<dyn Diagnostic> as Diagnostic>⟧.meaning ⟦<Box<dyn SourceCode> as SourceCode>⟧.source r)) }
     ensures description { (result ≡ Err JobError.Description) → IsUtf8 bytes.now → tree_for bytes.now ≡ None }
     ensures others { OnErr result ((result ≡ Err JobError.Description) ⊎ (result ≡ Err JobError.Memory)) }
 {
@@ -62,10 +66,13 @@ fn report_of(alloc: Global, bytes: &[u8]) -> Result<Report, JobError>
 
 /// The text for a description.
 fn text_of(alloc: Global, bytes: &[u8], settings: Settings) -> Result<String, JobError>
-    ensures ok { IfOk result (λ text. Writes ⟦<Box<dyn Highlighter> as Highlighter>⟧.is_blank settings.choice settings.options settings.terminal bytes.now (λ given. string_bytes text ≡ given)) }
+    ensures ok { IfOk result (λ text. Writes ⟦<Box<dyn Highlighter> as Highlighter>⟧.is_blank settings.choice
+        settings.options settings.terminal bytes.now (λ given. string_bytes text ≡ given)) }
     ensures description { (result ≡ Err JobError.Description) → IsUtf8 bytes.now → tree_for bytes.now ≡ None }
-    ensures refused { (result ≡ Err JobError.Refused) → IsNarrating settings.choice settings.options settings.terminal × IsRefused bytes.now }
-    ensures others { OnErr result ((result ≡ Err JobError.Description) ⊎ (result ≡ Err JobError.Refused) ⊎ (result ≡ Err JobError.Memory)) }
+    ensures refused { (result ≡ Err JobError.Refused) →
+        IsNarrating settings.choice settings.options settings.terminal × IsRefused bytes.now }
+    ensures others { OnErr result ((result ≡ Err JobError.Description) ⊎ (result ≡ Err JobError.Refused)
+        ⊎ (result ≡ Err JobError.Memory)) }
 {
     let report = report_of(alloc, bytes)?;
     let mut handler = Chosen::new(alloc, settings)?;
@@ -79,11 +86,15 @@ pub(crate) fn rendered_length(
     times: usize,
     settings: Settings,
 ) -> Result<usize, JobError>
-    ensures ok { IfOk result (λ n. 0 < times → Writes ⟦<Box<dyn Highlighter> as Highlighter>⟧.is_blank settings.choice settings.options settings.terminal bytes.now (λ text. n ≡ length text)) }
+    ensures ok { IfOk result (λ n. 0 < times →
+        Writes ⟦<Box<dyn Highlighter> as Highlighter>⟧.is_blank settings.choice settings.options settings.terminal
+        bytes.now (λ text. n ≡ length text)) }
     ensures described { OnOk result (IsDescription bytes.now) }
     ensures description { (result ≡ Err JobError.Description) → IsUtf8 bytes.now → tree_for bytes.now ≡ None }
-    ensures refused { (result ≡ Err JobError.Refused) → IsNarrating settings.choice settings.options settings.terminal × IsRefused bytes.now }
-    ensures others { OnErr result ((result ≡ Err JobError.Description) ⊎ (result ≡ Err JobError.Refused) ⊎ (result ≡ Err JobError.Memory)) }
+    ensures refused { (result ≡ Err JobError.Refused) →
+        IsNarrating settings.choice settings.options settings.terminal × IsRefused bytes.now }
+    ensures others { OnErr result ((result ≡ Err JobError.Description) ⊎ (result ≡ Err JobError.Refused)
+        ⊎ (result ≡ Err JobError.Memory)) }
 {
     let report = report_of(alloc, bytes)?;
     let mut handler = Chosen::new(alloc, settings)?;
@@ -97,9 +108,10 @@ pub(crate) fn rendered_length(
 /// Reads all, and writes the text that the settings ask for and nothing else.
 ///
 /// # Errors
-/// `Read` exactly where a call of the reader failed. `Write` exactly where one of the writer failed, or took nothing: it has then taken a
-/// beginning of the text. `Description` where what was read describes no report. `Refused` only of a narrated report, where a label that
-/// it tells isn't accepted. `Memory` where memory is refused. After all but `Write` nothing was written.
+/// `Read` exactly where a call of the reader failed. `Write` exactly where one of the writer failed, or took nothing:
+/// it has then taken a beginning of the text. `Description` where what was read describes no report. `Refused` only
+/// of a narrated report, where a label that it tells isn't accepted. `Memory` where memory is refused. After all but
+/// `Write` nothing was written.
 pub fn run<R: Read, W: Write>(
     alloc: Global,
     reader: &mut Device<R>,
@@ -110,16 +122,20 @@ pub fn run<R: Read, W: Write>(
     requires writer_unmarked { writer.old.failed ≡ false }
     // All that the reader had left is a description, and the writer took its text and nothing else.
     ensures ok { OnOk result (IfSome (R.remaining reader.old.inner) (λ bytes.
-        Writes ⟦<Box<dyn Highlighter> as Highlighter>⟧.is_blank settings.choice settings.options settings.terminal bytes (Appends (W.contents writer.old.inner) (W.contents writer.new.inner)))) }
+        Writes ⟦<Box<dyn Highlighter> as Highlighter>⟧.is_blank settings.choice settings.options settings.terminal bytes
+        (Appends (W.contents writer.old.inner) (W.contents writer.new.inner)))) }
     ensures description { (result ≡ Err JobError.Description) → IfSome (R.remaining reader.old.inner) (λ bytes.
         IsUtf8 bytes → tree_for bytes ≡ None) }
     ensures read_mark { IsTrue reader.new.failed ↔ (result ≡ Err JobError.Read) }
     ensures write_mark { IsTrue writer.new.failed ↔ (result ≡ Err JobError.Write) }
     // Only a narrated report is refused, and only where a label that it tells isn't accepted.
-    ensures refused { (result ≡ Err JobError.Refused) → IsNarrating settings.choice settings.options settings.terminal × IfSome (R.remaining reader.old.inner) IsRefused }
+    ensures refused { (result ≡ Err JobError.Refused) →
+        IsNarrating settings.choice settings.options settings.terminal
+        × IfSome (R.remaining reader.old.inner) IsRefused }
     // After a write fault a beginning of the text was taken.
     ensures beginning { (result ≡ Err JobError.Write) → IfSome (R.remaining reader.old.inner) (λ bytes.
-        Writes ⟦<Box<dyn Highlighter> as Highlighter>⟧.is_blank settings.choice settings.options settings.terminal bytes (TakesBeginning (W.contents writer.old.inner) (W.contents writer.new.inner))) }
+        Writes ⟦<Box<dyn Highlighter> as Highlighter>⟧.is_blank settings.choice settings.options settings.terminal bytes
+        (TakesBeginning (W.contents writer.old.inner) (W.contents writer.new.inner))) }
     // After any other error nothing was written.
     ensures untouched { OnErr result ((result ≡ Err JobError.Write) ⊎ (writer.new ≡ writer.old)) }
 {

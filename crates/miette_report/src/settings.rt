@@ -33,12 +33,12 @@ pub struct Settings {
 }
 
 impl Settings {
-    /// The settings that a program's words ask for, without the program's name. Of words that ask for the same the last one
-    /// counts; what no word asks for is left to the handler.
+    /// The settings that a program's words ask for, without the program's name. Of words that ask for the same the
+    /// last one counts; what no word asks for is left to the handler.
     ///
     /// # Errors
-    /// `Usage` where a word is none of those that there are, where a value is missing or isn't one that its word takes, and
-    /// for tabs of no columns; `Memory` where none is found for a text or a theme.
+    /// `Usage` where a word is none of those that there are, where a value is missing or isn't one that its word
+    /// takes, and for tabs of no columns; `Memory` where none is found for a text or a theme.
     pub fn read(alloc: Global, words: &[String]) -> Result<Settings, WordsFault>
         // The last of `--json` and `--debug` that is no value chooses the handler.
         ensures choice { IfOk result (λ it. it.choice ≡ choice_in Choice.Build (map string_bytes words.now)) }

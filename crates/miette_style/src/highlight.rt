@@ -8,8 +8,8 @@ use crate::style::Style;
 use miette_protocol::source::MietteSpanContents;
 use std::alloc::{AllocError, Global};
 
-/// Styles the pieces of a line. A highlighter is restarted before each snippet, with the contents of the snippet's read,
-/// and is then given the text of each line in order, without its terminator, tabs as they are.
+/// Styles the pieces of a line. A highlighter is restarted before each snippet, with the contents of the snippet's
+/// read, and is then given the text of each line in order, without its terminator, tabs as they are.
 ///
 /// An implementation may carry a state from one line to the next.
 pub trait Highlighter: Drop {
@@ -20,8 +20,8 @@ pub trait Highlighter: Drop {
     fn restart(&mut self, contents: &MietteSpanContents<'_>)
         ensures { is_blank self.new ≡ is_blank self.old };
 
-    /// The pieces of the next line: a length in bytes and a style each. The lengths add up to the line's, and each piece
-    /// ends at a character boundary. A piece of length 0 prints nothing.
+    /// The pieces of the next line: a length in bytes and a style each. The lengths add up to the line's, and each
+    /// piece ends at a character boundary. A piece of length 0 prints nothing.
     ///
     /// # Errors
     /// Where no memory is found for the list.
@@ -38,7 +38,8 @@ pub trait Highlighter: Drop {
 /// Pieces that make up a line have the line's length together, and each ends at a character boundary of the line.
 pub fn pieces_law()
     ensures lengths { (line : List ℕ) (pieces : List Piece) → CutsLine line pieces → total_length pieces ≡ length line }
-    ensures boundaries { (line : List ℕ) (pieces : List Piece) → CutsLine line pieces → All (IsCharBoundary line) (ends_from 0 pieces) }
+    ensures boundaries { (line : List ℕ) (pieces : List Piece) → CutsLine line pieces →
+        All (IsCharBoundary line) (ends_from 0 pieces) }
 {}
 
 /// The highlighter that leaves each line plain.

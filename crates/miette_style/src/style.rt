@@ -2,7 +2,8 @@
 
 ghost use Rattle.std.specs.Prelude.{◌≡◌, Some, true};
 
-/// A colour of the foreground: one of the terminal's own, or its red, green and blue parts. Codes stand between `ESC [` and `m`.
+/// A colour of the foreground: one of the terminal's own, or its red, green and blue parts. Codes stand between `ESC
+/// [` and `m`.
 #[derive(Clone, Copy, Debug, PartialEq, Eq)]
 pub enum Color {
     /// The terminal's red: code 31.

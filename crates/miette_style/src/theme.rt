@@ -24,8 +24,8 @@ pub struct ThemeCharacters {
     pub mtop: char,
     /// Drawn nowhere.
     pub rtop: char,
-    /// The lower corner of a frame, where a label of several lines ends, before a label's text, and of the arrow to the last cause or related
-    /// report.
+    /// The lower corner of a frame, where a label of several lines ends, before a label's text, and of the arrow to
+    /// the last cause or related report.
     pub lbot: char,
     /// Drawn nowhere.
     pub rbot: char,
@@ -53,7 +53,8 @@ pub struct ThemeCharacters {
 
 impl ThemeCharacters {
     ghost use Rattle.std.specs.Prelude.{◌≡◌, IfOk};
-    ghost use Rattle.miette_style.specs.rules.Themes.{ascii_characters, characters_of, emoji_characters, unicode_characters};
+    ghost use Rattle.miette_style.specs.rules.Themes.{ascii_characters, characters_of, emoji_characters};
+    ghost use Rattle.miette_style.specs.rules.Themes.{unicode_characters};
 
     /// Lines and arrows of Unicode.
     ///
@@ -158,7 +159,8 @@ impl Clone for ThemeCharacters {
 /// The styles of a graphical report. In order of offset, the labels take the styles of `highlights` in turn.
 #[derive(Debug, Drop)]
 pub struct ThemeStyles {
-    /// The code, icon, bars and arrows of an error, and where there is no severity; the first words of a refused label's row.
+    /// The code, icon, bars and arrows of an error, and where there is no severity; the first words of a refused
+    /// label's row.
     pub error: Style,
     /// Those of a warning; the refusal's name in that row.
     pub warning: Style,
@@ -166,7 +168,8 @@ pub struct ThemeStyles {
     pub advice: Style,
     /// What stands before a help text: `  help: `.
     pub help: Style,
-    /// The text of a link, a url that is text, what a named frame has in brackets; text, offset and length in a refused label's row.
+    /// The text of a link, a url that is text, what a named frame has in brackets; text, offset and length in a
+    /// refused label's row.
     pub link: Style,
     /// The number of a line, with the spaces that pad it.
     pub linum: Style,
@@ -288,7 +291,8 @@ pub struct GraphicalTheme {
 
 impl GraphicalTheme {
     ghost use Rattle.std.specs.Prelude.{◌≡◌, IfOk};
-    ghost use Rattle.miette_style.specs.rules.Themes.{ansi_styles, ascii_characters, no_styles, terminal_theme, theme_of, unicode_characters};
+    ghost use Rattle.miette_style.specs.rules.Themes.{ansi_styles, ascii_characters, no_styles, terminal_theme};
+    ghost use Rattle.miette_style.specs.rules.Themes.{theme_of, unicode_characters};
 
     fn new(characters: ThemeCharacters, styles: ThemeStyles) -> Self
         ensures { result ≡ record { characters = characters; styles = styles } }

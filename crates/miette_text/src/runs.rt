@@ -27,8 +27,8 @@ use std::rc::Rc;
 
 /// Characters, and in order the signs that stand between them, each with how many characters are before it.
 ///
-/// A run in a style is what stands between the sign that begins the style and the one that ends it. Where memory is wanting, what
-/// the runs hold is open: they are to be dropped.
+/// A run in a style is what stands between the sign that begins the style and the one that ends it. Where memory is
+/// wanting, what the runs hold is open: they are to be dropped.
 #[derive(Debug, Drop)]
 pub struct Runs {
     codes: Vec<char>,

@@ -1,7 +1,8 @@
 //! Text, wrapped under indents.
 
 ghost use Rattle.std.specs.Prelude.{◌≡◌, ◌++◌, IfOk, OnErr, OnOk, chars, encode_utf8_all, string_bytes, true};
-ghost use Rattle.miette_text.specs.views.Filling.{AppendsErasing, AreColoured, cuts_hyphens, filled_under, laid_out, layout_of, layout_with};
+ghost use Rattle.miette_text.specs.views.Filling.{AppendsErasing, AreColoured, cuts_hyphens, filled_under, laid_out};
+ghost use Rattle.miette_text.specs.views.Filling.{layout_of, layout_with};
 ghost use Rattle.miette_text.specs.rules.Sequences.{erase, spell, tokens};
 ghost use Rattle.miette_text.specs.rules.Tame.{colourless};
 ghost use Rattle.miette_text.specs.rules.Wrapping.{wrapped};
@@ -76,7 +77,9 @@ pub struct Plan<'a> {
 }
 
 fn push_filled_under<S: Sink>(out: &mut S, plan: Plan<'_>, text: &Runs) -> Result<(), AllocError>
-    ensures { OnOk result (S.holds out.new ≡ S.holds out.old ++ S.spells (filled_under plan.entry.hyphens plan.entry.breaks plan.entry.width plan.entry.first.now plan.entry.further.now text.now)) }
+    ensures { OnOk result (S.holds out.new ≡ S.holds out.old
+        ++ S.spells (filled_under plan.entry.hyphens plan.entry.breaks plan.entry.width plan.entry.first.now
+        plan.entry.further.now text.now)) }
 {
     let first = plan.first.parts();
     let further = plan.further.parts();
@@ -102,7 +105,9 @@ fn push_filled_under<S: Sink>(out: &mut S, plan: Plan<'_>, text: &Runs) -> Resul
 
 // Runs, wrapped, each sign as it is.
 fn push_wrapped<S: Sink>(out: &mut S, plan: Plan<'_>, text: &Runs) -> Result<(), AllocError>
-    ensures { OnOk result (S.holds out.new ≡ S.holds out.old ++ S.spells (laid_out plan.entry.wraps plan.entry.hyphens plan.entry.breaks plan.entry.width plan.entry.first.now plan.entry.further.now text.now)) }
+    ensures { OnOk result (S.holds out.new ≡ S.holds out.old
+        ++ S.spells (laid_out plan.entry.wraps plan.entry.hyphens plan.entry.breaks plan.entry.width
+        plan.entry.first.now plan.entry.further.now text.now)) }
 {
     if plan.wraps {
         push_filled_under(out, plan, text)?;
@@ -125,9 +130,12 @@ fn are_settled(plan: Plan<'_>, text: &Runs) -> bool
 /// Appends the runs, wrapped, as the text that they print is.
 ///
 /// # Errors
-/// `AllocError` where memory is refused, or a row has more columns than a `usize` counts. What `out` holds is then open.
+/// `AllocError` where memory is refused, or a row has more columns than a `usize` counts. What `out` holds is then
+/// open.
 pub fn wrap(alloc: Global, plan: Plan<'_>, text: &Runs, out: &mut Output) -> Result<(), AllocError>
-    ensures { OnOk result (out.new ≡ out.old ++ wrapped (layout_with plan.entry.wraps plan.entry.hyphens plan.entry.breaks plan.entry.width (spell plan.entry.first.now) (spell plan.entry.further.now)) (spell text.now)) }
+    ensures { OnOk result (out.new ≡ out.old ++ wrapped
+        (layout_with plan.entry.wraps plan.entry.hyphens plan.entry.breaks plan.entry.width (spell plan.entry.first.now)
+        (spell plan.entry.further.now)) (spell text.now)) }
 {
     if are_settled(plan, text) {
         push_wrapped(out, plan, text)?;
@@ -180,8 +188,11 @@ fn wrapped_text(alloc: Global, options: &WrapOptions<'_>, text: &str) -> Result<
 /// # Errors
 /// `AllocError` where memory is refused, or a row has more columns than a `usize` counts. `out` is then as before.
 pub fn fill(text: &str, options: &WrapOptions<'_>, out: &mut String) -> Result<(), AllocError>
-    ensures ok { OnOk result (string_bytes out.new ≡ string_bytes out.old ++ encode_utf8_all (wrapped (layout_of options.now) (chars text.now))) }
-    ensures colours { OnOk result (AreColoured (layout_of options.now) (chars text.now) → AppendsErasing (string_bytes out.old) (string_bytes out.new) (encode_utf8_all (wrapped (colourless (layout_of options.now)) (erase (chars text.now))))) }
+    ensures ok { OnOk result (string_bytes out.new
+        ≡ string_bytes out.old ++ encode_utf8_all (wrapped (layout_of options.now) (chars text.now))) }
+    ensures colours { OnOk result (AreColoured (layout_of options.now) (chars text.now) →
+        AppendsErasing (string_bytes out.old) (string_bytes out.new)
+        (encode_utf8_all (wrapped (colourless (layout_of options.now)) (erase (chars text.now))))) }
     ensures err { OnErr result (string_bytes out.new ≡ string_bytes out.old) }
 {
     let wrapped = wrapped_text(*out.allocator(), options, text)?;

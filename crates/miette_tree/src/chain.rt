@@ -1,5 +1,6 @@
 //! The messages of a report and its causes, from both ends.
-ghost use Rattle.std.specs.Prelude.{◌≡◌, ◌<◌, ◌≤◌, ◌+◌, ◌^◌, [], ◌∷◌, ◌++◌, length, map, take, string_bytes, Some, None};
+ghost use Rattle.std.specs.Prelude.{◌≡◌, ◌<◌, ◌≤◌, ◌+◌, ◌^◌, [], ◌∷◌, ◌++◌, length, map, take, string_bytes, Some};
+ghost use Rattle.std.specs.Prelude.{None};
 ghost use Rattle.std.specs.List.{last_or};
 ghost use Rattle.std.specs.Option.{option_map};
 ghost use Rattle.std.specs.Iterator.{YieldsFirstBy, YieldsLastBy, item_count};
@@ -38,7 +39,8 @@ fn last_within<'a, D: Diagnostic, S: SourceCode>(
     count: usize,
 ) -> (&'a str, usize)
     requires { 0 < count }
-    ensures parts { take count (spine (tree_of D.meaning S.source report.now)) ≡ take result.1 (spine (tree_of D.meaning S.source report.now)) ++ result.0.now ∷ [] }
+    ensures parts { take count (spine (tree_of D.meaning S.source report.now))
+        ≡ take result.1 (spine (tree_of D.meaning S.source report.now)) ++ result.0.now ∷ [] }
     ensures fewer { result.1 < count }
 {
     let mut at = report;

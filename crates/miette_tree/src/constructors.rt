@@ -49,7 +49,8 @@ where
     /// memory for the copies is refused.
     pub fn copied<E: Diagnostic>(alloc: Global, error: &E) -> Result<Report<D, S>, AllocError>
         ensures tree { IfOk result (λ r. tree_of D.meaning S.source r ≡ alone (E.meaning error.now)) }
-        ensures kind { IfOk result (λ r. (copy : MietteDiagnostic) × (meaning_of copy ≡ E.meaning error.now) × (kind_of r ≡ built copy)) }
+        ensures kind { IfOk result (λ r. (copy : MietteDiagnostic) × (meaning_of copy ≡ E.meaning error.now)
+            × (kind_of r ≡ built copy)) }
     {
         Ok(Report::built(MietteDiagnostic::copied(alloc, error)?))
     }

@@ -14,10 +14,14 @@ use miette_protocol::source::SourceCode;
 /// chain, and `next_back` to the end gives it in reverse.
 pub fn chains_from_both_ends<D: Diagnostic + 'static, S: SourceCode + 'static>()
     ensures once { (chain later : Chain D S) (taken : List (Taken _))
-        → Gives ⟦<Chain<'static, D, S> as Iterator>⟧.next_gives ⟦<Chain<'static, D, S> as DoubleEndedIterator>⟧.next_back_gives chain taken later
-        → left_of D.meaning S.source chain ≡ front_of (λ x. x.now) taken ++ (left_of D.meaning S.source later ++ back_of (λ x. x.now) taken) }
+        → Gives ⟦<Chain<'static, D, S> as Iterator>⟧.next_gives
+        ⟦<Chain<'static, D, S> as DoubleEndedIterator>⟧.next_back_gives chain taken later
+        → left_of D.meaning S.source chain ≡ front_of (λ x. x.now) taken
+        ++ (left_of D.meaning S.source later ++ back_of (λ x. x.now) taken) }
     ensures front { (chain : Chain D S) (items : List _)
-        → Drains ⟦<Chain<'static, D, S> as Iterator>⟧.next_gives chain items → map (λ x. x.now) items ≡ left_of D.meaning S.source chain }
+        → Drains ⟦<Chain<'static, D, S> as Iterator>⟧.next_gives chain items →
+        map (λ x. x.now) items ≡ left_of D.meaning S.source chain }
     ensures back { (chain : Chain D S) (items : List _)
-        → Drains ⟦<Chain<'static, D, S> as DoubleEndedIterator>⟧.next_back_gives chain items → map (λ x. x.now) items ≡ reverse (left_of D.meaning S.source chain) }
+        → Drains ⟦<Chain<'static, D, S> as DoubleEndedIterator>⟧.next_back_gives chain items →
+        map (λ x. x.now) items ≡ reverse (left_of D.meaning S.source chain) }
 {}

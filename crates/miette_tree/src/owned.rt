@@ -44,7 +44,8 @@ impl OwnedSource {
         language: Option<&str>,
         bytes: Vec<u8>,
     ) -> Result<OwnedSource, AllocError>
-        ensures { IfOk result (λ it. owned_source it ≡ named (plain_source bytes.items) name.now (option_copied language.entry)) }
+        ensures { IfOk result (λ it. owned_source it
+            ≡ named (plain_source bytes.items) name.now (option_copied language.entry)) }
     {
         let source = NamedSource::new(alloc, name, IndexedSource::new(alloc, bytes)?)?;
         let source = match language {

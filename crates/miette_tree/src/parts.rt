@@ -17,7 +17,9 @@ pub fn own_or<'a, D: Diagnostic, S: SourceCode>(
     report: &'a Report<D, S>,
     inherited: Option<SourceRef<'a, S>>,
 ) -> Option<SourceRef<'a, S>>
-    ensures { option_map (shown_source S.source) result ≡ effective (source_of (tree_of D.meaning S.source report.now)) (option_map (shown_source S.source) inherited.entry) }
+    ensures { option_map (shown_source S.source) result
+        ≡ effective (source_of (tree_of D.meaning S.source report.now))
+        (option_map (shown_source S.source) inherited.entry) }
 {
     match report.source_code() {
         Some(own) => Some(own),

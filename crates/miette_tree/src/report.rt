@@ -92,7 +92,8 @@ impl<'a, D, S> Copy for Cause<'a, D, S> {}
 /// Constructors and setters, for boxes of any kind.
 impl<D: Diagnostic, S: SourceCode> Report<D, S> {
     ghost use Rattle.miette_protocol.specs.views.Diagnostic.{meaning_of, message_alone};
-    ghost use Rattle.miette_tree.specs.rules.Tree.{alone, texts, diagnostic, trees, wrapped, with_source, with_cause, with_related, chain_of};
+    ghost use Rattle.miette_tree.specs.rules.Tree.{alone, texts, diagnostic, trees, wrapped, with_source, with_cause};
+    ghost use Rattle.miette_tree.specs.rules.Tree.{with_related, chain_of};
     ghost use Rattle.miette_tree.specs.views.Report.{tree_of, innermost_meaning};
     ghost use Rattle.miette_tree.specs.views.Owned.{owned_source, kept_source};
     ghost use Rattle.miette_tree.specs.views.Kind.{kind_of, innermost_kind, built, message};
@@ -139,7 +140,8 @@ impl<D: Diagnostic, S: SourceCode> Report<D, S> {
 
     /// With this source, where the report has none; it keeps the one that it has. Takes no memory.
     pub fn with_source_code(self, source: S) -> Report<D, S>
-        ensures tree { tree_of D.meaning S.source result ≡ with_source (S.source source) (tree_of D.meaning S.source self) }
+        ensures tree { tree_of D.meaning S.source result
+            ≡ with_source (S.source source) (tree_of D.meaning S.source self) }
         ensures kind { kind_of result ≡ kind_of self }
     {
         self.with_kept(Kept::Boxed(source))
@@ -147,14 +149,16 @@ impl<D: Diagnostic, S: SourceCode> Report<D, S> {
 
     /// With this source, where the report has none; it keeps the one that it has. Takes no memory.
     pub fn with_owned_source(self, source: OwnedSource) -> Report<D, S>
-        ensures tree { tree_of D.meaning S.source result ≡ with_source (owned_source source) (tree_of D.meaning S.source self) }
+        ensures tree { tree_of D.meaning S.source result
+            ≡ with_source (owned_source source) (tree_of D.meaning S.source self) }
         ensures kind { kind_of result ≡ kind_of self }
     {
         self.with_kept(Kept::Owned(source))
     }
 
     fn with_kept(self, place: Kept<S>) -> Report<D, S>
-        ensures tree { tree_of D.meaning S.source result ≡ with_source (kept_source S.source place) (tree_of D.meaning S.source self) }
+        ensures tree { tree_of D.meaning S.source result
+            ≡ with_source (kept_source S.source place) (tree_of D.meaning S.source self) }
         ensures kind { kind_of result ≡ kind_of self }
     {
         let Report {
@@ -176,7 +180,8 @@ impl<D: Diagnostic, S: SourceCode> Report<D, S> {
     /// With these texts as its causes, the nearest first, in place of the cause that it had. An empty
     /// list is no cause. Takes no memory.
     pub fn with_cause_texts(self, list: Vec<String>) -> Report<D, S>
-        ensures tree { tree_of D.meaning S.source result ≡ with_cause (texts (map string_bytes list.items)) (tree_of D.meaning S.source self) }
+        ensures tree { tree_of D.meaning S.source result
+            ≡ with_cause (texts (map string_bytes list.items)) (tree_of D.meaning S.source self) }
         ensures kind { kind_of result ≡ kind_of self }
     {
         let mut report = self;
@@ -192,7 +197,8 @@ impl<D: Diagnostic, S: SourceCode> Report<D, S> {
         alloc: Global,
         cause: Report<D, S>,
     ) -> Result<Report<D, S>, (Report<D, S>, Report<D, S>)>
-        ensures tree { IfOk result (λ r. tree_of D.meaning S.source r ≡ with_cause (diagnostic (tree_of D.meaning S.source cause)) (tree_of D.meaning S.source self)) }
+        ensures tree { IfOk result (λ r. tree_of D.meaning S.source r
+            ≡ with_cause (diagnostic (tree_of D.meaning S.source cause)) (tree_of D.meaning S.source self)) }
         ensures kind { IfOk result (λ r. kind_of r ≡ kind_of self) }
         ensures err { IfErr result (λ both. both ≡ (self, cause)) }
     {
@@ -209,7 +215,8 @@ impl<D: Diagnostic, S: SourceCode> Report<D, S> {
     /// With these related reports in place of those that it had. Takes no memory. The list may be of any length; where
     /// related reports have related reports, each level takes some of the stack when they are let go.
     pub fn with_related(self, list: Vec<Report<D, S>>) -> Report<D, S>
-        ensures tree { tree_of D.meaning S.source result ≡ with_related (trees (map (tree_of D.meaning S.source) list.items)) (tree_of D.meaning S.source self) }
+        ensures tree { tree_of D.meaning S.source result
+            ≡ with_related (trees (map (tree_of D.meaning S.source) list.items)) (tree_of D.meaning S.source self) }
         ensures kind { kind_of result ≡ kind_of self }
     {
         let mut report = self;
@@ -220,7 +227,8 @@ impl<D: Diagnostic, S: SourceCode> Report<D, S> {
     /// With a message in front: the chain that it had becomes its causes, as texts, and all else stays.
     /// Where memory is refused, the report comes back as it was.
     pub fn wrap_err(self, alloc: Global, message: &str) -> Result<Report<D, S>, Report<D, S>>
-        ensures tree { IfOk result (λ r. tree_of D.meaning S.source r ≡ wrapped message.now (tree_of D.meaning S.source self)) }
+        ensures tree { IfOk result (λ r. tree_of D.meaning S.source r
+            ≡ wrapped message.now (tree_of D.meaning S.source self)) }
         ensures kind { IfOk result (λ r. kind_of r ≡ kind_of self) }
         ensures err { IfErr result (λ r. r ≡ self) }
     {
@@ -236,7 +244,8 @@ impl<D: Diagnostic, S: SourceCode> Report<D, S> {
         alloc: Global,
         front: String,
     ) -> Result<Report<D, S>, Report<D, S>>
-        ensures tree { IfOk result (λ r. tree_of D.meaning S.source r ≡ wrapped (string_bytes front) (tree_of D.meaning S.source self)) }
+        ensures tree { IfOk result (λ r. tree_of D.meaning S.source r
+            ≡ wrapped (string_bytes front) (tree_of D.meaning S.source self)) }
         ensures kind { IfOk result (λ r. kind_of r ≡ kind_of self) }
         ensures err { IfErr result (λ r. r ≡ self) }
     {
@@ -252,16 +261,20 @@ impl<D: Diagnostic, S: SourceCode> Report<D, S> {
 
     /// As `wrap_err`.
     pub fn context(self, alloc: Global, message: &str) -> Result<Report<D, S>, Report<D, S>>
-        ensures tree { IfOk result (λ r. tree_of D.meaning S.source r ≡ wrapped message.now (tree_of D.meaning S.source self)) }
+        ensures tree { IfOk result (λ r. tree_of D.meaning S.source r
+            ≡ wrapped message.now (tree_of D.meaning S.source self)) }
         ensures kind { IfOk result (λ r. kind_of r ≡ kind_of self) }
         ensures err { IfErr result (λ r. r ≡ self) }
     {
         self.wrap_err(alloc, message)
     }
 
-    /// The texts of the chain in place of the cause. Where they are the cause already but for the message, that alone is copied.
+    /// The texts of the chain in place of the cause. Where they are the cause already but for the message, that alone
+    /// is copied.
     fn chain_becomes_causes(&mut self, alloc: Global) -> Result<(), AllocError>
-        ensures tree { OnOk result (tree_of D.meaning S.source self.new ≡ with_cause (texts (chain_of (tree_of D.meaning S.source self.old))) (tree_of D.meaning S.source self.old)) }
+        ensures tree { OnOk result (tree_of D.meaning S.source self.new
+            ≡ with_cause (texts (chain_of (tree_of D.meaning S.source self.old)))
+            (tree_of D.meaning S.source self.old)) }
         ensures kind { OnOk result (kind_of self.new ≡ kind_of self.old) }
         ensures err { OnErr result (self.new ≡ self.old) }
     {
@@ -377,7 +390,8 @@ impl<D: Diagnostic, S: SourceCode> Report<D, S> {
 
     /// The reports that are related to it.
     pub fn related(&self) -> &[Report<D, S>]
-        ensures { trees (map (tree_of D.meaning S.source) result.now) ≡ related_of (tree_of D.meaning S.source self.now) }
+        ensures { trees (map (tree_of D.meaning S.source) result.now)
+            ≡ related_of (tree_of D.meaning S.source self.now) }
     {
         match &self.related {
             Some(list) => list.as_slice(),

@@ -15,7 +15,8 @@ use std::alloc::{AllocError, Global};
 
 /// A handler: it gives the text of a report in its own form.
 pub trait ReportHandler {
-    /// The texts that it may give for a report. It is one text, unless a source may fail to read, or a highlighter isn't blank.
+    /// The texts that it may give for a report. It is one text, unless a source may fail to read, or a highlighter
+    /// isn't blank.
     ghost gives: { Self → Tree → List ℕ → Type 0 };
 
     /// For which reports it may answer `Refused`.
@@ -24,15 +25,18 @@ pub trait ReportHandler {
     /// What a call keeps of the handler: all of it, unless the handler has a state of its own.
     ghost keeps: { Self → Self → Type 0 } = { λ old new. new ≡ old };
 
-    /// Appends the report's text; the handler's settings stay. After an error `out` is as before: `Memory` where memory was refused,
-    /// `Refused` where a read of a source was refused for which the text has no row. The JSON and the debug report are never `Refused`.
+    /// Appends the report's text; the handler's settings stay. After an error `out` is as before: `Memory` where
+    /// memory was refused, `Refused` where a read of a source was refused for which the text has no row. The JSON and
+    /// the debug report are never `Refused`.
     fn debug<D: Diagnostic, S: SourceCode>(
         &mut self,
         report: &Report<D, S>,
         out: &mut String,
     ) -> Result<(), RenderError>
-        ensures text { OnOk result (AppendsOne (gives self.old (tree_of D.meaning S.source report.now)) (string_bytes out.old) (string_bytes out.new)) }
-        ensures refused { (result ≡ Err RenderError.Refused) → refuses self.old (tree_of D.meaning S.source report.now) }
+        ensures text { OnOk result (AppendsOne (gives self.old (tree_of D.meaning S.source report.now))
+            (string_bytes out.old) (string_bytes out.new)) }
+        ensures refused { (result ≡ Err RenderError.Refused) →
+            refuses self.old (tree_of D.meaning S.source report.now) }
         ensures err { OnErr result (string_bytes out.new ≡ string_bytes out.old) }
         ensures settings { keeps self.old self.new };
 
@@ -59,7 +63,8 @@ fn push_displayed<D: Diagnostic, S: SourceCode>(
     alternate: bool,
     out: &mut String,
 ) -> Result<(), RenderError>
-    ensures text { OnOk result (string_bytes out.new ≡ string_bytes out.old ++ displayed alternate (tree_of D.meaning S.source report.now)) }
+    ensures text { OnOk result (string_bytes out.new
+        ≡ string_bytes out.old ++ displayed alternate (tree_of D.meaning S.source report.now)) }
     ensures memory { OnErr result (result ≡ Err RenderError.Memory) }
     ensures err { OnErr result (string_bytes out.new ≡ string_bytes out.old) }
 {
@@ -89,7 +94,8 @@ fn push_behind_colons<D: Diagnostic, S: SourceCode>(
     report: &Report<D, S>,
     out: &mut String,
 ) -> Result<(), AllocError>
-    ensures { OnOk result (string_bytes out.new ≡ string_bytes out.old ++ behind_colons (causes_of (cause_of (tree_of D.meaning S.source report.now)))) }
+    ensures { OnOk result (string_bytes out.new
+        ≡ string_bytes out.old ++ behind_colons (causes_of (cause_of (tree_of D.meaning S.source report.now)))) }
 {
     let mut at = report;
     while let Cause::Diagnostic(next) = at.cause() {

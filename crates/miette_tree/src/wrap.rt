@@ -28,14 +28,16 @@ pub trait WrapErr<T, D: Diagnostic, S: SourceCode>: Sized {
     where
         Report<D, S>: UsualBoxes,
         ensures given { IfSome (given self) (λ value. result ≡ Ok value) }
-        ensures missing { IsNone (given self) → IsErrAnd result (λ r. (below : _) × stands_behind self below × Tells D.meaning S.source text.now below r) };
+        ensures missing { IsNone (given self) →
+            IsErrAnd result (λ r. (below : _) × stands_behind self below × Tells D.meaning S.source text.now below r) };
 
     /// As `wrap_err`.
     fn context(self, alloc: Global, text: &str) -> Result<T, Report<D, S>>
     where
         Report<D, S>: UsualBoxes,
         ensures given { IfSome (given self) (λ value. result ≡ Ok value) }
-        ensures missing { IsNone (given self) → IsErrAnd result (λ r. (below : _) × stands_behind self below × Tells D.meaning S.source text.now below r) };
+        ensures missing { IsNone (given self) →
+            IsErrAnd result (λ r. (below : _) × stands_behind self below × Tells D.meaning S.source text.now below r) };
 
     /// A message in front that is made only where it is needed, by at most one call.
     fn wrap_err_with<F: FnOnce() -> Result<String, AllocError>>(
@@ -170,7 +172,8 @@ impl<T, D: Diagnostic, S: SourceCode> WrapErr<T, D, S> for Option<T> {
 impl<T, D: Diagnostic, S: SourceCode, E: Into<Report<D, S>>> WrapErr<T, D, S> for Result<T, E> {
     ghost given = { result_ok };
 
-    ghost stands_behind = { λ outcome below. IfErr outcome (λ error. (report : _) × E.converts error report × (below ≡ Some report)) };
+    ghost stands_behind = { λ outcome below. IfErr outcome
+        (λ error. (report : _) × E.converts error report × (below ≡ Some report)) };
 
     fn wrap_err(self, alloc: Global, message: &str) -> Result<T, Report<D, S>>
     where
@@ -231,7 +234,8 @@ pub trait IntoDiagnostic<T, D: Diagnostic, S: SourceCode>: Sized {
     where
         Report<D, S>: UsualBoxes,
         ensures given { IfSome (given self) (λ value. result ≡ Ok value) }
-        ensures missing { IsNone (given self) → IsErrAnd result (λ r. Prints D.meaning S.source (printed self) r ⊎ IsRefused D.meaning S.source r) };
+        ensures missing { IsNone (given self) →
+            IsErrAnd result (λ r. Prints D.meaning S.source (printed self) r ⊎ IsRefused D.meaning S.source r) };
 }
 
 impl<T, D: Diagnostic, S: SourceCode, E: Display + Drop> IntoDiagnostic<T, D, S> for Result<T, E> {

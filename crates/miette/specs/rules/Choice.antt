@@ -1,8 +1,11 @@
--- Which handler options and a terminal choose, and how it is set. Of several places that may say it, the first that does counts.
-use Rattle.std.specs.Prelude.{◌≡◌, ℕ, Bool, true, false, not, List, Option, None, is_some, if◌then◌else◌, unwrap_or, option_map, chars, codes, string_bytes}
+-- Which handler options and a terminal choose, and how it is set. Of several places that may say it, the first that
+-- does counts.
+use Rattle.std.specs.Prelude.{◌≡◌, ℕ, Bool, true, false, not, List, Option, None, is_some, if◌then◌else◌, unwrap_or}
+use Rattle.std.specs.Prelude.{option_map, chars, codes, string_bytes}
 use Rattle.std.specs.Option.{option_or}
 use Rattle.std.specs.Str.{bytes_eq}
-use Rattle.miette_style.specs.rules.Themes.{Styles, Theme, ansi_styles, ascii_characters, characters_of, no_styles, rgb_styles, unicode_characters}
+use Rattle.miette_style.specs.rules.Themes.{Styles, Theme, ansi_styles, ascii_characters, characters_of, no_styles}
+use Rattle.miette_style.specs.rules.Themes.{rgb_styles, unicode_characters}
 use Rattle.miette_style.specs.declared.theme.Terminal.{Terminal}
 use Rattle.miette_style.specs.declared.theme.ThemeCharacters.{ThemeCharacters}
 use Rattle.miette_narrated.specs.rules.Report as narrated
@@ -20,7 +23,8 @@ asks_for_graphics text = bytes_eq text (codes "0")
 
 abbrev pub is_graphical : {H : Type 0} → Options H → Terminal → Bool
 is_graphical o t =
-    unwrap_or (option_map not o.narrated) (unwrap_or o.graphical (unwrap_or (option_map asks_for_graphics (option_map string_bytes t.no_graphics)) true))
+    unwrap_or (option_map not o.narrated) (unwrap_or o.graphical
+    (unwrap_or (option_map asks_for_graphics (option_map string_bytes t.no_graphics)) true))
 
 abbrev pub chosen_width : {H : Type 0} → Options H → Terminal → ℕ
 chosen_width o t = unwrap_or o.width (unwrap_or t.width 80)

@@ -1,5 +1,7 @@
--- What is known of a terminal, from variables and from which streams go to one. Of several rows the first that applies counts.
-use Rattle.std.specs.Prelude.{◌≡◌, ℕ, ◌<◌, ◌≤◌, ◌^◌, ◌⊎◌, ◌||◌, ◌&&◌, Bool, true, false, not, List, Option, None, Some, is_some, if◌then◌else◌, nat_eq, option_map, codes, string_bytes, String}
+-- What is known of a terminal, from variables and from which streams go to one. Of several rows the first that
+-- applies counts.
+use Rattle.std.specs.Prelude.{◌≡◌, ℕ, ◌<◌, ◌≤◌, ◌^◌, ◌⊎◌, ◌||◌, ◌&&◌, Bool, true, false, not, List, Option, None, Some}
+use Rattle.std.specs.Prelude.{is_some, if◌then◌else◌, nat_eq, option_map, codes, string_bytes, String}
 use Rattle.std.specs.List.{ends_with}
 use Rattle.std.specs.Option.{option_or}
 use Rattle.std.specs.Str.{bytes_eq}
@@ -24,7 +26,8 @@ goes_to_terminal v Stderr = v.stderr_terminal
 
 -- colours are asked for, or refused, whatever the terminal is
 abbrev pub forced_colours : List ℕ → Option Bool
-forced_colours text = if bytes_eq text (codes "0") || bytes_eq text (codes "false") then None else Some (bytes_eq text (codes "3"))
+forced_colours text = if bytes_eq text (codes "0") || bytes_eq text (codes "false") then None
+    else Some (bytes_eq text (codes "3"))
 
 -- a terminal without a kind has no colours, and a dumb one neither
 abbrev pub is_dumb : Option (String Global) → Bool
@@ -63,7 +66,8 @@ is_utf8_locale (Some text) = names_utf8 (string_bytes text)
 
 -- the locale of characters, unless the terminal is the console of Linux, which draws few of them
 abbrev pub draws_unicode : Variables → Bool
-draws_unicode v = not (is_set_to v.term (codes "linux")) && is_utf8_locale (option_or v.lc_all (option_or v.lc_ctype v.lang))
+draws_unicode v = not (is_set_to v.term (codes "linux"))
+    && is_utf8_locale (option_or v.lc_all (option_or v.lc_ctype v.lang))
 
 -- ---- links
 
@@ -87,7 +91,8 @@ shows_links v stream =
 -- the number that the text writes by its digits, from 1 and below 2 ^ 64; nothing of any other text
 abbrev pub IsWidth : Option (List ℕ) → Option ℕ → Type 0
 IsWidth None width = width ≡ None
-IsWidth (Some text) (Some width) = (0 < width) × IsNumeral 10 text × (digits_value 10 text < 2 ^ 64) × (width ≡ digits_value 10 text)
+IsWidth (Some text) (Some width) = (0 < width) × IsNumeral 10 text × (digits_value 10 text < 2 ^ 64)
+    × (width ≡ digits_value 10 text)
 IsWidth (Some text) None = IsNumeral 10 text → (digits_value 10 text ≡ 0) ⊎ (2 ^ 64 ≤ digits_value 10 text)
 
 -- ---- all of it

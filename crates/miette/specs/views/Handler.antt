@@ -19,7 +19,8 @@ Refuses (Narrated it) t = report_accepted t ≡ false
 
 -- The kind stays; of a graphical handler the settings do, and whether it leaves lines plain.
 abbrev pub Keeps : {H : Type 0} → (H → Bool) → MietteHandler H → MietteHandler H → Type 0
-Keeps is_blank (Graphical old) (Graphical new) = (new.settings ≡ old.settings) × (draws_plain is_blank new ≡ draws_plain is_blank old)
+Keeps is_blank (Graphical old) (Graphical new) =
+    (new.settings ≡ old.settings) × (draws_plain is_blank new ≡ draws_plain is_blank old)
 Keeps is_blank (Narrated old) (Narrated new) = new ≡ old
 Keeps is_blank (Graphical old) (Narrated new) = ⊥
 Keeps is_blank (Narrated old) (Graphical new) = ⊥

@@ -3,7 +3,8 @@
 ghost use Rattle.std.specs.Prelude.{◌≡◌, IfOk, None, chars, option_map, unwrap_or};
 ghost use Rattle.std.specs.Option.{option_or};
 ghost use Rattle.miette_style.specs.rules.Themes.{characters_of, styles_of, theme_of};
-ghost use Rattle.miette.specs.rules.Choice.{IsChosen, IsDrawing, chosen_highlighter, chosen_theme, chosen_width, coloured_styles, fitting_theme, is_graphical, takes_colours, told};
+ghost use Rattle.miette.specs.rules.Choice.{IsChosen, IsDrawing, chosen_highlighter, chosen_theme, chosen_width};
+ghost use Rattle.miette.specs.rules.Choice.{coloured_styles, fitting_theme, is_graphical, takes_colours, told};
 
 use crate::options::{MietteHandler, MietteHandlerOpts, RgbColors, Terminal};
 use miette_handlers::handlers::{GraphicalReportHandler, NarratableReportHandler};

@@ -13,8 +13,8 @@ use miette_style::highlight::Highlighter;
 use miette_tree::report::Report;
 use std::alloc::{AllocError, Global};
 
-/// A handler that draws reports or one that narrates them. Users write `MietteHandler`; the parameter is the type of the
-/// highlighter that is used.
+/// A handler that draws reports or one that narrates them. Users write `MietteHandler`; the parameter is the type of
+/// the highlighter that is used.
 #[derive(Drop)]
 pub enum MietteHandler<H = Box<dyn Highlighter>> {
     /// Reports are pictures.

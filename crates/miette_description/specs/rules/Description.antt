@@ -1,8 +1,11 @@
--- The tree of reports that a JSON value describes, where it describes one. Other keys than those that are looked up are ignored.
-use Rattle.std.specs.Prelude.{ℕ, List, [], ◌∷◌, Option, Some, None, option_and_then, option_map, is_some, unwrap_or, if◌then◌else◌, codes}
+-- The tree of reports that a JSON value describes, where it describes one. Other keys than those that are looked up
+-- are ignored.
+use Rattle.std.specs.Prelude.{ℕ, List, [], ◌∷◌, Option, Some, None, option_and_then, option_map, is_some, unwrap_or}
+use Rattle.std.specs.Prelude.{if◌then◌else◌, codes}
 use Rattle.std.specs.Ordering.{nat_cmp, match_ordering}
 use Rattle.std.specs.Cmp.Lexicographic.{slice_cmp}
-use Rattle.serde_json.specs.Data.{Data, null, boolean, number, string, array, object, Items, no_items, item, Members, no_members, member}
+use Rattle.serde_json.specs.Data.{Data, null, boolean, number, string, array, object, Items, no_items, item, Members}
+use Rattle.serde_json.specs.Data.{no_members, member}
 use Rattle.serde_json.specs.Find.{as_null, as_str}
 use Rattle.serde_json.specs.Read.{read}
 use Rattle.serde_json.specs.Written.{has_float}
@@ -22,9 +25,11 @@ wrapped_in [] t = t
 wrapped_in (m ∷ ms) t = wrapped_in ms (wrapped m t)
 
 -- the report that has these parts
-abbrev pub assembled : Meaning → Option Source → Option Tree → Option (List (List ℕ)) → Option Trees → Option (List (List ℕ)) → Option Tree
+abbrev pub assembled : Meaning → Option Source → Option Tree → Option (List (List ℕ)) → Option Trees →
+    Option (List (List ℕ)) → Option Tree
 assembled m s one several related contexts =
-    option_map (λ c. wrapped_in (unwrap_or contexts []) (tree m s c (unwrap_or related no_trees))) (one_cause one several)
+    option_map (λ c. wrapped_in (unwrap_or contexts []) (tree m s c (unwrap_or related no_trees)))
+    (one_cause one several)
 
 -- the report of a description whose `cause` and `related` are read
 abbrev pub report_from : Option (Option Tree) → Option (Option Trees) → Data → Option Tree
@@ -54,11 +59,13 @@ abbrev mutual
 
   pub cause_in : Members → Option (Option Tree)
   cause_in no_members = Some None
-  cause_in (member k d ms) = match_ordering (slice_cmp nat_cmp (codes "cause") k) (cause_in ms) (nullable d (report_in d)) (cause_in ms)
+  cause_in (member k d ms) = match_ordering (slice_cmp nat_cmp (codes "cause") k) (cause_in ms)
+      (nullable d (report_in d)) (cause_in ms)
 
   pub related_in : Members → Option (Option Trees)
   related_in no_members = Some None
-  related_in (member k d ms) = match_ordering (slice_cmp nat_cmp (codes "related") k) (related_in ms) (nullable d (reports_in d)) (related_in ms)
+  related_in (member k d ms) = match_ordering (slice_cmp nat_cmp (codes "related") k) (related_in ms)
+      (nullable d (reports_in d)) (related_in ms)
 
   pub reports_in : Data → Option Trees
   reports_in null = None

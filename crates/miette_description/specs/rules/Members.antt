@@ -1,5 +1,6 @@
 -- The members of a description: what may be absent, and what stands there otherwise.
-use Rattle.std.specs.Prelude.{ℕ, List, [], ◌∷◌, Option, Some, None, option_map, option_and_then, is_some, unwrap_or, false, if◌then◌else◌, codes, bytes_eq}
+use Rattle.std.specs.Prelude.{ℕ, List, [], ◌∷◌, Option, Some, None, option_map, option_and_then, is_some, unwrap_or}
+use Rattle.std.specs.Prelude.{false, if◌then◌else◌, codes, bytes_eq}
 use Rattle.serde_json.specs.Data.{Data, Items, no_items, item}
 use Rattle.serde_json.specs.Find.{get, as_null, as_bool, as_number, as_str, as_array, as_u64}
 use Rattle.miette_protocol.specs.rules.Reading.{Source, plain_source, named}
@@ -40,7 +41,8 @@ list_of reads d = given (as_array d) (all_of reads)
 abbrev pub named_severity : List ℕ → Option Severity
 named_severity name =
     if bytes_eq name (codes "advice") then Some Advice
-    else (if bytes_eq name (codes "warning") then Some Warning else (if bytes_eq name (codes "error") then Some Error else None))
+    else (if bytes_eq name (codes "warning") then Some Warning
+    else (if bytes_eq name (codes "error") then Some Error else None))
 
 abbrev pub severity_of : Data → Option Severity
 severity_of d = given (as_str d) named_severity
@@ -56,7 +58,12 @@ label_of d =
     given (typed as_str (at_key (codes "label") d)) (λ text.
     given (typed as_bool (at_key (codes "primary") d)) (λ primary.
     given (typed lines_of (at_key (codes "context") d)) (λ context.
-    Some (record { text = text; span = record { offset = offset; len = length }; primary = unwrap_or primary false; context = context }))))))
+    Some (record {
+      text = text;
+      span = record { offset = offset; len = length };
+      primary = unwrap_or primary false;
+      context = context;
+    }))))))
 
 -- bytes, with a name where there is one; a language without a name is ignored
 abbrev pub source_named : List ℕ → Option (List ℕ) → Option (List ℕ) → Source

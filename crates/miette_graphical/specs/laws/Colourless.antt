@@ -17,7 +17,15 @@ use Rattle.miette_layout.specs.laws.Clean.{IsCleanLabel, IsCleanSource}
 use Rattle.miette_graphical.specs.laws.Clean.{AreCleanSettings, HaveNoEscapes}
 
 abbrev pub faded : Styles → Styles
-faded s = record { error = plain; warning = plain; advice = plain; help = plain; link = plain; linum = plain; highlights = map (λ _. plain) s.highlights }
+faded s = record {
+  error = plain;
+  warning = plain;
+  advice = plain;
+  help = plain;
+  link = plain;
+  linum = plain;
+  highlights = map (λ _. plain) s.highlights;
+}
 
 abbrev pub colourless : Settings → Settings
 colourless s = record s { styles = faded s.styles }
@@ -28,24 +36,27 @@ unhighlighted_answer a = record a { pieces = [] }
 abbrev mutual
   pub unhighlighted : Answers → Answers
   unhighlighted unlisted = unlisted
-  unhighlighted (listed own cause related) = listed (unhighlighted_answer own) (unhighlighted cause) (unhighlighted_related related)
+  unhighlighted (listed own cause related) = listed (unhighlighted_answer own) (unhighlighted cause)
+      (unhighlighted_related related)
 
   pub unhighlighted_related : RelatedAnswers → RelatedAnswers
   unhighlighted_related no_more = no_more
   unhighlighted_related (and_more first more) = and_more (unhighlighted first) (unhighlighted_related more)
 
--- What a diagnostic's snippet rows have to be: in plain styles and without pieces they print the same rows with each style made
--- plain; and they hold no escape where nothing that they are made of does.
+-- What a diagnostic's snippet rows have to be: in plain styles and without pieces they print the same rows with each
+-- style made plain; and they hold no escape where nothing that they are made of does.
 pub record AreSnippets (rows : SnippetRows) : Type 0 where
   pub fade : (s : Settings) (source : Option Source) (labels : List Label) (a : Answer) →
-      rows_text (rows (colourless s) source labels (unhighlighted_answer a)) ≡ rows_text (map (map plain_run) (rows s source labels a))
+      rows_text (rows (colourless s) source labels (unhighlighted_answer a))
+      ≡ rows_text (map (map plain_run) (rows s source labels a))
   pub clean : (s : Settings) (source : Option Source) (labels : List Label) (a : Answer) →
-      AreCleanSettings s → IfSome source IsCleanSource → AllByRecursion IsCleanLabel labels → HaveNoEscapes (rows s source labels a)
+      AreCleanSettings s → IfSome source IsCleanSource → AllByRecursion IsCleanLabel labels →
+      HaveNoEscapes (rows s source labels a)
 
 -- ---- what is printed
 
--- The bytes of a report's text under some answers, which without their colours are those of its text in plain styles and without a
--- highlighter, under the same reads.
+-- The bytes of a report's text under some answers, which without their colours are those of its text in plain styles
+-- and without a highlighter, under the same reads.
 pub record IsColouredText (rows : SnippetRows) (s : Settings) (blank : Bool) (t : Tree) (bytes : List ℕ) : Type 0 where
   pub answers : Answers
   pub are : AreAnswers s blank t answers

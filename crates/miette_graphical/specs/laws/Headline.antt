@@ -39,20 +39,26 @@ groups_of s source labels = grouping.groups_of s.context source [] (in_order lab
 abbrev pub group_settings : Settings → List Label → frames.Settings
 group_settings s labels = settings_around (layout_settings s) (in_order labels)
 
--- The snippets show the lines in the context of some label, once and in order, each with its number: the rows are those of the maximal
--- runs of these lines, each line with its own cells, in whatever pieces, each run in a frame; and a group shows the lines of one run.
+-- The snippets show the lines in the context of some label, once and in order, each with its number: the rows are
+-- those of the maximal runs of these lines, each line with its own cells, in whatever pieces, each run in a frame;
+-- and a group shows the lines of one run.
 pub record ShowsRuns (s : Settings) (source : Source) (labels : List Label) : Type 0 where
-  pub rows : (pieces : List (List (List Highlight))) → drawn_rows s (Some source) labels (pieces_listed pieces) ≡ shown_rows (Some (framed_runs (layout_settings s) source labels (pieces_listed pieces)))
-  pub groups : lines_of_groups (group_settings s labels).context source (groups_of s source labels) ≡ snippets s.context source.bytes labels
+  pub rows : (pieces : List (List (List Highlight))) →
+      drawn_rows s (Some source) labels (pieces_listed pieces)
+      ≡ shown_rows (Some (framed_runs (layout_settings s) source labels (pieces_listed pieces)))
+  pub groups : lines_of_groups (group_settings s labels).context source (groups_of s source labels)
+      ≡ snippets s.context source.bytes labels
   pub whole : concat (runs (shown_lines s source labels)) ≡ shown_lines s source labels
   pub consecutive : AllByRecursion IsRun (runs (shown_lines s source labels))
   pub parted : AreParted (runs (shown_lines s source labels))
 
--- a diagnostic whose source always reads and accepts its labels, where there is at least one line of context for each label
+-- a diagnostic whose source always reads and accepts its labels, where there is at least one line of context for each
+-- label
 abbrev pub LinesAreShown : Settings → Printed → Type 0
 LinesAreShown s p =
     IfSome p.source (λ source.
-    source.always_reads ≡ true → AreAccepted source.bytes (given_labels p.meaning.labels) → HaveContext s.context (given_labels p.meaning.labels) → ShowsRuns s source (given_labels p.meaning.labels))
+    source.always_reads ≡ true → AreAccepted source.bytes (given_labels p.meaning.labels) →
+    HaveContext s.context (given_labels p.meaning.labels) → ShowsRuns s source (given_labels p.meaning.labels))
 
 -- ---- the marks under a line
 
@@ -63,16 +69,19 @@ drawn_labels s source labels = drawn_from s.styles.highlights (length source.byt
 -- the marks of line k: of the labels that lie on it alone
 abbrev pub marks_under : Settings → Source → List Label → ℕ → List Mark
 marks_under s source labels k =
-    marks_of_line (drawn_labels s source labels) (line_at (lines_of source.bytes) k) (cells_of (layout_settings s) source.bytes (line_at (lines_of source.bytes) k))
+    marks_of_line (drawn_labels s source labels) (line_at (lines_of source.bytes) k)
+    (cells_of (layout_settings s) source.bytes (line_at (lines_of source.bytes) k))
 
--- no mark is empty, each begins where the one before it ends or later, and each anchor lies in its own mark and in no other
+-- no mark is empty, each begins where the one before it ends or later, and each anchor lies in its own mark and in no
+-- other
 pub record AreOwnMarks (marks : List Mark) : Type 0 where
   pub apart : AreApart 0 marks
   pub anchors : AllByRecursion (λ mark. marks_at (anchor mark) marks ≡ mark ∷ []) marks
 
 -- under each line of a diagnostic's source
 abbrev pub MarksAreApart : Settings → Printed → Type 0
-MarksAreApart s p = IfSome p.source (λ source. (k : ℕ) → AreOwnMarks (marks_under s source (given_labels p.meaning.labels) k))
+MarksAreApart s p = IfSome p.source (λ source. (k : ℕ) →
+    AreOwnMarks (marks_under s source (given_labels p.meaning.labels) k))
 
 -- ---- the texts of labels
 
@@ -80,14 +89,17 @@ MarksAreApart s p = IfSome p.source (λ source. (k : ℕ) → AreOwnMarks (marks
 abbrev pub HasFewLines : Contents → Type 0
 HasFewLines read = read.line + length (lines_of_contents read) < 2 ^ 64
 
--- in the rows of a snippet, in whatever pieces its lines are, each text of a label that lies on one line hangs from its own mark's anchor
+-- in the rows of a snippet, in whatever pieces its lines are, each text of a label that lies on one line hangs from
+-- its own mark's anchor
 abbrev pub SnippetHangs : Settings → Source → List Label → Span → Type 0
 SnippetHangs s source labels group =
     HasFewLines (contents (group_settings s labels).context source group) → (pieces : List (List Highlight)) →
-    BodyShows (group_settings s labels) (drawn_labels s source labels) source.bytes (contents (group_settings s labels).context source group) pieces
+    BodyShows (group_settings s labels) (drawn_labels s source labels) source.bytes
+    (contents (group_settings s labels).context source group) pieces
 
 -- in each snippet of a diagnostic, where the theme's characters are one column wide
 abbrev pub TextsHang : Settings → Printed → Type 0
 TextsHang s p =
     IfSome p.source (λ source.
-    IsNarrow width_of s.characters → AllByRecursion (SnippetHangs s source (given_labels p.meaning.labels)) (groups_of s source (given_labels p.meaning.labels)))
+    IsNarrow width_of s.characters → AllByRecursion (SnippetHangs s source (given_labels p.meaning.labels))
+    (groups_of s source (given_labels p.meaning.labels)))

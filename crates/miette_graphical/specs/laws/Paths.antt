@@ -11,19 +11,23 @@ pub data Step : Type 0 where
   to_related : ℕ → Step
 
 abbrev mutual
-  -- From the causes of a report, which inherit its effective source: the first of them, the next one, or a related report of the first.
+  -- From the causes of a report, which inherit its effective source: the first of them, the next one, or a related
+  -- report of the first.
   pub at_cause : Bool → Option Source → Cause → List Step → Option Printed
   at_cause nested inherited (texts ts) path = None
   at_cause nested inherited (diagnostic (tree m own c r)) [] = Some (over (effective own inherited) m)
   at_cause nested inherited (diagnostic (tree m own c r)) (to_cause ∷ path) = at_cause nested inherited c path
-  at_cause nested inherited (diagnostic (tree m own c r)) (to_related k ∷ path) = at_related nested (effective own inherited) r k path
+  at_cause nested inherited (diagnostic (tree m own c r)) (to_related k ∷ path) =
+      at_related nested (effective own inherited) r k path
 
   -- from the related report with this number: itself, its causes where it isn't nested, or its related reports
   pub at_related : Bool → Option Source → Trees → ℕ → List Step → Option Printed
   at_related nested inherited no_trees k path = None
   at_related nested inherited (more_trees (tree m own c r) ts) zero [] = Some (over (effective own inherited) m)
-  at_related nested inherited (more_trees (tree m own c r) ts) zero (to_cause ∷ path) = if nested then None else at_cause nested (effective own inherited) c path
-  at_related nested inherited (more_trees (tree m own c r) ts) zero (to_related k ∷ path) = at_related nested (effective own inherited) r k path
+  at_related nested inherited (more_trees (tree m own c r) ts) zero (to_cause ∷ path) =
+      if nested then None else at_cause nested (effective own inherited) c path
+  at_related nested inherited (more_trees (tree m own c r) ts) zero (to_related k ∷ path) =
+      at_related nested (effective own inherited) r k path
   at_related nested inherited (more_trees t ts) (suc k) path = at_related nested inherited ts k path
 
 -- what is printed at a path of a whole report, if anything is

@@ -1,12 +1,16 @@
--- Which answers the reads of a tree's sources and the highlighter can have given, and the texts that stand for some of them.
-use Rattle.std.specs.Prelude.{◌≡◌, ℕ, Bool, true, List, [], ◌++◌, Option, Some, None, is_some, MatchBool, encode_utf8_all}
+-- Which answers the reads of a tree's sources and the highlighter can have given, and the texts that stand for some
+-- of them.
+use Rattle.std.specs.Prelude.{◌≡◌, ℕ, Bool, true, List, [], ◌++◌, Option, Some, None, is_some, MatchBool}
+use Rattle.std.specs.Prelude.{encode_utf8_all}
 use Rattle.miette_text.specs.rules.Cutting.{without_trailing}
 use Rattle.miette_protocol.specs.views.Meaning.{Meaning, Label}
 use Rattle.miette_protocol.specs.rules.Reading.{Source}
-use Rattle.miette_tree.specs.rules.Tree.{Tree, tree, Cause, diagnostic, texts, Trees, no_trees, more_trees, head, source_of, cause_of, related_of}
+use Rattle.miette_tree.specs.rules.Tree.{Tree, tree, Cause, diagnostic, texts, Trees, no_trees, more_trees, head}
+use Rattle.miette_tree.specs.rules.Tree.{source_of, cause_of, related_of}
 use Rattle.miette_protocol.specs.declared.protocol.Severity.{Severity}
 use Rattle.miette_graphical.specs.rules.Settings.{Settings}
-use Rattle.miette_graphical.specs.rules.Answers.{Answer, Answers, RelatedAnswers, pieces_listed, own_answer, cause_answers, related_answers, first_answers, later_answers}
+use Rattle.miette_graphical.specs.rules.Answers.{Answer, Answers, RelatedAnswers, pieces_listed, own_answer}
+use Rattle.miette_graphical.specs.rules.Answers.{cause_answers, related_answers, first_answers, later_answers}
 use Rattle.miette_graphical.specs.rules.Indents.{narrowed}
 use Rattle.miette_graphical.specs.rules.Parts.{SnippetRows, rows_text, title_text, help_text, under_arrow}
 use Rattle.miette_tree.specs.rules.Parts.{given_labels}
@@ -21,8 +25,9 @@ use Rattle.miette_graphical.specs.rules.Snippets.{drawn_rows, layout_settings}
 use Rattle.miette_graphical.specs.rules.Text.{ends_there, body, inner_text, causes_text, related_text, report_text}
 use Rattle.miette_tree.specs.rules.Tree.{effective}
 
--- ---- Answers that the sources and the highlighter can have given: nothing fails that always reads; the pieces of each line make up its
--- text, and there are none where lines are left plain; and the places of all snippets were read, since else nothing is printed.
+-- ---- Answers that the sources and the highlighter can have given: nothing fails that always reads; the pieces of
+-- each line make up its text, and there are none where lines are left plain; and the places of all snippets were
+-- read, since else nothing is printed.
 
 -- there are rows, under these settings of the layout
 abbrev pub HasRows : frames.Settings → Option Source → List Label → Answer → Type 0
@@ -32,10 +37,12 @@ HasRows l (Some source) labels a = is_some (snippet_rows l source labels a) ≡ 
 -- the pieces are of the lines of the snippets
 abbrev pub HasPieces : frames.Settings → Bool → Option Source → List Label → Answer → Type 0
 HasPieces l blank None labels a = Unit {0}
-HasPieces l blank (Some source) labels a = SnippetsHavePieces (group_context l.context (in_order labels)) blank source (groups_of l.context source a.join_fails (in_order labels)) a.pieces
+HasPieces l blank (Some source) labels a = SnippetsHavePieces (group_context l.context (in_order labels)) blank source
+    (groups_of l.context source a.join_fails (in_order labels)) a.pieces
 
 -- of labels over a source; are lines left plain, and does every read succeed?
-pub record IsAnswerOf (l : frames.Settings) (blank : Bool) (source : Option Source) (labels : List Label) (reads : Bool) (a : Answer) : Type 0 where
+pub record IsAnswerOf (l : frames.Settings) (blank : Bool) (source : Option Source) (labels : List Label) (reads : Bool)
+    (a : Answer) : Type 0 where
   pub read : reads ≡ true → a ≡ pieces_listed a.pieces
   pub plain : blank ≡ true → a.pieces ≡ []
   pub pieces : HasPieces l blank source labels a
@@ -70,7 +77,8 @@ AreAnswers s blank (tree m own c r) a =
 
 -- the text of the rows of a diagnostic's snippets
 abbrev pub IsDrawn : SnippetRows → Settings → Bool → Option Source → Meaning → List ℕ → Type 0
-IsDrawn rows s blank source m text = (a : Answer) × IsAnswer (layout_settings s) blank source m a × (text ≡ rows_text (rows s source (given_labels m.labels) a))
+IsDrawn rows s blank source m text = (a : Answer) × IsAnswer (layout_settings s) blank source m a
+    × (text ≡ rows_text (rows s source (given_labels m.labels) a))
 
 -- the text of the rows of some labels' snippets over a source
 abbrev pub AreDrawn : Settings → Bool → Source → List Label → List ℕ → Type 0
@@ -80,48 +88,62 @@ AreDrawn s blank source labels text =
 
 -- the causes of a report
 abbrev pub AreCauses : SnippetRows → Settings → Bool → Option Severity → Option Source → Cause → List ℕ → Type 0
-AreCauses rows s blank outer inherited c text = (a : Answers) × AreCauseAnswers (layout_settings s) blank inherited c a × (text ≡ causes_text rows s outer inherited c a)
+AreCauses rows s blank outer inherited c text =
+    (a : Answers) × AreCauseAnswers (layout_settings s) blank inherited c a
+    × (text ≡ causes_text rows s outer inherited c a)
 
 -- its related reports
 abbrev pub AreRelated : SnippetRows → Settings → Bool → Option Severity → Option Source → Trees → List ℕ → Type 0
-AreRelated rows s blank outer inherited ts text = (more : RelatedAnswers) × AreRelatedAnswers (layout_settings s) blank inherited ts more × (text ≡ related_text rows s outer inherited ts more)
+AreRelated rows s blank outer inherited ts text =
+    (more : RelatedAnswers) × AreRelatedAnswers (layout_settings s) blank inherited ts more
+    × (text ≡ related_text rows s outer inherited ts more)
 
--- what stands below a tree's causes, over its effective source: the rows of its snippets, its help, and its related reports
+-- what stands below a tree's causes, over its effective source: the rows of its snippets, its help, and its related
+-- reports
 abbrev pub IsBelow : SnippetRows → Settings → Bool → Option Source → Tree → List ℕ → Type 0
 IsBelow rows s blank source t text =
-    (drawn : List ℕ) × (related : List ℕ) × IsDrawn rows s blank source (head t) drawn × AreRelated rows s blank (head t).severity source (related_of t) related
+    (drawn : List ℕ) × (related : List ℕ) × IsDrawn rows s blank source (head t) drawn
+    × AreRelated rows s blank (head t).severity source (related_of t) related
     × (text ≡ drawn ++ help_text s (head t).help ++ related)
 
 -- a tree as an inner report, over its effective source
 abbrev pub IsInner : SnippetRows → Settings → Bool → Option Source → Tree → List ℕ → Type 0
 IsInner rows s blank source (tree m own c r) text =
-    (a : Answer) × (more : RelatedAnswers) × IsAnswer (layout_settings s) blank source m a × AreRelatedAnswers (layout_settings s) blank source r more
+    (a : Answer) × (more : RelatedAnswers) × IsAnswer (layout_settings s) blank source m a
+    × AreRelatedAnswers (layout_settings s) blank source r more
     × (text ≡ inner_text rows s m source a (related_text rows s m.severity source r more))
 
 -- a related tree as a sibling
 abbrev pub IsSibling : SnippetRows → Settings → Bool → Option Source → Tree → List ℕ → Type 0
 IsSibling rows s blank source (tree m own c r) text =
-    (a : Answer) × (below : Answers) × (more : RelatedAnswers) × IsAnswer (layout_settings s) blank source m a × AreCauseAnswers (layout_settings s) blank source c below × AreRelatedAnswers (layout_settings s) blank source r more
-    × (text ≡ title_text s m ++ body rows s m source a (causes_text rows s m.severity source c below) (related_text rows s m.severity source r more))
+    (a : Answer) × (below : Answers) × (more : RelatedAnswers) × IsAnswer (layout_settings s) blank source m a
+    × AreCauseAnswers (layout_settings s) blank source c below
+    × AreRelatedAnswers (layout_settings s) blank source r more
+    × (text ≡ title_text s m ++ body rows s m source a (causes_text rows s m.severity source c below)
+    (related_text rows s m.severity source r more))
 
 -- a diagnostic cause under its arrow
 abbrev pub IsOneCause : SnippetRows → Settings → Bool → Option Severity → Option Source → Tree → List ℕ → Type 0
 IsOneCause rows s blank outer inherited t text =
-    (inner : List ℕ) × IsInner rows (narrowed s outer (ends_there (cause_of t))) blank (effective (source_of t) inherited) t inner
+    (inner : List ℕ) × IsInner rows (narrowed s outer (ends_there (cause_of t))) blank
+    (effective (source_of t) inherited) t inner
     × (text ≡ under_arrow s outer (ends_there (cause_of t)) inner)
 
 -- one of several related trees, over its effective source
 abbrev pub IsNested : SnippetRows → Settings → Bool → Option Severity → Option Source → Bool → Tree → List ℕ → Type 0
 IsNested rows s blank outer source is_last t text =
-    (inner : List ℕ) × IsInner rows (narrowed s outer is_last) blank source t inner × (text ≡ under_arrow s outer is_last (without_trailing inner))
+    (inner : List ℕ) × IsInner rows (narrowed s outer is_last) blank source t inner
+    × (text ≡ under_arrow s outer is_last (without_trailing inner))
 
-abbrev pub IsOneRelated : SnippetRows → Settings → Bool → Option Severity → Option Source → Bool → Tree → List ℕ → Type 0
+abbrev pub IsOneRelated : SnippetRows → Settings → Bool → Option Severity → Option Source → Bool → Tree → List ℕ →
+    Type 0
 IsOneRelated rows s blank outer source is_last t text =
     MatchBool s.nested (IsNested rows s blank outer source is_last t text) (IsSibling rows s blank source t text)
 
 -- the causes of the outermost report
 abbrev pub AreRootCauses : SnippetRows → Settings → Bool → Tree → List ℕ → Type 0
-AreRootCauses rows s blank (tree m own c r) text = MatchBool s.chain (AreCauses rows s blank m.severity own c text) (text ≡ [])
+AreRootCauses rows s blank (tree m own c r) text =
+    MatchBool s.chain (AreCauses rows s blank m.severity own c text) (text ≡ [])
 
 -- a whole report
 abbrev pub IsReport : SnippetRows → Settings → Bool → Tree → List ℕ → Type 0

@@ -2,8 +2,8 @@
 use Rattle.std.specs.Prelude.{List, []}
 use Rattle.miette_lines.specs.rules.Answers as layout
 
--- Of one diagnostic: whether each read failed, and the highlighter's pieces for each line of each snippet. A read that isn't
--- listed succeeds, and a line that isn't listed is plain.
+-- Of one diagnostic: whether each read failed, and the highlighter's pieces for each line of each snippet. A read
+-- that isn't listed succeeds, and a line that isn't listed is plain.
 abbrev pub Answer : Type 0
 Answer = layout.Answers
 
@@ -14,8 +14,8 @@ pieces_listed pieces = record { label_fails = []; join_fails = []; place_fails =
 abbrev pub nothing_listed : Answer
 nothing_listed = pieces_listed []
 
--- Of a tree: of its diagnostic, of its cause, and of each related one. Nothing is listed where all sources always read and the
--- highlighter is blank.
+-- Of a tree: of its diagnostic, of its cause, and of each related one. Nothing is listed where all sources always
+-- read and the highlighter is blank.
 mutual
   pub data Answers : Type 0 where
     unlisted : Answers

@@ -17,7 +17,14 @@ spaces n = replicate n 32
 -- a text wrapped behind what a first and a further indent print, at the set width less 2
 abbrev pub wrapped_behind : Settings → List ℕ → List ℕ → List ℕ → List ℕ
 wrapped_behind s first further text =
-    wrapped (record { room = s.width - 2; first = first; further = further; breaks = s.breaks; wraps = s.wraps; hyphens = s.hyphens }) text
+    wrapped (record {
+      room = s.width - 2;
+      first = first;
+      further = further;
+      breaks = s.breaks;
+      wraps = s.wraps;
+      hyphens = s.hyphens;
+    }) text
 
 abbrev pub wrapped_under : Settings → List Run → List Run → List ℕ → List ℕ
 wrapped_under s first further text = wrapped_behind s (print first) (print further) text
@@ -27,10 +34,11 @@ abbrev pub icon_indent : Settings → Option Severity → List Run
 icon_indent s severity = bare (spaces 2) ∷ Styled (severity_style s severity) (icon s severity) ∷ bare (spaces 1) ∷ []
 
 abbrev pub bar_indent : Settings → Option Severity → List Run
-bar_indent s severity = bare (spaces 2) ∷ Styled (severity_style s severity) (s.characters.vbar ∷ []) ∷ bare (spaces 1) ∷ []
+bar_indent s severity = bare (spaces 2) ∷ Styled (severity_style s severity) (s.characters.vbar ∷ []) ∷ bare (spaces 1)
+    ∷ []
 
--- In front of a cause or a nested related report, in the style of the outer severity: an arrow, and a bar that goes down to the
--- next one.
+-- In front of a cause or a nested related report, in the style of the outer severity: an arrow, and a bar that goes
+-- down to the next one.
 abbrev pub arrow_text : Settings → Bool → List ℕ
 arrow_text s true = spaces 2 ++ s.characters.lbot ∷ s.characters.hbar ∷ s.characters.rarrow ∷ spaces 1
 arrow_text s false = spaces 2 ++ s.characters.lcross ∷ s.characters.hbar ∷ s.characters.rarrow ∷ spaces 1

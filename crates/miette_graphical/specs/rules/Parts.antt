@@ -8,7 +8,8 @@ use Rattle.miette_protocol.specs.declared.protocol.Severity.{Severity}
 use Rattle.miette_protocol.specs.declared.protocol.Severity.TheVariants.{Advice, Warning, Error}
 use Rattle.miette_graphical.specs.rules.Settings.{Settings, Urls, AsLinks, AsText, Hidden, severity_style}
 use Rattle.miette_graphical.specs.rules.Answers.{Answer}
-use Rattle.miette_graphical.specs.rules.Indents.{bare, wrapped_under, icon_indent, bar_indent, arrow_indent, stem_indent, help_indent, further_help_indent, footer_indent}
+use Rattle.miette_graphical.specs.rules.Indents.{bare, wrapped_under, icon_indent, bar_indent, arrow_indent}
+use Rattle.miette_graphical.specs.rules.Indents.{stem_indent, help_indent, further_help_indent, footer_indent}
 use Rattle.miette_tree.specs.rules.Parts.{given_labels}
 
 abbrev pub line_feed : List ℕ
@@ -31,7 +32,8 @@ url_behind s None = []
 url_behind s (Some url) = bare (codes " (") ∷ Styled s.styles.link (chars url) ∷ bare (codes ")") ∷ []
 
 abbrev pub link_header : Settings → Style → List ℕ → Option (List ℕ) → List Run
-link_header s style url code = LinkTo (chars url) ∷ linked_code style code ++ Styled s.styles.link s.link_text ∷ LinkEnd ∷ blank_row
+link_header s style url code = LinkTo (chars url) ∷ linked_code style code ++ Styled s.styles.link s.link_text ∷ LinkEnd
+    ∷ blank_row
 
 abbrev pub code_header : Style → Option (List ℕ) → List Run → List Run
 code_header style None behind = []
@@ -43,7 +45,8 @@ header_by AsLinks s style None code = code_header style code []
 header_by AsText s style url code = code_header style code (url_behind s url)
 header_by Hidden s style url code = code_header style code []
 
--- A link to the url with the code and the link's text; or the code alone, with the url behind it in text mode; or nothing.
+-- A link to the url with the code and the link's text; or the code alone, with the url behind it in text mode; or
+-- nothing.
 abbrev pub header : Settings → Meaning → List Run
 header s m = header_by s.urls s (severity_style s m.severity) m.url m.code
 
@@ -68,7 +71,8 @@ footer_text s = footer_of s s.footer
 
 -- a cause, or a nested related report, under its arrow
 abbrev pub under_arrow : Settings → Option Severity → Bool → List ℕ → List ℕ
-under_arrow s outer is_last text = wrapped_under s (arrow_indent s outer is_last) (stem_indent s outer is_last) text ++ line_feed
+under_arrow s outer is_last text = wrapped_under s (arrow_indent s outer is_last) (stem_indent s outer is_last) text
+    ++ line_feed
 
 -- what names the severity of a related report
 abbrev pub severity_title : Option Severity → List ℕ
@@ -87,7 +91,8 @@ title_text s m = line_feed ++ severity_title m.severity ++ print (header_or_end 
 
 -- ---- snippets
 
--- The rows of a diagnostic's snippets, in runs, by settings, source, labels and what reads and the highlighter answered.
+-- The rows of a diagnostic's snippets, in runs, by settings, source, labels and what reads and the highlighter
+-- answered.
 abbrev pub SnippetRows : Type 0
 SnippetRows = Settings → Option Source → List Label → Answer → List (List Run)
 

@@ -16,8 +16,8 @@ abbrev pub over : Option Source → Meaning → Printed
 over source m = record { source = source; meaning = m }
 
 abbrev mutual
-  -- The causes under a report with this effective source: each with its related reports, and all over that source where they have
-  -- none of their own. Are related reports nested?
+  -- The causes under a report with this effective source: each with its related reports, and all over that source
+  -- where they have none of their own. Are related reports nested?
   pub printed_causes : Bool → Option Source → Cause → List Printed
   printed_causes nested inherited (texts ts) = []
   printed_causes nested inherited (diagnostic (tree m own c r)) =
@@ -32,12 +32,14 @@ abbrev mutual
       ++ printed_related nested (effective own inherited) r))
       ++ printed_related nested inherited ts
 
--- a report that stands in another one, which shows no causes, over its effective source; and one that stands beside others
+-- a report that stands in another one, which shows no causes, over its effective source; and one that stands beside
+-- others
 abbrev pub printed_inner : Bool → Option Source → Tree → List Printed
 printed_inner nested source (tree m own c r) = over source m ∷ printed_related nested source r
 
 abbrev pub printed_sibling : Bool → Option Source → Tree → List Printed
-printed_sibling nested source (tree m own c r) = over source m ∷ (printed_causes nested source c ++ printed_related nested source r)
+printed_sibling nested source (tree m own c r) =
+    over source m ∷ (printed_causes nested source c ++ printed_related nested source r)
 
 abbrev pub printed_one : Bool → Option Source → Tree → List Printed
 printed_one nested source t = if nested then printed_inner nested source t else printed_sibling nested source t

@@ -12,7 +12,13 @@ use Rattle.miette_graphical.specs.rules.Parts.{SnippetRows}
 abbrev pub layout_settings : Settings → frames.Settings
 layout_settings s = record {
   characters = s.characters;
-  styles = record { error = s.styles.error; warning = s.styles.warning; link = s.styles.link; linum = s.styles.linum; highlights = s.styles.highlights };
+  styles = record {
+    error = s.styles.error;
+    warning = s.styles.warning;
+    link = s.styles.link;
+    linum = s.styles.linum;
+    highlights = s.styles.highlights;
+  };
   width = width_of;
   tab = s.tab;
   context = s.context;

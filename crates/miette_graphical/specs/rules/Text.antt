@@ -8,9 +8,11 @@ use Rattle.miette_protocol.specs.rules.Reading.{Source}
 use Rattle.miette_tree.specs.rules.Tree.{effective, Tree, tree, Cause, diagnostic, texts, Trees, no_trees, more_trees}
 use Rattle.miette_protocol.specs.declared.protocol.Severity.{Severity}
 use Rattle.miette_graphical.specs.rules.Settings.{Settings}
-use Rattle.miette_graphical.specs.rules.Answers.{Answer, Answers, RelatedAnswers, own_answer, cause_answers, related_answers, first_answers, later_answers}
+use Rattle.miette_graphical.specs.rules.Answers.{Answer, Answers, RelatedAnswers, own_answer, cause_answers}
+use Rattle.miette_graphical.specs.rules.Answers.{related_answers, first_answers, later_answers}
 use Rattle.miette_graphical.specs.rules.Indents.{narrowed}
-use Rattle.miette_graphical.specs.rules.Parts.{SnippetRows, header, message_text, help_text, footer_text, under_arrow, title_text, rows_text}
+use Rattle.miette_graphical.specs.rules.Parts.{SnippetRows, header, message_text, help_text, footer_text, under_arrow}
+use Rattle.miette_graphical.specs.rules.Parts.{title_text, rows_text}
 use Rattle.miette_tree.specs.rules.Parts.{given_labels}
 
 abbrev pub ends_there : Cause → Bool
@@ -30,18 +32,22 @@ abbrev pub body_over : Settings → Meaning → List ℕ → List ℕ → List �
 body_over s m drawn causes related = message_text s m ++ causes ++ drawn ++ help_text s m.help ++ related
 
 abbrev pub body : SnippetRows → Settings → Meaning → Option Source → Answer → List ℕ → List ℕ → List ℕ
-body rows s m source answer causes related = body_over s m (rows_text (rows s source (given_labels m.labels) answer)) causes related
+body rows s m source answer causes related = body_over s m (rows_text (rows s source (given_labels m.labels) answer))
+    causes related
 
 -- A report that stands in another one, without its causes and without line feeds at its beginning.
 abbrev pub inner_over : Settings → Meaning → List ℕ → List ℕ → List ℕ
 inner_over s m drawn related = without_leading (print (header s m) ++ body_over s m drawn [] related)
 
 abbrev pub inner_text : SnippetRows → Settings → Meaning → Option Source → Answer → List ℕ → List ℕ
-inner_text rows s m source answer related = inner_over s m (rows_text (rows s source (given_labels m.labels) answer)) related
+inner_text rows s m source answer related = inner_over s m (rows_text (rows s source (given_labels m.labels) answer))
+    related
 
 -- The same under an arrow: narrower, its related reports too.
-abbrev pub inner_at : SnippetRows → Settings → Option Severity → Bool → Meaning → Option Source → Answer → (Settings → List ℕ) → List ℕ
-inner_at rows s outer is_last m source answer related = inner_text rows (narrowed s outer is_last) m source answer (related (narrowed s outer is_last))
+abbrev pub inner_at : SnippetRows → Settings → Option Severity → Bool → Meaning → Option Source → Answer →
+    (Settings → List ℕ) → List ℕ
+inner_at rows s outer is_last m source answer related =
+    inner_text rows (narrowed s outer is_last) m source answer (related (narrowed s outer is_last))
 
 abbrev pub cause_texts : Settings → Option Severity → List (List ℕ) → List ℕ
 cause_texts s outer [] = []
@@ -63,15 +69,16 @@ abbrev mutual
   related_text rows s outer inherited (more_trees (tree m own c r) ts) more =
       (if s.nested then
       under_arrow s outer (are_last ts)
-      (without_trailing (inner_at rows s outer (are_last ts) m (effective own inherited) (own_answer (first_answers more))
+      (without_trailing (inner_at rows s outer (are_last ts) m (effective own inherited)
+      (own_answer (first_answers more))
       (λ n. related_text rows n m.severity (effective own inherited) r (related_answers (first_answers more)))))
       else title_text s m ++ body rows s m (effective own inherited) (own_answer (first_answers more))
       (causes_text rows s m.severity (effective own inherited) c (cause_answers (first_answers more)))
       (related_text rows s m.severity (effective own inherited) r (related_answers (first_answers more))))
       ++ related_text rows s outer inherited ts (later_answers more)
 
--- The text of a report, by settings, tree and answers: header, message, causes where the chain is on, snippets, help, related, and
--- the footer.
+-- The text of a report, by settings, tree and answers: header, message, causes where the chain is on, snippets, help,
+-- related, and the footer.
 abbrev pub report_text : SnippetRows → Settings → Tree → Answers → List ℕ
 report_text rows s (tree m own c r) a =
     print (header s m)

@@ -1,6 +1,7 @@
 //! The picture of a report, by a handler's settings.
 
-ghost use Rattle.std.specs.Prelude.{◌≡◌, ◌++◌, OnErr, OnOk, false, true, chars, string_bytes, encode_utf8_all, option_map};
+ghost use Rattle.std.specs.Prelude.{◌≡◌, ◌++◌, OnErr, OnOk, false, true, chars, string_bytes, encode_utf8_all};
+ghost use Rattle.std.specs.Prelude.{option_map};
 ghost use Rattle.std.specs.List.{AllByRecursion};
 ghost use Rattle.miette_graphical.specs.rules.Answered.{Appends, IsTextOf};
 ghost use Rattle.miette_graphical.specs.rules.Answers.{unlisted};
@@ -76,15 +77,25 @@ impl<H: Highlighter> GraphicalReportHandler<H> {
     ) -> Result<(), RenderError>
         ensures settings { self.new.settings ≡ self.old.settings }
         ensures blank { draws_plain H.is_blank self.new ≡ draws_plain H.is_blank self.old }
-        ensures ok { OnOk result (Appends drawn_rows self.old.settings (draws_plain H.is_blank self.old) (tree_of D.meaning S.source report.now) (string_bytes out.old) (string_bytes out.new)) }
-        ensures only { OnOk result (draws_plain H.is_blank self.old ≡ true → all_read (printed self.old.settings (tree_of D.meaning S.source report.now)) ≡ true →
-            string_bytes out.new ≡ string_bytes out.old ++ encode_utf8_all (report_text drawn_rows self.old.settings (tree_of D.meaning S.source report.now) unlisted)) }
-        ensures colours { OnOk result (AreCleanSettings self.old.settings → IsCleanTree (tree_of D.meaning S.source report.now) →
-            AppendsOne (IsColouredText drawn_rows self.old.settings (draws_plain H.is_blank self.old) (tree_of D.meaning S.source report.now)) (string_bytes out.old) (string_bytes out.new)) }
-        ensures colourless { OnOk result (all_read (printed self.old.settings (tree_of D.meaning S.source report.now)) ≡ true →
+        ensures ok { OnOk result (Appends drawn_rows self.old.settings (draws_plain H.is_blank self.old)
+            (tree_of D.meaning S.source report.now) (string_bytes out.old) (string_bytes out.new)) }
+        ensures only { OnOk result (draws_plain H.is_blank self.old ≡ true →
+            all_read (printed self.old.settings (tree_of D.meaning S.source report.now)) ≡ true →
+            string_bytes out.new ≡ string_bytes out.old
+            ++ encode_utf8_all (report_text drawn_rows self.old.settings (tree_of D.meaning S.source report.now)
+            unlisted)) }
+        ensures colours { OnOk result (AreCleanSettings self.old.settings →
+            IsCleanTree (tree_of D.meaning S.source report.now) →
+            AppendsOne (IsColouredText drawn_rows self.old.settings (draws_plain H.is_blank self.old)
+            (tree_of D.meaning S.source report.now)) (string_bytes out.old) (string_bytes out.new)) }
+        ensures colourless { OnOk result (all_read (printed self.old.settings (tree_of D.meaning S.source report.now))
+            ≡ true →
             AreCleanSettings self.old.settings → IsCleanTree (tree_of D.meaning S.source report.now) →
-            AppendsErasing (string_bytes out.old) (string_bytes out.new) (encode_utf8_all (report_text drawn_rows (colourless self.old.settings) (tree_of D.meaning S.source report.now) unlisted))) }
-        ensures refused { (result ≡ Err RenderError.Refused) → all_read (printed self.old.settings (tree_of D.meaning S.source report.now)) ≡ false }
+            AppendsErasing (string_bytes out.old) (string_bytes out.new)
+            (encode_utf8_all (report_text drawn_rows (colourless self.old.settings)
+            (tree_of D.meaning S.source report.now) unlisted))) }
+        ensures refused { (result ≡ Err RenderError.Refused) →
+            all_read (printed self.old.settings (tree_of D.meaning S.source report.now)) ≡ false }
         ensures err { OnErr result (string_bytes out.new ≡ string_bytes out.old) }
     {
         erasing_law();
@@ -99,39 +110,54 @@ impl<H: Highlighter> GraphicalReportHandler<H> {
         Ok(())
     }
 
-    /// Appends the picture of a report. The highlighter is restarted before each snippet with the contents of the snippet's read, and is
-    /// then given the text of each line in order. After an error `out` is as before: `Memory` where memory was refused, to the highlighter
-    /// too; `Refused` where a printed diagnostic has labels over a source that doesn't always read, and that source refused the place of a
-    /// snippet, or a group of labels of which one has its own number of context lines, which is read again.
+    /// Appends the picture of a report. The highlighter is restarted before each snippet with the contents of the
+    /// snippet's read, and is then given the text of each line in order. After an error `out` is as before: `Memory`
+    /// where memory was refused, to the highlighter too; `Refused` where a printed diagnostic has labels over a
+    /// source that doesn't always read, and that source refused the place of a snippet, or a group of labels of which
+    /// one has its own number of context lines, which is read again.
     pub fn render_report(&mut self, report: &Report, out: &mut String) -> Result<(), RenderError>
         ensures settings { self.new.settings ≡ self.old.settings }
         // a blank highlighter stays blank, and one that isn't blank doesn't become so
         ensures blank { draws_plain H.is_blank self.new ≡ draws_plain H.is_blank self.old }
-        ensures ok { let tree = tree_of ⟦<Box<dyn Diagnostic> as Diagnostic>⟧.meaning ⟦<Box<dyn SourceCode> as SourceCode>⟧.source report.now in
-            OnOk result (Appends drawn_rows self.old.settings (draws_plain H.is_blank self.old) tree (string_bytes out.old) (string_bytes out.new)) }
+        ensures ok { let tree = tree_of ⟦<Box<dyn Diagnostic> as Diagnostic>⟧.meaning
+            ⟦<Box<dyn SourceCode> as SourceCode>⟧.source report.now in
+            OnOk result (Appends drawn_rows self.old.settings (draws_plain H.is_blank self.old) tree
+            (string_bytes out.old) (string_bytes out.new)) }
         // where every source always reads, and no highlighter or a blank one is set, there is one such text
-        ensures only { let tree = tree_of ⟦<Box<dyn Diagnostic> as Diagnostic>⟧.meaning ⟦<Box<dyn SourceCode> as SourceCode>⟧.source report.now in
+        ensures only { let tree = tree_of ⟦<Box<dyn Diagnostic> as Diagnostic>⟧.meaning
+            ⟦<Box<dyn SourceCode> as SourceCode>⟧.source report.now in
             OnOk result (draws_plain H.is_blank self.old ≡ true → all_read (printed self.old.settings tree) ≡ true →
-            string_bytes out.new ≡ string_bytes out.old ++ encode_utf8_all (report_text drawn_rows self.old.settings tree unlisted)) }
-        // where the texts, the sources with their names, the settings and the theme's characters hold no escape: without its colours,
-        // what was appended is the text in plain styles and without a highlighter under the same reads,
-        ensures colours { let tree = tree_of ⟦<Box<dyn Diagnostic> as Diagnostic>⟧.meaning ⟦<Box<dyn SourceCode> as SourceCode>⟧.source report.now in
+            string_bytes out.new ≡ string_bytes out.old
+            ++ encode_utf8_all (report_text drawn_rows self.old.settings tree unlisted)) }
+        // where the texts, the sources with their names, the settings and the theme's characters hold no escape:
+        // without its colours, what was appended is the text in plain styles and without a highlighter under the same
+        // reads,
+        ensures colours { let tree = tree_of ⟦<Box<dyn Diagnostic> as Diagnostic>⟧.meaning
+            ⟦<Box<dyn SourceCode> as SourceCode>⟧.source report.now in
             OnOk result (AreCleanSettings self.old.settings → IsCleanTree tree →
-            AppendsOne (IsColouredText drawn_rows self.old.settings (draws_plain H.is_blank self.old) tree) (string_bytes out.old) (string_bytes out.new)) }
+            AppendsOne (IsColouredText drawn_rows self.old.settings (draws_plain H.is_blank self.old) tree)
+            (string_bytes out.old) (string_bytes out.new)) }
         // which is one text where every source always reads, whatever a highlighter says
-        ensures colourless { let tree = tree_of ⟦<Box<dyn Diagnostic> as Diagnostic>⟧.meaning ⟦<Box<dyn SourceCode> as SourceCode>⟧.source report.now in
-            OnOk result (all_read (printed self.old.settings tree) ≡ true → AreCleanSettings self.old.settings → IsCleanTree tree →
-            AppendsErasing (string_bytes out.old) (string_bytes out.new) (encode_utf8_all (report_text drawn_rows (colourless self.old.settings) tree unlisted))) }
+        ensures colourless { let tree = tree_of ⟦<Box<dyn Diagnostic> as Diagnostic>⟧.meaning
+            ⟦<Box<dyn SourceCode> as SourceCode>⟧.source report.now in
+            OnOk result (all_read (printed self.old.settings tree) ≡ true → AreCleanSettings self.old.settings →
+            IsCleanTree tree →
+            AppendsErasing (string_bytes out.old) (string_bytes out.new)
+            (encode_utf8_all (report_text drawn_rows (colourless self.old.settings) tree unlisted))) }
         // of each printed diagnostic: its snippets show the lines in the context of its labels, once and in order,
-        ensures lines { let tree = tree_of ⟦<Box<dyn Diagnostic> as Diagnostic>⟧.meaning ⟦<Box<dyn SourceCode> as SourceCode>⟧.source report.now in
+        ensures lines { let tree = tree_of ⟦<Box<dyn Diagnostic> as Diagnostic>⟧.meaning
+            ⟦<Box<dyn SourceCode> as SourceCode>⟧.source report.now in
             OnOk result (AllByRecursion (LinesAreShown self.old.settings) (printed self.old.settings tree)) }
         // its marks have columns of their own,
-        ensures marks { let tree = tree_of ⟦<Box<dyn Diagnostic> as Diagnostic>⟧.meaning ⟦<Box<dyn SourceCode> as SourceCode>⟧.source report.now in
+        ensures marks { let tree = tree_of ⟦<Box<dyn Diagnostic> as Diagnostic>⟧.meaning
+            ⟦<Box<dyn SourceCode> as SourceCode>⟧.source report.now in
             OnOk result (AllByRecursion (MarksAreApart self.old.settings) (printed self.old.settings tree)) }
         // and each text of a label on one line hangs from its own mark
-        ensures texts { let tree = tree_of ⟦<Box<dyn Diagnostic> as Diagnostic>⟧.meaning ⟦<Box<dyn SourceCode> as SourceCode>⟧.source report.now in
+        ensures texts { let tree = tree_of ⟦<Box<dyn Diagnostic> as Diagnostic>⟧.meaning
+            ⟦<Box<dyn SourceCode> as SourceCode>⟧.source report.now in
             OnOk result (AllByRecursion (TextsHang self.old.settings) (printed self.old.settings tree)) }
-        ensures refused { let tree = tree_of ⟦<Box<dyn Diagnostic> as Diagnostic>⟧.meaning ⟦<Box<dyn SourceCode> as SourceCode>⟧.source report.now in
+        ensures refused { let tree = tree_of ⟦<Box<dyn Diagnostic> as Diagnostic>⟧.meaning
+            ⟦<Box<dyn SourceCode> as SourceCode>⟧.source report.now in
             (result ≡ Err RenderError.Refused) → all_read (printed self.old.settings tree) ≡ false }
         ensures err { OnErr result (string_bytes out.new ≡ string_bytes out.old) }
     {
@@ -145,7 +171,8 @@ impl<H: Highlighter> ReportHandler for GraphicalReportHandler<H> {
 
     ghost refuses = { λ it t. all_read (printed it.settings t) ≡ false };
 
-    ghost keeps = { λ old new. (new.settings ≡ old.settings) × (draws_plain H.is_blank new ≡ draws_plain H.is_blank old) };
+    ghost keeps = { λ old new. (new.settings ≡ old.settings)
+        × (draws_plain H.is_blank new ≡ draws_plain H.is_blank old) };
 
     fn debug<D: Diagnostic, S: SourceCode>(
         &mut self,

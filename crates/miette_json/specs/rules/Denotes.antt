@@ -1,8 +1,10 @@
 -- RFC 8259 as a relation between bytes and values: a text is UTF-8, and tokens with white space before, between and
 -- after them, and the tokens are those of the value.
-use Rattle.std.specs.Prelude.{IsUtf8, ◌≡◌, ◌⊎◌, ◌≢◌, ℕ, ◌+◌, ◌-◌, ◌*◌, ◌<◌, ◌≤◌, List, [], ◌∷◌, ◌++◌, ⊤, cond, ◌||◌, ◌==◌}
+use Rattle.std.specs.Prelude.{IsUtf8, ◌≡◌, ◌⊎◌, ◌≢◌, ℕ, ◌+◌, ◌-◌, ◌*◌, ◌<◌, ◌≤◌, List, [], ◌∷◌, ◌++◌, ⊤, cond, ◌||◌}
+use Rattle.std.specs.Prelude.{◌==◌}
 use Rattle.std.specs.Char.{digit_value, encode_utf8}
-use Rattle.miette_json.specs.rules.Json.{Json, number, string, array, object, Items, no_items, item, Members, no_members, member}
+use Rattle.miette_json.specs.rules.Json.{Json, number, string, array, object, Items, no_items, item, Members}
+use Rattle.miette_json.specs.rules.Json.{no_members, member}
 
 pub data Token : Type 0 where
   mark : ℕ → Token
@@ -63,7 +65,8 @@ IsPiece (plain x) = (32 ≤ x) × (x ≢ 34) × (x ≢ 92)
 IsPiece (short letter) = short_for letter ≢ 0
 IsPiece (unit a b c d) = AreHex a b c d × ((hex a b c d < 0xd800) ⊎ (0xe000 ≤ hex a b c d))
 IsPiece (pair a b c d e f g h) =
-    AreHex a b c d × AreHex e f g h × (0xd800 ≤ hex a b c d) × (hex a b c d < 0xdc00) × (0xdc00 ≤ hex e f g h) × (hex e f g h < 0xe000)
+    AreHex a b c d × AreHex e f g h × (0xd800 ≤ hex a b c d) × (hex a b c d < 0xdc00) × (0xdc00 ≤ hex e f g h)
+    × (hex e f g h < 0xe000)
 
 -- a piece as it is written, before these bytes
 abbrev pub written : Piece → List ℕ → List ℕ

@@ -33,7 +33,8 @@ is_escaped x = nat_lt x 32 || ((x == 34) || (x == 92))
 
 -- the letter of a byte's short escape, or 0 where it has none: `"` `\` \b \f \n \r \t
 abbrev pub escape_letter : ℕ → ℕ
-escape_letter x = cond ((x == 34) || (x == 92)) x (cond (x == 8) 98 (cond (x == 12) 102 (cond (x == 10) 110 (cond (x == 13) 114 (cond (x == 9) 116 0)))))
+escape_letter x = cond ((x == 34) || (x == 92)) x
+    (cond (x == 8) 98 (cond (x == 12) 102 (cond (x == 10) 110 (cond (x == 13) 114 (cond (x == 9) 116 0)))))
 
 -- what stands in a string for a byte: its short escape, \u00 and two digits in base 16, or the byte itself
 unfoldable pub escaped_byte : ℕ → List ℕ

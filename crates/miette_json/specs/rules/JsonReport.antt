@@ -1,14 +1,17 @@
 -- The JSON value of a report, by its tree and by what the reads for its file names answered.
-use Rattle.std.specs.Prelude.{◌≡◌, ℕ, ◌+◌, Bool, true, false, ◌&&◌, nat_le, if◌then◌else◌, List, [], ◌∷◌, length, Option, Some, None, option_map, unwrap_or, codes, ⊤}
+use Rattle.std.specs.Prelude.{◌≡◌, ℕ, ◌+◌, Bool, true, false, ◌&&◌, nat_le, if◌then◌else◌, List, [], ◌∷◌, length}
+use Rattle.std.specs.Prelude.{Option, Some, None, option_map, unwrap_or, codes, ⊤}
 use Rattle.miette_protocol.specs.views.Meaning.{Label}
 use Rattle.miette_protocol.specs.rules.Reading.{Source, Span}
 use Rattle.miette_tree.specs.rules.Tree.{Tree, tree, causes_of, Trees, no_trees, more_trees, effective}
-use Rattle.miette_json.specs.rules.Json.{Json, number, string, array, object, Items, no_items, item, Members, no_members, member}
+use Rattle.miette_json.specs.rules.Json.{Json, number, string, array, object, Items, no_items, item, Members}
+use Rattle.miette_json.specs.rules.Json.{no_members, member}
 use Rattle.miette_tree.specs.rules.Parts.{given_labels, severity_text}
 
 -- ---- answers
 
--- Of a report, and of the reports that are related to it: did the read for the file name meet a fault? What isn't listed met none.
+-- Of a report, and of the reports that are related to it: did the read for the file name meet a fault? What isn't
+-- listed met none.
 mutual
   pub data NameAnswers : Type 0 where
     unlisted : NameAnswers
@@ -41,11 +44,13 @@ MayFail (Some s) = s.always_reads ≡ false
 -- only a source that doesn't always read meets a fault
 abbrev mutual
   pub ArePossible : Option Source → NameAnswers → Tree → Type 0
-  ArePossible inherited a (tree m s c r) = (own_fault a ≡ true → MayFail (effective s inherited)) × AllPossible (effective s inherited) (related_answers a) r
+  ArePossible inherited a (tree m s c r) = (own_fault a ≡ true → MayFail (effective s inherited))
+      × AllPossible (effective s inherited) (related_answers a) r
 
   pub AllPossible : Option Source → RelatedNameAnswers → Trees → Type 0
   AllPossible inherited a no_trees = ⊤
-  AllPossible inherited a (more_trees t ts) = ArePossible inherited (first_answers a) t × AllPossible inherited (later_answers a) ts
+  AllPossible inherited a (more_trees t ts) =
+      ArePossible inherited (first_answers a) t × AllPossible inherited (later_answers a) ts
 
 -- ---- parts of the value
 
@@ -59,7 +64,8 @@ strings [] = no_items
 strings (s ∷ ss) = item (string s) (strings ss)
 
 abbrev pub span_json : Span → Json
-span_json span = object (member (codes "offset") (number span.offset) (member (codes "length") (number span.len) no_members))
+span_json span = object (member (codes "offset") (number span.offset)
+    (member (codes "length") (number span.len) no_members))
 
 abbrev pub label_json : Label → Json
 label_json l = object (maybe (codes "label") l.text (member (codes "span") (span_json l.span) no_members))
@@ -72,8 +78,8 @@ labels_json (l ∷ ls) = item (label_json l) (labels_json ls)
 abbrev pub accepts : List ℕ → Span → Bool
 accepts bytes span = nat_le span.offset (length bytes) && nat_le (span.offset + span.len) (length bytes + 1)
 
--- The name that the read of the first given label answers, without context; empty where it is refused, where there is no name, and
--- where there is no label.
+-- The name that the read of the first given label answers, without context; empty where it is refused, where there is
+-- no name, and where there is no label.
 abbrev pub file_name : Bool → List Label → Source → List ℕ
 file_name fault [] s = []
 file_name fault (l ∷ ls) s = if accepts s.bytes l.span then (if fault then [] else unwrap_or s.name []) else []
@@ -96,7 +102,8 @@ abbrev mutual
 
   pub reports_json : Option Source → RelatedNameAnswers → Trees → Items
   reports_json inherited a no_trees = no_items
-  reports_json inherited a (more_trees t ts) = item (report_json inherited (first_answers a) t) (reports_json inherited (later_answers a) ts)
+  reports_json inherited a (more_trees t ts) =
+      item (report_json inherited (first_answers a) t) (reports_json inherited (later_answers a) ts)
 
 -- a value that a report may have: for some answers of its sources
 pub record IsValueOf (t : Tree) (value : Json) : Type 0 where

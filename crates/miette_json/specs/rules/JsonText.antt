@@ -6,11 +6,13 @@ use Rattle.miette_tree.specs.rules.Tree.{Tree, Trees}
 use Rattle.miette_json.specs.rules.Json.{Json, Items, quoted, json_text, items_text, more_items_text}
 use Rattle.miette_json.specs.rules.Denotes.{Denotes}
 use Rattle.miette_json.specs.rules.Reads.{AlwaysReads}
-use Rattle.miette_json.specs.rules.JsonReport.{NameAnswers, RelatedNameAnswers, ArePossible, AllPossible, MayFail, IsValueOf, value_of, strings, labels_json, file_name, report_json, reports_json}
+use Rattle.miette_json.specs.rules.JsonReport.{NameAnswers, RelatedNameAnswers, ArePossible, AllPossible, MayFail}
+use Rattle.miette_json.specs.rules.JsonReport.{IsValueOf, value_of, strings, labels_json, file_name, report_json}
+use Rattle.miette_json.specs.rules.JsonReport.{reports_json}
 use Rattle.miette_tree.specs.rules.Parts.{severity_text}
 
--- A text is the spelling of a value that the report may have, which is the one value that it has where its sources always read. The
--- text stands for that value, and for no other.
+-- A text is the spelling of a value that the report may have, which is the one value that it has where its sources
+-- always read. The text stands for that value, and for no other.
 pub record IsJsonOf (t : Tree) (text : List ℕ) : Type 0 where
   pub value : Json
   pub of_tree : IsValueOf t value
@@ -55,15 +57,19 @@ rest_text false is = more_items_text is
 
 -- message, code and severity
 abbrev pub head_text : Meaning → List ℕ
-head_text m = 123 ∷ (quoted (codes "message") ++ (58 ∷ 32 ∷ (quoted m.message ++ (maybe_text (codes "code") m.code ++ (key_text (codes "severity") ++ quoted (severity_text m.severity))))))
+head_text m = 123 ∷ (quoted (codes "message")
+    ++ (58 ∷ 32 ∷ (quoted m.message ++ (maybe_text (codes "code") m.code
+    ++ (key_text (codes "severity") ++ quoted (severity_text m.severity))))))
 
 -- causes, url and help
 abbrev pub reasons_text : List (List ℕ) → Meaning → List ℕ
-reasons_text causes m = key_text (codes "causes") ++ (91 ∷ (items_text (strings causes) ++ (maybe_text (codes "url") m.url ++ maybe_text (codes "help") m.help)))
+reasons_text causes m = key_text (codes "causes")
+    ++ (91 ∷ (items_text (strings causes) ++ (maybe_text (codes "url") m.url ++ maybe_text (codes "help") m.help)))
 
 -- the file name and the labels
 abbrev pub places_text : Bool → Option Source → List Label → List ℕ
-places_text fault source labels = maybe_text (codes "filename") (option_map (file_name fault labels) source) ++ (key_text (codes "labels") ++ (91 ∷ items_text (labels_json labels)))
+places_text fault source labels = maybe_text (codes "filename") (option_map (file_name fault labels) source)
+    ++ (key_text (codes "labels") ++ (91 ∷ items_text (labels_json labels)))
 
 -- new is old and then the file name and the labels, for some answer of the source
 pub record AppendsPlaces (source : Option Source) (labels : List Label) (old new : List ℕ) : Type 0 where

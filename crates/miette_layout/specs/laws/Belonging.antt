@@ -13,9 +13,11 @@ holds group lent = nat_le group.offset lent.offset && nat_le (end_of_span lent) 
 
 -- the groups that hold the data of a label's read
 abbrev pub groups_with : ℕ → Source → List Label → Label → List Span
-groups_with context source labels label = filter (λ group. holds group (stretch context source labels label)) (own_groups context source labels)
+groups_with context source labels label = filter (λ group. holds group (stretch context source labels label))
+    (own_groups context source labels)
 
 -- it is one group, and the label belongs to that one
 pub record HasOneGroup (context : ℕ) (source : Source) (labels : List Label) (label : Label) : Type 0 where
   pub one : length (groups_with context source labels label) ≡ 1
-  pub own : filter (λ group. is_within true group label) (own_groups context source labels) ≡ groups_with context source labels label
+  pub own : filter (λ group. is_within true group label) (own_groups context source labels)
+      ≡ groups_with context source labels label

@@ -7,7 +7,13 @@ use Rattle.miette_layout.specs.rules.Rows.{Row}
 use Rattle.miette_style.specs.rules.Styles.{plain}
 
 abbrev pub faded : Styles → Styles
-faded s = record { error = plain; warning = plain; link = plain; linum = plain; highlights = map (λ _. plain) s.highlights }
+faded s = record {
+  error = plain;
+  warning = plain;
+  link = plain;
+  linum = plain;
+  highlights = map (λ _. plain) s.highlights;
+}
 
 -- the same settings with every style plain
 abbrev pub colourless : Settings → Settings

@@ -33,24 +33,32 @@ code_with_parts t (part ∷ parts) = t.underbar
 -- the character at a column of a mark
 abbrev pub mark_code : ThemeCharacters → Mark → ℕ → ℕ
 mark_code t mark column =
-    if column == anchor mark then (if is_empty mark.label then t.uarrow else code_with_parts t mark.label.parts) else t.underline
+    if column == anchor mark then (if is_empty mark.label then t.uarrow else code_with_parts t mark.label.parts)
+    else t.underline
 
 abbrev pub mark_run : (ℕ → ℕ) → ThemeCharacters → Mark → Run
-mark_run width t mark = record { style = mark.label.style; pieces = map (λ column. drawn width (mark_code t mark column)) (range_with_len mark.from (mark.until - mark.from)) }
+mark_run width t mark = record {
+  style = mark.label.style;
+  pieces = map (λ column. drawn width (mark_code t mark column)) (range_with_len mark.from (mark.until - mark.from));
+}
 
 -- the marks, each behind the spaces before it
 abbrev pub mark_runs : (ℕ → ℕ) → ThemeCharacters → ℕ → List Mark → Row
 mark_runs width t reached [] = []
-mark_runs width t reached (mark ∷ marks) = blank width (mark.from - reached) ∷ mark_run width t mark ∷ mark_runs width t mark.until marks
+mark_runs width t reached (mark ∷ marks) = blank width (mark.from - reached) ∷ mark_run width t mark
+    ∷ mark_runs width t mark.until marks
 
 -- before a text's corner each earlier mark has vbar at its anchor
 abbrev pub lead_runs : (ℕ → ℕ) → ThemeCharacters → ℕ → List Mark → ℕ → Row
 lead_runs width t reached [] column = blank width (column - reached) ∷ []
-lead_runs width t reached (mark ∷ marks) column = blank width (anchor mark - reached) ∷ styled width mark.label.style (t.vbar ∷ []) ∷ lead_runs width t (anchor mark + 1) marks column
+lead_runs width t reached (mark ∷ marks) column =
+    blank width (anchor mark - reached) ∷ styled width mark.label.style (t.vbar ∷ [])
+    ∷ lead_runs width t (anchor mark + 1) marks column
 
 -- a row of a text: the leads of the earlier marks, then these characters and a part in the label's style
 abbrev pub text_row : (ℕ → ℕ) → ThemeCharacters → List Mark → Mark → List ℕ → List ℕ → Row
-text_row width t earlier mark corner part = lead_runs width t 0 earlier (anchor mark) ++ styled width mark.label.style (corner ++ part) ∷ []
+text_row width t earlier mark corner part = lead_runs width t 0 earlier (anchor mark)
+    ++ styled width mark.label.style (corner ++ part) ∷ []
 
 abbrev pub corner : ThemeCharacters → List ℕ
 corner t = t.lbot ∷ t.hbar ∷ t.hbar ∷ 32 ∷ []
@@ -66,12 +74,14 @@ abbrev pub rows_of_parts : (ℕ → ℕ) → ThemeCharacters → List Mark → M
 rows_of_parts width t earlier mark [] = []
 rows_of_parts width t earlier mark (part ∷ []) = text_row width t earlier mark (corner t) part ∷ []
 rows_of_parts width t earlier mark (part ∷ next ∷ parts) =
-    text_row width t earlier mark (corner_of_several t) part ∷ map (text_row width t earlier mark (beside t)) (next ∷ parts)
+    text_row width t earlier mark (corner_of_several t) part
+    ∷ map (text_row width t earlier mark (beside t)) (next ∷ parts)
 
 -- the rows of all texts, the last label's first
 abbrev pub rows_below : (ℕ → ℕ) → ThemeCharacters → List Mark → List Mark → List Row
 rows_below width t earlier [] = []
-rows_below width t earlier (mark ∷ marks) = rows_below width t (earlier ++ mark ∷ []) marks ++ rows_of_parts width t earlier mark mark.label.parts
+rows_below width t earlier (mark ∷ marks) = rows_below width t (earlier ++ mark ∷ []) marks
+    ++ rows_of_parts width t earlier mark mark.label.parts
 
 -- the mark row, and the rows of texts under it; none where there is no mark
 abbrev pub marked_rows : (ℕ → ℕ) → ThemeCharacters → List Mark → List Row

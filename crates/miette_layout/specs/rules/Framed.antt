@@ -16,4 +16,5 @@ place_at p = record { line = p.0; column = p.1 }
 abbrev pub refused_front : Settings → Label → Row
 refused_front s label =
     unstyled s.width (codes "  [") ∷ styled s.width s.styles.error (codes "Failed to read contents for label")
-    ∷ unstyled s.width (codes " `") ∷ styled s.width s.styles.link (text_or_none label.text) ∷ unstyled s.width (codes "` (offset: ") ∷ []
+    ∷ unstyled s.width (codes " `") ∷ styled s.width s.styles.link (text_or_none label.text)
+    ∷ unstyled s.width (codes "` (offset: ") ∷ []

@@ -1,5 +1,6 @@
 -- Settings and answers, the groups of labels, and the rows of a frame.
-use Rattle.std.specs.Prelude.{ℕ, ◌+◌, ◌-◌, List, [], ◌∷◌, ◌++◌, length, decimal, codes, chars, replicate, Option, Some, None, Bool, ◌&&◌, if◌then◌else◌, nat_lt}
+use Rattle.std.specs.Prelude.{ℕ, ◌+◌, ◌-◌, List, [], ◌∷◌, ◌++◌, length, decimal, codes, chars, replicate, Option, Some}
+use Rattle.std.specs.Prelude.{None, Bool, ◌&&◌, if◌then◌else◌, nat_lt}
 use Rattle.miette_style.specs.declared.style.Style.{Style}
 use Rattle.miette_style.specs.declared.theme.ThemeCharacters.{ThemeCharacters}
 use Rattle.miette_layout.specs.rules.Rows.{Row, styled, unstyled}
@@ -66,7 +67,9 @@ place_text place = decimal (place.line + 1) ++ codes ":" ++ decimal (place.colum
 -- where a snippet points to: with a name, whose bytes are given, else where it has several lines
 abbrev pub location : Settings → Option (List ℕ) → Bool → Place → Row
 location s (Some name) several place =
-    unstyled s.width (codes "[") ∷ styled s.width s.styles.link (if s.primary_start then chars name ++ codes ":" ++ place_text place else chars name) ∷ unstyled s.width (codes "]") ∷ []
+    unstyled s.width (codes "[") ∷ styled s.width s.styles.link
+    (if s.primary_start then chars name ++ codes ":" ++ place_text place else chars name)
+    ∷ unstyled s.width (codes "]") ∷ []
 location s None several place =
     if several && s.primary_start then unstyled s.width (codes "[" ++ place_text place ++ codes "]") ∷ []
     else unstyled s.width (replicate 3 s.characters.hbar) ∷ []
@@ -77,7 +80,8 @@ location_of s name several (Some place) = location s name several place
 
 -- the row over a snippet's lines, with line numbers of so many digits, and whether it has several lines
 abbrev pub top_row_of : Settings → ℕ → Option (List ℕ) → Bool → Option Place → Row
-top_row_of s w name several place = blank s.width (w + 2) ∷ unstyled s.width (s.characters.ltop ∷ s.characters.hbar ∷ []) ∷ location_of s name several place
+top_row_of s w name several place = blank s.width (w + 2)
+    ∷ unstyled s.width (s.characters.ltop ∷ s.characters.hbar ∷ []) ∷ location_of s name several place
 
 -- that row, from the snippet's read
 abbrev pub top_row : Settings → Contents → Option Place → Row

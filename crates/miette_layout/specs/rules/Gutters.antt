@@ -22,7 +22,8 @@ ending_corner t (part ∷ parts) = t.lcross
 abbrev pub arrow : (ℕ → ℕ) → ThemeCharacters → DrawnLabel → ℕ → ℕ → Run
 arrow width t label corner left = styled width label.style (corner ∷ replicate (left - 3) t.hbar ++ t.rarrow ∷ [])
 
--- The gutter of a number row, with so many columns left: a label that starts or ends here has an arrow, one that runs through a bar.
+-- The gutter of a number row, with so many columns left: a label that starts or ends here has an arrow, one that runs
+-- through a bar.
 abbrev pub number_gutter : (ℕ → ℕ) → ThemeCharacters → Line → ℕ → List DrawnLabel → Row
 number_gutter width t line left [] = blank width left ∷ []
 number_gutter width t line left (label ∷ labels) =
@@ -30,7 +31,8 @@ number_gutter width t line left (label ∷ labels) =
     else if ends_on line label then arrow width t label (ending_corner t label.parts) left ∷ blank width 1 ∷ []
     else styled width label.style (t.vbar ∷ []) ∷ number_gutter width t line (left - 1) labels
 
--- The gutter of any other row: the first label that ends here has a corner and bars for the columns that are left, each label before it a bar.
+-- The gutter of any other row: the first label that ends here has a corner and bars for the columns that are left,
+-- each label before it a bar.
 abbrev pub other_gutter : (ℕ → ℕ) → ThemeCharacters → Line → ℕ → List DrawnLabel → Row
 other_gutter width t line left [] = blank width left ∷ []
 other_gutter width t line left (label ∷ labels) =
@@ -47,8 +49,10 @@ open_gutter width t line left (label ∷ labels) =
 abbrev pub part_run : (ℕ → ℕ) → DrawnLabel → ℕ → List ℕ → Run
 part_run width label bar part = styled width label.style (bar ∷ 32 ∷ part)
 
--- The rows of one label's text, in a gutter of so many columns, over the labels of the line. Of several parts the gutter is one column shorter.
-abbrev pub closing_parts : (ℕ → ℕ) → ThemeCharacters → Line → ℕ → List DrawnLabel → DrawnLabel → List (List ℕ) → List Row
+-- The rows of one label's text, in a gutter of so many columns, over the labels of the line. Of several parts the
+-- gutter is one column shorter.
+abbrev pub closing_parts : (ℕ → ℕ) → ThemeCharacters → Line → ℕ → List DrawnLabel → DrawnLabel → List (List ℕ) →
+    List Row
 closing_parts width t line columns labels label [] = []
 closing_parts width t line columns labels label (part ∷ []) =
     (other_gutter width t line columns labels ++ part_run width label t.hbar part ∷ []) ∷ []
@@ -59,4 +63,5 @@ closing_parts width t line columns labels label (part ∷ next ∷ parts) =
 -- the rows of the texts of several labels
 abbrev pub closing_rows : (ℕ → ℕ) → ThemeCharacters → Line → ℕ → List DrawnLabel → List DrawnLabel → List Row
 closing_rows width t line columns labels [] = []
-closing_rows width t line columns labels (label ∷ ending) = closing_parts width t line columns labels label label.parts ++ closing_rows width t line columns labels ending
+closing_rows width t line columns labels (label ∷ ending) =
+    closing_parts width t line columns labels label label.parts ++ closing_rows width t line columns labels ending

@@ -19,7 +19,8 @@ decoded_text bytes = encode_utf8_all (lossy_chars bytes)
 abbrev pub piece_of : Highlight → Piece
 piece_of h = (h.bytes, h.style)
 
--- Pieces for a line's text make it up, where there are any; one plain piece counts as none. There are none where lines are left plain.
+-- Pieces for a line's text make it up, where there are any; one plain piece counts as none. There are none where
+-- lines are left plain.
 pub record ArePieces (blank : Bool) (text : List ℕ) (pieces : List Highlight) : Type 0 where
   pub cut : pieces ≢ [] → CutsLine text (map piece_of pieces)
   pub none : blank ≡ true → pieces ≡ []
@@ -27,7 +28,8 @@ pub record ArePieces (blank : Bool) (text : List ℕ) (pieces : List Highlight) 
 -- for each of some texts
 abbrev pub EachHasPieces : Bool → List (List ℕ) → List (List Highlight) → Type 0
 EachHasPieces blank [] pieces = Unit {0}
-EachHasPieces blank (text ∷ texts) pieces = ArePieces blank text (first_of pieces) × EachHasPieces blank texts (later_of pieces)
+EachHasPieces blank (text ∷ texts) pieces = ArePieces blank text (first_of pieces)
+    × EachHasPieces blank texts (later_of pieces)
 
 -- the texts of a source's lines
 abbrev pub texts_of : List ℕ → List Line → List (List ℕ)

@@ -9,12 +9,14 @@ use Rattle.miette_lines.specs.rules.Cells.{Cell, characters}
 -- the column of an offset, rounded down to a character's start; at the text's end its width, after it one more
 abbrev pub first_column : List Cell → ℕ → ℕ → ℕ → ℕ
 first_column [] text_end text_width offset = if nat_le offset text_end then text_width else text_width + 1
-first_column (cell ∷ cells) text_end text_width offset = if nat_lt offset cell.after then cell.from else first_column cells text_end text_width offset
+first_column (cell ∷ cells) text_end text_width offset =
+    if nat_lt offset cell.after then cell.from else first_column cells text_end text_width offset
 
 -- the same, rounded up
 abbrev pub last_column : List Cell → ℕ → ℕ → ℕ → ℕ
 last_column [] text_end text_width offset = if nat_le offset text_end then text_width else text_width + 1
-last_column (cell ∷ cells) text_end text_width offset = if nat_le offset cell.start then cell.from else last_column cells text_end text_width offset
+last_column (cell ∷ cells) text_end text_width offset =
+    if nat_le offset cell.start then cell.from else last_column cells text_end text_width offset
 
 -- how a cell prints: a tab as spaces
 abbrev pub printed : Cell → List Piece
@@ -42,9 +44,11 @@ cells_within bytes (cell ∷ cells) = if bytes == 0 then [] else cell ∷ cells_
 
 abbrev pub cells_beyond : ℕ → List Cell → List Cell
 cells_beyond bytes [] = []
-cells_beyond bytes (cell ∷ cells) = if bytes == 0 then cell ∷ cells else cells_beyond (bytes - text_bytes cell.code) cells
+cells_beyond bytes (cell ∷ cells) = if bytes == 0 then cell ∷ cells
+    else cells_beyond (bytes - text_bytes cell.code) cells
 
 -- a line in a highlighter's pieces, each a count of bytes and a style; what they leave is plain
 abbrev pub line_runs : List Highlight → List Cell → List Run
 line_runs [] cells = record { style = plain; pieces = printed_cells cells } ∷ []
-line_runs (h ∷ hs) cells = record { style = h.style; pieces = printed_cells (cells_within h.bytes cells) } ∷ line_runs hs (cells_beyond h.bytes cells)
+line_runs (h ∷ hs) cells = record { style = h.style; pieces = printed_cells (cells_within h.bytes cells) }
+    ∷ line_runs hs (cells_beyond h.bytes cells)

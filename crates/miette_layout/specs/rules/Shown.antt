@@ -24,7 +24,8 @@ line_at (l ∷ ls) (suc k) = line_at ls k
 abbrev pub numbered_rows : Settings → ℕ → ℕ → List DrawnLabel → List ℕ → List (List Highlight) → List ℕ → List Row
 numbered_rows s w columns labels source pieces [] = []
 numbered_rows s w columns labels source pieces (k ∷ ks) =
-    line_rows s w columns labels (line_at (lines_of source) k) (k + 1) (cells_of s source (line_at (lines_of source) k)) (first_of pieces)
+    line_rows s w columns labels (line_at (lines_of source) k) (k + 1) (cells_of s source (line_at (lines_of source) k))
+    (first_of pieces)
     ++ numbered_rows s w columns labels source (later_of pieces) ks
 
 abbrev pub run_width : List ℕ → ℕ
@@ -36,15 +37,18 @@ abbrev pub run_rows : Settings → List DrawnLabel → List ℕ → List (List H
 run_rows s labels source pieces ks =
     numbered_rows s (run_width ks) (gutter_columns labels (map (line_at (lines_of source)) ks)) labels source pieces ks
 
-abbrev pub rows_of_runs : Settings → List DrawnLabel → List ℕ → List (List (List Highlight)) → List (List ℕ) → List (List Row)
+abbrev pub rows_of_runs : Settings → List DrawnLabel → List ℕ → List (List (List Highlight)) → List (List ℕ) →
+    List (List Row)
 rows_of_runs s labels source pieces [] = []
-rows_of_runs s labels source pieces (run ∷ runs) = run_rows s labels source (first_of pieces) run ∷ rows_of_runs s labels source (later_of pieces) runs
+rows_of_runs s labels source pieces (run ∷ runs) =
+    run_rows s labels source (first_of pieces) run ∷ rows_of_runs s labels source (later_of pieces) runs
 
 -- the rows of each group between its frame's rows
 abbrev pub bodies : Settings → List DrawnLabel → Source → List (List (List Highlight)) → List Span → List (List Row)
 bodies s labels source pieces [] = []
 bodies s labels source pieces (group ∷ groups) =
-    body_rows s labels source.bytes (contents s.context source group) (first_of pieces) ∷ bodies s labels source (later_of pieces) groups
+    body_rows s labels source.bytes (contents s.context source group) (first_of pieces)
+    ∷ bodies s labels source (later_of pieces) groups
 
 -- each body between the rows of its group's frame
 abbrev pub framed : Settings → Source → List Label → List Span → List (List Row) → List Row
@@ -58,6 +62,8 @@ framed s source labels (group ∷ groups) (body ∷ more) =
 -- The rows of snippets, by the shown lines: each maximal run of them in the frame of its group.
 abbrev pub framed_runs : Settings → Source → List Label → Answers → List Row
 framed_runs s source labels answers =
-    framed (settings_around s (in_order labels)) source (in_order labels) (groups_of s.context source answers.join_fails (in_order labels))
-    (rows_of_runs (settings_around s (in_order labels)) (drawn_from s.styles.highlights (length source.bytes) 0 (in_order labels)) source.bytes answers.pieces
+    framed (settings_around s (in_order labels)) source (in_order labels)
+    (groups_of s.context source answers.join_fails (in_order labels))
+    (rows_of_runs (settings_around s (in_order labels))
+    (drawn_from s.styles.highlights (length source.bytes) 0 (in_order labels)) source.bytes answers.pieces
     (snippets s.context source.bytes labels))

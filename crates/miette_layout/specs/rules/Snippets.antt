@@ -14,7 +14,8 @@ is_in_context context bytes k span = nat_le (first_line context bytes span) k &&
 
 -- whether line k is in the context of some label, of which each has the lines around it
 abbrev pub is_shown : ℕ → List ℕ → List Label → ℕ → Bool
-is_shown context bytes labels k = list_any (λ label. is_in_context (lines_around context labels label) bytes k label.span) labels
+is_shown context bytes labels k = list_any (λ label.
+    is_in_context (lines_around context labels label) bytes k label.span) labels
 
 abbrev pub shown : ℕ → List ℕ → List Label → List ℕ
 shown context bytes labels = filter (is_shown context bytes labels) (range_with_len 0 (length (lines_of bytes)))

@@ -13,12 +13,15 @@ use Rattle.miette_layout.specs.rules.Highlighted.{SnippetsHavePieces}
 use Rattle.miette_layout.specs.rules.Layout.{snippet_rows}
 use Rattle.miette_layout.specs.views.Told.{Token, told_rows}
 
--- What a page may hold, or that there is none: the rows under some answers of the source and the highlighter. Of a source that always
--- reads nothing fails, and where lines are left plain there are no pieces; so there is but one where both hold.
-pub record MayGive (s : Settings) (source : Source) (labels : List Label) (blank : Bool) (page : Option (List Token)) : Type 0 where
+-- What a page may hold, or that there is none: the rows under some answers of the source and the highlighter. Of a
+-- source that always reads nothing fails, and where lines are left plain there are no pieces; so there is but one
+-- where both hold.
+pub record MayGive (s : Settings) (source : Source) (labels : List Label) (blank : Bool) (page : Option (List Token)) :
+    Type 0 where
   pub answers : Answers
   pub always : source.always_reads ≡ true → AlwaysReads answers
-  pub pieces : SnippetsHavePieces (group_context s.context (in_order labels)) blank source (groups_of s.context source answers.join_fails (in_order labels)) answers.pieces
+  pub pieces : SnippetsHavePieces (group_context s.context (in_order labels)) blank source
+      (groups_of s.context source answers.join_fails (in_order labels)) answers.pieces
   pub plain : blank ≡ true → answers.pieces ≡ []
   pub is : page ≡ option_map told_rows (snippet_rows s source labels answers)
 

@@ -1,5 +1,6 @@
 -- The rows of a snippet from what its read lent, where nothing is known of the source beyond.
-use Rattle.std.specs.Prelude.{ℕ, ◌+◌, ◌-◌, ◌==◌, ◌≡◌, if◌then◌else◌, Bool, List, [], ◌∷◌, ◌++◌, length, map, decimal, slice_range, Option, false}
+use Rattle.std.specs.Prelude.{ℕ, ◌+◌, ◌-◌, ◌==◌, ◌≡◌, if◌then◌else◌, Bool, List, [], ◌∷◌, ◌++◌, length, map, decimal}
+use Rattle.std.specs.Prelude.{slice_range, Option, false}
 use Rattle.miette_protocol.specs.rules.Lines.{Line}
 use Rattle.miette_protocol.specs.rules.Reading.{Contents}
 use Rattle.miette_layout.specs.rules.Rows.{Row}
@@ -26,16 +27,19 @@ abbrev pub texts_in : ℕ → List ℕ → List Line → List (List ℕ)
 texts_in start bytes lines = map (λ line. decoded_text (text_in start bytes line)) lines
 
 -- the rows of lines, with numbers from this one on, in bytes that begin at an offset
-abbrev pub lent_rows : Settings → ℕ → ℕ → List DrawnLabel → ℕ → List ℕ → ℕ → List (List Highlight) → List Line → List Row
+abbrev pub lent_rows : Settings → ℕ → ℕ → List DrawnLabel → ℕ → List ℕ → ℕ → List (List Highlight) → List Line →
+    List Row
 lent_rows s w columns drawn start bytes number pieces [] = []
 lent_rows s w columns drawn start bytes number pieces (line ∷ lines) =
-    line_rows s w columns drawn line number (cells_in s start bytes line) (first_of pieces) ++ lent_rows s w columns drawn start bytes (number + 1) (later_of pieces) lines
+    line_rows s w columns drawn line number (cells_in s start bytes line) (first_of pieces)
+    ++ lent_rows s w columns drawn start bytes (number + 1) (later_of pieces) lines
 
 -- the rows of a snippet, with its frame
 abbrev pub lent_snippet : Settings → List DrawnLabel → Contents → Option Place → List (List Highlight) → List Row
 lent_snippet s drawn lent place pieces =
     top_row s lent place
-    ∷ lent_rows s (number_width lent) (gutter_columns drawn (lines_of_contents lent)) drawn lent.span.offset lent.bytes (lent.line + 1) pieces (lines_of_contents lent)
+    ∷ lent_rows s (number_width lent) (gutter_columns drawn (lines_of_contents lent)) drawn lent.span.offset lent.bytes
+    (lent.line + 1) pieces (lines_of_contents lent)
     ++ bottom_row s (number_width lent) ∷ []
 
 -- the digits of the number of the last of so many lines, where this many stand before the first; 1 where there is none
@@ -47,7 +51,8 @@ abbrev pub gutter_of : ℕ → ℕ
 gutter_of most = if most == 0 then 0 else most + 3
 
 -- A page has got rows with some pieces, which a highlighter may have answered for these texts.
-pub record PutsRows (blank : Bool) (texts : List (List ℕ)) (rows : List (List Highlight) → List Row) (before after : List Token) : Type 0 where
+pub record PutsRows (blank : Bool) (texts : List (List ℕ)) (rows : List (List Highlight) → List Row)
+    (before after : List Token) : Type 0 where
   pub pieces : List (List Highlight)
   pub are : EachHasPieces blank texts pieces
   pub is : after ≡ before ++ told_rows (rows pieces)

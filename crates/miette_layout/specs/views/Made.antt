@@ -19,4 +19,5 @@ ComeFrom at (cell ∷ cells) = (at ≤ cell.start) × (cell.start < cell.after) 
 -- from the stop's offset on, the columns of offsets in all cells are those in the stop's
 abbrev pub IsStop : List Cell → Stop → Type 0
 IsStop cells stop = (text_end width offset : ℕ) → stop.offset ≤ offset →
-    (first_column stop.walk text_end width offset ≡ first_column cells text_end width offset) × (last_column stop.walk text_end width offset ≡ last_column cells text_end width offset)
+    (first_column stop.walk text_end width offset ≡ first_column cells text_end width offset)
+    × (last_column stop.walk text_end width offset ≡ last_column cells text_end width offset)

@@ -12,7 +12,8 @@ token_of (Some style) = begins style
 -- the text from an offset on, with the tokens at their offsets
 abbrev pub tokens_from : ℕ → List ℕ → List Mark → List Token
 tokens_from at text [] = bytes_told (drop at text)
-tokens_from at text (mark ∷ marks) = bytes_told (take (mark.at - at) (drop at text)) ++ token_of mark.style ∷ tokens_from mark.at text marks
+tokens_from at text (mark ∷ marks) = bytes_told (take (mark.at - at) (drop at text)) ++ token_of mark.style
+    ∷ tokens_from mark.at text marks
 
 -- the offsets come in order, each between two characters of the text
 abbrev pub AreMarks : ℕ → List ℕ → List Mark → Type 0

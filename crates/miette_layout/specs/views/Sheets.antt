@@ -23,7 +23,8 @@ multi_labels sheet = map (drawn_of sheet.labels.now) sheet.multi.now
 
 -- the gutter of the line's rows but its number row
 abbrev pub gutter_below : Sheet → Row
-gutter_below sheet = other_gutter (settings sheet).width (settings sheet).characters (line_of_text sheet.line) sheet.gutter (multi_labels sheet)
+gutter_below sheet = other_gutter (settings sheet).width (settings sheet).characters (line_of_text sheet.line)
+    sheet.gutter (multi_labels sheet)
 
 -- what stands before the marks and the texts of the labels that lie on the line alone
 abbrev pub before_marks : Sheet → Row
@@ -31,21 +32,25 @@ before_marks sheet = other_start (settings sheet) sheet.number_width ++ gutter_b
 
 -- a row of the text of a label that lies on the line alone
 abbrev pub text_line : Sheet → List Mark → Mark → List ℕ → List ℕ → Row
-text_line sheet earlier mark front part = before_marks sheet ++ text_row (settings sheet).width (settings sheet).characters earlier mark front part
+text_line sheet earlier mark front part = before_marks sheet
+    ++ text_row (settings sheet).width (settings sheet).characters earlier mark front part
 
 -- a row of the text of a label that ends on the line, in a gutter of so many columns
 abbrev pub closed_line : Sheet → ℕ → DrawnLabel → ℕ → List ℕ → Row
 closed_line sheet columns label bar part =
     other_start (settings sheet) sheet.number_width
-    ++ (other_gutter (settings sheet).width (settings sheet).characters (line_of_text sheet.line) columns (multi_labels sheet) ++ part_run (settings sheet).width label bar part ∷ [])
+    ++ (other_gutter (settings sheet).width (settings sheet).characters (line_of_text sheet.line) columns
+    (multi_labels sheet) ++ part_run (settings sheet).width label bar part ∷ [])
 
 abbrev pub open_line : Sheet → ℕ → DrawnLabel → List ℕ → Row
 open_line sheet columns label part =
     other_start (settings sheet) sheet.number_width
-    ++ (open_gutter (settings sheet).width (settings sheet).characters (line_of_text sheet.line) columns (multi_labels sheet) ++ part_run (settings sheet).width label (settings sheet).characters.vbar part ∷ [])
+    ++ (open_gutter (settings sheet).width (settings sheet).characters (line_of_text sheet.line) columns
+    (multi_labels sheet) ++ part_run (settings sheet).width label (settings sheet).characters.vbar part ∷ [])
 
 -- the number row of the line
 abbrev pub number_row : Sheet → ℕ → List Cell → List Highlight → Row
 number_row sheet number cells pieces =
     number_start (settings sheet) sheet.number_width number
-    ++ number_gutter (settings sheet).width (settings sheet).characters (line_of_text sheet.line) sheet.gutter (multi_labels sheet) ++ line_runs pieces cells
+    ++ number_gutter (settings sheet).width (settings sheet).characters (line_of_text sheet.line) sheet.gutter
+    (multi_labels sheet) ++ line_runs pieces cells

@@ -6,7 +6,13 @@ use Rattle.miette_layout.specs.rules.Frames.{Styles, Settings}
 use Rattle.miette_lines.specs.views.Given.{width_of}
 
 abbrev pub styles_of : ThemeStyles → Styles
-styles_of it = record { error = it.error; warning = it.warning; link = it.link; linum = it.linum; highlights = it.highlights.items }
+styles_of it = record {
+  error = it.error;
+  warning = it.warning;
+  link = it.link;
+  linum = it.linum;
+  highlights = it.highlights.items;
+}
 
 -- the settings of a theme and options
 abbrev pub settings_of : GraphicalTheme → LayoutOptions → Settings

@@ -8,10 +8,10 @@ pub record Highlight : Type 0 where
   pub bytes : ℕ
   pub style : Style
 
--- Whether each read fails, of each label, of each group that a label would join (where some label has its own number of context lines: of
--- each group), of each snippet's place;
--- and the highlighter's pieces for each line of each snippet. A read that isn't listed succeeds, a line that isn't listed is plain. One
--- plain piece is not listed.
+-- Whether each read fails, of each label, of each group that a label would join (where some label has its own number
+-- of context lines: of each group), of each snippet's place;
+-- and the highlighter's pieces for each line of each snippet. A read that isn't listed succeeds, a line that isn't
+-- listed is plain. One plain piece is not listed.
 pub record Answers : Type 0 where
   pub label_fails : List Bool
   pub join_fails : List Bool

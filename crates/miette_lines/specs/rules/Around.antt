@@ -9,7 +9,8 @@ use Rattle.miette_lines.specs.rules.Contexts.{contents}
 abbrev pub has_own : List Label → Bool
 has_own labels = list_any (λ label. is_some label.context) labels
 
--- The lines around a label of these: its own number, else the number for all, which counts as at least 1 where some label has its own.
+-- The lines around a label of these: its own number, else the number for all, which counts as at least 1 where some
+-- label has its own.
 abbrev pub lines_around : ℕ → List Label → Label → ℕ
 lines_around context labels label = unwrap_or label.context (if has_own labels then max 1 context else context)
 
@@ -21,7 +22,7 @@ HaveContext context labels = AllByRecursion (λ label. 1 ≤ lines_around contex
 abbrev pub contents_around : ℕ → Source → List Label → Label → Contents
 contents_around context source labels label = contents (lines_around context labels label) source label.span
 
--- With how many lines of context the span of a group of these labels is read: with none where some label has its own number, since the span
--- is then that of the group's bytes.
+-- With how many lines of context the span of a group of these labels is read: with none where some label has its own
+-- number, since the span is then that of the group's bytes.
 abbrev pub group_context : ℕ → List Label → ℕ
 group_context context labels = if has_own labels then 0 else context

@@ -24,13 +24,21 @@ hides_next hidden code = is_hidden hidden code && not (code == 109)
 
 -- a tab goes on to the next multiple of the tab width
 abbrev pub width_at : (ℕ → ℕ) → ℕ → Bool → ℕ → ℕ → ℕ
-width_at width tab hidden column code = if is_hidden hidden code then 0 else if code == 9 then tab - column % tab else width code
+width_at width tab hidden column code = if is_hidden hidden code then 0 else if code == 9 then tab - column % tab
+    else width code
 
 abbrev pub cells_from : (ℕ → ℕ) → ℕ → Bool → ℕ → ℕ → List Character → List Cell
 cells_from width tab hidden offset column [] = []
 cells_from width tab hidden offset column (c ∷ cs) =
-    record { code = c.code; start = offset; after = offset + c.bytes; from = column; until = column + width_at width tab hidden column c.code }
-    ∷ cells_from width tab (hides_next hidden c.code) (offset + c.bytes) (column + width_at width tab hidden column c.code) cs
+    record {
+      code = c.code;
+      start = offset;
+      after = offset + c.bytes;
+      from = column;
+      until = column + width_at width tab hidden column c.code;
+    }
+    ∷ cells_from width tab (hides_next hidden c.code) (offset + c.bytes)
+    (column + width_at width tab hidden column c.code) cs
 
 -- the characters of bytes; what decodes to none is U+FFFD over its bytes
 abbrev pub characters : List ℕ → List Character

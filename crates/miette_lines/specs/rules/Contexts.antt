@@ -30,4 +30,5 @@ last_line context bytes span = line_of bytes (reading_end bytes span) + context
 -- the numbers of the lines that lie in the data that a read lends
 abbrev pub lines_in : List ℕ → Contents → List ℕ
 lines_in bytes read =
-    filter (λ k. nat_le read.span.offset (line_start bytes k) && nat_le (line_end bytes k) (end_of_span read.span)) (range_with_len 0 (length (lines_of bytes)))
+    filter (λ k. nat_le read.span.offset (line_start bytes k) && nat_le (line_end bytes k) (end_of_span read.span))
+    (range_with_len 0 (length (lines_of bytes)))

@@ -1,5 +1,6 @@
 -- Labels by offset, the first one that is refused, and the groups in which they are drawn.
-use Rattle.std.specs.Prelude.{ℕ, ◌+◌, ◌-◌, max, List, [], ◌∷◌, map, codes, Option, Some, None, Bool, false, ◌&&◌, ◌||◌, if◌then◌else◌, nat_le}
+use Rattle.std.specs.Prelude.{ℕ, ◌+◌, ◌-◌, max, List, [], ◌∷◌, map, codes, Option, Some, None, Bool, false, ◌&&◌, ◌||◌}
+use Rattle.std.specs.Prelude.{if◌then◌else◌, nat_le}
 use Rattle.std.specs.List.{AllByRecursion}
 use Rattle.miette_protocol.specs.views.Meaning.{Label}
 use Rattle.miette_protocol.specs.rules.Reading.{Span, Source, IsAccepted}
@@ -10,7 +11,8 @@ use Rattle.miette_lines.specs.rules.Contexts.{end_of_span, is_accepted, contents
 -- a label comes before the first one that doesn't begin before it
 abbrev pub put_label : Label → List Label → List Label
 put_label label [] = label ∷ []
-put_label label (next ∷ labels) = if nat_le label.span.offset next.span.offset then label ∷ next ∷ labels else next ∷ put_label label labels
+put_label label (next ∷ labels) = if nat_le label.span.offset next.span.offset then label ∷ next ∷ labels
+    else next ∷ put_label label labels
 
 -- the spans of labels
 abbrev pub spans_of : List Label → List Span
@@ -41,11 +43,15 @@ AreAccepted bytes labels = AllByRecursion (λ label. IsAccepted bytes label.span
 -- whether a label joins the group before it: its context begins at the line after that group's data or before
 abbrev pub joins_before : ℕ → Source → Span → Span → Bool
 joins_before context source before label =
-    nat_le (contents context source label).line ((contents context source before).line + (contents context source before).line_count)
+    nat_le (contents context source label).line
+    ((contents context source before).line + (contents context source before).line_count)
 
 -- from the first offset to the greater end
 abbrev pub joined : Span → Span → Span
-joined before label = record { offset = before.offset; len = max (end_of_span before) (end_of_span label) - before.offset }
+joined before label = record {
+  offset = before.offset;
+  len = max (end_of_span before) (end_of_span label) - before.offset;
+}
 
 -- A span that would join is left apart where the read of the joined span fails.
 abbrev pub groups_from : ℕ → Source → Span → List Bool → List Span → List Span
@@ -70,7 +76,8 @@ stretch context source labels label = (contents_around context source labels lab
 -- a stretch comes before the first one that doesn't begin before it
 abbrev pub put_stretch : Span → List Span → List Span
 put_stretch span [] = span ∷ []
-put_stretch span (next ∷ spans) = if nat_le span.offset next.offset then span ∷ next ∷ spans else next ∷ put_stretch span spans
+put_stretch span (next ∷ spans) = if nat_le span.offset next.offset then span ∷ next ∷ spans
+    else next ∷ put_stretch span spans
 
 -- stretches by where they begin, ties as given
 abbrev pub by_begin : List Span → List Span
@@ -81,7 +88,8 @@ by_begin (span ∷ spans) = put_stretch span (by_begin spans)
 abbrev pub stretches_from : Span → List Span → List Span
 stretches_from before [] = before ∷ []
 stretches_from before (span ∷ spans) =
-    if nat_le span.offset (end_of_span before) then stretches_from (joined before span) spans else before ∷ stretches_from span spans
+    if nat_le span.offset (end_of_span before) then stretches_from (joined before span) spans
+    else before ∷ stretches_from span spans
 
 abbrev pub joined_stretches : List Span → List Span
 joined_stretches [] = []

@@ -16,8 +16,14 @@ text_at labels i = option_map_or (λ label. label.text) (slice_get labels i) Non
 
 -- a label that a program has placed, with the text that it has among these labels
 abbrev pub drawn_of : List Label → Placed → DrawnLabel
-drawn_of labels p = record { start = p.start; after = p.after; style = p.style; parts = parts_of (text_at labels p.index) }
+drawn_of labels p = record {
+  start = p.start;
+  after = p.after;
+  style = p.style;
+  parts = parts_of (text_at labels p.index);
+}
 
 -- the i-th label
 abbrev pub label_at : List Label → ℕ → Label
-label_at labels i = unwrap_or (slice_get labels i) (record { text = None; span = record { offset = 0; len = 0 }; primary = false; context = None })
+label_at labels i = unwrap_or (slice_get labels i)
+    (record { text = None; span = record { offset = 0; len = 0 }; primary = false; context = None })

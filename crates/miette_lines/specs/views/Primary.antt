@@ -21,14 +21,16 @@ or_else (Some first) span = first
 abbrev pub chosen : Bool → Span → Option Span → List ReadLabel → Option Span
 chosen own group first [] = first
 chosen own group first (read ∷ reads) =
-    if lies_within own group read.span then (if read.primary then Some read.span else chosen own group (Some (or_else first read.span)) reads)
+    if lies_within own group read.span then (if read.primary then Some read.span
+    else chosen own group (Some (or_else first read.span)) reads)
     else chosen own group first reads
 
 -- a place is where a read without context of this label begins; where there is a label, it isn't nowhere
 abbrev pub PointsTo : Source → Option Span → Place → Type 0
 PointsTo source None place = place ≡ places.Nowhere
 PointsTo source (Some span) places.Nowhere = ⊥
-PointsTo source (Some span) (places.At line column) = (IsAccepted source.bytes span) × (line ≡ (contents 0 source span).line) × (column ≡ (contents 0 source span).column)
+PointsTo source (Some span) (places.At line column) =
+    (IsAccepted source.bytes span) × (line ≡ (contents 0 source span).line) × (column ≡ (contents 0 source span).column)
 PointsTo source (Some span) places.Unread = IsAccepted source.bytes span → source.always_reads ≡ false
 
 -- the line and column of a place, and whether it could not be read

@@ -41,7 +41,8 @@ AreRead context source labels order (reads.All read) =
     (map (λ r. label_at labels r.index) read.items ≡ order) × All (IsRead context source labels) read.items
 AreRead context source labels order (reads.Refused index reason) =
     (fails : List Bool) × (source.always_reads ≡ true → NoneFails fails)
-    × (refusal source.bytes fails order ≡ Some (record { label = label_at labels index; name = name_of reason })) × (index < length labels)
+    × (refusal source.bytes fails order ≡ Some (record { label = label_at labels index; name = name_of reason }))
+    × (index < length labels)
 
 -- a span was accepted and read with so many lines of context, and this is what the read lent
 pub record IsLent (context : ℕ) (source : Source) (span : Span) (lent : Contents) : Type 0 where

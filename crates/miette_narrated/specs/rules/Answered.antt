@@ -1,4 +1,5 @@
--- Which answers the sources of a report can have given where it was told, where nothing is refused, and what is appended.
+-- Which answers the sources of a report can have given where it was told, where nothing is refused, and what is
+-- appended.
 use Rattle.std.specs.Prelude.{◌≡◌, ℕ, Bool, true, false, ◌&&◌, ◌||◌, List, [], ◌∷◌, ◌++◌, Option, Some, None}
 use Rattle.std.specs.List.{list_all}
 use Rattle.miette_protocol.specs.views.Meaning.{Label}
@@ -7,7 +8,9 @@ use Rattle.miette_tree.specs.rules.Tree.{Tree, tree, Trees, no_trees, more_trees
 use Rattle.miette_lines.specs.rules.Answers.{NoneFails}
 use Rattle.miette_lines.specs.rules.Contexts.{is_accepted}
 use Rattle.miette_lines.specs.rules.Groups.{in_order, AreAccepted}
-use Rattle.miette_narrated.specs.rules.Report.{Settings, Answers, RelatedAnswers, own_answer, related_answers, first_answers, later_answers, snippet_rows, related_report, related_reports, blank_before, narrated}
+use Rattle.miette_narrated.specs.rules.Report.{Settings, Answers, RelatedAnswers, own_answer, related_answers}
+use Rattle.miette_narrated.specs.rules.Report.{first_answers, later_answers, snippet_rows, related_report}
+use Rattle.miette_narrated.specs.rules.Report.{related_reports, blank_before, narrated}
 use Rattle.miette_tree.specs.rules.Parts.{given_labels}
 
 -- ---- where reads are determined, and where nothing is refused
@@ -15,7 +18,8 @@ use Rattle.miette_tree.specs.rules.Parts.{given_labels}
 -- a test of each diagnostic that is told: of its effective source and its labels
 abbrev mutual
   pub holds_of : (Option Source → List Label → Bool) → Option Source → Tree → Bool
-  holds_of test inherited (tree m own c r) = test (effective own inherited) (given_labels m.labels) && holds_of_all test (effective own inherited) r
+  holds_of test inherited (tree m own c r) = test (effective own inherited) (given_labels m.labels)
+      && holds_of_all test (effective own inherited) r
 
   pub holds_of_all : (Option Source → List Label → Bool) → Option Source → Trees → Bool
   holds_of_all test inherited no_trees = true
@@ -33,7 +37,8 @@ always_reads (Some source) labels = is_nil labels || source.always_reads
 -- labels that are accepted, over a source that always reads
 abbrev pub accepts : Option Source → List Label → Bool
 accepts None labels = true
-accepts (Some source) labels = list_all (λ label. is_accepted source.bytes label.span) (in_order labels) && (is_nil labels || source.always_reads)
+accepts (Some source) labels = list_all (λ label. is_accepted source.bytes label.span) (in_order labels)
+    && (is_nil labels || source.always_reads)
 
 -- every source that labels of the report are read from always reads
 abbrev pub report_reads : Tree → Bool
@@ -56,19 +61,22 @@ IsAnswered (Some source) labels fails = Answered source labels fails
 
 abbrev mutual
   pub AreAnswers : Option Source → Answers → Tree → Type 0
-  AreAnswers inherited a (tree m own c r) = IsAnswered (effective own inherited) (given_labels m.labels) (own_answer a) × AllAnswers (effective own inherited) (related_answers a) r
+  AreAnswers inherited a (tree m own c r) = IsAnswered (effective own inherited) (given_labels m.labels) (own_answer a)
+      × AllAnswers (effective own inherited) (related_answers a) r
 
   pub AllAnswers : Option Source → RelatedAnswers → Trees → Type 0
   AllAnswers inherited more no_trees = Unit {0}
-  AllAnswers inherited more (more_trees t ts) = AreAnswers inherited (first_answers more) t × AllAnswers inherited (later_answers more) ts
+  AllAnswers inherited more (more_trees t ts) =
+      AreAnswers inherited (first_answers more) t × AllAnswers inherited (later_answers more) ts
 
 -- ---- what is appended
 
 -- new is old and then the snippets of these labels, for some answers
-pub record AppendsSnippets (context : ℕ) (source : Option Source) (labels : List Label) (old new : List ℕ) : Type 0 where
-  pub fails : List Bool
-  pub possible : IsAnswered source labels fails
-  pub appended : new ≡ old ++ snippet_rows context source fails labels
+pub record AppendsSnippets (context : ℕ) (source : Option Source) (labels : List Label) (old new : List ℕ) : Type 0
+  where
+    pub fails : List Bool
+    pub possible : IsAnswered source labels fails
+    pub appended : new ≡ old ++ snippet_rows context source fails labels
 
 -- new is old and then a related report, for some answers
 pub record AppendsReport (context : ℕ) (inherited : Option Source) (t : Tree) (old new : List ℕ) : Type 0 where

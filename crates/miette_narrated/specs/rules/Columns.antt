@@ -12,14 +12,15 @@ begun bytes (c ∷ cs) = if bytes == 0 then [] else c.code ∷ begun (bytes - c.
 -- whether so many bytes are whole characters of the text, and no more bytes than it has
 abbrev pub is_boundary : ℕ → List Character → Bool
 is_boundary bytes [] = bytes == 0
-is_boundary bytes (c ∷ cs) = if bytes == 0 then true else (if nat_lt bytes c.bytes then false else is_boundary (bytes - c.bytes) cs)
+is_boundary bytes (c ∷ cs) = if bytes == 0 then true
+    else (if nat_lt bytes c.bytes then false else is_boundary (bytes - c.bytes) cs)
 
 -- the widths of characters, each by itself, one after the other
 abbrev pub widths : List ℕ → ℕ
 widths [] = 0
 widths (code ∷ codes) = width_of code + widths codes
 
--- The column behind so many bytes: the width of the text before it; inside a character and past the text the widths of the
--- characters that begin before it.
+-- The column behind so many bytes: the width of the text before it; inside a character and past the text the widths
+-- of the characters that begin before it.
 abbrev pub column : ℕ → List Character → ℕ
 column bytes cs = if is_boundary bytes cs then str_width false (begun bytes cs) else widths (begun bytes cs)

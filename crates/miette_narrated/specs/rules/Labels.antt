@@ -1,5 +1,6 @@
 -- The rows of labels under a line.
-use Rattle.std.specs.Prelude.{ℕ, ◌+◌, ◌-◌, ◌==◌, min, max, List, [], ◌∷◌, ◌++◌, Option, Some, None, Bool, ◌&&◌, ◌||◌, if◌then◌else◌, nat_le, decimal, codes}
+use Rattle.std.specs.Prelude.{ℕ, ◌+◌, ◌-◌, ◌==◌, min, max, List, [], ◌∷◌, ◌++◌, Option, Some, None, Bool, ◌&&◌, ◌||◌}
+use Rattle.std.specs.Prelude.{if◌then◌else◌, nat_le, decimal, codes}
 use Rattle.miette_protocol.specs.rules.Lines.{Line}
 use Rattle.miette_protocol.specs.views.Meaning.{Label}
 use Rattle.miette_lines.specs.rules.Cells.{Character}
@@ -18,10 +19,14 @@ pub record Told : Type 0 where
 
 -- a label over a source of so many bytes: its end is cut to the source's
 abbrev pub told : ℕ → Label → Told
-told n label = record { start = label.span.offset; after = max label.span.offset (min (end_of_span label.span) n); text = label.text }
+told n label = record {
+  start = label.span.offset;
+  after = max label.span.offset (min (end_of_span label.span) n);
+  text = label.text;
+}
 
--- a line of a snippet: where it lies, its number, whether it is the snippet's last, where the snippet's data end, and the characters of
--- its text
+-- a line of a snippet: where it lies, its number, whether it is the snippet's last, where the snippet's data end, and
+-- the characters of its text
 pub record Shown : Type 0 where
   pub line : Line
   pub number : ℕ
@@ -29,7 +34,8 @@ pub record Shown : Type 0 where
   pub data_end : ℕ
   pub characters : List Character
 
--- Of a label from one offset to another: it begins on the line or behind it; it begins before the text's end; it reaches the line.
+-- Of a label from one offset to another: it begins on the line or behind it; it begins before the text's end; it
+-- reaches the line.
 abbrev pub begins : Shown → ℕ → Bool
 begins it start = nat_le it.line.start start
 
@@ -49,7 +55,8 @@ first_number it start = column (start - it.line.start) it.characters + 1
 
 -- the number of its last column; an empty label has one column
 abbrev pub last_number : Shown → ℕ → ℕ → ℕ
-last_number it start after = if start == after then first_number it start else column (after - it.line.start) it.characters
+last_number it start after = if start == after then first_number it start
+    else column (after - it.line.start) it.characters
 
 -- `: end`
 abbrev pub text_behind : Option (List ℕ) → List ℕ
@@ -58,27 +65,34 @@ text_behind (Some text) = codes ": " ++ text
 
 -- `, column 3`, or `, columns 2 to 3`
 abbrev pub columns_text : ℕ → ℕ → List ℕ
-columns_text a b = if a == b then codes ", column " ++ decimal a else codes ", columns " ++ (decimal a ++ (codes " to " ++ decimal b))
+columns_text a b = if a == b then codes ", column " ++ decimal a
+    else codes ", columns " ++ (decimal a ++ (codes " to " ++ decimal b))
 
 -- a label that begins and ends on the line, one that begins there, and one that ends there
 abbrev pub whole_row : Shown → Told → List ℕ
-whole_row it d = row (codes "    label at line " ++ (decimal it.number ++ (columns_text (first_number it d.start) (last_number it d.start d.after) ++ text_behind d.text)))
+whole_row it d = row (codes "    label at line "
+    ++ (decimal it.number ++ (columns_text (first_number it d.start) (last_number it d.start d.after)
+    ++ text_behind d.text)))
 
 abbrev pub start_row : Shown → Told → List ℕ
-start_row it d = row (codes "    label starting at line " ++ (decimal it.number ++ (codes ", column " ++ (decimal (first_number it d.start) ++ text_behind d.text))))
+start_row it d = row (codes "    label starting at line "
+    ++ (decimal it.number ++ (codes ", column " ++ (decimal (first_number it d.start) ++ text_behind d.text))))
 
 abbrev pub end_row : Shown → Told → List ℕ
-end_row it d = row (codes "    label ending at line " ++ (decimal it.number ++ (codes ", column " ++ (decimal (last_number it d.start d.after) ++ text_behind d.text))))
+end_row it d = row (codes "    label ending at line "
+    ++ (decimal it.number ++ (codes ", column " ++ (decimal (last_number it d.start d.after) ++ text_behind d.text))))
 
 -- which of them a label has under a line, if it has one there
 abbrev pub begun_row : Shown → Told → List ℕ
-begun_row it d = if ends_before it d.start d.after then whole_row it d else (if begins_within it d.start then start_row it d else [])
+begun_row it d = if ends_before it d.start d.after then whole_row it d
+    else (if begins_within it d.start then start_row it d else [])
 
 abbrev pub reaching_row : Shown → Told → List ℕ
 reaching_row it d = if ends_before it d.start d.after then end_row it d else []
 
 abbrev pub label_row : Shown → Told → List ℕ
-label_row it d = if begins it d.start then begun_row it d else (if reaches_line it d.after then reaching_row it d else [])
+label_row it d = if begins it d.start then begun_row it d
+    else (if reaches_line it d.after then reaching_row it d else [])
 
 abbrev pub label_rows : Shown → List Told → List ℕ
 label_rows it [] = []

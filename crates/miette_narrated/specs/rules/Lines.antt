@@ -1,5 +1,6 @@
 -- The rows of a snippet's lines.
-use Rattle.std.specs.Prelude.{ℕ, ◌+◌, ◌-◌, List, [], ◌∷◌, ◌++◌, map, length, Bool, true, false, slice_range, decimal, codes, encode_utf8_all}
+use Rattle.std.specs.Prelude.{ℕ, ◌+◌, ◌-◌, List, [], ◌∷◌, ◌++◌, map, length, Bool, true, false, slice_range, decimal}
+use Rattle.std.specs.Prelude.{codes, encode_utf8_all}
 use Rattle.miette_protocol.specs.rules.Lines.{Line}
 use Rattle.miette_protocol.specs.rules.Reading.{Contents}
 use Rattle.miette_lines.specs.rules.Cells.{Character, characters}
@@ -34,4 +35,5 @@ rows_of_line labels it = line_row it ++ label_rows it labels
 -- lines with numbers from this one on
 abbrev pub rows_of_lines : List Told → Contents → ℕ → List Line → List ℕ
 rows_of_lines labels lent number [] = []
-rows_of_lines labels lent number (line ∷ lines) = rows_of_line labels (shown lent number (is_nil lines) line) ++ rows_of_lines labels lent (number + 1) lines
+rows_of_lines labels lent number (line ∷ lines) =
+    rows_of_line labels (shown lent number (is_nil lines) line) ++ rows_of_lines labels lent (number + 1) lines

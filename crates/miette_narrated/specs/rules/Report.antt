@@ -84,7 +84,8 @@ url_rows (Some url) = row (codes "For more details, see:") ++ row url
 
 -- help, code and url
 abbrev pub advice_rows : Meaning → List ℕ
-advice_rows m = row_if (codes "diagnostic help: ") m.help ++ (row_if (codes "diagnostic code: ") m.code ++ url_rows m.url)
+advice_rows m = row_if (codes "diagnostic help: ") m.help
+    ++ (row_if (codes "diagnostic code: ") m.code ++ url_rows m.url)
 
 -- the snippets over a source, none without one
 abbrev pub snippet_rows : ℕ → Option Source → List Bool → List Label → List ℕ
@@ -102,7 +103,8 @@ blank_before (more_trees t ts) = row []
 
 -- ---- the whole
 
--- related reports: title, message, severity, causes, snippets, help, code, url, and theirs, each over its effective source
+-- related reports: title, message, severity, causes, snippets, help, code, url, and theirs, each over its effective
+-- source
 abbrev mutual
   pub related_report : ℕ → Option Source → Answers → Tree → List ℕ
   related_report context inherited a (tree m own c r) =
@@ -113,9 +115,11 @@ abbrev mutual
   pub related_reports : ℕ → Option Source → RelatedAnswers → Trees → List ℕ
   related_reports context inherited more no_trees = []
   related_reports context inherited more (more_trees t ts) =
-      related_report context inherited (first_answers more) t ++ related_reports context inherited (later_answers more) ts
+      related_report context inherited (first_answers more) t
+      ++ related_reports context inherited (later_answers more) ts
 
--- the outermost report: message, severity, causes where they are told, snippets, help, code, url, related reports, and the last row
+-- the outermost report: message, severity, causes where they are told, snippets, help, code, url, related reports,
+-- and the last row
 abbrev pub narrated : Settings → Tree → Answers → List ℕ
 narrated s (tree m own c r) a =
     head_rows m ++ (causes_if s.chain (causes_of c)

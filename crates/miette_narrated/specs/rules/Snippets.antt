@@ -16,7 +16,8 @@ name_text (Some name) = codes " for " ++ name
 -- `Begin snippet for bad_file.rs starting at line 1, column 1`, and a blank row
 abbrev pub begin_rows : Contents → List ℕ
 begin_rows lent =
-    row (codes "Begin snippet" ++ (name_text lent.name ++ (codes " starting at line " ++ (decimal (lent.line + 1) ++ (codes ", column " ++ decimal (lent.column + 1))))))
+    row (codes "Begin snippet" ++ (name_text lent.name
+    ++ (codes " starting at line " ++ (decimal (lent.line + 1) ++ (codes ", column " ++ decimal (lent.column + 1))))))
     ++ row []
 
 -- a snippet, from what its read lent
@@ -25,9 +26,11 @@ snippet labels lent = begin_rows lent ++ rows_of_lines labels lent (lent.line + 
 
 abbrev pub snippets_of : ℕ → Source → List Told → List Span → List ℕ
 snippets_of context source labels [] = []
-snippets_of context source labels (group ∷ groups) = snippet labels (contents context source group) ++ snippets_of context source labels groups
+snippets_of context source labels (group ∷ groups) =
+    snippet labels (contents context source group) ++ snippets_of context source labels groups
 
 -- the snippets of labels over a source, where these reads of groups fail: labels by offset, in the groups of the layout
 abbrev pub snippets : ℕ → Source → List Bool → List Label → List ℕ
 snippets context source fails labels =
-    snippets_of (group_context context (in_order labels)) source (map (told (length source.bytes)) (in_order labels)) (groups_of context source fails (in_order labels))
+    snippets_of (group_context context (in_order labels)) source (map (told (length source.bytes)) (in_order labels))
+    (groups_of context source fails (in_order labels))

@@ -7,10 +7,12 @@ use Rattle.miette_narrated.specs.rules.Columns.{begun, is_boundary, widths, colu
 
 -- the column behind so many bytes more than those before a place, in the characters behind it
 abbrev pub column_behind : Place → ℕ → List Character → ℕ
-column_behind place bytes cs = if is_boundary bytes cs then place.column + str_width false (begun bytes cs) else place.widths + widths (begun bytes cs)
+column_behind place bytes cs = if is_boundary bytes cs then place.column + str_width false (begun bytes cs)
+    else place.widths + widths (begun bytes cs)
 
 -- from there on columns go on from the place's own
 abbrev pub IsPlace : List ℕ → Place → Type 0
 IsPlace text place =
     (place.bytes ≤ length text)
-    × ((more : ℕ) → column (place.bytes + more) (characters text) ≡ column_behind place more (characters (drop place.bytes text)))
+    × ((more : ℕ) → column (place.bytes + more) (characters text)
+    ≡ column_behind place more (characters (drop place.bytes text)))

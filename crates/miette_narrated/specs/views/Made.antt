@@ -17,4 +17,10 @@ all_told labels ps = map (told_of labels) ps
 
 -- a line as a program shows it
 abbrev pub shown_of : ShownLine → Shown
-shown_of it = record { line = line_of_text it.line; number = it.number; is_last = it.is_last; data_end = it.data_end; characters = characters it.text.bytes.now }
+shown_of it = record {
+  line = line_of_text it.line;
+  number = it.number;
+  is_last = it.is_last;
+  data_end = it.data_end;
+  characters = characters it.text.bytes.now;
+}

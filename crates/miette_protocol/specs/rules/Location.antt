@@ -1,4 +1,5 @@
--- Where a line and a column stand in a text. Lines are ended by LF alone, columns count characters, and both are one-based.
+-- Where a line and a column stand in a text. Lines are ended by LF alone, columns count characters, and both are
+-- one-based.
 use Rattle.std.specs.Prelude.{◌≡◌, ℕ, ◌+◌, ◌<◌, ◌≤◌, not, ◌==◌, List, length, take, count_by, encode_utf8_all}
 use Rattle.std.specs.List.{suffix_len}
 use Rattle.std.specs.Str.{chars}

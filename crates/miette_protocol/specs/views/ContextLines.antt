@@ -10,7 +10,9 @@ abbrev pub WritesLines : Option ℕ → Log → Log → Type 0
 WritesLines = WritesOption (λ n old new. Logs old new (unsigned n))
 
 -- nothing was read, or, after a look, a number
-abbrev pub ReadsLines : {F E M : Type 0} → (F → List ℕ → Event → F → Type 0) → (F → F → Type 0) → Deserializer F E M → Option ℕ → Deserializer F E M → Type 0
+abbrev pub ReadsLines : {F E M : Type 0} → (F → List ℕ → Event → F → Type 0) → (F → F → Type 0) → Deserializer F E M →
+    Option ℕ → Deserializer F E M → Type 0
 ReadsLines {F} {E} {M} gives stays old lines new =
     (Gives gives old nothing new × (lines ≡ None))
-    ⊎ ((n : ℕ) × (looked : Deserializer F E M) × Stays stays old looked × Gives gives looked (unsigned n) new × (lines ≡ counted (Some n)))
+    ⊎ ((n : ℕ) × (looked : Deserializer F E M) × Stays stays old looked × Gives gives looked (unsigned n) new
+    × (lines ≡ counted (Some n)))

@@ -8,17 +8,20 @@ use Rattle.miette_report.specs.declared.settings.Choice.TheVariants.{Json, Debug
 -- words without a value; behind each other one stands its value
 abbrev pub is_alone : List ℕ → Bool
 is_alone word =
-    bytes_eq word (codes "--json") || (bytes_eq word (codes "--debug") || (bytes_eq word (codes "--narrated") || bytes_eq word (codes "--graphical")))
+    bytes_eq word (codes "--json") || (bytes_eq word (codes "--debug")
+    || (bytes_eq word (codes "--narrated") || bytes_eq word (codes "--graphical")))
 
 -- the handler of this name, or the one before
 abbrev pub named_choice : Choice → List ℕ → Choice
-named_choice before word = if bytes_eq word (codes "--json") then Json else (if bytes_eq word (codes "--debug") then Debug else before)
+named_choice before word = if bytes_eq word (codes "--json") then Json
+    else (if bytes_eq word (codes "--debug") then Debug else before)
 
 -- the last one that is named by a word which is no value, or the one before
 abbrev mutual
   pub choice_in : Choice → List (List ℕ) → Choice
   choice_in before [] = before
-  choice_in before (word ∷ words) = if is_alone word then choice_in (named_choice before word) words else choice_behind before words
+  choice_in before (word ∷ words) = if is_alone word then choice_in (named_choice before word) words
+      else choice_behind before words
 
   pub choice_behind : Choice → List (List ℕ) → Choice
   choice_behind before [] = before

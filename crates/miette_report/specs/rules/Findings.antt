@@ -1,5 +1,7 @@
 -- What `lint` finds in a source: labels, line by line.
-use Rattle.std.specs.Prelude.{ℕ, ◌+◌, ◌-◌, ◌==◌, ◌||◌, nat_lt, Bool, false, if◌then◌else◌, List, [], ◌∷◌, ◌++◌, Option, Some, None, codes, decimal, drop, find, flat_map, length, position, reverse, slice_range, take_while}
+use Rattle.std.specs.Prelude.{ℕ, ◌+◌, ◌-◌, ◌==◌, ◌||◌, nat_lt, Bool, false, if◌then◌else◌, List, [], ◌∷◌, ◌++◌, Option}
+use Rattle.std.specs.Prelude.{Some, None, codes, decimal, drop, find, flat_map, length, position, reverse, slice_range}
+use Rattle.std.specs.Prelude.{take_while}
 use Rattle.std.specs.Option.{option_and_then, option_map, option_map_or}
 use Rattle.std.specs.List.{last_or}
 use Rattle.miette_protocol.specs.rules.Lines.{Line, is_terminated, lines_of}
@@ -21,7 +23,12 @@ tab_after_space blanks = option_and_then (tab_behind blanks) (position (λ b. b 
 
 -- a label of the bytes from one offset up to another
 abbrev pub finding : List ℕ → ℕ → ℕ → Label
-finding text from to = record { text = Some text; span = record { offset = from; len = to - from }; primary = false; context = None }
+finding text from to = record {
+  text = Some text;
+  span = record { offset = from; len = to - from };
+  primary = false;
+  context = None;
+}
 
 -- how many blanks end a text
 abbrev pub ending_blanks : List ℕ → ℕ
@@ -29,28 +36,33 @@ ending_blanks text = length (take_while is_blank (reverse text))
 
 -- the blanks that end a text, which ends there
 abbrev pub trailing : ℕ → List ℕ → List Label
-trailing end text = if ending_blanks text == 0 then [] else finding (codes "trailing blanks") (end - ending_blanks text) end ∷ []
+trailing end text = if ending_blanks text == 0 then []
+    else finding (codes "trailing blanks") (end - ending_blanks text) end ∷ []
 
 -- in the blanks that begin a text, which begins there, the first tab after a space
 abbrev pub misplaced_tab : ℕ → List ℕ → List Label
-misplaced_tab start text = option_map_or (λ at. finding (codes "tab after space") (start + at) (start + at + 1) ∷ []) (tab_after_space (take_while is_blank text)) []
+misplaced_tab start text = option_map_or (λ at. finding (codes "tab after space") (start + at) (start + at + 1) ∷ [])
+    (tab_after_space (take_while is_blank text)) []
 
 abbrev pub too_wide : ℕ → List ℕ
 too_wide width = codes "wider than " ++ decimal width ++ codes " columns"
 
 -- from the first character whose columns pass the width to where the text ends
 abbrev pub overlong : ℕ → ℕ → List Cell → List Label
-overlong width end cells = option_map_or (λ cell. finding (too_wide width) cell.start end ∷ []) (find (λ cell. nat_lt width cell.until) cells) []
+overlong width end cells = option_map_or (λ cell. finding (too_wide width) cell.start end ∷ [])
+    (find (λ cell. nat_lt width cell.until) cells) []
 
 -- the last character of a line without a terminator
 abbrev pub unended : Line → List Cell → List Label
 unended l cells =
     if is_terminated l then []
-    else option_map_or (λ cell. finding (codes "no final terminator") cell.start cell.after ∷ []) (last_or None cells) []
+    else option_map_or (λ cell. finding (codes "no final terminator") cell.start cell.after ∷ []) (last_or None cells)
+    []
 
 -- of a line whose text is this
 abbrev pub text_findings : ℕ → Line → List ℕ → List Cell → List Label
-text_findings width l text cells = trailing l.text_end text ++ (misplaced_tab l.start text ++ (overlong width l.text_end cells ++ unended l cells))
+text_findings width l text cells = trailing l.text_end text
+    ++ (misplaced_tab l.start text ++ (overlong width l.text_end cells ++ unended l cells))
 
 -- the cells of a text that begins there, with tabs of four columns
 abbrev pub cells_of : ℕ → List ℕ → List Cell
@@ -58,7 +70,8 @@ cells_of start text = cells_from width_of 4 false start 0 (characters text)
 
 abbrev pub line_findings : List ℕ → ℕ → Line → List Label
 line_findings source width l =
-    text_findings width l (slice_range source l.start l.text_end) (cells_of l.start (slice_range source l.start l.text_end))
+    text_findings width l (slice_range source l.start l.text_end)
+    (cells_of l.start (slice_range source l.start l.text_end))
 
 -- all of a source
 abbrev pub findings_of : List ℕ → ℕ → List Label

@@ -19,24 +19,27 @@ use Rattle.miette_description.specs.rules.Description.{tree_for}
 use Rattle.miette_report.specs.declared.settings.Choice.{Choice}
 use Rattle.miette_report.specs.declared.settings.Choice.TheVariants.{Build, Json, Debug}
 
--- A text that a handler gives for a tree whose sources always read: a picture, one alone where no highlighter or a blank one is set; a
--- narrated text only where every label that is told is accepted.
+-- A text that a handler gives for a tree whose sources always read: a picture, one alone where no highlighter or a
+-- blank one is set; a narrated text only where every label that is told is accepted.
 abbrev pub IsBuiltText : {H : Type 0} → (H → Bool) → MietteHandler H → Tree → List ℕ → Type 0
 IsBuiltText is_blank (Graphical it) t text =
     IsTextOf drawn_rows it.settings (draws_plain is_blank it) t text
     × (draws_plain is_blank it ≡ true → text ≡ encode_utf8_all (report_text drawn_rows it.settings t unlisted))
-IsBuiltText is_blank (Narrated it) t text = (report_accepted t ≡ true) × (text ≡ narrated.narrated it t narrated.unlisted)
+IsBuiltText is_blank (Narrated it) t text = (report_accepted t ≡ true)
+    × (text ≡ narrated.narrated it t narrated.unlisted)
 
 -- the same by what was asked for; of the debug report nothing is said
 abbrev pub IsJobText : {H : Type 0} → (H → Bool) → Choice → Options H → Terminal → Tree → List ℕ → Type 0
-IsJobText {H} is_blank Build options terminal t text = (handler : MietteHandler H) × IsChosen options terminal handler × IsBuiltText is_blank handler t text
+IsJobText {H} is_blank Build options terminal t text =
+    (handler : MietteHandler H) × IsChosen options terminal handler × IsBuiltText is_blank handler t text
 IsJobText is_blank Json options terminal t text = text ≡ json_text (value_of t)
 IsJobText is_blank Debug options terminal t text = ⊤
 
 -- the bytes are a description, and this holds of its text
 abbrev pub Writes : {H : Type 0} → (H → Bool) → Choice → Options H → Terminal → List ℕ → (List ℕ → Type 0) → Type 0
 Writes is_blank choice options terminal bytes holds =
-    IsUtf8 bytes × ((t : Tree) × (tree_for bytes ≡ Some t) × ((text : List ℕ) × IsJobText is_blank choice options terminal t text × holds text))
+    IsUtf8 bytes × ((t : Tree) × (tree_for bytes ≡ Some t)
+    × ((text : List ℕ) × IsJobText is_blank choice options terminal t text × holds text))
 
 -- the bytes are a description
 abbrev pub IsDescription : List ℕ → Type 0

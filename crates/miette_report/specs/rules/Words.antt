@@ -2,22 +2,25 @@
 use Rattle.std.specs.Prelude.{◌≡◌, ℕ, ◌<◌, ◌≤◌, ◌^◌, List, [], ◌∷◌, Option, Some, None}
 use Rattle.std.specs.Str.Parse.{IsNumeral, digits_value}
 
--- What a word is read as: the number that its digits write, one or more and nothing else, where that number is below 2 ^ 64.
+-- What a word is read as: the number that its digits write, one or more and nothing else, where that number is below
+-- 2 ^ 64.
 abbrev pub IsReadAs : List ℕ → Option ℕ → Type 0
 IsReadAs word (Some n) = IsNumeral 10 word × (digits_value 10 word < 2 ^ 64) × (n ≡ digits_value 10 word)
 IsReadAs word None = IsNumeral 10 word → 2 ^ 64 ≤ digits_value 10 word
 
 -- five words, the second and the third of which are numbers
-pub record AreDrawWords (words : List (List ℕ)) (name : List ℕ) (offset length : ℕ) (label message : List ℕ) : Type 0 where
-  pub offset_word : List ℕ
-  pub length_word : List ℕ
-  pub five : words ≡ name ∷ offset_word ∷ length_word ∷ label ∷ message ∷ []
-  pub offset_is : IsReadAs offset_word (Some offset)
-  pub length_is : IsReadAs length_word (Some length)
+pub record AreDrawWords (words : List (List ℕ)) (name : List ℕ) (offset length : ℕ) (label message : List ℕ) : Type 0
+  where
+    pub offset_word : List ℕ
+    pub length_word : List ℕ
+    pub five : words ≡ name ∷ offset_word ∷ length_word ∷ label ∷ message ∷ []
+    pub offset_is : IsReadAs offset_word (Some offset)
+    pub length_is : IsReadAs length_word (Some length)
 
 -- no reading of the words is one of `draw`'s
 abbrev pub IsNoDrawCall : List (List ℕ) → Type 0
-IsNoDrawCall words = (name : List ℕ) (offset length : ℕ) (label message : List ℕ) → ¬ (AreDrawWords words name offset length label message)
+IsNoDrawCall words = (name : List ℕ) (offset length : ℕ) (label message : List ℕ) →
+    ¬ (AreDrawWords words name offset length label message)
 
 -- two words, the second of which is a number
 pub record AreLintWords (words : List (List ℕ)) (name : List ℕ) (width : ℕ) : Type 0 where

@@ -19,11 +19,17 @@ label_text [] = None
 label_text (b ∷ bs) = Some (b ∷ bs)
 
 abbrev pub drawn_label : ℕ → ℕ → List ℕ → Label
-drawn_label offset length text = record { text = label_text text; span = record { offset = offset; len = length }; primary = false; context = None }
+drawn_label offset length text = record {
+  text = label_text text;
+  span = record { offset = offset; len = length };
+  primary = false;
+  context = None;
+}
 
 -- the message with one label
 abbrev pub drawn_meaning : ℕ → ℕ → List ℕ → List ℕ → Meaning
-drawn_meaning offset length label message = record (message_alone message) { labels = Some (drawn_label offset length label ∷ []) }
+drawn_meaning offset length label message = record (message_alone message)
+    { labels = Some (drawn_label offset length label ∷ []) }
 
 -- a diagnostic alone, over the input under a name
 abbrev pub over_input : List ℕ → Meaning → List ℕ → Tree

@@ -27,12 +27,15 @@ IsClean found false = 0 < length found
 -- A fact of the text for these words and this input, with whether nothing is found in it.
 abbrev pub Lints : List ℕ → ℕ → List ℕ → Bool → (List ℕ → Type 0) → Type 0
 Lints name width input clean holds =
-    (text : List ℕ) × IsClean (findings_of input width) clean × IsLinted name input (findings_of input width) text × holds text
+    (text : List ℕ) × IsClean (findings_of input width) clean × IsLinted name input (findings_of input width) text
+    × holds text
 
 -- The same for the words as the program is called with them.
 abbrev pub CallLints : List (List ℕ) → List ℕ → Bool → (List ℕ → Type 0) → Type 0
-CallLints words input clean holds = (name : List ℕ) × (width : ℕ) × AreLintWords words name width × Lints name width input clean holds
+CallLints words input clean holds = (name : List ℕ) × (width : ℕ) × AreLintWords words name width
+    × Lints name width input clean holds
 
 -- By the words the program finds nothing in the input, or something.
 abbrev pub CallIsClean : List (List ℕ) → List ℕ → Bool → Type 0
-CallIsClean words input clean = (name : List ℕ) × (width : ℕ) × AreLintWords words name width × IsClean (findings_of input width) clean
+CallIsClean words input clean = (name : List ℕ) × (width : ℕ) × AreLintWords words name width
+    × IsClean (findings_of input width) clean

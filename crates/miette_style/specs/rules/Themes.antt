@@ -1,5 +1,6 @@
 -- What a graphical report is drawn with, and the tables of characters and styles that it can be drawn with.
-use Rattle.std.specs.Prelude.{ℕ, Bool, List, [], ◌∷◌, Option, Some, None, true, false, ◌&&◌, if◌then◌else◌, not, chars, codes, string_bytes}
+use Rattle.std.specs.Prelude.{ℕ, Bool, List, [], ◌∷◌, Option, Some, None, true, false, ◌&&◌, if◌then◌else◌, not, chars}
+use Rattle.std.specs.Prelude.{codes, string_bytes}
 use Rattle.std.specs.Option.{option_map}
 use Rattle.std.specs.Str.{bytes_eq}
 use Rattle.miette_style.specs.rules.Styles.{plain, coloured}

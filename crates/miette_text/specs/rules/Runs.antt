@@ -1,5 +1,6 @@
 -- What a row prints: texts in styles, and links.
-use Rattle.std.specs.Prelude.{◌≡◌, ℕ, Bool, true, if◌then◌else◌, List, [], ◌∷◌, ◌++◌, decimal, codes, Option, Some, None}
+use Rattle.std.specs.Prelude.{◌≡◌, ℕ, Bool, true, if◌then◌else◌, List, [], ◌∷◌, ◌++◌, decimal, codes, Option, Some}
+use Rattle.std.specs.Prelude.{None}
 use Rattle.miette_style.specs.rules.Styles.{plain}
 use Rattle.miette_style.specs.rules.Escapes.{no_escape}
 use Rattle.miette_style.specs.declared.style.Color.{Color}
@@ -24,7 +25,8 @@ flag b code = if b then code ∷ [] else []
 
 -- the codes of a style; none where it is plain
 abbrev pub style_codes : Style → List (List ℕ)
-style_codes s = foreground_codes s.fg ++ flag s.bold (codes "1") ++ flag s.dimmed (codes "2") ++ flag s.italic (codes "3") ++ flag s.underline (codes "4")
+style_codes s = foreground_codes s.fg ++ flag s.bold (codes "1") ++ flag s.dimmed (codes "2")
+    ++ flag s.italic (codes "3") ++ flag s.underline (codes "4")
 
 -- each behind a `;`
 abbrev pub behind_separators : List (List ℕ) → List ℕ

@@ -1,6 +1,7 @@
 -- What a text is made of: characters, and sequences for the terminal. A text is the list of its
 -- characters' codes.
-use Rattle.std.specs.Prelude.{ℕ, zero, suc, Bool, false, ◌&&◌, ◌||◌, ◌==◌, nat_le, if◌then◌else◌, List, [], ◌∷◌, ◌++◌, take}
+use Rattle.std.specs.Prelude.{ℕ, zero, suc, Bool, false, ◌&&◌, ◌||◌, ◌==◌, nat_le, if◌then◌else◌, List, [], ◌∷◌, ◌++◌}
+use Rattle.std.specs.Prelude.{take}
 use Rattle.miette_style.specs.rules.Escapes.{is_escape}
 
 -- ---- which codes begin and end a sequence
@@ -48,7 +49,8 @@ control_len (c ∷ cs) = if is_line_feed c then 0 else if is_final c then 1 else
 -- Behind `ESC ]`: up to BEL or `ESC \`, on this line.
 abbrev pub command_len : List ℕ → ℕ
 command_len [] = 0
-command_len (c ∷ cs) = if is_line_feed c then 0 else if is_bell c then 1 else if begins_terminator (c ∷ cs) then 2 else one_more (command_len cs)
+command_len (c ∷ cs) = if is_line_feed c then 0 else if is_bell c then 1 else if begins_terminator (c ∷ cs) then 2
+    else one_more (command_len cs)
 
 -- Behind `ESC [`: digits and `;`, up to an `m`.
 abbrev pub colour_end_len : List ℕ → ℕ
@@ -58,7 +60,8 @@ colour_end_len (c ∷ cs) = if c == 109 then 1 else if is_parameter c then one_m
 -- The sequence at the front of a text.
 abbrev pub after_escape_len : List ℕ → ℕ
 after_escape_len [] = 0
-after_escape_len (c ∷ cs) = if c == 91 then one_more (control_len cs) else if c == 93 then one_more (command_len cs) else 0
+after_escape_len (c ∷ cs) = if c == 91 then one_more (control_len cs) else if c == 93 then one_more (command_len cs)
+    else 0
 
 abbrev pub sequence_len : List ℕ → ℕ
 sequence_len [] = 0

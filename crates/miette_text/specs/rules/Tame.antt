@@ -1,7 +1,8 @@
 -- Texts from which colours can be deleted before or after wrapping.
 use Rattle.std.specs.Prelude.{◌≡◌, ℕ, Bool, true, false, ◌&&◌, ◌||◌, not, ◌==◌, if◌then◌else◌, List, [], ◌∷◌}
 use Rattle.miette_style.specs.rules.Escapes.{no_escape}
-use Rattle.miette_text.specs.rules.Sequences.{Token, Character, Sequence, tokens, erase, is_bell, is_line_feed, is_parameter}
+use Rattle.miette_text.specs.rules.Sequences.{Token, Character, Sequence, tokens, erase, is_bell, is_line_feed}
+use Rattle.miette_text.specs.rules.Sequences.{is_parameter}
 use Rattle.miette_style.specs.rules.Escapes.{is_escape}
 use Rattle.miette_text.specs.rules.Wrapping.{Layout, is_space}
 
@@ -58,7 +59,8 @@ abbrev pub step : State → Token → State
 step Free (Sequence s) = if is_colour s || is_link s then Free else Broken
 step Free (Character c) = if is_escape c then Escaped else Free
 step Escaped (Sequence s) = Broken
-step Escaped (Character c) = if c == 93 then Opened else if c == 92 then Free else if is_line_feed c then Waiting else Broken
+step Escaped (Character c) = if c == 93 then Opened else if c == 92 then Free else if is_line_feed c then Waiting
+    else Broken
 step Opened (Sequence s) = Broken
 step Opened (Character c) = if is_line_feed c then Waiting else if is_bell c || is_escape c then Broken else Opened
 step Waiting (Sequence s) = if is_colour s || is_link s then Waiting else Broken
@@ -70,8 +72,8 @@ abbrev pub state_behind : State → List Token → State
 state_behind s [] = s
 state_behind s (t ∷ ts) = state_behind (step s t) ts
 
--- Every escape of the text begins a colour or a link's sequence, or is that of `ESC ] .. LF`, `ESC \` or `ESC LF`; behind
--- those with a line feed there is something to see.
+-- Every escape of the text begins a colour or a link's sequence, or is that of `ESC ] .. LF`, `ESC \` or `ESC LF`;
+-- behind those with a line feed there is something to see.
 abbrev pub AreTame : List Token → Type 0
 AreTame ts = state_behind Free ts ≡ Free
 

@@ -1,5 +1,6 @@
 -- How a text is wrapped: what stands in each row.
-use Rattle.std.specs.Prelude.{ℕ, ◌+◌, ◌-◌, min, Bool, true, false, ◌&&◌, ◌||◌, ◌==◌, nat_lt, nat_le, if◌then◌else◌, List, [], ◌∷◌, ◌++◌, map, flat_map, sum_by, unwrap_or}
+use Rattle.std.specs.Prelude.{ℕ, ◌+◌, ◌-◌, min, Bool, true, false, ◌&&◌, ◌||◌, ◌==◌, nat_lt, nat_le, if◌then◌else◌}
+use Rattle.std.specs.Prelude.{List, [], ◌∷◌, ◌++◌, map, flat_map, sum_by, unwrap_or}
 use Rattle.std.specs.Char.{is_whitespace}
 use Rattle.unicode_width.specs.Width.{char_width}
 use Rattle.miette_text.specs.rules.Sequences.{Token, Character, Sequence, tokens, spell, is_line_feed}
@@ -199,7 +200,11 @@ line_feed = Character 10
 -- each row under its indent; line feeds between them
 abbrev pub joined : List Token → List Token → List (List Token) → List Token
 joined indent further [] = []
-joined indent further (r ∷ rs) = elim rs [ [] ↦ indent ++ r | s ∷ ss ↦ indent ++ r ++ line_feed ∷ joined further further rs ]
+joined indent further (r ∷ rs) = elim rs [
+  | [] ↦ indent ++ r
+  | s ∷ ss ↦ indent ++ r ++ line_feed
+      ∷ joined further further rs
+]
 
 abbrev pub filled : Layout → List Token → List Token
 filled l ts = joined (tokens l.first) (tokens l.further) (text_rows l (pieces ts))
@@ -222,7 +227,8 @@ last_indented indent p = elim p.cells [ [] ↦ map Sequence p.rest | cell ∷ ce
 
 abbrev pub whole_pieces : List Token → List Token → List Piece → List Token
 whole_pieces indent further [] = []
-whole_pieces indent further (p ∷ ps) = elim ps [ [] ↦ last_indented indent p | q ∷ qs ↦ indented indent p ++ line_feed ∷ whole_pieces further further ps ]
+whole_pieces indent further (p ∷ ps) = elim ps
+    [ [] ↦ last_indented indent p | q ∷ qs ↦ indented indent p ++ line_feed ∷ whole_pieces further further ps ]
 
 abbrev pub unwrapped : Layout → List Token → List Token
 unwrapped l ts = whole_pieces (tokens l.first) (tokens l.further) (pieces ts)

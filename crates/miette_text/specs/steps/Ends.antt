@@ -1,9 +1,11 @@
 -- Where the first part of a word, the first row, and a row without its last spaces end.
-use Rattle.std.specs.Prelude.{◌≡◌, ℕ, zero, suc, ◌+◌, Bool, false, ◌&&◌, ◌==◌, nat_lt, List, [], ◌∷◌, ◌++◌, if◌then◌else◌, map, flat_map, take, drop, sum_by}
+use Rattle.std.specs.Prelude.{◌≡◌, ℕ, zero, suc, ◌+◌, Bool, false, ◌&&◌, ◌==◌, nat_lt, List, [], ◌∷◌, ◌++◌}
+use Rattle.std.specs.Prelude.{if◌then◌else◌, map, flat_map, take, drop, sum_by}
 use Rattle.miette_text.specs.views.Filling.{maybe_broken, parts_with}
 use Rattle.miette_text.specs.steps.Printing.{all_spaces, row_cells}
 use Rattle.miette_text.specs.rules.Sequences.{flat, is_line_feed}
-use Rattle.miette_text.specs.rules.Wrapping.{Cell, Word, width, is_space, is_alphanumeric, hyphen_parts, rows, with_spaces, words}
+use Rattle.miette_text.specs.rules.Wrapping.{Cell, Word, width, is_space, is_alphanumeric, hyphen_parts, rows}
+use Rattle.miette_text.specs.rules.Wrapping.{with_spaces, words}
 
 -- without the last spaces
 abbrev pub bare_len : List Cell → ℕ
@@ -53,13 +55,15 @@ hyphenated_behind hyphens before letters = if hyphens then hyphen_parts before l
 abbrev pub words_behind : Bool → Bool → ℕ → ℕ → List Cell → List Word
 words_behind hyphens breaks narrow before cells = elim (words cells) [
   | [] ↦ []
-  | w ∷ ws ↦ with_spaces w.spaces (flat_map (maybe_broken breaks narrow) (hyphenated_behind hyphens before w.letters)) ++ flat_map (parts_with hyphens breaks narrow) ws
+  | w ∷ ws ↦ with_spaces w.spaces (flat_map (maybe_broken breaks narrow) (hyphenated_behind hyphens before w.letters))
+      ++ flat_map (parts_with hyphens breaks narrow) ws
 ]
 
 -- the rows of what stands behind a code; none where nothing is left
 abbrev pub rows_left : Bool → Bool → ℕ → ℕ → ℕ → List Cell → List (List Cell)
 rows_left hyphens breaks narrow before room [] = []
-rows_left hyphens breaks narrow before room (c ∷ cs) = map row_cells (rows room room (words_behind hyphens breaks narrow before (c ∷ cs)))
+rows_left hyphens breaks narrow before room (c ∷ cs) =
+    map row_cells (rows room room (words_behind hyphens breaks narrow before (c ∷ cs)))
 
 -- So many codes are in the first row.
 abbrev pub IsFirstRow : Bool → Bool → ℕ → ℕ → ℕ → List ℕ → ℕ → Type 0

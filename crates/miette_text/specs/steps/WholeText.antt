@@ -10,4 +10,5 @@ piece_text (c ∷ cs) = (flat c.marks ++ c.code ∷ []) ++ piece_text cs
 
 -- nothing before what stands behind the last line feed where it has no character
 abbrev pub indent_text : Bool → List ℕ → List ℕ → List Cell → List ℕ
-indent_text last indent short cells = if not last || not (is_nil cells) then (if all_white cells then short else indent) else []
+indent_text last indent short cells = if not last || not (is_nil cells) then (if all_white cells then short else indent)
+    else []

@@ -1,5 +1,6 @@
 -- Runs: characters, and at their places the signs between them.
-use Rattle.std.specs.Prelude.{Bool, true, ◌&&◌, ◌==◌, ℕ, suc, ◌≤◌, nat_le, nat_lt, length, if◌then◌else◌, List, [], ◌∷◌, ◌++◌, map}
+use Rattle.std.specs.Prelude.{Bool, true, ◌&&◌, ◌==◌, ℕ, suc, ◌≤◌, nat_le, nat_lt, length, if◌then◌else◌, List, [], ◌∷◌}
+use Rattle.std.specs.Prelude.{◌++◌, map}
 use Rattle.std.specs.List.{All}
 use Rattle.miette_text.specs.rules.Runs.{behind_separators, colour_start, colour_stop, separated}
 use Rattle.miette_text.specs.rules.Sequences.{Token, Character, Sequence, sequence_len}
@@ -43,7 +44,8 @@ AreWithin n marks = All (λ (m : Mark). m.at ≤ n) marks
 -- the characters from a place on, each with the marks before it
 abbrev pub cells_at : ℕ → List ℕ → List Mark → List Cell
 cells_at at [] marks = []
-cells_at at (c ∷ cs) marks = record { marks = map mark_text (upto at marks); code = c } ∷ cells_at (suc at) cs (beyond at marks)
+cells_at at (c ∷ cs) marks = record { marks = map mark_text (upto at marks); code = c }
+    ∷ cells_at (suc at) cs (beyond at marks)
 
 -- the marks that are left behind them
 abbrev pub left_at : ℕ → List ℕ → List Mark → List Mark

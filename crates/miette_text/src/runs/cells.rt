@@ -18,7 +18,8 @@ pub(crate) fn push_cells<S: Sink>(
     codes: &[char],
     marks: &[Mark],
 ) -> Result<usize, AllocError>
-    ensures text { OnOk result (S.holds out.new ≡ S.holds out.old ++ S.spells (piece_text (cells_at at codes.now marks.now))) }
+    ensures text { OnOk result (S.holds out.new
+        ≡ S.holds out.old ++ S.spells (piece_text (cells_at at codes.now marks.now))) }
     ensures left { IfOk result (λ n. drop n marks.now ≡ left_at at codes.now marks.now) }
     ensures within { IfOk result (λ n. n ≤ length marks.now) }
 {
@@ -50,7 +51,8 @@ pub(crate) fn push_signs<S: Sink>(
     codes: &[char],
     marks: &[Mark],
 ) -> Result<usize, AllocError>
-    ensures text { OnOk result (S.holds out.new ≡ S.holds out.old ++ S.spells (marks_text (cells_at at codes.now marks.now))) }
+    ensures text { OnOk result (S.holds out.new
+        ≡ S.holds out.old ++ S.spells (marks_text (cells_at at codes.now marks.now))) }
     ensures left { IfOk result (λ n. drop n marks.now ≡ left_at at codes.now marks.now) }
     ensures within { IfOk result (λ n. n ≤ length marks.now) }
 {
@@ -83,7 +85,8 @@ pub(crate) fn push_marks<S: Sink>(out: &mut S, marks: &[Mark]) -> Result<(), All
 
 /// Appends characters, and the signs between them.
 pub(crate) fn push_all<S: Sink>(out: &mut S, runs: Parts<'_>) -> Result<(), AllocError>
-    ensures { OnOk result (S.holds out.new ≡ S.holds out.old ++ S.spells (spell (woven 0 runs.entry.codes.now runs.entry.marks.now))) }
+    ensures { OnOk result (S.holds out.new ≡ S.holds out.old
+        ++ S.spells (spell (woven 0 runs.entry.codes.now runs.entry.marks.now))) }
 {
     let n = push_cells(out, 0, runs.codes, runs.marks)?;
     push_marks(out, &runs.marks[n..])?;

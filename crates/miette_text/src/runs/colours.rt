@@ -1,6 +1,7 @@
 //! Styles, printed.
 
-ghost use Rattle.std.specs.Prelude.{◌≡◌, ◌++◌, ◌∷◌, ◌||◌, [], IfOk, IfSome, OnOk, decimal, false, is_some, string_bytes};
+ghost use Rattle.std.specs.Prelude.{◌≡◌, ◌++◌, ◌∷◌, ◌||◌, [], IfOk, IfSome, OnOk, decimal, false, is_some};
+ghost use Rattle.std.specs.Prelude.{string_bytes};
 ghost use Rattle.miette_text.specs.rules.Runs.{colour_start, flag, foreground, foreground_codes, style_codes};
 ghost use Rattle.miette_text.specs.rules.Tame.{is_nil};
 ghost use Rattle.miette_text.specs.views.Woven.{further_codes};
@@ -46,7 +47,8 @@ fn push_foreground(out: &mut String, color: Color) -> Result<(), AllocError>
 
 // The code of the colour, where there is one; gives whether there is.
 fn push_color(out: &mut String, color: Option<Color>) -> Result<bool, AllocError>
-    ensures text { OnOk result (string_bytes out.new ≡ string_bytes out.old ++ further_codes false (foreground_codes color)) }
+    ensures text { OnOk result (string_bytes out.new
+        ≡ string_bytes out.old ++ further_codes false (foreground_codes color)) }
     ensures some { IfOk result (λ b. b ≡ is_some color) }
 {
     match color {

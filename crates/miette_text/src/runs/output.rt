@@ -1,6 +1,7 @@
 //! What a report is appended to: a text, which prints it at once, or runs, which can be wrapped again.
 
-ghost use Rattle.std.specs.Prelude.{◌≡◌, ◌++◌, ◌∷◌, ℕ, List, [], IfOk, OnOk, chars, encode_utf8_all, refl, string_bytes};
+ghost use Rattle.std.specs.Prelude.{◌≡◌, ◌++◌, ◌∷◌, ℕ, List, [], IfOk, OnOk, chars, encode_utf8_all, refl};
+ghost use Rattle.std.specs.Prelude.{string_bytes};
 ghost use Rattle.miette_text.specs.rules.Runs.{colour_start, colour_stop, link_start, printed_run};
 ghost use Rattle.miette_text.specs.rules.Sequences.{spell};
 
@@ -45,7 +46,8 @@ impl Model for Output {
 
 // Appends a text in a style.
 fn print_run(out: &mut String, style: Style, text: &str) -> Result<(), AllocError>
-    ensures { OnOk result (string_bytes out.new ≡ string_bytes out.old ++ encode_utf8_all (printed_run style (chars text.now))) }
+    ensures { OnOk result (string_bytes out.new
+        ≡ string_bytes out.old ++ encode_utf8_all (printed_run style (chars text.now))) }
 {
     if text.is_empty() || is_plain(style) {
         out.push_str(text)?;
@@ -59,7 +61,8 @@ fn print_run(out: &mut String, style: Style, text: &str) -> Result<(), AllocErro
 
 // Appends what begins a link.
 fn print_link(out: &mut String, url: &str) -> Result<(), AllocError>
-    ensures { OnOk result (string_bytes out.new ≡ string_bytes out.old ++ encode_utf8_all (link_start (chars url.now))) }
+    ensures { OnOk result (string_bytes out.new
+        ≡ string_bytes out.old ++ encode_utf8_all (link_start (chars url.now))) }
 {
     out.push_str("\u{1B}]8;;")?;
     out.push_str(url)?;

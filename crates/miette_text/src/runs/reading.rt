@@ -102,7 +102,8 @@ fn are_whole(marks: &[Mark]) -> bool
 
 /// Whether what runs print surely reads as these runs again.
 pub(crate) fn is_settled(runs: Parts<'_>) -> bool
-    ensures { result ≡ true → tokens (spell (woven 0 runs.entry.codes.now runs.entry.marks.now)) ≡ woven 0 runs.entry.codes.now runs.entry.marks.now }
+    ensures { result ≡ true → tokens (spell (woven 0 runs.entry.codes.now runs.entry.marks.now))
+        ≡ woven 0 runs.entry.codes.now runs.entry.marks.now }
 {
     has_no_escape(runs.codes) && are_whole(runs.marks)
 }

@@ -1,7 +1,8 @@
 //! Sequences for the terminal: how long they are.
 
 ghost use Rattle.std.specs.Prelude.{◌≡◌, ◌≤◌, ◌<◌, ◌+◌, true, length, drop, IsTrue};
-ghost use Rattle.miette_text.specs.rules.Sequences.{begins_command, begins_terminator, command_len, control_len, sequence_len};
+ghost use Rattle.miette_text.specs.rules.Sequences.{begins_command, begins_terminator, command_len, control_len};
+ghost use Rattle.miette_text.specs.rules.Sequences.{sequence_len};
 
 const LINE_FEED: char = '\n';
 

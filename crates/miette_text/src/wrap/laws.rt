@@ -12,7 +12,8 @@ ghost use Rattle.miette_text.specs.rules.Wrapping.{Layout, Word, columns_of, row
 /// Wrapping tame parts gives a tame text, and colours can be deleted before or after.
 pub fn wrapping_law()
     ensures tame { (l : Layout) (text : List ℕ) → AllTame l text → IsTame (wrapped l text) }
-    ensures erase { (l : Layout) (text : List ℕ) → AllTame l text → erase (wrapped l text) ≡ wrapped (colourless l) (erase text) }
+    ensures erase { (l : Layout) (text : List ℕ) → AllTame l text →
+        erase (wrapped l text) ≡ wrapped (colourless l) (erase text) }
 {}
 
 /// The same of joining.
@@ -47,7 +48,8 @@ pub fn columns_law()
 
 /// Where every escape belongs to a colour, colours can be deleted before or after wrapping.
 pub fn colours_law()
-    ensures { (l : Layout) (text : List ℕ) → IsColoured l.first → IsColoured l.further → IsColoured text → erase (wrapped l text) ≡ wrapped (colourless l) (erase text) }
+    ensures { (l : Layout) (text : List ℕ) → IsColoured l.first → IsColoured l.further → IsColoured text →
+        erase (wrapped l text) ≡ wrapped (colourless l) (erase text) }
 {}
 
 /// The rows that words fill, by what holds of them: they hold the words in order, and each word begins a row exactly
@@ -56,7 +58,8 @@ pub fn colours_law()
 pub fn rows_law()
     ensures words { (room further : ℕ) (words : List Word) → all_words (rows room further words) ≡ words }
     ensures filled { (room further : ℕ) (words : List Word) → IsFilled room further (rows room further words) }
-    ensures only { (room further : ℕ) (found : List (List Word)) → IsFilled room further found → found ≡ rows room further (all_words found) }
+    ensures only { (room further : ℕ) (found : List (List Word)) → IsFilled room further found →
+        found ≡ rows room further (all_words found) }
     ensures spaces { (row : List Token) → IsTrimmed row (trimmed row) }
     ensures only_spaces { (row found : List Token) → IsTrimmed row found → found ≡ trimmed row }
 {}

@@ -41,7 +41,8 @@ pub(crate) fn bare_len(row: &[char]) -> usize
 
 // A line feed and the indent below it.
 fn push_break<S: Sink>(out: &mut S, further: Parts<'_>) -> Result<(), AllocError>
-    ensures { OnOk result (S.holds out.new ≡ S.holds out.old ++ S.spells (10 ∷ spell (woven 0 further.entry.codes.now further.entry.marks.now))) }
+    ensures { OnOk result (S.holds out.new ≡ S.holds out.old
+        ++ S.spells (10 ∷ spell (woven 0 further.entry.codes.now further.entry.marks.now))) }
 {
     out.push_codes(&['\n'])?;
     push_all(out, further)?;
@@ -51,8 +52,10 @@ fn push_break<S: Sink>(out: &mut S, further: Parts<'_>) -> Result<(), AllocError
 // A row, from a place in the text up to the end of what is given, without its last spaces. How many marks are used.
 fn push_row<S: Sink>(out: &mut S, start: usize, row: Parts<'_>) -> Result<usize, AllocError>
     requires { start ≤ length row.codes.now }
-    ensures text { OnOk result (S.holds out.new ≡ S.holds out.old ++ S.spells (shown (cells_at start (drop start row.entry.codes.now) row.entry.marks.now))) }
-    ensures left { IfOk result (λ n. drop n row.entry.marks.now ≡ left_at start (drop start row.entry.codes.now) row.entry.marks.now) }
+    ensures text { OnOk result (S.holds out.new
+        ≡ S.holds out.old ++ S.spells (shown (cells_at start (drop start row.entry.codes.now) row.entry.marks.now))) }
+    ensures left { IfOk result (λ n. drop n row.entry.marks.now
+        ≡ left_at start (drop start row.entry.codes.now) row.entry.marks.now) }
     ensures within { IfOk result (λ n. n ≤ length row.entry.marks.now) }
 {
     let codes = &row.codes[start..];
@@ -71,8 +74,14 @@ fn push_rows<S: Sink>(
     line: Parts<'_>,
 ) -> Result<usize, AllocError>
     requires { first ≤ length line.codes.now }
-    ensures text { OnOk result (S.holds out.new ≡ S.holds out.old ++ S.spells (joined_lines [] (spell (woven 0 under.entry.further.codes.now under.entry.further.marks.now)) (lines_of [] (map row_cells (rows under.entry.room under.entry.further_room (flat_map (parts_with cuts.hyphens cuts.breaks cuts.narrow) (words (cells_at first (drop first line.entry.codes.now) line.entry.marks.now)))))))) }
-    ensures left { IfOk result (λ n. drop n line.entry.marks.now ≡ left_at first (drop first line.entry.codes.now) line.entry.marks.now) }
+    ensures text { OnOk result (S.holds out.new
+        ≡ S.holds out.old ++ S.spells (joined_lines []
+        (spell (woven 0 under.entry.further.codes.now under.entry.further.marks.now))
+        (lines_of [] (map row_cells (rows under.entry.room under.entry.further_room
+        (flat_map (parts_with cuts.hyphens cuts.breaks cuts.narrow)
+        (words (cells_at first (drop first line.entry.codes.now) line.entry.marks.now)))))))) }
+    ensures left { IfOk result (λ n. drop n line.entry.marks.now
+        ≡ left_at first (drop first line.entry.codes.now) line.entry.marks.now) }
     ensures within { IfOk result (λ n. n ≤ length line.entry.marks.now) }
 {
     let mut start = first;
@@ -120,7 +129,10 @@ pub(crate) fn push_filled<S: Sink>(
     under: Under<'_>,
     text: Parts<'_>,
 ) -> Result<(), AllocError>
-    ensures { OnOk result (S.holds out.new ≡ S.holds out.old ++ S.spells (joined_lines [] (spell (woven 0 under.entry.further.codes.now under.entry.further.marks.now)) (lines_from cuts.hyphens cuts.breaks cuts.narrow under.entry.room under.entry.further_room (pieces (woven 0 text.entry.codes.now text.entry.marks.now))))) }
+    ensures { OnOk result (S.holds out.new ≡ S.holds out.old
+        ++ S.spells (joined_lines [] (spell (woven 0 under.entry.further.codes.now under.entry.further.marks.now))
+        (lines_from cuts.hyphens cuts.breaks cuts.narrow under.entry.room under.entry.further_room
+        (pieces (woven 0 text.entry.codes.now text.entry.marks.now))))) }
 {
     let mut start: usize = 0;
     let mut used: usize = 0;

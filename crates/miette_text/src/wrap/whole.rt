@@ -16,7 +16,8 @@ use std::alloc::AllocError;
 
 // An indent without its last spaces; its signs stay.
 fn trimmed(indent: Parts<'_>) -> Parts<'_>
-    ensures { woven 0 result.codes.now result.marks.now ≡ trimmed (woven 0 indent.entry.codes.now indent.entry.marks.now) }
+    ensures { woven 0 result.codes.now result.marks.now
+        ≡ trimmed (woven 0 indent.entry.codes.now indent.entry.marks.now) }
 {
     let bare = bare_len(indent.codes);
     Parts {
@@ -44,7 +45,9 @@ fn push_indent<S: Sink>(
     short: Parts<'_>,
     line: &[char],
 ) -> Result<(), AllocError>
-    ensures { OnOk result (S.holds out.new ≡ S.holds out.old ++ S.spells (indent_text last (spell (woven 0 indent.entry.codes.now indent.entry.marks.now)) (spell (woven 0 short.entry.codes.now short.entry.marks.now)) (plain_cells line.now))) }
+    ensures { OnOk result (S.holds out.new ≡ S.holds out.old
+        ++ S.spells (indent_text last (spell (woven 0 indent.entry.codes.now indent.entry.marks.now))
+        (spell (woven 0 short.entry.codes.now short.entry.marks.now)) (plain_cells line.now))) }
 {
     if last && line.is_empty() {
         return Ok(());
@@ -64,7 +67,10 @@ pub(crate) fn push_whole<S: Sink>(
     further: Parts<'_>,
     text: Parts<'_>,
 ) -> Result<(), AllocError>
-    ensures { OnOk result (S.holds out.new ≡ S.holds out.old ++ S.spells (spell (whole_pieces (woven 0 first.entry.codes.now first.entry.marks.now) (woven 0 further.entry.codes.now further.entry.marks.now) (pieces (woven 0 text.entry.codes.now text.entry.marks.now))))) }
+    ensures { OnOk result (S.holds out.new ≡ S.holds out.old
+        ++ S.spells (spell (whole_pieces (woven 0 first.entry.codes.now first.entry.marks.now)
+        (woven 0 further.entry.codes.now further.entry.marks.now)
+        (pieces (woven 0 text.entry.codes.now text.entry.marks.now))))) }
 {
     let further_short = trimmed(further);
     let mut indent = first;

@@ -1,4 +1,5 @@
--- The two parts of a chain: the messages of a report and of the reports that are its causes, and the texts behind the last of them.
+-- The two parts of a chain: the messages of a report and of the reports that are its causes, and the texts behind the
+-- last of them.
 use Rattle.std.specs.Prelude.{ℕ, List, [], ◌∷◌, Option, Some, None}
 use Rattle.miette_tree.specs.rules.Tree.{Tree, tree, Cause, diagnostic, texts}
 

@@ -21,12 +21,14 @@ module _ {D S : Type 0} (means : D → Meaning) (is : S → Source) where
   -- the report of a report that was not written: that of refused memory, or what the error prints
   abbrev pub IsUnwritten : RenderError → Report D S → Type 0
   IsUnwritten unwritten.Memory r = IsRefused r
-  IsUnwritten unwritten.Refused r = (tree_of means is r ≡ alone (message_alone (render_text unwritten.Refused))) × (kind_of r ≡ message)
+  IsUnwritten unwritten.Refused r = (tree_of means is r ≡ alone (message_alone (render_text unwritten.Refused)))
+      × (kind_of r ≡ message)
 
   -- a text in front of a report, or with no report behind it
   abbrev pub IsFronted : List ℕ → Option (Report D S) → Report D S → Type 0
   IsFronted text None r = (tree_of means is r ≡ alone (message_alone text)) × (kind_of r ≡ message)
-  IsFronted text (Some below) r = (tree_of means is r ≡ wrapped text (tree_of means is below)) × (kind_of r ≡ kind_of below)
+  IsFronted text (Some below) r = (tree_of means is r ≡ wrapped text (tree_of means is below))
+      × (kind_of r ≡ kind_of below)
 
   -- that, or the report of refused memory
   abbrev pub Tells : List ℕ → Option (Report D S) → Report D S → Type 0
@@ -40,4 +42,5 @@ module _ {D S : Type 0} (means : D → Meaning) (is : S → Source) where
 
   -- a message alone: the printed text, where it is stated
   abbrev pub Prints : Option (List ℕ) → Report D S → Type 0
-  Prints stated r = (text : List ℕ) × IfSome stated (λ printed. text ≡ printed) × (tree_of means is r ≡ alone (message_alone text)) × (kind_of r ≡ message)
+  Prints stated r = (text : List ℕ) × IfSome stated (λ printed. text ≡ printed)
+      × (tree_of means is r ≡ alone (message_alone text)) × (kind_of r ≡ message)

@@ -9,4 +9,5 @@ use Rattle.miette_tree.specs.declared.chain.Chain.{Chain}
 
 -- what a chain still gives, from its front to its back
 abbrev pub left_of : {D S : Type 0} → (D → Meaning) → (S → Source) → Chain D S → List (List ℕ)
-left_of means is c = take c.count (spine_from (option_map (λ r. tree_of means is r.now) c.at)) ++ map string_bytes c.texts.now
+left_of means is c = take c.count (spine_from (option_map (λ r. tree_of means is r.now) c.at))
+    ++ map string_bytes c.texts.now
