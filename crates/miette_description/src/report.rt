@@ -108,22 +108,28 @@ pub fn report_of<D: Diagnostic, S: SourceCode>(
     Ok(report)
 }
 
+/// What a description says of the cause: a description of its own, texts, or both, which is refused.
+struct Causes<D: Diagnostic, S: SourceCode> {
+    one: Option<Report<D, S>>,
+    several: Option<Vec<String>>,
+}
+
 /// The report with its cause: one of its own or texts, and not both.
 fn caused<D: Diagnostic, S: SourceCode>(
     alloc: Global,
     report: Report<D, S>,
-    one: Option<Report<D, S>>,
-    several: Option<Vec<String>>,
+    causes: Causes<D, S>,
 ) -> Result<Report<D, S>, BuildError>
     requires { cause_of (tree_of D.meaning S.source report) ≡ texts [] }
     ensures ok { IfOk result (λ r.
         let value = tree_of D.meaning S.source in
         option_map (λ c. with_cause c (value report))
-        (one_cause (option_map value one) (option_map (λ v. map string_bytes v.items) several)) ≡ Some (value r)) }
+        (one_cause (option_map value causes.one) (option_map (λ v. map string_bytes v.items) causes.several)) ≡ Some (value r)) }
     ensures description { (result ≡ Err BuildError.Description) →
-        one_cause (option_map (tree_of D.meaning S.source) one) (option_map (λ v. map string_bytes v.items) several)
-        ≡ None }
+        one_cause (option_map (tree_of D.meaning S.source) causes.one)
+        (option_map (λ v. map string_bytes v.items) causes.several) ≡ None }
 {
+    let Causes { one, several } = causes;
     match one {
         None => match several {
             None => Ok(report),
@@ -197,24 +203,23 @@ fn assembled<D: Diagnostic, S: SourceCode>(
     alloc: Global,
     diagnostic: MietteDiagnostic,
     source: Option<OwnedSource>,
-    one: Option<Report<D, S>>,
-    several: Option<Vec<String>>,
+    causes: Causes<D, S>,
     list: Option<Vec<Report<D, S>>>,
     contexts: Option<Vec<String>>,
 ) -> Result<Report<D, S>, BuildError>
     ensures ok { IfOk result (λ r.
-        assembled (meaning_of diagnostic) (option_map owned_source source) (option_map (tree_of D.meaning S.source) one)
-        (option_map (λ v. map string_bytes v.items) several)
+        assembled (meaning_of diagnostic) (option_map owned_source source)
+        (option_map (tree_of D.meaning S.source) causes.one) (option_map (λ v. map string_bytes v.items) causes.several)
         (option_map (λ v. trees (map (tree_of D.meaning S.source) v.items)) list)
         (option_map (λ v. map string_bytes v.items) contexts) ≡ Some (tree_of D.meaning S.source r)) }
     ensures description { (result ≡ Err BuildError.Description) →
-        assembled (meaning_of diagnostic) (option_map owned_source source) (option_map (tree_of D.meaning S.source) one)
-        (option_map (λ v. map string_bytes v.items) several)
+        assembled (meaning_of diagnostic) (option_map owned_source source)
+        (option_map (tree_of D.meaning S.source) causes.one) (option_map (λ v. map string_bytes v.items) causes.several)
         (option_map (λ v. trees (map (tree_of D.meaning S.source) v.items)) list)
         (option_map (λ v. map string_bytes v.items) contexts) ≡ None }
 {
     let report = sourced(Report::built(diagnostic), source);
-    let report = caused(alloc, report, one, several)?;
+    let report = caused(alloc, report, causes)?;
     wrapped(alloc, related(report, list), contexts)
 }
 
@@ -233,7 +238,8 @@ fn report_from<D: Diagnostic, S: SourceCode>(
     let several = texts_at(alloc, value, "causes")?;
     let list = related_at(alloc, value, "related")?;
     let contexts = texts_at(alloc, value, "contexts")?;
-    assembled(alloc, diagnostic, source, one, several, list, contexts)
+    let causes = Causes { one, several };
+    assembled(alloc, diagnostic, source, causes, list, contexts)
 }
 
 /// The cause that is a description, where one stands at the key.

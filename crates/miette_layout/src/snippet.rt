@@ -1,4 +1,22 @@
 //! The rows of one snippet.
+//!
+//!        ╭─[src/a.rs:1:1]       the frame's top row, with the place that it points to
+//!      1 │ ╭─▶ source           a number row: number, gutter, text of the line
+//!      2 │ │     text           the gutter goes on while a label of several lines does
+//!        · │     ──┬─           a mark for each label on this line alone; `┬` is its anchor
+//!        · │       ╰── here     a leader `╰──` goes from the anchor to the label's text
+//!      3 │ ├─▶     here         the gutter of a label of several lines where it ends
+//!        · ╰──── whole          and its text
+//!        ╰────                  the frame's bottom row
+//!
+//! The steps, in order:
+//!
+//! 1. `push_snippet` brings the sweep over the labels to the snippet's first line.
+//! 2. `push_framed` counts lines and the widest gutter, and puts the frame around (`frame.rt`).
+//! 3. `push_lines` goes on line by line: which labels lie on it (the sweep), a highlighter's pieces.
+//! 4. `push_line_rows` (`line.rt`) puts the rows of a line: its number row over the gutter
+//!    (`gutters.rt`), the marks and their leaders (`marks.rt`, `strokes.rt`), the texts
+//!    (`texts.rt`), and the texts of labels that end there (`closings.rt`).
 
 ghost use Rattle.std.specs.Prelude.{◌≡◌, ◌+◌, ◌<◌, ◌^◌, map, length, decimal, IfOk, OnOk};
 ghost use Rattle.std.specs.Option.{option_map};

@@ -1,4 +1,20 @@
 //! Text, wrapped under indents.
+//!
+//!     one two-three         a line of the text
+//!     one␣|two-three        words: each has the spaces behind it
+//!     one␣|two-|three       parts: a word is cut behind a hyphen, or where it is too wide
+//!     × one two-            rows: as many parts as have room behind the indent,
+//!       three               without their last spaces; the other rows stand under an indent of their own
+//!
+//! | Stage | Function |
+//! |---|---|
+//! | a text is read as runs, its escape sequences as signs | `read_text`, `reread` (`runs/reading.rt`) |
+//! | lines are parted at line feeds | `line_len` (`lines.rt`) |
+//! | words, their parts, and how many of them a row takes | `row_len` (`ends.rt`) |
+//! | rows are printed with the signs that stand in them | `push_filled` (`lines.rt`) |
+//! | lines that aren't wrapped are printed whole | `push_whole` (`whole.rt`) |
+//!
+//! `fill` wraps a text, `wrap` runs. `cutting.rt` cuts line feeds at an end.
 
 ghost use Rattle.std.specs.Prelude.{◌≡◌, ◌++◌, IfOk, OnErr, OnOk, chars, encode_utf8_all, string_bytes, true};
 ghost use Rattle.miette_text.specs.views.Filling.{AppendsErasing, AreColoured, cuts_hyphens, filled_under, laid_out};
