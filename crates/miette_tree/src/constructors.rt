@@ -146,7 +146,7 @@ impl<D: Diagnostic, S: SourceCode> From<RenderError> for Report<D, S> {
     fn from(error: RenderError) -> Report<D, S> {
         match error {
             RenderError::Memory => Report::from_innermost(Innermost::OutOfMemory),
-            RenderError::Refused => Report::from_innermost(Innermost::Fixed(error.text())),
+            RenderError::Refused => Report::from_innermost(Innermost::Unwritten(error)),
         }
     }
 }

@@ -3,6 +3,7 @@ ghost use Rattle.std.specs.Prelude.{◌≡◌};
 ghost use Rattle.std.specs.Option.{option_copied};
 
 use miette_protocol::diagnostic::MietteDiagnostic;
+use miette_protocol::error::RenderError;
 use miette_protocol::protocol::{Diagnostic, LabeledSpan, Severity};
 use std::alloc::AllocError;
 
@@ -12,7 +13,7 @@ pub(crate) enum Innermost<D> {
     Message(String),
     Built(MietteDiagnostic),
     Boxed(D),
-    Fixed(&'static str),
+    Unwritten(RenderError),
     OutOfMemory,
 }
 
@@ -52,7 +53,7 @@ impl<D: Diagnostic> Innermost<D> {
             Innermost::Message(text) => text.as_str(),
             Innermost::Built(diagnostic) => diagnostic.message(),
             Innermost::Boxed(diagnostic) => diagnostic.message(),
-            Innermost::Fixed(text) => text,
+            Innermost::Unwritten(error) => error.text(),
             Innermost::OutOfMemory => "memory allocation failed",
         }
     }
@@ -111,7 +112,7 @@ impl<D: Diagnostic> Innermost<D> {
         ensures { kind_shown result ≡ innermost_kind self.now }
     {
         match self {
-            Innermost::Message(_) | Innermost::Fixed(_) => ReportKind::Message,
+            Innermost::Message(_) | Innermost::Unwritten(_) => ReportKind::Message,
             Innermost::Built(diagnostic) => ReportKind::Built(diagnostic),
             Innermost::Boxed(diagnostic) => ReportKind::Boxed(diagnostic),
             Innermost::OutOfMemory => ReportKind::OutOfMemory,

@@ -17,7 +17,7 @@ abbrev pub innermost_kind : {D : Type 0} → Innermost D → Kind D
 innermost_kind (inside.Message text) = message
 innermost_kind (inside.Built d) = built d
 innermost_kind (inside.Boxed d) = boxed d
-innermost_kind (inside.Fixed text) = message
+innermost_kind (inside.Unwritten error) = message
 innermost_kind inside.OutOfMemory = out_of_memory
 
 abbrev pub kind_of : {D S : Type 0} → Report D S → Kind D

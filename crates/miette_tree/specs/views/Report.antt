@@ -2,12 +2,13 @@
 use Rattle.std.specs.Prelude.{ℕ, ◌<◌, List, [], Option, Some, None, length, option_map, string_bytes, map, codes}
 use Rattle.miette_protocol.specs.views.Meaning.{Meaning}
 use Rattle.miette_protocol.specs.rules.Reading.{Source}
+use Rattle.miette_protocol.specs.rules.Texts.{render_text}
 use Rattle.miette_protocol.specs.views.Diagnostic.{meaning_of, message_alone}
 use Rattle.miette_tree.specs.rules.CauseTexts.{texts_in}
 use Rattle.miette_tree.specs.views.Owned.{kept_source}
 use Rattle.miette_tree.specs.rules.Tree.{Tree, tree, Cause, diagnostic, texts, Trees, no_trees, trees}
 use Rattle.miette_tree.specs.declared.innermost.Innermost.{Innermost}
-use Rattle.miette_tree.specs.declared.innermost.Innermost.TheVariants.{Message, Built, Boxed, Fixed, OutOfMemory}
+use Rattle.miette_tree.specs.declared.innermost.Innermost.TheVariants.{Message, Built, Boxed, Unwritten, OutOfMemory}
 use Rattle.miette_tree.specs.declared.report.KeptCause.{KeptCause}
 use Rattle.miette_tree.specs.declared.report.KeptCause.TheVariants as kept
 use Rattle.miette_tree.specs.declared.report.Cause as shown
@@ -24,7 +25,7 @@ abbrev pub innermost_meaning : {D : Type 0} → (D → Meaning) → Innermost D 
 innermost_meaning means (Message text) = message_alone (string_bytes text)
 innermost_meaning means (Built d) = meaning_of d
 innermost_meaning means (Boxed d) = means d
-innermost_meaning means (Fixed text) = message_alone text.now
+innermost_meaning means (Unwritten error) = message_alone (render_text error)
 innermost_meaning means OutOfMemory = out_of_memory_alone
 
 -- with the message that was put in front, where there is one
