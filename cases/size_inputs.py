@@ -259,8 +259,7 @@ def long_lines():
             yield Family(f"labels on {kind}", labels_on(unit), sizes, (8_000,), TOLD)
     for kind, unit in JOINED.items():
         sizes = doubled(1_000, 64_000)
-        gate = () if kind == "joined emoji" else (1_000,)
-        yield Family(f"labels on {kind}", labels_on(unit), sizes, gate, (NARRATED,))
+        yield Family(f"labels on {kind}", labels_on(unit), sizes, (1_000,), (NARRATED,))
     sizes = (10_000_000, 100_000_000)
     yield Family("up to 100 MB of FF", repeated(b"\xff"), sizes, (), (DRAW, LINT))
 

@@ -10,7 +10,7 @@ use Rattle.miette_lines.proofs.Stepping.{IsFirst, made, characters_step, charact
 use Rattle.miette_narrated.specs.rules.Columns.{begun, is_boundary, widths, column}
 use Rattle.miette_narrated.specs.rules.Lines.{decoded_text}
 use Rattle.miette_narrated.specs.declared.places.Place.{Place}
-use Rattle.miette_narrated.specs.steps.Places.{column_behind}
+use Rattle.miette_narrated.specs.steps.Places.{held, twice, column_behind}
 
 pub decoded_more : (old new rest left : List ℕ) (code size : ℕ) (goal : List ℕ) → IsFirst rest left code size → new ≡ old ++ encode_utf8 code →
     old ++ decoded_text (characters rest) ≡ goal → new ++ decoded_text (characters left) ≡ goal
@@ -23,19 +23,26 @@ decoded_all out rest goal e h = sym (append-nil out) ∙ ap (λ cs. out ++ decod
 
 -- ---- the column
 
--- some characters are over, and so many bytes of the rest are left; the sum of widths began with some
-pub record IsOver (first : ℕ) (text : List ℕ) (bytes : ℕ) (over : List ℕ) (sum : ℕ) (rest : List ℕ) (left : ℕ) : Type 0 where
-  pub all : chars over ++ begun left (characters rest) ≡ begun bytes (characters text)
+-- some characters are over, and so many bytes of the rest are left; the characters and the sum of widths began with some
+pub record IsOver (front : List ℕ) (first : ℕ) (text : List ℕ) (bytes : ℕ) (over : List ℕ) (sum : ℕ) (rest : List ℕ) (left : ℕ) : Type 0 where
+  pub all : chars over ++ begun left (characters rest) ≡ front ++ begun bytes (characters text)
   pub boundary : is_boundary left (characters rest) ≡ is_boundary bytes (characters text)
   pub width : sum + widths (begun left (characters rest)) ≡ first + widths (begun bytes (characters text))
 
-pub none_over : (first : ℕ) (text : List ℕ) (bytes : ℕ) (over : List ℕ) → over ≡ [] → IsOver first text bytes over first text bytes
-none_over first text bytes over e = record { all = ap (λ o. chars o ++ begun bytes (characters text)) e ∙ ap (λ o. o ++ begun bytes (characters text)) chars-nil; boundary = refl; width = refl }
+pub none_over : (front : List ℕ) (first : ℕ) (text : List ℕ) (bytes : ℕ) (over : List ℕ) → chars over ≡ front → IsOver front first text bytes over first text bytes
+none_over front first text bytes over e = record { all = ap (λ o. o ++ begun bytes (characters text)) e; boundary = refl; width = refl }
 
 pub chars_pushed : (old new : List ℕ) (code : ℕ) → IsUtf8 old → IsUtf8 new → new ≡ old ++ encode_utf8 code → chars new ≡ chars old ++ code ∷ []
 chars_pushed old new code u v e =
     sym (chars_from_encodes (chars old ++ code ∷ []) new v
     (encodes-append (chars old) (code ∷ []) ∙ ap (λ o. o ++ encode_utf8_all (code ∷ [])) (encodes-chars old u) ∙ ap (λ o. old ++ o) (append-nil (encode_utf8 code)) ∙ sym e))
+
+-- a text of no character, or of one
+pub none_held_text : (text : List ℕ) → text ≡ [] → chars text ≡ []
+none_held_text text e = ap chars e ∙ chars-nil
+
+pub one_held_text : (old new : List ℕ) (code : ℕ) → IsUtf8 old → IsUtf8 new → old ≡ [] → new ≡ old ++ encode_utf8 code → chars new ≡ code ∷ []
+one_held_text old new code u v e p = chars_pushed old new code u v p ∙ ap (λ o. o ++ code ∷ []) (none_held_text old e)
 
 nonzero : (left : ℕ) → 0 < left → eqb left 0 ≡ false
 nonzero left h = ne_eqb left 0 (λ e. omega arith)
@@ -57,9 +64,9 @@ boundary_zero : (cs : List Character) → is_boundary 0 cs ≡ true
 boundary_zero [] = refl
 boundary_zero (c ∷ cs) = refl
 
-pub one_over : (first : ℕ) (text : List ℕ) (bytes : ℕ) (over new : List ℕ) (sum wider : ℕ) (rest after : List ℕ) (left code size : ℕ) → IsOver first text bytes over sum rest left → IsFirst rest after code size →
-    IsUtf8 over → IsUtf8 new → new ≡ over ++ encode_utf8 code → wider ≡ sum + width_of code → 0 < left → size ≤ left → IsOver first text bytes new wider after (left - size)
-one_over first text bytes over new sum wider rest after left code size h is u v e w some fits =
+pub one_over : (front : List ℕ) (first : ℕ) (text : List ℕ) (bytes : ℕ) (over new : List ℕ) (sum wider : ℕ) (rest after : List ℕ) (left code size : ℕ) → IsOver front first text bytes over sum rest left → IsFirst rest after code size →
+    IsUtf8 over → IsUtf8 new → new ≡ over ++ encode_utf8 code → wider ≡ sum + width_of code → 0 < left → size ≤ left → IsOver front first text bytes new wider after (left - size)
+one_over front first text bytes over new sum wider rest after left code size h is u v e w some fits =
     let cs = characters after in
     let step = characters_step rest after code size is in
     let more : begun left (characters rest) ≡ code ∷ begun (left - size) cs = ap (begun left) step ∙ begun_more left code size cs some in
@@ -77,31 +84,57 @@ pub off_boundary : (text : List ℕ) (bytes : ℕ) → is_boundary bytes (charac
 off_boundary text bytes e = rw e refl
 
 pub behind_boundary : (place : Place) (text : List ℕ) (bytes : ℕ) → is_boundary bytes (characters text) ≡ true →
-    column_behind place bytes (characters text) ≡ place.column + str_width false (begun bytes (characters text))
+    column_behind place bytes (characters text) ≡ place.column + str_width false (held place.held ++ begun bytes (characters text))
 behind_boundary place text bytes e = rw e refl
 
 pub behind_other : (place : Place) (text : List ℕ) (bytes : ℕ) → is_boundary bytes (characters text) ≡ false →
     column_behind place bytes (characters text) ≡ place.widths + widths (begun bytes (characters text))
 behind_other place text bytes e = rw e refl
 
-pub over_at_zero : (place : Place) (text : List ℕ) (bytes : ℕ) (over : List ℕ) (sum : ℕ) (rest : List ℕ) (left result : ℕ) → IsOver place.widths text bytes over sum rest left → left ≡ 0 →
-    result ≡ place.column + str_width false (chars over) → result ≡ column_behind place bytes (characters text)
-over_at_zero place text bytes over sum rest left result h zero r =
-    let none : begun left (characters rest) ≡ [] = ap (λ k. begun k (characters rest)) zero ∙ begun_zero (characters rest) in
-    let here : is_boundary bytes (characters text) ≡ true = sym h.boundary ∙ ap (λ k. is_boundary k (characters rest)) zero ∙ boundary_zero (characters rest) in
-    r ∙ ap (λ o. place.column + str_width false o) (sym (append-nil (chars over)) ∙ ap (λ o. chars over ++ o) (sym none) ∙ h.all) ∙ sym (behind_boundary place text bytes here)
+pub twice_boundary : (place : Place) (text : List ℕ) (bytes : ℕ) → is_boundary bytes (characters text) ≡ true → twice place bytes (characters text) ≡ place.twice
+twice_boundary place text bytes e = rw e refl
 
-pub over_past_end : (place : Place) (text : List ℕ) (bytes : ℕ) (over : List ℕ) (sum : ℕ) (rest : List ℕ) (left : ℕ) → IsOver place.widths text bytes over sum rest left → 0 < left → rest ≡ [] →
-    sum ≡ column_behind place bytes (characters text)
+pub twice_other : (place : Place) (text : List ℕ) (bytes : ℕ) → is_boundary bytes (characters text) ≡ false → twice place bytes (characters text) ≡ 0
+twice_other place text bytes e = rw e refl
+
+-- the column, where nothing is counted twice
+abbrev pub told_column : Place → ℕ → List Character → ℕ
+told_column place bytes cs = column_behind place bytes cs - twice place bytes cs
+
+told_other : (place : Place) (text : List ℕ) (bytes result : ℕ) → is_boundary bytes (characters text) ≡ false → result ≡ place.widths + widths (begun bytes (characters text)) → result ≡ told_column place bytes (characters text)
+told_other place text bytes result e r =
+    let none = twice_other place text bytes e in
+    let behind = behind_other place text bytes e in
+    omega (arith, r, none, behind)
+
+pub boundary_at_zero : (front : List ℕ) (first : ℕ) (text : List ℕ) (bytes : ℕ) (over : List ℕ) (sum : ℕ) (rest : List ℕ) (left : ℕ) → IsOver front first text bytes over sum rest left → left ≡ 0 → is_boundary bytes (characters text) ≡ true
+boundary_at_zero front first text bytes over sum rest left h zero = sym h.boundary ∙ ap (λ k. is_boundary k (characters rest)) zero ∙ boundary_zero (characters rest)
+
+pub all_at_zero : (front : List ℕ) (first : ℕ) (text : List ℕ) (bytes : ℕ) (over : List ℕ) (sum : ℕ) (rest : List ℕ) (left : ℕ) → IsOver front first text bytes over sum rest left → left ≡ 0 → chars over ≡ front ++ begun bytes (characters text)
+all_at_zero front first text bytes over sum rest left h zero =
+    let none : begun left (characters rest) ≡ [] = ap (λ k. begun k (characters rest)) zero ∙ begun_zero (characters rest) in
+    sym (append-nil (chars over)) ∙ ap (λ o. chars over ++ o) (sym none) ∙ h.all
+
+pub over_at_zero : (place : Place) (text : List ℕ) (bytes : ℕ) (over : List ℕ) (sum : ℕ) (rest : List ℕ) (left result : ℕ) → IsOver (held place.held) place.widths text bytes over sum rest left → left ≡ 0 →
+    result ≡ (place.column + str_width false (chars over)) - place.twice → result ≡ told_column place bytes (characters text)
+over_at_zero place text bytes over sum rest left result h zero r =
+    let here = boundary_at_zero (held place.held) place.widths text bytes over sum rest left h zero in
+    let wide = ap (str_width false) (all_at_zero (held place.held) place.widths text bytes over sum rest left h zero) in
+    let more = twice_boundary place text bytes here in
+    let behind = behind_boundary place text bytes here in
+    omega (arith, r, wide, more, behind)
+
+pub over_past_end : (place : Place) (text : List ℕ) (bytes : ℕ) (over : List ℕ) (sum : ℕ) (rest : List ℕ) (left : ℕ) → IsOver (held place.held) place.widths text bytes over sum rest left → 0 < left → rest ≡ [] →
+    sum ≡ told_column place bytes (characters text)
 over_past_end place text bytes over sum rest left h some e =
     let end = characters_end rest e in
     let none : widths (begun left (characters rest)) ≡ 0 = ap (λ cs. widths (begun left cs)) end in
     let here : is_boundary bytes (characters text) ≡ false = sym h.boundary ∙ ap (is_boundary left) end ∙ nonzero left some in
     let sums : sum ≡ place.widths + widths (begun bytes (characters text)) = omega (arith, none, h.width) in
-    sums ∙ sym (behind_other place text bytes here)
+    told_other place text bytes _ here sums
 
-pub over_inside : (place : Place) (text : List ℕ) (bytes : ℕ) (over : List ℕ) (sum wider : ℕ) (rest after : List ℕ) (left code size : ℕ) → IsOver place.widths text bytes over sum rest left → IsFirst rest after code size →
-    wider ≡ sum + width_of code → 0 < left → left < size → wider ≡ column_behind place bytes (characters text)
+pub over_inside : (place : Place) (text : List ℕ) (bytes : ℕ) (over : List ℕ) (sum wider : ℕ) (rest after : List ℕ) (left code size : ℕ) → IsOver (held place.held) place.widths text bytes over sum rest left → IsFirst rest after code size →
+    wider ≡ sum + width_of code → 0 < left → left < size → wider ≡ told_column place bytes (characters text)
 over_inside place text bytes over sum wider rest after left code size h is w some inside =
     let cs = characters after in
     let step = characters_step rest after code size is in
@@ -110,4 +143,4 @@ over_inside place text bytes over sum wider rest after left code size h is w som
     let here : is_boundary bytes (characters text) ≡ false = sym h.boundary ∙ ap (is_boundary left) step ∙ boundary_inside left code size cs some inside in
     let one : widths (begun left (characters rest)) ≡ width_of code + 0 = ap widths more in
     let sums : wider ≡ place.widths + widths (begun bytes (characters text)) = omega (arith, w, one, h.width) in
-    sums ∙ sym (behind_other place text bytes here)
+    told_other place text bytes _ here sums

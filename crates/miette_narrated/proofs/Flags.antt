@@ -2,7 +2,6 @@
 -- with the other one.
 use Rattle.std.proofs.Common.{ℕ, ◌+◌, ◌-◌, ◌<◌, ◌≡◌, Bool, true, false, cond, not, ◌&&◌, ◌==◌, nat_le, ◌⊎◌, List, [], ◌∷◌, ◌++◌, length, Option, Some, None, refl, sym, ap, subst, ◌∙◌, append_assoc, append-nil, arith, inl, inr}
 use Rattle.std.specs.Prelude.{if◌then◌else◌, chars}
-use Rattle.std.proofs.lemmas.Str.{chars-nil}
 use Rattle.std.specs.Int.{is_in_range}
 use Rattle.std.proofs.lemmas.Bool.{true≢false, ne_eqb, or_parts, and_parts, and_right, le-leb}
 use Rattle.ucd_table.specs.Rows.{Range, in_ranges}
@@ -24,6 +23,7 @@ use Rattle.unicode_width.specs.Width.{before, plain, is_indicator, is_nothing, i
 use Rattle.unicode_width.proofs.KindLemmas.{kind_stepped, is_ligature_transparent_stepped, is_text_presentation_base_stepped}
 use Rattle.unicode_width.proofs.Computing.{unicode_width}
 use Rattle.miette_narrated.specs.steps.Parting.{may_part_flags}
+use Rattle.miette_narrated.specs.steps.Places.{held, IsHeld}
 use Rattle.miette_narrated.proofs.Lone.{read_append, shifted, from_not, or_false}
 use Rattle.miette_narrated.proofs.Sweeps.{by_cases}
 
@@ -379,12 +379,16 @@ pub record EndsInFlags (text : List ℕ) (last : ℕ) (is_half : Bool) : Type 0 
   pub half : is_odd flags ≡ is_half
   pub some : is_indicator last ≡ true → 0 < length flags
 
-pub no_flags : (text : List ℕ) (last : ℕ) → text ≡ [] → is_indicator last ≡ false → EndsInFlags text last false
-no_flags text last e n = record {
-  front = [];
+free_held : (first : Option ℕ) → IsHeld first → IsFree (held first)
+free_held None h = inl refl
+free_held (Some c) h = inr (record { front = []; last = c; is = refl; other = h c refl })
+
+pub no_flags : (text : List ℕ) (last : ℕ) (first : Option ℕ) → chars text ≡ held first → IsHeld first → is_indicator last ≡ false → EndsInFlags text last false
+no_flags text last first e h n = record {
+  front = held first;
   flags = [];
-  is = ap chars e ∙ chars-nil;
-  free = inl refl;
+  is = e ∙ sym (append-nil (held first));
+  free = free_held first h;
   all = tt;
   half = refl;
   some = λ y. absurd (true≢false (sym y ∙ n));

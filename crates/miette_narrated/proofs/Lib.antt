@@ -3,6 +3,7 @@ pub mod Putting
 pub mod Columning
 pub mod Lone
 pub mod Parted
+pub mod Held
 pub mod Flags
 pub mod Placed
 pub mod PlainColumns

@@ -65,7 +65,7 @@ read_the_same b t n = rw (in_after_emoji b t n) refl
 
 -- ---- a character that closes leaves nothing or an emoji to be read
 
-abbrev is_mild_kind : Kind → Bool
+abbrev pub is_mild_kind : Kind → Bool
 is_mild_kind kinds.Narrow = true
 is_mild_kind kinds.Wide = true
 is_mild_kind kinds.Ambiguous = true
@@ -117,10 +117,10 @@ mild_by c kinds.Single h e = absurd (true≢false e)
 high_parts : (c : ℕ) → 0xA0 < c → is_closing c ≡ true → (nat_lt 0 (width_of c) && not (is_joining c)) ≡ true
 high_parts c high h = sym (cond-false (nat_le c 0xA0) (not (c == 0x0A)) (nat_lt 0 (width_of c) && not (is_joining c)) (lt-leb c 0xA0 high)) ∙ h
 
-unlisted : (c : ℕ) → 0xA0 < c → is_closing c ≡ true → is_joining c ≡ false
+pub unlisted : (c : ℕ) → 0xA0 < c → is_closing c ≡ true → is_joining c ≡ false
 unlisted c high h = from_not (is_joining c) (and_parts (nat_lt 0 (width_of c)) (not (is_joining c)) (high_parts c high h)).1
 
-mild : (c : ℕ) → 0xA0 < c → is_closing c ≡ true → is_mild_kind (kind c) ≡ true
+pub mild : (c : ℕ) → 0xA0 < c → is_closing c ≡ true → is_mild_kind (kind c) ≡ true
 unfolding alone
 mild c high h =
     let wide = (and_parts (nat_lt 0 (width_of c)) (not (is_joining c)) (high_parts c high h)).0 in
@@ -144,46 +144,46 @@ mild_outside : (low high : ℕ) (s : Stepped (in_ranges ((low, high) ∷ []))) �
 unfolding in_ranges
 mild_outside low high s ok c h = (or_parts (is_in_range low high c) false (mild_not (in_ranges ((low, high) ∷ [])) s ok c h)).0
 
-no_transparent : (c : ℕ) → is_mild_kind (kind c) ≡ true → is_ligature_transparent c ≡ false
+pub no_transparent : (c : ℕ) → is_mild_kind (kind c) ≡ true → is_ligature_transparent c ≡ false
 unfolding unicode_width
 no_transparent = mild_not is_ligature_transparent is_ligature_transparent_stepped refl
 
-no_indicator : (c : ℕ) → is_mild_kind (kind c) ≡ true → is_in_range 0x1F1E6 0x1F1FF c ≡ false
+pub no_indicator : (c : ℕ) → is_mild_kind (kind c) ≡ true → is_in_range 0x1F1E6 0x1F1FF c ≡ false
 unfolding unicode_width
 no_indicator = mild_outside 0x1F1E6 0x1F1FF (of_ranges ((0x1F1E6, 0x1F1FF) ∷ []) refl) refl
 
-no_modifier : (c : ℕ) → is_mild_kind (kind c) ≡ true → is_in_range 0x1F3FB 0x1F3FF c ≡ false
+pub no_modifier : (c : ℕ) → is_mild_kind (kind c) ≡ true → is_in_range 0x1F3FB 0x1F3FF c ≡ false
 unfolding unicode_width
 no_modifier = mild_outside 0x1F3FB 0x1F3FF (of_ranges ((0x1F3FB, 0x1F3FF) ∷ []) refl) refl
 
-no_tag_letter : (c : ℕ) → is_mild_kind (kind c) ≡ true → is_in_range 0xE0061 0xE007A c ≡ false
+pub no_tag_letter : (c : ℕ) → is_mild_kind (kind c) ≡ true → is_in_range 0xE0061 0xE007A c ≡ false
 unfolding unicode_width
 no_tag_letter = mild_outside 0xE0061 0xE007A (of_ranges ((0xE0061, 0xE007A) ∷ []) refl) refl
 
-no_tag_digit : (c : ℕ) → is_mild_kind (kind c) ≡ true → is_in_range 0xE0030 0xE0039 c ≡ false
+pub no_tag_digit : (c : ℕ) → is_mild_kind (kind c) ≡ true → is_in_range 0xE0030 0xE0039 c ≡ false
 unfolding unicode_width
 no_tag_digit = mild_outside 0xE0030 0xE0039 (of_ranges ((0xE0030, 0xE0039) ∷ []) refl) refl
 
 no_mark : (c k : ℕ) → is_mild_kind (kind k) ≡ false → is_mild_kind (kind c) ≡ true → (c == k) ≡ false
 no_mark c k n h = ne_eqb c k (λ e. absurd (true≢false (sym h ∙ ap (λ x. is_mild_kind (kind x)) e ∙ n)))
 
-no_joiner : (c : ℕ) → is_mild_kind (kind c) ≡ true → (c == 0x200D) ≡ false
+pub no_joiner : (c : ℕ) → is_mild_kind (kind c) ≡ true → (c == 0x200D) ≡ false
 unfolding unicode_width
 no_joiner c = no_mark c 0x200D refl
 
-no_keycap : (c : ℕ) → is_mild_kind (kind c) ≡ true → (c == 0x20E3) ≡ false
+pub no_keycap : (c : ℕ) → is_mild_kind (kind c) ≡ true → (c == 0x20E3) ≡ false
 unfolding unicode_width
 no_keycap c = no_mark c 0x20E3 refl
 
-no_tag_end : (c : ℕ) → is_mild_kind (kind c) ≡ true → (c == 0xE007F) ≡ false
+pub no_tag_end : (c : ℕ) → is_mild_kind (kind c) ≡ true → (c == 0xE007F) ≡ false
 unfolding unicode_width
 no_tag_end c = no_mark c 0xE007F refl
 
-no_vowel : (c : ℕ) → is_mild_kind (kind c) ≡ true → (c == 0x1A17) ≡ false
+pub no_vowel : (c : ℕ) → is_mild_kind (kind c) ≡ true → (c == 0x1A17) ≡ false
 unfolding unicode_width
 no_vowel c = no_mark c 0x1A17 refl
 
-no_selector : (c : ℕ) → is_mild_kind (kind c) ≡ true → ((c == 0xFE0F) ≡ false) × (((c == 0xFE01) ≡ false) × ((c == 0xFE0E) ≡ false))
+pub no_selector : (c : ℕ) → is_mild_kind (kind c) ≡ true → ((c == 0xFE0F) ≡ false) × (((c == 0xFE01) ≡ false) × ((c == 0xFE0E) ≡ false))
 unfolding unicode_width
 no_selector c h = (no_mark c 0xFE0F refl h, (no_mark c 0xFE01 refl h, no_mark c 0xFE0E refl h))
 
@@ -245,12 +245,12 @@ some_width c kinds.EmojiModifier e = absurd (true≢false (sym e))
 some_width c kinds.Emoji e = refl
 some_width c kinds.Single e = absurd (true≢false (sym e))
 
-own_width : (c : ℕ) → is_mild_kind (kind c) ≡ true → ((alone false c).0 == 0) ≡ false
+pub own_width : (c : ℕ) → is_mild_kind (kind c) ≡ true → ((alone false c).0 == 0) ≡ false
 unfolding alone
 own_width c h = some_width c (kind c) h
 
 -- a character that is no part of a ligature of its own: U+2D7F, and the vowels of Kirat Rai
-unligated : (c k : ℕ) → is_joining k ≡ true → is_joining c ≡ false → (c == k) ≡ false
+pub unligated : (c k : ℕ) → is_joining k ≡ true → is_joining c ≡ false → (c == k) ≡ false
 unligated c k n h = ne_eqb c k (λ e. absurd (true≢false (sym n ∙ sym (ap is_joining e) ∙ h)))
 
 joins_quietly : (after : After) (c : ℕ) → is_joining c ≡ false → is_mild_kind (kind c) ≡ true → JoinsQuietly (joins false after c)
@@ -318,7 +318,7 @@ past_low : (c t : ℕ) (s : State) → c ≤ 0xA0 → (c == 0x0A) ≡ false → 
 unfolding past_emoji
 past_low c t s low n = rw (n, le-leb c 0xA0 low) (quiet_cond ((c == 0x0D) && is_line_feed s.after) (t, plain) (t + 1, plain) (inl refl) (inl refl))
 
-low_parts : (c : ℕ) → c ≤ 0xA0 → is_closing c ≡ true → (c == 0x0A) ≡ false
+pub low_parts : (c : ℕ) → c ≤ 0xA0 → is_closing c ≡ true → (c == 0x0A) ≡ false
 low_parts c low h = from_not (c == 0x0A) (sym (cond-true (nat_le c 0xA0) (not (c == 0x0A)) (nat_lt 0 (width_of c) && not (is_joining c)) (le-leb c 0xA0 low)) ∙ h)
 
 past_all : (c t : ℕ) (s : State) → is_closing c ≡ true → IsQuiet (past_emoji false c t s).1

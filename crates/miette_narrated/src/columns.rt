@@ -7,7 +7,7 @@ ghost use Rattle.miette_narrated.specs.rules.Lines.{decoded_text};
 ghost use Rattle.miette_narrated.specs.steps.Places.{IsPlace};
 
 use crate::line_text::LineText;
-use crate::places::{Place, column_after, place_before};
+use crate::places::{Place, column_after, held_text, place_before};
 use miette_lines::cells::{columns_of, first_character};
 use std::alloc::{AllocError, Global};
 
@@ -48,7 +48,7 @@ fn walked_column(alloc: Global, text: &[u8], from: Place, bytes: usize) -> Resul
     requires before { from.bytes ≤ bytes }
     ensures { IfOk result (λ c. c ≡ column bytes (characters text.now)) }
 {
-    let mut begun = String::new(alloc);
+    let mut begun = held_text(alloc, from.held)?;
     let mut widths = from.widths;
     let mut rest = &text[from.bytes..];
     let mut left = bytes - from.bytes;

@@ -3,6 +3,7 @@
 ghost use Rattle.std.specs.Prelude.{◌≡◌};
 ghost use Rattle.std.specs.Int.{is_in_range};
 ghost use Rattle.miette_narrated.specs.steps.Parting.{is_lone, is_joining, is_closing, may_part, may_part_flags};
+ghost use Rattle.miette_narrated.specs.steps.Parting.{may_hold};
 ghost use Rattle.unicode_width.specs.Width.{is_indicator};
 
 use miette_lines::cells::columns_of;
@@ -88,4 +89,11 @@ pub(crate) fn may_part_flags(last: char, is_half: bool, next: char) -> bool
     ensures { result ≡ may_part_flags last is_half next }
 {
     !is_half && is_indicator(last) && is_indicator(next)
+}
+
+/// Whether columns behind two neighbours may be told from that of the first: it closes, and the other is a joiner.
+pub(crate) fn may_hold(last: char, next: char) -> bool
+    ensures { result ≡ may_hold last next }
+{
+    next == '\u{200d}' && is_closing(last)
 }

@@ -1,12 +1,12 @@
 //! Places of a line's text from which a walk over its characters may go on, so that a column far behind is found by a
 //! short walk.
 
-ghost use Rattle.std.specs.Prelude.{◌≡◌, ◌<◌, ◌≤◌, ◌+◌, false, chars, IfOk, IfSome};
+ghost use Rattle.std.specs.Prelude.{◌≡◌, ◌<◌, ◌≤◌, ◌+◌, ◌-◌, false, chars, string_bytes, IfOk, IfSome};
 ghost use Rattle.std.specs.List.{All};
 ghost use Rattle.unicode_width.specs.Width.{str_width};
-ghost use Rattle.miette_narrated.specs.steps.Places.{IsPlace};
+ghost use Rattle.miette_narrated.specs.steps.Places.{IsPlace, held};
 
-use crate::parting::{is_indicator, may_part, may_part_flags};
+use crate::parting::{is_indicator, may_hold, may_part, may_part_flags};
 use miette_lines::cells::{columns_of, first_character};
 use std::alloc::{AllocError, Global};
 use unicode_width::UnicodeWidthStr;
@@ -18,6 +18,10 @@ pub(crate) struct Place {
     pub(crate) bytes: usize,
     pub(crate) column: usize,
     pub(crate) widths: usize,
+    /// The character before the place that a walk begins with, if it does, and its columns, which are then counted
+    /// twice.
+    pub(crate) held: Option<char>,
+    pub(crate) twice: usize,
 }
 
 // How many bytes lie at least between two places.
@@ -32,17 +36,61 @@ pub(crate) fn start(text: &[u8]) -> Place
         bytes: 0,
         column: 0,
         widths: 0,
+        held: None,
+        twice: 0,
     }
 }
 
-/// The column behind a place's own and a text's; past the largest `usize` it is refused as want of memory.
+/// What a walk from a place begins with.
+#[tactic(auto, using(crate::proofs::Columning::none_held_text))]
+pub(crate) fn held_text(alloc: Global, first: Option<char>) -> Result<String, AllocError>
+    ensures { IfOk result (λ text. chars (string_bytes text) ≡ held first) }
+{
+    let mut text = String::new(alloc);
+    let Some(first) = first else {
+        return Ok(text);
+    };
+    text.push(first)?;
+    Ok(text)
+}
+
+/// The column behind a place's own and a text's, which begins with what the place holds; past the largest `usize` it
+/// is refused as want of memory.
 pub(crate) fn column_after(from: Place, text: &str) -> Result<usize, AllocError>
-    ensures { IfOk result (λ column. column ≡ from.column + str_width false (chars text.now)) }
+    ensures { IfOk result (λ column. column ≡ (from.column + str_width false (chars text.now)) - from.twice) }
 {
     match from.column.checked_add(text.width()) {
-        Some(column) => Ok(column),
+        Some(column) => Ok(column.saturating_sub(from.twice)),
         None => Err(AllocError),
     }
+}
+
+// The place behind so many bytes, which holds a character or none, where a text is over since another place.
+fn place_at(
+    alloc: Global,
+    from: Place,
+    over: &str,
+    bytes: usize,
+    widths: usize,
+    first: Option<char>,
+) -> Result<Place, AllocError>
+    ensures bytes { IfOk result (λ place. place.bytes ≡ bytes) }
+    ensures column { IfOk result (λ place. place.column
+        ≡ (from.column + str_width false (chars over.now)) - from.twice) }
+    ensures widths { IfOk result (λ place. place.widths ≡ widths) }
+    ensures held { IfOk result (λ place. place.held ≡ first) }
+    ensures twice { IfOk result (λ place. place.twice ≡ str_width false (held first)) }
+{
+    let column = column_after(from, over)?;
+    let text = held_text(alloc, first)?;
+    let twice = text.as_str().width();
+    Ok(Place {
+        bytes,
+        column,
+        widths,
+        held: first,
+        twice,
+    })
 }
 
 // The next place behind one, if there is one.
@@ -50,23 +98,20 @@ fn next_place(alloc: Global, text: &[u8], from: Place) -> Result<Option<Place>, 
     requires { IsPlace text.now from }
     ensures { IfOk result (λ next. IfSome next (λ place. IsPlace text.now place × (from.bytes < place.bytes))) }
 {
-    let mut over = String::new(alloc);
+    let mut over = held_text(alloc, from.held)?;
     let mut last = '\0';
     let mut is_half = false;
     let mut widths = from.widths;
     let mut bytes = from.bytes;
     while bytes < text.len() {
-        let rest = &text[bytes..];
-        let (code, size) = first_character(rest);
-        if bytes - from.bytes >= APART
-            && (may_part(last, code) || may_part_flags(last, is_half, code))
-        {
-            let column = column_after(from, over.as_str())?;
-            return Ok(Some(Place {
-                bytes,
-                column,
-                widths,
-            }));
+        let (code, size) = first_character(&text[bytes..]);
+        if bytes - from.bytes >= APART {
+            let is_parted = may_part(last, code) || may_part_flags(last, is_half, code);
+            if is_parted || may_hold(last, code) {
+                let first = if is_parted { None } else { Some(last) };
+                let place = place_at(alloc, from, over.as_str(), bytes, widths, first)?;
+                return Ok(Some(place));
+            }
         }
         over.push(code)?;
         let Some(wider) = widths.checked_add(columns_of(code)) else {

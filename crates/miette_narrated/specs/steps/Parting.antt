@@ -34,3 +34,7 @@ may_part last next = is_lone last || (is_closing next && not (last == 0x200D))
 -- whether it may be parted between two regional indicators: no half flag stands before the second one
 abbrev pub may_part_flags : ℕ → Bool → ℕ → Bool
 may_part_flags last is_half next = not is_half && (is_indicator last && is_indicator next)
+
+-- whether a text may be held between two neighbours, so that behind them widths are told from that of the first
+abbrev pub may_hold : ℕ → ℕ → Bool
+may_hold last next = (next == 0x200D) && is_closing last

@@ -1,18 +1,36 @@
 -- Places of a line's text from which a walk over its characters may go on.
-use Rattle.std.specs.Prelude.{ℕ, ◌+◌, ◌≤◌, ◌≡◌, List, length, drop, false, if◌then◌else◌}
-use Rattle.unicode_width.specs.Width.{str_width}
+use Rattle.std.specs.Prelude.{ℕ, ◌+◌, ◌≤◌, ◌≡◌, List, [], ◌∷◌, ◌++◌, Option, Some, None, length, drop, false}
+use Rattle.std.specs.Prelude.{if◌then◌else◌}
+use Rattle.std.specs.Option.{ForSome}
+use Rattle.unicode_width.specs.Width.{str_width, is_indicator}
 use Rattle.miette_lines.specs.rules.Cells.{Character, characters}
 use Rattle.miette_narrated.specs.declared.places.Place.{Place}
 use Rattle.miette_narrated.specs.rules.Columns.{begun, is_boundary, widths, column}
 
--- the column behind so many bytes more than those before a place, in the characters behind it
+-- the character before a place that a walk begins with, if it does
+abbrev pub held : Option ℕ → List ℕ
+held None = []
+held (Some c) = c ∷ []
+
+-- no half flag
+abbrev pub IsHeld : Option ℕ → Type 0
+IsHeld first = ForSome first (λ c. is_indicator c ≡ false)
+
+-- the columns that are counted twice behind so many bytes: those of the characters that a walk begins with
+abbrev pub twice : Place → ℕ → List Character → ℕ
+twice place bytes cs = if is_boundary bytes cs then place.twice else 0
+
+-- the column behind so many bytes more than those before a place, in the characters behind it, and what is counted
+-- twice
 abbrev pub column_behind : Place → ℕ → List Character → ℕ
-column_behind place bytes cs = if is_boundary bytes cs then place.column + str_width false (begun bytes cs)
-    else place.widths + widths (begun bytes cs)
+column_behind place bytes cs = if is_boundary bytes cs
+  then place.column + str_width false (held place.held ++ begun bytes cs) else place.widths + widths (begun bytes cs)
 
 -- from there on columns go on from the place's own
 abbrev pub IsPlace : List ℕ → Place → Type 0
 IsPlace text place =
     (place.bytes ≤ length text)
+    × (IsHeld place.held
     × ((more : ℕ) → column (place.bytes + more) (characters text)
-    ≡ column_behind place more (characters (drop place.bytes text)))
+      + twice place more (characters (drop place.bytes text))
+        ≡ column_behind place more (characters (drop place.bytes text))))

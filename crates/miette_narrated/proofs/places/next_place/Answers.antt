@@ -1,21 +1,21 @@
-use Rattle.std.proofs.Common.{◌≡◌, ◌+◌, ◌-◌, ◌<◌, false, drop, length, string_bytes, ap, subst, ◌∙◌, refl, rules, arith, length-drop, inl, inr}
-use Rattle.std.proofs.lemmas.Bool.{or_cases}
+use Rattle.std.proofs.Common.{◌≡◌, ◌||◌, ◌+◌, ◌-◌, ◌<◌, false, drop, length, string_bytes, ap, subst, ◌∙◌, refl, rules, arith, length-drop}
 use Rattle.std.specs.Prelude.{chars}
 use Rattle.std.proofs.lemmas.List.{take_rest}
 use Rattle.std.proofs.lemmas.Str.{IsUtf8-string_bytes}
 use Rattle.unicode_width.specs.Width.{str_width}
 use Rattle.miette_lines.specs.views.Given.{width_of}
 use Rattle.miette_lines.proofs.Stepping.{IsFirst}
-use Rattle.miette_narrated.specs.steps.Parting.{may_part, may_part_flags}
 use Rattle.miette_narrated.proofs.Columning.{chars_pushed}
-use Rattle.miette_narrated.proofs.Flags.{no_flags, flags_pushed, flags_part}
-use Rattle.miette_narrated.proofs.Placed.{IsPart, ends_part, none_since, one_since, ends_pushed, next_place}
+use Rattle.miette_narrated.proofs.Flags.{no_flags, flags_pushed}
+use Rattle.miette_narrated.proofs.Placed.{none_since, one_since, ends_pushed, first_of, is_next_place}
+use Rattle.miette_narrated.specs.steps.Parting.{may_part, may_part_flags}
+use Rattle.miette_narrated.specs.steps.Places.{held}
 use Rattle.miette_narrated.proofs.places.next_place.Goals as goal
 
 pub loop-bytes-init : goal.loop-bytes-init
 loop-bytes-init c = record {
-  since = none_since c.args.text.now c.args.from (string_bytes c.new-over.result) c.requires.0 c.new-over.ensures.bytes;
-  flags = no_flags (string_bytes c.new-over.result) 0 c.new-over.ensures.bytes refl;
+  since = none_since c.args.text.now c.args.from (string_bytes c.in_ok-over.over) c.requires.0 c.in_ok-over.ensures;
+  flags = no_flags (string_bytes c.in_ok-over.over) 0 c.args.from.held c.in_ok-over.ensures c.requires.1.0 refl;
   last = λ h. absurd (omega (arith, h));
 }
 
@@ -44,8 +44,8 @@ loop-bytes-preserved c =
       last = λ h. ends_pushed (string_bytes c.loop-bytes.over) (string_bytes c.push.new.self) code (IsUtf8-string_bytes c.loop-bytes.over) (IsUtf8-string_bytes c.push.new.self) c.in_ok-push.ensures.bytes;
     }
 
-pub returns-then-may_part_flags : goal.returns-then-may_part_flags
-returns-then-may_part_flags c =
+pub returns-then-is_parted : goal.returns-then-is_parted
+returns-then-is_parted c =
     let text = c.args.text.now in
     let from = c.args.from in
     let bytes = c.loop-bytes.bytes in
@@ -61,12 +61,12 @@ returns-then-may_part_flags c =
       size_is = c.first_character-code.ensures.size;
     }) in
     let behind : from.bytes < bytes = search rules in
-    let part : IsPart (string_bytes c.loop-bytes.over) code =
-    elim (or_cases (may_part c.loop-bytes.last code) (may_part_flags c.loop-bytes.last c.loop-bytes.is_half code) (search rules)) [
-      | inl h ↦ ends_part (string_bytes c.loop-bytes.over) c.loop-bytes.last code (c.loop-bytes.invariant.last behind) h
-      | inr h ↦ flags_part (string_bytes c.loop-bytes.over) c.loop-bytes.last code c.loop-bytes.is_half c.loop-bytes.invariant.flags h
-    ] in (
-      next_place text from _ (string_bytes c.loop-bytes.over) (drop size (drop bytes text)) code size c.requires c.loop-bytes.invariant.since first part
-          (c.in_ok-column.ensures ∙ ap (λ t. from.column + str_width false (chars t)) c.as_str.ensures.value),
-      behind,
+    let parted = may_part c.loop-bytes.last code || may_part_flags c.loop-bytes.last c.loop-bytes.is_half code in
+    let holds : c.if-is_parted-2.first ≡ first_of parted c.loop-bytes.last = search rules in
+    let at : c.in_ok-place.place.bytes ≡ bytes = c.in_ok-place.ensures.bytes in (
+      is_next_place text from c.in_ok-place.place (string_bytes c.loop-bytes.over) (drop size (drop bytes text)) code size c.loop-bytes.widths bytes c.loop-bytes.last c.loop-bytes.is_half parted
+          c.requires c.loop-bytes.invariant.since first (c.loop-bytes.invariant.last behind) c.loop-bytes.invariant.flags refl (search rules)
+          at c.in_ok-place.ensures.widths (c.in_ok-place.ensures.held ∙ holds)
+          (c.in_ok-place.ensures.column ∙ ap (λ t. (from.column + str_width false (chars t)) - from.twice) c.as_str.ensures.value) (c.in_ok-place.ensures.twice ∙ ap (λ o. str_width false (held o)) holds),
+      omega (arith, at, behind),
     )

@@ -3,4 +3,4 @@ use Rattle.miette_narrated.proofs.Placed.{first_place}
 use Rattle.miette_narrated.proofs.places.start.Goals as goal
 
 pub returns-clause-place : goal.returns-clause-place
-returns-clause-place c = first_place c.args.text.now _ refl refl refl
+returns-clause-place c = first_place c.args.text.now _ refl refl refl refl refl
