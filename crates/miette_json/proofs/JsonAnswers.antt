@@ -9,7 +9,7 @@ use Rattle.miette_json.specs.rules.Json.{Json, string, array, object, Items, ite
 use Rattle.miette_json.specs.rules.Denotes.{Denotes, HasTokensOf}
 use Rattle.miette_json.specs.rules.JsonReport.{NameAnswers, unlisted, listed, RelatedNameAnswers, no_more, and_more, own_fault, related_answers, first_answers, later_answers, MayFail, ArePossible, AllPossible, report_json, reports_json, maybe, strings, labels_json, file_name}
 use Rattle.miette_tree.specs.rules.Parts.{given_labels, severity_text}
-use Rattle.miette_json.specs.rules.Reads.{AlwaysReads, AllAlwaysRead}
+use Rattle.miette_json.specs.rules.Reads.{AlwaysReads, AllAlwaysRead, NameAlwaysReads, NamesAlwaysRead, AllNamesAlwaysRead}
 use Rattle.miette_json.specs.rules.JsonText.{IsJsonOf, rest_text, AppendsReport, AppendsRelated, AppendsPlaces, head_text, reasons_text, key_text}
 use Rattle.miette_json.proofs.JsonJoined.{last_piece, report_parts}
 
@@ -91,31 +91,55 @@ no_fault s true f g = absurd (g (f refl))
 fault_free : (s : Option Source) (b : Bool) → (b ≡ true → MayFail s) → Reads s → b ≡ false
 fault_free s b f r = no_fault s b f (never s r)
 
+same_name : (source : Option Source) (labels : List Label) (b : Bool) → (b ≡ true → MayFail source) → NameAlwaysReads source labels
+    → option_map (file_name b labels) source ≡ option_map (file_name false labels) source
+same_name None labels b f r = refl
+same_name (Some s) [] b f r = refl
+same_name (Some s) (l ∷ ls) b f r = ap (λ fault. Some (file_name fault (l ∷ ls) s)) (fault_free (Some s) b f r)
+
 mutual
-  same_value : (inherited : Option Source) (a : NameAnswers) (t : Tree) → ArePossible inherited a t → AlwaysReads t → Reads inherited → report_json inherited a t ≡ report_json inherited unlisted t
-  same_value inherited a (tree m s c r) p reads i =
-      let own = effective s inherited in
-      let own_reads : Reads own = effective_reads s inherited reads.0 i in
-      let fault : own_fault a ≡ false = fault_free own (own_fault a) p.0 own_reads in
-      let others : reports_json own (related_answers a) r ≡ reports_json own no_more r = same_values own (related_answers a) r p.1 reads.2 own_reads in
-      ap (λ f. with_parts f (reports_json own (related_answers a) r)) fault ∙ ap (with_parts false) others where
-        with_parts : Bool → Items → Json
-        with_parts f others = object
+  same_value : (inherited : Option Source) (a : NameAnswers) (t : Tree) → ArePossible inherited a t → NamesAlwaysRead inherited t → report_json inherited a t ≡ report_json inherited unlisted t
+  same_value inherited a (tree m s c r) p reads =
+      let own : Option Source = effective s inherited in
+      let labels : List Label = given_labels m.labels in
+      let name : option_map (file_name (own_fault a) labels) own ≡ option_map (file_name false labels) own = same_name own labels (own_fault a) p.0 reads.0 in
+      let others : reports_json own (related_answers a) r ≡ reports_json own no_more r = same_values own (related_answers a) r p.1 reads.1 in
+      ap (λ n. with_parts n (reports_json own (related_answers a) r)) name ∙ ap (with_parts (option_map (file_name false labels) own)) others where
+        with_parts : Option (List ℕ) → Items → Json
+        with_parts name others = object
             (member (codes "message") (string m.message)
             (maybe (codes "code") m.code
             (member (codes "severity") (string (severity_text m.severity))
             (member (codes "causes") (array (strings (causes_of c)))
             (maybe (codes "url") m.url
             (maybe (codes "help") m.help
-            (maybe (codes "filename") (option_map (file_name f (given_labels m.labels)) (effective s inherited))
+            (maybe (codes "filename") name
             (member (codes "labels") (array (labels_json (given_labels m.labels)))
             (member (codes "related") (array others) no_members)))))))))
 
-  same_values : (inherited : Option Source) (a : RelatedNameAnswers) (ts : Trees) → AllPossible inherited a ts → AllAlwaysRead ts → Reads inherited → reports_json inherited a ts ≡ reports_json inherited no_more ts
-  same_values inherited a no_trees p reads i = refl
-  same_values inherited a (more_trees t ts) p reads i =
-      ap (λ j. item j (reports_json inherited (later_answers a) ts)) (same_value inherited (first_answers a) t p.0 reads.0 i)
-      ∙ ap (item (report_json inherited unlisted t)) (same_values inherited (later_answers a) ts p.1 reads.1 i)
+  same_values : (inherited : Option Source) (a : RelatedNameAnswers) (ts : Trees) → AllPossible inherited a ts → AllNamesAlwaysRead inherited ts → reports_json inherited a ts ≡ reports_json inherited no_more ts
+  same_values inherited a no_trees p reads = refl
+  same_values inherited a (more_trees t ts) p reads =
+      ap (λ j. item j (reports_json inherited (later_answers a) ts)) (same_value inherited (first_answers a) t p.0 reads.0)
+      ∙ ap (item (report_json inherited unlisted t)) (same_values inherited (later_answers a) ts p.1 reads.1)
+
+-- where all sources always read, so do these
+name_reads : (source : Option Source) (labels : List Label) → Reads source → NameAlwaysReads source labels
+name_reads source [] r = tt
+name_reads source (l ∷ ls) r = r
+
+mutual
+  names_read : (inherited : Option Source) (t : Tree) → Reads inherited → AlwaysReads t → NamesAlwaysRead inherited t
+  names_read inherited (tree m s c r) i reads =
+      let own_reads : Reads (effective s inherited) = effective_reads s inherited reads.0 i in
+      (name_reads (effective s inherited) (given_labels m.labels) own_reads, all_names_read (effective s inherited) r own_reads reads.2)
+
+  all_names_read : (inherited : Option Source) (ts : Trees) → Reads inherited → AllAlwaysRead ts → AllNamesAlwaysRead inherited ts
+  all_names_read inherited no_trees i reads = tt
+  all_names_read inherited (more_trees t ts) i reads = (names_read inherited t i reads.0, all_names_read inherited ts i reads.1)
+
+pub names_always_read : (t : Tree) → AlwaysReads t → NamesAlwaysRead None t
+names_always_read t reads = names_read None t tt reads
 
 -- all that is claimed of a report's text
 pub is_json : ((v : Json) → HasTokensOf (json_text v) v) → ((bytes : List ℕ) (v w : Json) → Denotes bytes v → Denotes bytes w → v ≡ w)
@@ -125,7 +149,7 @@ is_json tokens one t text utf8 a =
     let denotes : Denotes text value = (utf8, subst (λ l. HasTokensOf l value) (sym a.appended) (tokens value)) in record {
       value = value;
       of_tree = record { answers = a.answers; possible = a.possible; is = refl };
-      always = λ reads. same_value None a.answers t a.possible reads tt;
+      always = λ reads. same_value None a.answers t a.possible reads;
       spelled = a.appended;
       denotes = denotes;
       only = λ other d. one text other value d denotes;

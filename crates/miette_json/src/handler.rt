@@ -1,9 +1,9 @@
 //! The JSON report.
 
-ghost use Rattle.std.specs.Prelude.{◌≡◌, ◌++◌, List, ℕ, IfOk, OnOk, OnErr, string_bytes};
+ghost use Rattle.std.specs.Prelude.{◌≡◌, ◌++◌, List, ℕ, None, IfOk, OnOk, OnErr, string_bytes};
 ghost use Rattle.miette_tree.specs.views.Report.{tree_of};
 ghost use Rattle.miette_json.specs.rules.Json.{json_text};
-ghost use Rattle.miette_json.specs.rules.Reads.{AlwaysReads};
+ghost use Rattle.miette_json.specs.rules.Reads.{NamesAlwaysRead};
 ghost use Rattle.miette_json.specs.rules.JsonReport.{value_of};
 ghost use Rattle.miette_json.specs.rules.JsonText.{IsJsonOf};
 ghost use Rattle.miette_tree.specs.views.Handler.{AppendsOne};
@@ -34,10 +34,11 @@ impl JSONReportHandler {
         ensures text { let tree = tree_of ⟦<Box<dyn Diagnostic> as Diagnostic>⟧.meaning
             ⟦<Box<dyn SourceCode> as SourceCode>⟧.source report.now in
             OnOk result (AppendsOne (IsJsonOf tree) (string_bytes out.old) (string_bytes out.new)) }
-        // Where its sources always read, there is one such value.
+        // Where the sources that its file names are read from always read, there is one such value.
         ensures value { let tree = tree_of ⟦<Box<dyn Diagnostic> as Diagnostic>⟧.meaning
             ⟦<Box<dyn SourceCode> as SourceCode>⟧.source report.now in
-            OnOk result (AlwaysReads tree → string_bytes out.new ≡ string_bytes out.old ++ json_text (value_of tree)) }
+            OnOk result (NamesAlwaysRead None tree →
+                string_bytes out.new ≡ string_bytes out.old ++ json_text (value_of tree)) }
         ensures memory { OnErr result (result ≡ Err RenderError.Memory) }
         ensures err { OnErr result (string_bytes out.new ≡ string_bytes out.old) }
     {
@@ -66,7 +67,7 @@ fn render<D: Diagnostic, S: SourceCode>(
 ) -> Result<(), RenderError>
     ensures text { OnOk result (AppendsOne (IsJsonOf (tree_of D.meaning S.source report.now)) (string_bytes out.old)
         (string_bytes out.new)) }
-    ensures value { OnOk result (AlwaysReads (tree_of D.meaning S.source report.now)
+    ensures value { OnOk result (NamesAlwaysRead None (tree_of D.meaning S.source report.now)
         → string_bytes out.new ≡ string_bytes out.old ++ json_text (value_of (tree_of D.meaning S.source report.now))) }
     ensures memory { OnErr result (result ≡ Err RenderError.Memory) }
     ensures err { OnErr result (string_bytes out.new ≡ string_bytes out.old) }

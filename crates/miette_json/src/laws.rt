@@ -1,7 +1,9 @@
 //! What holds of every JSON text and every value, whatever a handler writes. Each law is the contract of a function
 //! that does nothing; a caller cites it by calling it.
 
-ghost use Rattle.std.specs.Prelude.{◌≡◌, ℕ, List};
+ghost use Rattle.std.specs.Prelude.{◌≡◌, ℕ, List, None};
+ghost use Rattle.miette_tree.specs.rules.Tree.{Tree};
+ghost use Rattle.miette_json.specs.rules.Reads.{AlwaysReads, NamesAlwaysRead};
 ghost use Rattle.miette_json.specs.rules.Json.{Json, json_text};
 ghost use Rattle.miette_json.specs.rules.Denotes.{Denotes, HasTokensOf, HasUtf8Texts};
 
@@ -26,4 +28,9 @@ pub fn the_spelling_denotes_its_value()
 /// Values with one spelling are one value.
 pub fn equal_spellings_are_of_equal_values()
     ensures { (v w : Json) → json_text v ≡ json_text w → v ≡ w }
+{}
+
+/// Where all sources of a report always read, so do those that its file names are read from.
+pub fn names_are_read_where_sources_are()
+    ensures { (t : Tree) → AlwaysReads t → NamesAlwaysRead None t }
 {}

@@ -10,7 +10,10 @@ use Rattle.miette_narrated.specs.rules.Report as narrated
 use Rattle.miette_graphical.specs.rules.Answers.{unlisted}
 use Rattle.miette_tree.specs.views.Handler.{AppendsOne}
 use Rattle.miette_graphical.specs.rules.Printed.{all_read, printed}
-use Rattle.miette_json.specs.rules.Reads.{AlwaysReads}
+use Rattle.miette_json.specs.rules.Json.{json_text}
+use Rattle.miette_json.specs.rules.JsonReport.{value_of}
+use Rattle.miette_json.specs.rules.Reads.{AlwaysReads, NamesAlwaysRead}
+use Rattle.miette_json.proofs.JsonAnswers.{names_always_read}
 use Rattle.miette_graphical.specs.rules.Answered as drawn
 use Rattle.miette_graphical.specs.views.Handling.{Handling, draws_plain}
 use Rattle.miette_graphical.specs.rules.Snippets.{drawn_rows}
@@ -24,6 +27,13 @@ use Rattle.miette_report.specs.declared.settings.Choice.{Choice}
 use Rattle.miette_report.proofs.AlwaysRead.{printed-reads, told-reads, told-accepted}
 
 -- ---- what a handler of the library appends
+
+pub json-given : {A E H : Type 0} (is_blank : H → Bool) (h : Chosen H) (t : Tree) (old new : List ℕ) (r : Result A E) → h ≡ chosen.Json → AlwaysReads t
+    → OnOk r (NamesAlwaysRead None t → new ≡ old ++ json_text (value_of t)) → OnOk r (AppendsOne (IsGiven is_blank h t) old new)
+json-given is_blank h t old new (Err e) is reads value = tt
+json-given is_blank h t old new (Ok x) is reads value =
+    let one : AppendsOne (IsGiven is_blank chosen.Json t) old new = record { text = json_text (value_of t); is_given = refl; appended = value (names_always_read t reads) } in
+    subst (λ k. AppendsOne (IsGiven is_blank k t) old new) (sym is) one
 
 pub graphical-given : {A E H : Type 0} (is_blank : H → Bool) (h : Chosen H) (it : Handling H) (t : Tree) (old new : List ℕ) (r : Result A E) → h ≡ chosen.Built (handler.Graphical it) → AlwaysReads t
     → OnOk r (drawn.Appends drawn_rows it.settings (draws_plain is_blank it) t old new)

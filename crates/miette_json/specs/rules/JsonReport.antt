@@ -111,6 +111,6 @@ pub record IsValueOf (t : Tree) (value : Json) : Type 0 where
   pub possible : ArePossible None answers t
   pub is : value ≡ report_json None answers t
 
--- the value of a report whose sources always read
+-- the value of a report whose file names are read from sources that always read
 abbrev pub value_of : Tree → Json
 value_of t = report_json None unlisted t

@@ -5,18 +5,18 @@ use Rattle.miette_protocol.specs.rules.Reading.{Source}
 use Rattle.miette_tree.specs.rules.Tree.{Tree, Trees}
 use Rattle.miette_json.specs.rules.Json.{Json, Items, quoted, json_text, items_text, more_items_text}
 use Rattle.miette_json.specs.rules.Denotes.{Denotes}
-use Rattle.miette_json.specs.rules.Reads.{AlwaysReads}
+use Rattle.miette_json.specs.rules.Reads.{NamesAlwaysRead}
 use Rattle.miette_json.specs.rules.JsonReport.{NameAnswers, RelatedNameAnswers, ArePossible, AllPossible, MayFail}
 use Rattle.miette_json.specs.rules.JsonReport.{IsValueOf, value_of, strings, labels_json, file_name, report_json}
 use Rattle.miette_json.specs.rules.JsonReport.{reports_json}
 use Rattle.miette_tree.specs.rules.Parts.{severity_text}
 
--- A text is the spelling of a value that the report may have, which is the one value that it has where its sources
--- always read. The text stands for that value, and for no other.
+-- A text is the spelling of a value that the report may have, which is the one value that it has where the sources of
+-- its file names always read. The text stands for that value, and for no other.
 pub record IsJsonOf (t : Tree) (text : List ℕ) : Type 0 where
   pub value : Json
   pub of_tree : IsValueOf t value
-  pub always : AlwaysReads t → value ≡ value_of t
+  pub always : NamesAlwaysRead None t → value ≡ value_of t
   pub spelled : text ≡ json_text value
   pub denotes : Denotes text value
   pub only : (other : Json) → Denotes text other → other ≡ value
