@@ -23,7 +23,7 @@ use Rattle.miette_description.specs.rules.Description.{tree_for}
 use Rattle.miette_report.specs.rules.Job.{IsBuiltText, IsJobText, IsNarrating, IsRefused, Writes}
 use Rattle.miette_report.specs.declared.chosen.Chosen.{Chosen}
 use Rattle.miette_report.specs.declared.chosen.Chosen.TheVariants as chosen
-use Rattle.miette_report.specs.declared.settings.Choice.{Choice}
+use Rattle.miette_report.specs.declared.option_words.Choice.{Choice}
 use Rattle.miette_report.proofs.AlwaysRead.{printed-reads, told-reads, told-accepted}
 
 -- ---- what a handler of the library appends

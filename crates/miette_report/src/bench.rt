@@ -7,9 +7,11 @@ ghost use Rattle.miette_report.specs.rules.Job.{IsDescription, IsNarrating, IsRe
 ghost use Rattle.miette_report.specs.rules.Statuses.{words_status};
 
 use crate::device::Device;
-use crate::run::{JobError, rendered_length};
-use crate::settings::{Choice, Settings};
+use crate::option_words::Choice;
+use crate::run::rendered_length;
+use crate::settings::Settings;
 use crate::statuses;
+use crate::statuses::JobError;
 use crate::whole::{ReadError, read_whole, write_whole};
 use crate::words::{WordsFault, number};
 use std::alloc::Global;

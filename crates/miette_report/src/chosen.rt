@@ -6,8 +6,9 @@ ghost use Rattle.miette_tree.specs.views.Handler.{AppendsOne};
 ghost use Rattle.miette_json.specs.rules.Reads.{AlwaysReads};
 ghost use Rattle.miette_report.specs.rules.Chosen.{IsAsked, IsGiven, MayRefuse, Stays};
 
-use crate::run::JobError;
-use crate::settings::{Choice, Settings};
+use crate::option_words::Choice;
+use crate::settings::Settings;
+use crate::statuses::JobError;
 use miette::error::RenderError;
 use miette::handlers::{DebugReportHandler, JSONReportHandler};
 use miette::highlight::Highlighter;

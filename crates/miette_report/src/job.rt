@@ -7,9 +7,11 @@ ghost use Rattle.miette_report.specs.rules.Job.{IsDescription, IsRefused};
 ghost use Rattle.miette_report.specs.rules.Statuses.{words_status};
 
 use crate::device::Device;
-pub use crate::run::{JobError, run};
-pub use crate::settings::{Choice, Settings};
+pub use crate::option_words::Choice;
+pub use crate::run::run;
+pub use crate::settings::Settings;
 use crate::statuses;
+pub use crate::statuses::JobError;
 pub use crate::words::WordsFault;
 use std::alloc::Global;
 use std::io::{Read, Write};

@@ -3,9 +3,19 @@
 ghost use Rattle.std.specs.Prelude.{◌≡◌, ◌<◌, length, true, false, IfSome, IsNone, map, string_bytes};
 ghost use Rattle.miette_report.specs.rules.Asked.{chosen_by, choice_in, is_alone, named_choice};
 
-use crate::settings::Choice;
 use crate::words::number;
 use miette::options::RgbColors;
+
+/// Which handler gives the text.
+#[derive(Clone, Copy, Debug, PartialEq, Eq)]
+pub enum Choice {
+    /// The one that the options build: graphical or narrated.
+    Build,
+    /// JSON.
+    Json,
+    /// The debug report.
+    Debug,
+}
 
 /// What one word asks for, with its value.
 #[derive(Clone, Copy)]

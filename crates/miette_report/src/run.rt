@@ -12,40 +12,15 @@ ghost use Rattle.miette_report.specs.rules.Job.{IsDescription, IsNarrating, IsRe
 use crate::chosen::Chosen;
 use crate::device::Device;
 use crate::settings::Settings;
+use crate::statuses::JobError;
 use crate::whole::{ReadError, read_whole, write_whole};
 use miette::highlight::Highlighter;
 use miette_description::error::BuildError;
 use miette_protocol::protocol::Diagnostic;
 use miette_protocol::source::SourceCode;
 use miette_tree::report::Report;
-use std::alloc::{AllocError, Global};
+use std::alloc::Global;
 use std::io::{Read, Write};
-
-/// Why a job ended without its text.
-#[derive(Clone, Copy, Debug, PartialEq, Eq)]
-pub enum JobError {
-    /// Memory was refused.
-    Memory,
-    /// The reader failed.
-    Read,
-    /// The writer failed. It has taken a beginning of the text.
-    Write,
-    /// What was read describes no report.
-    Description,
-    /// The chosen handler refused the report.
-    Refused,
-}
-
-impl From<AllocError> for JobError {
-    ghost use Rattle.std.specs.Prelude.{◌≡◌};
-    ghost use Rattle.miette_report.specs.declared.run.JobError.TheVariants.{Memory};
-
-    ghost from_gives = { λ _ e. e ≡ Memory };
-
-    fn from(_refused: AllocError) -> JobError {
-        JobError::Memory
-    }
-}
 
 /// The report that the bytes describe.
 fn report_of(alloc: Global, bytes: &[u8]) -> Result<Report, JobError>

@@ -3,23 +3,14 @@
 ghost use Rattle.std.specs.Prelude.{◌≡◌, IfOk, map, string_bytes};
 ghost use Rattle.miette_report.specs.rules.Asked.{chosen_by, choice_in};
 
-use crate::option_words::{Asked, BuildAsked, OptionAsked, TerminalAsked, ThemeAsked, first_asked};
+use crate::option_words::{
+    Asked, BuildAsked, Choice, OptionAsked, TerminalAsked, ThemeAsked, first_asked,
+};
 use crate::words::WordsFault;
 use miette::options::MietteHandlerOpts;
 use miette::theme::{GraphicalTheme, Terminal};
 use miette::wrap::WordSplitter;
 use std::alloc::{AllocError, Global};
-
-/// Which handler gives the text.
-#[derive(Clone, Copy, Debug, PartialEq, Eq)]
-pub enum Choice {
-    /// The one that the options build: graphical or narrated.
-    Build,
-    /// JSON.
-    Json,
-    /// The debug report.
-    Debug,
-}
 
 /// What a job is asked for.
 #[derive(Drop)]

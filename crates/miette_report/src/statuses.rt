@@ -3,9 +3,35 @@
 ghost use Rattle.std.specs.Prelude.{◌≡◌};
 ghost use Rattle.miette_report.specs.rules.Statuses.{job_status, words_status};
 
-use crate::run::JobError;
 use crate::words::WordsFault;
+use std::alloc::AllocError;
 use std::io::Write;
+
+/// Why a job ended without its text.
+#[derive(Clone, Copy, Debug, PartialEq, Eq)]
+pub enum JobError {
+    /// Memory was refused.
+    Memory,
+    /// The reader failed.
+    Read,
+    /// The writer failed. It has taken a beginning of the text.
+    Write,
+    /// What was read describes no report.
+    Description,
+    /// The chosen handler refused the report.
+    Refused,
+}
+
+impl From<AllocError> for JobError {
+    ghost use Rattle.std.specs.Prelude.{◌≡◌};
+    ghost use Rattle.miette_report.specs.declared.statuses.JobError.TheVariants.{Memory};
+
+    ghost from_gives = { λ _ e. e ≡ Memory };
+
+    fn from(_refused: AllocError) -> JobError {
+        JobError::Memory
+    }
+}
 
 /// Prints why a program's words are refused, and gives the status. Faults of `faults` are ignored.
 pub(crate) fn refuse_words<F: Write + Drop>(

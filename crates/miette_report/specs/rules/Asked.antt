@@ -2,8 +2,8 @@
 use Rattle.std.specs.Prelude.{ℕ, Bool, ◌||◌, List, [], ◌∷◌, if◌then◌else◌, codes, bytes_eq}
 use Rattle.miette_report.specs.declared.option_words.Asked.{Asked}
 use Rattle.miette_report.specs.declared.option_words.Asked.TheVariants as asked
-use Rattle.miette_report.specs.declared.settings.Choice.{Choice}
-use Rattle.miette_report.specs.declared.settings.Choice.TheVariants.{Json, Debug}
+use Rattle.miette_report.specs.declared.option_words.Choice.{Choice}
+use Rattle.miette_report.specs.declared.option_words.Choice.TheVariants.{Json, Debug}
 
 -- words without a value; behind each other one stands its value
 abbrev pub is_alone : List ℕ → Bool

@@ -12,8 +12,8 @@ use Rattle.miette_json.specs.rules.JsonReport.{value_of}
 use Rattle.miette_report.specs.rules.Job.{IsBuiltText}
 use Rattle.miette_report.specs.declared.chosen.Chosen.{Chosen}
 use Rattle.miette_report.specs.declared.chosen.Chosen.TheVariants as chosen
-use Rattle.miette_report.specs.declared.settings.Choice.{Choice}
-use Rattle.miette_report.specs.declared.settings.Choice.TheVariants as choice
+use Rattle.miette_report.specs.declared.option_words.Choice.{Choice}
+use Rattle.miette_report.specs.declared.option_words.Choice.TheVariants as choice
 
 -- this handler is asked for
 abbrev pub IsAsked : {H : Type 0} → Choice → Options H → Terminal → Chosen H → Type 0

@@ -2,8 +2,8 @@
 use Rattle.std.specs.Prelude.{ℕ}
 use Rattle.miette_report.specs.declared.draw.Fault.{Fault}
 use Rattle.miette_report.specs.declared.draw.Fault.TheVariants as faults
-use Rattle.miette_report.specs.declared.picture.DrawError.{DrawError}
-use Rattle.miette_report.specs.declared.picture.DrawError.TheVariants as draws
+use Rattle.miette_report.specs.declared.draw.DrawError.{DrawError}
+use Rattle.miette_report.specs.declared.draw.DrawError.TheVariants as draws
 use Rattle.miette_report.specs.declared.words.WordsFault.{WordsFault}
 use Rattle.miette_report.specs.declared.words.WordsFault.TheVariants as words
 

@@ -16,8 +16,8 @@ use Rattle.miette_json.specs.rules.JsonReport.{value_of}
 use Rattle.miette_graphical.specs.rules.Snippets.{drawn_rows}
 use Rattle.miette_graphical.specs.rules.Text.{report_text}
 use Rattle.miette_description.specs.rules.Description.{tree_for}
-use Rattle.miette_report.specs.declared.settings.Choice.{Choice}
-use Rattle.miette_report.specs.declared.settings.Choice.TheVariants.{Build, Json, Debug}
+use Rattle.miette_report.specs.declared.option_words.Choice.{Choice}
+use Rattle.miette_report.specs.declared.option_words.Choice.TheVariants.{Build, Json, Debug}
 
 -- A text that a handler gives for a tree whose sources always read: a picture, one alone where no highlighter or a
 -- blank one is set; a narrated text only where every label that is told is accepted.

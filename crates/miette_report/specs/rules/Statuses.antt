@@ -1,7 +1,7 @@
 -- How the program `job` ends.
 use Rattle.std.specs.Prelude.{ℕ}
-use Rattle.miette_report.specs.declared.run.JobError.{JobError}
-use Rattle.miette_report.specs.declared.run.JobError.TheVariants as job
+use Rattle.miette_report.specs.declared.statuses.JobError.{JobError}
+use Rattle.miette_report.specs.declared.statuses.JobError.TheVariants as job
 use Rattle.miette_report.specs.declared.words.WordsFault.{WordsFault}
 use Rattle.miette_report.specs.declared.words.WordsFault.TheVariants as words
 

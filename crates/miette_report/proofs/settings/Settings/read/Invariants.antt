@@ -1,6 +1,6 @@
 use Rattle.std.proofs.Common.{◌≡◌, length, map, string_bytes}
 use Rattle.miette_report.specs.rules.Asked.{choice_in}
-use Rattle.miette_report.specs.declared.settings.Choice.TheVariants.{Build}
+use Rattle.miette_report.specs.declared.option_words.Choice.TheVariants.{Build}
 use Rattle.miette_report.proofs.settings.Settings.read.Given as goal
 
 -- the words that are left choose from what those before chose

@@ -1,7 +1,7 @@
 use Rattle.miette_report.proofs.PictureSteps.{told}
 use Rattle.miette_report.specs.views.Device.{TakesBeginning}
 use Rattle.std.specs.Io.KnownBytes.{Appends}
-use Rattle.miette_report.proofs.picture.write_picture.Goals as goal
+use Rattle.miette_report.proofs.draw.write_picture.Goals as goal
 
 pub returns-in-Ok-write_whole-clause-ok : goal.returns-in-Ok-write_whole-clause-ok
 returns-in-Ok-write_whole-clause-ok g c =
