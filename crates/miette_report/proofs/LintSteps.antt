@@ -5,7 +5,7 @@ use Rattle.std.proofs.lemmas.List.{nil_from_length}
 use Rattle.miette_protocol.specs.views.Meaning.{Label, Meaning}
 use Rattle.miette_report.specs.views.Drawn.{over_input, IsPicture}
 use Rattle.miette_report.specs.rules.Findings.{findings_of}
-use Rattle.miette_report.specs.views.Linted.{warning, IsClean, CallIsClean, CallLints, IsLinted, Lints}
+use Rattle.miette_report.specs.views.Linted.{warning, IsClean, CallIsClean, CallLints, IsLinted, Lints, LintsText}
 use Rattle.miette_report.specs.rules.Words.{AreLintWords, IsNoLintCall}
 
 pub nothing_linted : (name input text : List ℕ) (found : List Label) → found ≡ [] → text ≡ [] → IsLinted name input found text
@@ -28,6 +28,13 @@ linted_told name width None input text bytes found clean P read e none is same p
 linted_told name width (Some bs) input text bytes found clean P read e none is same p =
     let here : Lints name width input clean P = (text, subst (λ f. IsClean f clean) e none, subst (λ f. IsLinted name input f text) e is, subst P same p) in
     subst (λ i. Lints name width i clean P) read here
+
+pub linted_begun : (name : List ℕ) (width : ℕ) (all : Option (List ℕ)) (input text bytes : List ℕ) (found : List Label) (P : List ℕ → Type 0)
+    → IfSome all (λ bs. input ≡ bs) → found ≡ findings_of input width → IsLinted name input found text → bytes ≡ text → P bytes → IfSome all (λ bs. LintsText name width bs P)
+linted_begun name width None input text bytes found P read e is same p = tt
+linted_begun name width (Some bs) input text bytes found P read e is same p =
+    let here : LintsText name width input P = (text, subst (λ f. IsLinted name input f text) e is, subst P same p) in
+    subst (λ i. LintsText name width i P) read here
 
 pub call_linted : {E : Type 0} (words : List (List ℕ)) (name : List ℕ) (width : ℕ) (r : Result Bool E) (all : Option (List ℕ)) (P : List ℕ → Type 0)
     → AreLintWords words name width → IfOk r (λ clean. IfSome all (λ bs. Lints name width bs clean P)) → IfOk r (λ clean. IfSome all (λ bs. CallLints words bs clean P))

@@ -1,5 +1,5 @@
 -- Steps of making a picture and of writing it.
-use Rattle.std.proofs.Common.{◌≡◌, ℕ, Bool, List, [], ◌++◌, Option, Some, None, Result, Err, true, false, IfOk, IfSome, refl, sym, ◌∙◌, ap, ap₂, subst, encode_utf8_all, string_bytes, String}
+use Rattle.std.proofs.Common.{◌≡◌, ℕ, Bool, List, [], ◌++◌, Option, Some, None, ◌↔◌, Result, Ok, Err, true, false, IfOk, OnOk, IfSome, refl, sym, ◌∙◌, ap, ap₂, subst, encode_utf8_all, string_bytes, String}
 use Rattle.miette_protocol.specs.views.Meaning.{Meaning}
 use Rattle.miette_protocol.specs.declared.error.RenderError.{RenderError}
 use Rattle.miette_protocol.specs.declared.error.RenderError.TheVariants.{Refused}
@@ -13,7 +13,8 @@ use Rattle.miette_graphical.specs.rules.Settings.{default_settings}
 use Rattle.miette_graphical.specs.rules.Snippets.{drawn_rows}
 use Rattle.miette_graphical.specs.rules.Text.{report_text}
 use Rattle.miette_report.proofs.AlwaysRead.{printed-reads}
-use Rattle.miette_report.specs.views.Drawn.{draw_settings, drawn_tree, over_input, IsPicture, IsReadWhole, Pictures}
+use Rattle.miette_report.specs.views.Drawn.{draw_settings, drawn_tree, over_input, CallPictures, IsPicture, IsReadWhole, Pictures}
+use Rattle.miette_report.specs.rules.Words.{AreDrawWords, IsNoDrawCall}
 
 abbrev narrow : {H : Type 0} → Handling H → Handling H
 narrow h = record h { settings = record h.settings { width = 80 } }
@@ -62,3 +63,14 @@ pub told : (name : List ℕ) (offset length : ℕ) (label message input : List �
 told name offset length label message input None text bytes P read is same p = tt
 told name offset length label message input (Some bs) text bytes P read is same p =
     (text, subst (λ i. IsPicture (drawn_tree name offset length label message i) text) read is, subst P same p)
+
+-- ---- the words as the program is called with them
+
+pub call_pictured : {T E : Type 0} (words : List (List ℕ)) (name : List ℕ) (offset length : ℕ) (label message : List ℕ) (r : Result T E) (all : Option (List ℕ)) (P : List ℕ → Type 0)
+    → AreDrawWords words name offset length label message → OnOk r (IfSome all (λ bs. Pictures name offset length label message bs P)) → OnOk r (IfSome all (λ bs. CallPictures words bs P))
+call_pictured words name offset length label message (Ok x) None P are h = tt
+call_pictured words name offset length label message (Ok x) (Some bs) P are h = (name, offset, length, label, message, are, h)
+call_pictured words name offset length label message (Err e) all P are h = tt
+
+pub draw_called : (Q : Type 0) (words : List (List ℕ)) (name : List ℕ) (offset length : ℕ) (label message : List ℕ) → AreDrawWords words name offset length label message → (Q → ⊥) → Q ↔ IsNoDrawCall words
+draw_called Q words name offset length label message are called = (λ q. absurd (called q), λ none. absurd (none name offset length label message are))

@@ -3,6 +3,5 @@ pub mod Words
 pub mod Asked
 pub mod Job
 pub mod Chosen
-pub mod Statuses
 pub mod Faults
 pub mod Findings

@@ -1,19 +1,18 @@
 //! The program `bench`, which renders one report many times: speed is measured by it.
 
-ghost use Rattle.std.specs.Prelude.{◌≡◌, IfOk, IfSome, IsUtf8, OnOk, None, drop, map, string_bytes};
+ghost use Rattle.std.specs.Prelude.{◌≡◌, ◌⊎◌, ◌<◌, IfOk, IfSome, IsUtf8, OnErr, OnOk, None, drop, map, string_bytes};
 ghost use Rattle.miette_report.specs.rules.Asked.{choice_in};
 ghost use Rattle.miette_description.specs.rules.Description.{tree_for};
 ghost use Rattle.miette_report.specs.rules.Job.{IsDescription, IsNarrating, IsRefused};
-ghost use Rattle.miette_report.specs.rules.Statuses.{words_status};
+ghost use Rattle.miette_report.specs.rules.Faults.{status_of};
 
 use crate::device::Device;
+use crate::fault::{Fault, Program};
 use crate::option_words::Choice;
 use crate::run::rendered_length;
 use crate::settings::Settings;
-use crate::statuses;
-use crate::statuses::JobError;
-use crate::whole::{ReadError, read_whole, write_whole};
-use crate::words::{WordsFault, number};
+use crate::whole::{read_whole, write_whole};
+use crate::words::number;
 use std::alloc::Global;
 use std::io::{Read, Write};
 
@@ -28,37 +27,53 @@ pub fn bench_with<R: Read + Drop, W: Write + Drop, F: Write + Drop>(
     writer: W,
     faults: F,
 ) -> u8
+    ensures status { result < 5 }
     ensures done { result ≡ 0 → IfSome (R.remaining reader) IsDescription }
     ensures description { result ≡ 3 → IfSome (R.remaining reader) (λ bytes. IsUtf8 bytes → tree_for bytes ≡ None) }
     ensures refused { result ≡ 4 → IfSome (R.remaining reader) IsRefused }
     ensures narrated { result ≡ 4 → choice_in Choice.Build (map string_bytes (drop 1 words.now)) ≡ Choice.Build }
 {
-    let (times, settings) = match read_words(alloc, words) {
-        Ok(asked) => asked,
-        Err(fault) => return refuse_words(fault, faults),
-    };
-    match measure(alloc, reader, writer, times, settings) {
+    match run(alloc, words, reader, writer) {
         Ok(()) => 0,
-        Err(error) => statuses::refuse_job("bench", error, faults),
+        Err(fault) => Program::Bench.end(fault, faults),
     }
 }
 
 /// Ends the program where its words could not be had: prints why, and gives the status.
-pub fn refuse_words<F: Write + Drop>(fault: WordsFault, faults: F) -> u8
-    ensures { result ≡ words_status fault }
+pub fn refuse_words<F: Write + Drop>(fault: Fault, faults: F) -> u8
+    ensures { result ≡ status_of Program.Bench fault }
 {
-    statuses::refuse_words("bench", "N [OPTIONS]", fault, faults)
+    Program::Bench.end(fault, faults)
+}
+
+/// Checks the words before anything is read, and then measures what they ask for.
+fn run<R: Read + Drop, W: Write + Drop>(
+    alloc: Global,
+    words: &[String],
+    reader: R,
+    writer: W,
+) -> Result<(), Fault>
+    ensures described { OnOk result (IfSome (R.remaining reader) IsDescription) }
+    ensures description { (result ≡ Err Fault.Description) →
+        IfSome (R.remaining reader) (λ bytes. IsUtf8 bytes → tree_for bytes ≡ None) }
+    ensures refused { (result ≡ Err Fault.Refused) → IfSome (R.remaining reader) IsRefused }
+    ensures narrated { (result ≡ Err Fault.Refused) →
+        choice_in Choice.Build (map string_bytes (drop 1 words.now)) ≡ Choice.Build }
+{
+    let (times, settings) = read_words(alloc, words)?;
+    measure(alloc, reader, writer, times, settings)
 }
 
 /// How often to render, and by which settings.
-fn read_words(alloc: Global, words: &[String]) -> Result<(usize, Settings), WordsFault>
-    ensures { IfOk result (λ it. it.1.choice ≡ choice_in Choice.Build (map string_bytes (drop 1 words.now))) }
+fn read_words(alloc: Global, words: &[String]) -> Result<(usize, Settings), Fault>
+    ensures choice { IfOk result (λ it. it.1.choice ≡ choice_in Choice.Build (map string_bytes (drop 1 words.now))) }
+    ensures others { OnErr result ((result ≡ Err Fault.Usage) ⊎ (result ≡ Err Fault.Memory)) }
 {
     let [times, options @ ..] = words else {
-        return Err(WordsFault::Usage);
+        return Err(Fault::Usage);
     };
     let Some(times) = number(times.as_str()) else {
-        return Err(WordsFault::Usage);
+        return Err(Fault::Usage);
     };
     Ok((times, Settings::read(alloc, options)?))
 }
@@ -70,24 +85,17 @@ fn measure<R: Read + Drop, W: Write + Drop>(
     writer: W,
     times: usize,
     settings: Settings,
-) -> Result<(), JobError>
+) -> Result<(), Fault>
     ensures described { OnOk result (IfSome (R.remaining reader) IsDescription) }
-    ensures description { (result ≡ Err JobError.Description) →
+    ensures description { (result ≡ Err Fault.Description) →
         IfSome (R.remaining reader) (λ bytes. IsUtf8 bytes → tree_for bytes ≡ None) }
-    ensures refused { (result ≡ Err JobError.Refused) →
+    ensures refused { (result ≡ Err Fault.Refused) →
         IsNarrating settings.choice settings.options settings.terminal × IfSome (R.remaining reader) IsRefused }
+    ensures called { ¬ (result ≡ Err Fault.Usage) }
 {
-    let bytes = match read_whole(alloc, &mut Device::new(reader)) {
-        Ok(bytes) => bytes,
-        Err(ReadError::Memory) => return Err(JobError::Memory),
-        Err(ReadError::Read) => return Err(JobError::Read),
-    };
+    let bytes = read_whole(alloc, &mut Device::new(reader))?;
     let length = rendered_length(alloc, bytes.as_slice(), times, settings)?;
-    let Ok(text) = format!(in alloc; "{length}\n") else {
-        return Err(JobError::Memory);
-    };
-    match write_whole(&mut Device::new(writer), text.as_bytes()) {
-        Ok(()) => Ok(()),
-        Err(_) => Err(JobError::Write),
-    }
+    let text = format!(in alloc; "{length}\n")?;
+    write_whole(&mut Device::new(writer), text.as_bytes())?;
+    Ok(())
 }

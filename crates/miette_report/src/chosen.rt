@@ -6,9 +6,9 @@ ghost use Rattle.miette_tree.specs.views.Handler.{AppendsOne};
 ghost use Rattle.miette_json.specs.rules.Reads.{AlwaysReads};
 ghost use Rattle.miette_report.specs.rules.Chosen.{IsAsked, IsGiven, MayRefuse, Stays};
 
+use crate::fault::Fault;
 use crate::option_words::Choice;
 use crate::settings::Settings;
-use crate::statuses::JobError;
 use miette::error::RenderError;
 use miette::handlers::{DebugReportHandler, JSONReportHandler};
 use miette::highlight::Highlighter;
@@ -46,23 +46,23 @@ impl Chosen {
 
 impl<H: Highlighter> Chosen<H> {
     /// The text of a report whose sources always read.
-    pub(crate) fn render(&mut self, alloc: Global, report: &Report) -> Result<String, JobError>
+    pub(crate) fn render(&mut self, alloc: Global, report: &Report) -> Result<String, Fault>
         requires reads { AlwaysReads (tree_of ⟦<Box<dyn Diagnostic> as Diagnostic>⟧.meaning
             ⟦<Box<dyn SourceCode> as SourceCode>⟧.source report.now) }
         ensures ok { IfOk result (λ text. IsGiven H.is_blank self.old
             (tree_of ⟦<Box<dyn Diagnostic> as Diagnostic>⟧.meaning ⟦<Box<dyn SourceCode> as SourceCode>⟧.source
-            report.now) (string_bytes text)) }
-        ensures refused { (result ≡ Err JobError.Refused) →
+                report.now) (string_bytes text)) }
+        ensures refused { (result ≡ Err Fault.Refused) →
             MayRefuse self.old (tree_of ⟦<Box<dyn Diagnostic> as Diagnostic>⟧.meaning
-            ⟦<Box<dyn SourceCode> as SourceCode>⟧.source report.now) }
-        ensures others { OnErr result ((result ≡ Err JobError.Refused) ⊎ (result ≡ Err JobError.Memory)) }
+                ⟦<Box<dyn SourceCode> as SourceCode>⟧.source report.now) }
+        ensures others { OnErr result ((result ≡ Err Fault.Refused) ⊎ (result ≡ Err Fault.Memory)) }
         ensures stays { Stays H.is_blank self.old self.new }
     {
         let mut text = String::new(alloc);
         match self.append(report, &mut text) {
             Ok(()) => Ok(text),
-            Err(RenderError::Memory) => Err(JobError::Memory),
-            Err(RenderError::Refused) => Err(JobError::Refused),
+            Err(RenderError::Memory) => Err(Fault::Memory),
+            Err(RenderError::Refused) => Err(Fault::Refused),
         }
     }
 
@@ -72,16 +72,16 @@ impl<H: Highlighter> Chosen<H> {
         alloc: Global,
         report: &Report,
         times: usize,
-    ) -> Result<String, JobError>
+    ) -> Result<String, Fault>
         requires reads { AlwaysReads (tree_of ⟦<Box<dyn Diagnostic> as Diagnostic>⟧.meaning
             ⟦<Box<dyn SourceCode> as SourceCode>⟧.source report.now) }
         ensures ok { IfOk result (λ text. IsGiven H.is_blank self.old
             (tree_of ⟦<Box<dyn Diagnostic> as Diagnostic>⟧.meaning ⟦<Box<dyn SourceCode> as SourceCode>⟧.source
-            report.now) (string_bytes text)) }
-        ensures refused { (result ≡ Err JobError.Refused) →
+                report.now) (string_bytes text)) }
+        ensures refused { (result ≡ Err Fault.Refused) →
             MayRefuse self.old (tree_of ⟦<Box<dyn Diagnostic> as Diagnostic>⟧.meaning
-            ⟦<Box<dyn SourceCode> as SourceCode>⟧.source report.now) }
-        ensures others { OnErr result ((result ≡ Err JobError.Refused) ⊎ (result ≡ Err JobError.Memory)) }
+                ⟦<Box<dyn SourceCode> as SourceCode>⟧.source report.now) }
+        ensures others { OnErr result ((result ≡ Err Fault.Refused) ⊎ (result ≡ Err Fault.Memory)) }
     {
         for _ in 1..times {
             self.render(alloc, report)?;

@@ -7,19 +7,19 @@ ghost use Rattle.miette.specs.Diagnostic.{meaning_of};
 ghost use Rattle.miette_report.specs.views.Device.{TakesBeginning};
 ghost use Rattle.miette_report.specs.views.Drawn.{drawn_label, drawn_meaning, drawn_tree, CallPictures, IsPicture};
 ghost use Rattle.miette_report.specs.views.Drawn.{Pictures};
-ghost use Rattle.miette_report.specs.rules.Faults.{status_of, words_fault};
+ghost use Rattle.miette_report.specs.rules.Faults.{status_of};
 ghost use Rattle.miette_report.specs.rules.Words.{AreDrawWords, IsNoDrawCall};
 
 use crate::device::Device;
+use crate::fault::{Fault, Program};
 use crate::picture::picture_over;
-use crate::whole::{ReadError, read_whole, write_whole};
-use crate::words::{WordsFault, number};
+use crate::whole::{read_whole, write_whole};
+use crate::words::number;
 use miette::diagnostic::MietteDiagnostic;
 use miette::error::RenderError;
 use miette::protocol::LabeledSpan;
 use std::alloc::{AllocError, Global};
 use std::io::{Read, Write};
-use thiserror::Error;
 
 /// What the words ask for: one label on a source.
 #[derive(Clone, Copy, Debug, PartialEq, Eq)]
@@ -92,17 +92,6 @@ fn picture(alloc: Global, words: &DrawWords<'_>, input: Vec<u8>) -> Result<Strin
     picture_over(alloc, words.name, diagnostic, input)
 }
 
-/// Why `write_picture` ended without its text.
-#[derive(Clone, Copy, Debug, PartialEq, Eq)]
-pub enum DrawError {
-    /// Memory was refused.
-    Memory,
-    /// The reader failed.
-    Read,
-    /// The writer failed. It has taken a beginning of the text.
-    Write,
-}
-
 /// Reads all, and writes the picture of the words' label on it, and nothing else.
 ///
 /// # Errors
@@ -114,95 +103,30 @@ pub fn write_picture<R: Read, W: Write>(
     words: &DrawWords<'_>,
     reader: &mut Device<R>,
     writer: &mut Device<W>,
-) -> Result<(), DrawError>
+) -> Result<(), Fault>
     requires reader_unmarked { reader.old.failed ≡ false }
     requires writer_unmarked { writer.old.failed ≡ false }
     // All that the reader had left is the source, and the writer took its picture and nothing else.
     ensures ok { OnOk result (IfSome (R.remaining reader.old.inner) (λ bytes.
         Pictures words.now.name.now words.now.offset words.now.length words.now.label.now words.now.message.now bytes
         (Appends (W.contents writer.old.inner) (W.contents writer.new.inner)))) }
-    ensures read_mark { IsTrue reader.new.failed ↔ (result ≡ Err DrawError.Read) }
-    ensures write_mark { IsTrue writer.new.failed ↔ (result ≡ Err DrawError.Write) }
+    ensures read_mark { IsTrue reader.new.failed ↔ (result ≡ Err Fault.Read) }
+    ensures write_mark { IsTrue writer.new.failed ↔ (result ≡ Err Fault.Write) }
+    ensures others { OnErr result ((result ≡ Err Fault.Memory) ⊎ (result ≡ Err Fault.Read)
+        ⊎ (result ≡ Err Fault.Write)) }
     // After a write fault a beginning of the picture was taken.
-    ensures beginning { (result ≡ Err DrawError.Write) → IfSome (R.remaining reader.old.inner) (λ bytes.
+    ensures beginning { (result ≡ Err Fault.Write) → IfSome (R.remaining reader.old.inner) (λ bytes.
         Pictures words.now.name.now words.now.offset words.now.length words.now.label.now words.now.message.now bytes
         (TakesBeginning (W.contents writer.old.inner) (W.contents writer.new.inner))) }
     // After any other error nothing was written.
-    ensures untouched { OnErr result ((result ≡ Err DrawError.Write) ⊎ (writer.new ≡ writer.old)) }
+    ensures untouched { OnErr result ((result ≡ Err Fault.Write) ⊎ (writer.new ≡ writer.old)) }
 {
-    let input = match read_whole(alloc, reader) {
-        Ok(input) => input,
-        Err(ReadError::Memory) => return Err(DrawError::Memory),
-        Err(ReadError::Read) => return Err(DrawError::Read),
-    };
+    let input = read_whole(alloc, reader)?;
     let Ok(text) = picture(alloc, words, input) else {
-        return Err(DrawError::Memory);
+        return Err(Fault::Memory);
     };
-    match write_whole(writer, text.as_bytes()) {
-        Ok(()) => Ok(()),
-        Err(_) => Err(DrawError::Write),
-    }
-}
-
-// What ends a run early.
-#[derive(Debug, Drop, Error)]
-enum Fault {
-    #[error("usage: draw NAME OFFSET LENGTH LABEL MESSAGE")]
-    Usage,
-    #[error("draw: out of memory")]
-    Memory,
-    #[error("draw: read fault")]
-    Read,
-    #[error("draw: write fault")]
-    Write,
-}
-
-impl Fault {
-    ghost use Rattle.miette_report.specs.rules.Faults.{status_of};
-
-    fn status(&self) -> u8
-        ensures { result ≡ status_of self.now }
-    {
-        match self {
-            Fault::Usage => 2,
-            Fault::Memory | Fault::Read | Fault::Write => 1,
-        }
-    }
-
-    // Prints the text and a line feed, and gives the status.
-    fn end<F: Write + Drop>(self, mut faults: F) -> u8
-        ensures { result ≡ status_of self }
-    {
-        let _ = writeln!(faults, "{self}");
-        self.status()
-    }
-}
-
-impl From<WordsFault> for Fault {
-    ghost use Rattle.miette_report.specs.rules.Faults.{words_fault};
-
-    ghost from_gives = { λ fault it. it ≡ words_fault fault };
-
-    fn from(fault: WordsFault) -> Self {
-        match fault {
-            WordsFault::Usage => Fault::Usage,
-            WordsFault::Memory => Fault::Memory,
-        }
-    }
-}
-
-impl From<DrawError> for Fault {
-    ghost use Rattle.miette_report.specs.rules.Faults.{draw_fault};
-
-    ghost from_gives = { λ error it. it ≡ draw_fault error };
-
-    fn from(error: DrawError) -> Self {
-        match error {
-            DrawError::Memory => Fault::Memory,
-            DrawError::Read => Fault::Read,
-            DrawError::Write => Fault::Write,
-        }
-    }
+    write_whole(writer, text.as_bytes())?;
+    Ok(())
 }
 
 // Checks the words before anything is read, and then writes the picture.
@@ -221,13 +145,14 @@ fn run<R: Read, W: Write>(
     ensures usage { (result ≡ Err Fault.Usage) ↔ IsNoDrawCall (map string_bytes words.now) }
     ensures read_mark { IsTrue reader.new.failed ↔ (result ≡ Err Fault.Read) }
     ensures write_mark { IsTrue writer.new.failed ↔ (result ≡ Err Fault.Write) }
+    ensures others { OnErr result ((result ≡ Err Fault.Usage) ⊎ (result ≡ Err Fault.Memory) ⊎ (result ≡ Err Fault.Read)
+        ⊎ (result ≡ Err Fault.Write)) }
     ensures unread { (result ≡ Err Fault.Usage) → (reader.new ≡ reader.old) × (writer.new ≡ writer.old) }
 {
     let Some(words) = DrawWords::read(words) else {
         return Err(Fault::Usage);
     };
-    write_picture(alloc, &words, reader, writer)?;
-    Ok(())
+    write_picture(alloc, &words, reader, writer)
 }
 
 /// The program `draw`: in go the words after its name, out comes the status. The words are checked first, then all
@@ -249,14 +174,14 @@ pub fn draw_with<R: Read + Drop, W: Write + Drop, F: Write + Drop>(
     let mut writer = Device::new(writer);
     match run(alloc, words, &mut reader, &mut writer) {
         Ok(()) => 0,
-        Err(fault) => fault.end(faults),
+        Err(fault) => Program::Draw.end(fault, faults),
     }
 }
 
 /// Ends the program `draw` where its words could not be had: prints the fault's text and a line feed, and gives the
 /// status.
-pub fn refuse_words<F: Write + Drop>(fault: WordsFault, faults: F) -> u8
-    ensures { result ≡ status_of (words_fault fault) }
+pub fn refuse_words<F: Write + Drop>(fault: Fault, faults: F) -> u8
+    ensures { result ≡ status_of Program.Draw fault }
 {
-    Fault::from(fault).end(faults)
+    Program::Draw.end(fault, faults)
 }

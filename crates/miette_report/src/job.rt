@@ -1,18 +1,17 @@
 //! The program `job`, over any reader and writers.
 
-ghost use Rattle.std.specs.Prelude.{◌≡◌, IfSome, IsUtf8, None, map, string_bytes};
+ghost use Rattle.std.specs.Prelude.{◌≡◌, ◌<◌, IfSome, IsUtf8, OnOk, None, map, string_bytes};
 ghost use Rattle.miette_report.specs.rules.Asked.{choice_in};
 ghost use Rattle.miette_description.specs.rules.Description.{tree_for};
 ghost use Rattle.miette_report.specs.rules.Job.{IsDescription, IsRefused};
-ghost use Rattle.miette_report.specs.rules.Statuses.{words_status};
+ghost use Rattle.miette_report.specs.rules.Faults.{status_of};
 
 use crate::device::Device;
+use crate::fault::Program;
+pub use crate::fault::{Fault, Fault as JobError, Fault as WordsFault};
 pub use crate::option_words::Choice;
 pub use crate::run::run;
 pub use crate::settings::Settings;
-use crate::statuses;
-pub use crate::statuses::JobError;
-pub use crate::words::WordsFault;
 use std::alloc::Global;
 use std::io::{Read, Write};
 
@@ -27,27 +26,43 @@ pub fn job_with<R: Read + Drop, W: Write + Drop, F: Write + Drop>(
     writer: W,
     faults: F,
 ) -> u8
+    ensures status { result < 5 }
     ensures done { result ≡ 0 → IfSome (R.remaining reader) IsDescription }
     ensures description { result ≡ 3 → IfSome (R.remaining reader) (λ bytes. IsUtf8 bytes → tree_for bytes ≡ None) }
     // Only a narrated report is refused, and only for a label that isn't accepted.
     ensures refused { result ≡ 4 → IfSome (R.remaining reader) IsRefused }
     ensures narrated { result ≡ 4 → choice_in Choice.Build (map string_bytes words.now) ≡ Choice.Build }
 {
-    let settings = match Settings::read(alloc, words) {
-        Ok(settings) => settings,
-        Err(fault) => return refuse_words(fault, faults),
-    };
-    let mut reader = Device::new(reader);
-    let mut writer = Device::new(writer);
-    match run(alloc, &mut reader, &mut writer, settings) {
+    match run_asked(alloc, words, reader, writer) {
         Ok(()) => 0,
-        Err(error) => statuses::refuse_job("job", error, faults),
+        Err(fault) => Program::Job.end(fault, faults),
     }
 }
 
 /// Ends the program where its words could not be had: prints why, and gives the status.
-pub fn refuse_words<F: Write + Drop>(fault: WordsFault, faults: F) -> u8
-    ensures { result ≡ words_status fault }
+pub fn refuse_words<F: Write + Drop>(fault: Fault, faults: F) -> u8
+    ensures { result ≡ status_of Program.Job fault }
 {
-    statuses::refuse_words("job", "[OPTIONS]", fault, faults)
+    Program::Job.end(fault, faults)
+}
+
+/// Checks the words before anything is read, and then runs the job that they ask for.
+fn run_asked<R: Read + Drop, W: Write + Drop>(
+    alloc: Global,
+    words: &[String],
+    reader: R,
+    writer: W,
+) -> Result<(), Fault>
+    ensures described { OnOk result (IfSome (R.remaining reader) IsDescription) }
+    ensures description { (result ≡ Err Fault.Description) →
+        IfSome (R.remaining reader) (λ bytes. IsUtf8 bytes → tree_for bytes ≡ None) }
+    ensures refused { (result ≡ Err Fault.Refused) → IfSome (R.remaining reader) IsRefused }
+    ensures narrated { (result ≡ Err Fault.Refused) →
+        choice_in Choice.Build (map string_bytes words.now) ≡ Choice.Build }
+{
+    let settings = Settings::read(alloc, words)?;
+    let mut reader = Device::new(reader);
+    let mut writer = Device::new(writer);
+    run(alloc, &mut reader, &mut writer, settings)?;
+    Ok(())
 }

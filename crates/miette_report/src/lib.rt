@@ -5,6 +5,7 @@ pub mod bench;
 mod chosen;
 pub mod device;
 pub mod draw;
+pub mod fault;
 pub mod job;
 pub mod lint;
 mod lint_lines;
@@ -12,7 +13,6 @@ mod option_words;
 mod picture;
 mod run;
 mod settings;
-mod statuses;
 pub mod whole;
 pub mod words;
 

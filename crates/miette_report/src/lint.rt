@@ -1,22 +1,25 @@
 //! The program `lint` over any reader and writers.
 
-ghost use Rattle.std.specs.Prelude.{◌≡◌, ◌↔◌, ◌<◌, false, true, IfOk, IfSome, IsNone, IsTrue, map, string_bytes};
+ghost use Rattle.std.specs.Prelude.{◌≡◌, ◌↔◌, ◌⊎◌, ◌<◌, false, true, IfOk, IfSome, IsNone, IsTrue, OnErr, map};
+ghost use Rattle.std.specs.Prelude.{string_bytes};
 ghost use Rattle.std.specs.Io.KnownBytes.{Appends};
 ghost use Rattle.miette.specs.Diagnostic.{meaning_of};
+ghost use Rattle.miette_report.specs.views.Device.{TakesBeginning};
 ghost use Rattle.miette_report.specs.views.Linted.{counted, warning, CallIsClean, CallLints, IsClean, IsLinted, Lints};
+ghost use Rattle.miette_report.specs.views.Linted.{LintsText};
 ghost use Rattle.miette_report.specs.rules.Words.{AreLintWords, IsNoLintCall};
 
 use crate::device::Device;
+use crate::fault::{Fault, Program};
 pub use crate::lint_lines::findings;
 use crate::picture::picture_over;
-use crate::whole::{ReadError, read_whole, write_whole};
-use crate::words::{WordsFault, number};
+use crate::whole::{read_whole, write_whole};
+use crate::words::number;
 use itoa::Buffer;
 use miette::diagnostic::MietteDiagnostic;
 use miette::protocol::{LabeledSpan, Severity};
 use std::alloc::{AllocError, Global};
 use std::io::{Read, Write};
-use thiserror::Error;
 
 /// What the words ask for.
 #[derive(Clone, Copy, Debug, PartialEq, Eq)]
@@ -40,40 +43,6 @@ impl<'a> LintWords<'a> {
             name: name.as_str(),
             width: number(width.as_str())?,
         })
-    }
-}
-
-// What ends a run early.
-#[derive(Debug, Drop, Error)]
-enum Fault {
-    #[error("usage: lint NAME WIDTH")]
-    Usage,
-    #[error("lint: out of memory")]
-    Memory,
-    #[error("lint: read fault")]
-    Read,
-    #[error("lint: write fault")]
-    Write,
-}
-
-impl Fault {
-    // Prints the text and a line feed, and gives the status.
-    fn end<F: Write + Drop>(self, mut faults: F) -> u8
-        ensures { result ≡ 2 }
-    {
-        let _ = writeln!(faults, "{self}");
-        2
-    }
-}
-
-impl From<AllocError> for Fault {
-    ghost use Rattle.std.specs.Prelude.{◌≡◌};
-    ghost use Rattle.miette_report.specs.declared.lint.Fault.TheVariants.{Memory};
-
-    ghost from_gives = { λ _ fault. fault ≡ Memory };
-
-    fn from(_refused: AllocError) -> Self {
-        Fault::Memory
     }
 }
 
@@ -125,8 +94,13 @@ fn text_of(
     }
 }
 
-// Reads all, and writes the text for what is found in it, and nothing else. Whether nothing is found.
-fn write_findings<R: Read, W: Write>(
+/// Reads all, and writes the text for what is found in it, and nothing else. Whether nothing is found.
+///
+/// # Errors
+/// `Read` exactly where a call of the reader failed. `Write` exactly where one of the writer failed, or took nothing:
+/// it has then taken a beginning of the text. `Memory` where memory is refused. After all but `Write` nothing was
+/// written.
+pub fn write_findings<R: Read, W: Write>(
     alloc: Global,
     words: &LintWords<'_>,
     reader: &mut Device<R>,
@@ -136,23 +110,25 @@ fn write_findings<R: Read, W: Write>(
     requires writer_unmarked { writer.old.failed ≡ false }
     ensures ok { IfOk result (λ clean. IfSome (R.remaining reader.old.inner) (λ bytes.
         Lints words.now.name.now words.now.width bytes clean
-        (Appends (W.contents writer.old.inner) (W.contents writer.new.inner)))) }
+            (Appends (W.contents writer.old.inner) (W.contents writer.new.inner)))) }
+    ensures others { OnErr result ((result ≡ Err Fault.Memory) ⊎ (result ≡ Err Fault.Read)
+        ⊎ (result ≡ Err Fault.Write)) }
     ensures called { ¬ (result ≡ Err Fault.Usage) }
     ensures read_mark { IsTrue reader.new.failed ↔ (result ≡ Err Fault.Read) }
     ensures write_mark { IsTrue writer.new.failed ↔ (result ≡ Err Fault.Write) }
+    // After a write fault a beginning of the text was taken.
+    ensures beginning { (result ≡ Err Fault.Write) → IfSome (R.remaining reader.old.inner) (λ bytes.
+        LintsText words.now.name.now words.now.width bytes
+            (TakesBeginning (W.contents writer.old.inner) (W.contents writer.new.inner))) }
+    // After any other error nothing was written.
+    ensures untouched { OnErr result ((result ≡ Err Fault.Write) ⊎ (writer.new ≡ writer.old)) }
 {
-    let input = match read_whole(alloc, reader) {
-        Ok(input) => input,
-        Err(ReadError::Memory) => return Err(Fault::Memory),
-        Err(ReadError::Read) => return Err(Fault::Read),
-    };
+    let input = read_whole(alloc, reader)?;
     let found = findings(alloc, input.as_slice(), words.width)?;
     let clean = is_clean(&found);
     let text = text_of(alloc, words.name, found, input)?;
-    match write_whole(writer, text.as_bytes()) {
-        Ok(()) => Ok(clean),
-        Err(_) => Err(Fault::Write),
-    }
+    write_whole(writer, text.as_bytes())?;
+    Ok(clean)
 }
 
 // Checks the words before anything is read, and then writes what is found. Whether nothing is.
@@ -206,17 +182,14 @@ pub fn lint_with<R: Read + Drop, W: Write + Drop, F: Write + Drop>(
     match run(alloc, words, &mut reader, &mut writer) {
         Ok(true) => 0,
         Ok(false) => 1,
-        Err(fault) => fault.end(faults),
+        Err(fault) => Program::Lint.end(fault, faults),
     }
 }
 
 /// Ends the program `lint` where its words could not be had: prints the fault's text and a line feed, and gives the
 /// status.
-pub fn refuse_words<F: Write + Drop>(fault: WordsFault, faults: F) -> u8
+pub fn refuse_words<F: Write + Drop>(fault: Fault, faults: F) -> u8
     ensures { result ≡ 2 }
 {
-    match fault {
-        WordsFault::Usage => Fault::Usage.end(faults),
-        WordsFault::Memory => Fault::Memory.end(faults),
-    }
+    Program::Lint.end(fault, faults)
 }

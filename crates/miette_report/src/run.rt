@@ -11,9 +11,9 @@ ghost use Rattle.miette_report.specs.rules.Job.{IsDescription, IsNarrating, IsRe
 
 use crate::chosen::Chosen;
 use crate::device::Device;
+use crate::fault::Fault;
 use crate::settings::Settings;
-use crate::statuses::JobError;
-use crate::whole::{ReadError, read_whole, write_whole};
+use crate::whole::{read_whole, write_whole};
 use miette::highlight::Highlighter;
 use miette_description::error::BuildError;
 use miette_protocol::protocol::Diagnostic;
@@ -23,31 +23,31 @@ use std::alloc::Global;
 use std::io::{Read, Write};
 
 /// The report that the bytes describe.
-fn report_of(alloc: Global, bytes: &[u8]) -> Result<Report, JobError>
+fn report_of(alloc: Global, bytes: &[u8]) -> Result<Report, Fault>
     ensures ok { IfOk result (λ r. IsUtf8 bytes.now
         × (tree_for bytes.now ≡ Some (tree_of ⟦<Box<dyn Diagnostic> as Diagnostic>⟧.meaning
         ⟦<Box<dyn SourceCode> as SourceCode>⟧.source r))) }
     ensures sources { IfOk result (λ r. AlwaysReads
         (tree_of ⟦<Box<dyn Diagnostic> as Diagnostic>⟧.meaning ⟦<Box<dyn SourceCode> as SourceCode>⟧.source r)) }
-    ensures description { (result ≡ Err JobError.Description) → IsUtf8 bytes.now → tree_for bytes.now ≡ None }
-    ensures others { OnErr result ((result ≡ Err JobError.Description) ⊎ (result ≡ Err JobError.Memory)) }
+    ensures description { (result ≡ Err Fault.Description) → IsUtf8 bytes.now → tree_for bytes.now ≡ None }
+    ensures others { OnErr result ((result ≡ Err Fault.Description) ⊎ (result ≡ Err Fault.Memory)) }
 {
     match miette_description::report::report_of(alloc, bytes) {
         Ok(report) => Ok(report),
-        Err(BuildError::Memory) => Err(JobError::Memory),
-        Err(BuildError::Description) => Err(JobError::Description),
+        Err(BuildError::Memory) => Err(Fault::Memory),
+        Err(BuildError::Description) => Err(Fault::Description),
     }
 }
 
 /// The text for a description.
-fn text_of(alloc: Global, bytes: &[u8], settings: Settings) -> Result<String, JobError>
+fn text_of(alloc: Global, bytes: &[u8], settings: Settings) -> Result<String, Fault>
     ensures ok { IfOk result (λ text. Writes ⟦<Box<dyn Highlighter> as Highlighter>⟧.is_blank settings.choice
         settings.options settings.terminal bytes.now (λ given. string_bytes text ≡ given)) }
-    ensures description { (result ≡ Err JobError.Description) → IsUtf8 bytes.now → tree_for bytes.now ≡ None }
-    ensures refused { (result ≡ Err JobError.Refused) →
+    ensures description { (result ≡ Err Fault.Description) → IsUtf8 bytes.now → tree_for bytes.now ≡ None }
+    ensures refused { (result ≡ Err Fault.Refused) →
         IsNarrating settings.choice settings.options settings.terminal × IsRefused bytes.now }
-    ensures others { OnErr result ((result ≡ Err JobError.Description) ⊎ (result ≡ Err JobError.Refused)
-        ⊎ (result ≡ Err JobError.Memory)) }
+    ensures others { OnErr result ((result ≡ Err Fault.Description) ⊎ (result ≡ Err Fault.Refused)
+        ⊎ (result ≡ Err Fault.Memory)) }
 {
     let report = report_of(alloc, bytes)?;
     let mut handler = Chosen::new(alloc, settings)?;
@@ -60,16 +60,16 @@ pub(crate) fn rendered_length(
     bytes: &[u8],
     times: usize,
     settings: Settings,
-) -> Result<usize, JobError>
+) -> Result<usize, Fault>
     ensures ok { IfOk result (λ n. 0 < times →
         Writes ⟦<Box<dyn Highlighter> as Highlighter>⟧.is_blank settings.choice settings.options settings.terminal
         bytes.now (λ text. n ≡ length text)) }
     ensures described { OnOk result (IsDescription bytes.now) }
-    ensures description { (result ≡ Err JobError.Description) → IsUtf8 bytes.now → tree_for bytes.now ≡ None }
-    ensures refused { (result ≡ Err JobError.Refused) →
+    ensures description { (result ≡ Err Fault.Description) → IsUtf8 bytes.now → tree_for bytes.now ≡ None }
+    ensures refused { (result ≡ Err Fault.Refused) →
         IsNarrating settings.choice settings.options settings.terminal × IsRefused bytes.now }
-    ensures others { OnErr result ((result ≡ Err JobError.Description) ⊎ (result ≡ Err JobError.Refused)
-        ⊎ (result ≡ Err JobError.Memory)) }
+    ensures others { OnErr result ((result ≡ Err Fault.Description) ⊎ (result ≡ Err Fault.Refused)
+        ⊎ (result ≡ Err Fault.Memory)) }
 {
     let report = report_of(alloc, bytes)?;
     let mut handler = Chosen::new(alloc, settings)?;
@@ -92,36 +92,31 @@ pub fn run<R: Read, W: Write>(
     reader: &mut Device<R>,
     writer: &mut Device<W>,
     settings: Settings,
-) -> Result<(), JobError>
+) -> Result<(), Fault>
     requires reader_unmarked { reader.old.failed ≡ false }
     requires writer_unmarked { writer.old.failed ≡ false }
     // All that the reader had left is a description, and the writer took its text and nothing else.
     ensures ok { OnOk result (IfSome (R.remaining reader.old.inner) (λ bytes.
         Writes ⟦<Box<dyn Highlighter> as Highlighter>⟧.is_blank settings.choice settings.options settings.terminal bytes
-        (Appends (W.contents writer.old.inner) (W.contents writer.new.inner)))) }
-    ensures description { (result ≡ Err JobError.Description) → IfSome (R.remaining reader.old.inner) (λ bytes.
+            (Appends (W.contents writer.old.inner) (W.contents writer.new.inner)))) }
+    ensures description { (result ≡ Err Fault.Description) → IfSome (R.remaining reader.old.inner) (λ bytes.
         IsUtf8 bytes → tree_for bytes ≡ None) }
-    ensures read_mark { IsTrue reader.new.failed ↔ (result ≡ Err JobError.Read) }
-    ensures write_mark { IsTrue writer.new.failed ↔ (result ≡ Err JobError.Write) }
+    ensures read_mark { IsTrue reader.new.failed ↔ (result ≡ Err Fault.Read) }
+    ensures write_mark { IsTrue writer.new.failed ↔ (result ≡ Err Fault.Write) }
     // Only a narrated report is refused, and only where a label that it tells isn't accepted.
-    ensures refused { (result ≡ Err JobError.Refused) →
+    ensures refused { (result ≡ Err Fault.Refused) →
         IsNarrating settings.choice settings.options settings.terminal
         × IfSome (R.remaining reader.old.inner) IsRefused }
     // After a write fault a beginning of the text was taken.
-    ensures beginning { (result ≡ Err JobError.Write) → IfSome (R.remaining reader.old.inner) (λ bytes.
+    ensures beginning { (result ≡ Err Fault.Write) → IfSome (R.remaining reader.old.inner) (λ bytes.
         Writes ⟦<Box<dyn Highlighter> as Highlighter>⟧.is_blank settings.choice settings.options settings.terminal bytes
-        (TakesBeginning (W.contents writer.old.inner) (W.contents writer.new.inner))) }
+            (TakesBeginning (W.contents writer.old.inner) (W.contents writer.new.inner))) }
+    ensures called { ¬ (result ≡ Err Fault.Usage) }
     // After any other error nothing was written.
-    ensures untouched { OnErr result ((result ≡ Err JobError.Write) ⊎ (writer.new ≡ writer.old)) }
+    ensures untouched { OnErr result ((result ≡ Err Fault.Write) ⊎ (writer.new ≡ writer.old)) }
 {
-    let bytes = match read_whole(alloc, reader) {
-        Ok(bytes) => bytes,
-        Err(ReadError::Memory) => return Err(JobError::Memory),
-        Err(ReadError::Read) => return Err(JobError::Read),
-    };
+    let bytes = read_whole(alloc, reader)?;
     let text = text_of(alloc, bytes.as_slice(), settings)?;
-    match write_whole(writer, text.as_bytes()) {
-        Ok(()) => Ok(()),
-        Err(_) => Err(JobError::Write),
-    }
+    write_whole(writer, text.as_bytes())?;
+    Ok(())
 }

@@ -1,12 +1,12 @@
 //! What a job is asked for.
 
-ghost use Rattle.std.specs.Prelude.{◌≡◌, IfOk, map, string_bytes};
+ghost use Rattle.std.specs.Prelude.{◌≡◌, ◌⊎◌, IfOk, OnErr, map, string_bytes};
 ghost use Rattle.miette_report.specs.rules.Asked.{chosen_by, choice_in};
 
+use crate::fault::Fault;
 use crate::option_words::{
     Asked, BuildAsked, Choice, OptionAsked, TerminalAsked, ThemeAsked, first_asked,
 };
-use crate::words::WordsFault;
 use miette::options::MietteHandlerOpts;
 use miette::theme::{GraphicalTheme, Terminal};
 use miette::wrap::WordSplitter;
@@ -30,15 +30,16 @@ impl Settings {
     /// # Errors
     /// `Usage` where a word is none of those that there are, where a value is missing or isn't one that its word
     /// takes, and for tabs of no columns; `Memory` where none is found for a text or a theme.
-    pub fn read(alloc: Global, words: &[String]) -> Result<Settings, WordsFault>
+    pub fn read(alloc: Global, words: &[String]) -> Result<Settings, Fault>
         // The last of `--json` and `--debug` that is no value chooses the handler.
         ensures choice { IfOk result (λ it. it.choice ≡ choice_in Choice.Build (map string_bytes words.now)) }
+        ensures others { OnErr result ((result ≡ Err Fault.Usage) ⊎ (result ≡ Err Fault.Memory)) }
     {
         let mut settings = Settings::unasked();
         let mut rest = words;
         while !rest.is_empty() {
             let Some((asked, more)) = first_asked(rest) else {
-                return Err(WordsFault::Usage);
+                return Err(Fault::Usage);
             };
             settings = settings.with(alloc, asked)?;
             rest = more;
@@ -67,8 +68,9 @@ impl Settings {
     }
 
     /// The settings with what one word asks for.
-    fn with(self, alloc: Global, asked: Asked<'_>) -> Result<Settings, WordsFault>
-        ensures { IfOk result (λ it. it.choice ≡ chosen_by asked.entry self.choice) }
+    fn with(self, alloc: Global, asked: Asked<'_>) -> Result<Settings, Fault>
+        ensures choice { IfOk result (λ it. it.choice ≡ chosen_by asked.entry self.choice) }
+        ensures others { OnErr result ((result ≡ Err Fault.Usage) ⊎ (result ≡ Err Fault.Memory)) }
     {
         let Settings {
             choice,
@@ -100,13 +102,15 @@ fn options_with(
     alloc: Global,
     options: MietteHandlerOpts,
     asked: OptionAsked<'_>,
-) -> Result<MietteHandlerOpts, WordsFault> {
+) -> Result<MietteHandlerOpts, Fault>
+    ensures others { OnErr result ((result ≡ Err Fault.Usage) ⊎ (result ≡ Err Fault.Memory)) }
+{
     Ok(match asked {
         OptionAsked::Narrated => options.force_narrated(true),
         OptionAsked::Graphical => options.force_graphical(true),
         OptionAsked::Width(width) => options.width(width),
         OptionAsked::Context(lines) => options.context_lines(lines),
-        OptionAsked::Tab(0) => return Err(WordsFault::Usage),
+        OptionAsked::Tab(0) => return Err(Fault::Usage),
         OptionAsked::Tab(width) => options.tab_width(width),
         OptionAsked::Theme(theme) => options.graphical_theme(theme_of(alloc, theme)?),
         OptionAsked::Unicode(unicode) => options.unicode(unicode),

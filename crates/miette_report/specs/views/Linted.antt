@@ -30,7 +30,11 @@ Lints name width input clean holds =
     (text : List ℕ) × IsClean (findings_of input width) clean × IsLinted name input (findings_of input width) text
     × holds text
 
--- The same for the words as the program is called with them.
+-- A fact of the text alone.
+abbrev pub LintsText : List ℕ → ℕ → List ℕ → (List ℕ → Type 0) → Type 0
+LintsText name width input holds = (text : List ℕ) × IsLinted name input (findings_of input width) text × holds text
+
+-- A fact of the text for the words as the program is called with them, with whether nothing is found in the input.
 abbrev pub CallLints : List (List ℕ) → List ℕ → Bool → (List ℕ → Type 0) → Type 0
 CallLints words input clean holds = (name : List ℕ) × (width : ℕ) × AreLintWords words name width
     × Lints name width input clean holds

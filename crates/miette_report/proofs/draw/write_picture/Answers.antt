@@ -3,12 +3,12 @@ use Rattle.miette_report.specs.views.Device.{TakesBeginning}
 use Rattle.std.specs.Io.KnownBytes.{Appends}
 use Rattle.miette_report.proofs.draw.write_picture.Goals as goal
 
-pub returns-in-Ok-write_whole-clause-ok : goal.returns-in-Ok-write_whole-clause-ok
-returns-in-Ok-write_whole-clause-ok g c =
+pub returns-clause-ok : goal.returns-clause-ok
+returns-clause-ok g c =
     told _ _ _ _ _ _ _ _ _ (Appends (g.W.Write.contents c.args.writer.now.inner) (g.W.Write.contents c.write_whole.new.writer.inner))
-    c.in-Ok.ensures.bytes c.in-Ok-picture.ensures.ok c.as_bytes.ensures.value c.in-Ok-write_whole.ensures.ok
+    c.in_ok-input.ensures.bytes c.in-Ok.ensures.ok c.as_bytes.ensures.value c.in_ok-write_whole.ensures.ok
 
-pub returns-clause-beginning : goal.returns-clause-beginning
-returns-clause-beginning g c = λ fault.
+pub returns-in_err-write_whole-clause-beginning : goal.returns-in_err-write_whole-clause-beginning
+returns-in_err-write_whole-clause-beginning g c = λ fault.
     told _ _ _ _ _ _ _ _ _ (TakesBeginning (g.W.Write.contents c.args.writer.now.inner) (g.W.Write.contents c.write_whole.new.writer.inner))
-    c.in-Ok.ensures.bytes c.in-Ok-picture.ensures.ok c.as_bytes.ensures.value c.in-Err.ensures.err
+    c.in_ok-input.ensures.bytes c.in-Ok.ensures.ok c.as_bytes.ensures.value c.in_err-write_whole.ensures.err

@@ -1,0 +1,112 @@
+//! Why a program fails, the row that says so, and the status that it ends with.
+
+ghost use Rattle.std.specs.Prelude.{◌≡◌, OnOk};
+ghost use Rattle.std.specs.Io.KnownBytes.{Appends};
+ghost use Rattle.miette_report.specs.rules.Faults.{fault_row, name_of, status_of, usage_of};
+
+use std::alloc::AllocError;
+use std::io;
+use std::io::Write;
+
+/// Why a program, or a part of its work, ended without its text.
+#[derive(Clone, Copy, Debug, PartialEq, Eq)]
+pub enum Fault {
+    /// The words are not those that the program takes.
+    Usage,
+    /// Memory was refused.
+    Memory,
+    /// The reader failed.
+    Read,
+    /// The writer failed. It has taken a beginning of the text.
+    Write,
+    /// What was read describes no report.
+    Description,
+    /// The chosen handler refused the report.
+    Refused,
+}
+
+impl From<AllocError> for Fault {
+    ghost use Rattle.std.specs.Prelude.{◌≡◌};
+    ghost use Rattle.miette_report.specs.declared.fault.Fault.TheVariants.{Memory};
+
+    ghost from_gives = { λ _ fault. fault ≡ Memory };
+
+    fn from(_refused: AllocError) -> Fault {
+        Fault::Memory
+    }
+}
+
+/// One of the programs.
+#[derive(Clone, Copy, Debug, PartialEq, Eq)]
+pub enum Program {
+    /// Draws one label on a source.
+    Draw,
+    /// Prints the report of a description.
+    Job,
+    /// Renders one report many times.
+    Bench,
+    /// Labels what is amiss in the lines of a source.
+    Lint,
+}
+
+impl Program {
+    /// Its name.
+    fn name(self) -> &'static str
+        ensures { result.now ≡ name_of self }
+    {
+        match self {
+            Program::Draw => "draw",
+            Program::Job => "job",
+            Program::Bench => "bench",
+            Program::Lint => "lint",
+        }
+    }
+
+    /// The words that it takes.
+    fn usage(self) -> &'static str
+        ensures { result.now ≡ usage_of self }
+    {
+        match self {
+            Program::Draw => "NAME OFFSET LENGTH LABEL MESSAGE",
+            Program::Job => "[OPTIONS]",
+            Program::Bench => "N [OPTIONS]",
+            Program::Lint => "NAME WIDTH",
+        }
+    }
+
+    /// The status that it ends with: of `lint` always 2, since 1 says that something is found.
+    fn status(self, fault: Fault) -> u8
+        ensures { result ≡ status_of self fault }
+    {
+        match (self, fault) {
+            (Program::Lint, _) | (_, Fault::Usage) => 2,
+            (_, Fault::Memory | Fault::Read | Fault::Write) => 1,
+            (_, Fault::Description) => 3,
+            (_, Fault::Refused) => 4,
+        }
+    }
+
+    /// Prints the row that says why it fails.
+    fn tell<F: Write>(self, fault: Fault, faults: &mut F) -> io::Result<()>
+        ensures row { OnOk result (Appends (F.contents faults.old) (F.contents faults.new) (fault_row self fault)) }
+    {
+        let name = self.name();
+        let usage = self.usage();
+        match fault {
+            Fault::Usage => writeln!(faults, "usage: {name} {usage}"),
+            Fault::Memory => writeln!(faults, "{name}: out of memory"),
+            Fault::Read => writeln!(faults, "{name}: read fault"),
+            Fault::Write => writeln!(faults, "{name}: write fault"),
+            Fault::Description => writeln!(faults, "{name}: bad description"),
+            Fault::Refused => writeln!(faults, "{name}: report refused"),
+        }
+    }
+
+    /// Prints why it fails, and gives the status. Faults of `faults` are ignored.
+    pub(crate) fn end<F: Write + Drop>(self, fault: Fault, mut faults: F) -> u8
+        ensures { result ≡ status_of self fault }
+    {
+        let _ = self.tell(fault, &mut faults);
+        self.status(fault)
+    }
+}
