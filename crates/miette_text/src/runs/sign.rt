@@ -9,7 +9,7 @@ use std::alloc::{AllocError, Global};
 use std::rc::Rc;
 
 // How many marks are looked at for a sign that prints the same.
-const RECENT: usize = 8;
+const RECENT: usize = 16;
 
 /// Where a style begins or ends, or another whole sequence for the terminal. A sign has no columns.
 #[derive(Debug, Drop)]
