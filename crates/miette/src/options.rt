@@ -94,9 +94,12 @@ impl<H> Model for MietteHandlerOpts<H> {
 }
 
 impl<H> Default for MietteHandlerOpts<H> {
-    fn default() -> Self
-        ensures { result ≡ no_options }
-    {
+    ghost use Rattle.std.specs.Prelude.{◌≡◌};
+    ghost use Rattle.miette.specs.rules.Options.{no_options};
+
+    ghost is_default = { λ it. it ≡ no_options };
+
+    fn default() -> Self {
         MietteHandlerOpts {
             force_narrated: None,
             force_graphical: None,

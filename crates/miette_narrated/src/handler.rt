@@ -60,10 +60,14 @@ impl Clone for NarratableReportHandler {
     }
 }
 
+/// As `new`.
 impl Default for NarratableReportHandler {
-    fn default() -> Self
-        ensures { result ≡ default_settings }
-    {
+    ghost use Rattle.std.specs.Prelude.{◌≡◌};
+    ghost use Rattle.miette_narrated.specs.rules.Report.{default_settings};
+
+    ghost is_default = { λ it. it ≡ default_settings };
+
+    fn default() -> Self {
         NarratableReportHandler::new()
     }
 }
