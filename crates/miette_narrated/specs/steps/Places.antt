@@ -24,7 +24,7 @@ twice place bytes cs = if is_boundary bytes cs then place.twice else 0
 -- twice
 abbrev pub column_behind : Place → ℕ → List Character → ℕ
 column_behind place bytes cs = if is_boundary bytes cs
-  then place.column + str_width false (held place.held ++ begun bytes cs) else place.widths + widths (begun bytes cs)
+    then place.column + str_width false (held place.held ++ begun bytes cs) else place.widths + widths (begun bytes cs)
 
 -- from there on columns go on from the place's own
 abbrev pub IsPlace : List ℕ → Place → Type 0
@@ -32,5 +32,5 @@ IsPlace text place =
     (place.bytes ≤ length text)
     × (IsHeld place.held
     × ((more : ℕ) → column (place.bytes + more) (characters text)
-      + twice place more (characters (drop place.bytes text))
-        ≡ column_behind place more (characters (drop place.bytes text))))
+    + twice place more (characters (drop place.bytes text))
+    ≡ column_behind place more (characters (drop place.bytes text))))
