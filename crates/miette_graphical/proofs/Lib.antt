@@ -11,6 +11,7 @@ pub mod TextLaws
 pub mod Only
 pub mod Printed
 pub mod Paths
+pub mod Alike
 pub mod DrawnRows
 pub mod SnippetsFading
 pub mod Styled

@@ -10,13 +10,13 @@ use Rattle.miette_graphical.specs.laws.Paths.{Step, to_cause, to_related, at_cau
 
 -- ---- lists
 
-none : (p : Printed) → Contains [] p → ⊥
+pub none : (p : Printed) → Contains [] p → ⊥
 none p h = let below = h.1 in omega arith
 
 only_one : (q p : Printed) → Contains (q ∷ []) p → q ≡ p
 only_one q p h = elim (Contains-push_cases [] q p h) [ inl nowhere ↦ absurd (none p nowhere) | inr same ↦ same ]
 
-first_or_later : (q : Printed) (ps : List Printed) (p : Printed) → Contains (q ∷ ps) p → (q ≡ p) ⊎ Contains ps p
+pub first_or_later : (q : Printed) (ps : List Printed) (p : Printed) → Contains (q ∷ ps) p → (q ≡ p) ⊎ Contains ps p
 first_or_later q ps p h = elim (Contains-append_cases (q ∷ []) ps p h) [ inl here ↦ inl (only_one q p here) | inr later ↦ inr later ]
 
 first : (q : Printed) (ps : List Printed) (p : Printed) → q ≡ p → Contains (q ∷ ps) p

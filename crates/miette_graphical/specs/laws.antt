@@ -2,4 +2,5 @@
 pub mod Clean
 pub mod Colourless
 pub mod Paths
+pub mod Alike
 pub mod Headline

@@ -5,6 +5,7 @@ ghost use Rattle.std.specs.Prelude.{◌≡◌, ℕ, Bool, List, Some, encode_utf
 ghost use Rattle.miette_graphical.specs.rules.Answered.{IsTextOf};
 ghost use Rattle.miette_graphical.specs.rules.Answers.{Answers, unlisted};
 ghost use Rattle.miette_graphical.specs.laws.Clean.{AreCleanSettings, IsCleanTree};
+ghost use Rattle.miette_graphical.specs.laws.Alike.{AreAnsweredAlike, AreDrawnAlike};
 ghost use Rattle.miette_graphical.specs.laws.Colourless.{AreSnippets, IsColouredText, colourless, unhighlighted};
 ghost use Rattle.std.specs.List.{AllByRecursion, Contains};
 ghost use Rattle.miette_graphical.specs.laws.Headline.{LinesAreShown, MarksAreApart, TextsHang};
@@ -91,4 +92,14 @@ pub fn paths_law()
     ensures named { (s : Settings) (t : Tree) (p : Printed) → Contains (printed s t) p → HasPath s t p }
     ensures only { (s : Settings) (t : Tree) (path : List Step) (p : Printed) → printed_at s t path ≡ Some p →
         Contains (printed s t) p }
+{}
+
+/// Of no diagnostic but the printed ones does a report's text hold a snippet: rows that are the same for each of them
+/// give the same text, whatever they are for other sources and labels, and so do answers that are the same at each
+/// path at which a diagnostic is printed.
+pub fn printed_law()
+    ensures rows { (rows others : SnippetRows) (s : Settings) (t : Tree) (a : Answers) →
+        AllByRecursion (AreDrawnAlike rows others) (printed s t) → report_text rows s t a ≡ report_text others s t a }
+    ensures answers { (rows : SnippetRows) (s : Settings) (t : Tree) (a b : Answers) → AreAnsweredAlike s t a b →
+        report_text rows s t a ≡ report_text rows s t b }
 {}

@@ -1,0 +1,31 @@
+-- Rows that are the same for a printed diagnostic, and answers that are the same where a diagnostic is printed.
+use Rattle.std.specs.Prelude.{◌≡◌, ℕ, zero, suc, List, [], ◌∷◌, Some}
+use Rattle.miette_tree.specs.rules.Parts.{given_labels}
+use Rattle.miette_tree.specs.rules.Tree.{Tree}
+use Rattle.miette_graphical.specs.rules.Settings.{Settings}
+use Rattle.miette_graphical.specs.rules.Answers.{Answer, Answers, RelatedAnswers, own_answer, cause_answers}
+use Rattle.miette_graphical.specs.rules.Answers.{related_answers, first_answers, later_answers}
+use Rattle.miette_graphical.specs.rules.Parts.{SnippetRows}
+use Rattle.miette_graphical.specs.rules.Printed.{Printed}
+use Rattle.miette_graphical.specs.laws.Paths.{Step, to_cause, to_related, printed_at}
+
+-- over the diagnostic's source and by its labels, in every settings and under every answer
+abbrev pub AreDrawnAlike : SnippetRows → SnippetRows → Printed → Type 0
+AreDrawnAlike rows others p = (s : Settings) (a : Answer) →
+    rows s p.source (given_labels p.meaning.labels) a ≡ others s p.source (given_labels p.meaning.labels) a
+
+-- the answers of the related report with this number
+abbrev pub numbered_answers : RelatedAnswers → ℕ → Answers
+numbered_answers more zero = first_answers more
+numbered_answers more (suc k) = numbered_answers (later_answers more) k
+
+-- the answer of the diagnostic at a path
+abbrev pub answer_at : Answers → List Step → Answer
+answer_at a [] = own_answer a
+answer_at a (to_cause ∷ path) = answer_at (cause_answers a) path
+answer_at a (to_related k ∷ path) = answer_at (numbered_answers (related_answers a) k) path
+
+-- at each path at which a diagnostic is printed
+abbrev pub AreAnsweredAlike : Settings → Tree → Answers → Answers → Type 0
+AreAnsweredAlike s t a b = (path : List Step) (p : Printed) → printed_at s t path ≡ Some p →
+    answer_at a path ≡ answer_at b path
