@@ -1,9 +1,8 @@
 //! All rows of one line.
 
-ghost use Rattle.std.specs.Prelude.{◌≡◌, ◌++◌, ◌+◌, ◌^◌, ◌<◌, ◌∷◌, [], false, map, length, OnOk};
+ghost use Rattle.std.specs.Prelude.{◌≡◌, ◌++◌, ◌+◌, ◌^◌, ◌<◌, ◌∷◌, [], map, length, OnOk};
 ghost use Rattle.std.specs.List.{All};
 ghost use Rattle.miette_layout.specs.rules.PrintedCells.{printed, cells_within, cells_beyond, line_runs};
-ghost use Rattle.miette_lines.specs.rules.Cells.{cells_from, characters};
 ghost use Rattle.miette_layout.specs.rules.Marks.{marks};
 ghost use Rattle.miette_layout.specs.rules.Drawing.{marked_rows};
 ghost use Rattle.miette_layout.specs.rules.Frames.{number_start};
@@ -11,21 +10,20 @@ ghost use Rattle.miette_layout.specs.rules.Layout.{before_each, line_rows_of, te
 ghost use Rattle.miette_layout.specs.views.Told.{told, told_rows, text_told};
 ghost use Rattle.miette_layout.specs.views.TellingCells.{cells_told, highlight_of};
 ghost use Rattle.miette_lines.specs.views.Walking.{cell_of};
-ghost use Rattle.miette_lines.specs.views.Given.{drawn_of, width_of};
 ghost use Rattle.miette_layout.specs.views.Made.{mark_of};
-ghost use Rattle.miette_layout.specs.views.Sheets.{settings, multi_labels, before_marks, number_row};
+ghost use Rattle.miette_layout.specs.views.Sheets.{settings, multi_labels, before_marks, number_row, shown_cells};
+ghost use Rattle.miette_layout.specs.views.Sheets.{labels_alone};
 ghost use Rattle.miette_lines.specs.views.TextLines.{line_of_text};
 
 use crate::closings::push_closings;
 use crate::gutters::push_number_gutter;
 use crate::marks::{Mark, marks_on};
 use crate::page::{PLAIN, Page};
-use crate::sheet::Sheet;
+use crate::sheet::{Sheet, ShownLine};
 use crate::strokes::push_marks;
 use crate::texts::{push_before_marks, push_texts};
 use miette_lines::cells::{Cell, Walk};
 use miette_lines::plain::printable;
-use miette_lines::sweep::Placed;
 use miette_style::style::Style;
 use std::alloc::{AllocError, Global};
 
@@ -98,46 +96,31 @@ fn push_line_text(
 }
 
 // The line's text: as it is where it's printable ASCII and in no highlighter's pieces, else character by character.
-fn push_text(
-    page: &mut Page,
-    sheet: &Sheet,
-    text: &[u8],
-    pieces: &[(usize, Style)],
-) -> Result<(), AllocError>
-    requires { sheet.now.line.start + length text.now < 2 ^ 64 }
+fn push_text(page: &mut Page, sheet: &Sheet, shown: &ShownLine) -> Result<(), AllocError>
+    requires { sheet.now.line.start + length shown.now.text.now < 2 ^ 64 }
     ensures { OnOk result (page.new ≡ page.old
-        ++ told (line_runs (map highlight_of pieces.now)
-        (cells_from width_of sheet.now.options.tab_width false sheet.now.line.start 0 (characters text.now)))) }
+        ++ told (line_runs (map highlight_of shown.now.pieces.now) (shown_cells sheet.now shown.now))) }
 {
-    if pieces.is_empty() {
-        if let Some(plain) = printable(text) {
+    if shown.pieces.is_empty() {
+        if let Some(plain) = printable(shown.text) {
             page.begin(PLAIN)?;
             page.push_str(plain)?;
             return Ok(());
         }
     }
-    let mut walk = Walk::new(text, sheet.line.start, sheet.options.tab_width);
-    push_line_text(page, &mut walk, pieces)?;
+    let mut walk = Walk::new(shown.text, sheet.line.start, sheet.options.tab_width);
+    push_line_text(page, &mut walk, shown.pieces)?;
     Ok(())
 }
 
 // The number row: ` 12 │ ╭─▶ the line's text`.
-fn push_number_row(
-    page: &mut Page,
-    sheet: &Sheet,
-    number: usize,
-    text: &[u8],
-    pieces: &[(usize, Style)],
-) -> Result<(), AllocError>
-    requires { sheet.now.line.start + length text.now < 2 ^ 64 }
-    ensures { OnOk result (page.new ≡ page.old
-        ++ told_rows (number_row sheet.now number
-        (cells_from width_of sheet.now.options.tab_width false sheet.now.line.start 0 (characters text.now))
-        (map highlight_of pieces.now) ∷ [])) }
+fn push_number_row(page: &mut Page, sheet: &Sheet, shown: &ShownLine) -> Result<(), AllocError>
+    requires { sheet.now.line.start + length shown.now.text.now < 2 ^ 64 }
+    ensures { OnOk result (page.new ≡ page.old ++ told_rows (number_row sheet.now shown.now ∷ [])) }
 {
-    push_number_start(page, sheet, number)?;
+    push_number_start(page, sheet, shown.number)?;
     push_number_gutter(page, sheet)?;
-    push_text(page, sheet, text, pieces)?;
+    push_text(page, sheet, shown)?;
     page.end_row()?;
     Ok(())
 }
@@ -164,46 +147,45 @@ fn push_one_line_labels(
     alloc: Global,
     page: &mut Page,
     sheet: &Sheet,
-    text: &[u8],
-    one: &[Placed],
+    shown: &ShownLine,
 ) -> Result<(), AllocError>
-    requires { sheet.now.line.start + length text.now < 2 ^ 64 }
+    requires { sheet.now.line.start + length shown.now.text.now < 2 ^ 64 }
     ensures { OnOk result (page.new ≡ page.old ++ told_rows (before_each (before_marks sheet.now)
         (marked_rows (settings sheet.now).width (settings sheet.now).characters
-        (marks (text_of_cells (cells_from width_of sheet.now.options.tab_width false sheet.now.line.start 0
-        (characters text.now)) sheet.now.line.text_end) (map (drawn_of sheet.now.labels.now) one.now))))) }
+        (marks (text_of_cells (shown_cells sheet.now shown.now) sheet.now.line.text_end)
+        (labels_alone sheet.now shown.now))))) }
 {
-    if one.is_empty() {
+    if shown.one.is_empty() {
         return Ok(());
     }
-    let marks = marks_on(alloc, &sheet.line, text, sheet.options.tab_width, one)?;
+    let marks = marks_on(
+        alloc,
+        &sheet.line,
+        shown.text,
+        sheet.options.tab_width,
+        shown.one,
+    )?;
     push_marked_rows(page, sheet, &marks)?;
     Ok(())
 }
 
-/// The rows of the sheet's line, which has this number and whose text has these bytes: the number row, the marks and
-/// texts of the labels that lie on it alone, and the texts of the labels of several lines that end there.
-///
-/// `one` are the labels that lie on the line alone, by offset; `pieces` are a highlighter's, each a length in bytes
-/// and a style. `AllocError` where memory is refused, or a column is past the largest `usize`.
+/// The rows of the sheet's line: the number row, the marks and texts of the labels that lie on it alone, and the texts
+/// of the labels of several lines that end there. `AllocError` where memory is refused, or a column is past the
+/// largest `usize`.
 pub fn push_line_rows(
     alloc: Global,
     page: &mut Page,
     sheet: &Sheet,
-    number: usize,
-    text: &[u8],
-    one: &[Placed],
-    pieces: &[(usize, Style)],
+    shown: &ShownLine,
 ) -> Result<(), AllocError>
-    requires { sheet.now.line.start + length text.now < 2 ^ 64 }
+    requires { sheet.now.line.start + length shown.now.text.now < 2 ^ 64 }
     ensures { OnOk result (page.new ≡ page.old
         ++ told_rows (line_rows_of (settings sheet.now) sheet.now.number_width sheet.now.gutter
-        (map (drawn_of sheet.now.labels.now) one.now) (multi_labels sheet.now)
-        (line_of_text sheet.now.line) number (cells_from width_of sheet.now.options.tab_width false sheet.now.line.start
-        0 (characters text.now)) (map highlight_of pieces.now))) }
+        (labels_alone sheet.now shown.now) (multi_labels sheet.now) (line_of_text sheet.now.line) shown.now.number
+        (shown_cells sheet.now shown.now) (map highlight_of shown.now.pieces.now))) }
 {
-    push_number_row(page, sheet, number, text, pieces)?;
-    push_one_line_labels(alloc, page, sheet, text, one)?;
+    push_number_row(page, sheet, shown)?;
+    push_one_line_labels(alloc, page, sheet, shown)?;
     push_closings(page, sheet)?;
     Ok(())
 }

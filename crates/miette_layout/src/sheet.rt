@@ -6,6 +6,7 @@ use crate::options::LayoutOptions;
 use miette_lines::sweep::Placed;
 use miette_lines::text_line::LineOfText;
 use miette_protocol::protocol::LabeledSpan;
+use miette_style::style::Style;
 use miette_style::theme::GraphicalTheme;
 
 /// What all rows of a line are drawn with.
@@ -25,4 +26,17 @@ pub struct Sheet<'a> {
     pub labels: &'a [LabeledSpan],
     /// The labels of several lines that lie on the line, by offset.
     pub multi: &'a [Placed],
+}
+
+/// A line as its own rows show it.
+#[derive(Clone, Copy)]
+pub struct ShownLine<'a> {
+    /// Its number, counted from 1.
+    pub number: usize,
+    /// The bytes of its text.
+    pub text: &'a [u8],
+    /// The labels that lie on it alone, by offset.
+    pub one: &'a [Placed],
+    /// A highlighter's pieces of its text, each a length in bytes and a style.
+    pub pieces: &'a [(usize, Style)],
 }

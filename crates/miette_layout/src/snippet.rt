@@ -35,7 +35,7 @@ use crate::highlighting::{pieces_of, restart};
 use crate::line::push_line_rows;
 use crate::options::LayoutOptions;
 use crate::page::Page;
-use crate::sheet::Sheet;
+use crate::sheet::{Sheet, ShownLine};
 use itoa::Buffer;
 use miette_lines::line_sweep::{extent_of, line_at};
 use miette_lines::sweep::{Bounds, Placed, Sweep, advance};
@@ -186,7 +186,13 @@ fn push_lines<'a, H: Highlighter>(
         };
         let text = &body.bytes[line.start - body.start..line.text_end - body.start];
         let pieces = pieces_of(drawing.alloc, highlighter, text)?;
-        push_line_rows(drawing.alloc, page, &sheet, number, text, &one, &pieces)?;
+        let shown = ShownLine {
+            number,
+            text,
+            one: &one,
+            pieces: &pieces,
+        };
+        push_line_rows(drawing.alloc, page, &sheet, &shown)?;
         sweep.leave(line.end);
         before = number;
         at = line.end - body.start;

@@ -31,6 +31,13 @@ const MORE_BYTES: usize = 256;
 
 const MARKS: usize = 64;
 
+// How snippets look: a theme's characters and styles, and the layout.
+#[derive(Clone, Copy)]
+struct Look<'a> {
+    theme: &'a GraphicalTheme,
+    options: LayoutOptions,
+}
+
 // The bare name of a reason.
 fn name_of(refusal: Refusal) -> &'static str
     ensures { result.now ≡ name_of_reason refusal }
@@ -56,27 +63,26 @@ fn page_for(alloc: Global, groups: &[Group<'_>]) -> Result<Page, AllocError>
 fn read_snippets<'a, 'b, S: SourceCode, H: Highlighter>(
     alloc: Global,
     highlighter: &mut Option<H>,
-    theme: &'b GraphicalTheme,
-    options: &LayoutOptions,
+    look: &Look<'b>,
     source: &'a S,
     labels: &'b [LabeledSpan],
     reads: &[ReadLabel<'a>],
 ) -> Result<Option<Page>, AllocError>
     requires order { map (λ read. label_at labels.now read.index) reads.now ≡ in_order labels.now }
-    requires each { All (IsRead options.now.context_lines (S.source source.now) labels.now) reads.now }
-    ensures gives { IfOk result (λ page. MayGive (settings_of theme.now options.now) (S.source source.now) labels.now
-        (leaves_plain H.is_blank highlighter.old) page) }
+    requires each { All (IsRead look.now.options.context_lines (S.source source.now) labels.now) reads.now }
+    ensures gives { IfOk result (λ page. MayGive (settings_of look.now.theme.now look.now.options)
+        (S.source source.now) labels.now (leaves_plain H.is_blank highlighter.old) page) }
     ensures stays { leaves_plain H.is_blank highlighter.new ≡ leaves_plain H.is_blank highlighter.old }
 {
-    let placed = placed(alloc, &theme.styles.highlights, labels, reads)?;
-    let Some(groups) = groups(alloc, source, options.context_lines, labels, reads)? else {
+    let placed = placed(alloc, &look.theme.styles.highlights, labels, reads)?;
+    let Some(groups) = groups(alloc, source, look.options.context_lines, labels, reads)? else {
         return Ok(None);
     };
     let own = some_own(labels);
     let drawing = Drawing {
         alloc,
-        theme,
-        options: *options,
+        theme: look.theme,
+        options: look.options,
         labels,
         placed: &placed,
     };
@@ -107,24 +113,23 @@ fn read_snippets<'a, 'b, S: SourceCode, H: Highlighter>(
 fn all_snippets<'b, S: SourceCode, H: Highlighter>(
     alloc: Global,
     highlighter: &mut Option<H>,
-    theme: &'b GraphicalTheme,
-    options: &LayoutOptions,
+    look: &Look<'b>,
     source: &S,
     labels: &'b [LabeledSpan],
 ) -> Result<Option<Page>, AllocError>
-    ensures gives { IfOk result (λ page. MayGive (settings_of theme.now options.now) (S.source source.now) labels.now
-        (leaves_plain H.is_blank highlighter.old) page) }
+    ensures gives { IfOk result (λ page. MayGive (settings_of look.now.theme.now look.now.options)
+        (S.source source.now) labels.now (leaves_plain H.is_blank highlighter.old) page) }
     ensures stays { leaves_plain H.is_blank highlighter.new ≡ leaves_plain H.is_blank highlighter.old }
 {
     let order = by_offset(alloc, labels)?;
-    match read_labels(alloc, source, options.context_lines, labels, &order)? {
+    match read_labels(alloc, source, look.options.context_lines, labels, &order)? {
         ReadLabels::All(reads) => {
-            read_snippets(alloc, highlighter, theme, options, source, labels, &reads)
+            read_snippets(alloc, highlighter, look, source, labels, &reads)
         }
         ReadLabels::Refused(index, refusal) => {
             let frame = Frame {
-                theme,
-                options: *options,
+                theme: look.theme,
+                options: look.options,
                 number_width: 0,
             };
             let mut page = Page::new(alloc);
@@ -155,7 +160,11 @@ pub fn snippets<'b, S: SourceCode, H: Highlighter>(
         (leaves_plain H.is_blank highlighter.old) e) }
     ensures stays { leaves_plain H.is_blank highlighter.new ≡ leaves_plain H.is_blank highlighter.old }
 {
-    match all_snippets(alloc, highlighter, theme, options, source, labels) {
+    let look = Look {
+        theme,
+        options: *options,
+    };
+    match all_snippets(alloc, highlighter, &look, source, labels) {
         Ok(Some(page)) => Ok(page),
         Ok(None) => Err(RenderError::Refused),
         Err(_) => Err(RenderError::Memory),

@@ -6,7 +6,7 @@ use miette_layout::frame::{Frame, push_bottom_row, push_refused_row, push_top_ro
 use miette_layout::line::push_line_rows;
 use miette_layout::options::LayoutOptions;
 use miette_layout::page::{PLAIN, Page, Part};
-use miette_layout::sheet::Sheet;
+use miette_layout::sheet::{Sheet, ShownLine};
 use miette_lines::sweep::Placed;
 use miette_lines::text_line::LineOfText;
 use miette_protocol::protocol::LabeledSpan;
@@ -120,10 +120,12 @@ fn draw(alloc: Global, drawn: &Drawn) -> Result<String, AllocError>
         alloc,
         &mut page,
         &sheet,
-        drawn.number,
-        drawn.text,
-        drawn.one,
-        &[],
+        &ShownLine {
+            number: drawn.number,
+            text: drawn.text,
+            one: drawn.one,
+            pieces: &[],
+        },
     )?;
     text_of(alloc, &page)
 }

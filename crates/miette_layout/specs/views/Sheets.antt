@@ -1,17 +1,18 @@
 -- What a sheet stands for.
-use Rattle.std.specs.Prelude.{ℕ, List, [], ◌∷◌, ◌++◌, map}
+use Rattle.std.specs.Prelude.{ℕ, List, [], ◌∷◌, ◌++◌, map, false}
 use Rattle.miette_layout.specs.declared.sheet.Sheet.{Sheet}
+use Rattle.miette_layout.specs.declared.sheet.ShownLine.{ShownLine}
 use Rattle.miette_layout.specs.rules.Rows.{Row}
 use Rattle.miette_layout.specs.rules.Marks.{Mark}
 use Rattle.miette_layout.specs.rules.Drawing.{text_row}
 use Rattle.miette_lines.specs.rules.Labels.{DrawnLabel}
 use Rattle.miette_layout.specs.views.ThemeSettings.{settings_of}
-use Rattle.miette_lines.specs.views.Given.{drawn_of}
+use Rattle.miette_lines.specs.views.Given.{drawn_of, width_of}
 use Rattle.miette_layout.specs.rules.Gutters.{number_gutter, other_gutter, open_gutter, part_run}
 use Rattle.miette_layout.specs.rules.Frames.{Settings, number_start, other_start}
 use Rattle.miette_layout.specs.rules.PrintedCells.{line_runs}
-use Rattle.miette_lines.specs.rules.Cells.{Cell}
-use Rattle.miette_lines.specs.rules.Answers.{Highlight}
+use Rattle.miette_lines.specs.rules.Cells.{Cell, cells_from, characters}
+use Rattle.miette_layout.specs.views.TellingCells.{highlight_of}
 use Rattle.miette_lines.specs.views.TextLines.{line_of_text}
 
 abbrev pub settings : Sheet → Settings
@@ -48,9 +49,18 @@ open_line sheet columns label part =
     ++ (open_gutter (settings sheet).width (settings sheet).characters (line_of_text sheet.line) columns
     (multi_labels sheet) ++ part_run (settings sheet).width label (settings sheet).characters.vbar part ∷ [])
 
+-- the cells of the line's text
+abbrev pub shown_cells : Sheet → ShownLine → List Cell
+shown_cells sheet shown =
+    cells_from width_of sheet.options.tab_width false sheet.line.start 0 (characters shown.text.now)
+
+-- the labels that lie on the line alone, with their texts
+abbrev pub labels_alone : Sheet → ShownLine → List DrawnLabel
+labels_alone sheet shown = map (drawn_of sheet.labels.now) shown.one.now
+
 -- the number row of the line
-abbrev pub number_row : Sheet → ℕ → List Cell → List Highlight → Row
-number_row sheet number cells pieces =
-    number_start (settings sheet) sheet.number_width number
+abbrev pub number_row : Sheet → ShownLine → Row
+number_row sheet shown =
+    number_start (settings sheet) sheet.number_width shown.number
     ++ number_gutter (settings sheet).width (settings sheet).characters (line_of_text sheet.line) sheet.gutter
-    (multi_labels sheet) ++ line_runs pieces cells
+    (multi_labels sheet) ++ line_runs (map highlight_of shown.pieces.now) (shown_cells sheet shown)

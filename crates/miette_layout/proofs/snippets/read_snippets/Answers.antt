@@ -20,48 +20,48 @@ use Rattle.miette_layout.proofs.Progressing.{none_drawn, drawn_more, all_drawn, 
 use Rattle.miette_layout.proofs.snippets.read_snippets.Goals as goal
 
 pub near-requires : goal.near-requires
-near-requires g c = reads_rise c.args.options.now.context_lines (g.S.SourceCode.source c.args.source.now) c.args.labels.now c.args.reads.now c.requires.order c.requires.each
+near-requires g c = reads_rise c.args.look.now.options.context_lines (g.S.SourceCode.source c.args.source.now) c.args.labels.now c.args.reads.now c.requires.order c.requires.each
 
 pub returns-then-is_unread-clause-gives : goal.returns-then-is_unread-clause-gives
 returns-then-is_unread-clause-gives g c =
-    let grouped : AreGroups c.args.options.now.context_lines (g.S.SourceCode.source c.args.source.now) (in_order c.args.labels.now) c.deref-group-items.result.now =
-    are_grouped c.args.options.now.context_lines (g.S.SourceCode.source c.args.source.now) (in_order c.args.labels.now) _ c.in-Some.groups.items c.deref-group-items.result.now c.in_ok-groups.ensures (ap (option_map (λ v. v.items)) c.in-Some.is) c.deref-group-items.ensures.value in
-    gives_none (settings_of c.args.theme.now c.args.options.now) (g.S.SourceCode.source c.args.source.now) c.args.labels.now (leaves_plain g.H.Highlighter.is_blank c.args.highlighter.now) c.some_own-own.result c.args.reads.now c.deref-group-items.result.now c.loop-group.group-index c.group-item.result.span c.in_ok-place.place
+    let grouped : AreGroups c.args.look.now.options.context_lines (g.S.SourceCode.source c.args.source.now) (in_order c.args.labels.now) c.deref-group-items.result.now =
+    are_grouped c.args.look.now.options.context_lines (g.S.SourceCode.source c.args.source.now) (in_order c.args.labels.now) _ c.in-Some.groups.items c.deref-group-items.result.now c.in_ok-groups.ensures (ap (option_map (λ v. v.items)) c.in-Some.is) c.deref-group-items.ensures.value in
+    gives_none (settings_of c.args.look.now.theme.now c.args.look.now.options) (g.S.SourceCode.source c.args.source.now) c.args.labels.now (leaves_plain g.H.Highlighter.is_blank c.args.highlighter.now) c.some_own-own.result c.args.reads.now c.deref-group-items.result.now c.loop-group.group-index c.group-item.result.span c.in_ok-place.place
     c.requires.order c.requires.each grouped c.loop-group-test.true (subst (λ (o : Option Span). PointsTo (g.S.SourceCode.source c.args.source.now) o c.in_ok-place.place) c.in_ok-near.ensures c.in_ok-place.ensures) (sym c.is_unread.ensures ∙ c.if-is_unread.true)
 
 pub returns-in_default-clause-gives : goal.returns-in_default-clause-gives
 returns-in_default-clause-gives g c =
-    gives_unread (settings_of c.args.theme.now c.args.options.now) (g.S.SourceCode.source c.args.source.now) c.args.labels.now (leaves_plain g.H.Highlighter.is_blank c.args.highlighter.now) c.args.reads.now c.requires.order c.requires.each
-    (none_grouped c.args.options.now.context_lines (g.S.SourceCode.source c.args.source.now) (in_order c.args.labels.now) _ c.in_ok-groups.ensures (ap (option_map (λ v. v.items)) c.in_default.is))
+    gives_unread (settings_of c.args.look.now.theme.now c.args.look.now.options) (g.S.SourceCode.source c.args.source.now) c.args.labels.now (leaves_plain g.H.Highlighter.is_blank c.args.highlighter.now) c.args.reads.now c.requires.order c.requires.each
+    (none_grouped c.args.look.now.options.context_lines (g.S.SourceCode.source c.args.source.now) (in_order c.args.labels.now) _ c.in_ok-groups.ensures (ap (option_map (λ v. v.items)) c.in_default.is))
 
 pub push_snippet-requires-clause-sorted : goal.push_snippet-requires-clause-sorted
 push_snippet-requires-clause-sorted g c =
     subst (λ (ps : List Placed). AreSorted ps) (sym (c.deref-2.ensures.value ∙ c.in_ok-placed.ensures))
-    (placed_sorted c.deref.result.now c.args.options.now.context_lines (g.S.SourceCode.source c.args.source.now) c.args.labels.now c.args.reads.now c.requires.each c.requires.order)
+    (placed_sorted c.deref.result.now c.args.look.now.options.context_lines (g.S.SourceCode.source c.args.source.now) c.args.labels.now c.args.reads.now c.requires.each c.requires.order)
 
 pub loop-group-init : goal.loop-group-init
 loop-group-init g c = record {
-  drawn = none_drawn (settings_around (settings_of c.args.theme.now c.args.options.now) (in_order c.args.labels.now)) (g.S.SourceCode.source c.args.source.now) c.args.labels.now (leaves_plain g.H.Highlighter.is_blank c.args.highlighter.now) c.deref-group-items.result.now c.in_ok-page.page c.in_ok-page.ensures;
+  drawn = none_drawn (settings_around (settings_of c.args.look.now.theme.now c.args.look.now.options) (in_order c.args.labels.now)) (g.S.SourceCode.source c.args.source.now) c.args.labels.now (leaves_plain g.H.Highlighter.is_blank c.args.highlighter.now) c.deref-group-items.result.now c.in_ok-page.page c.in_ok-page.ensures;
   state = search rules;
   stays = refl;
 }
 
 pub loop-group-preserved : goal.loop-group-preserved
 loop-group-preserved g c =
-    let grouped : AreGroups c.args.options.now.context_lines (g.S.SourceCode.source c.args.source.now) (in_order c.args.labels.now) c.deref-group-items.result.now =
-    are_grouped c.args.options.now.context_lines (g.S.SourceCode.source c.args.source.now) (in_order c.args.labels.now) _ c.in-Some.groups.items c.deref-group-items.result.now c.in_ok-groups.ensures (ap (option_map (λ v. v.items)) c.in-Some.is) c.deref-group-items.ensures.value in
+    let grouped : AreGroups c.args.look.now.options.context_lines (g.S.SourceCode.source c.args.source.now) (in_order c.args.labels.now) c.deref-group-items.result.now =
+    are_grouped c.args.look.now.options.context_lines (g.S.SourceCode.source c.args.source.now) (in_order c.args.labels.now) _ c.in-Some.groups.items c.deref-group-items.result.now c.in_ok-groups.ensures (ap (option_map (λ v. v.items)) c.in-Some.is) c.deref-group-items.ensures.value in
     let blank = leaves_plain g.H.Highlighter.is_blank c.args.highlighter.now in
-    let rows = subst (λ b. PutsRows b (lent_texts c.group-item.result.contents) (lent_snippet (settings_of c.args.theme.now c.args.options.now) (map (drawn_of c.args.labels.now) c.deref-2.result.now) c.group-item.result.contents (option_map place_at c.begins.result)) c.loop-group.page c.push_snippet.new.page)
+    let rows = subst (λ b. PutsRows b (lent_texts c.group-item.result.contents) (lent_snippet (settings_of c.args.look.now.theme.now c.args.look.now.options) (map (drawn_of c.args.labels.now) c.deref-2.result.now) c.group-item.result.contents (option_map place_at c.begins.result)) c.loop-group.page c.push_snippet.new.page)
     c.loop-group.invariant.stays c.in_ok-push_snippet.ensures.rows in
-    let around = puts_around (settings_of c.args.theme.now c.args.options.now) (group_context c.args.options.now.context_lines (in_order c.args.labels.now)) blank (lent_texts c.group-item.result.contents)
+    let around = puts_around (settings_of c.args.look.now.theme.now c.args.look.now.options) (group_context c.args.look.now.options.context_lines (in_order c.args.labels.now)) blank (lent_texts c.group-item.result.contents)
     (map (drawn_of c.args.labels.now) c.deref-2.result.now) c.group-item.result.contents (option_map place_at c.begins.result) c.loop-group.page c.push_snippet.new.page rows in
     record {
-      drawn = drawn_more (settings_around (settings_of c.args.theme.now c.args.options.now) (in_order c.args.labels.now)) (g.S.SourceCode.source c.args.source.now) c.args.labels.now blank c.deref-group-items.result.now c.loop-group.group-index c.group-item.result c.loop-group.page c.push_snippet.new.page
+      drawn = drawn_more (settings_around (settings_of c.args.look.now.theme.now c.args.look.now.options) (in_order c.args.labels.now)) (g.S.SourceCode.source c.args.source.now) c.args.labels.now blank c.deref-group-items.result.now c.loop-group.group-index c.group-item.result c.loop-group.page c.push_snippet.new.page
           (map (drawn_of c.args.labels.now) c.deref-2.result.now) (option_map place_at c.begins.result)
-          c.loop-group.invariant.drawn c.loop-group-test.true c.group-item.is (groups_lent c.args.options.now.context_lines (g.S.SourceCode.source c.args.source.now) (in_order c.args.labels.now) c.deref-group-items.result.now c.loop-group.group-index c.group-item.result grouped c.loop-group-test.true c.group-item.is)
-          (drawn_is c.args.theme.now.styles.highlights.items c.args.options.now.context_lines (g.S.SourceCode.source c.args.source.now) c.args.labels.now c.args.reads.now c.deref-2.result.now c.requires.order c.requires.each
+          c.loop-group.invariant.drawn c.loop-group-test.true c.group-item.is (groups_lent c.args.look.now.options.context_lines (g.S.SourceCode.source c.args.source.now) (in_order c.args.labels.now) c.deref-group-items.result.now c.loop-group.group-index c.group-item.result grouped c.loop-group-test.true c.group-item.is)
+          (drawn_is c.args.look.now.theme.now.styles.highlights.items c.args.look.now.options.context_lines (g.S.SourceCode.source c.args.source.now) c.args.labels.now c.args.reads.now c.deref-2.result.now c.requires.order c.requires.each
           (c.deref-2.ensures.value ∙ c.in_ok-placed.ensures ∙ ap (λ styles. placed_from styles c.args.labels.now 0 c.args.reads.now) c.deref.ensures.value))
-          (ap (option_map place_at) c.begins.ensures ∙ place_ordered c.args.options.now.context_lines (g.S.SourceCode.source c.args.source.now) c.args.labels.now c.some_own-own.result c.group-item.result.span c.args.reads.now c.in_ok-place.place c.some_own-own.ensures c.requires.order c.requires.each (subst (λ (o : Option Span). PointsTo (g.S.SourceCode.source c.args.source.now) o c.in_ok-place.place) c.in_ok-near.ensures c.in_ok-place.ensures)
+          (ap (option_map place_at) c.begins.ensures ∙ place_ordered c.args.look.now.options.context_lines (g.S.SourceCode.source c.args.source.now) c.args.labels.now c.some_own-own.result c.group-item.result.span c.args.reads.now c.in_ok-place.place c.some_own-own.ensures c.requires.order c.requires.each (subst (λ (o : Option Span). PointsTo (g.S.SourceCode.source c.args.source.now) o c.in_ok-place.place) c.in_ok-near.ensures c.in_ok-place.ensures)
           (sym c.is_unread.ensures ∙ c.if-is_unread.false))
           around;
       stays = c.push_snippet.ensures.stays ∙ c.loop-group.invariant.stays;
@@ -70,7 +70,7 @@ loop-group-preserved g c =
 
 pub returns-clause-gives : goal.returns-clause-gives
 returns-clause-gives g c =
-    let grouped : AreGroups c.args.options.now.context_lines (g.S.SourceCode.source c.args.source.now) (in_order c.args.labels.now) c.deref-group-items.result.now =
-    are_grouped c.args.options.now.context_lines (g.S.SourceCode.source c.args.source.now) (in_order c.args.labels.now) _ c.in-Some.groups.items c.deref-group-items.result.now c.in_ok-groups.ensures (ap (option_map (λ v. v.items)) c.in-Some.is) c.deref-group-items.ensures.value in
-    gives_rows (settings_of c.args.theme.now c.args.options.now) (g.S.SourceCode.source c.args.source.now) c.args.labels.now (leaves_plain g.H.Highlighter.is_blank c.args.highlighter.now) c.args.reads.now c.deref-group-items.result.now c.loop-group.page c.requires.order c.requires.each grouped
-    (all_drawn (settings_around (settings_of c.args.theme.now c.args.options.now) (in_order c.args.labels.now)) (g.S.SourceCode.source c.args.source.now) c.args.labels.now (leaves_plain g.H.Highlighter.is_blank c.args.highlighter.now) c.deref-group-items.result.now c.loop-group.group-index c.loop-group.page c.loop-group.invariant.drawn c.loop-group-test.false)
+    let grouped : AreGroups c.args.look.now.options.context_lines (g.S.SourceCode.source c.args.source.now) (in_order c.args.labels.now) c.deref-group-items.result.now =
+    are_grouped c.args.look.now.options.context_lines (g.S.SourceCode.source c.args.source.now) (in_order c.args.labels.now) _ c.in-Some.groups.items c.deref-group-items.result.now c.in_ok-groups.ensures (ap (option_map (λ v. v.items)) c.in-Some.is) c.deref-group-items.ensures.value in
+    gives_rows (settings_of c.args.look.now.theme.now c.args.look.now.options) (g.S.SourceCode.source c.args.source.now) c.args.labels.now (leaves_plain g.H.Highlighter.is_blank c.args.highlighter.now) c.args.reads.now c.deref-group-items.result.now c.loop-group.page c.requires.order c.requires.each grouped
+    (all_drawn (settings_around (settings_of c.args.look.now.theme.now c.args.look.now.options) (in_order c.args.labels.now)) (g.S.SourceCode.source c.args.source.now) c.args.labels.now (leaves_plain g.H.Highlighter.is_blank c.args.highlighter.now) c.deref-group-items.result.now c.loop-group.group-index c.loop-group.page c.loop-group.invariant.drawn c.loop-group-test.false)

@@ -9,7 +9,7 @@ use Rattle.miette_layout.proofs.snippets.read_snippets.Given as goal
 
 abbrev pub invariant-loop-group : goal.invariant-loop-group
 invariant-loop-group g l = record {
-  drawn : AreDrawn (settings_around (settings_of l.fn.theme l.fn.options) (in_order l.fn.labels)) (g.S.SourceCode.source l.fn.source) l.fn.labels (leaves_plain g.H.Highlighter.is_blank l.initial.highlighter) l.group-items l.group-index l.page;
+  drawn : AreDrawn (settings_around (settings_of l.fn.look.theme.now l.fn.look.options) (in_order l.fn.labels)) (g.S.SourceCode.source l.fn.source) l.fn.labels (leaves_plain g.H.Highlighter.is_blank l.initial.highlighter) l.group-items l.group-index l.page;
   state : IsAt l.drawing.placed.now l.passage.at l.passage.sweep.next l.passage.sweep.running.items;
   stays : leaves_plain g.H.Highlighter.is_blank l.highlighter ≡ leaves_plain g.H.Highlighter.is_blank l.initial.highlighter;
 }
