@@ -12,8 +12,8 @@ use Rattle.miette_lines.specs.rules.Around.{has_own, group_context}
 use Rattle.miette_lines.specs.rules.Groups.{refusal, joins_before, joined, groups_from, groups_answered, own_groups, groups_of, some_fails, groups_fail, in_order, spans_of}
 use Rattle.miette_layout.specs.rules.Highlighted.{EachHasPieces, SnippetsHavePieces, texts_of}
 use Rattle.miette_layout.specs.rules.Layout.{snippet_rows, rows_unless, rows_of_groups, settings_around, all_snippets}
-use Rattle.miette_layout.specs.rules.Rows.{Row}
-use Rattle.miette_layout.specs.views.Told.{Token, told_rows}
+use Rattle.miette_page.specs.rules.Rows.{Row}
+use Rattle.miette_page.specs.views.Told.{Token, told_rows}
 use Rattle.miette_graphical.specs.rules.Answers.{Answer, nothing_listed, pieces_listed}
 use Rattle.miette_graphical.specs.rules.Answered.{HasRows, HasPieces, IsAnswerOf, AreDrawn, IsDrawn}
 use Rattle.miette_graphical.specs.rules.Printed.{always_reads}

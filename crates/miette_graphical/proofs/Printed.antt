@@ -4,11 +4,11 @@ use Rattle.std.proofs.lemmas.Str.{chars-nil}
 use Rattle.miette_text.specs.rules.Runs.{print, printed_run}
 use Rattle.miette_style.specs.rules.Styles.{plain}
 use Rattle.miette_style.specs.declared.style.Style.{Style}
-use Rattle.miette_layout.specs.rules.Rows.{Row}
-use Rattle.miette_layout.specs.views.Told.{Token, begins, byte, row_end, bytes_told, told, told_rows}
-use Rattle.miette_layout.specs.views.PageParts.{part_told, begins_with_byte, EndsBefore}
-use Rattle.miette_layout.specs.declared.page.Part.{Part}
-use Rattle.miette_layout.specs.declared.page.Part.TheVariants as parts
+use Rattle.miette_page.specs.rules.Rows.{Row}
+use Rattle.miette_page.specs.views.Told.{Token, begins, byte, row_end, bytes_told, told, told_rows}
+use Rattle.miette_page.specs.views.PageParts.{part_told, begins_with_byte, EndsBefore}
+use Rattle.miette_page.specs.declared.page.Part.{Part}
+use Rattle.miette_page.specs.declared.page.Part.TheVariants as parts
 use Rattle.miette_graphical.specs.rules.Parts.{rows_text}
 use Rattle.miette_graphical.specs.views.Printing.{page_text_from, page_text, part_text}
 use Rattle.miette_graphical.specs.rules.Snippets.{run_text, runs_of_row}

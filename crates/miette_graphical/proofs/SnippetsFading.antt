@@ -17,7 +17,7 @@ use Rattle.miette_layout.specs.laws.Fading as fading
 use Rattle.miette_layout.specs.laws.Fading.{IsPlainRow}
 use Rattle.miette_layout.specs.rules.Frames as frames
 use Rattle.miette_layout.specs.rules.Layout.{snippet_rows}
-use Rattle.miette_layout.specs.rules.Rows.{Piece, Row, Run, pieces_of}
+use Rattle.miette_page.specs.rules.Rows.{Piece, Row, Run, pieces_of}
 use Rattle.miette_graphical.specs.rules.Answers.{Answer}
 use Rattle.miette_graphical.specs.laws.Clean.{AreCleanSettings, HaveNoEscapes}
 use Rattle.miette_graphical.specs.laws.Colourless.{AreSnippets, colourless, unhighlighted_answer}

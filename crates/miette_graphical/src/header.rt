@@ -8,7 +8,7 @@ ghost use Rattle.miette_graphical.specs.views.Modes.{urls_of};
 ghost use Rattle.miette_graphical.specs.views.SettingsView.{settings_of};
 
 use crate::settings::{Layout, UrlMode};
-use miette_layout::page::PLAIN;
+use miette_page::page::PLAIN;
 use miette_protocol::protocol::Severity;
 use miette_style::style::Style;
 use miette_text::runs::output::Output;

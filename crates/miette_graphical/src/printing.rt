@@ -3,7 +3,7 @@
 ghost use Rattle.std.specs.Prelude.{◌≡◌, ◌++◌, OnErr, OnOk, encode_utf8_all, string_bytes};
 ghost use Rattle.miette_graphical.specs.views.Printing.{page_text, part_text};
 
-use miette_layout::page::{Page, Part};
+use miette_page::page::{Page, Part};
 use miette_text::runs::output::Output;
 use std::alloc::{AllocError, Global};
 

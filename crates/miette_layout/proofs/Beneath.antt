@@ -8,7 +8,7 @@ use Rattle.std.proofs.lemmas.Bool.{eqb-true}
 use Rattle.std.proofs.lemmas.List.{map-append}
 use Rattle.std.specs.List.{AllByRecursion, range_with_len}
 use Rattle.miette_style.specs.declared.theme.ThemeCharacters.{ThemeCharacters}
-use Rattle.miette_layout.specs.rules.Rows.{Piece, Run, Row, pieces_of, columns_of, code_at, drawn, styled}
+use Rattle.miette_page.specs.rules.Rows.{Piece, Run, Row, pieces_of, columns_of, code_at, drawn, styled}
 use Rattle.miette_style.specs.rules.Styles.{plain}
 use Rattle.miette_protocol.specs.rules.Lines.{Line}
 use Rattle.miette_layout.specs.rules.PrintedCells.{line_runs}

@@ -16,7 +16,7 @@ use Rattle.miette_layout.specs.rules.PrintedCells.{printed, printed_cells, cells
 use Rattle.miette_lines.specs.rules.Cells.{Character, Cell, cells_from, characters, hides_next, width_at}
 use Rattle.miette_layout.specs.laws.Clean.{IsCleanCode, IsClean, IsCleanRow}
 use Rattle.miette_lines.specs.rules.Labels.{cut_at_lf, onto_part}
-use Rattle.miette_layout.specs.rules.Rows.{Piece, pieces_of, drawn}
+use Rattle.miette_page.specs.rules.Rows.{Piece, pieces_of, drawn}
 use Rattle.miette_layout.proofs.Telling.{codes_drawn}
 
 -- ---- joining and cutting

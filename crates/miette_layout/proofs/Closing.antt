@@ -6,13 +6,13 @@ use Rattle.miette_protocol.specs.rules.Lines.{Line}
 use Rattle.miette_protocol.specs.views.Meaning.{Label}
 use Rattle.miette_style.specs.declared.theme.ThemeCharacters.{ThemeCharacters}
 use Rattle.miette_lines.specs.declared.sweep.Placed.{Placed}
-use Rattle.miette_layout.specs.rules.Rows.{Row}
+use Rattle.miette_page.specs.rules.Rows.{Row}
 use Rattle.miette_lines.specs.rules.Labels.{DrawnLabel, starts_on, ends_on, cut_at_lf, closing}
 use Rattle.miette_layout.specs.rules.Gutters.{other_gutter, open_gutter, part_run, closing_parts, closing_rows}
 use Rattle.miette_layout.specs.rules.Layout.{before_each}
 use Rattle.miette_lines.specs.views.Given.{drawn_of}
 use Rattle.miette_lines.specs.views.Sweeping.{nothing}
-use Rattle.miette_layout.specs.views.Told.{Token, row_end, told, told_rows, run_told, text_told}
+use Rattle.miette_page.specs.views.Told.{Token, row_end, told, told_rows, run_told, text_told}
 use Rattle.miette_layout.proofs.Telling.{then, told_as, run_more, styled_row}
 use Rattle.miette_layout.proofs.Texting.{row_done, rows_then, parts_then}
 use Rattle.miette_layout.proofs.Parting.{cut_some}

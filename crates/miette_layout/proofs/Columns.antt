@@ -3,7 +3,7 @@ use Rattle.std.proofs.Common.{ℕ, zero, suc, ◌+◌, ◌-◌, ◌<◌, ◌≡�
 use Rattle.std.proofs.lemmas.Bool.{le-ltb, ne_eqb, eqb-true, eqb-false}
 use Rattle.std.specs.List.{range_with_len}
 use Rattle.miette_lines.proofs.Numbers.{by_cases}
-use Rattle.miette_layout.specs.rules.Rows.{Piece, columns_of, code_at}
+use Rattle.miette_page.specs.rules.Rows.{Piece, columns_of, code_at}
 
 pub code_at-here : (p : Piece) (row : List Piece) → p.columns ≡ 1 → code_at (p ∷ row) 0 ≡ Some p.code
 code_at-here p row one = rw one refl

@@ -4,7 +4,7 @@ use Rattle.std.proofs.lemmas.Bool.{lt-ltb, le-ltb, le-leb, lt-leb, and_right, ne
 use Rattle.std.proofs.lemmas.List.{map-append}
 use Rattle.std.specs.List.{range_with_len}
 use Rattle.miette_style.specs.declared.theme.ThemeCharacters.{ThemeCharacters}
-use Rattle.miette_layout.specs.rules.Rows.{Piece, Row, pieces_of, drawn, styled}
+use Rattle.miette_page.specs.rules.Rows.{Piece, Row, pieces_of, drawn, styled}
 use Rattle.miette_layout.specs.rules.Marks.{Mark, anchor, AreApart}
 use Rattle.miette_layout.specs.rules.Drawing.{mark_code, mark_runs, lead_runs, text_row, corner, corner_of_several, beside, rows_of_parts, rows_below}
 use Rattle.miette_layout.specs.laws.Pictures.{mark_at, marks_end}

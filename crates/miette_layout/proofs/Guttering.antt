@@ -7,14 +7,14 @@ use Rattle.miette_protocol.specs.views.Meaning.{Label}
 use Rattle.miette_style.specs.declared.style.Style.{Style}
 use Rattle.miette_style.specs.declared.theme.ThemeCharacters.{ThemeCharacters}
 use Rattle.miette_lines.specs.declared.sweep.Placed.{Placed}
-use Rattle.miette_layout.specs.rules.Rows.{Row, styled}
+use Rattle.miette_page.specs.rules.Rows.{Row, styled}
 use Rattle.miette_style.specs.rules.Styles.{plain}
 use Rattle.miette_lines.specs.rules.Labels.{DrawnLabel, starts_on, ends_on, parts_of, cut_at_lf, onto_part}
 use Rattle.miette_layout.specs.rules.Drawing.{blank}
 use Rattle.miette_layout.specs.rules.Gutters.{number_gutter, other_gutter, open_gutter, ending_corner, arrow}
 use Rattle.miette_lines.specs.views.Given.{drawn_of}
 use Rattle.miette_lines.specs.views.Sweeping.{nothing}
-use Rattle.miette_layout.specs.views.Told.{Token, told, run_told, bytes_told}
+use Rattle.miette_page.specs.views.Told.{Token, told, run_told, bytes_told}
 use Rattle.miette_lines.proofs.Numbers.{by_cases}
 use Rattle.miette_layout.proofs.Telling.{styled_told, styled_row, blank_row, then, run_one}
 

@@ -3,7 +3,7 @@ use Rattle.std.proofs.Common.{ℕ, ◌+◌, ◌<◌, ◌≡◌, Bool, true, ltb,
 use Rattle.std.proofs.lemmas.Bool.{eq-eqb, or_right}
 use Rattle.std.specs.List.{AllByRecursion, list_any}
 use Rattle.miette_style.specs.declared.theme.ThemeCharacters.{ThemeCharacters}
-use Rattle.miette_layout.specs.rules.Rows.{Piece, drawn, code_at, columns_of, Begins}
+use Rattle.miette_page.specs.rules.Rows.{Piece, drawn, code_at, columns_of, Begins}
 use Rattle.miette_lines.specs.rules.Labels.{is_empty}
 use Rattle.miette_layout.specs.rules.Marks.{Mark, anchor, AreApart}
 use Rattle.miette_layout.specs.rules.Drawing.{IsNarrow, code_with_parts, mark_code}

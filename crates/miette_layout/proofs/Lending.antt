@@ -14,7 +14,7 @@ use Rattle.miette_lines.specs.declared.reading.ReadLabel.{ReadLabel}
 use Rattle.miette_lines.specs.declared.text_line.LineOfText.{LineOfText}
 use Rattle.miette_lines.specs.declared.sweep.Placed.{Placed}
 use Rattle.miette_lines.specs.rules.Answers.{Highlight, first_of, later_of}
-use Rattle.miette_layout.specs.rules.Rows.{Row}
+use Rattle.miette_page.specs.rules.Rows.{Row}
 use Rattle.miette_lines.specs.rules.Cells.{Cell, characters, cells_from}
 use Rattle.miette_lines.specs.rules.Contexts.{contents, lines_of_contents}
 use Rattle.miette_layout.specs.rules.Frames.{Settings, Place, top_row, top_row_of, bottom_row, number_width, width_of_lines}
@@ -30,7 +30,7 @@ use Rattle.miette_lines.specs.views.Read.{IsRead}
 use Rattle.miette_lines.specs.views.TextLines.{line_of_text}
 use Rattle.miette_lines.specs.views.Sweeping.{is_one, is_multi, nothing, start_at, AreSorted, IsAt}
 use Rattle.miette_lines.specs.views.Swept.{most_multi}
-use Rattle.miette_layout.specs.views.Told.{Token, told, told_rows, row_end}
+use Rattle.miette_page.specs.views.Told.{Token, told, told_rows, row_end}
 use Rattle.miette_lines.proofs.Numbers.{by_cases}
 use Rattle.miette_lines.proofs.Sources.{IsCut, lines_from}
 use Rattle.miette_lines.proofs.Lines.{cut_lines, cut-le}

@@ -16,7 +16,6 @@ pub mod Framing
 pub mod Guttering
 pub mod Hanging
 pub mod Joining
-pub mod Keeping
 pub mod Lending
 pub mod Lines
 pub mod Lining
@@ -25,7 +24,6 @@ pub mod Merging
 pub mod Nearing
 pub mod Numbers
 pub mod Owning
-pub mod Paging
 pub mod PaleSnippets
 pub mod Paling
 pub mod Parting

@@ -5,7 +5,7 @@ use Rattle.std.proofs.lemmas.Bool.Decides.{nat_tests}
 use Rattle.std.proofs.lemmas.List.{at_drop_more, at_drop_all, map-append}
 use Rattle.miette_style.specs.declared.style.Style.{Style}
 use Rattle.miette_lines.specs.rules.Answers.{Highlight}
-use Rattle.miette_layout.specs.rules.Rows.{Row, Piece, styled}
+use Rattle.miette_page.specs.rules.Rows.{Row, Piece, styled}
 use Rattle.miette_style.specs.rules.Styles.{plain}
 use Rattle.miette_layout.specs.rules.PrintedCells.{printed, printed_cells, cells_within, cells_beyond, text_bytes, line_runs}
 use Rattle.miette_lines.specs.rules.Cells.{Cell}
@@ -15,9 +15,9 @@ use Rattle.miette_layout.specs.rules.Marks.{Mark}
 use Rattle.miette_layout.specs.rules.Drawing.{blank, mark_runs, rows_below, marked_rows}
 use Rattle.miette_layout.specs.rules.Frames.{Settings, number_start}
 use Rattle.miette_layout.specs.rules.Layout.{before_each}
-use Rattle.miette_layout.specs.views.Told.{Token, begins, row_end, told, told_rows, run_told, text_told, bytes_told}
+use Rattle.miette_page.specs.views.Told.{Token, begins, row_end, told, told_rows, run_told, text_told, bytes_told}
 use Rattle.miette_layout.specs.views.TellingCells.{cells_told, highlight_of}
-use Rattle.miette_layout.proofs.Paging.{told_append, told_one}
+use Rattle.miette_page.proofs.Paging.{told_append, told_one}
 use Rattle.miette_layout.proofs.Telling.{then, told_as, run_one, blank_told, styled_row}
 use Rattle.miette_layout.proofs.Texting.{row_done, rows_then, parts_then}
 

@@ -18,7 +18,7 @@ use Rattle.miette_layout.specs.rules.Gutters.{number_gutter, other_gutter, closi
 use Rattle.miette_lines.specs.rules.Labels.{DrawnLabel, drawn_from, one_line, multi_line, closing, is_one_line, is_multi_line, ends_on, starts_on}
 use Rattle.miette_layout.specs.rules.Layout.{text_of_cells, cells_of, before_each, line_rows_of, line_rows, rows_of_lines, body_rows, place_of, snippet, all_snippets, settings_around, rows_unless, snippet_rows}
 use Rattle.miette_layout.specs.rules.Marks.{marks}
-use Rattle.miette_layout.specs.rules.Rows.{Run, Row, pieces_of, unstyled}
+use Rattle.miette_page.specs.rules.Rows.{Run, Row, pieces_of, unstyled}
 use Rattle.miette_style.specs.rules.Styles.{plain}
 use Rattle.miette_layout.proofs.Bleaching.{filter_bleached, all_filter, marks_bleached, marks_clean, gutter_bleached, drawn_bleached, drawn_clean, ordered_clean}
 use Rattle.miette_layout.proofs.CleanTexts.{AreCleanCells, clean_cons, clean_append, clean_replicate, clean_if, clean_range, clean_decimal, clean_characters, clean_cells, clean_line, line_same}

@@ -11,7 +11,7 @@ use Rattle.miette_layout.specs.laws.Fading.{IsPlainRow}
 use Rattle.miette_layout.specs.rules.Gutters.{ending_corner, arrow, number_gutter, other_gutter, open_gutter, part_run, closing_parts, closing_rows}
 use Rattle.miette_lines.specs.rules.Labels.{DrawnLabel, is_empty, starts_on, ends_on}
 use Rattle.miette_layout.specs.rules.Marks.{Mark, anchor}
-use Rattle.miette_layout.specs.rules.Rows.{Run, Row, pieces_of, styled}
+use Rattle.miette_page.specs.rules.Rows.{Run, Row, pieces_of, styled}
 use Rattle.miette_style.specs.rules.Styles.{plain}
 use Rattle.miette_layout.proofs.CleanTexts.{AreCleanPieces, clean_cons, clean_append, clean_replicate, clean_code_if, clean_copies, clean_drawn, clean_each}
 use Rattle.miette_layout.proofs.Flat.{pieces_of-append}

@@ -9,14 +9,14 @@ use Rattle.bstr.specs.Utf8.{or_replacement}
 use Rattle.miette_layout.specs.rules.PrintedCells.{first_column, last_column, cells_width, printed_cells, line_runs}
 use Rattle.miette_lines.specs.rules.Cells.{Cell, cells_from, characters, width_at, hides_next}
 use Rattle.miette_lines.specs.views.Given.{width_of}
-use Rattle.miette_layout.specs.views.Told.{Token, begins, told, text_told, bytes_told}
+use Rattle.miette_page.specs.views.Told.{Token, begins, told, text_told, bytes_told}
 use Rattle.miette_style.specs.declared.style.Style.{Style}
 use Rattle.std.proofs.lemmas.List.{nil_from_length}
 use Rattle.miette_layout.specs.views.TellingCells.{cells_told, highlight_of}
 use Rattle.miette_layout.specs.rules.Layout.{text_of_cells}
 use Rattle.miette_layout.specs.rules.Marks.{Text}
 use Rattle.miette_lines.specs.views.Printable.{is_printable, plain_cells}
-use Rattle.miette_layout.specs.rules.Rows.{Piece}
+use Rattle.miette_page.specs.rules.Rows.{Piece}
 use Rattle.miette_style.specs.rules.Styles.{plain}
 use Rattle.miette_lines.proofs.Numbers.{by_cases}
 use Rattle.miette_layout.proofs.Telling.{then}

@@ -15,7 +15,7 @@ use Rattle.miette_lines.specs.declared.reading.ReadLabels.TheVariants as reads
 use Rattle.miette_lines.specs.declared.reading.Refusal.{Refusal}
 use Rattle.miette_lines.specs.declared.reading.Refusal.TheVariants as reasons
 use Rattle.miette_lines.specs.declared.sweep.Placed.{Placed}
-use Rattle.miette_layout.specs.rules.Rows.{Row}
+use Rattle.miette_page.specs.rules.Rows.{Row}
 use Rattle.miette_lines.specs.rules.Answers.{Answers, Highlight, first_of, later_of}
 use Rattle.miette_lines.specs.rules.Around.{has_own, group_context}
 use Rattle.miette_lines.specs.rules.Contexts.{contents, lines_of_contents}
@@ -31,7 +31,7 @@ use Rattle.miette_layout.specs.views.Lent.{cells_in, lent_rows, lent_snippet, Pu
 use Rattle.miette_lines.specs.views.Placing.{placed_from}
 use Rattle.miette_lines.specs.views.Primary.{chosen, PointsTo, is_unread}
 use Rattle.miette_lines.specs.views.Read.{IsRead, IsLent, AreGroups, AreGrouped, IsUnread, AreRead, name_of}
-use Rattle.miette_layout.specs.views.Told.{Token, told_rows}
+use Rattle.miette_page.specs.views.Told.{Token, told_rows}
 use Rattle.miette_layout.proofs.Bodies.{none_refused}
 use Rattle.miette_lines.proofs.Bodies.{some_none}
 use Rattle.miette_layout.proofs.Choosing.{framed_place, place_is, unread_fails}

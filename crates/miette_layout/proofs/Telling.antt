@@ -1,12 +1,12 @@
 -- What rows tell.
 use Rattle.std.proofs.Common.{ℕ, zero, suc, ◌≡◌, List, [], ◌∷◌, ◌++◌, map, replicate, refl, sym, ap, ◌∙◌, append_assoc, append-nil}
 use Rattle.miette_style.specs.declared.style.Style.{Style}
-use Rattle.miette_layout.specs.rules.Rows.{Row, drawn, styled}
+use Rattle.miette_page.specs.rules.Rows.{Row, drawn, styled}
 use Rattle.miette_style.specs.rules.Styles.{plain}
 use Rattle.miette_layout.specs.rules.Drawing.{blank}
 use Rattle.std.specs.Prelude.{encode_utf8}
-use Rattle.miette_layout.specs.views.Told.{Token, begins, row_end, told, told_run, told_rows, run_told, text_told, bytes_told}
-use Rattle.miette_layout.proofs.Paging.{told_append, told_one}
+use Rattle.miette_page.specs.views.Told.{Token, begins, row_end, told, told_run, told_rows, run_told, text_told, bytes_told}
+use Rattle.miette_page.proofs.Paging.{told_append, told_one}
 
 pub codes_drawn : (w : ℕ → ℕ) (text : List ℕ) → map (λ p. p.code) (map (drawn w) text) ≡ text
 codes_drawn w [] = refl

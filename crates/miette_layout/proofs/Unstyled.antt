@@ -2,7 +2,7 @@
 use Rattle.std.proofs.Common.{ℕ, List, [], ◌∷◌, ◌++◌, map, cond, eqb}
 use Rattle.std.specs.List.{range_with_len}
 use Rattle.miette_style.specs.declared.theme.ThemeCharacters.{ThemeCharacters}
-use Rattle.miette_layout.specs.rules.Rows.{Piece, drawn}
+use Rattle.miette_page.specs.rules.Rows.{Piece, drawn}
 use Rattle.miette_layout.specs.rules.Marks.{Mark, anchor}
 use Rattle.miette_layout.specs.laws.Pictures.{mark_at, marks_end}
 

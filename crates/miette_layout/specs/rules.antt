@@ -8,6 +8,5 @@ pub mod Highlighted
 pub mod Layout
 pub mod Marks
 pub mod Numbers
-pub mod Rows
 pub mod Shown
 pub mod Snippets

@@ -3,8 +3,5 @@ pub mod Drawn
 pub mod ThemeSettings
 pub mod Lent
 pub mod Made
-pub mod PageParts
-pub mod Pages
 pub mod Sheets
-pub mod Told
 pub mod TellingCells

@@ -1,7 +1,7 @@
 //! The texts of the labels of several lines that end on a line.
 
 ghost use Rattle.std.specs.Prelude.{◌≡◌, ◌++◌, ◌∷◌, [], not, ◌&&◌, chars, map, OnOk};
-ghost use Rattle.miette_layout.specs.views.Told.{row_end, told_rows, run_told};
+ghost use Rattle.miette_page.specs.views.Told.{row_end, told_rows, run_told};
 ghost use Rattle.miette_lines.specs.rules.Labels.{starts_on, ends_on, cut_at_lf, closing};
 ghost use Rattle.miette_layout.specs.rules.Gutters.{closing_parts, closing_rows};
 ghost use Rattle.miette_layout.specs.rules.Frames.{other_start};
@@ -12,13 +12,13 @@ ghost use Rattle.miette_layout.specs.views.Sheets.{settings, multi_labels, close
 ghost use Rattle.miette_lines.specs.views.TextLines.{line_of_text};
 
 use crate::gutters::{ends, push_open_gutter, push_other_gutter, starts};
-use crate::page::Page;
 use crate::parts::first_part;
 use crate::sheet::Sheet;
 use crate::texts::push_other_start;
 use miette_lines::drawn_labels::text_of;
 use miette_lines::sweep::Placed;
 use miette_lines::text_line::LineOfText;
+use miette_page::page::Page;
 use miette_style::style::Style;
 use std::alloc::AllocError;
 

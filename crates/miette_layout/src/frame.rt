@@ -4,14 +4,14 @@ ghost use Rattle.std.specs.Prelude.{◌≡◌, ◌++◌, ◌∷◌, [], IsTrue, 
 ghost use Rattle.std.specs.Prelude.{if◌then◌else◌, false, OnOk};
 ghost use Rattle.std.specs.List.{list_all};
 ghost use Rattle.std.specs.Option.{option_map};
-ghost use Rattle.miette_layout.specs.views.Told.{told, told_rows, run_told, text_told};
+ghost use Rattle.miette_page.specs.views.Told.{told, told_rows, run_told, text_told};
 ghost use Rattle.miette_layout.specs.rules.Frames.{top_row_of, bottom_row, location, location_of, place_text};
 ghost use Rattle.miette_layout.specs.rules.Frames.{refused_row, text_or_none};
 ghost use Rattle.miette_layout.specs.views.ThemeSettings.{settings_of};
 ghost use Rattle.miette_layout.specs.rules.Framed.{corner_row, place_at, refused_front};
 
 use crate::options::LayoutOptions;
-use crate::page::{PLAIN, Page};
+use miette_page::page::{PLAIN, Page};
 use miette_protocol::protocol::LabeledSpan;
 use miette_style::style::Style;
 use miette_style::theme::GraphicalTheme;

@@ -1,7 +1,7 @@
 //! The gutter of a row, over the labels of several lines that lie on its line.
 
 ghost use Rattle.std.specs.Prelude.{◌≡◌, ◌++◌, ◌-◌, ◌∷◌, [], replicate, map, OnOk};
-ghost use Rattle.miette_layout.specs.views.Told.{told, run_told};
+ghost use Rattle.miette_page.specs.views.Told.{told, run_told};
 ghost use Rattle.miette_lines.specs.rules.Labels.{starts_on, ends_on};
 ghost use Rattle.miette_lines.specs.views.Sweeping.{label_of};
 ghost use Rattle.miette_layout.specs.rules.Gutters.{number_gutter, other_gutter, open_gutter, ending_corner};
@@ -9,11 +9,11 @@ ghost use Rattle.miette_lines.specs.views.Given.{drawn_of};
 ghost use Rattle.miette_layout.specs.views.Sheets.{settings, multi_labels};
 ghost use Rattle.miette_lines.specs.views.TextLines.{line_of_text};
 
-use crate::page::{PLAIN, Page};
 use crate::sheet::Sheet;
 use miette_lines::drawn_labels::text_of;
 use miette_lines::sweep::Placed;
 use miette_lines::text_line::LineOfText;
+use miette_page::page::{PLAIN, Page};
 use miette_style::style::Style;
 use std::alloc::AllocError;
 

@@ -5,8 +5,8 @@ ghost use Rattle.miette_layout.specs.rules.Highlighted.{ArePieces, decoded_text,
 ghost use Rattle.miette_layout.specs.views.TellingCells.{highlight_of};
 ghost use Rattle.miette_style.specs.rules.Pieces.{CutsLine, plain_pieces};
 
-use crate::page::PLAIN;
 use bstr::ByteSlice;
+use miette_page::page::PLAIN;
 use miette_protocol::source::MietteSpanContents;
 use miette_style::highlight::Highlighter;
 use miette_style::style::Style;

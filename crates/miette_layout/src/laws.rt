@@ -10,7 +10,7 @@ ghost use Rattle.miette_layout.specs.laws.Belonging.{HasOneGroup};
 ghost use Rattle.miette_layout.specs.laws.Clean.{AreCleanDrawings, IsCleanLabel, IsCleanRow, IsCleanSource};
 ghost use Rattle.miette_lines.specs.rules.Contexts.{lines_of_contents};
 ghost use Rattle.miette_layout.specs.laws.Fading.{IsPlainRow, colourless, unhighlighted};
-ghost use Rattle.miette_layout.specs.rules.Rows.{pieces_of};
+ghost use Rattle.miette_page.specs.rules.Rows.{pieces_of};
 ghost use Rattle.miette_lines.specs.rules.Answers.{Answers, AlwaysReads, Highlight, NoneFails};
 ghost use Rattle.miette_lines.specs.rules.Around.{HaveContext, group_context};
 ghost use Rattle.miette_lines.specs.rules.Groups.{AreAccepted, in_order, groups_of, lines_of_groups};

@@ -9,8 +9,6 @@ pub mod laws;
 pub mod line;
 pub mod marks;
 pub mod options;
-pub mod page;
-mod page_marks;
 mod parts;
 pub mod sheet;
 pub mod snippet;

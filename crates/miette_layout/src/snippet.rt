@@ -19,26 +19,23 @@
 //!    (`texts.rt`), and the texts of labels that end there (`closings.rt`).
 
 ghost use Rattle.std.specs.Prelude.{◌≡◌, ◌+◌, ◌<◌, ◌^◌, map, length, decimal, IfOk, OnOk};
-ghost use Rattle.std.specs.Option.{option_map};
 ghost use Rattle.miette_protocol.specs.rules.Lines.{lines_from};
-ghost use Rattle.miette_layout.specs.rules.Framed.{place_at};
 ghost use Rattle.miette_layout.specs.views.ThemeSettings.{settings_of};
 ghost use Rattle.miette_lines.specs.views.Given.{drawn_of};
-ghost use Rattle.miette_lines.specs.rules.Contexts.{lines_of_contents};
 ghost use Rattle.miette_layout.specs.rules.Highlighted.{leaves_plain};
-ghost use Rattle.miette_layout.specs.views.Lent.{PutsRows, texts_in, lent_rows, lent_snippet, width_of_count};
-ghost use Rattle.miette_layout.specs.views.Lent.{gutter_of};
+ghost use Rattle.miette_layout.specs.views.Lent.{PutsRows, PutsSnippet, texts_in, lent_rows};
+ghost use Rattle.miette_layout.specs.views.Lent.{width_of_count, gutter_of};
 ghost use Rattle.miette_lines.specs.views.Sweeping.{IsAt, AreSorted};
 
 use crate::frame::{Frame, push_bottom_row, push_top_row};
 use crate::highlighting::{pieces_of, restart};
 use crate::line::push_line_rows;
 use crate::options::LayoutOptions;
-use crate::page::Page;
 use crate::sheet::{Sheet, ShownLine};
 use itoa::Buffer;
 use miette_lines::line_sweep::{extent_of, line_at};
 use miette_lines::sweep::{Bounds, Placed, Sweep, advance};
+use miette_page::page::Page;
 use miette_protocol::protocol::LabeledSpan;
 use miette_protocol::source::MietteSpanContents;
 use miette_style::highlight::Highlighter;
@@ -212,10 +209,7 @@ fn push_framed<'a, H: Highlighter>(
     requires sorted { AreSorted drawing.now.placed.now }
     requires at { IsAt drawing.now.placed.now lent.now.span.offset sweep.old.next sweep.old.running.items }
     requires small { lent.now.span.offset + length lent.now.bytes < 2 ^ 64 }
-    ensures rows { OnOk result (PutsRows (leaves_plain H.is_blank highlighter.old)
-        (texts_in lent.now.span.offset lent.now.bytes (lines_of_contents lent.now))
-        (lent_snippet (settings_of drawing.now.theme.now drawing.now.options)
-        (map (drawn_of drawing.now.labels.now) drawing.now.placed.now) lent.now (option_map place_at place))
+    ensures rows { OnOk result (PutsSnippet (leaves_plain H.is_blank highlighter.old) drawing.now lent.now place
         page.old page.new) }
     ensures stays { leaves_plain H.is_blank highlighter.new ≡ leaves_plain H.is_blank highlighter.old }
     ensures at { OnOk result (IsAt drawing.now.placed.now (lent.now.span.offset + length lent.now.bytes) sweep.new.next
@@ -257,10 +251,7 @@ pub fn push_snippet<'a, H: Highlighter>(
 ) -> Result<(), AllocError>
     requires sorted { AreSorted drawing.now.placed.now }
     requires at { IsAt drawing.now.placed.now passage.old.at passage.old.sweep.next passage.old.sweep.running.items }
-    ensures rows { OnOk result (PutsRows (leaves_plain H.is_blank highlighter.old)
-        (texts_in lent.now.span.offset lent.now.bytes (lines_of_contents lent.now))
-        (lent_snippet (settings_of drawing.now.theme.now drawing.now.options)
-        (map (drawn_of drawing.now.labels.now) drawing.now.placed.now) lent.now (option_map place_at place))
+    ensures rows { OnOk result (PutsSnippet (leaves_plain H.is_blank highlighter.old) drawing.now lent.now place
         page.old page.new) }
     ensures stays { leaves_plain H.is_blank highlighter.new ≡ leaves_plain H.is_blank highlighter.old }
     ensures at { OnOk result (IsAt drawing.now.placed.now passage.new.at passage.new.sweep.next

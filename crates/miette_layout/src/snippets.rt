@@ -11,7 +11,6 @@ ghost use Rattle.miette_lines.specs.views.Read.{IsRead, name_of as name_of_reaso
 
 use crate::frame::{Frame, push_refused_row};
 use crate::options::LayoutOptions;
-use crate::page::Page;
 use crate::snippet::{Drawing, Passage, push_snippet};
 use miette_lines::drawn_labels::placed;
 use miette_lines::grouping::{Group, groups};
@@ -19,6 +18,7 @@ use miette_lines::order::by_offset;
 use miette_lines::primary::{near, place_of};
 use miette_lines::reading::{ReadLabel, ReadLabels, Refusal, read_labels, some_own};
 use miette_lines::sweep::Sweep;
+use miette_page::page::Page;
 use miette_protocol::error::RenderError;
 use miette_protocol::protocol::LabeledSpan;
 use miette_protocol::source::SourceCode;

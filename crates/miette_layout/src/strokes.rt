@@ -2,7 +2,7 @@
 
 ghost use Rattle.std.specs.Prelude.{◌≡◌, ◌++◌, ◌+◌, ◌/◌, ◌^◌, ◌<◌, ◌≤◌, if◌then◌else◌, map, OnOk};
 ghost use Rattle.std.specs.List.{All};
-ghost use Rattle.miette_layout.specs.views.Told.{told, told_run};
+ghost use Rattle.miette_page.specs.views.Told.{told, told_run};
 ghost use Rattle.miette_lines.specs.rules.Labels.{is_empty};
 ghost use Rattle.miette_layout.specs.rules.Drawing.{code_with_parts, mark_run, mark_runs};
 ghost use Rattle.miette_lines.specs.views.Given.{drawn_of};
@@ -10,9 +10,9 @@ ghost use Rattle.miette_layout.specs.views.Made.{mark_of};
 ghost use Rattle.miette_layout.specs.views.Sheets.{settings};
 
 use crate::marks::Mark;
-use crate::page::Page;
 use crate::sheet::Sheet;
 use miette_lines::drawn_labels::text_of;
+use miette_page::page::Page;
 use std::alloc::AllocError;
 
 /// The column of a mark at which its text hangs: the middle one, rounded down.

@@ -2,7 +2,7 @@
 
 ghost use Rattle.std.specs.Prelude.{◌≡◌, ◌++◌, ◌+◌, ◌∷◌, [], ◌<◌, List, chars, map, replicate, OnOk};
 ghost use Rattle.std.specs.List.{All};
-ghost use Rattle.miette_layout.specs.views.Told.{told, told_rows};
+ghost use Rattle.miette_page.specs.views.Told.{told, told_rows};
 ghost use Rattle.miette_lines.specs.rules.Labels.{cut_at_lf};
 ghost use Rattle.miette_layout.specs.rules.Drawing.{lead_runs, beside, rows_of_parts, rows_below};
 ghost use Rattle.miette_layout.specs.rules.Frames.{other_start};
@@ -13,11 +13,11 @@ ghost use Rattle.miette_layout.specs.views.Sheets.{settings, before_marks, text_
 
 use crate::gutters::push_other_gutter;
 use crate::marks::Mark;
-use crate::page::{PLAIN, Page};
 use crate::parts::first_part;
 use crate::sheet::Sheet;
 use crate::strokes::anchor_of;
 use miette_lines::drawn_labels::text_of;
+use miette_page::page::{PLAIN, Page};
 use std::alloc::AllocError;
 
 /// What stands before the gutter of a row that isn't the number row: `   · `. `AllocError` where memory is refused, or

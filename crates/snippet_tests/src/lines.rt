@@ -5,10 +5,10 @@ ghost use Rattle.std.specs.Prelude.{◌≡◌, ◌+◌, ◌^◌, ◌<◌, length
 use miette_layout::frame::{Frame, push_bottom_row, push_refused_row, push_top_row};
 use miette_layout::line::push_line_rows;
 use miette_layout::options::LayoutOptions;
-use miette_layout::page::{PLAIN, Page, Part};
 use miette_layout::sheet::{Sheet, ShownLine};
 use miette_lines::sweep::Placed;
 use miette_lines::text_line::LineOfText;
+use miette_page::page::{PLAIN, Page, Part};
 use miette_protocol::protocol::LabeledSpan;
 use miette_style::theme::{GraphicalTheme, ThemeCharacters, ThemeStyles};
 use std::alloc::{AllocError, Global};

@@ -1,8 +1,8 @@
 //! Snippets of worked examples.
 
 use miette_layout::options::LayoutOptions;
-use miette_layout::page::{PLAIN, Page, Part};
 use miette_layout::snippets::snippets;
+use miette_page::page::{PLAIN, Page, Part};
 use miette_protocol::error::{MietteError, RenderError};
 use miette_protocol::protocol::{LabeledSpan, SourceSpan};
 use miette_protocol::source::{MietteSpanContents, NamedSource, SourceCode};

@@ -3,9 +3,9 @@ use Rattle.std.specs.Prelude.{ℕ, List, [], ◌∷◌, ◌++◌, chars}
 use Rattle.miette_text.specs.rules.Runs.{printed_run}
 use Rattle.miette_style.specs.rules.Styles.{plain}
 use Rattle.miette_style.specs.declared.style.Style.{Style}
-use Rattle.miette_layout.specs.declared.page.Part.{Part}
-use Rattle.miette_layout.specs.declared.page.Part.TheVariants as parts
-use Rattle.miette_layout.specs.views.Told.{Token, begins, byte, row_end}
+use Rattle.miette_page.specs.declared.page.Part.{Part}
+use Rattle.miette_page.specs.declared.page.Part.TheVariants as parts
+use Rattle.miette_page.specs.views.Told.{Token, begins, byte, row_end}
 
 -- in a run's style, with the bytes of the run so far
 abbrev pub page_text_from : Style → List ℕ → List Token → List ℕ

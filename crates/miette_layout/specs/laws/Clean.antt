@@ -6,7 +6,7 @@ use Rattle.miette_style.specs.rules.Escapes.{no_escape}
 use Rattle.miette_style.specs.declared.theme.ThemeCharacters.{ThemeCharacters}
 use Rattle.miette_protocol.specs.views.Meaning.{Label}
 use Rattle.miette_protocol.specs.rules.Reading.{Source}
-use Rattle.miette_layout.specs.rules.Rows.{Row}
+use Rattle.miette_page.specs.rules.Rows.{Row}
 
 -- a character that is no escape, and a text that holds none
 abbrev pub IsCleanCode : ℕ → Type 0

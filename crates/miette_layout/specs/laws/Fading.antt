@@ -3,7 +3,7 @@ use Rattle.std.specs.Prelude.{◌≡◌, [], map}
 use Rattle.std.specs.List.{AllByRecursion}
 use Rattle.miette_lines.specs.rules.Answers.{Answers}
 use Rattle.miette_layout.specs.rules.Frames.{Styles, Settings}
-use Rattle.miette_layout.specs.rules.Rows.{Row}
+use Rattle.miette_page.specs.rules.Rows.{Row}
 use Rattle.miette_style.specs.rules.Styles.{plain}
 
 abbrev pub faded : Styles → Styles

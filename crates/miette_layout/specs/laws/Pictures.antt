@@ -2,7 +2,7 @@
 use Rattle.std.specs.Prelude.{ℕ, ◌+◌, ◌<◌, ◌≡◌, ◌⊎◌, List, [], ◌∷◌, map, Some, ◌&&◌, if◌then◌else◌, nat_lt, nat_le}
 use Rattle.std.specs.List.{AllByRecursion}
 use Rattle.miette_style.specs.declared.theme.ThemeCharacters.{ThemeCharacters}
-use Rattle.miette_layout.specs.rules.Rows.{Piece, Row, pieces_of, drawn, code_at, Begins}
+use Rattle.miette_page.specs.rules.Rows.{Piece, Row, pieces_of, drawn, code_at, Begins}
 use Rattle.miette_protocol.specs.rules.Lines.{Line}
 use Rattle.miette_layout.specs.rules.PrintedCells.{line_runs}
 use Rattle.miette_lines.specs.rules.Cells.{Cell}

@@ -1,7 +1,7 @@
 -- The parts of a frame's rows.
 use Rattle.std.specs.Prelude.{ℕ, ◌+◌, [], ◌∷◌, replicate, codes}
 use Rattle.miette_protocol.specs.views.Meaning.{Label}
-use Rattle.miette_layout.specs.rules.Rows.{Row, styled, unstyled}
+use Rattle.miette_page.specs.rules.Rows.{Row, styled, unstyled}
 use Rattle.miette_layout.specs.rules.Drawing.{blank}
 use Rattle.miette_layout.specs.rules.Frames.{Settings, Place, text_or_none}
 

@@ -6,7 +6,7 @@ use Rattle.std.specs.Option.{option_map}
 use Rattle.miette_protocol.specs.rules.Lines.{Line}
 use Rattle.miette_protocol.specs.views.Meaning.{Label}
 use Rattle.miette_protocol.specs.rules.Reading.{Span, Source, Contents}
-use Rattle.miette_layout.specs.rules.Rows.{Row}
+use Rattle.miette_page.specs.rules.Rows.{Row}
 use Rattle.miette_lines.specs.rules.Answers.{Answers, Highlight, first_of, later_of}
 use Rattle.miette_lines.specs.rules.Around.{has_own, group_context}
 use Rattle.miette_lines.specs.rules.Contexts.{end_of_span, contents, lines_of_contents}

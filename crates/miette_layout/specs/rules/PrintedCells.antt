@@ -1,6 +1,6 @@
 -- How the characters of a line's text print, and at which columns.
 use Rattle.std.specs.Prelude.{ℕ, ◌+◌, ◌-◌, List, [], ◌∷◌, ◌++◌, replicate, if◌then◌else◌, ◌==◌, nat_lt, nat_le}
-use Rattle.miette_layout.specs.rules.Rows.{Piece, Run}
+use Rattle.miette_page.specs.rules.Rows.{Piece, Run}
 use Rattle.miette_style.specs.rules.Styles.{plain}
 use Rattle.miette_lines.specs.rules.Answers.{Highlight}
 use Rattle.bstr.specs.Utf8.{pieces}

@@ -4,7 +4,7 @@ use Rattle.miette_protocol.specs.rules.Lines.{Line, lines_of}
 use Rattle.miette_protocol.specs.views.Meaning.{Label}
 use Rattle.miette_protocol.specs.rules.Reading.{Span, Source}
 use Rattle.miette_layout.specs.rules.Numbers.{last_of}
-use Rattle.miette_layout.specs.rules.Rows.{Row}
+use Rattle.miette_page.specs.rules.Rows.{Row}
 use Rattle.miette_layout.specs.rules.Snippets.{snippets}
 use Rattle.miette_lines.specs.rules.Answers.{Answers, Highlight, first_of, later_of}
 use Rattle.miette_lines.specs.rules.Contexts.{contents}

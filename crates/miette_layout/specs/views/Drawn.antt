@@ -11,7 +11,7 @@ use Rattle.miette_layout.specs.rules.Frames.{Settings}
 use Rattle.miette_lines.specs.rules.Groups.{in_order, groups_of}
 use Rattle.miette_layout.specs.rules.Highlighted.{SnippetsHavePieces}
 use Rattle.miette_layout.specs.rules.Layout.{snippet_rows}
-use Rattle.miette_layout.specs.views.Told.{Token, told_rows}
+use Rattle.miette_page.specs.views.Told.{Token, told_rows}
 
 -- What a page may hold, or that there is none: the rows under some answers of the source and the highlighter. Of a
 -- source that always reads nothing fails, and where lines are left plain there are no pieces; so there is but one

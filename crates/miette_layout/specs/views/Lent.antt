@@ -1,18 +1,23 @@
 -- The rows of a snippet from what its read lent, where nothing is known of the source beyond.
 use Rattle.std.specs.Prelude.{ℕ, ◌+◌, ◌-◌, ◌==◌, ◌≡◌, if◌then◌else◌, Bool, List, [], ◌∷◌, ◌++◌, length, map, decimal}
 use Rattle.std.specs.Prelude.{slice_range, Option, false}
+use Rattle.std.specs.Option.{option_map}
 use Rattle.miette_protocol.specs.rules.Lines.{Line}
 use Rattle.miette_protocol.specs.rules.Reading.{Contents}
-use Rattle.miette_layout.specs.rules.Rows.{Row}
+use Rattle.miette_page.specs.rules.Rows.{Row}
 use Rattle.miette_lines.specs.rules.Answers.{Highlight, first_of, later_of}
 use Rattle.miette_lines.specs.rules.Cells.{Cell, characters, cells_from}
 use Rattle.miette_lines.specs.rules.Contexts.{lines_of_contents}
+use Rattle.miette_layout.specs.declared.snippet.Drawing.{Drawing}
+use Rattle.miette_layout.specs.rules.Framed.{place_at}
+use Rattle.miette_layout.specs.views.ThemeSettings.{settings_of}
+use Rattle.miette_lines.specs.views.Given.{drawn_of}
 use Rattle.miette_layout.specs.rules.Frames.{Settings, Place, top_row, bottom_row, number_width}
 use Rattle.miette_layout.specs.rules.Gutters.{gutter_columns}
 use Rattle.miette_layout.specs.rules.Highlighted.{decoded_text, EachHasPieces}
 use Rattle.miette_lines.specs.rules.Labels.{DrawnLabel}
 use Rattle.miette_layout.specs.rules.Layout.{line_rows}
-use Rattle.miette_layout.specs.views.Told.{Token, told_rows}
+use Rattle.miette_page.specs.views.Told.{Token, told_rows}
 
 -- the bytes of a line's text, in bytes that begin at an offset
 abbrev pub text_in : ℕ → List ℕ → Line → List ℕ
@@ -56,3 +61,10 @@ pub record PutsRows (blank : Bool) (texts : List (List ℕ)) (rows : List (List 
   pub pieces : List (List Highlight)
   pub are : EachHasPieces blank texts pieces
   pub is : after ≡ before ++ told_rows (rows pieces)
+
+-- The same of a snippet: its frame points to this line and column, and a highlighter is given the texts of its lines.
+abbrev pub PutsSnippet : Bool → Drawing → Contents → Option (ℕ × ℕ) → List Token → List Token → Type 0
+PutsSnippet blank drawing lent place before after =
+    PutsRows blank (texts_in lent.span.offset lent.bytes (lines_of_contents lent))
+    (lent_snippet (settings_of drawing.theme.now drawing.options)
+    (map (drawn_of drawing.labels.now) drawing.placed.now) lent (option_map place_at place)) before after

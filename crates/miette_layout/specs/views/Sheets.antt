@@ -2,7 +2,7 @@
 use Rattle.std.specs.Prelude.{ℕ, List, [], ◌∷◌, ◌++◌, map, false}
 use Rattle.miette_layout.specs.declared.sheet.Sheet.{Sheet}
 use Rattle.miette_layout.specs.declared.sheet.ShownLine.{ShownLine}
-use Rattle.miette_layout.specs.rules.Rows.{Row}
+use Rattle.miette_page.specs.rules.Rows.{Row}
 use Rattle.miette_layout.specs.rules.Marks.{Mark}
 use Rattle.miette_layout.specs.rules.Drawing.{text_row}
 use Rattle.miette_lines.specs.rules.Labels.{DrawnLabel}

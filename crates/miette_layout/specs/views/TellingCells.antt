@@ -2,7 +2,7 @@
 use Rattle.std.specs.Prelude.{ℕ, List, map}
 use Rattle.miette_style.specs.declared.style.Style.{Style}
 use Rattle.miette_lines.specs.rules.Answers.{Highlight}
-use Rattle.miette_layout.specs.views.Told.{Token, text_told}
+use Rattle.miette_page.specs.views.Told.{Token, text_told}
 use Rattle.miette_layout.specs.rules.PrintedCells.{printed_cells}
 use Rattle.miette_lines.specs.rules.Cells.{Cell}
 

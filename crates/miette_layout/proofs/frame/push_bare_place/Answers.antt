@@ -1,11 +1,11 @@
 use Rattle.std.proofs.Common.{[], ◌∷◌, ◌++◌, ◌≡◌, ◌∙◌, cond, true, ap, sym, replicate, rules}
 use Rattle.std.specs.Prelude.{codes, ◌&&◌}
-use Rattle.miette_layout.specs.rules.Rows.{styled}
+use Rattle.miette_page.specs.rules.Rows.{styled}
 use Rattle.miette_style.specs.rules.Styles.{plain}
 use Rattle.miette_layout.specs.rules.Frames.{place_text}
 use Rattle.miette_layout.specs.rules.Framed.{place_at}
 use Rattle.miette_lines.specs.views.Given.{width_of}
-use Rattle.miette_layout.specs.views.Told.{told}
+use Rattle.miette_page.specs.views.Told.{told}
 use Rattle.miette_layout.proofs.Framing.{bare_put}
 use Rattle.miette_layout.proofs.frame.push_bare_place.Goals as goal
 

@@ -1,6 +1,6 @@
 use Rattle.std.proofs.Common.{[], ◌∷◌, ◌++◌, cond}
 use Rattle.std.specs.Prelude.{chars, codes}
-use Rattle.miette_layout.specs.rules.Rows.{Row, styled}
+use Rattle.miette_page.specs.rules.Rows.{Row, styled}
 use Rattle.miette_style.specs.rules.Styles.{plain}
 use Rattle.miette_layout.specs.rules.Frames.{place_text}
 use Rattle.miette_layout.specs.rules.Framed.{place_at}

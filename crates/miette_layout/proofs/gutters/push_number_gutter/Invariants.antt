@@ -1,5 +1,5 @@
 use Rattle.std.proofs.Common.{◌≡◌, ◌++◌, map, drop}
-use Rattle.miette_layout.specs.views.Told.{told}
+use Rattle.miette_page.specs.views.Told.{told}
 use Rattle.miette_lines.specs.views.Given.{drawn_of}
 use Rattle.miette_layout.specs.views.Sheets.{settings, multi_labels}
 use Rattle.miette_lines.specs.views.TextLines.{line_of_text}

@@ -1,5 +1,5 @@
 use Rattle.std.proofs.Common.{◌≡◌, ◌++◌, map, drop}
-use Rattle.miette_layout.specs.views.Told.{told}
+use Rattle.miette_page.specs.views.Told.{told}
 use Rattle.miette_layout.specs.rules.PrintedCells.{line_runs}
 use Rattle.miette_layout.specs.views.TellingCells.{highlight_of}
 use Rattle.miette_layout.proofs.line.push_line_text.Given as goal

@@ -1,5 +1,5 @@
 use Rattle.std.proofs.Common.{◌≡◌, ◌++◌, map, drop}
-use Rattle.miette_layout.specs.views.Told.{told}
+use Rattle.miette_page.specs.views.Told.{told}
 use Rattle.miette_layout.specs.rules.Drawing.{lead_runs}
 use Rattle.miette_layout.specs.views.Made.{mark_of}
 use Rattle.miette_layout.specs.views.Sheets.{settings}

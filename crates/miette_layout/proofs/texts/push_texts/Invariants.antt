@@ -1,5 +1,5 @@
 use Rattle.std.proofs.Common.{◌≡◌, ◌≤◌, ◌++◌, map, take, drop, length}
-use Rattle.miette_layout.specs.views.Told.{told_rows}
+use Rattle.miette_page.specs.views.Told.{told_rows}
 use Rattle.miette_layout.specs.rules.Drawing.{rows_below}
 use Rattle.miette_layout.specs.rules.Layout.{before_each}
 use Rattle.miette_layout.specs.views.Made.{mark_of}
