@@ -39,17 +39,17 @@ unheaded (x ∷ xs) h = absurd (cc)
 
 -- fixed texts
 
-pub advice_text : chars (codes "Advice: ") ≡ codes "Advice: "
+pub advice : chars (codes "Advice: ") ≡ codes "Advice: "
 unfolding chars
-advice_text = refl
+advice = refl
 
-pub warning_text : chars (codes "Warning: ") ≡ codes "Warning: "
+pub warning : chars (codes "Warning: ") ≡ codes "Warning: "
 unfolding chars
-warning_text = refl
+warning = refl
 
-pub error_text : chars (codes "Error: ") ≡ codes "Error: "
+pub error : chars (codes "Error: ") ≡ codes "Error: "
 unfolding chars
-error_text = refl
+error = refl
 
 pub help_text : chars (codes "  help: ") ≡ codes "  help: "
 unfolding chars

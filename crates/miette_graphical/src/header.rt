@@ -115,7 +115,7 @@ pub fn push_header(
 }
 
 /// What names a severity; that of an error where there is none.
-#[tactic(auto, using(crate::proofs::Styled::advice_text, crate::proofs::Styled::warning_text, crate::proofs::Styled::error_text))]
+#[tactic(auto, using(crate::proofs::Styled::advice, crate::proofs::Styled::warning, crate::proofs::Styled::error))]
 pub fn severity_title(severity: Option<Severity>) -> &'static str
     ensures { chars result.now ≡ parts.severity_title severity }
 {
