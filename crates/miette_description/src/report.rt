@@ -124,7 +124,8 @@ fn caused<D: Diagnostic, S: SourceCode>(
     ensures ok { IfOk result (λ r.
         let value = tree_of D.meaning S.source in
         option_map (λ c. with_cause c (value report))
-        (one_cause (option_map value causes.one) (option_map (λ v. map string_bytes v.items) causes.several)) ≡ Some (value r)) }
+        (one_cause (option_map value causes.one) (option_map (λ v. map string_bytes v.items) causes.several))
+        ≡ Some (value r)) }
     ensures description { (result ≡ Err BuildError.Description) →
         one_cause (option_map (tree_of D.meaning S.source) causes.one)
         (option_map (λ v. map string_bytes v.items) causes.several) ≡ None }
