@@ -104,8 +104,8 @@ only_from at (l ∷ ls) bytes h =
     ∙ sym (ap (lines_from at) w.parts)
 
 -- no other list of lines cuts the bytes
-pub only_lines : (bytes : List ℕ) (ls : List Line) → AreLines 0 ls bytes → ls ≡ lines_of bytes
-only_lines bytes ls h = only_from 0 ls bytes h
+pub lines : (bytes : List ℕ) (ls : List Line) → AreLines 0 ls bytes → ls ≡ lines_of bytes
+lines bytes ls h = only_from 0 ls bytes h
 
 -- the bytes of the lines in front, and those of the lines after
 record Split (at : ℕ) (xs ys : List Line) (bytes : List ℕ) : Type 0 where

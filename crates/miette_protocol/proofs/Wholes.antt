@@ -40,10 +40,10 @@ first-le-last : (bytes : List ℕ) (span : Span) (before after : ℕ) → first_
 first-le-last bytes span before after =
     omega (arith, line_of_mono bytes span.offset (reading_end bytes span) (offset-le-reading bytes span))
 
-pub shown_lines : (source : Source) (span : Span) (before after : ℕ) → 1 ≤ before → 1 ≤ after →
+pub lines : (source : Source) (span : Span) (before after : ℕ) → 1 ≤ before → 1 ≤ after →
     lines_from (contents_of source span before after).span.offset (contents_of source span before after).bytes
     ≡ slice_range (lines_of source.bytes) (first_line source.bytes span before) (last_line source.bytes span after + 1)
-shown_lines source span before after h g =
+lines source span before after h g =
     let bytes : List ℕ = source.bytes in
     ap (λ from. lines_from from (slice_range bytes from (data_end bytes span after))) (start_is bytes span before h)
     ∙ ap (λ to. lines_from (line_start bytes (first_line bytes span before)) (slice_range bytes (line_start bytes (first_line bytes span before)) to)) (end_is bytes span after g)
@@ -57,10 +57,10 @@ next_line bytes k =
       | inr h ↦ ap (line_of bytes) (line_start_next bytes k ∙ line_end_past bytes k h) ∙ omega (arith, h)
     ]
 
-pub shown_count : (source : Source) (span : Span) (before after : ℕ) → 1 ≤ before → 1 ≤ after →
+pub count : (source : Source) (span : Span) (before after : ℕ) → 1 ≤ before → 1 ≤ after →
     (contents_of source span before after).line + (contents_of source span before after).line_count
     ≡ min (last_line source.bytes span after + 1) (line_of source.bytes (length source.bytes))
-shown_count source span before after h g =
+count source span before after h g =
     let bytes : List ℕ = source.bytes in
     let first : ℕ = first_line bytes span before in
     let last : ℕ = last_line bytes span after in
@@ -106,11 +106,11 @@ between bytes low high k from to lt e f = (
   ),
 )
 
-pub shown_numbers : (source : Source) (span : Span) (before after k : ℕ) → 1 ≤ before → 1 ≤ after → k < length (lines_of source.bytes) →
+pub numbers : (source : Source) (span : Span) (before after k : ℕ) → 1 ≤ before → 1 ≤ after → k < length (lines_of source.bytes) →
     (((contents_of source span before after).span.offset ≤ line_start source.bytes k)
     × (line_end source.bytes k ≤ (contents_of source span before after).span.offset + (contents_of source span before after).span.len))
     ↔ ((first_line source.bytes span before ≤ k) × (k ≤ last_line source.bytes span after))
-shown_numbers source span before after k h g lt =
+numbers source span before after k h g lt =
     let bytes : List ℕ = source.bytes in
     let from : ℕ = data_start bytes span before in
     let to : ℕ = data_end bytes span after in

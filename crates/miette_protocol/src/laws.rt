@@ -13,7 +13,7 @@ use crate::source::MietteSpanContents;
 /// The lines of a source are its pieces, one after the other, each a text without CR and LF and its
 /// terminator: LF, CRLF, a CR that no LF follows, or nothing at the end of the source. No other list of
 /// lines is that, and every byte lies in exactly one of them.
-#[tactic(auto, using(crate::proofs::Cuts::lines_cut, crate::proofs::Cutting::lines_are, crate::proofs::Only::only_lines))]
+#[tactic(auto, using(crate::proofs::Cuts::lines_cut, crate::proofs::Cutting::lines_are, crate::proofs::Only::lines))]
 pub fn lines_cut_the_source()
     ensures pieces { (bytes : List ℕ) → AreLines 0 (lines_of bytes) bytes }
     ensures only { (bytes : List ℕ) → (ls : List Line) → AreLines 0 ls bytes → ls ≡ lines_of bytes }
@@ -23,7 +23,7 @@ pub fn lines_cut_the_source()
 /// With at least one line of context before and after, the data of a read are whole lines: cut alone, they
 /// are the lines of the source from the first to the last of the context. So many terminators stand before
 /// their end, and no other line lies between their place's begin and end.
-#[tactic(auto, using(crate::proofs::Wholes::shown_lines, crate::proofs::Wholes::shown_count, crate::proofs::Wholes::shown_numbers))]
+#[tactic(auto, using(crate::proofs::Wholes::lines, crate::proofs::Wholes::count, crate::proofs::Wholes::numbers))]
 pub fn data_are_whole_lines()
     ensures lines { (source : Source) → (span : Span) → (before after : ℕ) → 1 ≤ before → 1 ≤ after →
         lines_from (contents_of source span before after).span.offset (contents_of source span before after).bytes

@@ -1,5 +1,5 @@
-use Rattle.miette_protocol.proofs.Wholes.{shown_numbers}
+use Rattle.miette_protocol.proofs.Wholes.{numbers}
 use Rattle.miette_protocol.proofs.laws.data_are_whole_lines.Goals as goal
 
 pub returns-clause-numbers : goal.returns-clause-numbers
-returns-clause-numbers c = λ source span before after k h g lt. shown_numbers source span before after k h g lt
+returns-clause-numbers c = λ source span before after k h g lt. numbers source span before after k h g lt
