@@ -38,7 +38,7 @@ impl JSONReportHandler {
         ensures value { let tree = tree_of ⟦<Box<dyn Diagnostic> as Diagnostic>⟧.meaning
             ⟦<Box<dyn SourceCode> as SourceCode>⟧.source report.now in
             OnOk result (NamesAlwaysRead None tree →
-                string_bytes out.new ≡ string_bytes out.old ++ json_text (value_of tree)) }
+            string_bytes out.new ≡ string_bytes out.old ++ json_text (value_of tree)) }
         ensures memory { OnErr result (result ≡ Err RenderError.Memory) }
         ensures err { OnErr result (string_bytes out.new ≡ string_bytes out.old) }
     {

@@ -51,10 +51,10 @@ impl<H: Highlighter> Chosen<H> {
             ⟦<Box<dyn SourceCode> as SourceCode>⟧.source report.now) }
         ensures ok { IfOk result (λ text. IsGiven H.is_blank self.old
             (tree_of ⟦<Box<dyn Diagnostic> as Diagnostic>⟧.meaning ⟦<Box<dyn SourceCode> as SourceCode>⟧.source
-                report.now) (string_bytes text)) }
+            report.now) (string_bytes text)) }
         ensures refused { (result ≡ Err Fault.Refused) →
             MayRefuse self.old (tree_of ⟦<Box<dyn Diagnostic> as Diagnostic>⟧.meaning
-                ⟦<Box<dyn SourceCode> as SourceCode>⟧.source report.now) }
+            ⟦<Box<dyn SourceCode> as SourceCode>⟧.source report.now) }
         ensures others { OnErr result ((result ≡ Err Fault.Refused) ⊎ (result ≡ Err Fault.Memory)) }
         ensures stays { Stays H.is_blank self.old self.new }
     {
@@ -77,10 +77,10 @@ impl<H: Highlighter> Chosen<H> {
             ⟦<Box<dyn SourceCode> as SourceCode>⟧.source report.now) }
         ensures ok { IfOk result (λ text. IsGiven H.is_blank self.old
             (tree_of ⟦<Box<dyn Diagnostic> as Diagnostic>⟧.meaning ⟦<Box<dyn SourceCode> as SourceCode>⟧.source
-                report.now) (string_bytes text)) }
+            report.now) (string_bytes text)) }
         ensures refused { (result ≡ Err Fault.Refused) →
             MayRefuse self.old (tree_of ⟦<Box<dyn Diagnostic> as Diagnostic>⟧.meaning
-                ⟦<Box<dyn SourceCode> as SourceCode>⟧.source report.now) }
+            ⟦<Box<dyn SourceCode> as SourceCode>⟧.source report.now) }
         ensures others { OnErr result ((result ≡ Err Fault.Refused) ⊎ (result ≡ Err Fault.Memory)) }
     {
         for _ in 1..times {

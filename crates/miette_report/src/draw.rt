@@ -82,7 +82,7 @@ fn diagnostic(alloc: Global, words: &DrawWords<'_>) -> Result<MietteDiagnostic, 
 fn picture(alloc: Global, words: &DrawWords<'_>, input: Vec<u8>) -> Result<String, RenderError>
     ensures ok { IfOk result (λ text. IsPicture
         (drawn_tree words.now.name.now words.now.offset words.now.length words.now.label.now words.now.message.now
-            input.items) (string_bytes text)) }
+        input.items) (string_bytes text)) }
     ensures accepted { ¬ (result ≡ Err RenderError.Refused) }
 {
     let diagnostic = match diagnostic(alloc, words) {

@@ -110,7 +110,7 @@ pub fn write_findings<R: Read, W: Write>(
     requires writer_unmarked { writer.old.failed ≡ false }
     ensures ok { IfOk result (λ clean. IfSome (R.remaining reader.old.inner) (λ bytes.
         Lints words.now.name.now words.now.width bytes clean
-            (Appends (W.contents writer.old.inner) (W.contents writer.new.inner)))) }
+        (Appends (W.contents writer.old.inner) (W.contents writer.new.inner)))) }
     ensures others { OnErr result ((result ≡ Err Fault.Memory) ⊎ (result ≡ Err Fault.Read)
         ⊎ (result ≡ Err Fault.Write)) }
     ensures called { ¬ (result ≡ Err Fault.Usage) }
@@ -119,7 +119,7 @@ pub fn write_findings<R: Read, W: Write>(
     // After a write fault a beginning of the text was taken.
     ensures beginning { (result ≡ Err Fault.Write) → IfSome (R.remaining reader.old.inner) (λ bytes.
         LintsText words.now.name.now words.now.width bytes
-            (TakesBeginning (W.contents writer.old.inner) (W.contents writer.new.inner))) }
+        (TakesBeginning (W.contents writer.old.inner) (W.contents writer.new.inner))) }
     // After any other error nothing was written.
     ensures untouched { OnErr result ((result ≡ Err Fault.Write) ⊎ (writer.new ≡ writer.old)) }
 {

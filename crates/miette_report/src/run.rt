@@ -98,7 +98,7 @@ pub fn run<R: Read, W: Write>(
     // All that the reader had left is a description, and the writer took its text and nothing else.
     ensures ok { OnOk result (IfSome (R.remaining reader.old.inner) (λ bytes.
         Writes ⟦<Box<dyn Highlighter> as Highlighter>⟧.is_blank settings.choice settings.options settings.terminal bytes
-            (Appends (W.contents writer.old.inner) (W.contents writer.new.inner)))) }
+        (Appends (W.contents writer.old.inner) (W.contents writer.new.inner)))) }
     ensures description { (result ≡ Err Fault.Description) → IfSome (R.remaining reader.old.inner) (λ bytes.
         IsUtf8 bytes → tree_for bytes ≡ None) }
     ensures read_mark { IsTrue reader.new.failed ↔ (result ≡ Err Fault.Read) }
@@ -110,7 +110,7 @@ pub fn run<R: Read, W: Write>(
     // After a write fault a beginning of the text was taken.
     ensures beginning { (result ≡ Err Fault.Write) → IfSome (R.remaining reader.old.inner) (λ bytes.
         Writes ⟦<Box<dyn Highlighter> as Highlighter>⟧.is_blank settings.choice settings.options settings.terminal bytes
-            (TakesBeginning (W.contents writer.old.inner) (W.contents writer.new.inner))) }
+        (TakesBeginning (W.contents writer.old.inner) (W.contents writer.new.inner))) }
     ensures called { ¬ (result ≡ Err Fault.Usage) }
     // After any other error nothing was written.
     ensures untouched { OnErr result ((result ≡ Err Fault.Write) ⊎ (writer.new ≡ writer.old)) }

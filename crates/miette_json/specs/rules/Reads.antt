@@ -30,7 +30,7 @@ NameAlwaysReads source (l ∷ ls) = IfSome source (λ s. s.always_reads ≡ true
 abbrev mutual
   pub NamesAlwaysRead : Option Source → Tree → Type 0
   NamesAlwaysRead inherited (tree m s c r) = NameAlwaysReads (effective s inherited) (given_labels m.labels)
-    × AllNamesAlwaysRead (effective s inherited) r
+      × AllNamesAlwaysRead (effective s inherited) r
 
   pub AllNamesAlwaysRead : Option Source → Trees → Type 0
   AllNamesAlwaysRead inherited no_trees = ⊤
