@@ -1,11 +1,4 @@
-pub mod Scans
-pub mod Places
-pub mod Backs
-pub mod Columns
-pub mod Halving
-pub mod Cuts
-pub mod Cutting
-pub mod Only
+pub mod Reads
 pub mod Wholes
 pub mod Locations
 pub mod Equality

@@ -1,8 +1,8 @@
 -- What users rely on, in the words of docs/RULES.md.
-pub mod Lines
 pub mod Reading
 pub mod Context
 pub mod Outcome
 pub mod Texts
 pub mod Location
-pub mod Cutting
+pub use Rattle.miette_newlines.specs.rules.Lines
+pub use Rattle.miette_newlines.specs.rules.Cutting

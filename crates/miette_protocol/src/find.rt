@@ -1,38 +1,14 @@
 //! Reading a span of bytes whose lines can be found.
 
-ghost use Rattle.std.specs.Prelude.{◌≡◌, ℕ, ◌≤◌, ◌+◌, ◌-◌, ◌==◌, if◌then◌else◌, List, MatchBool, min, length};
-ghost use Rattle.miette_protocol.specs.rules.Lines.{line_of, line_start, line_end, column_of};
+ghost use Rattle.std.specs.Prelude.{◌≡◌, ◌≤◌, ◌+◌, ◌-◌, ◌==◌, if◌then◌else◌, MatchBool, min, length};
+ghost use Rattle.miette_newlines.specs.rules.Lines.{line_of, column_of};
 ghost use Rattle.miette_protocol.specs.rules.Reading.{IsAccepted, reading_end, data_start, data_end, plain_source};
 ghost use Rattle.miette_protocol.specs.rules.Outcome.{Answers};
 
 use crate::contents::MietteSpanContents;
 use crate::error::MietteError;
 use crate::protocol::{SourceOffset, SourceSpan};
-
-/// Finds the lines of a text.
-pub(crate) trait FindLines {
-    ghost text: { Self → List ℕ };
-
-    /// The number of an offset's line, from the number of the line of an offset before it.
-    fn line_from(&self, from: usize, line: usize, offset: usize) -> usize
-        requires order { from ≤ offset }
-        requires within { offset ≤ length (text self.now) }
-        requires line { line ≡ line_of (text self.now) from }
-        ensures { result ≡ line_of (text self.now) offset };
-
-    /// Where the line begins that stands so many before an offset's line, and the number of the offset's line.
-    fn start_before(&self, offset: usize, lines: usize) -> (usize, usize)
-        requires { offset ≤ length (text self.now) }
-        ensures start { result.0 ≡ line_start (text self.now) (line_of (text self.now) offset - lines) }
-        ensures line { result.1 ≡ line_of (text self.now) offset };
-
-    /// Where the line ends that stands so many after an offset's line, and the number of that end's line.
-    fn end_after(&self, offset: usize, line: usize, lines: usize) -> (usize, usize)
-        requires within { offset ≤ length (text self.now) }
-        requires line { line ≡ line_of (text self.now) offset }
-        ensures end { result.0 ≡ line_end (text self.now) (line + lines) }
-        ensures line { result.1 ≡ line_of (text self.now) result.0 };
-}
+use miette_newlines::find::{FindLines, column_from};
 
 /// Where the data of a read begin: an offset with its line and column, and the number of the line of the span.
 #[derive(Clone, Copy)]
@@ -67,7 +43,7 @@ fn reading_end(bytes: &[u8], span: &SourceSpan) -> usize
 
 /// Where the data of a read end, and the number of that end's line. The number of the line of the span's
 /// offset is known.
-#[tactic(auto, using(crate::proofs::Places::reads))]
+#[tactic(auto, using(crate::proofs::Reads::reads))]
 fn data_end<L: FindLines>(
     lines: &L,
     bytes: &[u8],
@@ -92,25 +68,9 @@ fn data_end<L: FindLines>(
     }
 }
 
-/// The column of an offset, whose line begins at a start. The bytes between the two are text, but for the
-/// CR of a CRLF that the offset splits.
-#[tactic(auto, using(crate::proofs::Columns::columns))]
-fn column_from(bytes: &[u8], start: usize, offset: usize) -> usize
-    requires start { start ≡ line_start bytes.now (line_of bytes.now offset) }
-    requires order { start ≤ offset }
-    requires within { offset ≤ length bytes.now }
-    ensures { result ≡ column_of bytes.now offset }
-{
-    if start < offset && bytes[offset - 1] == b'\r' {
-        offset - start - 1
-    } else {
-        offset - start
-    }
-}
-
 /// Where the data of a read begin, the number and the column of that offset, and the number of the line of the
 /// span's offset.
-#[tactic(auto, using(crate::proofs::Places::reads))]
+#[tactic(auto, using(crate::proofs::Reads::reads))]
 fn data_start<L: FindLines>(lines: &L, bytes: &[u8], span: &SourceSpan, before: usize) -> DataStart
     requires bytes { L.text lines.now ≡ bytes.now }
     requires accepted { IsAccepted bytes.now span.now }
@@ -144,7 +104,7 @@ fn data_start<L: FindLines>(lines: &L, bytes: &[u8], span: &SourceSpan, before: 
 
 /// Reads a span of the bytes: back from the span over the lines before it that are shown, once over the bytes
 /// before these, and forward from the span to the end of the data.
-#[tactic(auto, using(crate::proofs::Places::reads))]
+#[tactic(auto, using(crate::proofs::Reads::reads))]
 pub(crate) fn read<'a, L: FindLines>(
     lines: &L,
     bytes: &'a [u8],

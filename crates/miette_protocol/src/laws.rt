@@ -1,24 +1,14 @@
 //! Laws of lines and reads. Each function does nothing: its contract is the law, and a proof above calls it.
 
-ghost use Rattle.std.specs.Prelude.{◌≡◌, ◌↔◌, ℕ, ◌+◌, ◌<◌, ◌≤◌, min, List, length, slice_range};
+ghost use Rattle.std.specs.Prelude.{◌≡◌, ◌↔◌, ℕ, ◌+◌, ◌<◌, ◌≤◌, min, length, slice_range};
 ghost use Rattle.miette_protocol.specs.rules.Context.{first_line, last_line};
-ghost use Rattle.miette_protocol.specs.rules.Cutting.{AreLines};
-ghost use Rattle.miette_protocol.specs.rules.Lines.{Line, IsCut, lines_of, lines_from, line_of, line_start, line_end};
+ghost use Rattle.miette_newlines.specs.rules.Lines.{lines_of, lines_from, line_of, line_start, line_end};
 ghost use Rattle.miette_protocol.specs.rules.Reading.{Span, Source, Contents, IsAccepted, contents_of};
 
 use crate::error::RenderError;
 use crate::protocol::{LengthOverflow, Severity, SourceOffset, SourceSpan};
 use crate::source::MietteSpanContents;
-
-/// The lines of a source are its pieces, one after the other, each a text without CR and LF and its
-/// terminator: LF, CRLF, a CR that no LF follows, or nothing at the end of the source. No other list of
-/// lines is that, and every byte lies in exactly one of them.
-#[tactic(auto, using(crate::proofs::Cuts::lines_cut, crate::proofs::Cutting::lines_are, crate::proofs::Only::lines))]
-pub fn lines_cut_the_source()
-    ensures pieces { (bytes : List ℕ) → AreLines 0 (lines_of bytes) bytes }
-    ensures only { (bytes : List ℕ) → (ls : List Line) → AreLines 0 ls bytes → ls ≡ lines_of bytes }
-    ensures cover { (bytes : List ℕ) → IsCut 0 (lines_of bytes) (length bytes) }
-{}
+pub use miette_newlines::laws::lines_cut_the_source;
 
 /// With at least one line of context before and after, the data of a read are whole lines: cut alone, they
 /// are the lines of the source from the first to the last of the context. So many terminators stand before

@@ -7,13 +7,13 @@ ghost use Rattle.miette_protocol.specs.rules.Outcome.{Answers};
 pub use crate::contents::{MietteSpanContents, contents_clone_law};
 use crate::error::MietteError;
 use crate::find;
-pub use crate::indexed::IndexedSource;
 pub use crate::named::NamedSource;
 pub use crate::named_traits::{
     named_source_equality_law, named_source_hash_law, named_source_order_law,
 };
 use crate::protocol::SourceSpan;
-use crate::scan::Scan;
+pub use miette_newlines::indexed::IndexedSource;
+use miette_newlines::scan::Scan;
 
 /// A source of bytes. Its meaning is its bytes, its name and language, and whether it always reads.
 pub trait SourceCode: Drop {
@@ -100,6 +100,20 @@ impl SourceCode for String {
         after: usize,
     ) -> Result<MietteSpanContents<'_>, MietteError> {
         read_bytes(self.as_str().as_bytes(), span, before, after)
+    }
+}
+
+/// It has no name and no language, and always reads.
+impl SourceCode for IndexedSource {
+    ghost source = { λ it. plain_source it };
+
+    fn read_span(
+        &self,
+        span: &SourceSpan,
+        before: usize,
+        after: usize,
+    ) -> Result<MietteSpanContents<'_>, MietteError> {
+        find::read(self, self.bytes(), span, before, after)
     }
 }
 

@@ -5,7 +5,7 @@ ghost use Rattle.std.specs.Prelude.{position, ◌==◌, slice_range, take_while,
 ghost use Rattle.std.specs.Prelude.{None as Nothing, string_bytes};
 ghost use Rattle.std.specs.List.{All, last_or};
 ghost use Rattle.std.specs.Option.{option_map};
-ghost use Rattle.miette_protocol.specs.rules.Lines.{lines_of};
+ghost use Rattle.miette_newlines.specs.rules.Lines.{lines_of};
 ghost use Rattle.miette_lines.specs.views.TextLines.{line_of_text};
 ghost use Rattle.miette_lines.specs.views.Swept.{LiesIn};
 ghost use Rattle.miette_lines.specs.views.Walking.{cell_of};

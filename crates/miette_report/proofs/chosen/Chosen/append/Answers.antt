@@ -4,7 +4,7 @@ use Rattle.miette_report.proofs.ChosenSteps.{json-given, graphical-given, graphi
 use Rattle.miette_report.proofs.chosen.Chosen.append.Goals as goal
 
 pub returns-in-Json-clause-ok : goal.returns-in-Json-clause-ok
-returns-in-Json-clause-ok g c = json-given _ _ _ _ _ _ c.in-Json.is c.requires.reads c.render_report-in-Json.ensures.value
+returns-in-Json-clause-ok g c = json-given _ _ _ _ _ _ c.in-Json.is c.requires.reads c.render_report.ensures.value
 
 pub returns-in-Built-Graphical-clause-ok : goal.returns-in-Built-Graphical-clause-ok
 returns-in-Built-Graphical-clause-ok g c =
