@@ -10,7 +10,7 @@ use Rattle.std.specs.List.{AllByRecursion, range_with_len}
 use Rattle.miette_style.specs.declared.theme.ThemeCharacters.{ThemeCharacters}
 use Rattle.miette_page.specs.rules.Rows.{Piece, Run, Row, pieces_of, columns_of, code_at, drawn, styled}
 use Rattle.miette_style.specs.rules.Styles.{plain}
-use Rattle.miette_protocol.specs.rules.Lines.{Line}
+use Rattle.miette_newlines.specs.rules.Lines.{Line}
 use Rattle.miette_layout.specs.rules.PrintedCells.{line_runs}
 use Rattle.miette_lines.specs.rules.Cells.{Cell}
 use Rattle.miette_lines.specs.rules.Answers.{Highlight}

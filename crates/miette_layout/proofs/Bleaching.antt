@@ -1,7 +1,7 @@
 -- Labels in plain: which lie on a line, where their marks are, and how wide a gutter is, doesn't change.
 use Rattle.std.proofs.Common.{◌≡◌, ℕ, zero, suc, ◌+◌, ◌%◌, Bool, true, false, if◌then◌else◌, ◌==◌, List, [], ◌∷◌, map, length, max, refl, ap, ap₂, ◌∙◌, chars, Option, Some, None, IfSome, get_or}
 use Rattle.std.specs.List.{AllByRecursion, filter}
-use Rattle.miette_protocol.specs.rules.Lines.{Line}
+use Rattle.miette_newlines.specs.rules.Lines.{Line}
 use Rattle.miette_protocol.specs.views.Meaning.{Label}
 use Rattle.miette_style.specs.declared.style.Style.{Style}
 use Rattle.std.specs.Prelude.{nat_le}

@@ -4,8 +4,8 @@ use Rattle.std.specs.Prelude.{decimal, slice_range}
 use Rattle.std.proofs.lemmas.List.{length-drop, length-take}
 use Rattle.std.proofs.lemmas.List.FromFn.{length-map-range_with_len}
 use Rattle.std.specs.List.{range_with_len, filter}
-use Rattle.miette_protocol.specs.rules.Lines as P
-use Rattle.miette_protocol.specs.rules.Lines.{Line, lines_of}
+use Rattle.miette_newlines.specs.rules.Lines as P
+use Rattle.miette_newlines.specs.rules.Lines.{Line, lines_of}
 use Rattle.miette_protocol.specs.views.Meaning.{Label}
 use Rattle.miette_protocol.specs.rules.Reading as R
 use Rattle.miette_protocol.specs.rules.Reading.{Span, Source, IsAccepted}

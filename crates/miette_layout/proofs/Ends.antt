@@ -1,8 +1,8 @@
 -- A label's end, cut to the end of what its read lent, is cut to the source's end. So labels are drawn as the definition says.
 use Rattle.std.proofs.Common.{ℕ, zero, suc, ◌+◌, ◌-◌, ◌<◌, ◌≤◌, ◌≡◌, ◌⊎◌, inl, inr, min, max, true, false, cond, ltb, leb, ◌&&◌, List, [], ◌∷◌, length, map, refl, ap, ◌∙◌, ⊎_elim, subst, arith, All}
 use Rattle.std.proofs.lemmas.Bool.{leb-false, ltb-false, cases_lt}
-use Rattle.miette_protocol.specs.rules.Lines as P
-use Rattle.miette_protocol.specs.rules.Lines.{Line}
+use Rattle.miette_newlines.specs.rules.Lines as P
+use Rattle.miette_newlines.specs.rules.Lines.{Line}
 use Rattle.miette_protocol.specs.views.Meaning.{Label}
 use Rattle.miette_protocol.specs.rules.Reading as R
 use Rattle.miette_protocol.specs.rules.Reading.{Span, Source, Contents, IsAccepted}

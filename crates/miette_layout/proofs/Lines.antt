@@ -2,7 +2,7 @@
 use Rattle.std.proofs.Common.{ℕ, zero, suc, ◌+◌, ◌<◌, ◌≤◌, ◌≡◌, min, Bool, true, false, cond, ltb, leb, List, [], ◌∷◌, length, refl, ⊎_elim, ◌&&◌, arith}
 use Rattle.std.proofs.lemmas.Bool.{lt-ltb, le-ltb, le-leb, lt-leb, ltb-false, leb-true, leb-false, cases_lt}
 use Rattle.miette_lines.proofs.Numbers.{by_cases}
-use Rattle.miette_protocol.specs.rules.Lines.{Line}
+use Rattle.miette_newlines.specs.rules.Lines.{Line}
 use Rattle.miette_lines.proofs.Sources.{IsCut, is_ended, line_of, terminators_in, start_of, end_of}
 use Rattle.miette_lines.proofs.Lines.{cut-le}
 

@@ -2,7 +2,7 @@
 use Rattle.std.proofs.Common.{◌≡◌, ℕ, ◌+◌, ◌-◌, Bool, true, false, ◌&&◌, ◌||◌, not, if◌then◌else◌, List, [], ◌∷◌, ◌++◌, map, length, replicate, decimal, codes, chars, Option, Some, None, IfSome, option_map, refl, sym, ap, ap₂, ◌∙◌, subst, append-nil}
 use Rattle.std.specs.Prelude.{nat_lt, slice_range}
 use Rattle.std.specs.List.{AllByRecursion}
-use Rattle.miette_protocol.specs.rules.Lines.{Line}
+use Rattle.miette_newlines.specs.rules.Lines.{Line}
 use Rattle.miette_protocol.specs.views.Meaning.{Label}
 use Rattle.miette_protocol.specs.rules.Reading.{Span, Source, Contents}
 use Rattle.miette_lines.specs.rules.Answers.{Answers, Highlight, next_answer, later_answers, first_of, later_of}

@@ -4,7 +4,7 @@ use Rattle.std.specs.List.{AllByRecursion, range_with_len}
 use Rattle.std.proofs.lemmas.List.{map-append}
 use Rattle.miette_style.specs.declared.style.Style.{Style}
 use Rattle.miette_style.specs.declared.theme.ThemeCharacters.{ThemeCharacters}
-use Rattle.miette_protocol.specs.rules.Lines.{Line}
+use Rattle.miette_newlines.specs.rules.Lines.{Line}
 use Rattle.miette_layout.specs.laws.Clean.{IsCleanCode, IsClean, IsCleanRow, AreCleanDrawings}
 use Rattle.miette_layout.specs.rules.Drawing.{blank, code_with_parts, mark_code, mark_run, mark_runs, lead_runs, text_row, corner, corner_of_several, beside, rows_of_parts, rows_below, marked_rows}
 use Rattle.miette_layout.specs.laws.Fading.{IsPlainRow}

@@ -4,7 +4,7 @@ use Rattle.std.proofs.lemmas.List.{drop-take, length-drop, length-take}
 use Rattle.std.proofs.Math.Seq.{take-nil}
 use Rattle.std.specs.Prelude.{slice_range}
 use Rattle.std.specs.List.{range_with_len}
-use Rattle.miette_protocol.specs.rules.Lines.{Line}
+use Rattle.miette_newlines.specs.rules.Lines.{Line}
 use Rattle.miette_lines.proofs.Sources.{begins_with_lf, lines_from, lines, start_of, end_of}
 use Rattle.miette_layout.specs.rules.Shown.{line_at}
 use Rattle.miette_lines.proofs.Numbers.{by_cases}

@@ -1,6 +1,6 @@
 -- Pieces of a highlighter, and rows of lines that are left plain.
 use Rattle.std.proofs.Common.{ℕ, ◌+◌, ◌≡◌, ◌++◌, length, Bool, true, List, [], ◌∷◌, map, refl, sym, ap, ap₂, subst}
-use Rattle.miette_protocol.specs.rules.Lines.{Line}
+use Rattle.miette_newlines.specs.rules.Lines.{Line}
 use Rattle.miette_protocol.specs.views.Meaning.{Label}
 use Rattle.miette_protocol.specs.rules.Reading.{Span, Source, Contents}
 use Rattle.miette_style.specs.rules.Pieces.{CutsLine, Piece}

@@ -19,7 +19,7 @@
 //!    (`texts.rt`), and the texts of labels that end there (`closings.rt`).
 
 ghost use Rattle.std.specs.Prelude.{◌≡◌, ◌+◌, ◌<◌, ◌^◌, map, length, decimal, IfOk, OnOk};
-ghost use Rattle.miette_protocol.specs.rules.Lines.{lines_from};
+ghost use Rattle.miette_newlines.specs.rules.Lines.{lines_from};
 ghost use Rattle.miette_layout.specs.views.ThemeSettings.{settings_of};
 ghost use Rattle.miette_lines.specs.views.Given.{drawn_of};
 ghost use Rattle.miette_layout.specs.rules.Highlighted.{leaves_plain};

@@ -3,8 +3,8 @@ use Rattle.std.proofs.Common.{ℕ, zero, suc, ◌+◌, ◌-◌, ◌≤◌, ◌�
 use Rattle.std.specs.Prelude.{slice_index, slice_get}
 use Rattle.std.specs.Option.{option_map_or}
 use Rattle.std.proofs.lemmas.Bool.{ne_eqb}
-use Rattle.miette_protocol.specs.rules.Lines as P
-use Rattle.miette_protocol.specs.rules.Lines.{Line, ends_line, with_byte}
+use Rattle.miette_newlines.specs.rules.Lines as P
+use Rattle.miette_newlines.specs.rules.Lines.{Line, ends_line, with_byte}
 use Rattle.miette_lines.proofs.Numbers.{by_cases}
 use Rattle.miette_lines.proofs.Sources.{begins_with_lf, with_text, with_cr, lines_from, lines, end_of}
 

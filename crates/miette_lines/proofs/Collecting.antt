@@ -8,8 +8,8 @@ use Rattle.std.specs.Ordering.{nat_cmp}
 use Rattle.std.proofs.lemmas.Bool.{le-leb, lt-leb}
 use Rattle.std.proofs.lemmas.List.{map-append, take_more, drop_all}
 use Rattle.std.proofs.lemmas.List.Elements.{All-push}
-use Rattle.miette_protocol.specs.rules.Lines as P
-use Rattle.miette_protocol.specs.rules.Lines.{Line}
+use Rattle.miette_newlines.specs.rules.Lines as P
+use Rattle.miette_newlines.specs.rules.Lines.{Line}
 use Rattle.miette_protocol.specs.views.Meaning.{Label}
 use Rattle.miette_protocol.specs.rules.Reading as R
 use Rattle.miette_protocol.specs.rules.Reading.{Span, Source, Contents, IsAccepted}

@@ -1,6 +1,6 @@
 -- A text cut at its first line end.
 use Rattle.std.proofs.Common.{ℕ, zero, suc, ◌+◌, ◌≤◌, ◌≡◌, Bool, true, false, cond, eqb, List, [], ◌∷◌, length, refl, arith}
-use Rattle.miette_protocol.specs.rules.Lines.{Line}
+use Rattle.miette_newlines.specs.rules.Lines.{Line}
 use Rattle.miette_lines.proofs.Sources.{begins_with_lf, with_text, with_cr, lines_from, IsCut, end_of}
 
 pub cut_text : (at n : ℕ) (ls : List Line) → IsCut (at + 1) n ls → IsCut at n (with_text at ls)

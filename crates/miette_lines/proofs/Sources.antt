@@ -1,7 +1,7 @@
 -- Lines, places and reads in the forms that the proofs go by: recursions over bytes and over lists of lines. `Bridge` joins them to the words of miette_protocol.
 use Rattle.std.specs.Prelude.{ℕ, zero, suc, ◌+◌, ◌-◌, ◌<◌, ◌≤◌, max, ◌≡◌, List, [], ◌∷◌, length, slice_index, Bool, false, ◌&&◌, if◌then◌else◌, nat_lt, nat_le, ◌==◌}
 use Rattle.std.specs.List.{range_with_len, filter}
-use Rattle.miette_protocol.specs.rules.Lines.{Line}
+use Rattle.miette_newlines.specs.rules.Lines.{Line}
 use Rattle.miette_protocol.specs.rules.Reading.{Span}
 
 abbrev pub begins_with_lf : List ℕ → Bool

@@ -3,7 +3,7 @@
 ghost use Rattle.std.specs.Prelude.{◌≡◌, ◌+◌, ◌-◌, ◌<◌, ◌≤◌, ◌∷◌, ◌^◌, ◌==◌, ◌||◌, ◌&&◌, not, ℕ, List, map, drop};
 ghost use Rattle.std.specs.Prelude.{position, slice_index, length, IfOk, OnOk};
 ghost use Rattle.std.specs.List.{All};
-ghost use Rattle.miette_protocol.specs.rules.Lines.{lines_from};
+ghost use Rattle.miette_newlines.specs.rules.Lines.{lines_from};
 ghost use Rattle.miette_lines.specs.views.TextLines.{line_of_text};
 ghost use Rattle.miette_lines.specs.views.Sweeping.{IsAt, AreSorted};
 ghost use Rattle.miette_lines.specs.views.Swept.{HasLabels, LiesIn, most_multi};

@@ -4,7 +4,7 @@ use Rattle.std.specs.List.{filter}
 use Rattle.std.proofs.lemmas.Bool.{leb-true, leb-false, le-ltb}
 use Rattle.std.proofs.lemmas.Bool.Decides.{nat_tests}
 use Rattle.miette_protocol.specs.views.Meaning.{Label}
-use Rattle.miette_protocol.specs.rules.Lines.{Line}
+use Rattle.miette_newlines.specs.rules.Lines.{Line}
 use Rattle.miette_lines.specs.declared.sweep.Placed.{Placed}
 use Rattle.miette_narrated.specs.rules.Labels.{Shown, label_row, label_rows}
 use Rattle.miette_narrated.specs.steps.Ends.{is_ended, is_begun}

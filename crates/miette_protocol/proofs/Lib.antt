@@ -1,4 +1,4 @@
-pub mod Reads
+pub mod LineFacts
 pub mod Wholes
 pub mod Locations
 pub mod Equality

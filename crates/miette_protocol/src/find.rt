@@ -43,7 +43,7 @@ fn reading_end(bytes: &[u8], span: &SourceSpan) -> usize
 
 /// Where the data of a read end, and the number of that end's line. The number of the line of the span's
 /// offset is known.
-#[tactic(auto, using(crate::proofs::Reads::reads))]
+#[tactic(auto, using(crate::proofs::LineFacts::reads))]
 fn data_end<L: FindLines>(
     lines: &L,
     bytes: &[u8],
@@ -70,7 +70,7 @@ fn data_end<L: FindLines>(
 
 /// Where the data of a read begin, the number and the column of that offset, and the number of the line of the
 /// span's offset.
-#[tactic(auto, using(crate::proofs::Reads::reads))]
+#[tactic(auto, using(crate::proofs::LineFacts::reads))]
 fn data_start<L: FindLines>(lines: &L, bytes: &[u8], span: &SourceSpan, before: usize) -> DataStart
     requires bytes { L.text lines.now ≡ bytes.now }
     requires accepted { IsAccepted bytes.now span.now }
@@ -104,7 +104,7 @@ fn data_start<L: FindLines>(lines: &L, bytes: &[u8], span: &SourceSpan, before: 
 
 /// Reads a span of the bytes: back from the span over the lines before it that are shown, once over the bytes
 /// before these, and forward from the span to the end of the data.
-#[tactic(auto, using(crate::proofs::Reads::reads))]
+#[tactic(auto, using(crate::proofs::LineFacts::reads))]
 pub(crate) fn read<'a, L: FindLines>(
     lines: &L,
     bytes: &'a [u8],

@@ -1,7 +1,7 @@
 -- What holds of the snippets of each printed diagnostic, over its effective source and by its labels.
 use Rattle.std.specs.Prelude.{◌≡◌, ℕ, ◌+◌, ◌<◌, ◌^◌, true, List, [], ◌∷◌, length, Some, IfSome}
 use Rattle.std.specs.List.{AllByRecursion, concat}
-use Rattle.miette_protocol.specs.rules.Lines.{lines_of}
+use Rattle.miette_newlines.specs.rules.Lines.{lines_of}
 use Rattle.miette_protocol.specs.views.Meaning.{Label}
 use Rattle.miette_protocol.specs.rules.Reading.{Source, Span, Contents}
 use Rattle.miette_lines.specs.rules.Answers.{Highlight}

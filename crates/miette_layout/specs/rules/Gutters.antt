@@ -2,7 +2,7 @@
 use Rattle.std.specs.Prelude.{ℕ, ◌+◌, ◌-◌, max, List, [], ◌∷◌, ◌++◌, map, length, replicate, if◌then◌else◌, ◌==◌}
 use Rattle.miette_style.specs.declared.theme.ThemeCharacters.{ThemeCharacters}
 use Rattle.miette_page.specs.rules.Rows.{Run, Row, styled}
-use Rattle.miette_protocol.specs.rules.Lines.{Line}
+use Rattle.miette_newlines.specs.rules.Lines.{Line}
 use Rattle.miette_lines.specs.rules.Labels.{DrawnLabel, starts_on, ends_on, multi_line}
 use Rattle.miette_layout.specs.rules.Drawing.{blank}
 

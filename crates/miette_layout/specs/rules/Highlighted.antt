@@ -2,7 +2,7 @@
 use Rattle.std.specs.Prelude.{ℕ, ◌≡◌, ◌≢◌, true, List, [], ◌∷◌, map, slice_range, encode_utf8_all, Option, Bool}
 use Rattle.std.specs.Option.{option_map_or}
 use Rattle.bstr.specs.Utf8.{lossy_chars}
-use Rattle.miette_protocol.specs.rules.Lines.{Line}
+use Rattle.miette_newlines.specs.rules.Lines.{Line}
 use Rattle.miette_protocol.specs.rules.Reading.{Span, Source}
 use Rattle.miette_style.specs.rules.Pieces.{CutsLine, Piece}
 use Rattle.miette_lines.specs.rules.Answers.{Highlight, first_of, later_of}

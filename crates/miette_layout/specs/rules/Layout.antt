@@ -3,7 +3,7 @@ use Rattle.std.specs.Prelude.{ℕ, ◌+◌, List, [], ◌∷◌, ◌++◌, map, 
 use Rattle.std.specs.Prelude.{◌&&◌, ◌||◌, if◌then◌else◌, nat_le}
 use Rattle.std.specs.List.{filter}
 use Rattle.std.specs.Option.{option_map}
-use Rattle.miette_protocol.specs.rules.Lines.{Line}
+use Rattle.miette_newlines.specs.rules.Lines.{Line}
 use Rattle.miette_protocol.specs.views.Meaning.{Label}
 use Rattle.miette_protocol.specs.rules.Reading.{Span, Source, Contents}
 use Rattle.miette_page.specs.rules.Rows.{Row}

@@ -1,6 +1,6 @@
 -- The rows of shown lines, by their numbers in the source.
 use Rattle.std.specs.Prelude.{ℕ, zero, suc, ◌+◌, List, [], ◌∷◌, ◌++◌, map, length, decimal}
-use Rattle.miette_protocol.specs.rules.Lines.{Line, lines_of}
+use Rattle.miette_newlines.specs.rules.Lines.{Line, lines_of}
 use Rattle.miette_protocol.specs.views.Meaning.{Label}
 use Rattle.miette_protocol.specs.rules.Reading.{Span, Source}
 use Rattle.miette_layout.specs.rules.Numbers.{last_of}

@@ -1,7 +1,7 @@
 -- The shown lines of a source, as a set, and the snippets as its maximal runs. Nothing here knows an order of labels.
 use Rattle.std.specs.Prelude.{ℕ, List, [], ◌∷◌, length, Bool, ◌&&◌, nat_le}
 use Rattle.std.specs.List.{range_with_len, filter, list_any}
-use Rattle.miette_protocol.specs.rules.Lines.{lines_of}
+use Rattle.miette_newlines.specs.rules.Lines.{lines_of}
 use Rattle.miette_protocol.specs.views.Meaning.{Label}
 use Rattle.miette_protocol.specs.rules.Reading.{Span}
 use Rattle.miette_lines.specs.rules.Around.{lines_around}

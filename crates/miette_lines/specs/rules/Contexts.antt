@@ -1,7 +1,7 @@
 -- A span read with lines of context, and the lines that it shows.
 use Rattle.std.specs.Prelude.{ℕ, ◌+◌, ◌-◌, List, length, Bool, ◌&&◌, nat_le}
 use Rattle.std.specs.List.{range_with_len, filter}
-use Rattle.miette_protocol.specs.rules.Lines.{Line, lines_from, lines_of, line_of, line_start, line_end}
+use Rattle.miette_newlines.specs.rules.Lines.{Line, lines_from, lines_of, line_of, line_start, line_end}
 use Rattle.miette_protocol.specs.rules.Reading.{Span, Source, Contents, reading_end, contents_of}
 
 -- where a span ends

@@ -5,7 +5,7 @@ use Rattle.std.specs.List.{filter}
 use Rattle.miette_lines.specs.declared.sweep.Placed.{Placed}
 use Rattle.miette_lines.specs.declared.sweep.Bounds.{Bounds}
 use Rattle.miette_style.specs.rules.Styles.{plain}
-use Rattle.miette_protocol.specs.rules.Lines.{Line}
+use Rattle.miette_newlines.specs.rules.Lines.{Line}
 use Rattle.miette_lines.specs.rules.Labels.{DrawnLabel, reach, is_one_line, is_multi_line}
 
 -- a label of this place; of its text only matters whether it is there

@@ -1,7 +1,7 @@
 -- Lines with the labels that lie on them.
 use Rattle.std.specs.Prelude.{ℕ, ◌+◌, ◌≤◌, ◌≡◌, max, List, [], ◌∷◌, length}
 use Rattle.std.specs.List.{filter}
-use Rattle.miette_protocol.specs.rules.Lines.{Line}
+use Rattle.miette_newlines.specs.rules.Lines.{Line}
 use Rattle.miette_lines.specs.declared.line_sweep.SweptLine.{SweptLine}
 use Rattle.miette_lines.specs.declared.sweep.Placed.{Placed}
 use Rattle.miette_lines.specs.views.TextLines.{line_of_text}

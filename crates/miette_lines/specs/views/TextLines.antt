@@ -1,5 +1,5 @@
 -- Lines as a program has them.
-use Rattle.miette_protocol.specs.rules.Lines.{Line}
+use Rattle.miette_newlines.specs.rules.Lines.{Line}
 use Rattle.miette_lines.specs.declared.text_line.LineOfText.{LineOfText}
 
 abbrev pub line_of_text : LineOfText → Line

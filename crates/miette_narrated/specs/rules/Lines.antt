@@ -1,7 +1,7 @@
 -- The rows of a snippet's lines.
 use Rattle.std.specs.Prelude.{ℕ, ◌+◌, ◌-◌, List, [], ◌∷◌, ◌++◌, map, length, Bool, true, false, slice_range, decimal}
 use Rattle.std.specs.Prelude.{codes, encode_utf8_all}
-use Rattle.miette_protocol.specs.rules.Lines.{Line}
+use Rattle.miette_newlines.specs.rules.Lines.{Line}
 use Rattle.miette_protocol.specs.rules.Reading.{Contents}
 use Rattle.miette_lines.specs.rules.Cells.{Character, characters}
 use Rattle.miette_narrated.specs.rules.Labels.{Shown, Told, row, label_rows}

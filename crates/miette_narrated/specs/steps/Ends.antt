@@ -2,7 +2,7 @@
 use Rattle.std.specs.Prelude.{ℕ, ◌+◌, ◌≡◌, ◌==◌, map, List, [], ◌∷◌, Bool, ◌&&◌, nat_le, nat_lt}
 use Rattle.std.specs.List.{filter}
 use Rattle.std.specs.List.Sorted.{IsNonDecreasingBy}
-use Rattle.miette_protocol.specs.rules.Lines.{Line}
+use Rattle.miette_newlines.specs.rules.Lines.{Line}
 use Rattle.miette_lines.specs.declared.sweep.Placed.{Placed}
 use Rattle.miette_narrated.specs.declared.label_order.LabelOrder.{LabelOrder}
 use Rattle.miette_narrated.specs.declared.label_order.Ranked.{Ranked}
