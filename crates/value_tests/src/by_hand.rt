@@ -1,5 +1,6 @@
 //! A diagnostic written by hand, called through a box.
 
+use miette_protocol::diagnostic::MietteDiagnostic;
 use miette_protocol::protocol::{Diagnostic, LabeledSpan, Severity};
 use std::alloc::Global;
 use std::test::Fail;
@@ -61,5 +62,20 @@ fn boxed(rt: HostRuntime) -> Result<(), Fail> {
     );
     assert_eq!(rt; boxed.severity(), Some(Severity::Warning));
     assert!(rt; boxed.labels().is_none());
+    Ok(())
+}
+
+#[test]
+fn copied(rt: HostRuntime) -> Result<(), Fail> {
+    let alloc = rt.alloc();
+    let boxed = boxed_missing(alloc)?;
+    let copy = MietteDiagnostic::copied(alloc, &boxed)?;
+    drop(boxed);
+    let wanted = MietteDiagnostic::new(alloc, "a file is missing")?
+        .with_severity(Severity::Warning)
+        .with_help(alloc, "make it")?;
+    assert!(rt; copy == wanted);
+    let wanted = wanted.with_label(alloc, LabeledSpan::at(alloc, (3, 4), "here")?)?;
+    assert!(rt; MietteDiagnostic::copied(alloc, &wanted)? == wanted);
     Ok(())
 }

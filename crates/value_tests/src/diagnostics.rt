@@ -53,6 +53,18 @@ fn printed_and_cloned(rt: HostRuntime) -> Result<(), Fail> {
 }
 
 #[test]
+fn labels_of_an_iterator(rt: HostRuntime) -> Result<(), Fail> {
+    let alloc = rt.alloc();
+    let made = MietteDiagnostic::new(alloc, "m")?
+        .with_label(alloc, LabeledSpan::underline(9))?
+        .with_labels_from(alloc, [4, 7].into_iter().map(LabeledSpan::underline))?;
+    let found = made.labels().ok_or("no labels")?;
+    assert_eq!(rt; found.len(), 2);
+    assert_eq!(rt; (found[0].offset(), found[1].offset()), (4, 7));
+    Ok(())
+}
+
+#[test]
 fn severities(rt: HostRuntime) {
     assert!(rt; Severity::Advice < Severity::Warning);
     assert!(rt; Severity::Warning < Severity::Error);

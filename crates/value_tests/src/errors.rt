@@ -1,7 +1,9 @@
 //! What an error of a source says.
 
-use miette_protocol::error::MietteError;
+use miette_protocol::error::{MietteError, RenderError};
 use miette_protocol::protocol::Diagnostic;
+use std::alloc::Global;
+use std::error::Error;
 use std::io;
 use std::process::Abort;
 use std::test::Fail;
@@ -47,4 +49,22 @@ fn io_error(rt: HostRuntime) -> Result<(), Fail> {
     );
     says(&rt, &error, wanted);
     Ok(())
+}
+
+/// The error prints this, as an error of any kind.
+fn prints<E: Error>(rt: &impl Abort, alloc: Global, error: E, wanted: &str) -> Result<(), Fail> {
+    let text = format!(in alloc; "{error}")?;
+    assert_eq!(rt; text.as_str(), wanted);
+    Ok(())
+}
+
+#[test]
+fn errors_of_writing(rt: HostRuntime) -> Result<(), Fail> {
+    let alloc = rt.alloc();
+    let refused = "a source could not be read where a label points";
+    assert_eq!(rt; RenderError::Refused.text(), refused);
+    prints(&rt, alloc, RenderError::Refused, refused)?;
+    prints(&rt, alloc, RenderError::Memory, "memory allocation failed")?;
+    let outside = "The given offset is outside the bounds of its Source";
+    prints(&rt, alloc, MietteError::OutOfBounds, outside)
 }

@@ -1,6 +1,8 @@
 //! Places in texts, and what a span is made from.
 
-use miette_protocol::protocol::{LengthOverflow, SourceOffset, SourceSpan};
+use miette_protocol::protocol::{LabeledSpan, LengthOverflow, SourceOffset, SourceSpan};
+use std::alloc::{AllocError, Global};
+use std::test::Fail;
 
 fn located(text: &str, line: usize, column: usize) -> usize {
     SourceOffset::from_location(text, line, column).offset()
@@ -29,6 +31,52 @@ fn locations(rt: HostRuntime) {
     }
 }
 
+#[test]
+fn spans_from_a_line_and_a_column(rt: HostRuntime) {
+    let text = "{\n  \"é\": x\n}";
+    let rows = [
+        ((2, 3, 3), (4, 3)),
+        ((2, 8, 1), (10, 1)),
+        ((9, 1, 2), (13, 2)),
+    ];
+    for ((line, column, length), wanted) in rows {
+        assert_eq!(rt;
+            parts(SourceSpan::at_line_column(text, line, column, length)),
+            wanted
+        );
+    }
+}
+
+/// A label where the reader of JSON stopped. Its columns count bytes, so they are added to the line's offset.
+fn json_label(
+    alloc: Global,
+    text: &str,
+    error: &serde_json::Error,
+) -> Result<LabeledSpan, AllocError> {
+    let line = SourceSpan::at_line_column(text, error.line(), 1, 0);
+    let before = error.column().saturating_sub(1);
+    let why = format!(in alloc; "{error}")?;
+    LabeledSpan::at(
+        alloc,
+        (line.offset().saturating_add(before), 1),
+        why.as_str(),
+    )
+}
+
+#[test]
+fn a_label_where_json_ends(rt: HostRuntime) -> Result<(), Fail> {
+    let alloc = rt.alloc();
+    for (text, offset) in [("{\n  \"é\": x\n}", 10), ("{\n  \"a\": ", 8), ("[1,\n", 4)] {
+        match serde_json::Value::from_str(alloc, text) {
+            Ok(_) => assert!(rt; false, "it is no JSON"),
+            Err(error) => {
+                assert_eq!(rt; json_label(alloc, text, &error)?.offset(), offset);
+            }
+        }
+    }
+    Ok(())
+}
+
 fn parts(span: SourceSpan) -> (usize, usize) {
     (span.offset(), span.len())
 }
@@ -55,6 +103,16 @@ fn inclusive_ranges(rt: HostRuntime) {
     assert_eq!(rt; SourceSpan::try_from(2..=5), Ok(SourceSpan::from((2, 4))));
     assert_eq!(rt; SourceSpan::try_from(5..=3), Ok(SourceSpan::from((5, 0))));
     assert_eq!(rt; SourceSpan::try_from(0..=usize::MAX), Err(LengthOverflow));
+}
+
+#[test]
+fn a_length_that_is_too_great_prints(rt: HostRuntime) -> Result<(), Fail> {
+    let text = format!(in rt.alloc(); "{}", LengthOverflow)?;
+    assert_eq!(rt;
+        text.as_str(),
+        "the length of the range is greater than a usize can say"
+    );
+    Ok(())
 }
 
 #[test]

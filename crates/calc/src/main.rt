@@ -1,0 +1,71 @@
+//! The value of a sum of products of whole numbers: `calc "2 + 3 * -4"`.
+#![tactic(auto)]
+
+mod sums;
+
+use crate::sums::{Fault, value_of};
+use miette::highlight::Highlighter;
+use miette::prelude::{
+    IntoDiagnostic, LabeledSpan, MietteHandlerOpts, OwnedSource, Report, Result, WrapErr,
+    print_report_with,
+};
+use miette::source::MietteSpanContents;
+use miette::style::{Color, Style};
+use miette_tree::diagnostic;
+use std::alloc::{AllocError, Global};
+use std::env;
+use std::env::Env;
+use std::io::Print;
+use std::process::ExitCode;
+
+fn main(rt: HostRuntime) -> ExitCode {
+    match run(&rt) {
+        Ok(()) => ExitCode::SUCCESS,
+        Err(report) => {
+            let options = MietteHandlerOpts::default().with_syntax_highlighting(Cyan);
+            print_report_with(&rt, options, &report)
+        }
+    }
+}
+
+fn run<R: Env + Print + AllocGlobal>(rt: &R) -> Result<()> {
+    let alloc = rt.alloc();
+    let words = env::args(rt).into_diagnostic(alloc)?;
+    let text = words
+        .skip(1)
+        .next()
+        .wrap_err(alloc, "usage: calc EXPRESSION")?;
+    match value_of(text.as_str()) {
+        Ok(value) => println!(rt; "{value}").into_diagnostic(alloc),
+        Err(fault) => Err(report_of(alloc, text.as_str(), fault)?).wrap_err(
+            alloc,
+            "there is no value",
+        ),
+    }
+}
+
+/// The reason as a message, and a label where it lies. With a line feed behind the text a label behind its last word is
+/// shown: one at the very end of a source isn't.
+fn report_of(alloc: Global, text: &str, fault: Fault) -> Result<Report, AllocError> {
+    let label = LabeledSpan::at(alloc, (fault.start, fault.length), "here")?;
+    let diagnostic = diagnostic!(in alloc; "{}", fault.reason)?.with_label(alloc, label)?;
+    let source = OwnedSource::new(alloc, format!(in alloc; "{text}\n")?.into_bytes())?;
+    Ok(Report::new(diagnostic).with_owned_source(source))
+}
+
+/// Lines in one colour.
+#[derive(Drop)]
+struct Cyan;
+
+impl Highlighter for Cyan {
+    fn restart(&mut self, _contents: &MietteSpanContents<'_>) {}
+
+    fn highlight_line(
+        &mut self,
+        alloc: Global,
+        line: &str,
+    ) -> Result<Vec<(usize, Style)>, AllocError> {
+        let cyan = Style::new().color(Color::Cyan);
+        Ok(vec![in alloc; (line.len(), cyan)]?)
+    }
+}

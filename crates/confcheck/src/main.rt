@@ -1,0 +1,102 @@
+//! Checks a file of settings in TOML: `confcheck FILE`.
+#![tactic(auto)]
+
+mod settings;
+
+use crate::settings::{is_known, line_of, port_of};
+use miette::prelude::{
+    IntoDiagnostic, LabeledSpan, MietteDiagnostic, OwnedSource, Report, Result, Severity, WrapErr,
+    print_report,
+};
+use miette_tree::miette;
+use std::alloc::{AllocError, Global};
+use std::env::Env;
+use std::fs::Files;
+use std::io::Print;
+use std::process::ExitCode;
+use std::{env, fs};
+use toml::Table;
+use toml::de::Error;
+
+fn main(rt: HostRuntime) -> ExitCode {
+    match run(&rt) {
+        Ok(()) => ExitCode::SUCCESS,
+        Err(report) => print_report(&rt, &report),
+    }
+}
+
+fn run<R: Env + Files + Print + AllocGlobal>(rt: &R) -> Result<()> {
+    let alloc = rt.alloc();
+    let words = env::args(rt).into_diagnostic(alloc)?;
+    let name = words
+        .skip(1)
+        .next()
+        .wrap_err(alloc, "usage: confcheck FILE")?;
+    let text = fs::read_to_string(rt, name.as_str())
+        .into_diagnostic(alloc)
+        .wrap_err_with(alloc, || format!(in alloc; "could not read {name}"))?;
+    match checked(alloc, text.as_str()) {
+        Ok(port) => println!(rt; "{name}: port {port}").into_diagnostic(alloc),
+        Err(report) => {
+            let source = OwnedSource::named(alloc, name.as_str(), Some("toml"), text.into_bytes())?;
+            Err(report.with_owned_source(source))
+        }
+    }
+}
+
+/// The port, or what is wrong with the settings.
+fn checked(alloc: Global, text: &str) -> Result<i64> {
+    match toml::table_from_str(alloc, text) {
+        Ok(table) => match port_of(&table) {
+            Some(port) => Ok(port),
+            None => Err(bad_port(alloc, text, &table)?),
+        },
+        Err(error) => Err(no_toml(alloc, &error)?),
+    }
+}
+
+/// A label where the parser stopped.
+fn no_toml(alloc: Global, error: &Error) -> Result<Report, AllocError> {
+    let diagnostic = MietteDiagnostic::new(alloc, "this is no TOML")?;
+    match error.span() {
+        Some(span) => {
+            let label = LabeledSpan::at(alloc, span, error.message())?;
+            Ok(Report::new(diagnostic.with_label(alloc, label)?))
+        }
+        None => Ok(Report::new(diagnostic)),
+    }
+}
+
+/// A fault, and beside it a warning for each key that nothing reads.
+fn bad_port(alloc: Global, text: &str, table: &Table) -> Result<Report> {
+    let labels = label_on(alloc, line_of(text, "port"), "from 1 to 65535")?;
+    let fault = miette!(
+        in alloc;
+        code = "settings::port",
+        help = "write a number, as in `port = 8080`",
+        labels = labels,
+        "the port is missing or wrong"
+    );
+    let mut warnings = Vec::new(alloc);
+    for key in table.keys() {
+        if !is_known(key.as_str()) {
+            let labels = label_on(alloc, line_of(text, key.as_str()), "this key isn't known")?;
+            warnings.push(
+                miette!(in alloc; severity = Severity::Warning, labels = labels, "nothing reads `{key}`"),
+            )?;
+        }
+    }
+    Ok(fault.with_related(warnings))
+}
+
+/// A label on a line, where there is one.
+fn label_on(
+    alloc: Global,
+    line: Option<(usize, usize)>,
+    why: &str,
+) -> Result<Vec<LabeledSpan>, AllocError> {
+    match line {
+        Some(line) => Ok(vec![in alloc; LabeledSpan::at(alloc, line, why)?]?),
+        None => Ok(Vec::new(alloc)),
+    }
+}
