@@ -7,6 +7,7 @@ use Rattle.miette_protocol.specs.rules.Reading.{Source}
 use Rattle.miette_protocol.specs.declared.protocol.Severity.{Severity}
 use Rattle.miette_tree.specs.rules.Tree.{Tree, tree, Cause, diagnostic, texts, Trees, no_trees, more_trees, effective}
 use Rattle.miette_layout.specs.rules.Frames as frames
+use Rattle.miette_style.specs.rules.Themes.{Styles}
 use Rattle.miette_graphical.specs.rules.Settings.{Settings}
 use Rattle.miette_graphical.specs.rules.Answers.{Answers, unlisted, listed, RelatedAnswers, no_more, and_more, nothing_listed, own_answer, cause_answers, related_answers, first_answers, later_answers}
 use Rattle.miette_graphical.specs.laws.Colourless.{colourless, unhighlighted_answer, unhighlighted, unhighlighted_related}
@@ -118,3 +119,7 @@ bare-report rows s blank (tree m own c r) a h e =
     ∙ ap₂ (report_over u m (rows_text (rows u own (given_labels m.labels) nothing_listed)))
     (ap (λ b. only_if s.chain (causes_text rows u m.severity own c b)) (sym (cause-bare a)) ∙ bare-root l blank rows u m own c (cause_answers a) s.chain s.nested refl h.1 q.0)
     (ap (related_text rows u m.severity own r) (sym (related-bare a)) ∙ bare-related l blank rows u m.severity own r (related_answers a) s.nested refl h.2 q.1)
+
+-- which diagnostics are printed is the same in any styles
+pub restyled-printed : (s : Settings) (styles : Styles) (t : Tree) → printed (record s { styles = styles }) t ≡ printed s t
+restyled-printed s styles (tree m own c r) = refl

@@ -1,4 +1,5 @@
 pub mod Bare
+pub mod Possible
 pub mod Fading
 pub mod PartFading
 pub mod ReportFading
@@ -15,3 +16,4 @@ pub mod Alike
 pub mod DrawnRows
 pub mod SnippetsFading
 pub mod Styled
+pub mod Themes

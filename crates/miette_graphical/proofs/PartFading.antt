@@ -11,8 +11,7 @@ use Rattle.miette_protocol.specs.rules.Reading.{Source}
 use Rattle.miette_protocol.specs.declared.protocol.Severity.{Severity}
 use Rattle.miette_protocol.specs.declared.protocol.Severity.TheVariants.{Advice, Warning, Error}
 use Rattle.miette_graphical.specs.rules.Settings.{Settings, Urls, AsLinks, AsText, Hidden, icon, icon_in, style_in, severity_style}
-use Rattle.miette_style.specs.rules.Themes.{Styles}
-use Rattle.miette_style.specs.declared.theme.ThemeCharacters.{ThemeCharacters}
+use Rattle.miette_style.specs.rules.Themes.{Characters, Styles}
 use Rattle.miette_graphical.proofs.TextLaws.{TextLaws}
 use Rattle.miette_graphical.specs.rules.Answers.{Answer}
 use Rattle.miette_graphical.specs.rules.Indents.{bare, spaces, wrapped_under, icon_indent, bar_indent, arrow_text, stem_text, arrow_indent, stem_indent, help_indent, further_help_indent, footer_indent, narrowed}
@@ -44,7 +43,7 @@ module _ (laws : TextLaws) where
   style-faded s (Some Warning) = refl
   style-faded s (Some Advice) = refl
 
-  icon-clean : (c : ThemeCharacters) (v : Option Severity) → AreCleanCharacters c → IsClean (icon_in c v)
+  icon-clean : (c : Characters) (v : Option Severity) → AreCleanCharacters c → IsClean (icon_in c v)
   icon-clean c None h = h.error
   icon-clean c (Some Error) h = h.error
   icon-clean c (Some Warning) h = h.warning

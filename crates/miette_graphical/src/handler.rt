@@ -42,7 +42,7 @@ pub struct GraphicalReportHandler<H = Box<dyn Highlighter>> {
 impl<H> Model for GraphicalReportHandler<H> {
     ghost use Rattle.std.specs.Prelude.{◌≤◌, option_map, chars, codes, string_bytes};
     ghost use Rattle.std.specs.Option.{option_map_or};
-    ghost use Rattle.miette_style.specs.rules.Themes.{styles_of};
+    ghost use Rattle.miette_style.specs.rules.Themes.{characters_of, styles_of};
     ghost use Rattle.miette_graphical.specs.views.Handling.{Handling};
     ghost use Rattle.miette_graphical.specs.views.Modes.{urls_of, splits};
 
@@ -50,7 +50,7 @@ impl<H> Model for GraphicalReportHandler<H> {
 
     ghost view = { λ it. record {
       settings = record {
-        characters = it.theme.characters;
+        characters = characters_of it.theme.characters;
         styles = styles_of it.theme.styles;
         width = it.width;
         tab = it.tab_width;
@@ -77,10 +77,9 @@ impl GraphicalReportHandler {
     /// # Errors
     /// Where no memory is found for the theme.
     pub fn new(alloc: Global, terminal: &Terminal) -> Result<Self, AllocError>
-        ensures characters { IfOk result (λ it.
-            characters_of it.settings.characters ≡ (terminal_theme terminal.now).characters) }
         ensures settings { IfOk result (λ it.
-            it ≡ without_highlighter (default_settings it.settings.characters (terminal_theme terminal.now).styles)) }
+            it ≡ without_highlighter (default_settings (terminal_theme terminal.now).characters
+            (terminal_theme terminal.now).styles)) }
     {
         Ok(Self::new_themed(GraphicalTheme::for_terminal(alloc, terminal)?))
     }
@@ -89,7 +88,7 @@ impl GraphicalReportHandler {
     /// causes, wrapped rows, words broken where they are too wide, the place of the primary label in a frame, and
     /// related reports one after another.
     pub fn new_themed(theme: GraphicalTheme) -> Self
-        ensures { result ≡ without_highlighter (default_settings theme.characters (styles_of theme.styles)) }
+        ensures { result ≡ without_highlighter (default_settings (characters_of theme.characters) (styles_of theme.styles)) }
     {
         Self::themed(theme)
     }
@@ -98,7 +97,7 @@ impl GraphicalReportHandler {
 impl<H: Highlighter> GraphicalReportHandler<H> {
     /// As `new_themed`, for highlighters of any type.
     pub fn themed(theme: GraphicalTheme) -> Self
-        ensures { result ≡ without_highlighter (default_settings theme.characters (styles_of theme.styles)) }
+        ensures { result ≡ without_highlighter (default_settings (characters_of theme.characters) (styles_of theme.styles)) }
     {
         GraphicalReportHandler {
             theme,
@@ -200,7 +199,7 @@ impl<H: Highlighter> GraphicalReportHandler<H> {
     pub fn with_theme(self, theme: GraphicalTheme) -> Self
         ensures { result ≡ record self {
           settings = record self.settings
-              { characters = theme.characters; styles = styles_of theme.styles };
+              { characters = characters_of theme.characters; styles = styles_of theme.styles };
         } }
     {
         GraphicalReportHandler { theme, ..self }

@@ -4,18 +4,21 @@
 ghost use Rattle.std.specs.Prelude.{◌≡◌, ℕ, Bool, List, Some, encode_utf8_all, true};
 ghost use Rattle.miette_graphical.specs.rules.Answered.{IsTextOf};
 ghost use Rattle.miette_graphical.specs.rules.Answers.{Answers, unlisted};
-ghost use Rattle.miette_graphical.specs.laws.Clean.{AreCleanSettings, IsCleanTree};
+ghost use Rattle.miette_graphical.specs.laws.Clean.{AreCleanCharacters, AreCleanSettings, IsCleanTree};
 ghost use Rattle.miette_graphical.specs.laws.Alike.{AreAnsweredAlike, AreDrawnAlike};
-ghost use Rattle.miette_graphical.specs.laws.Colourless.{AreSnippets, IsColouredText, colourless, unhighlighted};
+ghost use Rattle.miette_graphical.specs.laws.Colourless.{AreSnippets, IsColouredText, IsRestyledText, colourless, unhighlighted};
 ghost use Rattle.std.specs.List.{AllByRecursion, Contains};
 ghost use Rattle.miette_graphical.specs.laws.Headline.{LinesAreShown, MarksAreApart, TextsHang};
 ghost use Rattle.miette_graphical.specs.rules.Parts.{SnippetRows};
 ghost use Rattle.miette_graphical.specs.laws.Paths.{HasPath, Step, printed_at};
+ghost use Rattle.miette_graphical.specs.laws.Shipped.{AreNarrow, AreShipped};
 ghost use Rattle.miette_graphical.specs.rules.Printed.{Printed, all_read, printed};
-ghost use Rattle.miette_graphical.specs.rules.Settings.{Settings};
+ghost use Rattle.miette_graphical.specs.rules.Settings.{Settings, default_settings};
 ghost use Rattle.miette_graphical.specs.rules.Snippets.{drawn_rows};
 ghost use Rattle.miette_graphical.specs.rules.Text.{report_text};
 ghost use Rattle.miette_tree.specs.rules.Tree.{Tree};
+ghost use Rattle.miette_style.specs.declared.theme.Terminal.{Terminal};
+ghost use Rattle.miette_style.specs.rules.Themes.{Characters, Styles, terminal_theme};
 ghost use Rattle.miette_text.specs.rules.Sequences.{erase};
 ghost use Rattle.miette_text.specs.rules.Tame.{IsTame};
 
@@ -59,17 +62,24 @@ pub fn drawn_rows_law()
 }
 
 /// Of each text that may be printed of such a report: without its colours it is the text in plain styles under the
-/// same reads. Where every source always reads, that is one text.
+/// same reads, and one that may be printed in plain styles without a highlighter. Where every source always reads,
+/// that is one text (`only`), and themes with equal characters leave the same one, whatever their styles (`themes`).
 pub fn erasing_law()
     ensures text { (s : Settings) (blank : Bool) (t : Tree) (bytes : List ℕ) → AreCleanSettings s → IsCleanTree t →
         IsTextOf drawn_rows s blank t bytes → IsColouredText drawn_rows s blank t bytes }
+    ensures possible { (s : Settings) (blank : Bool) (t : Tree) (bytes : List ℕ) → AreCleanSettings s → IsCleanTree t →
+        IsTextOf drawn_rows s blank t bytes → IsTextOf drawn_rows (colourless s) true t (erase bytes) }
     ensures only { (s : Settings) (blank : Bool) (t : Tree) (bytes : List ℕ) → AreCleanSettings s → IsCleanTree t →
         IsTextOf drawn_rows s blank t bytes → all_read (printed s t) ≡ true →
         erase bytes ≡ encode_utf8_all (report_text drawn_rows (colourless s) t unlisted) }
+    ensures themes { (s : Settings) (blank : Bool) (t : Tree) (bytes others : List ℕ) → AreCleanSettings s →
+        IsCleanTree t → IsTextOf drawn_rows s blank t bytes → all_read (printed s t) ≡ true →
+        IsRestyledText drawn_rows s t others → erase bytes ≡ erase others }
 {
     colours_law();
     drawn_rows_law();
     encoding_law();
+    rows_fade();
 }
 
 /// The snippets of each printed diagnostic show the lines in the context of its labels, its marks are apart, and each
@@ -102,4 +112,15 @@ pub fn printed_law()
         AllByRecursion (AreDrawnAlike rows others) (printed s t) → report_text rows s t a ≡ report_text others s t a }
     ensures answers { (rows : SnippetRows) (s : Settings) (t : Tree) (a b : Answers) → AreAnsweredAlike s t a b →
         report_text rows s t a ≡ report_text rows s t b }
+{}
+
+/// Of the characters of the shipped themes: those that frames, gutters and marks are drawn with are one column wide
+/// (`narrow`), none that is printed is an escape (`clean`), and so the settings that a handler is made with hold none,
+/// in whatever styles (`settings`). The theme that fits a terminal has such characters (`terminal`).
+pub fn themes_law()
+    ensures narrow { (c : Characters) → AreShipped c → AreNarrow c }
+    ensures clean { (c : Characters) → AreShipped c → AreCleanCharacters c }
+    ensures settings { (c : Characters) (styles : Styles) → AreShipped c →
+        AreCleanSettings (default_settings c styles) }
+    ensures terminal { (t : Terminal) → AreShipped (terminal_theme t).characters }
 {}

@@ -10,6 +10,8 @@ pub use Rattle.miette_graphical.specs.laws.Colourless
 pub use Rattle.miette_graphical.specs.views.SettingsView
 pub use Rattle.miette_graphical.specs.rules.Printed
 pub use Rattle.miette_graphical.specs.laws.Paths
+pub use Rattle.miette_graphical.specs.laws.Alike
+pub use Rattle.miette_graphical.specs.laws.Shipped
 pub use Rattle.miette_graphical.specs.rules.Answered
 pub use Rattle.miette_graphical.specs.rules.Snippets
 pub use Rattle.miette_graphical.specs.views.Printing

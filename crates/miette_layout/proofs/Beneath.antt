@@ -1,13 +1,9 @@
 -- The rows of a line: where their text begins, and that texts hang in them.
-use Rattle.std.proofs.Common.{ℕ, zero, suc, ◌+◌, ◌-◌, ◌<◌, ◌≤◌, ◌≡◌, List, [], ◌∷◌, ◌++◌, length, map, replicate, refl, sym, ap, subst, ◌∙◌, append-nil, arith, eqb, cond, ◌^◌}
+use Rattle.std.proofs.Common.{ℕ, zero, suc, ◌+◌, ◌-◌, ◌≤◌, ◌≡◌, List, [], ◌∷◌, ◌++◌, length, map, replicate, refl, sym, ap, subst, ◌∙◌, append-nil, arith, eqb, cond}
 use Rattle.std.specs.Prelude.{decimal}
-use Rattle.std.proofs.lemmas.Fmt.{decimal_is_IsNumeral}
-use Rattle.std.proofs.lemmas.Str.Parse.{digit_from_value}
-use Rattle.std.specs.Str.Parse.{AllDigits}
 use Rattle.std.proofs.lemmas.Bool.{eqb-true}
 use Rattle.std.proofs.lemmas.List.{map-append}
 use Rattle.std.specs.List.{AllByRecursion, range_with_len}
-use Rattle.miette_style.specs.declared.theme.ThemeCharacters.{ThemeCharacters}
 use Rattle.miette_page.specs.rules.Rows.{Piece, Run, Row, pieces_of, columns_of, code_at, drawn, styled}
 use Rattle.miette_style.specs.rules.Styles.{plain}
 use Rattle.miette_newlines.specs.rules.Lines.{Line}
@@ -26,7 +22,9 @@ use Rattle.miette_layout.proofs.Apart.{marks_apart}
 use Rattle.miette_layout.proofs.Columns.{columns_of-append, code_at-append}
 use Rattle.miette_layout.proofs.Unstyled.{mark_row, plain_below}
 use Rattle.miette_layout.proofs.Hanging.{mark_row-at, plain_hang, all_beside, all_more}
+use Rattle.miette_layout.proofs.Numerals.{AreDigits, are_digits}
 use Rattle.miette_layout.proofs.Flat.{pieces_of-append, flat_marks, flat_below}
+use Rattle.miette_style.specs.rules.Themes.{Characters}
 
 -- the gutter has room for the labels of several lines that lie on a line
 abbrev pub HasRoom : List DrawnLabel → Line → ℕ → Type 0
@@ -47,7 +45,7 @@ alone run = ap columns_of (append-nil run.pieces)
 front : (run : Run) (row : Row) → columns_of (pieces_of (run ∷ row)) ≡ columns_of run.pieces + columns_of (pieces_of row)
 front run row = columns_of-append run.pieces (pieces_of row)
 
-pub other_gutter-columns : (width : ℕ → ℕ) (t : ThemeCharacters) (n : IsNarrow width t) (line : Line) (left : ℕ) (labels : List DrawnLabel) → length labels ≤ left - 2 →
+pub other_gutter-columns : (width : ℕ → ℕ) (t : Characters) (n : IsNarrow width t) (line : Line) (left : ℕ) (labels : List DrawnLabel) → length labels ≤ left - 2 →
     columns_of (pieces_of (other_gutter width t line left labels)) ≡ left
 other_gutter-columns width t n line left [] h = alone (blank width left) ∙ columns_of-blank width left n.space
 other_gutter-columns width t n line left (label ∷ labels) h =
@@ -79,7 +77,7 @@ marked : (s : Settings) (n : IsNarrow s.width s.characters) (prefix : Row) (more
     AreMarked s (columns_of (pieces_of prefix)) ms ((prefix ++ mark_runs s.width s.characters 0 ms) ∷ (before_each prefix (rows_below s.width s.characters [] ms) ++ more))
 marked s n prefix more ms apart =
     let width : ℕ → ℕ = s.width in
-    let t : ThemeCharacters = s.characters in
+    let t : Characters = s.characters in
     let start : ℕ = columns_of (pieces_of prefix) in
     let z : marks_end 0 ms - 0 ≡ marks_end 0 ms = omega arith in
     let flat : pieces_of (mark_runs width t 0 ms) ≡ mark_row width t ms = flat_marks width t 0 ms apart ∙ ap (λ k. map (mark_at width t ms) (range_with_len 0 k)) z in
@@ -129,34 +127,33 @@ all_room labels lines = room-of labels (most_labels labels lines) lines (most-ge
 
 -- a row of digits
 
-digits-columns : (width : ℕ → ℕ) (t : ThemeCharacters) (n : IsNarrow width t) (ds : List ℕ) → AllDigits 10 ds → columns_of (map (drawn width) ds) ≡ length ds
+digits-columns : (width : ℕ → ℕ) (t : Characters) (n : IsNarrow width t) (ds : List ℕ) → AreDigits ds → columns_of (map (drawn width) ds) ≡ length ds
 digits-columns width t n [] h = refl
 digits-columns width t n (d ∷ ds) h =
-    let own : (48 ≤ d) × (d < 58) = omega (arith, digit_from_value d h.0) in
-    omega (arith, n.digits d own.0 own.1, digits-columns width t n ds h.1)
+    omega (arith, n.digits d h.0.0 h.0.1, digits-columns width t n ds h.1)
 
-decimal-columns : (width : ℕ → ℕ) (t : ThemeCharacters) (n : IsNarrow width t) (number : ℕ) → number < 2 ^ 64 → columns_of (map (drawn width) (decimal number)) ≡ length (decimal number)
-decimal-columns width t n number h = digits-columns width t n (decimal number) (decimal_is_IsNumeral number h).0.1
+decimal-columns : (width : ℕ → ℕ) (t : Characters) (n : IsNarrow width t) (number : ℕ) → columns_of (map (drawn width) (decimal number)) ≡ length (decimal number)
+decimal-columns width t n number = digits-columns width t n (decimal number) (are_digits number)
 
 -- a text of spaces and more
-padded : (width : ℕ → ℕ) (t : ThemeCharacters) (n : IsNarrow width t) (many : ℕ) (text : List ℕ) → columns_of (map (drawn width) (replicate many 32 ++ text)) ≡ many + columns_of (map (drawn width) text)
+padded : (width : ℕ → ℕ) (t : Characters) (n : IsNarrow width t) (many : ℕ) (text : List ℕ) → columns_of (map (drawn width) (replicate many 32 ++ text)) ≡ many + columns_of (map (drawn width) text)
 padded width t n many text =
     ap columns_of (map-append (drawn width) (replicate many 32) text) ∙ columns_of-append (map (drawn width) (replicate many 32)) (map (drawn width) text)
     ∙ omega (arith, columns_of-copies width 32 many n.space)
 
-number_start-columns : (s : Settings) (w number : ℕ) → IsNarrow s.width s.characters → number < 2 ^ 64 → length (decimal number) ≤ w → columns_of (pieces_of (number_start s w number)) ≡ w + 4
-number_start-columns s w number n small fits =
+number_start-columns : (s : Settings) (w number : ℕ) → IsNarrow s.width s.characters → length (decimal number) ≤ w → columns_of (pieces_of (number_start s w number)) ≡ w + 4
+number_start-columns s w number n fits =
     let width : ℕ → ℕ = s.width in
     let num : Run = styled width s.styles.linum (replicate (w - length (decimal number)) 32 ++ decimal number) in
     let bar : Run = styled width plain (32 ∷ s.characters.vbar ∷ 32 ∷ []) in
     front (blank width 1) (num ∷ bar ∷ [])
-    ∙ omega (arith, columns_of-blank width 1 n.space, front num (bar ∷ []), alone bar, n.space, n.vbar, fits, padded width s.characters n (w - length (decimal number)) (decimal number), decimal-columns width s.characters n number small)
+    ∙ omega (arith, columns_of-blank width 1 n.space, front num (bar ∷ []), alone bar, n.space, n.vbar, fits, padded width s.characters n (w - length (decimal number)) (decimal number), decimal-columns width s.characters n number)
 
-corner-narrow : (width : ℕ → ℕ) (t : ThemeCharacters) (n : IsNarrow width t) (parts : List (List ℕ)) → width (ending_corner t parts) ≡ 1
+corner-narrow : (width : ℕ → ℕ) (t : Characters) (n : IsNarrow width t) (parts : List (List ℕ)) → width (ending_corner t parts) ≡ 1
 corner-narrow width t n [] = n.lbot
 corner-narrow width t n (part ∷ parts) = n.lcross
 
-arrow-columns : (width : ℕ → ℕ) (t : ThemeCharacters) (n : IsNarrow width t) (label : DrawnLabel) (corner left : ℕ) → width corner ≡ 1 → 3 ≤ left → columns_of (pieces_of (arrow width t label corner left ∷ blank width 1 ∷ [])) ≡ left
+arrow-columns : (width : ℕ → ℕ) (t : Characters) (n : IsNarrow width t) (label : DrawnLabel) (corner left : ℕ) → width corner ≡ 1 → 3 ≤ left → columns_of (pieces_of (arrow width t label corner left ∷ blank width 1 ∷ [])) ≡ left
 arrow-columns width t n label corner left one le =
     front (arrow width t label corner left) (blank width 1 ∷ [])
     ∙ omega (
@@ -171,7 +168,7 @@ arrow-columns width t n label corner left one le =
       columns_of-append (map (drawn width) (replicate (left - 3) t.hbar)) (drawn width t.rarrow ∷ []),
     )
 
-number_gutter-columns : (width : ℕ → ℕ) (t : ThemeCharacters) (n : IsNarrow width t) (line : Line) (left : ℕ) (labels : List DrawnLabel) → length labels ≤ left - 2 →
+number_gutter-columns : (width : ℕ → ℕ) (t : Characters) (n : IsNarrow width t) (line : Line) (left : ℕ) (labels : List DrawnLabel) → length labels ≤ left - 2 →
     columns_of (pieces_of (number_gutter width t line left labels)) ≡ left
 number_gutter-columns width t n line left [] h = alone (blank width left) ∙ columns_of-blank width left n.space
 number_gutter-columns width t n line left (label ∷ labels) h =
@@ -184,12 +181,12 @@ number_gutter-columns width t n line left (label ∷ labels) h =
 
 -- the text of a number row begins where the marks' columns do
 pub line_begins : (s : Settings) (w columns : ℕ) (labels : List DrawnLabel) (line : Line) (number : ℕ) (cells : List Cell) (pieces : List Highlight) → IsNarrow s.width s.characters → HasRoom labels line columns →
-    number < 2 ^ 64 → length (decimal number) ≤ w → HasText (text_start w columns) (line_runs pieces cells) (line_rows s w columns labels line number cells pieces)
-line_begins s w columns labels line number cells pieces n room small fits =
+    length (decimal number) ≤ w → HasText (text_start w columns) (line_runs pieces cells) (line_rows s w columns labels line number cells pieces)
+line_begins s w columns labels line number cells pieces n room fits =
     let start : Row = number_start s w number in
     let gutter : Row = number_gutter s.width s.characters line columns (multi_line line labels) in
     let text : Row = line_runs pieces cells in (
       pieces_of start ++ pieces_of gutter,
       pieces_of-append (start ++ gutter) text ∙ ap (λ r. r ++ pieces_of text) (pieces_of-append start gutter),
-      columns_of-append (pieces_of start) (pieces_of gutter) ∙ omega (arith, number_start-columns s w number n small fits, number_gutter-columns s.width s.characters n line columns (multi_line line labels) room),
+      columns_of-append (pieces_of start) (pieces_of gutter) ∙ omega (arith, number_start-columns s w number n fits, number_gutter-columns s.width s.characters n line columns (multi_line line labels) room),
     )

@@ -1,5 +1,5 @@
 -- Labels in plain: which lie on a line, where their marks are, and how wide a gutter is, doesn't change.
-use Rattle.std.proofs.Common.{◌≡◌, ℕ, zero, suc, ◌+◌, ◌%◌, Bool, true, false, if◌then◌else◌, ◌==◌, List, [], ◌∷◌, map, length, max, refl, ap, ap₂, ◌∙◌, chars, Option, Some, None, IfSome, get_or}
+use Rattle.std.proofs.Common.{◌≡◌, ℕ, suc, ◌+◌, Bool, true, false, if◌then◌else◌, ◌==◌, List, [], ◌∷◌, map, length, max, refl, ap, ap₂, ◌∙◌, chars, Option, Some, None, IfSome}
 use Rattle.std.specs.List.{AllByRecursion, filter}
 use Rattle.miette_newlines.specs.rules.Lines.{Line}
 use Rattle.miette_protocol.specs.views.Meaning.{Label}
@@ -7,10 +7,9 @@ use Rattle.miette_style.specs.declared.style.Style.{Style}
 use Rattle.std.specs.Prelude.{nat_le}
 use Rattle.miette_layout.specs.laws.Clean.{IsClean, IsCleanText, IsCleanLabel}
 use Rattle.miette_layout.specs.rules.Gutters.{most_labels, gutter_columns}
-use Rattle.miette_lines.specs.rules.Labels.{DrawnLabel, parts_of, style_at, drawn_label, drawn_from, multi_line, is_multi_line}
+use Rattle.miette_lines.specs.rules.Labels.{DrawnLabel, parts_of, drawn_label, drawn_from, multi_line, is_multi_line}
 use Rattle.miette_layout.specs.rules.Marks.{Text, Mark, marks_from, marks, mark_from, mark_until}
 use Rattle.miette_lines.specs.rules.Groups.{put_label, in_order}
-use Rattle.miette_style.specs.rules.Styles.{plain}
 use Rattle.miette_layout.proofs.CleanTexts.{clean_parts}
 use Rattle.miette_lines.proofs.Numbers.{by_cases}
 use Rattle.miette_layout.proofs.Paling.{bleached, bleached_mark, HasCleanParts, IsCleanMark}
@@ -65,20 +64,10 @@ gutter_bleached labels lines = ap (λ most. if most == 0 then 0 else most + 3) (
 
 -- ---- labels as they are drawn
 
-plain_at : (styles : List Style) (i : ℕ) → get_or (map (λ _. plain) styles) i plain ≡ plain
-plain_at [] zero = refl
-plain_at [] (suc i) = refl
-plain_at (style ∷ styles) zero = refl
-plain_at (style ∷ styles) (suc i) = plain_at styles i
-
-style_bleached : (styles : List Style) (i : ℕ) → style_at (map (λ _. plain) styles) i ≡ plain
-style_bleached [] i = refl
-style_bleached (style ∷ styles) i = plain_at (style ∷ styles) (i % length (plain ∷ map (λ _. plain) styles))
-
-pub drawn_bleached : (styles : List Style) (n i : ℕ) (labels : List Label) → drawn_from (map (λ _. plain) styles) n i labels ≡ map bleached (drawn_from styles n i labels)
+pub drawn_bleached : (styles : List Style) (n i : ℕ) (labels : List Label) → drawn_from [] n i labels ≡ map bleached (drawn_from styles n i labels)
 drawn_bleached styles n i [] = refl
 drawn_bleached styles n i (label ∷ labels) =
-    ap₂ (λ style r. record (drawn_label styles n i label) { style = style } ∷ r) (style_bleached styles i) (drawn_bleached styles n (i + 1) labels)
+    ap (λ r. bleached (drawn_label styles n i label) ∷ r) (drawn_bleached styles n (i + 1) labels)
 
 text_clean : (text : Option (List ℕ)) → IfSome text IsCleanText → AllByRecursion IsClean (parts_of text)
 text_clean None h = tt

@@ -3,7 +3,6 @@ use Rattle.std.proofs.Common.{ℕ, zero, suc, ◌+◌, ◌-◌, ◌<◌, ◌≤�
 use Rattle.std.proofs.lemmas.Bool.{lt-ltb, le-ltb, le-leb, lt-leb, and_right, ne_eqb, eq-eqb}
 use Rattle.std.proofs.lemmas.List.{map-append}
 use Rattle.std.specs.List.{range_with_len}
-use Rattle.miette_style.specs.declared.theme.ThemeCharacters.{ThemeCharacters}
 use Rattle.miette_page.specs.rules.Rows.{Piece, Row, pieces_of, drawn, styled}
 use Rattle.miette_layout.specs.rules.Marks.{Mark, anchor, AreApart}
 use Rattle.miette_layout.specs.rules.Drawing.{mark_code, mark_runs, lead_runs, text_row, corner, corner_of_several, beside, rows_of_parts, rows_below}
@@ -11,6 +10,7 @@ use Rattle.miette_layout.specs.laws.Pictures.{mark_at, marks_end}
 use Rattle.miette_layout.proofs.Numbers.{range_with_len-append}
 use Rattle.miette_layout.proofs.Apart.{anchor-within}
 use Rattle.miette_layout.proofs.Unstyled.{lead_at, lead, corner_pieces, beside_pieces, plain_parts, plain_below}
+use Rattle.miette_style.specs.rules.Themes.{Characters}
 
 pub pieces_of-append : (a b : Row) → pieces_of (a ++ b) ≡ pieces_of a ++ pieces_of b
 pieces_of-append [] b = refl
@@ -31,7 +31,7 @@ three f from a b c =
     ∙ ap (λ r. map f (range_with_len from a) ++ map f r) (range_with_len-append (from + a) b c)
     ∙ ap (λ r. map f (range_with_len from a) ++ r) (map-append f (range_with_len (from + a) b) (range_with_len (from + a + b) c))
 
-mark-before : (width : ℕ → ℕ) (t : ThemeCharacters) (reached column : ℕ) (ms : List Mark) → AreApart reached ms → column < reached → mark_at width t ms column ≡ drawn width 32
+mark-before : (width : ℕ → ℕ) (t : Characters) (reached column : ℕ) (ms : List Mark) → AreApart reached ms → column < reached → mark_at width t ms column ≡ drawn width 32
 mark-before width t reached column [] h lt = refl
 mark-before width t reached column (m ∷ ms) h lt =
     let no : leb m.from column ≡ false = lt-leb m.from column (omega (arith, h.0)) in
@@ -41,7 +41,7 @@ pub marks_end-ge : (reached : ℕ) (ms : List Mark) → AreApart reached ms → 
 marks_end-ge reached [] h = omega arith
 marks_end-ge reached (m ∷ ms) h = omega (arith, h.0, h.1, marks_end-ge m.until ms h.2)
 
-pub flat_marks : (width : ℕ → ℕ) (t : ThemeCharacters) (reached : ℕ) (ms : List Mark) → AreApart reached ms →
+pub flat_marks : (width : ℕ → ℕ) (t : Characters) (reached : ℕ) (ms : List Mark) → AreApart reached ms →
     pieces_of (mark_runs width t reached ms) ≡ map (mark_at width t ms) (range_with_len reached (marks_end reached ms - reached))
 flat_marks width t reached [] h = let z : reached - reached ≡ 0 = omega arith in rw z refl
 flat_marks width t reached (m ∷ ms) h =
@@ -77,13 +77,13 @@ anchored-ge : (reached column : ℕ) (ms : List Mark) → AreAnchored reached ms
 anchored-ge reached column [] h = h
 anchored-ge reached column (m ∷ ms) h = omega (arith, h.0, anchored-ge (anchor m + 1) column ms h.1)
 
-lead-before : (width : ℕ → ℕ) (t : ThemeCharacters) (reached column k : ℕ) (ms : List Mark) → AreAnchored reached ms column → k < reached → lead_at width t ms k ≡ drawn width 32
+lead-before : (width : ℕ → ℕ) (t : Characters) (reached column k : ℕ) (ms : List Mark) → AreAnchored reached ms column → k < reached → lead_at width t ms k ≡ drawn width 32
 lead-before width t reached column k [] h lt = refl
 lead-before width t reached column k (m ∷ ms) h lt =
     let no : eqb k (anchor m) ≡ false = ne_eqb k (anchor m) (λ e. omega (arith, h.0, e)) in
     rw no (lead-before width t (anchor m + 1) column k ms h.1 (omega (arith, h.0)))
 
-pub flat_lead : (width : ℕ → ℕ) (t : ThemeCharacters) (reached column : ℕ) (ms : List Mark) → AreAnchored reached ms column →
+pub flat_lead : (width : ℕ → ℕ) (t : Characters) (reached column : ℕ) (ms : List Mark) → AreAnchored reached ms column →
     pieces_of (lead_runs width t reached ms column) ≡ map (lead_at width t ms) (range_with_len reached (column - reached))
 flat_lead width t reached column [] h =
     append-nil (replicate (column - reached) (drawn width 32)) ∙ sym (map-one (lead_at width t []) (drawn width 32) reached (column - reached) (λ k l u. refl))
@@ -118,7 +118,7 @@ anchored reached (e ∷ earlier) m later h = (
   anchored (anchor e + 1) earlier m later (apart-weaker e.until (anchor e + 1) (earlier ++ m ∷ later) (omega (arith, (anchor-within e h.1).1)) h.2),
 )
 
-flat_text : (width : ℕ → ℕ) (t : ThemeCharacters) (earlier : List Mark) (mark : Mark) (front part : List ℕ) → AreAnchored 0 earlier (anchor mark) →
+flat_text : (width : ℕ → ℕ) (t : Characters) (earlier : List Mark) (mark : Mark) (front part : List ℕ) → AreAnchored 0 earlier (anchor mark) →
     pieces_of (text_row width t earlier mark front part) ≡ lead width t earlier mark ++ map (drawn width) (front ++ part)
 flat_text width t earlier mark front part h =
     let z : anchor mark - 0 ≡ anchor mark = omega arith in
@@ -126,12 +126,12 @@ flat_text width t earlier mark front part h =
     ∙ ap (λ r. pieces_of (lead_runs width t 0 earlier (anchor mark)) ++ r) (append-nil (map (drawn width) (front ++ part)))
     ∙ ap (λ r. r ++ map (drawn width) (front ++ part)) (flat_lead width t 0 (anchor mark) earlier h ∙ ap (λ n. map (lead_at width t earlier) (range_with_len 0 n)) z)
 
-flat_rest : (width : ℕ → ℕ) (t : ThemeCharacters) (earlier : List Mark) (mark : Mark) (parts : List (List ℕ)) → AreAnchored 0 earlier (anchor mark) →
+flat_rest : (width : ℕ → ℕ) (t : Characters) (earlier : List Mark) (mark : Mark) (parts : List (List ℕ)) → AreAnchored 0 earlier (anchor mark) →
     map pieces_of (map (text_row width t earlier mark (beside t)) parts) ≡ map (λ p. lead width t earlier mark ++ (beside_pieces width t ++ map (drawn width) p)) parts
 flat_rest width t earlier mark [] h = refl
 flat_rest width t earlier mark (part ∷ parts) h = ap (λ r. r ∷ map pieces_of (map (text_row width t earlier mark (beside t)) parts)) (flat_text width t earlier mark (beside t) part h) ∙ ap (λ r. (lead width t earlier mark ++ (beside_pieces width t ++ map (drawn width) part)) ∷ r) (flat_rest width t earlier mark parts h)
 
-flat_parts : (width : ℕ → ℕ) (t : ThemeCharacters) (earlier : List Mark) (mark : Mark) (parts : List (List ℕ)) → AreAnchored 0 earlier (anchor mark) →
+flat_parts : (width : ℕ → ℕ) (t : Characters) (earlier : List Mark) (mark : Mark) (parts : List (List ℕ)) → AreAnchored 0 earlier (anchor mark) →
     map pieces_of (rows_of_parts width t earlier mark parts) ≡ plain_parts width t earlier mark parts
 flat_parts width t earlier mark [] h = refl
 flat_parts width t earlier mark (part ∷ []) h = ap (λ r. r ∷ []) (flat_text width t earlier mark (corner t) part h)
@@ -139,7 +139,7 @@ flat_parts width t earlier mark (part ∷ next ∷ parts) h =
     ap (λ r. r ∷ map pieces_of (map (text_row width t earlier mark (beside t)) (next ∷ parts))) (flat_text width t earlier mark (corner_of_several t) part h)
     ∙ ap (λ r. (lead width t earlier mark ++ (corner_pieces width t t.rcross ++ map (drawn width) part)) ∷ r) (flat_rest width t earlier mark (next ∷ parts) h)
 
-pub flat_below : (width : ℕ → ℕ) (t : ThemeCharacters) (earlier ms : List Mark) → AreApart 0 (earlier ++ ms) → map pieces_of (rows_below width t earlier ms) ≡ plain_below width t earlier ms
+pub flat_below : (width : ℕ → ℕ) (t : Characters) (earlier ms : List Mark) → AreApart 0 (earlier ++ ms) → map pieces_of (rows_below width t earlier ms) ≡ plain_below width t earlier ms
 flat_below width t earlier [] h = refl
 flat_below width t earlier (m ∷ ms) h =
     map-append pieces_of (rows_below width t (earlier ++ m ∷ []) ms) (rows_of_parts width t earlier m m.label.parts)

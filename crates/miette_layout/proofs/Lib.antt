@@ -23,6 +23,7 @@ pub mod Maximal
 pub mod Merging
 pub mod Nearing
 pub mod Numbers
+pub mod Numerals
 pub mod Owning
 pub mod PaleSnippets
 pub mod Paling

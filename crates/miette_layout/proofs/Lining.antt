@@ -10,7 +10,6 @@ use Rattle.miette_style.specs.rules.Styles.{plain}
 use Rattle.miette_layout.specs.rules.PrintedCells.{printed, printed_cells, cells_within, cells_beyond, text_bytes, line_runs}
 use Rattle.miette_lines.specs.rules.Cells.{Cell}
 use Rattle.miette_layout.specs.declared.marks.Mark.{Mark as MadeMark}
-use Rattle.miette_style.specs.declared.theme.ThemeCharacters.{ThemeCharacters}
 use Rattle.miette_layout.specs.rules.Marks.{Mark}
 use Rattle.miette_layout.specs.rules.Drawing.{blank, mark_runs, rows_below, marked_rows}
 use Rattle.miette_layout.specs.rules.Frames.{Settings, number_start}
@@ -20,6 +19,7 @@ use Rattle.miette_layout.specs.views.TellingCells.{cells_told, highlight_of}
 use Rattle.miette_page.proofs.Paging.{told_append, told_one}
 use Rattle.miette_layout.proofs.Telling.{then, told_as, run_one, blank_told, styled_row}
 use Rattle.miette_layout.proofs.Texting.{row_done, rows_then, parts_then}
+use Rattle.miette_style.specs.rules.Themes.{Characters}
 
 pub number_put : (s : Settings) (w number : ℕ) (p b l d v n : List Token) → b ≡ p ++ run_told plain (replicate 1 32) → l ≡ b ++ begins s.styles.linum ∷ [] → d ≡ l ++ text_told (replicate (w - length (decimal number)) 32 ++ decimal number) →
     v ≡ d ++ run_told plain (32 ∷ s.characters.vbar ∷ []) → n ≡ v ++ bytes_told (encode_utf8 32) → n ≡ p ++ told (number_start s w number)
@@ -128,7 +128,7 @@ pub marked_put : (before row : Row) (below : List Row) (p a m e n : List Token) 
 marked_put before row below p a m e n ha hm he hn =
     rows_then ((before ++ row) ∷ []) (before_each before below) p e n (row_done (before ++ row) p m e (parts_then before row p a m ha hm) he) hn
 
-pub marked_some : (w : ℕ → ℕ) (t : ThemeCharacters) (f : MadeMark → Mark) (ms : List MadeMark) → 0 < length ms → mark_runs w t 0 (map f ms) ∷ rows_below w t [] (map f ms) ≡ marked_rows w t (map f ms)
+pub marked_some : (w : ℕ → ℕ) (t : Characters) (f : MadeMark → Mark) (ms : List MadeMark) → 0 < length ms → mark_runs w t 0 (map f ms) ∷ rows_below w t [] (map f ms) ≡ marked_rows w t (map f ms)
 marked_some w t f [] h = absurd (omega arith)
 marked_some w t f (m ∷ ms) h = refl
 

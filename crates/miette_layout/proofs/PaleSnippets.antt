@@ -166,11 +166,11 @@ module _ (P : Type 0) (s : Settings) (clean : P → AreCleanDrawings s.character
       let n = length source.bytes in
       let read = contents s.context source group in
       let drawn = drawn_from s.styles.highlights n 0 labels in
-      let body : PaleRows P (body_rows (colourless s) (drawn_from (map (λ _. plain) s.styles.highlights) n 0 labels) source.bytes read []) (body_rows s drawn source.bytes read pieces) =
+      let body : PaleRows P (body_rows (colourless s) (drawn_from [] n 0 labels) source.bytes read []) (body_rows s drawn source.bytes read pieces) =
       subst (λ ls. PaleRows P (body_rows (colourless s) ls source.bytes read []) (body_rows s drawn source.bytes read pieces)) (sym (drawn_bleached s.styles.highlights n 0 labels))
       (pale_body drawn source.bytes read pieces (λ p. drawn_clean s.styles.highlights n 0 labels (k p)) (λ p. (h p).bytes)) in
       rows_cons P (pale_top (number_width read) source.name (nat_lt 1 (length (lines_of_contents read))) (place_of source group labels) (λ p. (h p).name))
-      (rows_append P (body_rows (colourless s) (drawn_from (map (λ _. plain) s.styles.highlights) n 0 labels) source.bytes read []) (body_rows s drawn source.bytes read pieces)
+      (rows_append P (body_rows (colourless s) (drawn_from [] n 0 labels) source.bytes read []) (body_rows s drawn source.bytes read pieces)
       (bottom_row (colourless s) (number_width read) ∷ []) (bottom_row s (number_width read) ∷ []) body (rows_cons P (pale_bottom (number_width read)) (rows_nil P)))
 
   pale_all : (source : Source) (labels : List Label) (pieces : List (List (List Highlight))) (groups : List Span) → (P → IsCleanSource source) → (P → AllByRecursion IsCleanLabel labels) →

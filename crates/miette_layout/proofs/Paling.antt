@@ -3,7 +3,6 @@ use Rattle.std.proofs.Common.{◌≡◌, ℕ, ◌+◌, ◌-◌, Bool, true, fals
 use Rattle.std.specs.List.{AllByRecursion, range_with_len}
 use Rattle.std.proofs.lemmas.List.{map-append}
 use Rattle.miette_style.specs.declared.style.Style.{Style}
-use Rattle.miette_style.specs.declared.theme.ThemeCharacters.{ThemeCharacters}
 use Rattle.miette_newlines.specs.rules.Lines.{Line}
 use Rattle.miette_layout.specs.laws.Clean.{IsCleanCode, IsClean, IsCleanRow, AreCleanDrawings}
 use Rattle.miette_layout.specs.rules.Drawing.{blank, code_with_parts, mark_code, mark_run, mark_runs, lead_runs, text_row, corner, corner_of_several, beside, rows_of_parts, rows_below, marked_rows}
@@ -15,6 +14,7 @@ use Rattle.miette_page.specs.rules.Rows.{Run, Row, pieces_of, styled}
 use Rattle.miette_style.specs.rules.Styles.{plain}
 use Rattle.miette_layout.proofs.CleanTexts.{AreCleanPieces, clean_cons, clean_append, clean_replicate, clean_code_if, clean_copies, clean_drawn, clean_each}
 use Rattle.miette_layout.proofs.Flat.{pieces_of-append}
+use Rattle.miette_style.specs.rules.Themes.{Characters}
 
 -- a label and a mark in plain
 abbrev pub bleached : DrawnLabel → DrawnLabel
@@ -95,7 +95,7 @@ module _ (P : Type 0) where
   pub pale_blank : (width : ℕ → ℕ) (many : ℕ) → PaleRun P (blank width many) (blank width many)
   pale_blank width many = record { plain = refl; same = refl; clean = λ p. clean_copies many (width 32) 32 refl }
 
-  module _ (width : ℕ → ℕ) (t : ThemeCharacters) (clean : P → AreCleanDrawings t) where
+  module _ (width : ℕ → ℕ) (t : Characters) (clean : P → AreCleanDrawings t) where
     -- ---- gutters
 
     vbar_run : (style : Style) → PaleRun P (styled width plain (t.vbar ∷ [])) (styled width style (t.vbar ∷ []))

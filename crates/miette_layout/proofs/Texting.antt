@@ -4,7 +4,6 @@ use Rattle.std.proofs.lemmas.List.{at_drop_more, at_drop_all, map-append, take_m
 use Rattle.std.specs.Prelude.{encode_utf8}
 use Rattle.miette_protocol.specs.views.Meaning.{Label}
 use Rattle.miette_style.specs.declared.style.Style.{Style}
-use Rattle.miette_style.specs.declared.theme.ThemeCharacters.{ThemeCharacters}
 use Rattle.miette_layout.specs.declared.marks.Mark.{Mark as MadeMark}
 use Rattle.miette_page.specs.rules.Rows.{Row, styled}
 use Rattle.miette_style.specs.rules.Styles.{plain}
@@ -16,6 +15,7 @@ use Rattle.miette_layout.specs.views.Made.{mark_of}
 use Rattle.miette_page.specs.views.Told.{Token, row_end, told, told_run, told_rows, run_told, text_told, bytes_told}
 use Rattle.miette_layout.proofs.Telling.{then, told_as, run_one, run_more, blank_told, blank_row, styled_told, styled_row, told-append, told_rows-append}
 use Rattle.miette_layout.proofs.Parting.{cut_some}
+use Rattle.miette_style.specs.rules.Themes.{Characters}
 
 -- a row's end
 pub row_done : (row : Row) (p q r : List Token) → q ≡ p ++ told row → r ≡ q ++ row_end ∷ [] → r ≡ p ++ told_rows (row ∷ [])
@@ -31,7 +31,7 @@ pub parts_then : (a b : Row) (p q r : List Token) → q ≡ p ++ told a → r �
 parts_then a b p q r hq hr = told_as p (told a ++ told b) (told (a ++ b)) (then p (told a) (told b) hq hr) (sym (told-append a b))
 
 -- the start of other rows
-pub start_put : (w : ℕ → ℕ) (t : ThemeCharacters) (columns many : ℕ) (p q r : List Token) → columns ≡ many → q ≡ p ++ run_told plain (replicate columns 32) → r ≡ q ++ run_told plain (t.vbar_break ∷ 32 ∷ []) →
+pub start_put : (w : ℕ → ℕ) (t : Characters) (columns many : ℕ) (p q r : List Token) → columns ≡ many → q ≡ p ++ run_told plain (replicate columns 32) → r ≡ q ++ run_told plain (t.vbar_break ∷ 32 ∷ []) →
     r ≡ p ++ told (blank w many ∷ styled w plain (t.vbar_break ∷ 32 ∷ []) ∷ [])
 start_put w t columns many p q r e hq hr =
     told_as p (run_told plain (replicate columns 32) ++ run_told plain (t.vbar_break ∷ 32 ∷ [])) (told (blank w many ∷ styled w plain (t.vbar_break ∷ 32 ∷ []) ∷ []))
@@ -42,7 +42,7 @@ start_put w t columns many p q r e hq hr =
     ∙ sym (told-append (blank w many ∷ []) (styled w plain (t.vbar_break ∷ 32 ∷ []) ∷ [])))
 
 -- leads
-pub lead_more : (w : ℕ → ℕ) (t : ThemeCharacters) (ls : List Label) (marks : List MadeMark) (i reached gap at column : ℕ) (d : MadeMark) (row spaced new whole : List Token) → i < length marks → at ≡ anchor (mark_of ls (get_or marks i d)) → gap ≡ at - reached →
+pub lead_more : (w : ℕ → ℕ) (t : Characters) (ls : List Label) (marks : List MadeMark) (i reached gap at column : ℕ) (d : MadeMark) (row spaced new whole : List Token) → i < length marks → at ≡ anchor (mark_of ls (get_or marks i d)) → gap ≡ at - reached →
     spaced ≡ row ++ run_told plain (replicate gap 32) → new ≡ spaced ++ run_told (get_or marks i d).label.style (t.vbar ∷ []) →
     row ++ told (lead_runs w t reached (map (mark_of ls) (drop i marks)) column) ≡ whole → new ++ told (lead_runs w t (at + 1) (map (mark_of ls) (drop (i + 1) marks)) column) ≡ whole
 lead_more w t ls marks i reached gap at column d row spaced new whole lt a z s n h =
@@ -57,7 +57,7 @@ lead_more w t ls marks i reached gap at column d row spaced new whole lt a z s n
     ∙ ap (λ r. row ++ (told_run (blank w (anchor m - reached)) ++ (r ++ rest))) (sym (styled_told w m.label.style (t.vbar ∷ [])))
     ∙ ap (λ xs. row ++ told (lead_runs w t reached xs column)) (sym (at_drop_more (map (mark_of ls)) marks i d lt)) ∙ h
 
-pub lead_end : (w : ℕ → ℕ) (t : ThemeCharacters) (ls : List Label) (marks : List MadeMark) (i reached gap column : ℕ) (row new whole : List Token) → length marks ≤ i → gap ≡ column - reached → new ≡ row ++ run_told plain (replicate gap 32) →
+pub lead_end : (w : ℕ → ℕ) (t : Characters) (ls : List Label) (marks : List MadeMark) (i reached gap column : ℕ) (row new whole : List Token) → length marks ≤ i → gap ≡ column - reached → new ≡ row ++ run_told plain (replicate gap 32) →
     row ++ told (lead_runs w t reached (map (mark_of ls) (drop i marks)) column) ≡ whole → new ≡ whole
 lead_end w t ls marks i reached gap column row new whole le z n h =
     n ∙ ap (λ k. row ++ run_told plain (replicate k 32)) z ∙ ap (λ r. row ++ r) (sym (blank_row w (column - reached)))
@@ -74,7 +74,7 @@ run_put style a b c part p q r s n hq hr hs hn =
     let fourth : s ≡ p ++ run_told style four = told_as p (run_told style three ++ bytes_told (encode_utf8 32)) (run_told style four) (then p (run_told style three) (bytes_told (encode_utf8 32)) third hs) (run_one style three 32) in
     told_as p (run_told style four ++ text_told part) (run_told style (four ++ part)) (then p (run_told style four) (text_told part) fourth hn) (run_more style four part)
 
-pub text_put : (w : ℕ → ℕ) (t : ThemeCharacters) (before : Row) (earlier : List Mark) (m : Mark) (at x y z : ℕ) (part : List ℕ) (p b l q r s k n : List Token) → at ≡ anchor m →
+pub text_put : (w : ℕ → ℕ) (t : Characters) (before : Row) (earlier : List Mark) (m : Mark) (at x y z : ℕ) (part : List ℕ) (p b l q r s k n : List Token) → at ≡ anchor m →
     b ≡ p ++ told before → l ≡ b ++ told (lead_runs w t 0 earlier at) → q ≡ l ++ run_told m.label.style (x ∷ y ∷ []) → r ≡ q ++ bytes_told (encode_utf8 z) → s ≡ r ++ bytes_told (encode_utf8 32) → k ≡ s ++ text_told part → n ≡ k ++ row_end ∷ [] →
     n ≡ p ++ told_rows ((before ++ text_row w t earlier m (x ∷ y ∷ z ∷ 32 ∷ []) part) ∷ [])
 text_put w t before earlier m at x y z part p b l q r s k n a hb hl hq hr hs hk hn =
@@ -97,16 +97,16 @@ before_mapped : (before : Row) (g : List ℕ → Row) (parts : List (List ℕ)) 
 before_mapped before g [] = refl
 before_mapped before g (part ∷ parts) = ap (λ r. (before ++ g part) ∷ r) (before_mapped before g parts)
 
-pub one_part : (w : ℕ → ℕ) (t : ThemeCharacters) (before : Row) (earlier : List Mark) (m : Mark) (parts : List (List ℕ)) (part : List ℕ) (p q : List Token) → parts ≡ part ∷ [] →
+pub one_part : (w : ℕ → ℕ) (t : Characters) (before : Row) (earlier : List Mark) (m : Mark) (parts : List (List ℕ)) (part : List ℕ) (p q : List Token) → parts ≡ part ∷ [] →
     q ≡ p ++ told_rows ((before ++ text_row w t earlier m (corner t) part) ∷ []) → q ≡ p ++ told_rows (before_each before (rows_of_parts w t earlier m parts))
 one_part w t before earlier m parts part p q e h = h ∙ ap (λ xs. p ++ told_rows (before_each before (rows_of_parts w t earlier m xs))) (sym e)
 
-several_at : (w : ℕ → ℕ) (t : ThemeCharacters) (earlier : List Mark) (m : Mark) (part : List ℕ) (more : List (List ℕ)) (next : List ℕ) (others : List (List ℕ)) → more ≡ next ∷ others →
+several_at : (w : ℕ → ℕ) (t : Characters) (earlier : List Mark) (m : Mark) (part : List ℕ) (more : List (List ℕ)) (next : List ℕ) (others : List (List ℕ)) → more ≡ next ∷ others →
     text_row w t earlier m (corner_of_several t) part ∷ map (text_row w t earlier m (beside t)) more ≡ rows_of_parts w t earlier m (part ∷ more)
 several_at w t earlier m part more next others e =
     ap (λ xs. text_row w t earlier m (corner_of_several t) part ∷ map (text_row w t earlier m (beside t)) xs) e ∙ ap (λ xs. rows_of_parts w t earlier m (part ∷ xs)) (sym e)
 
-pub several_parts : (w : ℕ → ℕ) (t : ThemeCharacters) (before : Row) (earlier : List Mark) (m : Mark) (parts : List (List ℕ)) (part codes : List ℕ) (p q r : List Token) → parts ≡ part ∷ cut_at_lf codes →
+pub several_parts : (w : ℕ → ℕ) (t : Characters) (before : Row) (earlier : List Mark) (m : Mark) (parts : List (List ℕ)) (part codes : List ℕ) (p q r : List Token) → parts ≡ part ∷ cut_at_lf codes →
     q ≡ p ++ told_rows ((before ++ text_row w t earlier m (corner_of_several t) part) ∷ []) → r ≡ q ++ told_rows (map (λ x. before ++ text_row w t earlier m (beside t) x) (cut_at_lf codes)) →
     r ≡ p ++ told_rows (before_each before (rows_of_parts w t earlier m parts))
 several_parts w t before earlier m parts part codes p q r e hq hr =
@@ -121,7 +121,7 @@ before-append : (before : Row) (a b : List Row) → before_each before (a ++ b) 
 before-append before a b = map-append _ a b
 
 -- the texts of one more mark, from the last to the first
-pub below_more : (w : ℕ → ℕ) (t : ThemeCharacters) (ls : List Label) (before : Row) (marks : List MadeMark) (next k : ℕ) (d : MadeMark) (p q r : List Token) → k < length marks → next ≡ k + 1 →
+pub below_more : (w : ℕ → ℕ) (t : Characters) (ls : List Label) (before : Row) (marks : List MadeMark) (next k : ℕ) (d : MadeMark) (p q r : List Token) → k < length marks → next ≡ k + 1 →
     q ≡ p ++ told_rows (before_each before (rows_below w t (map (mark_of ls) (take next marks)) (map (mark_of ls) (drop next marks)))) →
     r ≡ q ++ told_rows (before_each before (rows_of_parts w t (map (mark_of ls) (take k marks)) (mark_of ls (get_or marks k d)) (mark_of ls (get_or marks k d)).label.parts)) →
     r ≡ p ++ told_rows (before_each before (rows_below w t (map (mark_of ls) (take k marks)) (map (mark_of ls) (drop k marks))))
@@ -139,7 +139,7 @@ below_more w t ls before marks next k d p q r lt z hq hr =
     ∙ ap (λ xs. p ++ told_rows xs) (sym (before-append before a b))
     ∙ ap (λ xs. p ++ told_rows (before_each before (rows_below w t earlier xs))) (sym (at_drop_more (map (mark_of ls)) marks k d lt))
 
-pub below_none : (w : ℕ → ℕ) (t : ThemeCharacters) (ls : List Label) (before : Row) (marks : List MadeMark) (k : ℕ) (p : List Token) → length marks ≤ k →
+pub below_none : (w : ℕ → ℕ) (t : Characters) (ls : List Label) (before : Row) (marks : List MadeMark) (k : ℕ) (p : List Token) → length marks ≤ k →
     p ≡ p ++ told_rows (before_each before (rows_below w t (map (mark_of ls) (take k marks)) (map (mark_of ls) (drop k marks))))
 below_none w t ls before marks k p le =
     sym (append-nil p) ∙ ap (λ xs. p ++ told_rows (before_each before (rows_below w t (map (mark_of ls) (take k marks)) xs))) (sym (at_drop_all (map (mark_of ls)) marks k le))

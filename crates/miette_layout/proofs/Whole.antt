@@ -1,8 +1,6 @@
 -- The rows of a whole snippet.
-use Rattle.std.proofs.Common.{ℕ, ◌+◌, ◌<◌, ◌≤◌, ◌≡◌, ◌^◌, List, [], ◌∷◌, length, arith}
+use Rattle.std.proofs.Common.{ℕ, ◌+◌, ◌≤◌, ◌≡◌, List, [], ◌∷◌, length, arith}
 use Rattle.std.specs.Prelude.{decimal}
-use Rattle.std.proofs.lemmas.Fmt.{decimal_is_IsNumeral, decimal_nonempty, length-decimal-le}
-use Rattle.std.proofs.lemmas.Int.Digits.{digits_value-lt}
 use Rattle.std.specs.List.{AllByRecursion}
 use Rattle.miette_newlines.specs.rules.Lines.{Line}
 use Rattle.miette_protocol.specs.rules.Reading.{Contents}
@@ -14,33 +12,28 @@ use Rattle.miette_layout.specs.rules.Gutters.{gutter_columns}
 use Rattle.miette_layout.specs.rules.Frames.{Settings, width_of_lines}
 use Rattle.miette_layout.specs.rules.Layout.{cells_of}
 use Rattle.miette_layout.specs.laws.Pictures.{LinesShow, BodyShows}
+use Rattle.miette_layout.proofs.Numerals.{decimal-mono}
 use Rattle.miette_layout.proofs.Beneath.{HasRoom, line_shows, line_begins, all_room}
 
--- a smaller number has no more digits
-pub decimal-mono : (a b : ℕ) → a ≤ b → b < 2 ^ 64 → length (decimal a) ≤ length (decimal b)
-decimal-mono a b le small =
-    length-decimal-le (length (decimal b)) a (decimal_nonempty b small)
-    (omega (arith, le, (decimal_is_IsNumeral b small).1, digits_value-lt 10 (decimal b) (decimal_is_IsNumeral b small).0.1)) (omega arith)
-
 lines_show : (s : Settings) (w columns last : ℕ) (labels : List DrawnLabel) (source : List ℕ) (number : ℕ) (pieces : List (List Highlight)) (lines : List Line) → IsNarrow s.width s.characters →
-    number + length lines ≡ last + 1 → last < 2 ^ 64 → length (decimal last) ≤ w → AllByRecursion (λ line. HasRoom labels line columns) lines → LinesShow s w columns labels source number pieces lines
-lines_show s w columns last labels source number pieces [] n sum small fits room = tt
-lines_show s w columns last labels source number pieces (line ∷ lines) n sum small fits room =
+    number + length lines ≡ last + 1 → length (decimal last) ≤ w → AllByRecursion (λ line. HasRoom labels line columns) lines → LinesShow s w columns labels source number pieces lines
+lines_show s w columns last labels source number pieces [] n sum fits room = tt
+lines_show s w columns last labels source number pieces (line ∷ lines) n sum fits room =
     let below : number ≤ last = omega (arith, sum) in
-    let own : length (decimal number) ≤ w = omega (arith, decimal-mono number last below small, fits) in (
-      line_begins s w columns labels line number (cells_of s source line) (first_of pieces) n room.0 (omega (arith, below, small)) own,
+    let own : length (decimal number) ≤ w = omega (arith, decimal-mono number last below, fits) in (
+      line_begins s w columns labels line number (cells_of s source line) (first_of pieces) n room.0 own,
       line_shows s w columns labels line number (cells_of s source line) (first_of pieces) n room.0,
-      lines_show s w columns last labels source (number + 1) (later_of pieces) lines n (omega (arith, sum)) small fits room.1,
+      lines_show s w columns last labels source (number + 1) (later_of pieces) lines n (omega (arith, sum)) fits room.1,
     )
 
 width-fits : (line : ℕ) (l : Line) (ls : List Line) → length (decimal (line + length (l ∷ ls))) ≤ width_of_lines line (l ∷ ls)
 width-fits line l ls = omega arith
 
-body_from : (s : Settings) (labels : List DrawnLabel) (source : List ℕ) (line : ℕ) (pieces : List (List Highlight)) (lines : List Line) → IsNarrow s.width s.characters → line + length lines < 2 ^ 64 →
+body_from : (s : Settings) (labels : List DrawnLabel) (source : List ℕ) (line : ℕ) (pieces : List (List Highlight)) (lines : List Line) → IsNarrow s.width s.characters →
     LinesShow s (width_of_lines line lines) (gutter_columns labels lines) labels source (line + 1) pieces lines
-body_from s labels source line pieces [] n small = tt
-body_from s labels source line pieces (l ∷ ls) n small =
-    lines_show s (width_of_lines line (l ∷ ls)) (gutter_columns labels (l ∷ ls)) (line + length (l ∷ ls)) labels source (line + 1) pieces (l ∷ ls) n (omega arith) small (width-fits line l ls) (all_room labels (l ∷ ls))
+body_from s labels source line pieces [] n = tt
+body_from s labels source line pieces (l ∷ ls) n =
+    lines_show s (width_of_lines line (l ∷ ls)) (gutter_columns labels (l ∷ ls)) (line + length (l ∷ ls)) labels source (line + 1) pieces (l ∷ ls) n (omega arith) (width-fits line l ls) (all_room labels (l ∷ ls))
 
-pub body_shows : (s : Settings) (labels : List DrawnLabel) (source : List ℕ) (read : Contents) (pieces : List (List Highlight)) → IsNarrow s.width s.characters → read.line + length (lines_of_contents read) < 2 ^ 64 → BodyShows s labels source read pieces
-body_shows s labels source read pieces n small = body_from s labels source read.line pieces (lines_of_contents read) n small
+pub body_shows : (s : Settings) (labels : List DrawnLabel) (source : List ℕ) (read : Contents) (pieces : List (List Highlight)) → IsNarrow s.width s.characters → BodyShows s labels source read pieces
+body_shows s labels source read pieces n = body_from s labels source read.line pieces (lines_of_contents read) n

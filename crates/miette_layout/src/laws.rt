@@ -1,6 +1,6 @@
 //! What holds of the rows of snippets, as laws of their definitions.
 
-ghost use Rattle.std.specs.Prelude.{◌≡◌, ◌<◌, ◌≤◌, ◌+◌, ◌^◌, ℕ, List, ◌∷◌, [], Some, Bool, length, map, IfSome};
+ghost use Rattle.std.specs.Prelude.{◌≡◌, ◌≤◌, ℕ, List, ◌∷◌, [], Some, Bool, map, IfSome};
 ghost use Rattle.std.specs.Option.{option_map};
 ghost use Rattle.std.specs.List.{AllByRecursion, concat};
 ghost use Rattle.miette_layout.specs.rules.Numbers.{runs, IsRun, AreParted};
@@ -8,7 +8,6 @@ ghost use Rattle.miette_protocol.specs.views.Meaning.{Label};
 ghost use Rattle.miette_protocol.specs.rules.Reading.{Source, Contents, Span};
 ghost use Rattle.miette_layout.specs.laws.Belonging.{HasOneGroup};
 ghost use Rattle.miette_layout.specs.laws.Clean.{AreCleanDrawings, IsCleanLabel, IsCleanRow, IsCleanSource};
-ghost use Rattle.miette_lines.specs.rules.Contexts.{lines_of_contents};
 ghost use Rattle.miette_layout.specs.laws.Fading.{IsPlainRow, colourless, unhighlighted};
 ghost use Rattle.miette_page.specs.rules.Rows.{pieces_of};
 ghost use Rattle.miette_lines.specs.rules.Answers.{Answers, AlwaysReads, Highlight, NoneFails};
@@ -65,8 +64,7 @@ pub fn marks_are_apart()
 pub fn texts_hang()
     ensures { (s : Settings) (labels : List DrawnLabel) (source : List ℕ) (read : Contents)
         (pieces : List (List Highlight)) →
-        IsNarrow s.width s.characters → read.line + length (lines_of_contents read) < 2 ^ 64 →
-        BodyShows s labels source read pieces }
+        IsNarrow s.width s.characters → BodyShows s labels source read pieces }
 {}
 
 /// In plain styles and without a highlighter's pieces the snippets have the same rows of the same characters in the

@@ -4,7 +4,7 @@ use Rattle.miette_protocol.specs.views.Meaning.{Meaning}
 use Rattle.miette_protocol.specs.declared.error.RenderError.{RenderError}
 use Rattle.miette_protocol.specs.declared.error.RenderError.TheVariants.{Refused}
 use Rattle.miette_tree.specs.rules.Tree.{Tree}
-use Rattle.miette_style.specs.rules.Themes.{no_styles, styles_of, theme_of, unicode_characters}
+use Rattle.miette_style.specs.rules.Themes.{characters_of, no_styles, styles_of, theme_of, unicode_characters}
 use Rattle.miette_style.specs.declared.theme.GraphicalTheme.{GraphicalTheme}
 use Rattle.miette_graphical.specs.rules.Answers.{unlisted}
 use Rattle.miette_graphical.specs.rules.Printed.{all_read, printed}
@@ -21,26 +21,23 @@ narrow h = record h { settings = record h.settings { width = 80 } }
 
 -- what the handler is made with
 pub plain-settings : {H : Type 0} (theme : GraphicalTheme) (made wide : Handling H) → theme_of theme ≡ record { characters = unicode_characters; styles = no_styles }
-    → made ≡ without_highlighter (default_settings theme.characters (styles_of theme.styles)) → wide ≡ record made { settings = record made.settings { width = 80 } }
-    → wide ≡ without_highlighter (draw_settings theme.characters)
-plain-settings theme made wide is m w = w ∙ ap narrow (m ∙ ap (λ t. without_highlighter (default_settings theme.characters t.styles)) is)
+    → made ≡ without_highlighter (default_settings (characters_of theme.characters) (styles_of theme.styles)) → wide ≡ record made { settings = record made.settings { width = 80 } }
+    → wide ≡ without_highlighter draw_settings
+plain-settings theme made wide is m w = w ∙ ap narrow (m ∙ ap (λ t. without_highlighter (default_settings t.characters t.styles)) is)
 
-reads-whole : {H : Type 0} (theme : GraphicalTheme) (h : Handling H) (t : Tree) → h ≡ without_highlighter (draw_settings theme.characters) → IsReadWhole t → all_read (printed h.settings t) ≡ true
-reads-whole theme h t same reads = ap (λ u. all_read (printed u.settings t)) same ∙ reads theme.characters
+reads-whole : {H : Type 0} (theme : GraphicalTheme) (h : Handling H) (t : Tree) → h ≡ without_highlighter draw_settings → IsReadWhole t → all_read (printed h.settings t) ≡ true
+reads-whole theme h t same reads = ap (λ u. all_read (printed u.settings t)) same ∙ reads
 
 pub pictured : {H : Type 0} (is_blank : H → Bool) (theme : GraphicalTheme) (h : Handling H) (t : Tree) (old new : List ℕ) → theme_of theme ≡ record { characters = unicode_characters; styles = no_styles }
-    → h ≡ without_highlighter (draw_settings theme.characters) → old ≡ []
+    → h ≡ without_highlighter draw_settings → old ≡ []
     → (draws_plain is_blank h ≡ true → all_read (printed h.settings t) ≡ true → new ≡ old ++ encode_utf8_all (report_text drawn_rows h.settings t unlisted))
     → IsReadWhole t → IsPicture t new
-pictured is_blank theme h t old new is same none only reads = (
-  theme.characters,
-  ap (λ u. u.characters) is,
-  only (ap (draws_plain is_blank) same) (reads-whole theme h t same reads)
-      ∙ ap₂ (λ o u. o ++ encode_utf8_all (report_text drawn_rows u.settings t unlisted)) none same,
-)
+pictured is_blank theme h t old new is same none only reads =
+    only (ap (draws_plain is_blank) same) (reads-whole theme h t same reads)
+    ∙ ap₂ (λ o u. o ++ encode_utf8_all (report_text drawn_rows u.settings t unlisted)) none same
 
 pub unrefused : {H A B : Type 0} (theme : GraphicalTheme) (h : Handling H) (t : Tree) (r : Result A RenderError) (q : Result B RenderError) (e : RenderError)
-    → h ≡ without_highlighter (draw_settings theme.characters)
+    → h ≡ without_highlighter draw_settings
     → r ≡ Err e → q ≡ Err e → (r ≡ Err Refused → all_read (printed h.settings t) ≡ false) → IsReadWhole t → q ≡ Err Refused → ⊥
 unrefused theme h t r q e same is kept refused reads p =
     let refusal : e ≡ Refused = cc in
@@ -48,7 +45,7 @@ unrefused theme h t r q e same is kept refused reads p =
 
 -- of a diagnostic over an input every label is read
 pub reads-over : (t : Tree) (name : List ℕ) (m : Meaning) (input : List ℕ) → t ≡ over_input name m input → IsReadWhole t
-reads-over t name m input same = λ c. ap (λ u. all_read (printed (draw_settings c) u)) same ∙ printed-reads (draw_settings c) (over_input name m input) (refl, tt, tt)
+reads-over t name m input same = ap (λ u. all_read (printed draw_settings u)) same ∙ printed-reads draw_settings (over_input name m input) (refl, tt, tt)
 
 pub over-same : {E Z : Type 0} (r : Result (String Z) E) (name : List ℕ) (m n : Meaning) (input : List ℕ) → m ≡ n → IfOk r (λ text. IsPicture (over_input name m input) (string_bytes text)) → IfOk r (λ text. IsPicture (over_input name n input) (string_bytes text))
 over-same r name m n input same is = subst (λ v. IfOk r (λ text. IsPicture (over_input name v input) (string_bytes text))) same is

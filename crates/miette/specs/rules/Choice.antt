@@ -4,10 +4,9 @@ use Rattle.std.specs.Prelude.{◌≡◌, ℕ, Bool, true, false, not, List, Opti
 use Rattle.std.specs.Prelude.{option_map, chars, codes, string_bytes}
 use Rattle.std.specs.Option.{option_or}
 use Rattle.std.specs.Str.{bytes_eq}
-use Rattle.miette_style.specs.rules.Themes.{Styles, Theme, ansi_styles, ascii_characters, characters_of, no_styles}
+use Rattle.miette_style.specs.rules.Themes.{Styles, Theme, ansi_styles, ascii_characters, no_styles}
 use Rattle.miette_style.specs.rules.Themes.{rgb_styles, unicode_characters}
 use Rattle.miette_style.specs.declared.theme.Terminal.{Terminal}
-use Rattle.miette_style.specs.declared.theme.ThemeCharacters.{ThemeCharacters}
 use Rattle.miette_narrated.specs.rules.Report as narrated
 use Rattle.miette_graphical.specs.views.Handling.{Handling}
 use Rattle.miette_graphical.specs.rules.Settings.{Settings, Urls, default_settings, links_shown}
@@ -54,10 +53,10 @@ chosen_theme o t = unwrap_or o.theme (fitting_theme o t)
 abbrev pub chosen_highlighter : {H : Type 0} → Options H → Terminal → Option H
 chosen_highlighter o t = if takes_colours o t then o.highlighter else None
 
--- how pictures are drawn, with these characters: what isn't set stays as it is
-abbrev pub drawn : {H : Type 0} → Options H → Terminal → ThemeCharacters → Settings
-drawn o t characters =
-    let default = default_settings characters (chosen_theme o t).styles in
+-- how pictures are drawn: what isn't set stays as it is
+abbrev pub drawn : {H : Type 0} → Options H → Terminal → Settings
+drawn o t =
+    let default = default_settings (chosen_theme o t).characters (chosen_theme o t).styles in
     record default {
       width = chosen_width o t;
       tab = unwrap_or o.tab default.tab;
@@ -83,8 +82,7 @@ told o =
 
 -- the graphical handler that options and a terminal choose
 pub record IsDrawing {H : Type 0} (o : Options H) (t : Terminal) (it : Handling H) : Type 0 where
-  pub characters : characters_of it.settings.characters ≡ (chosen_theme o t).characters
-  pub settings : it.settings ≡ drawn o t it.settings.characters
+  pub settings : it.settings ≡ drawn o t
   pub highlighter : it.highlighter ≡ chosen_highlighter o t
 
 -- the handler that options and a terminal choose

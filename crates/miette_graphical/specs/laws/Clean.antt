@@ -1,8 +1,8 @@
 -- Trees and settings that hold no escape.
-use Rattle.std.specs.Prelude.{List, string_bytes, Option, IfSome}
+use Rattle.std.specs.Prelude.{List, Option, IfSome}
 use Rattle.std.specs.List.{AllByRecursion}
 use Rattle.miette_text.specs.rules.Runs.{Run, HaveNoEscape}
-use Rattle.miette_style.specs.declared.theme.ThemeCharacters.{ThemeCharacters}
+use Rattle.miette_style.specs.rules.Themes.{Characters}
 use Rattle.miette_protocol.specs.views.Meaning.{Meaning, Label}
 use Rattle.miette_layout.specs.laws.Clean.{IsClean, IsCleanText, IsCleanLabel, IsCleanSource, AreCleanDrawings}
 use Rattle.miette_tree.specs.rules.Tree.{Tree, tree, Cause, diagnostic, texts, Trees, no_trees, more_trees}
@@ -11,11 +11,11 @@ use Rattle.miette_graphical.specs.rules.Settings.{Settings}
 -- ---- settings
 
 -- the characters of a theme that are printed: what is drawn, and the icons
-pub record AreCleanCharacters (c : ThemeCharacters) : Type 0 where
+pub record AreCleanCharacters (c : Characters) : Type 0 where
   pub drawings : AreCleanDrawings c
-  pub error : IsCleanText (string_bytes c.error)
-  pub warning : IsCleanText (string_bytes c.warning)
-  pub advice : IsCleanText (string_bytes c.advice)
+  pub error : IsClean c.error
+  pub warning : IsClean c.warning
+  pub advice : IsClean c.advice
 
 -- with the text of links, and the footer
 abbrev pub AreCleanSettings : Settings → Type 0

@@ -1,5 +1,5 @@
 -- The same settings with every style plain, and the same answers with the blank highlighter.
-use Rattle.std.specs.Prelude.{◌≡◌, ℕ, Bool, List, [], map, Option, IfSome, encode_utf8_all}
+use Rattle.std.specs.Prelude.{◌≡◌, ℕ, Bool, true, List, [], map, Option, IfSome, encode_utf8_all}
 use Rattle.miette_text.specs.rules.Runs.{plain_run}
 use Rattle.miette_text.specs.rules.Sequences.{erase}
 use Rattle.miette_style.specs.rules.Styles.{plain}
@@ -8,7 +8,7 @@ use Rattle.miette_protocol.specs.rules.Reading.{Source}
 use Rattle.miette_graphical.specs.rules.Settings.{Settings}
 use Rattle.miette_style.specs.rules.Themes.{Styles}
 use Rattle.miette_graphical.specs.rules.Answers.{Answer, Answers, unlisted, listed, RelatedAnswers, no_more, and_more}
-use Rattle.miette_graphical.specs.rules.Answered.{AreAnswers}
+use Rattle.miette_graphical.specs.rules.Answered.{AreAnswers, IsTextOf}
 use Rattle.miette_graphical.specs.rules.Parts.{SnippetRows, rows_text}
 use Rattle.miette_graphical.specs.rules.Text.{report_text}
 use Rattle.miette_tree.specs.rules.Tree.{Tree}
@@ -24,7 +24,7 @@ faded s = record {
   help = plain;
   link = plain;
   linum = plain;
-  highlights = map (λ _. plain) s.highlights;
+  highlights = [];
 }
 
 abbrev pub colourless : Settings → Settings
@@ -43,6 +43,11 @@ abbrev mutual
   unhighlighted_related no_more = no_more
   unhighlighted_related (and_more first more) = and_more (unhighlighted first) (unhighlighted_related more)
 
+-- a text that may be printed with a theme of the same characters, in whatever styles and with whatever highlighter
+abbrev pub IsRestyledText : SnippetRows → Settings → Tree → List ℕ → Type 0
+IsRestyledText rows s t bytes =
+    (styles : Styles) × (blank : Bool) × IsTextOf rows (record s { styles = styles }) blank t bytes
+
 -- What a diagnostic's snippet rows have to be: in plain styles and without pieces they print the same rows with each
 -- style made plain; and they hold no escape where nothing that they are made of does.
 pub record AreSnippets (rows : SnippetRows) : Type 0 where
@@ -56,9 +61,11 @@ pub record AreSnippets (rows : SnippetRows) : Type 0 where
 -- ---- what is printed
 
 -- The bytes of a report's text under some answers, which without their colours are those of its text in plain styles
--- and without a highlighter, under the same reads.
+-- and without a highlighter, under the same reads. Those answers are possible there too, so that every snippet has rows
+-- in plain styles: what is left is a text that the colourless handler may give.
 pub record IsColouredText (rows : SnippetRows) (s : Settings) (blank : Bool) (t : Tree) (bytes : List ℕ) : Type 0 where
   pub answers : Answers
   pub are : AreAnswers s blank t answers
   pub text : bytes ≡ encode_utf8_all (report_text rows s t answers)
+  pub possible : AreAnswers (colourless s) true t (unhighlighted answers)
   pub erased : erase bytes ≡ encode_utf8_all (report_text rows (colourless s) t (unhighlighted answers))

@@ -1,15 +1,13 @@
 -- What holds of the snippets of each printed diagnostic, over its effective source and by its labels.
-use Rattle.std.specs.Prelude.{◌≡◌, ℕ, ◌+◌, ◌<◌, ◌^◌, true, List, [], ◌∷◌, length, Some, IfSome}
+use Rattle.std.specs.Prelude.{◌≡◌, ℕ, true, List, [], ◌∷◌, length, Some, IfSome}
 use Rattle.std.specs.List.{AllByRecursion, concat}
 use Rattle.miette_newlines.specs.rules.Lines.{lines_of}
 use Rattle.miette_protocol.specs.views.Meaning.{Label}
-use Rattle.miette_protocol.specs.rules.Reading.{Source, Span, Contents}
+use Rattle.miette_protocol.specs.rules.Reading.{Source, Span}
 use Rattle.miette_lines.specs.rules.Answers.{Highlight}
 use Rattle.miette_lines.specs.rules.Around.{HaveContext}
-use Rattle.miette_lines.specs.rules.Contexts.{contents, lines_of_contents}
-use Rattle.miette_layout.specs.rules.Drawing.{IsNarrow}
+use Rattle.miette_lines.specs.rules.Contexts.{contents}
 use Rattle.miette_layout.specs.rules.Frames as frames
-use Rattle.miette_lines.specs.views.Given.{width_of}
 use Rattle.miette_lines.specs.rules.Groups as grouping
 use Rattle.miette_lines.specs.rules.Groups.{AreAccepted, in_order, lines_of_groups}
 use Rattle.miette_lines.specs.rules.Labels.{DrawnLabel, drawn_from}
@@ -23,6 +21,7 @@ use Rattle.miette_graphical.specs.rules.Answers.{pieces_listed}
 use Rattle.miette_tree.specs.rules.Parts.{given_labels}
 use Rattle.miette_graphical.specs.rules.Printed.{Printed}
 use Rattle.miette_graphical.specs.rules.Settings.{Settings}
+use Rattle.miette_graphical.specs.laws.Shipped.{AreNarrow}
 use Rattle.miette_graphical.specs.rules.Snippets.{layout_settings, shown_rows, drawn_rows}
 
 -- ---- the lines of the snippets
@@ -85,21 +84,17 @@ MarksAreApart s p = IfSome p.source (λ source. (k : ℕ) →
 
 -- ---- the texts of labels
 
--- the lines of a snippet have numbers below 2 ^ 64
-abbrev pub HasFewLines : Contents → Type 0
-HasFewLines read = read.line + length (lines_of_contents read) < 2 ^ 64
-
 -- in the rows of a snippet, in whatever pieces its lines are, each text of a label that lies on one line hangs from
 -- its own mark's anchor
 abbrev pub SnippetHangs : Settings → Source → List Label → Span → Type 0
 SnippetHangs s source labels group =
-    HasFewLines (contents (group_settings s labels).context source group) → (pieces : List (List Highlight)) →
+    (pieces : List (List Highlight)) →
     BodyShows (group_settings s labels) (drawn_labels s source labels) source.bytes
     (contents (group_settings s labels).context source group) pieces
 
--- in each snippet of a diagnostic, where the theme's characters are one column wide
+-- in each snippet of a diagnostic, where the theme's drawing characters are one column wide
 abbrev pub TextsHang : Settings → Printed → Type 0
 TextsHang s p =
     IfSome p.source (λ source.
-    IsNarrow width_of s.characters → AllByRecursion (SnippetHangs s source (given_labels p.meaning.labels))
+    AreNarrow s.characters → AllByRecursion (SnippetHangs s source (given_labels p.meaning.labels))
     (groups_of s source (given_labels p.meaning.labels)))

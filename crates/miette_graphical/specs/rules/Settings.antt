@@ -1,10 +1,9 @@
 -- How a report is printed.
-use Rattle.std.specs.Prelude.{ℕ, Bool, List, Option, Some, None, true, false, chars, codes, string_bytes}
+use Rattle.std.specs.Prelude.{ℕ, Bool, List, Option, Some, None, true, false, chars, codes}
 use Rattle.miette_protocol.specs.declared.protocol.Severity.{Severity}
 use Rattle.miette_protocol.specs.declared.protocol.Severity.TheVariants.{Advice, Warning, Error}
-use Rattle.miette_style.specs.rules.Themes.{Styles}
+use Rattle.miette_style.specs.rules.Themes.{Characters, Styles}
 use Rattle.miette_style.specs.declared.style.Style.{Style}
-use Rattle.miette_style.specs.declared.theme.ThemeCharacters.{ThemeCharacters}
 
 -- What a url becomes: a link, a text behind the code, or nothing.
 pub data Urls : Type 0 where
@@ -13,7 +12,7 @@ pub data Urls : Type 0 where
   Hidden : Urls
 
 pub record Settings : Type 0 where
-  pub characters : ThemeCharacters
+  pub characters : Characters
   pub styles : Styles
   pub width : ℕ
   pub tab : ℕ
@@ -29,11 +28,11 @@ pub record Settings : Type 0 where
   pub footer : Option (List ℕ)
 
 -- `error` where a diagnostic has no severity
-abbrev pub icon_in : ThemeCharacters → Option Severity → List ℕ
-icon_in c None = chars (string_bytes c.error)
-icon_in c (Some Error) = chars (string_bytes c.error)
-icon_in c (Some Warning) = chars (string_bytes c.warning)
-icon_in c (Some Advice) = chars (string_bytes c.advice)
+abbrev pub icon_in : Characters → Option Severity → List ℕ
+icon_in c None = c.error
+icon_in c (Some Error) = c.error
+icon_in c (Some Warning) = c.warning
+icon_in c (Some Advice) = c.advice
 
 abbrev pub style_in : Styles → Option Severity → Style
 style_in s None = s.error
@@ -48,7 +47,7 @@ abbrev pub severity_style : Settings → Option Severity → Style
 severity_style s = style_in s.styles
 
 -- what a handler is made with
-abbrev pub default_settings : ThemeCharacters → Styles → Settings
+abbrev pub default_settings : Characters → Styles → Settings
 default_settings characters styles = record {
   characters = characters;
   styles = styles;

@@ -1,13 +1,13 @@
 -- What the code's values stand for.
 use Rattle.std.specs.Prelude.{chars, option_map}
-use Rattle.miette_style.specs.rules.Themes.{styles_of}
+use Rattle.miette_style.specs.rules.Themes.{characters_of, styles_of}
 use Rattle.miette_graphical.specs.rules.Settings as values
 use Rattle.miette_graphical.specs.views.Modes.{urls_of, splits}
 use Rattle.miette_graphical.specs.declared.settings.Layout.{Layout}
 
 abbrev pub settings_of : Layout → values.Settings
 settings_of l = record {
-  characters = l.theme.now.characters;
+  characters = characters_of l.theme.now.characters;
   styles = styles_of l.theme.now.styles;
   width = l.width;
   tab = l.tab;

@@ -1,12 +1,12 @@
 //! The picture of a report, by a handler's settings.
 
-ghost use Rattle.std.specs.Prelude.{◌≡◌, ◌++◌, OnErr, OnOk, false, true, chars, string_bytes, encode_utf8_all};
+ghost use Rattle.std.specs.Prelude.{◌≡◌, ◌++◌, ℕ, List, OnErr, OnOk, false, true, chars, string_bytes, encode_utf8_all};
 ghost use Rattle.std.specs.Prelude.{option_map};
 ghost use Rattle.std.specs.List.{AllByRecursion};
 ghost use Rattle.miette_graphical.specs.rules.Answered.{Appends, IsTextOf};
 ghost use Rattle.miette_graphical.specs.rules.Answers.{unlisted};
 ghost use Rattle.miette_graphical.specs.laws.Clean.{AreCleanSettings, IsCleanTree};
-ghost use Rattle.miette_graphical.specs.laws.Colourless.{IsColouredText, colourless};
+ghost use Rattle.miette_graphical.specs.laws.Colourless.{IsColouredText, IsRestyledText, colourless};
 ghost use Rattle.miette_tree.specs.views.Handler.{AppendsOne};
 ghost use Rattle.miette_graphical.specs.views.Handling.{draws_plain};
 ghost use Rattle.miette_graphical.specs.laws.Headline.{LinesAreShown, MarksAreApart, TextsHang};
@@ -14,6 +14,7 @@ ghost use Rattle.miette_graphical.specs.rules.Printed.{all_read, printed};
 ghost use Rattle.miette_graphical.specs.rules.Snippets.{drawn_rows};
 ghost use Rattle.miette_graphical.specs.rules.Text.{report_text};
 ghost use Rattle.miette_graphical.specs.views.SettingsView.{settings_of};
+ghost use Rattle.miette_text.specs.rules.Sequences.{erase};
 ghost use Rattle.miette_text.specs.views.Filling.{AppendsErasing};
 ghost use Rattle.miette_tree.specs.views.Report.{tree_of};
 
@@ -94,6 +95,12 @@ impl<H: Highlighter> GraphicalReportHandler<H> {
             AppendsErasing (string_bytes out.old) (string_bytes out.new)
             (encode_utf8_all (report_text drawn_rows (colourless self.old.settings)
             (tree_of D.meaning S.source report.now) unlisted))) }
+        ensures themes { OnOk result (all_read (printed self.old.settings (tree_of D.meaning S.source report.now))
+            ≡ true →
+            AreCleanSettings self.old.settings → IsCleanTree (tree_of D.meaning S.source report.now) →
+            (others : List ℕ) →
+            IsRestyledText drawn_rows self.old.settings (tree_of D.meaning S.source report.now) others →
+            AppendsErasing (string_bytes out.old) (string_bytes out.new) (erase others)) }
         ensures refused { (result ≡ Err RenderError.Refused) →
             all_read (printed self.old.settings (tree_of D.meaning S.source report.now)) ≡ false }
         ensures err { OnErr result (string_bytes out.new ≡ string_bytes out.old) }
@@ -144,6 +151,12 @@ impl<H: Highlighter> GraphicalReportHandler<H> {
             IsCleanTree tree →
             AppendsErasing (string_bytes out.old) (string_bytes out.new)
             (encode_utf8_all (report_text drawn_rows (colourless self.old.settings) tree unlisted))) }
+        // and the same for all themes with these characters
+        ensures themes { let tree = tree_of ⟦<Box<dyn Diagnostic> as Diagnostic>⟧.meaning
+            ⟦<Box<dyn SourceCode> as SourceCode>⟧.source report.now in
+            OnOk result (all_read (printed self.old.settings tree) ≡ true → AreCleanSettings self.old.settings →
+            IsCleanTree tree → (others : List ℕ) → IsRestyledText drawn_rows self.old.settings tree others →
+            AppendsErasing (string_bytes out.old) (string_bytes out.new) (erase others)) }
         // of each printed diagnostic: its snippets show the lines in the context of its labels, once and in order,
         ensures lines { let tree = tree_of ⟦<Box<dyn Diagnostic> as Diagnostic>⟧.meaning
             ⟦<Box<dyn SourceCode> as SourceCode>⟧.source report.now in

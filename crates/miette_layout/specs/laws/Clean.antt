@@ -3,10 +3,10 @@ use Rattle.std.specs.Prelude.{◌≡◌, ℕ, true, false, List, map, chars, IfS
 use Rattle.std.specs.List.{AllByRecursion}
 use Rattle.miette_style.specs.rules.Escapes.{is_escape}
 use Rattle.miette_style.specs.rules.Escapes.{no_escape}
-use Rattle.miette_style.specs.declared.theme.ThemeCharacters.{ThemeCharacters}
 use Rattle.miette_protocol.specs.views.Meaning.{Label}
 use Rattle.miette_protocol.specs.rules.Reading.{Source}
 use Rattle.miette_page.specs.rules.Rows.{Row}
+use Rattle.miette_style.specs.rules.Themes.{Characters}
 
 -- a character that is no escape, and a text that holds none
 abbrev pub IsCleanCode : ℕ → Type 0
@@ -20,7 +20,7 @@ abbrev pub IsCleanText : List ℕ → Type 0
 IsCleanText bytes = IsClean (chars bytes)
 
 -- the characters of a theme that frames, gutters and marks are drawn with
-pub record AreCleanDrawings (t : ThemeCharacters) : Type 0 where
+pub record AreCleanDrawings (t : Characters) : Type 0 where
   pub hbar : IsCleanCode t.hbar
   pub vbar : IsCleanCode t.vbar
   pub vbar_break : IsCleanCode t.vbar_break

@@ -1,5 +1,5 @@
 -- Settings and answers without colours, and rows that are plain.
-use Rattle.std.specs.Prelude.{◌≡◌, [], map}
+use Rattle.std.specs.Prelude.{◌≡◌, []}
 use Rattle.std.specs.List.{AllByRecursion}
 use Rattle.miette_lines.specs.rules.Answers.{Answers}
 use Rattle.miette_layout.specs.rules.Frames.{Styles, Settings}
@@ -12,7 +12,7 @@ faded s = record {
   warning = plain;
   link = plain;
   linum = plain;
-  highlights = map (λ _. plain) s.highlights;
+  highlights = [];
 }
 
 -- the same settings with every style plain

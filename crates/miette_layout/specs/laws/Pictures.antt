@@ -1,7 +1,6 @@
 -- What the rows of a line show at their columns, and what it means that a text hangs from its mark.
 use Rattle.std.specs.Prelude.{ℕ, ◌+◌, ◌<◌, ◌≡◌, ◌⊎◌, List, [], ◌∷◌, map, Some, ◌&&◌, if◌then◌else◌, nat_lt, nat_le}
 use Rattle.std.specs.List.{AllByRecursion}
-use Rattle.miette_style.specs.declared.theme.ThemeCharacters.{ThemeCharacters}
 use Rattle.miette_page.specs.rules.Rows.{Piece, Row, pieces_of, drawn, code_at, Begins}
 use Rattle.miette_newlines.specs.rules.Lines.{Line}
 use Rattle.miette_layout.specs.rules.PrintedCells.{line_runs}
@@ -15,9 +14,10 @@ use Rattle.miette_lines.specs.rules.Answers.{Highlight, first_of, later_of}
 use Rattle.miette_lines.specs.rules.Contexts.{lines_of_contents}
 use Rattle.miette_layout.specs.rules.Gutters.{gutter_columns}
 use Rattle.miette_layout.specs.rules.Layout.{line_rows, text_of_cells, cells_of}
+use Rattle.miette_style.specs.rules.Themes.{Characters}
 
 -- what stands at a column of the mark row
-abbrev pub mark_at : (ℕ → ℕ) → ThemeCharacters → List Mark → ℕ → Piece
+abbrev pub mark_at : (ℕ → ℕ) → Characters → List Mark → ℕ → Piece
 mark_at width t [] column = drawn width 32
 mark_at width t (mark ∷ marks) column =
     if nat_le mark.from column && nat_lt column mark.until then drawn width (mark_code t mark column)
@@ -30,18 +30,18 @@ marks_end reached (mark ∷ marks) = marks_end mark.until marks
 
 -- A text hangs from a column: going down, there is vbar in that column until there is lbot, and the text begins four
 -- columns on.
-abbrev pub HangsFrom : ThemeCharacters → ℕ → List Piece → List (List Piece) → Type 0
+abbrev pub HangsFrom : Characters → ℕ → List Piece → List (List Piece) → Type 0
 HangsFrom t column part [] = ⊥
 HangsFrom t column part (row ∷ rows) =
     ((code_at row column ≡ Some t.lbot) × Begins row (column + 4) part)
     ⊎ ((code_at row column ≡ Some t.vbar) × HangsFrom t column part rows)
 
 -- the first part of the mark's text, if it has one, hangs from its anchor, with columns counted from this one on
-abbrev pub PartHangs : (ℕ → ℕ) → ThemeCharacters → List (List Piece) → ℕ → List (List ℕ) → Type 0
+abbrev pub PartHangs : (ℕ → ℕ) → Characters → List (List Piece) → ℕ → List (List ℕ) → Type 0
 PartHangs width t rows column [] = Unit {0}
 PartHangs width t rows column (part ∷ parts) = HangsFrom t column (map (drawn width) part) rows
 
-abbrev pub Hangs : (ℕ → ℕ) → ThemeCharacters → List (List Piece) → ℕ → Mark → Type 0
+abbrev pub Hangs : (ℕ → ℕ) → Characters → List (List Piece) → ℕ → Mark → Type 0
 Hangs width t rows start mark = PartHangs width t rows (start + anchor mark) mark.label.parts
 
 -- the marks of a line

@@ -2,13 +2,13 @@
 use Rattle.std.specs.Prelude.{ℕ, ◌+◌, ◌-◌, List, [], ◌∷◌, ◌++◌, length, decimal, codes, chars, replicate, Option, Some}
 use Rattle.std.specs.Prelude.{None, Bool, ◌&&◌, if◌then◌else◌, nat_lt}
 use Rattle.miette_style.specs.declared.style.Style.{Style}
-use Rattle.miette_style.specs.declared.theme.ThemeCharacters.{ThemeCharacters}
 use Rattle.miette_page.specs.rules.Rows.{Row, styled, unstyled}
 use Rattle.miette_newlines.specs.rules.Lines.{Line}
 use Rattle.miette_protocol.specs.rules.Reading.{Contents}
 use Rattle.miette_lines.specs.rules.Contexts.{lines_of_contents}
 use Rattle.miette_layout.specs.rules.Drawing.{blank}
 use Rattle.miette_lines.specs.rules.Groups.{Refusal}
+use Rattle.miette_style.specs.rules.Themes.{Characters}
 
 pub record Styles : Type 0 where
   pub error : Style
@@ -19,7 +19,7 @@ pub record Styles : Type 0 where
 
 -- the width is that of a character, 0 where it has none
 pub record Settings : Type 0 where
-  pub characters : ThemeCharacters
+  pub characters : Characters
   pub styles : Styles
   pub width : ℕ → ℕ
   pub tab : ℕ

@@ -4,6 +4,7 @@ use Rattle.miette_style.specs.declared.theme.GraphicalTheme.{GraphicalTheme}
 use Rattle.miette_layout.specs.declared.options.LayoutOptions.{LayoutOptions}
 use Rattle.miette_layout.specs.rules.Frames.{Styles, Settings}
 use Rattle.miette_lines.specs.views.Given.{width_of}
+use Rattle.miette_style.specs.rules.Themes.{characters_of}
 
 abbrev pub styles_of : ThemeStyles → Styles
 styles_of it = record {
@@ -17,7 +18,7 @@ styles_of it = record {
 -- the settings of a theme and options
 abbrev pub settings_of : GraphicalTheme → LayoutOptions → Settings
 settings_of theme options = record {
-  characters = theme.characters;
+  characters = characters_of theme.characters;
   styles = styles_of theme.styles;
   width = width_of;
   tab = options.tab_width;

@@ -4,8 +4,7 @@ use Rattle.miette.specs.Diagnostic.{message_alone}
 use Rattle.miette.specs.Meaning.{Label, Meaning}
 use Rattle.miette.specs.Reading.{named, plain_source}
 use Rattle.miette.specs.Tree.{Tree, alone, with_source}
-use Rattle.miette_style.specs.rules.Themes.{characters_of, no_styles, unicode_characters}
-use Rattle.miette_style.specs.declared.theme.ThemeCharacters.{ThemeCharacters}
+use Rattle.miette_style.specs.rules.Themes.{no_styles, unicode_characters}
 use Rattle.miette_graphical.specs.rules.Answers.{unlisted}
 use Rattle.miette_graphical.specs.rules.Printed.{all_read, printed}
 use Rattle.miette_graphical.specs.rules.Settings.{Settings, default_settings}
@@ -38,19 +37,17 @@ over_input name meaning input = with_source (named (plain_source input) name Non
 abbrev pub drawn_tree : List ℕ → ℕ → ℕ → List ℕ → List ℕ → List ℕ → Tree
 drawn_tree name offset length label message input = over_input name (drawn_meaning offset length label message) input
 
--- plain, and 80 columns wide
-abbrev pub draw_settings : ThemeCharacters → Settings
-draw_settings characters = record (default_settings characters no_styles) { width = 80 }
+-- in the characters of Unicode, plain, and 80 columns wide
+abbrev pub draw_settings : Settings
+draw_settings = record (default_settings unicode_characters no_styles) { width = 80 }
 
 -- no read of its labels is refused
 abbrev pub IsReadWhole : Tree → Type 0
-IsReadWhole t = (characters : ThemeCharacters) → all_read (printed (draw_settings characters) t) ≡ true
+IsReadWhole t = all_read (printed draw_settings t) ≡ true
 
--- the text of a report that is read whole, in the characters of Unicode
+-- the text of a report that is read whole
 abbrev pub IsPicture : Tree → List ℕ → Type 0
-IsPicture t text =
-    (characters : ThemeCharacters) × (characters_of characters ≡ unicode_characters)
-    × (text ≡ encode_utf8_all (report_text drawn_rows (draw_settings characters) t unlisted))
+IsPicture t text = text ≡ encode_utf8_all (report_text drawn_rows draw_settings t unlisted)
 
 -- A fact of the picture for these words and this input.
 abbrev pub Pictures : List ℕ → ℕ → ℕ → List ℕ → List ℕ → List ℕ → (List ℕ → Type 0) → Type 0

@@ -7,6 +7,7 @@ use Rattle.miette_tree.specs.rules.Parts.{given_labels}
 use Rattle.miette_graphical.specs.rules.Printed.{printed}
 use Rattle.miette_graphical.specs.rules.Snippets.{layout_settings, shown_rows}
 use Rattle.miette_graphical.proofs.DrawnRows.{none_listed}
+use Rattle.miette_graphical.proofs.Themes.{is_narrow}
 use Rattle.miette_graphical.proofs.laws.snippets_law.Goals as goal
 
 each : {A : Type 0} (P : A → Type 0) → ((x : A) → P x) → (xs : List A) → AllByRecursion P xs
@@ -40,5 +41,5 @@ pub returns-clause-texts : goal.returns-clause-texts
 returns-clause-texts c = λ s t. each (TextsHang s) (λ p.
     let labels = given_labels p.meaning.labels in
     if_some _ (λ source narrow. each (SnippetHangs s source labels)
-    (λ group few pieces. c.texts_hang.ensures (group_settings s labels) (drawn_labels s source labels) source.bytes (contents (group_settings s labels).context source group) pieces narrow few)
+    (λ group pieces. c.texts_hang.ensures (group_settings s labels) (drawn_labels s source labels) source.bytes (contents (group_settings s labels).context source group) pieces (is_narrow s.characters narrow))
     (groups_of s source labels)) p.source) (printed s t)

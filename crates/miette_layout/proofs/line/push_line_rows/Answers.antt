@@ -9,12 +9,13 @@ use Rattle.miette_layout.specs.views.Sheets.{settings, multi_labels, before_mark
 use Rattle.miette_lines.specs.views.TextLines.{line_of_text}
 use Rattle.miette_layout.proofs.Lining.{line_put}
 use Rattle.miette_layout.proofs.line.push_line_rows.Goals as goal
+use Rattle.miette_style.specs.rules.Themes.{characters_of}
 
 pub returns : goal.returns
 returns c =
     let sheet = c.args.sheet.now in
     let shown = c.args.shown.now in
     line_put (number_row sheet shown)
-    (before_each (before_marks sheet) (marked_rows width_of sheet.theme.now.characters (marks (text_of_cells (shown_cells sheet shown) sheet.line.text_end) (labels_alone sheet shown))))
-    (before_each (other_start (settings sheet) sheet.number_width) (closing_rows width_of sheet.theme.now.characters (line_of_text sheet.line) sheet.gutter (multi_labels sheet) (closing (line_of_text sheet.line) (multi_labels sheet))))
+    (before_each (before_marks sheet) (marked_rows width_of (characters_of sheet.theme.now.characters) (marks (text_of_cells (shown_cells sheet shown) sheet.line.text_end) (labels_alone sheet shown))))
+    (before_each (other_start (settings sheet) sheet.number_width) (closing_rows width_of (characters_of sheet.theme.now.characters) (line_of_text sheet.line) sheet.gutter (multi_labels sheet) (closing (line_of_text sheet.line) (multi_labels sheet))))
     c.args.page.now c.push_number_row.new.page c.push_one_line_labels.new.page c.push_closings.new.page c.in_ok-push_number_row.ensures c.in_ok-push_one_line_labels.ensures c.in_ok-push_closings.ensures

@@ -4,6 +4,7 @@ use Rattle.miette_layout.specs.views.Sheets.{before_marks}
 use Rattle.miette_layout.proofs.Placing.{no_mark}
 use Rattle.miette_layout.proofs.Texting.{below_more}
 use Rattle.miette_layout.proofs.texts.push_texts.Goals as goal
+use Rattle.miette_style.specs.rules.Themes.{characters_of}
 
 pub loop-place-preserved : goal.loop-place-preserved
 loop-place-preserved c =
@@ -12,6 +13,6 @@ loop-place-preserved c =
     let next : c.loop-place.place ≡ c.loop-place.place - 1 + 1 = omega (arith, c.loop-place-test.true) in
     record {
       within = within;
-      told = below_more width_of c.args.sheet.now.theme.now.characters c.args.sheet.now.labels.now (before_marks c.args.sheet.now) c.args.marks.now c.loop-place.place (c.loop-place.place - 1) no_mark
+      told = below_more width_of (characters_of c.args.sheet.now.theme.now.characters) c.args.sheet.now.labels.now (before_marks c.args.sheet.now) c.args.marks.now c.loop-place.place (c.loop-place.place - 1) no_mark
           c.args.page.now c.loop-place.page c.push_text.new.page some next c.loop-place.invariant.told c.in_ok-push_text.ensures;
     }

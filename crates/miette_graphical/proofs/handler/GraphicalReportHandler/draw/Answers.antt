@@ -52,3 +52,18 @@ returns-clause-colourless g c = λ reads settings tree.
       c.in_ok-append_printed.ensures.ok,
       c.erasing_law.ensures.only s blank value (encode_utf8_all text) settings tree (text, answered, refl) reads,
     )
+
+pub returns-clause-themes : goal.returns-clause-themes
+returns-clause-themes g c = λ reads settings tree others again.
+    let s = c.args.self.now.settings in
+    let blank = draws_plain g.H.Highlighter.is_blank c.args.self.now in
+    let value = tree_of g.D.Diagnostic.meaning g.S.SourceCode.source c.args.report.now in
+    let text = c.in_ok-drawn.field-0 in
+    let same : settings_of c.layout.result ≡ s = search rules in
+    let plain : leaves_plain g.H.Highlighter.is_blank c.take.result ≡ blank = search rules in
+    let answered : IsReport drawn_rows s blank value text =
+    subst (λ x. IsReport drawn_rows x blank value text) same (subst (λ k. IsReport drawn_rows (settings_of c.layout.result) k value text) plain c.in_ok-drawn.ensures.ok) in (
+      encode_utf8_all text,
+      c.in_ok-append_printed.ensures.ok,
+      c.erasing_law.ensures.themes s blank value (encode_utf8_all text) others settings tree (text, answered, refl) reads again,
+    )
