@@ -1,5 +1,8 @@
 //! Why a description gives no report.
 
+ghost use Rattle.std.specs.Prelude.{◌≡◌};
+ghost use Rattle.miette_description.specs.declared.error.BuildError.TheVariants.{Memory};
+
 use std::alloc::AllocError;
 
 /// Why no report was built.
@@ -12,9 +15,6 @@ pub enum BuildError {
 }
 
 impl From<AllocError> for BuildError {
-    ghost use Rattle.std.specs.Prelude.{◌≡◌};
-    ghost use Rattle.miette_description.specs.declared.error.BuildError.TheVariants.{Memory};
-
     ghost from_gives = { λ _ e. e ≡ Memory };
 
     fn from(_refused: AllocError) -> BuildError {

@@ -15,10 +15,7 @@ pub(crate) fn text_at<'a>(value: &Value<'a>, key: &str) -> Option<Option<&'a str
 {
     match member_at(value, key) {
         None => Some(None),
-        Some(found) => match text_in(found) {
-            Some(text) => Some(Some(text)),
-            None => None,
-        },
+        Some(found) => Some(Some(text_in(found)?)),
     }
 }
 
@@ -42,10 +39,7 @@ pub(crate) fn truth_at(value: &Value<'_>, key: &str) -> Option<Option<bool>>
 {
     match member_at(value, key) {
         None => Some(None),
-        Some(found) => match truth_in(found) {
-            Some(b) => Some(Some(b)),
-            None => None,
-        },
+        Some(found) => Some(Some(truth_in(found)?)),
     }
 }
 

@@ -3,10 +3,10 @@
 ghost use Rattle.std.specs.Prelude.{◌≡◌, Option, Some, None, IfOk, option_map, map, string_bytes};
 ghost use Rattle.std.specs.Option.{option_copied};
 ghost use Rattle.serde_json.specs.Find.{as_str};
-ghost use Rattle.miette_description.specs.views.Seen.{seen, items_seen};
+ghost use Rattle.miette_description.specs.views.Seen.{seen};
 ghost use Rattle.miette_protocol.specs.views.Diagnostic.{meaning_of};
 ghost use Rattle.miette_tree.specs.views.Owned.{owned_source};
-ghost use Rattle.miette_description.specs.rules.Members.{given, at_key, typed, all_of, list_of, severity_of, label_of};
+ghost use Rattle.miette_description.specs.rules.Members.{given, at_key, typed, list_of, severity_of, label_of};
 ghost use Rattle.miette_description.specs.rules.Members.{source_of, meaning_in};
 
 use crate::error::BuildError;
@@ -31,22 +31,14 @@ fn label_from(alloc: Global, value: &Value<'_>) -> Result<LabeledSpan, BuildErro
     ensures ok { IfOk result (λ l. label_of (seen value.now) ≡ Some l) }
     ensures description { (result ≡ Err BuildError.Description) → label_of (seen value.now) ≡ None }
 {
-    let Some(offset) = whole_at(value, "offset") else {
-        return Err(BuildError::Description);
-    };
-    let Some(length) = whole_at(value, "length") else {
-        return Err(BuildError::Description);
-    };
-    let Some(text) = text_at(value, "label") else {
-        return Err(BuildError::Description);
-    };
-    let Some(primary) = truth_at(value, "primary") else {
-        return Err(BuildError::Description);
-    };
-    let Some(lines) = lines_at(value, "context") else {
-        return Err(BuildError::Description);
-    };
-    let text = copied(alloc, text)?;
+    let offset = whole_at(value, "offset").ok_or(BuildError::Description)?;
+    let length = whole_at(value, "length").ok_or(BuildError::Description)?;
+    let text = copied(
+        alloc,
+        text_at(value, "label").ok_or(BuildError::Description)?,
+    )?;
+    let primary = truth_at(value, "primary").ok_or(BuildError::Description)?;
+    let lines = lines_at(value, "context").ok_or(BuildError::Description)?;
     let span = (offset as usize, length as usize);
     let label = if primary.unwrap_or(false) {
         LabeledSpan::new_primary_with_span(text, span)
@@ -59,16 +51,15 @@ fn label_from(alloc: Global, value: &Value<'_>) -> Result<LabeledSpan, BuildErro
     }
 }
 
-fn labels_from(alloc: Global, list: &[Value<'_>]) -> Result<Vec<LabeledSpan>, BuildError>
-    ensures ok { IfOk result (λ v. all_of label_of (items_seen list.now) ≡ Some v.items) }
-    ensures description { (result ≡ Err BuildError.Description) → all_of label_of (items_seen list.now) ≡ None }
+fn labels_from(alloc: Global, value: &Value<'_>) -> Result<Vec<LabeledSpan>, BuildError>
+    ensures ok { IfOk result (λ v. list_of label_of (seen value.now) ≡ Some v.items) }
+    ensures description { (result ≡ Err BuildError.Description) → list_of label_of (seen value.now) ≡ None }
 {
+    let list = list_in(value).ok_or(BuildError::Description)?;
     let mut labels = Vec::new(alloc);
-    for value in list {
-        let label = label_from(alloc, value)?;
-        if labels.push(label).is_err() {
-            return Err(BuildError::Memory);
-        }
+    for item in list {
+        let label = label_from(alloc, item)?;
+        labels.push(label).map_err(|_| BuildError::Memory)?;
     }
     Ok(labels)
 }
@@ -83,28 +74,22 @@ fn labels_at(
     ensures description { (result ≡ Err BuildError.Description) →
         typed (list_of label_of) (at_key key.now (seen value.now)) ≡ None }
 {
-    let Some(found) = member_at(value, key) else {
-        return Ok(None);
-    };
-    let Some(list) = list_in(found) else {
-        return Err(BuildError::Description);
-    };
-    Ok(Some(labels_from(alloc, list)?))
+    match member_at(value, key) {
+        None => Ok(None),
+        Some(found) => Ok(Some(labels_from(alloc, found)?)),
+    }
 }
 
-fn texts_from(alloc: Global, list: &[Value<'_>]) -> Result<Vec<String>, BuildError>
-    ensures ok { IfOk result (λ v. all_of as_str (items_seen list.now) ≡ Some (map string_bytes v.items)) }
-    ensures description { (result ≡ Err BuildError.Description) → all_of as_str (items_seen list.now) ≡ None }
+fn texts_from(alloc: Global, value: &Value<'_>) -> Result<Vec<String>, BuildError>
+    ensures ok { IfOk result (λ v. list_of as_str (seen value.now) ≡ Some (map string_bytes v.items)) }
+    ensures description { (result ≡ Err BuildError.Description) → list_of as_str (seen value.now) ≡ None }
 {
+    let list = list_in(value).ok_or(BuildError::Description)?;
     let mut texts = Vec::new(alloc);
-    for value in list {
-        let Some(text) = text_in(value) else {
-            return Err(BuildError::Description);
-        };
+    for item in list {
+        let text = text_in(item).ok_or(BuildError::Description)?;
         let copy = String::from_str(alloc, text)?;
-        if texts.push(copy).is_err() {
-            return Err(BuildError::Memory);
-        }
+        texts.push(copy).map_err(|_| BuildError::Memory)?;
     }
     Ok(texts)
 }
@@ -119,13 +104,10 @@ pub(crate) fn texts_at(
     ensures description { (result ≡ Err BuildError.Description) →
         typed (list_of as_str) (at_key key.now (seen value.now)) ≡ None }
 {
-    let Some(found) = member_at(value, key) else {
-        return Ok(None);
-    };
-    let Some(list) = list_in(found) else {
-        return Err(BuildError::Description);
-    };
-    Ok(Some(texts_from(alloc, list)?))
+    match member_at(value, key) {
+        None => Ok(None),
+        Some(found) => Ok(Some(texts_from(alloc, found)?)),
+    }
 }
 
 fn severity_named(value: &Value<'_>) -> Option<Severity>
@@ -148,10 +130,7 @@ fn severity_at(value: &Value<'_>, key: &str) -> Option<Option<Severity>>
 {
     match member_at(value, key) {
         None => Some(None),
-        Some(found) => match severity_named(found) {
-            Some(severity) => Some(Some(severity)),
-            None => None,
-        },
+        Some(found) => Some(Some(severity_named(found)?)),
     }
 }
 
@@ -159,15 +138,9 @@ fn source_from(alloc: Global, value: &Value<'_>) -> Result<OwnedSource, BuildErr
     ensures ok { IfOk result (λ s. source_of (seen value.now) ≡ Some (owned_source s)) }
     ensures description { (result ≡ Err BuildError.Description) → source_of (seen value.now) ≡ None }
 {
-    let Some(text) = needed_text_at(value, "text") else {
-        return Err(BuildError::Description);
-    };
-    let Some(name) = text_at(value, "name") else {
-        return Err(BuildError::Description);
-    };
-    let Some(language) = text_at(value, "language") else {
-        return Err(BuildError::Description);
-    };
+    let text = needed_text_at(value, "text").ok_or(BuildError::Description)?;
+    let name = text_at(value, "name").ok_or(BuildError::Description)?;
+    let language = text_at(value, "language").ok_or(BuildError::Description)?;
     let bytes = Vec::from_slice(alloc, text.as_bytes())?;
     match name {
         Some(name) => Ok(OwnedSource::named(alloc, name, language, bytes)?),
@@ -198,21 +171,11 @@ pub(crate) fn diagnostic_from(
     ensures ok { IfOk result (λ d. meaning_in (seen value.now) ≡ Some (meaning_of d)) }
     ensures description { (result ≡ Err BuildError.Description) → meaning_in (seen value.now) ≡ None }
 {
-    let Some(message) = needed_text_at(value, "message") else {
-        return Err(BuildError::Description);
-    };
-    let Some(code) = text_at(value, "code") else {
-        return Err(BuildError::Description);
-    };
-    let Some(severity) = severity_at(value, "severity") else {
-        return Err(BuildError::Description);
-    };
-    let Some(help) = text_at(value, "help") else {
-        return Err(BuildError::Description);
-    };
-    let Some(url) = text_at(value, "url") else {
-        return Err(BuildError::Description);
-    };
+    let message = needed_text_at(value, "message").ok_or(BuildError::Description)?;
+    let code = text_at(value, "code").ok_or(BuildError::Description)?;
+    let severity = severity_at(value, "severity").ok_or(BuildError::Description)?;
+    let help = text_at(value, "help").ok_or(BuildError::Description)?;
+    let url = text_at(value, "url").ok_or(BuildError::Description)?;
     let labels = labels_at(alloc, value, "labels")?;
     Ok(MietteDiagnostic {
         message: String::from_str(alloc, message)?,

@@ -2,10 +2,8 @@
 
 ghost use Rattle.std.specs.Prelude.{◌≡◌, ◌++◌, List, ℕ, None, IfOk, OnOk, OnErr, string_bytes};
 ghost use Rattle.miette_tree.specs.views.Report.{tree_of};
-ghost use Rattle.miette_json.specs.rules.Json.{json_text};
 ghost use Rattle.miette_json.specs.rules.Reads.{NamesAlwaysRead};
-ghost use Rattle.miette_json.specs.rules.JsonReport.{value_of};
-ghost use Rattle.miette_json.specs.rules.JsonText.{IsJsonOf};
+ghost use Rattle.miette_json.specs.rules.JsonText.{IsJsonOf, value_text};
 ghost use Rattle.miette_tree.specs.views.Handler.{AppendsOne};
 
 use crate::laws;
@@ -38,7 +36,7 @@ impl JSONReportHandler {
         ensures value { let tree = tree_of ⟦<Box<dyn Diagnostic> as Diagnostic>⟧.meaning
             ⟦<Box<dyn SourceCode> as SourceCode>⟧.source report.now in
             OnOk result (NamesAlwaysRead None tree →
-            string_bytes out.new ≡ string_bytes out.old ++ json_text (value_of tree)) }
+            string_bytes out.new ≡ string_bytes out.old ++ value_text tree) }
         ensures memory { OnErr result (result ≡ Err RenderError.Memory) }
         ensures err { OnErr result (string_bytes out.new ≡ string_bytes out.old) }
     {
@@ -68,7 +66,7 @@ fn render<D: Diagnostic, S: SourceCode>(
     ensures text { OnOk result (AppendsOne (IsJsonOf (tree_of D.meaning S.source report.now)) (string_bytes out.old)
         (string_bytes out.new)) }
     ensures value { OnOk result (NamesAlwaysRead None (tree_of D.meaning S.source report.now)
-        → string_bytes out.new ≡ string_bytes out.old ++ json_text (value_of (tree_of D.meaning S.source report.now))) }
+        → string_bytes out.new ≡ string_bytes out.old ++ value_text (tree_of D.meaning S.source report.now)) }
     ensures memory { OnErr result (result ≡ Err RenderError.Memory) }
     ensures err { OnErr result (string_bytes out.new ≡ string_bytes out.old) }
 {

@@ -11,6 +11,10 @@ use Rattle.miette_json.specs.rules.JsonReport.{IsValueOf, value_of, strings, lab
 use Rattle.miette_json.specs.rules.JsonReport.{reports_json}
 use Rattle.miette_tree.specs.rules.Parts.{severity_text}
 
+-- the text of a report whose file names are read from sources that always read
+abbrev pub value_text : Tree → List ℕ
+value_text t = json_text (value_of t)
+
 -- A text is the spelling of a value that the report may have, which is the one value that it has where the sources of
 -- its file names always read. The text stands for that value, and for no other.
 pub record IsJsonOf (t : Tree) (text : List ℕ) : Type 0 where

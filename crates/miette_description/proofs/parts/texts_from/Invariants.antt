@@ -3,5 +3,5 @@ use Rattle.serde_json.specs.Find.{as_str}
 use Rattle.miette_description.proofs.Lists.{ReadSoFar}
 use Rattle.miette_description.proofs.parts.texts_from.Given as goal
 
-abbrev pub invariant-loop-value : goal.invariant-loop-value
-invariant-loop-value l = ReadSoFar as_str l.list (map string_bytes l.texts.items) l.value-index
+abbrev pub invariant-loop-item : goal.invariant-loop-item
+invariant-loop-item l = ReadSoFar as_str l.list (map string_bytes l.texts.items) l.item-index
