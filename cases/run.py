@@ -1,9 +1,11 @@
 #!/usr/bin/env python3
 """run.py CASES.jsonl: runs the built programs on a file of cases and compares what they write.
 
-Each line of the file is a JSON object: `argv` (the program's name and its words), `stdin` and `stdout` (base64),
-`status` and `stderr`. The program NAME is `crates/NAME/out/NAME`, as the gate leaves it. The first mismatches are shown
-in full. The last line is 'N passed, M failed', and the exit status is 0 only where nothing failed."""
+Each line of the file is a JSON object: `argv` (the program's name and its words), `stdin` and `stdout` (base64), or
+in their place `stdin_text` and `stdout_text` (plain) or `report` (the description that is the input), `status` and
+`stderr`. `what` says what a case shows. With `beginnings` a case is one for each beginning of its input but the
+whole. The program NAME is `crates/NAME/out/NAME`, as the gate leaves it. The first mismatches are shown in full. The
+last line is 'N passed, M failed', and the exit status is 0 only where nothing failed."""
 import base64
 import json
 import os
@@ -15,20 +17,37 @@ ROOT = os.path.dirname(os.path.dirname(os.path.abspath(__file__)))
 SHOWN = 5
 
 
+def bytes_of(case, name):
+    """The bytes of the field `stdin` or `stdout`, however they are given."""
+    if name == "stdin" and "report" in case:
+        return json.dumps(case["report"], ensure_ascii=False).encode()
+    if f"{name}_text" in case:
+        return case[f"{name}_text"].encode()
+    return base64.b64decode(case[name])
+
+
+def read(line):
+    """The cases of a line."""
+    case = json.loads(line)
+    given = bytes_of(case, "stdin")
+    inputs = [given[:end] for end in range(len(given))] if case.get("beginnings") else [given]
+    return [{**case, "given": given} for given in inputs]
+
+
 def run(case):
     """What the program of a case answers: status, standard output, standard error."""
     name, *words = case["argv"]
     program = os.path.join(ROOT, "crates", name, "out", name)
     try:
-        done = subprocess.run([program, *words], input=base64.b64decode(case["stdin"]), capture_output=True, timeout=60)
+        done = subprocess.run([program, *words], input=case["given"], capture_output=True, timeout=60)
     except (OSError, subprocess.TimeoutExpired) as fault:
         return (str(fault), b"", b"")
     return (done.returncode, done.stdout, done.stderr)
 
 
 def show(number, case, wanted, got):
-    print(f"case {number}: {case['argv']!r}")
-    print(f"  input {base64.b64decode(case['stdin'])!r}")
+    print(f"case {number}: {case.get('what', '')} {case['argv']!r}")
+    print(f"  input {case['given']!r}")
     for what, want, have in zip(("status", "standard output", "standard error"), wanted, got):
         if want != have:
             print(f"  {what}: wanted {want!r}")
@@ -37,11 +56,11 @@ def show(number, case, wanted, got):
 
 def main(path):
     with open(path, encoding="utf-8") as file:
-        cases = [json.loads(line) for line in file if line.strip()]
+        cases = [case for line in file if line.strip() for case in read(line)]
     passed = failed = 0
     with ThreadPoolExecutor(os.cpu_count() or 2) as pool:
         for number, (case, got) in enumerate(zip(cases, pool.map(run, cases))):
-            wanted = (case["status"], base64.b64decode(case["stdout"]), case["stderr"].encode())
+            wanted = (case["status"], bytes_of(case, "stdout"), case["stderr"].encode())
             if got == wanted:
                 passed += 1
                 continue
