@@ -1,11 +1,10 @@
 -- Stretches of labels that were read: collected, by where they begin, joined, and read again.
-use Rattle.std.proofs.Common.{ℕ, zero, suc, ◌+◌, ◌-◌, ◌<◌, ◌≤◌, ◌≡◌, ◌≢◌, max, Bool, true, false, cond, leb, List, [], ◌∷◌, ◌++◌, ◌&&◌, ◌||◌, length, map, take, drop, get_or, Option, Some, None, refl, sym, ap, ap₂, ◌∙◌, subst, arith, All, append_assoc}
+use Rattle.std.proofs.Common.{ℕ, zero, suc, ◌+◌, ◌-◌, ◌<◌, ◌≤◌, ◌≡◌, ◌≢◌, max, Bool, true, false, cond, leb, List, [], ◌∷◌, ◌++◌, ◌&&◌, length, map, take, drop, get_or, Option, Some, None, refl, sym, ap, ap₂, ◌∙◌, subst, arith, All}
 use Rattle.std.specs.Prelude.{is_some, unwrap_or, slice_get, MatchOption}
 use Rattle.std.specs.Option.{option_map, option_map_or}
 use Rattle.std.specs.List.{AllByRecursion}
 use Rattle.std.specs.List.Sorted.{IsNonDecreasingBy, IsStableByKey}
 use Rattle.std.specs.Ordering.{nat_cmp}
-use Rattle.std.proofs.lemmas.Bool.{le-leb, lt-leb}
 use Rattle.std.proofs.lemmas.List.{map-append, take_more, drop_all}
 use Rattle.std.proofs.lemmas.List.Elements.{All-push}
 use Rattle.miette_newlines.specs.rules.Lines as P
@@ -33,24 +32,6 @@ use Rattle.miette_lines.proofs.Sorting.{put, sorted, sort_is}
 
 -- ---- whether some label has its own number
 
-drop_at : {X : Type 0} (xs : List X) (i : ℕ) (d : X) → i < length xs → drop i xs ≡ get_or xs i d ∷ drop (i + 1) xs
-drop_at [] i d lt = absurd (omega (arith, lt))
-drop_at (x ∷ xs) zero d lt = refl
-drop_at (x ∷ xs) (suc i) d lt = let e : suc i + 1 ≡ suc (i + 1) = omega arith in rw e (drop_at xs i d (omega (arith, lt)))
-
-own_at : (labels : List Label) (i : ℕ) (label : Label) → i < length labels → label ≡ get_or labels i label → has_own (drop i labels) ≡ (is_some label.context || has_own (drop (i + 1) labels))
-own_at labels i label lt is = ap has_own (drop_at labels i label lt) ∙ ap (λ (l : Label). is_some l.context || has_own (drop (i + 1) labels)) (sym is)
-
--- one has
-pub own_found : (labels : List Label) (i : ℕ) (label : Label) (found : Bool) → i < length labels → label ≡ get_or labels i label → has_own (drop i labels) ≡ has_own labels → found ≡ is_some label.context → found ≡ true →
-    true ≡ has_own labels
-own_found labels i label found lt is h e t = sym (ap (λ b. b || has_own (drop (i + 1) labels)) (sym e ∙ t)) ∙ sym (own_at labels i label lt is) ∙ h
-
--- this one hasn't
-pub own_next : (labels : List Label) (i : ℕ) (label : Label) (found : Bool) → i < length labels → label ≡ get_or labels i label → has_own (drop i labels) ≡ has_own labels → found ≡ is_some label.context → found ≡ false →
-    has_own (drop (i + 1) labels) ≡ has_own labels
-own_next labels i label found lt is h e f = sym (ap (λ b. b || has_own (drop (i + 1) labels)) (sym e ∙ f)) ∙ sym (own_at labels i label lt is) ∙ h
-
 -- none has
 pub own_nowhere : (labels : List Label) (i : ℕ) → length labels ≤ i → has_own (drop i labels) ≡ has_own labels → false ≡ has_own labels
 own_nowhere labels i le h = sym (ap has_own (drop_all i labels le)) ∙ h
@@ -59,12 +40,6 @@ own_nowhere labels i le h = sym (ap has_own (drop_all i labels le)) ∙ h
 
 abbrev pub stretches_read : List ReadLabel → List Span
 stretches_read reads = map (λ read. read.contents.span) reads
-
-pub stretch_more : (reads : List ReadLabel) (i : ℕ) (read : ReadLabel) (spans more : List Span) (span : Span) → spans ≡ stretches_read (take i reads) → i < length reads → read ≡ get_or reads i read → span ≡ read.contents.span →
-    more ≡ spans ++ span ∷ [] → more ≡ stretches_read (take (i + 1) reads)
-stretch_more reads i read spans more span h lt is e m =
-    m ∙ ap₂ (λ xs x. xs ++ x ∷ []) h (e ∙ ap (λ (r : ReadLabel). r.contents.span) is)
-    ∙ sym (ap stretches_read (take_more reads i read lt) ∙ map-append (λ (r : ReadLabel). r.contents.span) (take i reads) (get_or reads i read ∷ []))
 
 put_same : (span : Span) (spans : List Span) → put (λ s. s.offset) span spans ≡ put_stretch span spans
 put_same span [] = refl
@@ -79,40 +54,11 @@ sorted_same (span ∷ spans) = put_same span (sorted (λ s. s.offset) spans) ∙
 pub sort_begins : (xs ys : List Span) → IsNonDecreasingBy (λ s. s.offset) ys → IsStableByKey (λ s. s.offset) nat_cmp xs ys → ys ≡ by_begin xs
 sort_begins xs ys up stable = sort_is (λ s. s.offset) xs ys up stable ∙ sorted_same xs
 
--- ---- joined
-
-from_at : (rest : List Span) (i : ℕ) (before span : Span) → i < length rest → span ≡ get_or rest i span → stretches_from before (drop i rest) ≡ stretches_from before (span ∷ drop (i + 1) rest)
-from_at rest i before span lt is = ap (stretches_from before) (drop_at rest i span lt) ∙ ap (λ s. stretches_from before (s ∷ drop (i + 1) rest)) (sym is)
-
-pub join_more : (spans rest : List Span) (i end : ℕ) (before next span : Span) (done : List Span) → done ++ stretches_from before (drop i rest) ≡ joined_stretches spans → i < length rest → span ≡ get_or rest i span →
-    end ≡ end_of_span before → span.offset ≤ end → next ≡ joined before span → done ++ stretches_from next (drop (i + 1) rest) ≡ joined_stretches spans
-join_more spans rest i end before next span done h lt is e le n =
-    let touch : leb span.offset (end_of_span before) ≡ true = le-leb span.offset (end_of_span before) (omega (arith, e, le)) in
-    ap (λ s. done ++ stretches_from s (drop (i + 1) rest)) n
-    ∙ ap (λ b. done ++ cond b (stretches_from (joined before span) (drop (i + 1) rest)) (before ∷ stretches_from span (drop (i + 1) rest))) (sym touch)
-    ∙ ap (λ xs. done ++ xs) (sym (from_at rest i before span lt is)) ∙ h
-
-pub join_apart : (spans rest : List Span) (i end : ℕ) (before out next span : Span) (done more : List Span) → done ++ stretches_from before (drop i rest) ≡ joined_stretches spans → i < length rest → span ≡ get_or rest i span →
-    end ≡ end_of_span before → end < span.offset → out ≡ before → next ≡ span → more ≡ done ++ out ∷ [] → more ++ stretches_from next (drop (i + 1) rest) ≡ joined_stretches spans
-join_apart spans rest i end before out next span done more h lt is e gap o n m =
-    let apart : leb span.offset (end_of_span before) ≡ false = lt-leb span.offset (end_of_span before) (omega (arith, e, gap)) in
-    ap₂ (λ xs s. xs ++ stretches_from s (drop (i + 1) rest)) (m ∙ ap (λ s. done ++ s ∷ []) o) n
-    ∙ append_assoc done (before ∷ []) (stretches_from span (drop (i + 1) rest))
-    ∙ ap (λ b. done ++ cond b (stretches_from (joined before span) (drop (i + 1) rest)) (before ∷ stretches_from span (drop (i + 1) rest))) (sym apart)
-    ∙ ap (λ xs. done ++ xs) (sym (from_at rest i before span lt is)) ∙ h
-
-pub join_end : (spans rest : List Span) (i : ℕ) (before : Span) (done more : List Span) → done ++ stretches_from before (drop i rest) ≡ joined_stretches spans → length rest ≤ i → more ≡ done ++ before ∷ [] → more ≡ joined_stretches spans
-join_end spans rest i before done more h le m = m ∙ ap (λ xs. done ++ stretches_from before xs) (sym (drop_all i rest le)) ∙ h
-
 -- ---- read again
 
 pub record AreReadTo (source : Source) (spans : List Span) (i : ℕ) (groups : List Group) : Type 0 where
   pub are : map (λ group. group.span) groups ≡ take i spans
   pub lent : All (λ group. IsLent 0 source group.span group.contents) groups
-
-pub none_read : (source : Source) (spans : List Span) (groups : List Group) → groups ≡ [] → AreReadTo source spans 0 groups
-none_read source spans groups e =
-    subst (λ (gs : List Group). AreReadTo source spans 0 gs) (sym e) (record { are = refl; lent = λ k d lt. absurd (omega (arith, lt)) })
 
 pub read_more : (source : Source) (spans : List Span) (i : ℕ) (groups more : List Group) (span : Span) (lent : Contents) → AreReadTo source spans i groups → i < length spans → span ≡ get_or spans i span → IsAccepted source.bytes span →
     lent ≡ contents 0 source span → more ≡ groups ++ record { span = span; contents = lent } ∷ [] → AreReadTo source spans (i + 1) more

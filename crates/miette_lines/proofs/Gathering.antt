@@ -4,9 +4,6 @@ use Rattle.std.specs.Prelude.{MatchOption}
 use Rattle.std.proofs.lemmas.List.{map-append, drop_all}
 use Rattle.std.proofs.lemmas.List.Elements.{All-push}
 use Rattle.miette_protocol.specs.rules.Reading.{Span, Source, IsAccepted}
-use Rattle.miette_protocol.specs.rules.Outcome.{Refuses}
-use Rattle.miette_protocol.specs.declared.error.MietteError.{MietteError}
-use Rattle.miette_protocol.specs.declared.error.MietteError.TheVariants as errors
 use Rattle.miette_lines.specs.declared.grouping.Group.{Group}
 use Rattle.miette_lines.specs.declared.reading.ReadLabel.{ReadLabel}
 use Rattle.miette_lines.specs.rules.Answers.{NoneFails, next_answer, later_answers}
@@ -24,11 +21,6 @@ pub record AreGathered (context : ℕ) (source : Source) (spans rest : List Span
 
 pub joined_accepted : (bytes : List ℕ) (a b : Span) → IsAccepted bytes a → IsAccepted bytes b → IsAccepted bytes (joined a b)
 joined_accepted bytes a b h k = record { begins = h.begins; ends = omega (arith, h.begins, h.ends, k.begins, k.ends) }
-
--- an accepted span is refused only by a source that may fail
-pub fails_only : (source : Source) (span : Span) (e : MietteError) → IsAccepted source.bytes span → Refuses source span e → source.always_reads ≡ false
-fails_only source span (errors.IoError x) h r = r
-fails_only source span errors.OutOfBounds h r = absurd (r h)
 
 none_more : (fails : List Bool) (b : Bool) → b ≡ false → NoneFails fails → NoneFails (fails ++ b ∷ [])
 none_more [] b e h = (e, tt)

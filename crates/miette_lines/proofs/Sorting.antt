@@ -1,12 +1,11 @@
 -- A stable sort by a number gives the one list that rises and keeps ties as they were.
-use Rattle.std.proofs.Common.{ℕ, zero, suc, ◌+◌, ◌<◌, ◌≤◌, ◌≡◌, true, false, cond, ltb, leb, eqb, not, ◌&&◌, List, [], ◌∷◌, ◌++◌, length, map, take, get_or, Some, None, refl, sym, ap, ◌∙◌, arith, All, ⊎_elim, subst}
+use Rattle.std.proofs.Common.{ℕ, zero, suc, ◌+◌, ◌<◌, ◌≤◌, ◌≡◌, true, false, cond, ltb, leb, eqb, not, ◌&&◌, List, [], ◌∷◌, ◌++◌, length, map, take, get_or, refl, sym, ap, ◌∙◌, arith, All, ⊎_elim, subst}
 use Rattle.std.specs.List.{AllByRecursion, filter}
 use Rattle.std.specs.List.Sorted.{IsNonDecreasingBy, IsStableByKey}
 use Rattle.std.specs.Ordering.{nat_cmp, is_lt}
 use Rattle.std.proofs.lemmas.Bool.{leb-true, leb-false, eq-eqb, ne_eqb, eqb-true, cases_lt, ltb-true, ltb-false}
 use Rattle.std.proofs.lemmas.List.Elements.{filter_agree}
 use Rattle.miette_protocol.specs.views.Meaning.{Label}
-use Rattle.std.specs.Prelude.{slice_get, unwrap_or}
 use Rattle.std.proofs.lemmas.List.{map-append}
 use Rattle.std.proofs.lemmas.List.Elements.{All-push}
 use Rattle.miette_lines.specs.declared.order.Turn.{Turn}
@@ -30,10 +29,6 @@ Rises n from (x ∷ xs) = (from ≤ n x) × Rises n (n x) xs
 -- the elements with a number
 abbrev pub at_key : {X : Type 0} → (X → ℕ) → ℕ → List X → List X
 at_key n v xs = filter (λ x. eqb (n x) v) xs
-
-lower : {X : Type 0} (n : X → ℕ) (a b : ℕ) (xs : List X) → a ≤ b → Rises n b xs → Rises n a xs
-lower n a b [] le h = tt
-lower n a b (x ∷ xs) le h = (omega (arith, h.0), h.1)
 
 none-at : {X : Type 0} (n : X → ℕ) (from v : ℕ) (xs : List X) → Rises n from xs → v < from → at_key n v xs ≡ []
 none-at n from v [] h lt = refl
@@ -152,9 +147,6 @@ take_label (l ∷ ls) (suc i) lt = let e : suc i + 1 ≡ suc (i + 1) = omega ari
 pub map_label : {X : Type 0} (f : X → Label) (xs : List X) (x : X) (labels : List Label) (i : ℕ) → map f xs ≡ take i labels → f x ≡ label_at labels i → i < length labels →
     map f (xs ++ x ∷ []) ≡ take (i + 1) labels
 map_label f xs x labels i e h lt = map-append f xs (x ∷ []) ∙ ap (λ r. r ++ f x ∷ []) e ∙ ap (λ y. take i labels ++ y ∷ []) h ∙ sym (take_label labels i lt)
-
-pub label_there : (labels : List Label) (i : ℕ) (l : Label) → slice_get labels i ≡ Some l → label_at labels i ≡ l
-label_there labels i l e = ap (λ o. unwrap_or o (record { text = None; span = record { offset = 0; len = 0 }; primary = false; context = None })) e
 
 pub label_got : (labels : List Label) (i : ℕ) (d : Label) → i < length labels → label_at labels i ≡ get_or labels i d
 label_got [] i d lt = absurd (omega (arith, lt))

@@ -1,9 +1,7 @@
 -- One sweep finds the labels that lie on a line.
-use Rattle.std.proofs.Common.{ℕ, zero, suc, ◌+◌, ◌<◌, ◌≤◌, ◌≡◌, Bool, true, false, cond, ltb, leb, eqb, List, [], ◌∷◌, ◌++◌, length, take, get_or, refl, sym, ap, ◌∙◌, ⊎_elim, ◌&&◌, append-nil, arith}
+use Rattle.std.proofs.Common.{ℕ, zero, suc, ◌<◌, ◌≤◌, ◌≡◌, Bool, true, false, cond, ltb, leb, eqb, List, [], ◌∷◌, length, take, get_or, refl, sym, ap, ◌∙◌, ⊎_elim, ◌&&◌, arith}
 use Rattle.std.proofs.lemmas.Bool.{lt-ltb, le-ltb, le-leb, lt-leb, ltb-true, ltb-false, cases_lt, eqb-false}
-use Rattle.std.proofs.lemmas.List.{take_more}
 use Rattle.std.proofs.Math.Seq.{take-nil}
-use Rattle.std.proofs.lemmas.List.Elements.{filter-append}
 use Rattle.std.specs.List.{filter}
 use Rattle.miette_lines.specs.declared.sweep.Placed.{Placed}
 use Rattle.miette_lines.specs.declared.sweep.Bounds.{Bounds}
@@ -106,16 +104,6 @@ filter_beyond p zero (x ∷ xs) h =
 filter_beyond p (suc n) (x ∷ xs) h =
     ap (λ r. cond (p x) (x ∷ r) r) (filter_beyond p n xs (λ k a b. h (suc k) (omega arith) (omega arith)))
 
--- the front grows by a label that passes, or by one that doesn't
-filter_yes : (p : Placed → Bool) (xs old new : List Placed) (i : ℕ) → i < length xs → p (get_or xs i nothing) ≡ true → old ≡ filter p (take i xs) → new ≡ old ++ get_or xs i nothing ∷ [] → new ≡ filter p (take (i + 1) xs)
-filter_yes p xs old new i lt is h k =
-    k ∙ ap (λ r. r ++ get_or xs i nothing ∷ []) h
-    ∙ sym (ap (filter p) (take_more xs i nothing lt) ∙ filter-append p (take i xs) (get_or xs i nothing ∷ []) ∙ ap (λ b. filter p (take i xs) ++ cond b (get_or xs i nothing ∷ []) []) is)
-
-filter_not : (p : Placed → Bool) (xs old : List Placed) (i : ℕ) → i < length xs → p (get_or xs i nothing) ≡ false → old ≡ filter p (take i xs) → old ≡ filter p (take (i + 1) xs)
-filter_not p xs old i lt is h =
-    h ∙ sym (ap (filter p) (take_more xs i nothing lt) ∙ filter-append p (take i xs) (get_or xs i nothing ∷ []) ∙ ap (λ b. filter p (take i xs) ++ cond b (get_or xs i nothing ∷ []) []) is ∙ append-nil (filter p (take i xs)))
-
 -- where a line begins
 pub swept_init : (labels : List Placed) (line : Bounds) (next : ℕ) (running : List Placed) → line.start < line.after → IsAt labels line.start next running → IsSwept labels line next [] running
 swept_init labels line next running some is = record {
@@ -128,35 +116,6 @@ swept_init labels line next running some is = record {
 
 pub swept_first : (labels : List Placed) (line : Bounds) (next : ℕ) (running one : List Placed) → line.start < line.after → IsAt labels line.start next running → one ≡ [] → IsSwept labels line next one running
 swept_first labels line next running one some is a = rw a (swept_init labels line next running some is)
-
-more-before : (labels : List Placed) (place next : ℕ) → ((k : ℕ) → k < next → start_at labels k < place) → start_at labels next < place → (k : ℕ) → k < next + 1 → start_at labels k < place
-more-before labels place next h own k lt =
-    ⊎_elim {C = start_at labels k < place} (λ less. h k less) (λ ge. let e : k ≡ next = omega arith in rw e own) (cases_lt k next)
-
--- a label of the line that goes on past it, and one that doesn't
-pub swept_past : (labels : List Placed) (line : Bounds) (next : ℕ) (one multi multi' : List Placed) → AreSorted labels → next < length labels → start_at labels next < line.after → passes line.after (get_or labels next nothing) ≡ true →
-    multi' ≡ multi ++ get_or labels next nothing ∷ [] → IsSwept labels line next one multi → IsSwept labels line (next + 1) one multi'
-swept_past labels line next one multi multi' sorted lt starts past m is =
-    let own : (is_one (line_of_bounds line) (get_or labels next nothing) ≡ false) × (is_multi (line_of_bounds line) (get_or labels next nothing) ≡ true) =
-    inside_past line (get_or labels next nothing) (sorted.drawn next lt) (is.later next (omega arith) lt) starts past in record {
-      count = omega (arith, lt);
-      before = more-before labels line.after next is.before starts;
-      later = λ k a b. is.later k (omega arith) b;
-      one_is = filter_not (is_one (line_of_bounds line)) labels one next lt own.0 is.one_is;
-      multi_is = filter_yes (is_multi (line_of_bounds line)) labels multi multi' next lt own.1 is.multi_is m;
-    }
-
-pub swept_ends : (labels : List Placed) (line : Bounds) (next : ℕ) (one multi one' : List Placed) → AreSorted labels → next < length labels → start_at labels next < line.after → passes line.after (get_or labels next nothing) ≡ false →
-    one' ≡ one ++ get_or labels next nothing ∷ [] → IsSwept labels line next one multi → IsSwept labels line (next + 1) one' multi
-swept_ends labels line next one multi one' sorted lt starts past m is =
-    let own : (is_one (line_of_bounds line) (get_or labels next nothing) ≡ true) × (is_multi (line_of_bounds line) (get_or labels next nothing) ≡ false) =
-    inside_ends line (get_or labels next nothing) (sorted.drawn next lt) (is.later next (omega arith) lt) starts past in record {
-      count = omega (arith, lt);
-      before = more-before labels line.after next is.before starts;
-      later = λ k a b. is.later k (omega arith) b;
-      one_is = filter_yes (is_one (line_of_bounds line)) labels one one' next lt own.0 is.one_is m;
-      multi_is = filter_not (is_multi (line_of_bounds line)) labels multi next lt own.1 is.multi_is;
-    }
 
 -- where no more labels start on the line
 abbrev pub IsOver : List Placed → Bounds → ℕ → Type 0

@@ -5,8 +5,8 @@ ghost use Rattle.miette_lines.specs.rules.Labels.{style_at};
 ghost use Rattle.miette_lines.specs.views.Given.{text_at};
 ghost use Rattle.miette_lines.specs.views.Placing.{placed_from, end_drawn};
 
-use crate::grouping::end_of;
 use crate::reading::ReadLabel;
+use crate::spans::end_of;
 use crate::sweep::Placed;
 use miette_protocol::protocol::LabeledSpan;
 use miette_style::style::Style;

@@ -1,17 +1,17 @@
 //! Labels that are drawn as one snippet.
 
-ghost use Rattle.std.specs.Prelude.{◌≡◌, ◌+◌, nat_le, true, false, ℕ, List, map, length, IfOk, MatchOption};
+ghost use Rattle.std.specs.Prelude.{◌≡◌, ◌≢◌, ◌+◌, nat_le, true, false, ℕ, List, [], map, length, IfOk, MatchOption};
 ghost use Rattle.std.specs.List.{All};
 ghost use Rattle.std.specs.Option.{option_map};
 ghost use Rattle.miette_protocol.specs.rules.Reading.{IsAccepted};
-ghost use Rattle.miette_lines.specs.rules.Contexts.{contents, end_of_span};
 ghost use Rattle.miette_lines.specs.views.Given.{label_at};
-ghost use Rattle.miette_lines.specs.rules.Groups.{in_order, joined, joins_before};
+ghost use Rattle.miette_lines.specs.rules.Groups.{in_order, joined, joins_before, by_begin, joined_stretches};
 ghost use Rattle.miette_lines.specs.views.Read.{IsLent, IsRead, AreJoined, AreGrouped};
 
 use crate::reading::{ReadLabel, some_own};
-use crate::stretches::own_groups;
-use miette_protocol::protocol::{LabeledSpan, SourceOffset, SourceSpan};
+pub use crate::spans::{end_of, join};
+use crate::stretches;
+use miette_protocol::protocol::{LabeledSpan, SourceSpan};
 use miette_protocol::source::{MietteSpanContents, SourceCode};
 use std::alloc::{AllocError, Global};
 use std::mem;
@@ -23,25 +23,6 @@ pub struct Group<'a> {
     pub span: SourceSpan,
     /// What the read lent.
     pub contents: MietteSpanContents<'a>,
-}
-
-/// Where a span ends, in bytes; an error where that is past the largest `usize`.
-pub fn end_of(span: &SourceSpan) -> Result<usize, AllocError>
-    ensures { IfOk result (λ end. end ≡ end_of_span span.now) }
-{
-    match span.offset().checked_add(span.len()) {
-        Some(end) => Ok(end),
-        None => Err(AllocError),
-    }
-}
-
-// From the first offset to the greater end.
-pub fn join(before: &SourceSpan, label: &SourceSpan) -> Result<SourceSpan, AllocError>
-    ensures { IfOk result (λ span. span ≡ joined before.now label.now) }
-{
-    let end = end_of(before)?.max(end_of(label)?);
-    let start = before.offset();
-    Ok(SourceSpan::new(SourceOffset::from(start), end.saturating_sub(start)))
 }
 
 // Whether a label's context begins at the line after a group's data or before.
@@ -113,6 +94,50 @@ fn own_group<'a>(label: &ReadLabel<'a>) -> Result<Group<'a>, AllocError>
         span: label.span,
         contents: label.contents.clone()?,
     })
+}
+
+// Each of these places read without context, or none where a read fails.
+fn read_all<'a, S: SourceCode>(
+    alloc: Global,
+    source: &'a S,
+    spans: &[SourceSpan],
+) -> Result<Option<Vec<Group<'a>>>, AllocError>
+    requires { All (λ span. IsAccepted (S.source source.now).bytes span) spans.now }
+    ensures { IfOk result (λ r. MatchOption r (((S.source source.now).always_reads ≡ false) × (spans.now ≢ []))
+        (λ groups. (map (λ group. group.span) groups.items ≡ spans.now)
+        × All (λ group. IsLent 0 (S.source source.now) group.span group.contents) groups.items)) }
+{
+    let mut groups = Vec::with_capacity(alloc, spans.len())?;
+    for span in spans {
+        match source.read_span(span, 0, 0) {
+            Ok(contents) => groups.push(Group {
+                span: *span,
+                contents,
+            })?,
+            Err(_) => return Ok(None),
+        }
+    }
+    Ok(Some(groups))
+}
+
+// The groups of labels that were read: going by where the bytes that they lent begin, a label joins the group before
+// it where these begin at or before that group's end. Each group's bytes are read again; none where a read fails.
+fn own_groups<'a, S: SourceCode>(
+    alloc: Global,
+    source: &'a S,
+    reads: &[ReadLabel<'_>],
+) -> Result<Option<Vec<Group<'a>>>, AllocError>
+    requires { All (λ read. IsAccepted (S.source source.now).bytes read.contents.span) reads.now }
+    ensures { IfOk result (λ r. MatchOption r
+        (((S.source source.now).always_reads ≡ false)
+        × (joined_stretches (by_begin (map (λ read. read.contents.span) reads.now)) ≢ []))
+        (λ groups. (map (λ group. group.span) groups.items
+        ≡ joined_stretches (by_begin (map (λ read. read.contents.span) reads.now)))
+        × All (λ group. IsLent 0 (S.source source.now) group.span group.contents) groups.items)) }
+{
+    let spans = stretches::stretches_by_begin(alloc, reads)?;
+    let spans = stretches::joined(alloc, &spans)?;
+    read_all(alloc, source, &spans)
 }
 
 /// The groups of labels that were read by offset; none where the read of one fails.

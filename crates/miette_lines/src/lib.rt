@@ -9,6 +9,7 @@ pub mod order;
 pub mod plain;
 pub mod primary;
 pub mod reading;
+mod spans;
 mod stretches;
 pub mod sweep;
 pub mod text_line;

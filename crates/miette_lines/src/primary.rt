@@ -4,8 +4,8 @@ ghost use Rattle.std.specs.Prelude.{◌≡◌, ℕ, List, None, IfOk};
 ghost use Rattle.std.specs.List.Sorted.{IsNonDecreasingBy};
 ghost use Rattle.miette_lines.specs.views.Primary.{chosen, end_within as end_of_label, PointsTo};
 
-use crate::grouping::end_of;
 use crate::reading::ReadLabel;
+use crate::spans::end_of;
 use miette_protocol::protocol::SourceSpan;
 use miette_protocol::source::SourceCode;
 use std::alloc::AllocError;

@@ -1,5 +1,5 @@
 use Rattle.miette_lines.proofs.Collecting.{read_more}
-use Rattle.miette_lines.proofs.stretches.read_all.Goals as goal
+use Rattle.miette_lines.proofs.grouping.read_all.Goals as goal
 
 pub loop-span-preserved : goal.loop-span-preserved
 loop-span-preserved g c =

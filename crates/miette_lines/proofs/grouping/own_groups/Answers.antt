@@ -1,7 +1,7 @@
 use Rattle.std.proofs.Common.{ap, ◌∙◌}
 use Rattle.miette_lines.specs.rules.Groups.{joined_stretches}
 use Rattle.miette_lines.proofs.Collecting.{groups_accepted}
-use Rattle.miette_lines.proofs.stretches.own_groups.Goals as goal
+use Rattle.miette_lines.proofs.grouping.own_groups.Goals as goal
 
 pub read_all-requires : goal.read_all-requires
 read_all-requires g c =
