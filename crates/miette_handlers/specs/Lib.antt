@@ -1,3 +1,4 @@
+pub mod rules
 pub use Rattle.miette_graphical.specs.views.Handling
 pub use Rattle.miette_graphical.specs.rules.Settings
 pub use Rattle.miette_graphical.specs.views.Modes

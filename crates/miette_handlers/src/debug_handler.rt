@@ -1,11 +1,17 @@
 //! The debug report.
 
-ghost use Rattle.std.specs.Prelude.{◌≡◌, ⊤, OnOk, OnErr, string_bytes};
+ghost use Rattle.std.specs.Prelude.{◌≡◌, IfOk, OnOk, OnErr, string_bytes};
+ghost use Rattle.std.specs.Option.{option_copied};
+ghost use Rattle.miette_tree.specs.rules.Tree.{cause_of, causes_of};
 ghost use Rattle.miette_tree.specs.views.Handler.{AppendsOne};
+ghost use Rattle.miette_tree.specs.views.Report.{tree_of};
+ghost use Rattle.miette_handlers.specs.rules.DebugText.{IsDebugText, IsField, IsLabelsField, IsQuoted};
+ghost use Rattle.miette_handlers.specs.rules.DebugText.{nearest, severity_shown};
 
 use miette_protocol::error::RenderError;
 use miette_protocol::protocol::{Diagnostic, LabeledSpan, Severity};
 use miette_protocol::source::SourceCode;
+use miette_tree::parts::labels_of;
 use miette_tree::report::{Cause, Report};
 use miette_tree::report_handler::{ReportHandler, append_whole};
 use std::alloc::{AllocError, Global};
@@ -23,8 +29,10 @@ impl DebugReportHandler {
 
     /// Appends the report's fields. After an error, which is want of memory, `out` is as before.
     pub fn render_report(&self, report: &Report, out: &mut String) -> Result<(), RenderError>
-        // Which text it is, tests show.
-        ensures text { OnOk result (AppendsOne (λ _. ⊤) (string_bytes out.old) (string_bytes out.new)) }
+        // All of the text but what the field of the labels shows, and what stands for texts past ASCII.
+        ensures text { let tree = tree_of ⟦<Box<dyn Diagnostic> as Diagnostic>⟧.meaning
+            ⟦<Box<dyn SourceCode> as SourceCode>⟧.source report.now in
+            OnOk result (AppendsOne (IsDebugText tree) (string_bytes out.old) (string_bytes out.new)) }
         ensures memory { OnErr result (result ≡ Err RenderError.Memory) }
         ensures err { OnErr result (string_bytes out.new ≡ string_bytes out.old) }
     {
@@ -33,7 +41,7 @@ impl DebugReportHandler {
 }
 
 impl ReportHandler for DebugReportHandler {
-    ghost gives = { λ _ _ _. ⊤ };
+    ghost gives = { λ _. IsDebugText };
 
     ghost refuses = { λ _ _. ⊥ };
 
@@ -51,7 +59,8 @@ fn render<D: Diagnostic, S: SourceCode>(
     report: &Report<D, S>,
     out: &mut String,
 ) -> Result<(), RenderError>
-    ensures text { OnOk result (AppendsOne (λ _. ⊤) (string_bytes out.old) (string_bytes out.new)) }
+    ensures text { OnOk result (AppendsOne (IsDebugText (tree_of D.meaning S.source report.now)) (string_bytes out.old)
+        (string_bytes out.new)) }
     ensures memory { OnErr result (result ≡ Err RenderError.Memory) }
     ensures err { OnErr result (string_bytes out.new ≡ string_bytes out.old) }
 {
@@ -65,51 +74,66 @@ fn render<D: Diagnostic, S: SourceCode>(
 fn fields_of<D: Diagnostic, S: SourceCode>(
     alloc: Global,
     report: &Report<D, S>,
-) -> Result<String, AllocError> {
+) -> Result<String, AllocError>
+    ensures { IfOk result (λ text. IsDebugText (tree_of D.meaning S.source report.now) (string_bytes text)) }
+{
     let mut text = String::from_str(alloc, "Diagnostic { message: ")?;
-    push_quoted(&mut text, report.message())?;
-    push_field(&mut text, "code", report.code())?;
-    push_field(&mut text, "severity", severity_name(report.severity()))?;
-    push_field(&mut text, "url", report.url())?;
-    push_field(&mut text, "help", report.help())?;
-    push_labels(alloc, &mut text, report.labels())?;
-    push_field(&mut text, "caused by", cause_name(report))?;
+    push_quoted(alloc, &mut text, report.message())?;
+    push_field(alloc, &mut text, "code", report.code())?;
+    let severity = severity_name(report.severity());
+    push_field(alloc, &mut text, "severity", severity)?;
+    push_field(alloc, &mut text, "url", report.url())?;
+    push_field(alloc, &mut text, "help", report.help())?;
+    push_labels(alloc, &mut text, labels_of(report))?;
+    push_field(alloc, &mut text, "caused by", cause_name(report))?;
     text.push_str(" }\n")?;
     Ok(text)
 }
 
 /// A text in quotes, with its escapes.
-fn push_quoted(out: &mut String, text: &str) -> Result<(), AllocError> {
-    write!(out, "{text:?}")
+fn push_quoted(alloc: Global, out: &mut String, text: &str) -> Result<(), AllocError>
+    ensures { OnOk result (AppendsOne (IsQuoted text.now) (string_bytes out.old) (string_bytes out.new)) }
+{
+    let quoted = format!(in alloc; "{text:?}")?;
+    out.push_str(quoted.as_str())
 }
 
 /// `, code: "c"`, where there is such a text.
-fn push_field(out: &mut String, name: &str, text: Option<&str>) -> Result<(), AllocError> {
+fn push_field(
+    alloc: Global,
+    out: &mut String,
+    name: &str,
+    text: Option<&str>,
+) -> Result<(), AllocError>
+    ensures { OnOk result (AppendsOne (IsField name.now (option_copied text.entry)) (string_bytes out.old)
+        (string_bytes out.new)) }
+{
     let Some(text) = text else {
         return Ok(());
     };
     out.push_str(", ")?;
     out.push_str(name)?;
     out.push_str(": ")?;
-    push_quoted(out, text)
+    push_quoted(alloc, out, text)?;
+    Ok(())
 }
 
 /// `, labels: "[..]"`, where there are any.
-fn push_labels(
-    alloc: Global,
-    out: &mut String,
-    labels: Option<&[LabeledSpan]>,
-) -> Result<(), AllocError> {
-    match labels {
-        None | Some([]) => Ok(()),
-        Some(labels) => {
-            let shown = format!(in alloc; "{labels:?}")?;
-            push_field(out, "labels", Some(shown.as_str()))
-        }
+fn push_labels(alloc: Global, out: &mut String, labels: &[LabeledSpan]) -> Result<(), AllocError>
+    ensures { OnOk result (AppendsOne (IsLabelsField labels.now) (string_bytes out.old) (string_bytes out.new)) }
+{
+    if labels.is_empty() {
+        return Ok(());
     }
+    let shown = format!(in alloc; "{labels:?}")?;
+    push_field(alloc, out, "labels", Some(shown.as_str()))?;
+    Ok(())
 }
 
-fn severity_name(severity: Option<Severity>) -> Option<&'static str> {
+/// The name of a severity, where one is set.
+fn severity_name(severity: Option<Severity>) -> Option<&'static str>
+    ensures { option_copied result ≡ severity_shown severity }
+{
     match severity {
         Some(Severity::Advice) => Some("Advice"),
         Some(Severity::Warning) => Some("Warning"),
@@ -119,7 +143,9 @@ fn severity_name(severity: Option<Severity>) -> Option<&'static str> {
 }
 
 /// The message of a report's cause, or its first text.
-fn cause_name<D: Diagnostic, S: SourceCode>(report: &Report<D, S>) -> Option<&str> {
+fn cause_name<D: Diagnostic, S: SourceCode>(report: &Report<D, S>) -> Option<&str>
+    ensures { option_copied result ≡ nearest (causes_of (cause_of (tree_of D.meaning S.source report.now))) }
+{
     match report.cause() {
         Cause::Diagnostic(cause) => Some(cause.message()),
         Cause::Texts([first, ..]) => Some(first.as_str()),

@@ -1,0 +1,60 @@
+-- The text of the debug report.
+use Rattle.std.specs.Prelude.{◌≡◌, ℕ, List, [], ◌∷◌, ◌++◌, Option, Some, None, IfSome, codes}
+use Rattle.std.specs.Fmt.{debug_str}
+use Rattle.miette_protocol.specs.views.Meaning.{Label}
+use Rattle.miette_protocol.specs.declared.protocol.Severity.{Severity}
+use Rattle.miette_protocol.specs.declared.protocol.Severity.TheVariants.{Advice, Warning, Error}
+use Rattle.miette_tree.specs.rules.Tree.{Tree, head, cause_of, causes_of}
+use Rattle.miette_tree.specs.rules.Parts.{given_labels}
+
+-- A text in quotes, with its escapes, as `{:?}` writes it. Of a text that is not all ASCII nothing is said.
+abbrev pub IsQuoted : List ℕ → List ℕ → Type 0
+IsQuoted text quoted = IfSome (debug_str text) (λ form. quoted ≡ form)
+
+-- a field behind another, `, name: "text"`
+pub record IsShown (name text shown : List ℕ) : Type 0 where
+  pub quoted : List ℕ
+  pub is_quoted : IsQuoted text quoted
+  pub is : shown ≡ codes ", " ++ (name ++ (codes ": " ++ quoted))
+
+-- the field of a part: none where the part isn't there
+abbrev pub IsField : List ℕ → Option (List ℕ) → List ℕ → Type 0
+IsField name None field = field ≡ []
+IsField name (Some text) field = IsShown name text field
+
+-- the name of a severity, where one is set
+abbrev pub severity_shown : Option Severity → Option (List ℕ)
+severity_shown None = None
+severity_shown (Some Error) = Some (codes "Error")
+severity_shown (Some Warning) = Some (codes "Warning")
+severity_shown (Some Advice) = Some (codes "Advice")
+
+-- one field for all labels, none for an empty list; which text it shows isn't said
+abbrev pub IsLabelsField : List Label → List ℕ → Type 0
+IsLabelsField [] field = field ≡ []
+IsLabelsField (l ∷ ls) field = (form : List ℕ) × IsShown (codes "labels") form field
+
+-- the nearest of the causes, where there is one
+abbrev pub nearest : List (List ℕ) → Option (List ℕ)
+nearest [] = None
+nearest (cause ∷ further) = Some cause
+
+-- `Diagnostic { message: "m", code: "c", severity: "Warning", url: "u", help: "h", labels: "..", caused by: "b" }` and
+-- a line feed, with the fields of the parts that are there
+pub record IsDebugText (t : Tree) (text : List ℕ) : Type 0 where
+  pub message : List ℕ
+  pub code : List ℕ
+  pub severity : List ℕ
+  pub url : List ℕ
+  pub help : List ℕ
+  pub labels : List ℕ
+  pub cause : List ℕ
+  pub is_message : IsQuoted (head t).message message
+  pub is_code : IsField (codes "code") (head t).code code
+  pub is_severity : IsField (codes "severity") (severity_shown (head t).severity) severity
+  pub is_url : IsField (codes "url") (head t).url url
+  pub is_help : IsField (codes "help") (head t).help help
+  pub are_labels : IsLabelsField (given_labels (head t).labels) labels
+  pub is_cause : IsField (codes "caused by") (nearest (causes_of (cause_of t))) cause
+  pub is : text ≡ codes "Diagnostic { message: " ++ (message ++ (code ++ (severity ++ (url ++ (help ++ (labels
+      ++ (cause ++ (codes " }" ++ 10 ∷ []))))))))
