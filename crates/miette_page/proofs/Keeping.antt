@@ -137,10 +137,3 @@ near_view styles at [] some one = absurd (omega (arith, some))
 near_view styles at (k ∷ ks) some one =
     let f : eqb k.kind 1 ≡ false = ne_eqb k.kind 1 one in
     rw f (ap (λ xs. record { at = at + k.bytes; style = kind_told styles k.kind } ∷ marks_kept styles (at + k.bytes) xs) (sym (take_all (length (k ∷ ks) - 1) ks (omega arith))))
-
-pub far_view : (styles : List Style) (at : ℕ) (kept : List Kept) → 0 < length kept → (get_or kept 0 nothing_kept).kind ≡ 1 →
-    marks_kept styles at kept ≡ marks_kept styles (at + (get_or kept 0 nothing_kept).bytes * 4294967296) (later_kept kept)
-far_view styles at [] some one = absurd (omega (arith, some))
-far_view styles at (k ∷ ks) some one =
-    let t : eqb k.kind 1 ≡ true = eq-eqb k.kind 1 one in
-    rw t (ap (λ xs. marks_kept styles (at + k.bytes * 4294967296) xs) (sym (take_all (length (k ∷ ks) - 1) ks (omega arith))))

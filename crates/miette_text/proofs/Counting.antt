@@ -1,48 +1,17 @@
 -- Loops that count up to the end of a sequence.
-use Rattle.std.proofs.Common.{◌≡◌, ℕ, zero, suc, ◌+◌, ◌<◌, ◌≤◌, true, false, List, [], ◌∷◌, ◌++◌, length, take, drop, get_or, refl, sym, ap, ◌∙◌, arith, append_assoc, drop-drop}
+use Rattle.std.proofs.Common.{◌≡◌, ℕ, zero, suc, ◌+◌, ◌<◌, false, List, [], ◌∷◌, ◌++◌, length, take, drop, get_or, refl, sym, ap, ◌∙◌, arith, append_assoc, drop-drop}
 use Rattle.std.proofs.lemmas.Bool.Decides.{nat_tests}
 use Rattle.std.proofs.lemmas.List.{drop_more}
-use Rattle.miette_text.specs.rules.Sequences.{control_len, command_len, one_more, is_final, is_line_feed, is_bell, begins_terminator, sequence_len, Token, Character, Sequence, tokens, tokens_behind}
+use Rattle.miette_text.specs.rules.Sequences.{command_len, one_more, is_line_feed, is_bell, begins_terminator, sequence_len, Token, Character, Sequence, tokens, tokens_behind}
 
 -- i more, where there is any
 abbrev pub counted : ℕ → ℕ → ℕ
 counted i zero = 0
 counted i (suc n) = i + suc n
 
-pub counted_start : (n : ℕ) → counted 0 n ≡ n
-counted_start zero = refl
-counted_start (suc n) = omega arith
-
 counted_more : (i n : ℕ) → counted i (one_more n) ≡ counted (i + 1) n
 counted_more i zero = refl
 counted_more i (suc n) = omega arith
-
-control_at : (c : ℕ) (cs : List ℕ) (i : ℕ) → is_line_feed c ≡ false → is_final c ≡ false → counted i (control_len (c ∷ cs)) ≡ counted (i + 1) (control_len cs)
-control_at c cs i h k = grind (arith, nat_tests, counted_more i (control_len cs))
-
-pub control_step : (cs : List ℕ) (i : ℕ) → i < length cs → is_line_feed (get_or cs i 0) ≡ false → is_final (get_or cs i 0) ≡ false → counted i (control_len (drop i cs)) ≡ counted (i + 1) (control_len (drop (i + 1) cs))
-control_step cs i l h k = ap (λ xs. counted i (control_len xs)) (drop_more cs i 0 l) ∙ control_at (get_or cs i 0) (drop (i + 1) cs) i h k
-
-control_fin : (c : ℕ) (cs : List ℕ) → is_line_feed c ≡ false → is_final c ≡ true → control_len (c ∷ cs) ≡ 1
-control_fin c cs h k = grind (arith, nat_tests)
-
-pub control_final : (cs : List ℕ) (i : ℕ) → i < length cs → is_line_feed (get_or cs i 0) ≡ false → is_final (get_or cs i 0) ≡ true → counted i (control_len (drop i cs)) ≡ i + 1
-control_final cs i l h k = ap (λ xs. counted i (control_len xs)) (drop_more cs i 0 l) ∙ ap (counted i) (control_fin (get_or cs i 0) (drop (i + 1) cs) h k)
-
-control_lf : (c : ℕ) (cs : List ℕ) → is_line_feed c ≡ true → control_len (c ∷ cs) ≡ 0
-control_lf c cs h = grind (arith, nat_tests)
-
-pub control_feed : (cs : List ℕ) (i : ℕ) → i < length cs → is_line_feed (get_or cs i 0) ≡ true → counted i (control_len (drop i cs)) ≡ 0
-control_feed cs i l h = ap (λ xs. counted i (control_len xs)) (drop_more cs i 0 l) ∙ ap (counted i) (control_lf (get_or cs i 0) (drop (i + 1) cs) h)
-
-drop_end : (cs : List ℕ) (i : ℕ) → length cs ≤ i → drop i cs ≡ []
-drop_end [] zero h = refl
-drop_end [] (suc i) h = refl
-drop_end (c ∷ cs) zero h = absurd (omega arith)
-drop_end (c ∷ cs) (suc i) h = drop_end cs i (omega arith)
-
-pub control_all : (cs : List ℕ) (i : ℕ) → length cs ≤ i → counted i (control_len (drop i cs)) ≡ 0
-control_all cs i h = ap (λ xs. counted i (control_len xs)) (drop_end cs i h)
 
 -- the same of commands
 command_at : (c : ℕ) (cs : List ℕ) (i : ℕ) → is_line_feed c ≡ false → is_bell c ≡ false → begins_terminator (c ∷ cs) ≡ false → counted i (command_len (c ∷ cs)) ≡ counted (i + 1) (command_len cs)
@@ -50,27 +19,6 @@ command_at c cs i h k t = grind (arith, nat_tests, counted_more i (command_len c
 
 pub command_step : (cs : List ℕ) (i : ℕ) → i < length cs → is_line_feed (get_or cs i 0) ≡ false → is_bell (get_or cs i 0) ≡ false → begins_terminator (drop i cs) ≡ false → counted i (command_len (drop i cs)) ≡ counted (i + 1) (command_len (drop (i + 1) cs))
 command_step cs i l h k t = ap (λ xs. counted i (command_len xs)) (drop_more cs i 0 l) ∙ command_at (get_or cs i 0) (drop (i + 1) cs) i h k (ap begins_terminator (sym (drop_more cs i 0 l)) ∙ t)
-
-command_is : (c : ℕ) (cs : List ℕ) → is_line_feed c ≡ false → is_bell c ≡ true → command_len (c ∷ cs) ≡ 1
-command_is c cs h k = grind (arith, nat_tests)
-
-pub command_bell : (cs : List ℕ) (i : ℕ) → i < length cs → is_line_feed (get_or cs i 0) ≡ false → is_bell (get_or cs i 0) ≡ true → counted i (command_len (drop i cs)) ≡ i + 1
-command_bell cs i l h k = ap (λ xs. counted i (command_len xs)) (drop_more cs i 0 l) ∙ ap (counted i) (command_is (get_or cs i 0) (drop (i + 1) cs) h k)
-
-command_two : (c : ℕ) (cs : List ℕ) → is_line_feed c ≡ false → is_bell c ≡ false → begins_terminator (c ∷ cs) ≡ true → command_len (c ∷ cs) ≡ 2
-command_two c cs h k t = grind (arith, nat_tests)
-
-pub command_term : (cs : List ℕ) (i : ℕ) → i < length cs → is_line_feed (get_or cs i 0) ≡ false → is_bell (get_or cs i 0) ≡ false → begins_terminator (drop i cs) ≡ true → counted i (command_len (drop i cs)) ≡ i + 2
-command_term cs i l h k t = ap (λ xs. counted i (command_len xs)) (drop_more cs i 0 l) ∙ ap (counted i) (command_two (get_or cs i 0) (drop (i + 1) cs) h k (ap begins_terminator (sym (drop_more cs i 0 l)) ∙ t))
-
-command_lf : (c : ℕ) (cs : List ℕ) → is_line_feed c ≡ true → command_len (c ∷ cs) ≡ 0
-command_lf c cs h = grind (arith, nat_tests)
-
-pub command_feed : (cs : List ℕ) (i : ℕ) → i < length cs → is_line_feed (get_or cs i 0) ≡ true → counted i (command_len (drop i cs)) ≡ 0
-command_feed cs i l h = ap (λ xs. counted i (command_len xs)) (drop_more cs i 0 l) ∙ ap (counted i) (command_lf (get_or cs i 0) (drop (i + 1) cs) h)
-
-pub command_all : (cs : List ℕ) (i : ℕ) → length cs ≤ i → counted i (command_len (drop i cs)) ≡ 0
-command_all cs i h = ap (λ xs. counted i (command_len xs)) (drop_end cs i h)
 
 -- a text from its next token on
 pub tokens_later : (k : ℕ) (cs : List ℕ) → tokens_behind k cs ≡ tokens (drop k cs)
@@ -93,22 +41,8 @@ tokens_past [] n p h = absurd (omega arith)
 tokens_past (c ∷ cs) zero p h = absurd (omega arith)
 tokens_past (c ∷ cs) (suc n) p h = tokens_step c cs n h
 
-pub tokens_here : (c : ℕ) (cs : List ℕ) → sequence_len (c ∷ cs) ≡ 0 → tokens (c ∷ cs) ≡ Character c ∷ tokens cs
-tokens_here c cs h = ap (λ (n : ℕ). elim n as (λ _. List Token) [
-  | zero ↦ Character c ∷ tokens_behind 0 cs
-  | suc k ↦ Sequence (take (suc k) (c ∷ cs)) ∷ tokens_behind k cs
-]) h
-
 -- the steps of the loop that cuts
-pub cut_character : (front : List Token) (cs : List ℕ) (i : ℕ) → i < length cs → sequence_len (drop i cs) ≡ 0 → (front ++ Character (get_or cs i 0) ∷ []) ++ tokens (drop (i + 1) cs) ≡ front ++ tokens (drop i cs)
-cut_character front cs i l h =
-    append_assoc front (Character (get_or cs i 0) ∷ []) (tokens (drop (i + 1) cs))
-    ∙ ap (λ ts. front ++ ts) (sym (ap tokens (drop_more cs i 0 l) ∙ tokens_here (get_or cs i 0) (drop (i + 1) cs) (ap sequence_len (sym (drop_more cs i 0 l)) ∙ h)))
-
 pub cut_sequence : (front : List Token) (cs : List ℕ) (i n : ℕ) → 0 < n → sequence_len (drop i cs) ≡ n → (front ++ Sequence (take n (drop i cs)) ∷ []) ++ tokens (drop (i + n) cs) ≡ front ++ tokens (drop i cs)
 cut_sequence front cs i n p h =
     append_assoc front (Sequence (take n (drop i cs)) ∷ []) (tokens (drop (i + n) cs))
     ∙ ap (λ ts. front ++ ts) (ap (λ xs. Sequence (take n (drop i cs)) ∷ tokens xs) (sym (drop-drop n i cs)) ∙ sym (tokens_past (drop i cs) n p h))
-
-pub cut_all : (cs : List ℕ) (i : ℕ) → length cs ≤ i → tokens (drop i cs) ≡ []
-cut_all cs i h = ap tokens (drop_end cs i h)

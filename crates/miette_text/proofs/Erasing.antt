@@ -11,9 +11,6 @@ use Rattle.miette_text.proofs.Closed.{wrapped_tokens-tame, run-append}
 
 -- ---- the tokens of a text spell it
 
-skipped : (k : ℕ) (cs : List ℕ) → take k cs ++ spell (tokens_behind k cs) ≡ cs → take k cs ++ spell (tokens_behind k cs) ≡ cs
-skipped k cs h = h
-
 spell-behind : (k : ℕ) (cs : List ℕ) → take k cs ++ spell (tokens_behind k cs) ≡ cs
 spell-behind zero [] = refl
 spell-behind (suc k) [] = refl
@@ -46,10 +43,6 @@ erase-tame text h = ap erase (sym (spell-tokens text)) ∙ erase-spell Free (tok
 
 pub tokens-erase : (text : List ℕ) → IsTame text → tokens (erase text) ≡ erased (tokens text)
 tokens-erase text h = ap tokens (erase-tame text h) ∙ tokens-spell Free (erased (tokens text)) (erased-run Free (tokens text) h)
-
--- A text without its colours is tame.
-pub erase-stays_tame : (text : List ℕ) → IsTame text → IsTame (erase text)
-erase-stays_tame text h = ap (state_behind Free) (tokens-erase text h) ∙ erased-run Free (tokens text) h
 
 -- ---- joining
 

@@ -2,7 +2,7 @@
 use Rattle.std.proofs.Common.{◌≡◌, ℕ, suc, ◌+◌, ◌<◌, ◌≤◌, true, false, nat_le, if◌then◌else◌, List, [], ◌∷◌, ◌++◌, map, length, refl, sym, ap, ap₂, ◌∙◌, arith, append_assoc, append-nil}
 use Rattle.std.proofs.lemmas.Bool.Decides.{nat_tests}
 use Rattle.std.proofs.lemmas.List.{map-append}
-use Rattle.std.proofs.lemmas.List.Elements.{All-head, All-tail, All-weaker, All-push}
+use Rattle.std.proofs.lemmas.List.Elements.{All-head, All-tail, All-weaker}
 use Rattle.miette_text.specs.rules.Sequences.{Token, Character, Sequence, spell}
 use Rattle.miette_text.specs.views.Woven.{mark_token, upto, beyond, woven, AreWithin}
 use Rattle.miette_text.specs.declared.runs.sign.Mark.{Mark}
@@ -11,9 +11,6 @@ use Rattle.miette_text.proofs.Weaving.{woven-none}
 
 pub within-more : (n k : ℕ) (ms : List Mark) → n ≤ k → AreWithin n ms → AreWithin k ms
 within-more n k ms h w = All-weaker (λ (m : Mark). m.at ≤ n) (λ (m : Mark). m.at ≤ k) (λ m g. omega arith) ms w
-
-pub within-mark : (n : ℕ) (ms : List Mark) (m : Mark) → m.at ≤ n → AreWithin n ms → AreWithin n (ms ++ m ∷ [])
-within-mark n ms m h w = All-push (λ (m : Mark). m.at ≤ n) ms m w h
 
 upto-all : (p : ℕ) (ms : List Mark) → AreWithin p ms → upto p ms ≡ ms
 upto-all p [] w = refl

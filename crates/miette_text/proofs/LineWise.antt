@@ -23,18 +23,6 @@ pieces-some (Character c ∷ ts) = elim (is_line_feed c) as (λ v. 0 < length (i
   | false ↦ on-some (with_code c) (pieces ts) (pieces-some ts)
 ]
 
-on-append : (f : Piece → Piece) (ps qs : List Piece) → 0 < length ps → on_first f (ps ++ qs) ≡ on_first f ps ++ qs
-on-append f [] qs h = absurd (omega arith)
-on-append f (p ∷ ps) qs h = refl
-
-pieces-append : (ts us : List Token) → pieces (ts ++ Character 10 ∷ us) ≡ pieces ts ++ pieces us
-pieces-append [] us = refl
-pieces-append (Sequence s ∷ ts) us = ap (on_first (with_mark s)) (pieces-append ts us) ∙ on-append (with_mark s) (pieces ts) (pieces us) (pieces-some ts)
-pieces-append (Character c ∷ ts) us = elim (is_line_feed c) as (λ v. (if v then no_characters ∷ pieces (ts ++ Character 10 ∷ us) else on_first (with_code c) (pieces (ts ++ Character 10 ∷ us))) ≡ (if v then no_characters ∷ pieces ts else on_first (with_code c) (pieces ts)) ++ pieces us) [
-  | true ↦ ap (λ ps. no_characters ∷ ps) (pieces-append ts us)
-  | false ↦ ap (on_first (with_code c)) (pieces-append ts us) ∙ on-append (with_code c) (pieces ts) (pieces us) (pieces-some ts)
-]
-
 -- ---- lines, joined
 
 abbrev piece_lines : Bool → Bool → ℕ → ℕ → ℕ → Piece → List (List ℕ)

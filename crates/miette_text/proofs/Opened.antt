@@ -62,24 +62,6 @@ sequence_behind (c ∷ cs) h =
 pub open_behind : (cs : List ℕ) (i n : ℕ) (b : Bool) → n ≡ sequence_len (drop i cs) → (b ≡ true → command_len (drop i cs) ≡ 0) → b ≡ true → command_len (drop (i + n) cs) ≡ 0
 open_behind cs i n b e h t = ap command_len (sym (drop-drop n i cs) ∙ ap (λ n. drop n (drop i cs)) e) ∙ sequence_behind (drop i cs) (h t)
 
--- an unfinished command
-opens : (cs : List ℕ) → begins_command cs ≡ true → command_len cs ≡ 0 → sequence_len cs ≡ 0
-opens [] b h = refl
-opens (c ∷ []) b h = grind (arith, nat_tests)
-opens (c ∷ d ∷ ds) b h =
-    let e : (c == 27) ≡ true = grind (arith, nat_tests) in
-    let f : (d == 93) ≡ true = grind (arith, nat_tests) in
-    let z : command_len ds ≡ 0 = command_behind d ds (not_feed d 93 f refl) (command_behind c (d ∷ ds) (not_feed c 27 e refl) h) in
-    grind (arith, nat_tests, z, e, f)
-
-pub opened_none : (cs : List ℕ) (i : ℕ) (b : Bool) → (b ≡ true → command_len (drop i cs) ≡ 0) → b ≡ true → begins_command (drop i cs) ≡ true → sequence_len (drop i cs) ≡ 0
-opened_none cs i b h t o = opens (drop i cs) o (h t)
-
-pub plain_none : (cs : List ℕ) (i c : ℕ) → i < length cs → c ≡ get_or cs i c → (c ≡ 27 → ⊥) → sequence_len (drop i cs) ≡ 0
-plain_none cs i c l e h =
-    let k : is_escape c ≡ false = grind (arith, nat_tests) in
-    ap sequence_len (drop_more cs i c l) ∙ ap (λ x. sequence_len (x ∷ drop (i + 1) cs)) (sym e) ∙ ap (λ (b : Bool). if b then one_more (after_escape_len (drop (i + 1) cs)) else 0) k
-
 tail_opened : (c : ℕ) (cs : List ℕ) → begins_command (c ∷ cs) ≡ true → sequence_len (c ∷ cs) ≡ 0 → command_len cs ≡ 0
 tail_opened c [] b h = refl
 tail_opened c (d ∷ ds) b h =

@@ -1,5 +1,5 @@
 -- What begins a style, code by code, and its bytes.
-use Rattle.std.proofs.Common.{◌≡◌, ℕ, ◌<◌, Bool, true, false, ◌&&◌, ◌||◌, ◌==◌, not, length, List, [], ◌∷◌, ◌++◌, codes, refl, sym, ap, ap₂, ◌∙◌, arith, append_assoc, append-nil, eqb-true, encode_utf8_all, Option, Some, None, is_some}
+use Rattle.std.proofs.Common.{◌≡◌, ℕ, ◌<◌, Bool, true, false, ◌&&◌, ◌||◌, ◌==◌, length, List, [], ◌∷◌, ◌++◌, codes, refl, sym, ap, ap₂, ◌∙◌, arith, append_assoc, append-nil, eqb-true, encode_utf8_all, Option, Some, None, is_some}
 use Rattle.std.proofs.lemmas.Bool.{and_parts}
 use Rattle.std.proofs.lemmas.Bool.Decides.{nat_tests}
 use Rattle.std.proofs.lemmas.Str.{encode_ascii, encodes-chars}
@@ -102,26 +102,6 @@ colour-bytes (c ∷ d ∷ cs) h =
 
 pub style-bytes : (s : Style) → encode_utf8_all (colour_start s) ≡ colour_start s
 style-bytes s = colour-bytes (colour_start s) (start_colour s)
-
--- ---- plain styles
-
-nil-flag : (xs : List (List ℕ)) (on : Bool) (code : List ℕ) → is_nil (xs ++ flag on code) ≡ (is_nil xs && not on)
-nil-flag [] true code = refl
-nil-flag [] false code = refl
-nil-flag (x ∷ xs) on code = refl
-
-nil-foreground : (color : Option Color) → is_nil (foreground_codes color) ≡ not (is_some color)
-nil-foreground None = refl
-nil-foreground (Some c) = refl
-
-pub nil-codes : (s : Style) → is_nil (style_codes s) ≡ (not (is_some s.fg) && not s.bold && not s.dimmed && not s.italic && not s.underline)
-nil-codes s =
-    let f = foreground_codes s.fg in
-    let b = f ++ flag s.bold (codes "1") in
-    let d = b ++ flag s.dimmed (codes "2") in
-    let i = d ++ flag s.italic (codes "3") in
-    nil-flag i s.underline (codes "4")
-    ∙ ap (λ v. v && not s.underline) (nil-flag d s.italic (codes "3") ∙ ap (λ v. v && not s.italic) (nil-flag b s.dimmed (codes "2") ∙ ap (λ v. v && not s.dimmed) (nil-flag f s.bold (codes "1") ∙ ap (λ v. v && not s.bold) (nil-foreground s.fg))))
 
 -- ---- runs
 

@@ -99,9 +99,6 @@ erase_character c r h =
 
 -- ---- characters that begin nothing
 
-plain_sequence : (c : ℕ) (r : List ℕ) → is_escape c ≡ false → sequence_len (c ∷ r) ≡ 0
-plain_sequence c r h = grind (arith, nat_tests)
-
 plain_colour : (c : ℕ) (r : List ℕ) → is_escape c ≡ false → colour_len (c ∷ r) ≡ 0
 plain_colour c r h = grind (arith, nat_tests)
 
@@ -117,9 +114,6 @@ colour_backslash c s r h = rw (backslash_of s h) (grind (arith, nat_tests))
 erase_link_end : (s r : List ℕ) → is_link_end s ≡ true → erase (s ++ r) ≡ s ++ erase r
 erase_link_end [] r h = cc
 erase_link_end (c ∷ s) r h = grind (arith, nat_tests, nil_of s, erase_plain c (s ++ r), erase_character c (s ++ r), colour_backslash c s r, erase_backslash s r, erase_link_end s r)
-
-opening_colour : (c : ℕ) (r : List ℕ) → (c == 91) ≡ false → colour_len (27 ∷ c ∷ r) ≡ 0
-opening_colour c r h = grind (arith, nat_tests)
 
 pub erase_link : (s r : List ℕ) → is_link s ≡ true → erase (s ++ r) ≡ s ++ erase r
 erase_link [] r h = cc

@@ -258,10 +258,6 @@ styled-tame s (c ∷ cs) k = elim (style_codes s) as (λ xs. IsTame (elim xs as 
   | y ∷ ys ↦ coloured-tame s (c ∷ cs) k
 ]
 
-plain-printed : (text : List ℕ) → printed_run plain text ≡ text
-plain-printed [] = refl
-plain-printed (c ∷ cs) = refl
-
 styled-erase : (s : Style) (text : List ℕ) → no_escape text ≡ true → erase (printed_run s text) ≡ printed_run plain text
 styled-erase s [] k = refl
 styled-erase s (c ∷ cs) k = elim (style_codes s) as (λ xs. erase (elim xs as (λ _. List ℕ) [ [] ↦ c ∷ cs | y ∷ ys ↦ colour_start s ++ (c ∷ cs) ++ colour_stop ]) ≡ c ∷ cs) [

@@ -166,15 +166,6 @@ end-woven at (c ∷ cs) marks =
           ∙ ap (λ us. map mark_token (upto at marks) ++ Character c ∷ us) (end-woven (suc at) cs (beyond at marks))
     ] refl
 
-pub kept-within : (at : ℕ) (cs : List ℕ) (marks : List Mark) → kept_len at cs marks ≤ length cs
-kept-within at [] marks = omega arith
-kept-within at (c ∷ cs) marks =
-    let h = kept-within (suc at) cs (beyond at marks) in
-    elim (is_line_feed c && only_feeds (woven (suc at) cs (beyond at marks))) as (λ v. (if v then 0 else suc (kept_len (suc at) cs (beyond at marks))) ≤ suc (length cs)) [
-      | true ↦ omega arith
-      | false ↦ omega arith
-    ]
-
 -- ---- marks with no more characters before them than there are
 
 capped-upto : (n at : ℕ) (marks : List Mark) → at < n → map mark_token (upto at marks) ≡ map mark_token (upto at (map (capped n) marks))

@@ -3,7 +3,7 @@
 ghost use Rattle.std.specs.Prelude.{◌≡◌, IfOk, true};
 ghost use Rattle.miette_text.specs.views.Woven.{sign_text};
 
-use crate::laws::comparison_laws;
+use miette_style::laws::comparison_laws;
 use miette_style::style::Style;
 use std::alloc::{AllocError, Global};
 use std::rc::Rc;
