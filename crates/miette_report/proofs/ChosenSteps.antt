@@ -9,6 +9,7 @@ use Rattle.miette_narrated.specs.rules.Answered.{report_accepted, report_reads, 
 use Rattle.miette_narrated.specs.rules.Report as narrated
 use Rattle.miette_graphical.specs.rules.Answers.{unlisted}
 use Rattle.miette_tree.specs.views.Handler.{AppendsOne}
+use Rattle.miette_handlers.specs.rules.DebugText.{IsDebugText}
 use Rattle.miette_graphical.specs.rules.Printed.{all_read, printed}
 use Rattle.miette_json.specs.rules.Json.{json_text}
 use Rattle.miette_json.specs.rules.JsonReport.{value_of}
@@ -34,6 +35,11 @@ json-given is_blank h t old new (Err e) is reads value = tt
 json-given is_blank h t old new (Ok x) is reads value =
     let one : AppendsOne (IsGiven is_blank chosen.Json t) old new = record { text = json_text (value_of t); is_given = refl; appended = value (names_always_read t reads) } in
     subst (λ k. AppendsOne (IsGiven is_blank k t) old new) (sym is) one
+
+pub debug-given : {A E H : Type 0} (is_blank : H → Bool) (h : Chosen H) (t : Tree) (old new : List ℕ) (r : Result A E) → h ≡ chosen.Debug
+    → OnOk r (AppendsOne (IsDebugText t) old new) → OnOk r (AppendsOne (IsGiven is_blank h t) old new)
+debug-given is_blank h t old new (Err e) is text = tt
+debug-given is_blank h t old new (Ok x) is text = subst (λ k. AppendsOne (IsGiven is_blank k t) old new) (sym is) text
 
 pub graphical-given : {A E H : Type 0} (is_blank : H → Bool) (h : Chosen H) (it : Handling H) (t : Tree) (old new : List ℕ) (r : Result A E) → h ≡ chosen.Built (handler.Graphical it) → AlwaysReads t
     → OnOk r (drawn.Appends drawn_rows it.settings (draws_plain is_blank it) t old new)
@@ -110,7 +116,7 @@ stays-on is_blank (chosen.Built (handler.Narrated h)) (chosen.Built (handler.Gra
 -- what it gives then, it might have given at first
 pub given-before : {H : Type 0} (is_blank : H → Bool) (h k : Chosen H) (t : Tree) (text : List ℕ) → Stays is_blank h k → IsGiven is_blank k t text → IsGiven is_blank h t text
 given-before is_blank chosen.Json k t text stays given = subst (λ x. IsGiven is_blank x t text) stays given
-given-before is_blank chosen.Debug k t text stays given = tt
+given-before is_blank chosen.Debug k t text stays given = subst (λ x. IsGiven is_blank x t text) stays given
 given-before is_blank (chosen.Built h) chosen.Json t text stays given = absurd stays
 given-before is_blank (chosen.Built h) chosen.Debug t text stays given = absurd stays
 given-before is_blank (chosen.Built (handler.Graphical h)) (chosen.Built (handler.Graphical k)) t text stays given =

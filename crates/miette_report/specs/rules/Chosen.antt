@@ -1,5 +1,5 @@
 -- The handler of a job, what it gives, and what it keeps.
-use Rattle.std.specs.Prelude.{◌≡◌, ℕ, Bool, List, false, ⊤}
+use Rattle.std.specs.Prelude.{◌≡◌, ℕ, Bool, List, false}
 use Rattle.miette.specs.rules.Choice.{IsChosen}
 use Rattle.miette.specs.views.Handler.{Keeps}
 use Rattle.miette.specs.rules.Options.{Options}
@@ -9,6 +9,7 @@ use Rattle.miette_tree.specs.rules.Tree.{Tree}
 use Rattle.miette_narrated.specs.rules.Answered.{report_accepted}
 use Rattle.miette_json.specs.rules.Json.{json_text}
 use Rattle.miette_json.specs.rules.JsonReport.{value_of}
+use Rattle.miette_handlers.specs.rules.DebugText.{IsDebugText}
 use Rattle.miette_report.specs.rules.Job.{IsBuiltText}
 use Rattle.miette_report.specs.declared.chosen.Chosen.{Chosen}
 use Rattle.miette_report.specs.declared.chosen.Chosen.TheVariants as chosen
@@ -24,7 +25,7 @@ IsAsked c o t (chosen.Built it) = (c ≡ choice.Build) × IsChosen o t it
 -- a text that it gives for a tree whose sources always read
 abbrev pub IsGiven : {H : Type 0} → (H → Bool) → Chosen H → Tree → List ℕ → Type 0
 IsGiven is_blank chosen.Json t text = text ≡ json_text (value_of t)
-IsGiven is_blank chosen.Debug t text = ⊤
+IsGiven is_blank chosen.Debug t text = IsDebugText t text
 IsGiven is_blank (chosen.Built it) t text = IsBuiltText is_blank it t text
 
 -- only a narrated report is refused, for a label that isn't accepted

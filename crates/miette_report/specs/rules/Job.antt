@@ -1,5 +1,5 @@
 -- The text of a job: by the bytes that were read, and by what was asked for.
-use Rattle.std.specs.Prelude.{◌≡◌, ℕ, Bool, List, Option, Some, true, false, ⊤, IsUtf8, encode_utf8_all}
+use Rattle.std.specs.Prelude.{◌≡◌, ℕ, Bool, List, Option, Some, true, false, IsUtf8, encode_utf8_all}
 use Rattle.miette.specs.rules.Choice.{IsChosen, is_graphical}
 use Rattle.miette.specs.rules.Options.{Options}
 use Rattle.miette.specs.declared.options.handler.MietteHandler.{MietteHandler}
@@ -15,6 +15,7 @@ use Rattle.miette_json.specs.rules.Json.{json_text}
 use Rattle.miette_json.specs.rules.JsonReport.{value_of}
 use Rattle.miette_graphical.specs.rules.Snippets.{drawn_rows}
 use Rattle.miette_graphical.specs.rules.Text.{report_text}
+use Rattle.miette_handlers.specs.rules.DebugText.{IsDebugText}
 use Rattle.miette_description.specs.rules.Description.{tree_for}
 use Rattle.miette_report.specs.declared.option_words.Choice.{Choice}
 use Rattle.miette_report.specs.declared.option_words.Choice.TheVariants.{Build, Json, Debug}
@@ -28,12 +29,12 @@ IsBuiltText is_blank (Graphical it) t text =
 IsBuiltText is_blank (Narrated it) t text = (report_accepted t ≡ true)
     × (text ≡ narrated.narrated it t narrated.unlisted)
 
--- the same by what was asked for; of the debug report nothing is said
+-- the same by what was asked for
 abbrev pub IsJobText : {H : Type 0} → (H → Bool) → Choice → Options H → Terminal → Tree → List ℕ → Type 0
 IsJobText {H} is_blank Build options terminal t text =
     (handler : MietteHandler H) × IsChosen options terminal handler × IsBuiltText is_blank handler t text
 IsJobText is_blank Json options terminal t text = text ≡ json_text (value_of t)
-IsJobText is_blank Debug options terminal t text = ⊤
+IsJobText is_blank Debug options terminal t text = IsDebugText t text
 
 -- the bytes are a description, and this holds of its text
 abbrev pub Writes : {H : Type 0} → (H → Bool) → Choice → Options H → Terminal → List ℕ → (List ℕ → Type 0) → Type 0

@@ -1,10 +1,13 @@
 use Rattle.std.proofs.Common.{ap, ◌∙◌}
 use Rattle.miette_report.specs.declared.chosen.Chosen.TheVariants as chosen
-use Rattle.miette_report.proofs.ChosenSteps.{json-given, graphical-given, graphical-accepts, narrated-given}
+use Rattle.miette_report.proofs.ChosenSteps.{json-given, debug-given, graphical-given, graphical-accepts, narrated-given}
 use Rattle.miette_report.proofs.chosen.Chosen.append.Goals as goal
 
 pub returns-in-Json-clause-ok : goal.returns-in-Json-clause-ok
 returns-in-Json-clause-ok g c = json-given _ _ _ _ _ _ c.in-Json.is c.requires.reads c.render_report.ensures.value
+
+pub returns-in-Debug-clause-ok : goal.returns-in-Debug-clause-ok
+returns-in-Debug-clause-ok g c = debug-given _ _ _ _ _ _ c.in-Debug.is c.render_report-in-Debug.ensures.text
 
 pub returns-in-Built-Graphical-clause-ok : goal.returns-in-Built-Graphical-clause-ok
 returns-in-Built-Graphical-clause-ok g c =
