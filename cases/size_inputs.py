@@ -66,6 +66,14 @@ JOINED = {
     "flags": "🇫🇷".encode(),
     "Khmer": "ក".encode(),
 }
+# Characters that take no columns, on a whole line.
+FAINT = {
+    "marks": "\u0301".encode(),
+    "selectors": "\ufe0f".encode(),
+    "joiners": "\u200d".encode(),
+    "tags": "\U000e0061".encode(),
+    "vowels of Hangul": "\u1161".encode(),
+}
 WORDS = "alpha beta-gamma delta "
 
 
@@ -257,7 +265,7 @@ def long_lines():
         if kind != "FF":
             sizes = doubled(1_000, 64_000)
             yield Family(f"labels on {kind}", labels_on(unit), sizes, (8_000,), TOLD)
-    for kind, unit in JOINED.items():
+    for kind, unit in (JOINED | FAINT).items():
         sizes = doubled(1_000, 64_000)
         yield Family(f"labels on {kind}", labels_on(unit), sizes, (1_000,), (NARRATED,))
     sizes = (10_000_000, 100_000_000)

@@ -50,17 +50,17 @@ nonzero left h = ne_eqb left 0 (λ e. omega arith)
 pub begun_more : (left code size : ℕ) (cs : List Character) → 0 < left → begun left (made code size ∷ cs) ≡ code ∷ begun (left - size) cs
 begun_more left code size cs h = rw (nonzero left h) refl
 
-boundary_more : (left code size : ℕ) (cs : List Character) → 0 < left → size ≤ left → is_boundary left (made code size ∷ cs) ≡ is_boundary (left - size) cs
+pub boundary_more : (left code size : ℕ) (cs : List Character) → 0 < left → size ≤ left → is_boundary left (made code size ∷ cs) ≡ is_boundary (left - size) cs
 boundary_more left code size cs h k = rw (nonzero left h, le-ltb left size k) refl
 
-boundary_inside : (left code size : ℕ) (cs : List Character) → 0 < left → left < size → is_boundary left (made code size ∷ cs) ≡ false
+pub boundary_inside : (left code size : ℕ) (cs : List Character) → 0 < left → left < size → is_boundary left (made code size ∷ cs) ≡ false
 boundary_inside left code size cs h k = rw (nonzero left h, lt-ltb left size k) refl
 
 pub begun_zero : (cs : List Character) → begun 0 cs ≡ []
 begun_zero [] = refl
 begun_zero (c ∷ cs) = refl
 
-boundary_zero : (cs : List Character) → is_boundary 0 cs ≡ true
+pub boundary_zero : (cs : List Character) → is_boundary 0 cs ≡ true
 boundary_zero [] = refl
 boundary_zero (c ∷ cs) = refl
 

@@ -6,6 +6,8 @@ pub mod Parted
 pub mod Held
 pub mod Flags
 pub mod Placed
+pub mod Faint
+pub mod Running
 pub mod PlainColumns
 pub mod Sweeps
 pub mod Ends

@@ -96,7 +96,7 @@ odd_listed c h =
     let both = zip_stepped (λ k j. j || not (is_odd_kind k)) kind (in_ranges joining_ranges) kind_stepped (of_ranges joining_ranges refl) in
     from_not (is_odd_kind (kind c)) (subst (λ j. (j || not (is_odd_kind (kind c))) ≡ true) (sym (joining_ranged c) ∙ h) (Stepped-everywhere _ both refl c))
 
-width_high : (c : ℕ) → 0xA0 < c → width_of c ≡ (alone false c).0
+pub width_high : (c : ℕ) → 0xA0 < c → width_of c ≡ (alone false c).0
 unfolding char_width
 width_high c h = rw (le-ltb c 0x7F (omega arith), le-leb 0xA0 c (omega arith)) refl
 

@@ -9,11 +9,13 @@ ghost use Rattle.std.specs.List.{All};
 ghost use Rattle.miette_narrated.specs.steps.Ends.{labels_of};
 ghost use Rattle.miette_narrated.specs.views.Made.{told_of, all_told, shown_of};
 ghost use Rattle.miette_narrated.specs.steps.Places.{IsPlace};
+ghost use Rattle.miette_narrated.specs.steps.Runs.{IsRun};
 
 use crate::columns::column;
 use crate::label_order::Ranked;
 use crate::line_text::LineText;
 use crate::places::{Place, places};
+use crate::runs::{Run, runs};
 use crate::shown::ShownLine;
 use crate::words::push_number;
 use miette_lines::drawn_labels::text_of;
@@ -215,18 +217,22 @@ fn push_label(
     Ok(())
 }
 
-// Places in a line's text for the columns of so many labels: none where each byte is a column, and none for one label.
+// Places and runs in a line's text for the columns of so many labels: none where each byte is a column, and none for
+// one label.
 fn places_for(
     alloc: Global,
     text: LineText<'_, '_>,
     labels: usize,
-) -> Result<Vec<Place>, AllocError>
-    ensures { IfOk result (λ made. All (IsPlace text.entry.bytes.now) made.items) }
+) -> Result<(Vec<Place>, Vec<Run>), AllocError>
+    ensures places { IfOk result (λ made. All (IsPlace text.entry.bytes.now) made.0.items) }
+    ensures runs { IfOk result (λ made. All (IsRun text.entry.bytes.now) made.1.items) }
 {
     if text.is_plain || labels < 2 {
-        return Ok(Vec::new(alloc));
+        return Ok((Vec::new(alloc), Vec::new(alloc)));
     }
-    places(alloc, text.bytes)
+    let places = places(alloc, text.bytes)?;
+    let runs = runs(alloc, text.bytes, &places)?;
+    Ok((places, runs))
 }
 
 // The rows of labels under a line, in order, from the line with the places of its text.
@@ -257,8 +263,8 @@ pub(crate) fn push_labels(
     ensures { OnOk result (string_bytes out.new
         ≡ string_bytes out.old ++ label_rows (shown_of it.now) (all_told labels.now placed.now)) }
 {
-    let places = places_for(alloc, it.text, placed.len())?;
-    let marked = it.with_places(&places);
+    let (places, runs) = places_for(alloc, it.text, placed.len())?;
+    let marked = it.with_places(&places, &runs);
     push_each(alloc, out, &marked, labels, placed)?;
     Ok(())
 }
@@ -293,8 +299,8 @@ pub(crate) fn push_ended_and_begun(
         ≡ (string_bytes out.old ++ label_rows (shown_of it.now) (all_told labels.now (labels_of ended.now)))
         ++ label_rows (shown_of it.now) (all_told labels.now begun.now)) }
 {
-    let places = places_for(alloc, it.text, ended.len().saturating_add(begun.len()))?;
-    let marked = it.with_places(&places);
+    let (places, runs) = places_for(alloc, it.text, ended.len().saturating_add(begun.len()))?;
+    let marked = it.with_places(&places, &runs);
     push_ended(alloc, out, &marked, labels, ended)?;
     push_each(alloc, out, &marked, labels, begun)?;
     Ok(())

@@ -11,6 +11,7 @@ mod lines;
 mod parting;
 mod places;
 mod report;
+mod runs;
 mod shown;
 mod snippets;
 mod sweeping;

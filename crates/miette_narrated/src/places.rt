@@ -24,8 +24,8 @@ pub(crate) struct Place {
     pub(crate) twice: usize,
 }
 
-// How many bytes lie at least between two places.
-const APART: usize = 64;
+/// How many bytes lie at least between two places.
+pub(crate) const APART: usize = 64;
 
 /// Where a text begins.
 pub(crate) fn start(text: &[u8]) -> Place

@@ -4,9 +4,11 @@ ghost use Rattle.std.specs.Prelude.{◌≡◌};
 ghost use Rattle.std.specs.List.{All};
 ghost use Rattle.miette_narrated.specs.views.Made.{shown_of};
 ghost use Rattle.miette_narrated.specs.steps.Places.{IsPlace};
+ghost use Rattle.miette_narrated.specs.steps.Runs.{IsRun};
 
 use crate::line_text::LineText;
 use crate::places::Place;
+use crate::runs::Run;
 use miette_lines::text_line::LineOfText;
 
 /// A line of a snippet: where it lies, its number, whether it is the snippet's last, where the snippet's data end,
@@ -21,9 +23,10 @@ pub(crate) struct ShownLine<'a, 'p> {
 }
 
 impl<'a, 'p> ShownLine<'a, 'p> {
-    /// The same line, with places of its text from which a walk over its characters may go on.
-    pub(crate) fn with_places<'q>(&self, places: &'q [Place]) -> ShownLine<'a, 'q>
-        requires { All (IsPlace self.now.text.bytes.now) places.now }
+    /// The same line, with places of its text from which a walk over its characters may go on, and runs.
+    pub(crate) fn with_places<'q>(&self, places: &'q [Place], runs: &'q [Run]) -> ShownLine<'a, 'q>
+        requires places { All (IsPlace self.now.text.bytes.now) places.now }
+        requires runs { All (IsRun self.now.text.bytes.now) runs.now }
         ensures { shown_of result ≡ shown_of self.now }
     {
         ShownLine {
@@ -31,7 +34,7 @@ impl<'a, 'p> ShownLine<'a, 'p> {
             number: self.number,
             is_last: self.is_last,
             data_end: self.data_end,
-            text: self.text.with_places(places),
+            text: self.text.with_places(places, runs),
         }
     }
 }
