@@ -134,214 +134,171 @@ impl MietteHandlerOpts {
 
 impl<H: Highlighter> MietteHandlerOpts<H> {
     /// Whether a url becomes a link around the code, or a text behind it; else as the terminal shows links.
-    pub fn terminal_links(self, links: bool) -> Self
+    pub fn terminal_links(mut self, links: bool) -> Self
         ensures { result ≡ record self { links = Some links } }
     {
-        MietteHandlerOpts {
-            links: Some(links),
-            ..self
-        }
+        self.links = Some(links);
+        self
     }
 
     /// Pictures are drawn with this theme, whatever is said of colours and characters.
-    pub fn graphical_theme(self, theme: GraphicalTheme) -> Self
+    pub fn graphical_theme(mut self, theme: GraphicalTheme) -> Self
         ensures { result ≡ record self { theme = Some (theme_of theme) } }
     {
-        MietteHandlerOpts {
-            theme: Some(theme),
-            ..self
-        }
+        self.theme = Some(theme);
+        self
     }
 
     /// Styles the lines of sources in pictures by this highlighter, where pictures have colours.
-    pub fn with_syntax_highlighting(self, highlighter: H) -> Self
+    pub fn with_syntax_highlighting(mut self, highlighter: H) -> Self
         ensures { result ≡ record self { highlighter = Some highlighter } }
     {
-        MietteHandlerOpts {
-            highlighter: Some(highlighter),
-            ..self
-        }
+        self.highlighter = Some(highlighter);
+        self
     }
 
     /// Leaves the lines of sources plain.
-    pub fn without_syntax_highlighting(self) -> Self
+    pub fn without_syntax_highlighting(mut self) -> Self
         ensures { result ≡ record self { highlighter = None } }
     {
-        let highlighter = None;
-        MietteHandlerOpts {
-            highlighter,
-            ..self
-        }
+        self.highlighter = None;
+        self
     }
 
     /// How many columns a wrapped row may have; else as many as the terminal has, or 80.
-    pub fn width(self, width: usize) -> Self
+    pub fn width(mut self, width: usize) -> Self
         ensures { result ≡ record self { width = Some width } }
     {
-        MietteHandlerOpts {
-            width: Some(width),
-            ..self
-        }
+        self.width = Some(width);
+        self
     }
 
     /// Whether rows are wrapped to the width.
-    pub fn wrap_lines(self, wrap_lines: bool) -> Self
+    pub fn wrap_lines(mut self, wrap_lines: bool) -> Self
         ensures { result ≡ record self { wraps = Some wrap_lines } }
     {
-        MietteHandlerOpts {
-            wrap_lines: Some(wrap_lines),
-            ..self
-        }
+        self.wrap_lines = Some(wrap_lines);
+        self
     }
 
     /// Whether a word that is wider than its row is broken.
-    pub fn break_words(self, break_words: bool) -> Self
+    pub fn break_words(mut self, break_words: bool) -> Self
         ensures { result ≡ record self { breaks = Some break_words } }
     {
-        MietteHandlerOpts {
-            break_words: Some(break_words),
-            ..self
-        }
+        self.break_words = Some(break_words);
+        self
     }
 
     /// How words are told apart. There is one way.
-    pub fn word_separator(self, word_separator: WordSeparator) -> Self
+    pub fn word_separator(mut self, word_separator: WordSeparator) -> Self
         ensures { result ≡ self }
     {
-        MietteHandlerOpts {
-            word_separator: Some(word_separator),
-            ..self
-        }
+        self.word_separator = Some(word_separator);
+        self
     }
 
     /// Where words may be cut.
-    pub fn word_splitter(self, word_splitter: WordSplitter) -> Self
+    pub fn word_splitter(mut self, word_splitter: WordSplitter) -> Self
         ensures { result ≡ record self { hyphens = Some (splits word_splitter) } }
     {
-        MietteHandlerOpts {
-            word_splitter: Some(word_splitter),
-            ..self
-        }
+        self.word_splitter = Some(word_splitter);
+        self
     }
 
     /// The causes of the report are shown, by either handler.
-    pub fn with_cause_chain(self) -> Self
+    pub fn with_cause_chain(mut self) -> Self
         ensures { result ≡ record self { chain = Some true } }
     {
-        MietteHandlerOpts {
-            cause_chain: Some(true),
-            ..self
-        }
+        self.cause_chain = Some(true);
+        self
     }
 
     /// The causes of the report are not shown, by either handler.
-    pub fn without_cause_chain(self) -> Self
+    pub fn without_cause_chain(mut self) -> Self
         ensures { result ≡ record self { chain = Some false } }
     {
-        MietteHandlerOpts {
-            cause_chain: Some(false),
-            ..self
-        }
+        self.cause_chain = Some(false);
+        self
     }
 
     /// Related reports stand one after another.
-    pub fn show_related_errors_as_siblings(self) -> Self
+    pub fn show_related_errors_as_siblings(mut self) -> Self
         ensures { result ≡ record self { nested = Some false } }
     {
-        MietteHandlerOpts {
-            related_as_nested: Some(false),
-            ..self
-        }
+        self.related_as_nested = Some(false);
+        self
     }
 
     /// Related reports stand under arrows, as causes do.
-    pub fn show_related_errors_as_nested(self) -> Self
+    pub fn show_related_errors_as_nested(mut self) -> Self
         ensures { result ≡ record self { nested = Some true } }
     {
-        MietteHandlerOpts {
-            related_as_nested: Some(true),
-            ..self
-        }
+        self.related_as_nested = Some(true);
+        self
     }
 
     /// Whether pictures have colours, whatever the terminal has; else where it has some.
-    pub fn color(self, color: bool) -> Self
+    pub fn color(mut self, color: bool) -> Self
         ensures { result ≡ record self { color = Some color } }
     {
-        MietteHandlerOpts {
-            color: Some(color),
-            ..self
-        }
+        self.color = Some(color);
+        self
     }
 
     /// Which colours pictures have, where they have any.
-    pub fn rgb_colors(self, colors: RgbColors) -> Self
+    pub fn rgb_colors(mut self, colors: RgbColors) -> Self
         ensures { result ≡ record self { rgb = colors } }
     {
-        MietteHandlerOpts {
-            rgb_colors: colors,
-            ..self
-        }
+        self.rgb_colors = colors;
+        self
     }
 
     /// Whether pictures have characters of Unicode, or of ASCII alone; else as the terminal draws them.
-    pub fn unicode(self, unicode: bool) -> Self
+    pub fn unicode(mut self, unicode: bool) -> Self
         ensures { result ≡ record self { unicode = Some unicode } }
     {
-        MietteHandlerOpts {
-            unicode: Some(unicode),
-            ..self
-        }
+        self.unicode = Some(unicode);
+        self
     }
 
     /// Whether reports are pictures or narrated, whatever the terminal's user says of graphics.
-    pub fn force_graphical(self, force: bool) -> Self
+    pub fn force_graphical(mut self, force: bool) -> Self
         ensures { result ≡ record self { graphical = Some force } }
     {
-        MietteHandlerOpts {
-            force_graphical: Some(force),
-            ..self
-        }
+        self.force_graphical = Some(force);
+        self
     }
 
     /// Whether reports are narrated or pictures. This counts before all else that is said of it.
-    pub fn force_narrated(self, force: bool) -> Self
+    pub fn force_narrated(mut self, force: bool) -> Self
         ensures { result ≡ record self { narrated = Some force } }
     {
-        MietteHandlerOpts {
-            force_narrated: Some(force),
-            ..self
-        }
+        self.force_narrated = Some(force);
+        self
     }
 
     /// A text under each outermost report, by either handler.
-    pub fn footer(self, footer: String) -> Self
+    pub fn footer(mut self, footer: String) -> Self
         ensures { result ≡ record self { footer = Some (string_bytes footer) } }
     {
-        MietteHandlerOpts {
-            footer: Some(footer),
-            ..self
-        }
+        self.footer = Some(footer);
+        self
     }
 
     /// How many lines of context are shown around a label that has no number of its own, by either handler.
-    pub fn context_lines(self, lines: usize) -> Self
+    pub fn context_lines(mut self, lines: usize) -> Self
         ensures { result ≡ record self { context = Some lines } }
     {
-        MietteHandlerOpts {
-            context_lines: Some(lines),
-            ..self
-        }
+        self.context_lines = Some(lines);
+        self
     }
 
     /// Tabs go on to the next multiple of so many columns. At least 1 is the caller's condition.
-    pub fn tab_width(self, width: usize) -> Self
+    pub fn tab_width(mut self, width: usize) -> Self
         requires { 1 ≤ width }
         ensures { result ≡ record self { tab = Some width } }
     {
-        MietteHandlerOpts {
-            tab_width: Some(width),
-            ..self
-        }
+        self.tab_width = Some(width);
+        self
     }
 }

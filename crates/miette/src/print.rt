@@ -3,6 +3,7 @@
 ghost use Rattle.std.specs.Prelude.{◌≡◌, ◌⊎◌, OnOk, OnErr};
 ghost use Rattle.std.specs.Process.{exit_status};
 ghost use Rattle.miette_tree.specs.views.Report.{tree_of};
+ghost use Rattle.miette.specs.declared.print.PrintError.TheVariants.{Memory};
 ghost use Rattle.miette.specs.rules.Options.{no_options};
 ghost use Rattle.miette.specs.rules.Printed.{IsPrinted, WritesOne};
 
@@ -42,9 +43,6 @@ impl fmt::Display for PrintError {
 }
 
 impl From<AllocError> for PrintError {
-    ghost use Rattle.std.specs.Prelude.{◌≡◌};
-    ghost use Rattle.miette.specs.declared.print.PrintError.TheVariants.{Memory};
-
     ghost from_gives = { λ _ it. it ≡ Memory };
 
     fn from(_: AllocError) -> Self {

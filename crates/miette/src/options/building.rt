@@ -12,6 +12,32 @@ use miette_style::highlight::Highlighter;
 use miette_style::theme::{GraphicalTheme, ThemeCharacters, ThemeStyles};
 use std::alloc::{AllocError, Global};
 
+/// A handler of either kind with the causes, the context and the footer of options.
+macro_rules! with_parts {
+    ($handler:expr, $options:expr) => {{
+        let MietteHandlerOpts {
+            cause_chain,
+            context_lines,
+            footer,
+            ..
+        } = $options;
+        let handler = $handler;
+        let handler = match cause_chain {
+            Some(true) => handler.with_cause_chain(),
+            Some(false) => handler.without_cause_chain(),
+            None => handler,
+        };
+        let handler = match context_lines {
+            Some(lines) => handler.with_context_lines(lines),
+            None => handler,
+        };
+        match footer {
+            Some(footer) => handler.with_footer(footer),
+            None => handler,
+        }
+    }};
+}
+
 impl<H: Highlighter> MietteHandlerOpts<H> {
     /// The handler that these options and a terminal choose. What isn't set stays as the handler has it.
     ///
@@ -62,26 +88,7 @@ impl<H: Highlighter> MietteHandlerOpts<H> {
     fn narrated_handler(self) -> NarratableReportHandler
         ensures { result ≡ told self }
     {
-        let MietteHandlerOpts {
-            cause_chain,
-            context_lines,
-            footer,
-            ..
-        } = self;
-        let handler = NarratableReportHandler::new();
-        let handler = match cause_chain {
-            Some(true) => handler.with_cause_chain(),
-            Some(false) => handler.without_cause_chain(),
-            None => handler,
-        };
-        let handler = match context_lines {
-            Some(lines) => handler.with_context_lines(lines),
-            None => handler,
-        };
-        match footer {
-            Some(footer) => handler.with_footer(footer),
-            None => handler,
-        }
+        with_parts!(NarratableReportHandler::new(), self)
     }
 
     /// The theme that was set, which is then taken out, or the one that fits.
@@ -228,25 +235,7 @@ impl<H: Highlighter> MietteHandlerOpts<H> {
           };
         } }
     {
-        let MietteHandlerOpts {
-            cause_chain,
-            context_lines,
-            footer,
-            ..
-        } = self;
-        let handler = match cause_chain {
-            Some(true) => handler.with_cause_chain(),
-            Some(false) => handler.without_cause_chain(),
-            None => handler,
-        };
-        let handler = match context_lines {
-            Some(lines) => handler.with_context_lines(lines),
-            None => handler,
-        };
-        match footer {
-            Some(footer) => handler.with_footer(footer),
-            None => handler,
-        }
+        with_parts!(handler, self)
     }
 }
 
