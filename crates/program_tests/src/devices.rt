@@ -3,9 +3,12 @@ ghost use Rattle.std.specs.Prelude.{Some};
 
 use miette_report::device::Device;
 use miette_report::fault::Fault;
+use miette_report::job::{JobError, Settings, job_with, run};
 use miette_report::whole::{read_whole, write_whole};
+use std::alloc::{AllocError, Global};
 use std::io;
 use std::io::{ErrorKind, Read, Write};
+use std::process::Abort;
 use std::test::Fail;
 
 /// Takes so many bytes, at most so many a call, and then answers an error, or takes nothing.
@@ -134,5 +137,152 @@ fn a_device_that_fails_leaves_a_beginning(rt: HostRuntime) -> Result<(), Fail> {
         }
         assert_eq!(rt; reader.failed(), fails_in < 4);
     }
+    Ok(())
+}
+
+const SMALL: &str = "{\"message\":\"m\"}";
+
+const SMALL_TEXT: &str =
+    "{\"message\": \"m\",\"severity\": \"error\",\"causes\": [],\"labels\": [],\"related\": []}";
+
+const LABELLED: &str =
+    "{\"message\":\"漢\",\"source\":{\"text\":\"a\\nb\"},\"labels\":[{\"offset\":2,\"length\":1,\"label\":\"x\"}]}";
+
+/// A job: its words and its description.
+type Job<'a> = (&'a [&'a str], &'a str);
+
+/// The smallest description as JSON.
+const AS_JSON: Job<'static> = (&["--json"], SMALL);
+
+fn words_of(alloc: Global, words: &[&str]) -> Result<Vec<String>, AllocError> {
+    let mut list = Vec::new(alloc);
+    for word in words {
+        list.push(String::from_str(alloc, word)?)?;
+    }
+    Ok(list)
+}
+
+/// A writer with room for so many bytes, at most so many a call.
+fn with_room(alloc: Global, (room, at_once, errs): (usize, usize, bool)) -> Limited {
+    Limited {
+        held: Vec::new(alloc),
+        room,
+        at_once,
+        errs,
+    }
+}
+
+/// What a job leaves: its status, the text of its fault, and what the writer took.
+fn job_over(
+    alloc: Global,
+    (words, description): Job<'_>,
+    mut writer: Limited,
+    fails_in: usize,
+) -> Result<(u8, Vec<u8>, Vec<u8>), AllocError> {
+    let words = words_of(alloc, words)?;
+    let reader = Slow {
+        rest: description.as_bytes(),
+        fails_in,
+    };
+    let mut faults = Vec::new(alloc);
+    let status = job_with(alloc, words.as_slice(), reader, &mut writer, &mut faults);
+    Ok((status, faults, writer.held))
+}
+
+/// With room for so many bytes of the text the writer holds these in the end, and a job that isn't done says so.
+fn leaves_a_beginning(
+    rt: &impl Abort,
+    alloc: Global,
+    (job, text): (Job<'_>, &[u8]),
+    (room, errs): (usize, bool),
+) -> Result<(), Fail> {
+    let writer = with_room(alloc, (room, 1, errs));
+    let (status, faults, held) = job_over(alloc, job, writer, 999)?;
+    let wanted = if room < text.len() {
+        (1, "job: write fault\n")
+    } else {
+        (0, "")
+    };
+    assert_eq!(rt; status, wanted.0, "{job:?} {room}");
+    assert_eq!(rt; faults.as_slice(), wanted.1.as_bytes(), "{job:?} {room}");
+    assert_eq!(rt; Some(held.as_slice()), text.get(..room), "{job:?} {room}");
+    Ok(())
+}
+
+#[test]
+fn a_job_over_a_writer_that_fails(rt: HostRuntime) -> Result<(), Fail> {
+    let alloc = rt.alloc();
+    let chosen: [&[&str]; 5] = [
+        &["--term-unicode", "yes"],
+        &["--theme", "unicode"],
+        &["--narrated"],
+        &["--json"],
+        &["--debug"],
+    ];
+    for words in chosen {
+        let job = (words, LABELLED);
+        let (status, faults, text) = job_over(alloc, job, with_room(alloc, (999, 99, true)), 999)?;
+        assert_eq!(rt; status, 0, "{words:?}");
+        assert_eq!(rt; faults.len(), 0, "{words:?}");
+        for room in 0..=text.len() {
+            for errs in [false, true] {
+                leaves_a_beginning(&rt, alloc, (job, text.as_slice()), (room, errs))?;
+            }
+        }
+    }
+    Ok(())
+}
+
+#[test]
+fn a_job_over_a_reader_that_fails(rt: HostRuntime) -> Result<(), Fail> {
+    let alloc = rt.alloc();
+    for fails_in in 0..=SMALL.len() {
+        let writer = with_room(alloc, (99, 99, true));
+        let (status, faults, held) = job_over(alloc, AS_JSON, writer, fails_in)?;
+        assert_eq!(rt; status, 1, "{fails_in}");
+        assert_eq!(rt; faults.as_slice(), b"job: read fault\n".as_slice());
+        assert_eq!(rt; held.len(), 0, "{fails_in}");
+    }
+    Ok(())
+}
+
+fn json(alloc: Global) -> Result<Settings, Fail> {
+    let words = words_of(alloc, &["--json"])?;
+    match Settings::read(alloc, words.as_slice()) {
+        Ok(settings) => Ok(settings),
+        Err(_) => Err(Fail::new("no settings")),
+    }
+}
+
+#[test]
+fn a_run_marks_a_writer_that_fails(rt: HostRuntime) -> Result<(), Fail> {
+    let alloc = rt.alloc();
+    for room in 0..=SMALL_TEXT.len() {
+        for errs in [false, true] {
+            let mut reader = Device::new(SMALL.as_bytes());
+            let mut writer = Device::new(with_room(alloc, (room, 9, errs)));
+            let answer = run(alloc, &mut reader, &mut writer, json(alloc)?);
+            assert_eq!(rt; answer.is_ok(), room == SMALL_TEXT.len());
+            assert_eq!(rt; writer.failed(), room < SMALL_TEXT.len());
+            let held = writer.into_inner().held;
+            assert_eq!(rt; Some(held.as_slice()), SMALL_TEXT.as_bytes().get(..room));
+        }
+    }
+    Ok(())
+}
+
+#[test]
+fn a_run_marks_a_reader_that_fails(rt: HostRuntime) -> Result<(), Fail> {
+    let alloc = rt.alloc();
+    let mut reader = Device::new(Slow {
+        rest: SMALL.as_bytes(),
+        fails_in: 1,
+    });
+    let mut writer = Device::new(Vec::new(alloc));
+    let answer = run(alloc, &mut reader, &mut writer, json(alloc)?);
+    assert_eq!(rt; answer, Err(JobError::Read));
+    assert!(rt; reader.failed());
+    assert!(rt; !writer.failed());
+    assert_eq!(rt; writer.into_inner().len(), 0);
     Ok(())
 }

@@ -1,27 +1,48 @@
-use miette_report::words::number;
+//! The words of programs as a caller reads them, and programs whose words could not be had.
+
+use miette_report::draw::DrawWords;
+use miette_report::words::WordsFault;
+use miette_report::{bench, draw, job, lint};
+use std::process::Abort;
+use std::test::Fail;
+
+/// A program ended with this status and this row.
+fn ended(rt: &impl Abort, (status, row): (u8, &[u8]), wanted: (u8, &str)) {
+    assert_eq!(rt; status, wanted.0);
+    assert_eq!(rt; row, wanted.1.as_bytes());
+}
 
 #[test]
-fn reads_numbers(rt: HostRuntime) {
-    let rows = [
-        ("0", Some(0)),
-        ("007", Some(7)),
-        ("18446744073709551615", Some(usize::MAX)),
-        (
-            "00000000000000000000018446744073709551615",
-            Some(usize::MAX),
-        ),
-        ("18446744073709551616", None),
-        ("99999999999999999999999", None),
-        ("", None),
-        ("+1", None),
-        ("-1", None),
-        (" 1", None),
-        ("1 ", None),
-        ("1_000", None),
-        ("0x1", None),
-        ("１", None),
-    ];
-    for (word, wanted) in rows {
-        assert_eq!(rt; number(word), wanted, "{word}");
+fn no_memory_for_the_words(rt: HostRuntime) -> Result<(), Fail> {
+    let mut row = Vec::new(rt.alloc());
+    let status = draw::refuse_words(WordsFault::Memory, &mut row);
+    ended(&rt, (status, row.as_slice()), (1, "draw: out of memory\n"));
+    row.clear();
+    let status = job::refuse_words(job::WordsFault::Memory, &mut row);
+    ended(&rt, (status, row.as_slice()), (1, "job: out of memory\n"));
+    row.clear();
+    let status = bench::refuse_words(WordsFault::Memory, &mut row);
+    ended(&rt, (status, row.as_slice()), (1, "bench: out of memory\n"));
+    row.clear();
+    let status = lint::refuse_words(WordsFault::Memory, &mut row);
+    ended(&rt, (status, row.as_slice()), (2, "lint: out of memory\n"));
+    Ok(())
+}
+
+#[test]
+fn five_words_are_read(rt: HostRuntime) -> Result<(), Fail> {
+    let alloc = rt.alloc();
+    let mut words = Vec::new(alloc);
+    for word in ["f", "09", "4", "", "m"] {
+        words.push(String::from_str(alloc, word)?)?;
     }
+    let wanted = DrawWords {
+        name: "f",
+        offset: 9,
+        length: 4,
+        label: "",
+        message: "m",
+    };
+    assert_eq!(rt; DrawWords::read(words.as_slice()), Some(wanted));
+    Ok(())
 }

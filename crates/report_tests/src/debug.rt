@@ -1,11 +1,10 @@
-//! Debug reports.
+//! Debug reports by calls. More of them, by `job`, stand in `cases/worked.jsonl`.
 
-use crate::written::{M, Written, over, report_of, saying, told_why};
+use crate::written::{M, Written, report_of, told_why};
 use miette::handlers::{DebugReportHandler, ReportHandler};
 use miette::protocol::Severity;
 use miette::report::Report;
 use std::alloc::Global;
-use std::process::Abort;
 use std::test::Fail;
 
 /// The report's text behind what was there.
@@ -13,32 +12,6 @@ fn told(alloc: Global, before: &str, report: &Report) -> Result<String, Fail> {
     let mut out = String::from_str(alloc, before)?;
     DebugReportHandler::new().render_report(report, &mut out)?;
     Ok(out)
-}
-
-fn tells(
-    rt: &impl Abort,
-    alloc: Global,
-    before: &str,
-    report: &Report,
-    wanted: &str,
-) -> Result<(), Fail> {
-    let out = told(alloc, before, report)?;
-    assert_eq!(rt; out.as_str(), wanted);
-    Ok(())
-}
-
-#[test]
-fn fields(rt: HostRuntime) -> Result<(), Fail> {
-    let outer = Written {
-        code: "c",
-        severity: Some(Severity::Warning),
-        ..M
-    };
-    let alloc = rt.alloc();
-    let report = over(alloc, &outer, &[saying("b")])?;
-    let wanted =
-        "Diagnostic { message: \"m\", code: \"c\", severity: \"Warning\", caused by: \"b\" }\n";
-    tells(&rt, alloc, "", &report, wanted)
 }
 
 /// What the handler gives as a `ReportHandler`.
@@ -73,5 +46,7 @@ fn behind_a_text(rt: HostRuntime) -> Result<(), Fail> {
     let alloc = rt.alloc();
     let report = report_of(alloc, &advice)?;
     let wanted = "> Diagnostic { message: \"m\", severity: \"Advice\", url: \"u\", help: \"h\" }\n";
-    tells(&rt, alloc, "> ", &report, wanted)
+    let out = told(alloc, "> ", &report)?;
+    assert_eq!(rt; out.as_str(), wanted);
+    Ok(())
 }

@@ -1,6 +1,5 @@
 //! What the graphical handler draws.
 
-use crate::written::{Written, over, related, report_of};
 use miette::handlers::GraphicalReportHandler;
 use miette::report::Report;
 use miette::theme::GraphicalTheme;
@@ -12,7 +11,6 @@ use std::test::Fail;
 pub(crate) enum Theme {
     Plain,
     Ascii,
-    Coloured,
 }
 
 /// How a report is drawn.
@@ -38,7 +36,6 @@ fn theme_of(alloc: Global, theme: Theme) -> Result<GraphicalTheme, Fail> {
     match theme {
         Theme::Plain => Ok(GraphicalTheme::unicode_nocolor(alloc)?),
         Theme::Ascii => Ok(GraphicalTheme::none(alloc)?),
-        Theme::Coloured => Ok(GraphicalTheme::unicode(alloc)?),
     }
 }
 
@@ -76,42 +73,4 @@ pub(crate) fn draws(
     let out = told(alloc, handler, report)?;
     assert_eq!(rt; out.as_str(), wanted);
     Ok(())
-}
-
-/// The report that is written is drawn so.
-pub(crate) fn is_drawn(
-    rt: &impl Abort,
-    alloc: Global,
-    asked: Asked,
-    written: &Written<'_>,
-    wanted: &str,
-) -> Result<(), Fail> {
-    let report = report_of(alloc, written)?;
-    draws(rt, alloc, handler_of(alloc, asked)?, &report, wanted)
-}
-
-/// The report that is written, with these causes one below the other, is drawn so in plain characters.
-pub(crate) fn is_drawn_over(
-    rt: &impl Abort,
-    alloc: Global,
-    width: usize,
-    (written, causes): (&Written<'_>, &[Written<'_>]),
-    wanted: &str,
-) -> Result<(), Fail> {
-    let report = over(alloc, written, causes)?;
-    let handler = handler_of(alloc, Asked { width, ..PLAIN })?;
-    draws(rt, alloc, handler, &report, wanted)
-}
-
-/// The report that is written, with these related reports, is drawn so in plain characters.
-pub(crate) fn is_drawn_beside(
-    rt: &impl Abort,
-    alloc: Global,
-    nested: bool,
-    (written, reports): (&Written<'_>, &[Written<'_>]),
-    wanted: &str,
-) -> Result<(), Fail> {
-    let report = related(alloc, report_of(alloc, written)?, reports)?;
-    let handler = handler_of(alloc, Asked { nested, ..PLAIN })?;
-    draws(rt, alloc, handler, &report, wanted)
 }

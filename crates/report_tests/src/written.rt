@@ -56,32 +56,6 @@ pub(crate) fn caused(alloc: Global, report: Report, cause: Report) -> Result<Rep
     }
 }
 
-fn put_over(alloc: Global, report: Report, below: Option<Report>) -> Result<Report, Fail> {
-    match below {
-        Some(cause) => caused(alloc, report, cause),
-        None => Ok(report),
-    }
-}
-
-fn chained(alloc: Global, reports: &[Written<'_>]) -> Result<Option<Report>, Fail> {
-    let mut below = None;
-    for written in reports.iter().rev() {
-        let report = report_of(alloc, written)?;
-        below = Some(put_over(alloc, report, below)?);
-    }
-    Ok(below)
-}
-
-/// The report that is written, with these causes one below the other.
-pub(crate) fn over(
-    alloc: Global,
-    written: &Written<'_>,
-    causes: &[Written<'_>],
-) -> Result<Report, Fail> {
-    let below = chained(alloc, causes)?;
-    put_over(alloc, report_of(alloc, written)?, below)
-}
-
 /// The report with these texts as its cause.
 pub(crate) fn told_why(alloc: Global, report: Report, texts: &[&str]) -> Result<Report, Fail> {
     let mut list = Vec::new(alloc);

@@ -1,14 +1,14 @@
 //! Reports whose source lines a highlighter styles.
 
-use miette_handlers::handlers::GraphicalReportHandler;
-use miette_protocol::diagnostic::MietteDiagnostic;
-use miette_protocol::error::RenderError;
-use miette_protocol::protocol::LabeledSpan;
-use miette_protocol::source::MietteSpanContents;
-use miette_style::highlight::{BlankHighlighter, Highlighter};
-use miette_style::style::{Color, Style};
-use miette_style::theme::GraphicalTheme;
-use miette_tree::report::{OwnedSource, Report};
+use miette::diagnostic::MietteDiagnostic;
+use miette::error::RenderError;
+use miette::handlers::GraphicalReportHandler;
+use miette::highlight::{BlankHighlighter, Highlighter};
+use miette::protocol::LabeledSpan;
+use miette::report::{OwnedSource, Report};
+use miette::source::MietteSpanContents;
+use miette::style::{Color, Style};
+use miette::theme::GraphicalTheme;
 use std::alloc::{AllocError, Global};
 use std::test::Fail;
 
@@ -50,7 +50,7 @@ impl Highlighter for Wanting {
 }
 
 /// The message `m` with a label on the first byte of `ab`.
-fn report(alloc: Global) -> Result<Report, AllocError> {
+pub(crate) fn labelled(alloc: Global) -> Result<Report, AllocError> {
     let label = LabeledSpan::new(None, 0, 1);
     let diagnostic = MietteDiagnostic::new(alloc, "m")?.with_label(alloc, label)?;
     let source = OwnedSource::new(alloc, b"ab".to_vec(alloc)?)?;
@@ -62,7 +62,7 @@ const PLAIN: &str = "  × m\n   ╭────\n 1 │ ab\n   · ─\n   ╰─
 #[test]
 fn pieces_are_styled(rt: HostRuntime) -> Result<(), Fail> {
     let alloc = rt.alloc();
-    let report = report(alloc)?;
+    let report = labelled(alloc)?;
     let theme = GraphicalTheme::unicode_nocolor(alloc)?;
     let mut handler = GraphicalReportHandler::new_themed(theme).with_syntax_highlighting(Box::new(
         alloc, FirstRed,
@@ -89,7 +89,7 @@ fn a_blank_highlighter_is_as_none(rt: HostRuntime) -> Result<(), Fail> {
         BlankHighlighter,
     )?);
     let mut out = String::new(alloc);
-    handler.render_report(&report(alloc)?, &mut out)?;
+    handler.render_report(&labelled(alloc)?, &mut out)?;
     assert_eq!(rt; out.as_str(), PLAIN);
     Ok(())
 }
@@ -104,7 +104,7 @@ fn want_of_memory_of_the_highlighter(rt: HostRuntime) -> Result<(), Fail> {
     let mut out = String::from_str(alloc, "before")?;
     assert!(rt;
         matches!(
-            handler.render_report(&report(alloc)?, &mut out),
+            handler.render_report(&labelled(alloc)?, &mut out),
             Err(RenderError::Memory)
         )
     );

@@ -18,10 +18,10 @@ use std::test::Fail;
 
 /// Reads spans of at most so many bytes, with at least so many lines before.
 #[derive(Drop)]
-struct Stopping {
-    bytes: Vec<u8>,
-    most: usize,
-    before: usize,
+pub(crate) struct Stopping {
+    pub(crate) bytes: Vec<u8>,
+    pub(crate) most: usize,
+    pub(crate) before: usize,
 }
 
 impl SourceCode for Stopping {

@@ -1,14 +1,12 @@
 //! What options and a terminal choose. The words of `job` try each option; here stand the calls that it doesn't make.
 
-use crate::highlighting::FirstRed;
-use miette::diagnostic::MietteDiagnostic;
+use crate::highlighting::{FirstRed, labelled};
 use miette::handlers::{GraphicalReportHandler, ReportHandler};
 use miette::options::{MietteHandler, MietteHandlerOpts, Terminal};
-use miette::protocol::LabeledSpan;
-use miette::report::{OwnedSource, Report};
+use miette::report::Report;
 use miette::theme::GraphicalTheme;
 use miette::wrap::WordSeparator;
-use std::alloc::{AllocError, Global};
+use std::alloc::Global;
 use std::process::Abort;
 use std::test::Fail;
 
@@ -117,14 +115,6 @@ fn pictures_for_a_terminal(rt: HostRuntime) -> Result<(), Fail> {
     let wanted = "  \u{1b}[31m×\u{1b}[0m m\n";
     assert_eq!(rt; drawn_for(rt.alloc(), &terminal)?.as_str(), wanted);
     Ok(())
-}
-
-/// A label on the first byte of `ab`.
-fn labelled(alloc: Global) -> Result<Report, AllocError> {
-    let label = LabeledSpan::new(None, 0, 1);
-    let made = MietteDiagnostic::new(alloc, "m")?.with_label(alloc, label)?;
-    let source = OwnedSource::new(alloc, b"ab".to_vec(alloc)?)?;
-    Ok(Report::new(made).with_owned_source(source))
 }
 
 /// What the options draw of that label, without a style of a theme.

@@ -1,0 +1,87 @@
+//! What `lint` finds in a source: each label by its text, its offset and its length.
+
+use miette_protocol::protocol::LabeledSpan;
+use miette_report::lint::findings;
+use std::alloc::Global;
+use std::process::Abort;
+use std::test::Fail;
+
+/// A label by its text, its offset and its length.
+type Told<'a> = (&'a str, usize, usize);
+
+fn is_told(label: &LabeledSpan, (text, offset, length): Told<'_>) -> bool {
+    label.label() == Some(text) && label.offset() == offset && label.len() == length
+}
+
+/// These are the labels that are found in a source.
+fn expect(
+    rt: &impl Abort,
+    alloc: Global,
+    (source, width): (&[u8], usize),
+    wanted: &[Told<'_>],
+) -> Result<(), Fail> {
+    let found = findings(alloc, source, width)?;
+    assert_eq!(rt; found.len(), wanted.len(), "{source:?}");
+    for (label, told) in found.iter().zip(wanted) {
+        assert!(rt; is_told(label, *told), "{source:?}");
+    }
+    Ok(())
+}
+
+const TRAILING: &str = "trailing blanks";
+
+const TAB: &str = "tab after space";
+
+const UNENDED: &str = "no final terminator";
+
+#[test]
+fn twenty_sources(rt: HostRuntime) -> Result<(), Fail> {
+    let rows: [((&[u8], usize), &[Told<'_>]); 20] = [
+        (
+            (b"x = 1 \n \ty\nend", 80),
+            &[(TRAILING, 5, 1), (TAB, 8, 1), (UNENDED, 13, 1)],
+        ),
+        (("漢a\n".as_bytes(), 2), &[("wider than 2 columns", 3, 1)]),
+        ((b" \t\n", 80), &[(TRAILING, 0, 2), (TAB, 1, 1)]),
+        ((b"", 0), &[]),
+        ((b"\n\r\r\n", 0), &[]),
+        ((b"a \t b\t \n", 80), &[(TRAILING, 5, 2)]),
+        ((b"\t \ta\n", 80), &[(TAB, 2, 1)]),
+        ((b"  \t\ta\n", 80), &[(TAB, 2, 1)]),
+        ((b"\t a\tb\n", 80), &[]),
+        ((b"x \tb\n", 80), &[]),
+        ((b"\ta\n", 4), &[("wider than 4 columns", 1, 1)]),
+        ((b"\ta\n", 3), &[("wider than 3 columns", 0, 2)]),
+        (
+            (b"abc\rdef\n", 2),
+            &[
+                ("wider than 2 columns", 2, 1),
+                ("wider than 2 columns", 6, 1),
+            ],
+        ),
+        (
+            ("e\u{301}e\u{301}\n".as_bytes(), 1),
+            &[("wider than 1 columns", 3, 3)],
+        ),
+        (("ab漢".as_bytes(), 80), &[(UNENDED, 2, 3)]),
+        ((b"a\xff", 80), &[(UNENDED, 1, 1)]),
+        (
+            (b"a\xe6\xbc", 1),
+            &[("wider than 1 columns", 1, 2), (UNENDED, 1, 2)],
+        ),
+        (
+            (b"a ", 1),
+            &[
+                (TRAILING, 1, 1),
+                ("wider than 1 columns", 1, 1),
+                (UNENDED, 1, 1),
+            ],
+        ),
+        ((b"\x1b[31mab\n", 1), &[("wider than 1 columns", 6, 1)]),
+        ((b"a\r\nb \r\nc", 80), &[(TRAILING, 4, 1), (UNENDED, 7, 1)]),
+    ];
+    for (row, wanted) in rows {
+        expect(&rt, rt.alloc(), row, wanted)?;
+    }
+    Ok(())
+}
