@@ -7,13 +7,7 @@ use std::process::ExitCode;
 
 fn main(rt: HostRuntime) -> ExitCode {
     ExitCode::from(match program_words(&rt) {
-        Ok(words) => lint_with(
-            rt.alloc(),
-            words.as_slice(),
-            rt.stdin(),
-            rt.stdout(),
-            rt.stderr(),
-        ),
+        Ok(words) => lint_with(rt.alloc(), &words, rt.stdin(), rt.stdout(), rt.stderr()),
         Err(fault) => refuse_words(fault, rt.stderr()),
     })
 }
