@@ -2,75 +2,18 @@
 
 ghost use Rattle.std.specs.Prelude.{◌≡◌, ◌+◌, ◌^◌, ◌<◌, length};
 
+use crate::snippets::{OPTIONS, text_of};
 use miette_layout::frame::{Frame, push_bottom_row, push_refused_row, push_top_row};
 use miette_layout::line::push_line_rows;
 use miette_layout::options::LayoutOptions;
 use miette_layout::sheet::{Sheet, ShownLine};
 use miette_lines::sweep::Placed;
 use miette_lines::text_line::LineOfText;
-use miette_page::page::{PLAIN, Page, Part};
+use miette_page::page::{PLAIN, Page};
 use miette_protocol::protocol::LabeledSpan;
-use miette_style::theme::{GraphicalTheme, ThemeCharacters, ThemeStyles};
+use miette_style::theme::GraphicalTheme;
 use std::alloc::{AllocError, Global};
 use std::test::Fail;
-
-const OPTIONS: LayoutOptions = LayoutOptions {
-    tab_width: 4,
-    context_lines: 1,
-    primary_start: true,
-};
-
-fn plain_theme(alloc: Global) -> Result<GraphicalTheme, AllocError> {
-    Ok(GraphicalTheme {
-        characters: ThemeCharacters {
-            hbar: '─',
-            vbar: '│',
-            xbar: '┼',
-            vbar_break: '·',
-            uarrow: '▲',
-            rarrow: '▶',
-            ltop: '╭',
-            mtop: '┬',
-            rtop: '╮',
-            lbot: '╰',
-            rbot: '╯',
-            mbot: '┴',
-            lbox: '[',
-            rbox: ']',
-            lcross: '├',
-            rcross: '┤',
-            underbar: '┬',
-            underline: '─',
-            error: String::from_str(alloc, "×")?,
-            warning: String::from_str(alloc, "⚠")?,
-            advice: String::from_str(alloc, "☞")?,
-        },
-        styles: ThemeStyles {
-            error: PLAIN,
-            warning: PLAIN,
-            advice: PLAIN,
-            help: PLAIN,
-            link: PLAIN,
-            linum: PLAIN,
-            highlights: Vec::new(alloc),
-        },
-    })
-}
-
-// The text of a page, with an LF behind each row.
-fn text_of(alloc: Global, page: &Page) -> Result<String, AllocError> {
-    let mut text = String::new(alloc);
-    let mut parts = page.parts();
-    for _turn in 0..1000 {
-        match parts.next() {
-            None => return Ok(text),
-            Some(Part::Run(_, run)) => text.push_str(run)?,
-            Some(Part::Loose(loose)) => text.push_str(loose)?,
-            Some(Part::RowEnd) => text.push('\n')?,
-        }
-    }
-    Ok(text)
-}
 
 fn placed(start: usize, after: usize, index: usize) -> Placed {
     Placed {
@@ -102,7 +45,7 @@ struct Drawn<'a> {
 fn draw(alloc: Global, drawn: &Drawn) -> Result<String, AllocError>
     requires { drawn.now.line.start + length drawn.now.text.now < 2 ^ 64 }
 {
-    let theme = plain_theme(alloc)?;
+    let theme = GraphicalTheme::unicode_nocolor(alloc)?;
     let sheet = Sheet {
         theme: &theme,
         options: LayoutOptions {
@@ -285,7 +228,7 @@ fn label_of_three_lines(rt: HostRuntime) -> Result<(), Fail> {
 #[test]
 fn frame(rt: HostRuntime) -> Result<(), Fail> {
     let alloc = rt.alloc();
-    let theme = plain_theme(alloc)?;
+    let theme = GraphicalTheme::unicode_nocolor(alloc)?;
     let frame = Frame {
         theme: &theme,
         options: OPTIONS,

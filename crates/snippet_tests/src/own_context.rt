@@ -1,9 +1,10 @@
 //! Snippets of labels with their own numbers of context lines.
 
-use crate::snippets::{OPTIONS, Stopping, Telling, draw, plain_theme, text_of};
+use crate::snippets::{OPTIONS, Stopping, Telling, draw, text_of};
 use miette_layout::snippets::snippets;
 use miette_protocol::error::RenderError;
 use miette_protocol::protocol::LabeledSpan;
+use miette_style::theme::GraphicalTheme;
 use std::alloc::Global;
 use std::process::Abort;
 use std::test::Fail;
@@ -84,7 +85,7 @@ fn a_group_that_fails(rt: HostRuntime) -> Result<(), Fail> {
 #[test]
 fn a_highlighter_is_restarted_with_the_group(rt: HostRuntime) -> Result<(), Fail> {
     let alloc = rt.alloc();
-    let theme = plain_theme(alloc)?;
+    let theme = GraphicalTheme::unicode_nocolor(alloc)?;
     let labels = vec![in alloc; label(16, 3), label(8, 1)]?;
     let mut highlighter = Some(Telling {
         reads: Vec::new(alloc),

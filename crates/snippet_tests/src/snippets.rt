@@ -2,13 +2,13 @@
 
 use miette_layout::options::LayoutOptions;
 use miette_layout::snippets::snippets;
-use miette_page::page::{PLAIN, Page, Part};
+use miette_page::page::{Page, Part};
 use miette_protocol::error::{MietteError, RenderError};
 use miette_protocol::protocol::{LabeledSpan, SourceSpan};
 use miette_protocol::source::{MietteSpanContents, NamedSource, SourceCode};
 use miette_style::highlight::{BlankHighlighter, Highlighter};
 use miette_style::style::Style;
-use miette_style::theme::{GraphicalTheme, ThemeCharacters, ThemeStyles};
+use miette_style::theme::GraphicalTheme;
 use std::alloc::{AllocError, Global};
 use std::io::{self, ErrorKind};
 use std::test::Fail;
@@ -18,43 +18,6 @@ pub(crate) const OPTIONS: LayoutOptions = LayoutOptions {
     context_lines: 1,
     primary_start: true,
 };
-
-pub(crate) fn plain_theme(alloc: Global) -> Result<GraphicalTheme, AllocError> {
-    Ok(GraphicalTheme {
-        characters: ThemeCharacters {
-            hbar: '─',
-            vbar: '│',
-            xbar: '┼',
-            vbar_break: '·',
-            uarrow: '▲',
-            rarrow: '▶',
-            ltop: '╭',
-            mtop: '┬',
-            rtop: '╮',
-            lbot: '╰',
-            rbot: '╯',
-            mbot: '┴',
-            lbox: '[',
-            rbox: ']',
-            lcross: '├',
-            rcross: '┤',
-            underbar: '┬',
-            underline: '─',
-            error: String::from_str(alloc, "×")?,
-            warning: String::from_str(alloc, "⚠")?,
-            advice: String::from_str(alloc, "☞")?,
-        },
-        styles: ThemeStyles {
-            error: PLAIN,
-            warning: PLAIN,
-            advice: PLAIN,
-            help: PLAIN,
-            link: PLAIN,
-            linum: PLAIN,
-            highlights: Vec::new(alloc),
-        },
-    })
-}
 
 // The text of a page, with an LF behind each row.
 pub(crate) fn text_of(alloc: Global, page: &Page) -> Result<String, AllocError> {
@@ -76,7 +39,7 @@ pub(crate) fn draw<S: SourceCode>(
     source: &S,
     labels: &[LabeledSpan],
 ) -> Result<Result<String, RenderError>, AllocError> {
-    let theme = plain_theme(alloc)?;
+    let theme = GraphicalTheme::unicode_nocolor(alloc)?;
     let mut highlighter: Option<BlankHighlighter> = None;
     match snippets(alloc, &mut highlighter, &theme, &OPTIONS, source, labels) {
         Ok(page) => Ok(Ok(text_of(alloc, &page)?)),
@@ -217,7 +180,7 @@ impl Highlighter for Telling {
 #[test]
 fn a_highlighter_is_asked_for_each_line(rt: HostRuntime) -> Result<(), Fail> {
     let alloc = rt.alloc();
-    let theme = plain_theme(alloc)?;
+    let theme = GraphicalTheme::unicode_nocolor(alloc)?;
     let labels = vec![in alloc; LabeledSpan::new(None, 15, 1), LabeledSpan::new(None, 0, 1)]?;
     let mut highlighter = Some(Telling {
         reads: Vec::new(alloc),
