@@ -7,20 +7,13 @@ ghost use Rattle.miette_narrated.specs.rules.Answered.{Appends, report_reads, re
 ghost use Rattle.miette_narrated.specs.rules.Settings.{settings_of};
 
 use crate::report::narrated;
+use crate::settings::Settings;
 use miette_protocol::error::RenderError;
 use miette_protocol::protocol::Diagnostic;
 use miette_protocol::source::SourceCode;
 use miette_tree::report::Report;
 use std::alloc::{AllocError, Global};
 use std::marker::Model;
-
-/// What a report is narrated with.
-#[derive(Clone, Copy)]
-pub(crate) struct Settings<'a> {
-    pub(crate) cause_chain: bool,
-    pub(crate) context_lines: usize,
-    pub(crate) footer: Option<&'a str>,
-}
 
 /// Tells a report in rows of plain words, for people who hear it read: no pictures, no colours, no wrapping.
 ///

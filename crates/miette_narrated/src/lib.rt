@@ -12,6 +12,7 @@ mod parting;
 mod places;
 mod report;
 mod runs;
+mod settings;
 mod shown;
 mod snippets;
 mod sweeping;

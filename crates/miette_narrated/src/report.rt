@@ -11,7 +11,7 @@ ghost use Rattle.miette_narrated.specs.rules.Answered.{AppendsSnippets, AppendsR
 ghost use Rattle.miette_narrated.specs.rules.Answered.{accepts, holds_of, holds_of_all, report_accepted};
 ghost use Rattle.miette_narrated.specs.rules.Settings.{settings_of};
 
-use crate::handler::Settings;
+use crate::settings::Settings;
 use crate::snippets::push_snippets;
 use crate::words::{push_row, push_row_if};
 use miette_protocol::error::RenderError;

@@ -1,6 +1,6 @@
 -- What a program's settings stand for.
 use Rattle.std.specs.Option.{option_copied}
-use Rattle.miette_narrated.specs.declared.handler.Settings.{Settings as GivenSettings}
+use Rattle.miette_narrated.specs.declared.settings.Settings.{Settings as GivenSettings}
 use Rattle.miette_narrated.specs.rules.Report.{Settings}
 
 abbrev pub settings_of : GivenSettings → Settings

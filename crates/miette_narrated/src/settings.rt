@@ -1,0 +1,9 @@
+//! How a report is narrated.
+
+/// What a report is narrated with.
+#[derive(Clone, Copy)]
+pub(crate) struct Settings<'a> {
+    pub(crate) cause_chain: bool,
+    pub(crate) context_lines: usize,
+    pub(crate) footer: Option<&'a str>,
+}
