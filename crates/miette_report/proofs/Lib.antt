@@ -5,3 +5,4 @@ pub mod AlwaysRead
 pub mod ChosenSteps
 pub mod FindingSteps
 pub mod LintSteps
+pub mod WantedSteps

@@ -1,6 +1,7 @@
 -- What users rely on, in the words of docs/RULES.md.
 pub mod Words
 pub mod Asked
+pub mod Wanted
 pub mod Job
 pub mod Chosen
 pub mod Faults

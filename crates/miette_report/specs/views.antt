@@ -3,3 +3,4 @@ pub mod Marked
 pub mod Device
 pub mod Drawn
 pub mod Linted
+pub mod AskView

@@ -1,7 +1,11 @@
 //! What each word asks for that a job may be called with.
 
 ghost use Rattle.std.specs.Prelude.{◌≡◌, ◌<◌, length, true, false, IfSome, IsNone, map, string_bytes};
+ghost use Rattle.std.specs.Option.{option_map};
 ghost use Rattle.miette_report.specs.rules.Asked.{chosen_by, choice_in, is_alone, named_choice};
+ghost use Rattle.miette_report.specs.rules.Wanted.{answer_ask, first_ask, name_ask, number_ask, text_ask};
+ghost use Rattle.miette_report.specs.rules.Wanted.{value_ask, word_ask};
+ghost use Rattle.miette_report.specs.views.AskView.{ask_of, built_ask};
 
 use crate::words::number;
 use miette::options::RgbColors;
@@ -82,6 +86,8 @@ pub(crate) fn first_asked<'a>(words: &'a [String]) -> Option<(Asked<'a>, &'a [St
     ensures choice { IfSome result (λ first. (choice : Choice) →
         choice_in choice (map string_bytes words.now)
         ≡ choice_in (chosen_by first.0 choice) (map string_bytes first.1.now)) }
+    ensures table { option_map (λ first. (ask_of first.0, map string_bytes first.1.now)) result
+        ≡ first_ask (map string_bytes words.now) }
 {
     let [word, rest @ ..] = words else {
         return None;
@@ -101,6 +107,7 @@ fn alone<'a>(word: &str) -> Option<Asked<'a>>
     ensures some { IfSome result (λ asked. (is_alone word.now ≡ true)
         × ((choice : Choice) → chosen_by asked choice ≡ named_choice choice word.now)) }
     ensures none { IsNone result → is_alone word.now ≡ false }
+    ensures table { option_map ask_of result ≡ word_ask word.now }
 {
     match word {
         "--json" => Some(Asked::Choice(Choice::Json)),
@@ -112,7 +119,9 @@ fn alone<'a>(word: &str) -> Option<Asked<'a>>
 }
 
 /// What a word asks for with the word behind it as its value.
-fn with_value<'a>(word: &str, value: &'a str) -> Option<BuildAsked<'a>> {
+fn with_value<'a>(word: &str, value: &'a str) -> Option<BuildAsked<'a>>
+    ensures { option_map built_ask result ≡ value_ask word.now value.now }
+{
     if let Some(asked) = text(word, value) {
         return Some(asked);
     }
@@ -127,7 +136,9 @@ fn with_value<'a>(word: &str, value: &'a str) -> Option<BuildAsked<'a>> {
 }
 
 /// The words whose value is any text.
-fn text<'a>(word: &str, value: &'a str) -> Option<BuildAsked<'a>> {
+fn text<'a>(word: &str, value: &'a str) -> Option<BuildAsked<'a>>
+    ensures { option_map built_ask result ≡ text_ask word.now value.now }
+{
     match word {
         "--footer" => Some(BuildAsked::Option(OptionAsked::Footer(value))),
         "--no-graphics" => Some(BuildAsked::Terminal(TerminalAsked::NoGraphics(value))),
@@ -136,18 +147,22 @@ fn text<'a>(word: &str, value: &'a str) -> Option<BuildAsked<'a>> {
 }
 
 /// The words whose value is a number.
-fn with_number<'a>(word: &str, number: usize) -> Option<BuildAsked<'a>> {
+fn with_number<'a>(word: &str, number: usize) -> Option<BuildAsked<'a>>
+    ensures { option_map built_ask result ≡ number_ask word.now number }
+{
     match word {
         "--width" => Some(BuildAsked::Option(OptionAsked::Width(number))),
         "--context" => Some(BuildAsked::Option(OptionAsked::Context(number))),
-        "--tab" => Some(BuildAsked::Option(OptionAsked::Tab(number))),
+        "--tab" if number > 0 => Some(BuildAsked::Option(OptionAsked::Tab(number))),
         "--term-width" => Some(BuildAsked::Terminal(TerminalAsked::Width(number))),
         _ => None,
     }
 }
 
 /// The words whose value is `yes` or `no`.
-fn with_answer<'a>(word: &str, yes: bool) -> Option<BuildAsked<'a>> {
+fn with_answer<'a>(word: &str, yes: bool) -> Option<BuildAsked<'a>>
+    ensures { option_map built_ask result ≡ answer_ask word.now yes }
+{
     let asked = match word {
         "--unicode" => OptionAsked::Unicode(yes),
         "--color" => OptionAsked::Color(yes),
@@ -165,7 +180,9 @@ fn with_answer<'a>(word: &str, yes: bool) -> Option<BuildAsked<'a>> {
 }
 
 /// The words whose value is a name.
-fn with_name<'a>(word: &str, name: &str) -> Option<BuildAsked<'a>> {
+fn with_name<'a>(word: &str, name: &str) -> Option<BuildAsked<'a>>
+    ensures { option_map built_ask result ≡ name_ask word.now name.now }
+{
     let asked = match (word, name) {
         ("--theme", "ascii") => OptionAsked::Theme(ThemeAsked::Ascii),
         ("--theme", "unicode") => OptionAsked::Theme(ThemeAsked::Unicode),

@@ -1,7 +1,12 @@
 //! What a job is asked for.
 
 ghost use Rattle.std.specs.Prelude.{◌≡◌, ◌⊎◌, IfOk, OnErr, map, string_bytes};
+ghost use Rattle.std.specs.Prelude.{None};
+ghost use Rattle.miette_style.specs.rules.Themes.{theme_of as theme_value};
 ghost use Rattle.miette_report.specs.rules.Asked.{chosen_by, choice_in};
+ghost use Rattle.miette_report.specs.rules.Wanted.{AreWanted, asked_by, facts_of, facts_with, nothing_asked};
+ghost use Rattle.miette_report.specs.rules.Wanted.{options_with as with_option, wanted, with_ask};
+ghost use Rattle.miette_report.specs.views.AskView.{ask_of, option_ask, terminal_ask, theme_named};
 
 use crate::fault::Fault;
 use crate::option_words::{
@@ -31,6 +36,9 @@ impl Settings {
     /// `Usage` where a word is none of those that there are, where a value is missing or isn't one that its word
     /// takes, and for tabs of no columns; `Memory` where none is found for a text or a theme.
     pub fn read(alloc: Global, words: &[String]) -> Result<Settings, Fault>
+        // What all words ask for by the table, and the usage fault exactly where the table has none.
+        ensures table { IfOk result (λ it. AreWanted (map string_bytes words.now) it.choice it.options it.terminal) }
+        ensures usage { (result ≡ Err Fault.Usage) → asked_by (map string_bytes words.now) ≡ None }
         // The last of `--json` and `--debug` that is no value chooses the handler.
         ensures choice { IfOk result (λ it. it.choice ≡ choice_in Choice.Build (map string_bytes words.now)) }
         ensures others { OnErr result ((result ≡ Err Fault.Usage) ⊎ (result ≡ Err Fault.Memory)) }
@@ -49,7 +57,8 @@ impl Settings {
 
     /// Nothing is asked for, and the terminal has nothing.
     fn unasked() -> Settings
-        ensures { result.choice ≡ Choice.Build }
+        ensures choice { result.choice ≡ Choice.Build }
+        ensures nothing { wanted result.choice result.options result.terminal ≡ nothing_asked }
     {
         Settings {
             choice: Choice::Build,
@@ -68,9 +77,10 @@ impl Settings {
     }
 
     /// The settings with what one word asks for.
-    fn with(self, alloc: Global, asked: Asked<'_>) -> Result<Settings, Fault>
+    fn with(self, alloc: Global, asked: Asked<'_>) -> Result<Settings, AllocError>
+        ensures table { IfOk result (λ it. wanted it.choice it.options it.terminal
+            ≡ with_ask (ask_of asked.entry) (wanted self.choice self.options self.terminal)) }
         ensures choice { IfOk result (λ it. it.choice ≡ chosen_by asked.entry self.choice) }
-        ensures others { OnErr result ((result ≡ Err Fault.Usage) ⊎ (result ≡ Err Fault.Memory)) }
     {
         let Settings {
             choice,
@@ -102,16 +112,15 @@ fn options_with(
     alloc: Global,
     options: MietteHandlerOpts,
     asked: OptionAsked<'_>,
-) -> Result<MietteHandlerOpts, Fault>
-    ensures others { OnErr result ((result ≡ Err Fault.Usage) ⊎ (result ≡ Err Fault.Memory)) }
+) -> Result<MietteHandlerOpts, AllocError>
+    ensures { IfOk result (λ it. it ≡ with_option (option_ask asked.entry) options) }
 {
     Ok(match asked {
         OptionAsked::Narrated => options.force_narrated(true),
         OptionAsked::Graphical => options.force_graphical(true),
         OptionAsked::Width(width) => options.width(width),
         OptionAsked::Context(lines) => options.context_lines(lines),
-        OptionAsked::Tab(0) => return Err(Fault::Usage),
-        OptionAsked::Tab(width) => options.tab_width(width),
+        OptionAsked::Tab(width) => options.tab_width(width.max(1)),
         OptionAsked::Theme(theme) => options.graphical_theme(theme_of(alloc, theme)?),
         OptionAsked::Unicode(unicode) => options.unicode(unicode),
         OptionAsked::Color(color) => options.color(color),
@@ -130,7 +139,9 @@ fn options_with(
 }
 
 /// The theme of a name.
-fn theme_of(alloc: Global, theme: ThemeAsked) -> Result<GraphicalTheme, AllocError> {
+fn theme_of(alloc: Global, theme: ThemeAsked) -> Result<GraphicalTheme, AllocError>
+    ensures { IfOk result (λ it. theme_value it ≡ theme_named theme) }
+{
     match theme {
         ThemeAsked::Ascii => GraphicalTheme::ascii(alloc),
         ThemeAsked::Unicode => GraphicalTheme::unicode(alloc),
@@ -144,7 +155,9 @@ fn terminal_with(
     alloc: Global,
     terminal: Terminal,
     asked: TerminalAsked<'_>,
-) -> Result<Terminal, AllocError> {
+) -> Result<Terminal, AllocError>
+    ensures { IfOk result (λ it. facts_of it ≡ facts_with (terminal_ask asked.entry) (facts_of terminal)) }
+{
     Ok(match asked {
         TerminalAsked::Width(width) => Terminal {
             width: Some(width),
