@@ -2,7 +2,7 @@
 
 ghost use Rattle.std.specs.Prelude.{◌≡◌, ◌+◌, ◌^◌, ◌<◌, length};
 
-use crate::snippets::{OPTIONS, text_of};
+use crate::drawing::{Label, OPTIONS, labels_of, text_of};
 use miette_layout::frame::{Frame, push_bottom_row, push_refused_row, push_top_row};
 use miette_layout::line::push_line_rows;
 use miette_layout::options::LayoutOptions;
@@ -23,11 +23,6 @@ fn placed(start: usize, after: usize, index: usize) -> Placed {
         has_text: true,
         index,
     }
-}
-
-// A label of a text and a span of so many bytes; its place is the span's.
-fn label(alloc: Global, text: &str, offset: usize, len: usize) -> Result<LabeledSpan, AllocError> {
-    Ok(LabeledSpan::new(Some(String::from_str(alloc, text)?), offset, len))
 }
 
 #[derive(Drop)]
@@ -100,69 +95,59 @@ fn draw_line(
     )
 }
 
+/// Eight columns: a tab, a letter, a wide character, a letter.
+const WIDE: &[u8] = b"\tx\xe6\xbc\xa2y";
+
+const OVERLAPPING: &str = " 1 │ abcdef\n   ·  ─┬─┬\n   ·   │ ╰── b\n   ·   ╰── a\n";
+
+const EQUAL: &str = " 1 │ ab\n   · ┬┬\n   · │╰── q\n   · ╰── p\n";
+
+const OF_TWO_PARTS: &str = " 1 │ ab\n   · ┬\n   · ╰─┤ p\n   ·   │ q\n";
+
+const EMPTY: &str = " 1 │ ab\n   ·  ▲\n   ·  ╰── here\n";
+
+const BEHIND_A_TAB: &str = " 1 │     x漢y\n   ·      ──\n";
+
+/// A line with its labels, and its rows.
+type Row<'a> = (&'a [u8], &'a [Label<'a>], &'a str);
+
+const ROWS: [Row<'static>; 5] = [
+    (b"abcdef", &[("a", 1, 3), ("b", 2, 3)], OVERLAPPING),
+    (b"ab", &[("p", 0, 1), ("q", 0, 1)], EQUAL),
+    (b"ab", &[("p\nq", 0, 1)], OF_TWO_PARTS),
+    (b"ab", &[("here", 1, 0)], EMPTY),
+    (WIDE, &[("", 2, 3)], BEHIND_A_TAB),
+];
+
+/// The places of labels on a line.
+fn places_of(alloc: Global, labels: &[Label<'_>]) -> Result<Vec<Placed>, AllocError> {
+    let mut places = Vec::new(alloc);
+    for (index, (_, offset, len)) in labels.iter().enumerate() {
+        places.push(placed(*offset, offset.saturating_add(*len), index))?;
+    }
+    Ok(places)
+}
+
+/// The row's line, drawn with four columns a tab.
+fn drawn_row(alloc: Global, (text, written, _): Row<'_>) -> Result<String, AllocError> {
+    let labels = labels_of(alloc, written)?;
+    let places = places_of(alloc, written)?;
+    draw_line(alloc, text, 4, &labels, &places)
+}
+
 #[test]
-fn overlapping_labels(rt: HostRuntime) -> Result<(), Fail> {
-    let alloc = rt.alloc();
-    let labels = vec![in alloc; label(alloc, "a", 1, 3)?, label(alloc, "b", 2, 3)?]?;
-    let text = draw_line(
-        alloc,
-        b"abcdef",
-        4,
-        &labels,
-        &[placed(1, 4, 0), placed(2, 5, 1)],
-    )?;
-    assert_eq!(rt;
-        text.as_str(),
-        " 1 │ abcdef\n   ·  ─┬─┬\n   ·   │ ╰── b\n   ·   ╰── a\n"
-    );
+fn lines_with_labels(rt: HostRuntime) -> Result<(), Fail> {
+    for (at, row) in ROWS.into_iter().enumerate() {
+        assert_eq!(rt; drawn_row(rt.alloc(), row)?.as_str(), row.2, "row {at}");
+    }
     Ok(())
 }
 
 #[test]
-fn equal_labels(rt: HostRuntime) -> Result<(), Fail> {
-    let alloc = rt.alloc();
-    let labels = vec![in alloc; label(alloc, "p", 0, 1)?, label(alloc, "q", 0, 1)?]?;
-    let text = draw_line(
-        alloc,
-        b"ab",
-        4,
-        &labels,
-        &[placed(0, 1, 0), placed(0, 1, 1)],
-    )?;
-    assert_eq!(rt;
-        text.as_str(),
-        " 1 │ ab\n   · ┬┬\n   · │╰── q\n   · ╰── p\n"
-    );
-    Ok(())
-}
-
-#[test]
-fn text_of_two_parts(rt: HostRuntime) -> Result<(), Fail> {
-    let alloc = rt.alloc();
-    let labels = vec![in alloc; label(alloc, "p\nq", 0, 1)?]?;
-    let text = draw_line(alloc, b"ab", 4, &labels, &[placed(0, 1, 0)])?;
-    assert_eq!(rt; text.as_str(), " 1 │ ab\n   · ┬\n   · ╰─┤ p\n   ·   │ q\n");
-    Ok(())
-}
-
-#[test]
-fn empty_label(rt: HostRuntime) -> Result<(), Fail> {
-    let alloc = rt.alloc();
-    let labels = vec![in alloc; label(alloc, "here", 1, 0)?]?;
-    let text = draw_line(alloc, b"ab", 4, &labels, &[placed(1, 1, 0)])?;
-    assert_eq!(rt; text.as_str(), " 1 │ ab\n   ·  ▲\n   ·  ╰── here\n");
-    Ok(())
-}
-
-#[test]
-fn wide_character_behind_a_tab(rt: HostRuntime) -> Result<(), Fail> {
-    let alloc = rt.alloc();
-    let labels = vec![in alloc; LabeledSpan::new(None, 2, 3)]?;
-    let line = b"\tx\xe6\xbc\xa2y";
-    let text = draw_line(alloc, line, 4, &labels, &[placed(2, 5, 0)])?;
-    assert_eq!(rt; text.as_str(), " 1 │     x漢y\n   ·      ──\n");
-    let text = draw_line(alloc, line, 4, &labels, &[placed(3, 4, 0)])?;
-    assert_eq!(rt; text.as_str(), " 1 │     x漢y\n   ·      ──\n");
+fn a_place_within_a_wide_character(rt: HostRuntime) -> Result<(), Fail> {
+    let labels = labels_of(rt.alloc(), &[("", 2, 3)])?;
+    let text = draw_line(rt.alloc(), WIDE, 4, &labels, &[placed(3, 4, 0)])?;
+    assert_eq!(rt; text.as_str(), BEHIND_A_TAB);
     Ok(())
 }
 
@@ -215,7 +200,7 @@ fn line_at(start: usize, text_end: usize, end: usize) -> LineOfText
 #[test]
 fn label_of_three_lines(rt: HostRuntime) -> Result<(), Fail> {
     let alloc = rt.alloc();
-    let labels = vec![in alloc; label(alloc, "whole", 0, 22)?]?;
+    let labels = labels_of(alloc, &[("whole", 0, 22)])?;
     let first = draw_long(alloc, &labels, b"source", line_at(0, 6, 7), 1)?;
     assert_eq!(rt; first.as_str(), " 1 │ ╭─▶ source\n");
     let second = draw_long(alloc, &labels, b"  text", line_at(7, 13, 14), 2)?;
@@ -235,9 +220,14 @@ fn frame(rt: HostRuntime) -> Result<(), Fail> {
         number_width: 1,
     };
     let mut page = Page::new(alloc);
-    push_top_row(&mut page, &frame, Some("bad_file.rs"), true, Some((1, 2)))?;
-    push_top_row(&mut page, &frame, None, true, Some((8, 0)))?;
-    push_top_row(&mut page, &frame, None, false, Some((0, 0)))?;
+    let tops = [
+        (Some("bad_file.rs"), true, Some((1, 2))),
+        (None, true, Some((8, 0))),
+        (None, false, Some((0, 0))),
+    ];
+    for (name, several, place) in tops {
+        push_top_row(&mut page, &frame, name, several, place)?;
+    }
     push_bottom_row(&mut page, &frame)?;
     push_refused_row(
         &mut page,

@@ -1,15 +1,10 @@
 //! Snippets of labels with their own numbers of context lines.
 
-use crate::snippets::{OPTIONS, Stopping, Telling, draw, text_of};
-use miette_layout::snippets::snippets;
-use miette_protocol::error::RenderError;
+use crate::drawing::{NINE, draw, draws, refuses, told, two_lines};
 use miette_protocol::protocol::LabeledSpan;
-use miette_style::theme::GraphicalTheme;
 use std::alloc::Global;
 use std::process::Abort;
 use std::test::Fail;
-
-const NINE: &str = "1\n2\n3\n4\n5\n6\n7\n8\n9\n";
 
 /// A label of one byte at an offset, with its own number of context lines, or with none for 0.
 fn label(offset: usize, lines: usize) -> LabeledSpan {
@@ -28,11 +23,7 @@ fn is_drawn(rt: &impl Abort, alloc: Global, (places, wanted): Row<'_>) -> Result
     for (offset, lines) in places {
         labels.push(label(*offset, *lines))?;
     }
-    let Ok(text) = draw(alloc, &NINE, &labels)? else {
-        return Err(Fail::from("refused"));
-    };
-    assert_eq!(rt; text.as_str(), wanted);
-    Ok(())
+    draws(rt, alloc, &NINE, &labels, wanted)
 }
 
 #[test]
@@ -65,37 +56,16 @@ fn groups_of_nine_lines(rt: HostRuntime) -> Result<(), Fail> {
 fn a_group_that_fails(rt: HostRuntime) -> Result<(), Fail> {
     let alloc = rt.alloc();
     let labels = vec![in alloc; label(0, 1)]?;
-    let mut source = Stopping {
-        text: "a\nb\n",
-        most: 1,
-        without_context: true,
-    };
-    assert!(rt; matches!(draw(alloc, &source, &labels)?, Err(RenderError::Refused)));
-    source.most = 4;
-    let Ok(text) = draw(alloc, &source, &labels)? else {
-        return Err(Fail::from("refused"));
-    };
-    assert_eq!(rt;
-        text.as_str(),
-        "   ╭─[1:1]\n 1 │ a\n   · ─\n 2 │ b\n   ╰────\n"
-    );
-    Ok(())
+    refuses(&rt, alloc, &two_lines(1, true), &labels)?;
+    let wanted = "   ╭─[1:1]\n 1 │ a\n   · ─\n 2 │ b\n   ╰────\n";
+    draws(&rt, alloc, &two_lines(4, true), &labels, wanted)
 }
 
 #[test]
 fn a_highlighter_is_restarted_with_the_group(rt: HostRuntime) -> Result<(), Fail> {
     let alloc = rt.alloc();
-    let theme = GraphicalTheme::unicode_nocolor(alloc)?;
     let labels = vec![in alloc; label(16, 3), label(8, 1)]?;
-    let mut highlighter = Some(Telling {
-        reads: Vec::new(alloc),
-        lines: String::new(alloc),
-    });
-    let page = snippets(alloc, &mut highlighter, &theme, &OPTIONS, &NINE, &labels)?;
-    let _text = text_of(alloc, &page)?;
-    let Some(telling) = highlighter else {
-        return Err(Fail::from("no highlighter"));
-    };
+    let (_text, telling) = told(alloc, &NINE, &labels)?;
     assert_eq!(rt; telling.reads.as_slice(), [(3, 12)].as_slice());
     assert_eq!(rt; telling.lines.as_str(), "4|5|6|7|8|9|");
     Ok(())

@@ -3,6 +3,7 @@
 use miette_protocol::diagnostic::MietteDiagnostic;
 use miette_protocol::protocol::{Diagnostic, LabeledSpan, Severity, SourceOffset, SourceSpan};
 use std::alloc::{AllocError, Global};
+use std::process::Abort;
 use std::test::Fail;
 
 fn labels(alloc: Global, from: usize) -> Result<Vec<LabeledSpan>, AllocError> {
@@ -10,6 +11,21 @@ fn labels(alloc: Global, from: usize) -> Result<Vec<LabeledSpan>, AllocError> {
         LabeledSpan::underline(from),
         LabeledSpan::underline(from.saturating_add(1)),
     ]?)
+}
+
+/// The message `m` with a label at this offset.
+fn labelled(alloc: Global, offset: usize) -> Result<MietteDiagnostic, AllocError> {
+    MietteDiagnostic::new(alloc, "m")?.with_label(alloc, LabeledSpan::underline(offset))
+}
+
+/// The diagnostic's labels lie at these offsets.
+fn points_at(rt: &impl Abort, made: &MietteDiagnostic, wanted: &[usize]) -> Result<(), Fail> {
+    let found = made.labels().ok_or("no labels")?;
+    assert_eq!(rt; found.len(), wanted.len());
+    for (label, offset) in found.iter().zip(wanted) {
+        assert_eq!(rt; label.offset(), *offset);
+    }
+    Ok(())
 }
 
 #[test]
@@ -31,16 +47,11 @@ fn builders(rt: HostRuntime) -> Result<(), Fail> {
 #[test]
 fn builders_of_labels(rt: HostRuntime) -> Result<(), Fail> {
     let alloc = rt.alloc();
-    let made = MietteDiagnostic::new(alloc, "m")?
-        .with_label(alloc, LabeledSpan::underline(0))?
+    let made = labelled(alloc, 0)?
         .and_label(alloc, LabeledSpan::underline(1))?
         .and_labels(alloc, labels(alloc, 2)?)?;
-    let found = made.labels().ok_or("no labels")?;
-    assert_eq!(rt; found.len(), 4);
-    assert_eq!(rt; found[3].offset(), 3);
-    let made = made.with_labels(labels(alloc, 8)?);
-    assert_eq!(rt; made.labels().ok_or("no labels")?.len(), 2);
-    Ok(())
+    points_at(&rt, &made, &[0, 1, 2, 3])?;
+    points_at(&rt, &made.with_labels(labels(alloc, 8)?), &[8, 9])
 }
 
 #[test]
@@ -55,13 +66,11 @@ fn printed_and_cloned(rt: HostRuntime) -> Result<(), Fail> {
 #[test]
 fn labels_of_an_iterator(rt: HostRuntime) -> Result<(), Fail> {
     let alloc = rt.alloc();
-    let made = MietteDiagnostic::new(alloc, "m")?
-        .with_label(alloc, LabeledSpan::underline(9))?
-        .with_labels_from(alloc, [4, 7].into_iter().map(LabeledSpan::underline))?;
-    let found = made.labels().ok_or("no labels")?;
-    assert_eq!(rt; found.len(), 2);
-    assert_eq!(rt; (found[0].offset(), found[1].offset()), (4, 7));
-    Ok(())
+    let made = labelled(alloc, 9)?.with_labels_from(
+        alloc,
+        [4, 7].into_iter().map(LabeledSpan::underline),
+    )?;
+    points_at(&rt, &made, &[4, 7])
 }
 
 #[test]

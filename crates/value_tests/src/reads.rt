@@ -10,6 +10,7 @@ use miette_protocol::source::{
 };
 use std::alloc::{AllocError, Global};
 use std::io;
+use std::process::Abort;
 use std::test::Fail;
 
 const README: &str = "source\n  text\n    here";
@@ -192,15 +193,17 @@ fn reads_through_a_box(rt: HostRuntime) -> Result<(), Fail> {
     Ok(())
 }
 
+/// The source, which is broken, says so.
+fn breaks<S: SourceCode>(rt: &impl Abort, code: &S) {
+    let found = code.read_span(&span(9, 4), 0, 0);
+    assert!(rt; matches!(found, Err(MietteError::IoError(_))));
+}
+
 #[test]
-fn a_broken_source_in_a_box(rt: HostRuntime) -> Result<(), Fail> {
-    let broken: Box<dyn SourceCode> = Box::new(rt.alloc(), Broken)?;
-    assert!(rt;
-        matches!(
-            broken.read_span(&span(9, 4), 0, 0),
-            Err(MietteError::IoError(_))
-        )
-    );
+fn broken_sources(rt: HostRuntime) -> Result<(), Fail> {
+    let boxed: Box<dyn SourceCode> = Box::new(rt.alloc(), Broken)?;
+    breaks(&rt, &boxed);
+    breaks(&rt, &NamedSource::new(rt.alloc(), "f", Broken)?);
     Ok(())
 }
 
@@ -224,29 +227,25 @@ fn names_pass_the_rest_on(rt: HostRuntime) -> Result<(), Fail> {
     Ok(())
 }
 
-#[test]
-fn a_broken_source_with_a_name(rt: HostRuntime) -> Result<(), Fail> {
-    let broken = NamedSource::new(rt.alloc(), "f", Broken)?;
-    assert!(rt;
-        matches!(
-            broken.read_span(&span(0, 0), 0, 0),
-            Err(MietteError::IoError(_))
-        )
-    );
-    Ok(())
+/// The contents are these, with this name and language.
+fn says(
+    rt: &impl Abort,
+    contents: &MietteSpanContents<'_>,
+    wanted: Seen<'_>,
+    names: (Option<&str>, Option<&str>),
+) {
+    assert_eq!(rt; seen(contents), wanted);
+    assert_eq!(rt; (contents.name(), contents.language()), names);
 }
 
 #[test]
 fn contents_by_hand(rt: HostRuntime) {
     let plain = MietteSpanContents::new(b"ab".as_slice(), span(3, 2), 4, 5, 6);
-    assert_eq!(rt; seen(&plain), (b"ab".as_slice(), (3, 2), 4, 5, 6));
-    assert_eq!(rt; plain.name(), None);
-    assert_eq!(rt; plain.language(), None);
+    let wanted = (b"ab".as_slice(), (3, 2), 4, 5, 6);
+    says(&rt, &plain, wanted, (None, None));
     let named = MietteSpanContents::new_named("f", b"ab".as_slice(), span(3, 2), 4, 5, 6);
     let named = named.with_language("Rust");
-    assert_eq!(rt; seen(&named), (b"ab".as_slice(), (3, 2), 4, 5, 6));
-    assert_eq!(rt; named.name(), Some("f"));
-    assert_eq!(rt; named.language(), Some("Rust"));
+    says(&rt, &named, wanted, (Some("f"), Some("Rust")));
 }
 
 #[test]

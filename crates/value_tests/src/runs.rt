@@ -1,3 +1,4 @@
+use crate::wrapping::SEQUENCES;
 use miette_style::style::{Color, Style};
 use miette_text::runs::Runs;
 use miette_text::runs::output::Output;
@@ -25,13 +26,7 @@ fn wrapped(alloc: Global, text: &str, width: usize) -> Result<String, AllocError
 
 #[test]
 fn rows_of_runs(rt: HostRuntime) -> Result<(), Fail> {
-    let rows = [
-        ("\u{1B}[31mred \u{1B}[0mx", 4, "\u{1B}[31mred\n\u{1B}[0mx"),
-        ("a-\u{1B}[31mb\u{1B}[0m", 2, "a-\n\u{1B}[31mb\u{1B}[0m"),
-        ("\u{1B}[31mab \u{1B}[0m", 5, "\u{1B}[31mab\u{1B}[0m"),
-        ("\u{1B}[31mabcd\u{1B}[0m", 2, "\u{1B}[31mab\ncd\u{1B}[0m"),
-    ];
-    for (text, width, wanted) in rows {
+    for (text, width, wanted) in SEQUENCES {
         assert_eq!(rt; wrapped(rt.alloc(), text, width)?.as_str(), wanted);
     }
     Ok(())

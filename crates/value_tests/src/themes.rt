@@ -92,18 +92,6 @@ fn rgb_styles_are_those_of_the_table(rt: HostRuntime) -> Result<(), Fail> {
 }
 
 #[test]
-fn rgb_highlights_are_those_of_the_table(rt: HostRuntime) -> Result<(), Fail> {
-    let rgb = ThemeStyles::rgb(rt.alloc())?;
-    let found = rgb.highlights.as_slice();
-    assert_eq!(rt; found.len(), 3);
-    let wanted = [(246, 87, 248), (30, 201, 212), (145, 246, 111)];
-    for (style, wanted) in found.iter().zip(wanted) {
-        assert_eq!(rt; (foreground(*style), style.bold), (wanted, false));
-    }
-    Ok(())
-}
-
-#[test]
 fn ansi_styles_are_those_of_the_table(rt: HostRuntime) -> Result<(), Fail> {
     let ansi = ThemeStyles::ansi(rt.alloc())?;
     let plain = Style::new();
@@ -123,14 +111,20 @@ fn ansi_styles_are_those_of_the_table(rt: HostRuntime) -> Result<(), Fail> {
 }
 
 #[test]
-fn ansi_highlights_are_those_of_the_table(rt: HostRuntime) -> Result<(), Fail> {
-    let ansi = ThemeStyles::ansi(rt.alloc())?;
-    let found = ansi.highlights.as_slice();
-    assert_eq!(rt; found.len(), 3);
-    let wanted = [Color::Magenta, Color::Yellow, Color::Green];
-    for (style, colour) in found.iter().zip(wanted) {
-        assert_eq!(rt; *style, Style::new().color(colour).bold());
-    }
+fn highlights_are_those_of_the_table(rt: HostRuntime) -> Result<(), Fail> {
+    let plain = Style::new();
+    let rgb = [(246, 87, 248), (30, 201, 212), (145, 246, 111)];
+    let rgb = rgb.map(|(red, green, blue)| plain.color(Color::Rgb(red, green, blue)));
+    let ansi = [Color::Magenta, Color::Yellow, Color::Green];
+    let ansi = ansi.map(|colour| plain.color(colour).bold());
+    assert_eq!(rt;
+        ThemeStyles::rgb(rt.alloc())?.highlights.as_slice(),
+        rgb.as_slice()
+    );
+    assert_eq!(rt;
+        ThemeStyles::ansi(rt.alloc())?.highlights.as_slice(),
+        ansi.as_slice()
+    );
     Ok(())
 }
 
