@@ -1,7 +1,8 @@
 //! Debug reports by calls. More of them, by `job`, stand in `cases/worked.jsonl`.
 
+use crate::drawn::given;
 use crate::written::{M, Written, report_of, told_why};
-use miette::handlers::{DebugReportHandler, ReportHandler};
+use miette::handlers::DebugReportHandler;
 use miette::protocol::Severity;
 use miette::report::Report;
 use std::alloc::Global;
@@ -14,13 +15,6 @@ fn told(alloc: Global, before: &str, report: &Report) -> Result<String, Fail> {
     Ok(out)
 }
 
-/// What the handler gives as a `ReportHandler`.
-fn debugged(alloc: Global, report: &Report) -> Result<String, Fail> {
-    let mut out = String::new(alloc);
-    DebugReportHandler::default().debug(report, &mut out)?;
-    Ok(out)
-}
-
 #[test]
 fn labels_and_texts(rt: HostRuntime) -> Result<(), Fail> {
     let labelled = Written {
@@ -29,7 +23,7 @@ fn labels_and_texts(rt: HostRuntime) -> Result<(), Fail> {
     };
     let alloc = rt.alloc();
     let report = told_why(alloc, report_of(alloc, &labelled)?, &["a\"b"])?;
-    let out = debugged(alloc, &report)?;
+    let out = given(alloc, &mut DebugReportHandler::default(), &report)?;
     assert!(rt; out.as_str().contains(", labels: "));
     assert!(rt; out.as_str().ends_with(", caused by: \"a\\\"b\" }\n"));
     Ok(())

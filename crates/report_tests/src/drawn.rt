@@ -1,58 +1,39 @@
-//! What the graphical handler draws.
+//! What handlers give of reports.
 
-use miette::handlers::GraphicalReportHandler;
+use miette::handlers::{GraphicalReportHandler, ReportHandler};
 use miette::report::Report;
 use miette::theme::GraphicalTheme;
 use std::alloc::Global;
 use std::process::Abort;
 use std::test::Fail;
 
-#[derive(Clone, Copy)]
-pub(crate) enum Theme {
-    Plain,
-    Ascii,
+/// The handler that draws by this theme, in 80 columns, with a line around a label.
+pub(crate) fn themed(theme: GraphicalTheme) -> GraphicalReportHandler {
+    GraphicalReportHandler::themed(theme)
+        .with_width(80)
+        .with_context_lines(1)
+        .with_links(true)
+        .with_show_related_as_nested(false)
 }
 
-/// How a report is drawn.
-#[derive(Clone, Copy)]
-pub(crate) struct Asked {
-    pub(crate) theme: Theme,
-    pub(crate) width: usize,
-    pub(crate) context: usize,
-    pub(crate) links: bool,
-    pub(crate) nested: bool,
+/// Such a handler, in the plain characters of the theme for terminals.
+pub(crate) fn plain(alloc: Global) -> Result<GraphicalReportHandler, Fail> {
+    Ok(themed(GraphicalTheme::unicode_nocolor(alloc)?))
 }
 
-/// Plain characters of the theme for terminals, 80 columns, and else what is there unless asked.
-pub(crate) const PLAIN: Asked = Asked {
-    theme: Theme::Plain,
-    width: 80,
-    context: 1,
-    links: true,
-    nested: false,
-};
-
-fn theme_of(alloc: Global, theme: Theme) -> Result<GraphicalTheme, Fail> {
-    match theme {
-        Theme::Plain => Ok(GraphicalTheme::unicode_nocolor(alloc)?),
-        Theme::Ascii => Ok(GraphicalTheme::none(alloc)?),
-    }
-}
-
-/// The handler that is asked for.
-pub(crate) fn handler_of(alloc: Global, asked: Asked) -> Result<GraphicalReportHandler, Fail> {
-    let theme = theme_of(alloc, asked.theme)?;
-    Ok(
-        GraphicalReportHandler::themed(theme)
-            .with_width(asked.width)
-            .with_context_lines(asked.context)
-            .with_links(asked.links)
-            .with_show_related_as_nested(asked.nested),
-    )
+/// What the handler, as any handler, gives of the report.
+pub(crate) fn given<H: ReportHandler>(
+    alloc: Global,
+    handler: &mut H,
+    report: &Report,
+) -> Result<String, Fail> {
+    let mut out = String::new(alloc);
+    handler.debug(report, &mut out)?;
+    Ok(out)
 }
 
 /// What the handler draws of the report.
-pub(crate) fn told(
+fn told(
     alloc: Global,
     mut handler: GraphicalReportHandler,
     report: &Report,

@@ -27,20 +27,21 @@ fn a_long_chain_of_causes_is_gone_through_and_let_go(rt: HostRuntime) -> Result<
     Ok(())
 }
 
-/// A diagnostic that holds one of the owners of a token.
+/// A diagnostic of a message alone, that holds one of the owners of a token.
 #[derive(Drop)]
 struct Owner {
+    message: String,
     _token: Rc<u8>,
 }
 
 impl Diagnostic for Owner {
     ghost use Rattle.miette_protocol.specs.views.Diagnostic.{message_alone};
-    ghost use Rattle.std.specs.Prelude.{codes};
+    ghost use Rattle.std.specs.Prelude.{string_bytes};
 
-    ghost meaning = { λ _. message_alone (codes "m") };
+    ghost meaning = { λ it. message_alone (string_bytes it.message) };
 
     fn message(&self) -> &str {
-        "m"
+        self.message.as_str()
     }
 
     fn code(&self) -> Option<&str> {
@@ -64,15 +65,23 @@ impl Diagnostic for Owner {
     }
 }
 
+/// A boxed owner.
+pub(crate) fn boxed_owner(
+    alloc: Global,
+    message: &str,
+    token: &Rc<u8>,
+) -> Result<Box<dyn Diagnostic>, Fail> {
+    let owner = Owner {
+        message: String::from_str(alloc, message)?,
+        _token: token.clone()?,
+    };
+    let boxed: Box<dyn Diagnostic> = Box::new(alloc, owner)?;
+    Ok(boxed)
+}
+
 /// A report of a boxed owner.
 fn owned(alloc: Global, token: &Rc<u8>) -> Result<Report, Fail> {
-    let boxed: Box<dyn Diagnostic> = Box::new(
-        alloc,
-        Owner {
-            _token: token.clone()?,
-        },
-    )?;
-    Ok(Report::new_boxed(boxed))
+    Ok(Report::new_boxed(boxed_owner(alloc, "m", token)?))
 }
 
 /// A report of an owner, with another one as its cause.

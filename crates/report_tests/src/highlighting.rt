@@ -1,5 +1,6 @@
 //! Reports whose source lines a highlighter styles.
 
+use crate::drawn::{draws, given};
 use miette::diagnostic::MietteDiagnostic;
 use miette::error::RenderError;
 use miette::handlers::GraphicalReportHandler;
@@ -17,8 +18,6 @@ use std::test::Fail;
 pub(crate) struct FirstRed;
 
 impl Highlighter for FirstRed {
-    fn restart(&mut self, _contents: &MietteSpanContents<'_>) {}
-
     fn highlight_line(
         &mut self,
         alloc: Global,
@@ -31,6 +30,8 @@ impl Highlighter for FirstRed {
             Ok(vec![in alloc; (line.len(), Style::new())]?)
         }
     }
+
+    fn restart(&mut self, _contents: &MietteSpanContents<'_>) {}
 }
 
 /// Never finds memory.
@@ -38,8 +39,6 @@ impl Highlighter for FirstRed {
 struct Wanting;
 
 impl Highlighter for Wanting {
-    fn restart(&mut self, _contents: &MietteSpanContents<'_>) {}
-
     fn highlight_line(
         &mut self,
         _alloc: Global,
@@ -47,6 +46,8 @@ impl Highlighter for Wanting {
     ) -> Result<Vec<(usize, Style)>, AllocError> {
         Err(AllocError)
     }
+
+    fn restart(&mut self, _contents: &MietteSpanContents<'_>) {}
 }
 
 /// The message `m` with a label on the first byte of `ab`.
@@ -59,48 +60,45 @@ pub(crate) fn labelled(alloc: Global) -> Result<Report, AllocError> {
 
 const PLAIN: &str = "  × m\n   ╭────\n 1 │ ab\n   · ─\n   ╰────\n";
 
+/// A plain handler whose source lines this highlighter styles.
+fn highlighted(
+    alloc: Global,
+    highlighter: Box<dyn Highlighter>,
+) -> Result<GraphicalReportHandler, Fail> {
+    let theme = GraphicalTheme::unicode_nocolor(alloc)?;
+    Ok(GraphicalReportHandler::themed(theme).with_syntax_highlighting(highlighter))
+}
+
 #[test]
 fn pieces_are_styled(rt: HostRuntime) -> Result<(), Fail> {
     let alloc = rt.alloc();
     let report = labelled(alloc)?;
-    let theme = GraphicalTheme::unicode_nocolor(alloc)?;
-    let mut handler = GraphicalReportHandler::new_themed(theme).with_syntax_highlighting(Box::new(
-        alloc, FirstRed,
-    )?);
-    let mut out = String::new(alloc);
-    handler.render_report(&report, &mut out)?;
+    let mut handler = highlighted(alloc, Box::new(alloc, FirstRed)?)?;
+    let out = given(alloc, &mut handler, &report)?;
     assert_eq!(rt;
         out.as_str(),
         "  × m\n   ╭────\n 1 │ \u{1b}[31ma\u{1b}[0mb\n   · ─\n   ╰────\n"
     );
-    let mut handler = handler.without_syntax_highlighting();
-    let mut out = String::new(alloc);
-    handler.render_report(&report, &mut out)?;
-    assert_eq!(rt; out.as_str(), PLAIN);
-    Ok(())
+    draws(
+        &rt,
+        alloc,
+        handler.without_syntax_highlighting(),
+        &report,
+        PLAIN,
+    )
 }
 
 #[test]
 fn a_blank_highlighter_is_as_none(rt: HostRuntime) -> Result<(), Fail> {
     let alloc = rt.alloc();
-    let theme = GraphicalTheme::unicode_nocolor(alloc)?;
-    let mut handler = GraphicalReportHandler::new_themed(theme).with_syntax_highlighting(Box::new(
-        alloc,
-        BlankHighlighter,
-    )?);
-    let mut out = String::new(alloc);
-    handler.render_report(&labelled(alloc)?, &mut out)?;
-    assert_eq!(rt; out.as_str(), PLAIN);
-    Ok(())
+    let handler = highlighted(alloc, Box::new(alloc, BlankHighlighter)?)?;
+    draws(&rt, alloc, handler, &labelled(alloc)?, PLAIN)
 }
 
 #[test]
 fn want_of_memory_of_the_highlighter(rt: HostRuntime) -> Result<(), Fail> {
     let alloc = rt.alloc();
-    let theme = GraphicalTheme::unicode_nocolor(alloc)?;
-    let mut handler = GraphicalReportHandler::new_themed(theme).with_syntax_highlighting(Box::new(
-        alloc, Wanting,
-    )?);
+    let mut handler = highlighted(alloc, Box::new(alloc, Wanting)?)?;
     let mut out = String::from_str(alloc, "before")?;
     assert!(rt;
         matches!(

@@ -1,5 +1,6 @@
 //! JSON texts of sources that stop, and short forms. More JSON texts, by `job`, stand in `cases/worked.jsonl`.
 
+use crate::drawn::given;
 use crate::sources::Stopping;
 use crate::written::{M, Written, caused, report_of, saying};
 use miette::handlers::{JSONReportHandler, ReportHandler};
@@ -16,17 +17,13 @@ fn told(alloc: Global, report: &Report) -> Result<String, Fail> {
     Ok(out)
 }
 
-/// What the handler gives as a `ReportHandler`.
-fn debugged(alloc: Global, report: &Report) -> Result<String, Fail> {
-    let mut out = String::new(alloc);
-    JSONReportHandler::default().debug(report, &mut out)?;
-    Ok(out)
-}
-
 fn expect(rt: &impl Abort, alloc: Global, report: &Report, wanted: &str) -> Result<(), Fail> {
     let out = told(alloc, report)?;
     assert_eq!(rt; out.as_str().strip_prefix("> "), Some(wanted));
-    assert_eq!(rt; debugged(alloc, report)?.as_str(), wanted);
+    assert_eq!(rt;
+        given(alloc, &mut JSONReportHandler::default(), report)?.as_str(),
+        wanted
+    );
     Ok(())
 }
 
@@ -37,15 +34,16 @@ fn short(alloc: Global, chain: bool, report: &Report) -> Result<String, Fail> {
     Ok(out)
 }
 
-fn is_short(
+/// The chain and the message alone are told so.
+fn has_short_forms(
     rt: &impl Abort,
     alloc: Global,
-    chain: bool,
     report: &Report,
-    wanted: &str,
+    forms: [(bool, &str); 2],
 ) -> Result<(), Fail> {
-    let out = short(alloc, chain, report)?;
-    assert_eq!(rt; out.as_str(), wanted);
+    for (chain, wanted) in forms {
+        assert_eq!(rt; short(alloc, chain, report)?.as_str(), wanted);
+    }
     Ok(())
 }
 
@@ -62,23 +60,18 @@ fn wrapped(alloc: Global) -> Result<Report, Fail> {
     }
 }
 
-#[test]
-fn short_forms(rt: HostRuntime) -> Result<(), Fail> {
-    let report = wrapped(rt.alloc())?;
-    is_short(&rt, rt.alloc(), true, &report, "> outer: inner")?;
-    is_short(&rt, rt.alloc(), false, &report, "> outer")
-}
-
 /// The message `top`, caused by the wrapped one.
 fn top(alloc: Global) -> Result<Report, Fail> {
     caused(alloc, report_of(alloc, &saying("top"))?, wrapped(alloc)?)
 }
 
 #[test]
-fn short_forms_of_causes(rt: HostRuntime) -> Result<(), Fail> {
-    let report = top(rt.alloc())?;
-    is_short(&rt, rt.alloc(), true, &report, "> top: outer: inner")?;
-    is_short(&rt, rt.alloc(), false, &report, "> top")
+fn short_forms(rt: HostRuntime) -> Result<(), Fail> {
+    let alloc = rt.alloc();
+    let forms = [(true, "> outer: inner"), (false, "> outer")];
+    has_short_forms(&rt, alloc, &wrapped(alloc)?, forms)?;
+    let forms = [(true, "> top: outer: inner"), (false, "> top")];
+    has_short_forms(&rt, alloc, &top(alloc)?, forms)
 }
 
 /// Six bytes named `f` that stop, as a boxed source.

@@ -1,5 +1,6 @@
 //! Narrated reports by calls. More of them, by `job`, stand in `cases/worked.jsonl`.
 
+use crate::drawn::given;
 use crate::written::{Label, M, Written, report_of, told_why};
 use miette::handlers::{NarratableReportHandler, ReportHandler};
 use miette::report::Report;
@@ -52,9 +53,7 @@ fn labels_on_a_long_line(rt: HostRuntime) -> Result<(), Fail> {
 fn footed(alloc: Global, report: &Report) -> Result<String, Fail> {
     let footer = String::from_str(alloc, "bye")?;
     let mut handler = NarratableReportHandler::new().with_footer(footer).clone()?;
-    let mut out = String::new(alloc);
-    handler.debug(report, &mut out)?;
-    Ok(out)
+    given(alloc, &mut handler, report)
 }
 
 /// The messages of the chain.

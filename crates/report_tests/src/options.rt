@@ -1,5 +1,6 @@
 //! What options and a terminal choose. The words of `job` try each option; here stand the calls that it doesn't make.
 
+use crate::drawn::given;
 use crate::highlighting::{FirstRed, labelled};
 use miette::handlers::{GraphicalReportHandler, ReportHandler};
 use miette::options::{MietteHandler, MietteHandlerOpts, Terminal};
@@ -10,18 +11,23 @@ use std::alloc::Global;
 use std::process::Abort;
 use std::test::Fail;
 
-/// A terminal of which nothing is known.
-fn bare() -> Terminal {
+/// A terminal of which nothing is known, but whether it shows pictures in colours.
+fn terminal(pictures: bool, no_graphics: Option<String>) -> Terminal {
     Terminal {
+        unicode: pictures,
+        stdout_terminal: pictures,
+        stderr_terminal: pictures,
+        no_graphics,
         width: None,
         color: None,
-        unicode: false,
         hyperlinks: false,
-        stdout_terminal: false,
-        stderr_terminal: false,
-        no_graphics: None,
         no_color: None,
     }
+}
+
+/// A terminal of which nothing is known.
+fn bare() -> Terminal {
+    terminal(false, None)
 }
 
 /// The options make this text of the message `m` on a terminal of which nothing is known.
@@ -31,9 +37,8 @@ fn make(
     options: MietteHandlerOpts,
     wanted: &str,
 ) -> Result<(), Fail> {
-    let mut out = String::new(alloc);
     let mut handler = options.build(alloc, &bare())?;
-    handler.debug(&Report::msg(alloc, "m")?, &mut out)?;
+    let out = given(alloc, &mut handler, &Report::msg(alloc, "m")?)?;
     assert_eq!(rt; out.as_str(), wanted);
     Ok(())
 }
@@ -67,13 +72,9 @@ fn separated_by_spaces(rt: HostRuntime) -> Result<(), Fail> {
 
 /// The handler of a terminal whose user wants no graphics narrates.
 fn told_without_graphics(alloc: Global) -> Result<String, Fail> {
-    let terminal = Terminal {
-        no_graphics: Some(String::from_str(alloc, "1")?),
-        ..bare()
-    };
-    let mut out = String::new(alloc);
-    MietteHandler::new(alloc, &terminal)?.debug(&Report::msg(alloc, "m")?, &mut out)?;
-    Ok(out)
+    let terminal = terminal(false, Some(String::from_str(alloc, "1")?));
+    let mut handler = MietteHandler::new(alloc, &terminal)?;
+    given(alloc, &mut handler, &Report::msg(alloc, "m")?)
 }
 
 #[test]
@@ -106,57 +107,44 @@ fn drawn_for(alloc: Global, terminal: &Terminal) -> Result<String, Fail> {
 #[test]
 fn pictures_for_a_terminal(rt: HostRuntime) -> Result<(), Fail> {
     assert_eq!(rt; drawn_for(rt.alloc(), &bare())?.as_str(), "  x m\n");
-    let terminal = Terminal {
-        stdout_terminal: true,
-        stderr_terminal: true,
-        unicode: true,
-        ..bare()
-    };
     let wanted = "  \u{1b}[31m×\u{1b}[0m m\n";
-    assert_eq!(rt; drawn_for(rt.alloc(), &terminal)?.as_str(), wanted);
+    assert_eq!(rt;
+        drawn_for(rt.alloc(), &terminal(true, None))?.as_str(),
+        wanted
+    );
     Ok(())
 }
 
 /// What the options draw of that label, without a style of a theme.
 fn drawn(alloc: Global, options: MietteHandlerOpts) -> Result<String, Fail> {
     let theme = GraphicalTheme::unicode_nocolor(alloc)?;
-    let mut out = String::new(alloc);
     let mut handler = options.graphical_theme(theme).build(alloc, &bare())?;
-    handler.debug(&labelled(alloc)?, &mut out)?;
-    Ok(out)
+    given(alloc, &mut handler, &labelled(alloc)?)
 }
 
 const PLAIN: &str = "  × m\n   ╭────\n 1 │ ab\n   · ─\n   ╰────\n";
 
 const STYLED: &str = "  × m\n   ╭────\n 1 │ \u{1b}[31ma\u{1b}[0mb\n   · ─\n   ╰────\n";
 
-#[test]
-fn a_highlighter_where_colours_are_asked_for(rt: HostRuntime) -> Result<(), Fail> {
-    let first_red = Box::new(rt.alloc(), FirstRed)?;
-    let asked = MietteHandlerOpts::new()
-        .color(true)
-        .with_syntax_highlighting(first_red);
-    assert_eq!(rt; drawn(rt.alloc(), asked)?.as_str(), STYLED);
-    Ok(())
+/// Options with a highlighter.
+fn highlighting(alloc: Global, colours: bool) -> Result<MietteHandlerOpts, Fail> {
+    let first_red = Box::new(alloc, FirstRed)?;
+    let asked = MietteHandlerOpts::default().color(colours);
+    Ok(asked.with_syntax_highlighting(first_red))
 }
 
 #[test]
-fn a_highlighter_where_none_are(rt: HostRuntime) -> Result<(), Fail> {
-    let first_red = Box::new(rt.alloc(), FirstRed)?;
-    let asked = MietteHandlerOpts::new()
-        .color(false)
-        .with_syntax_highlighting(first_red);
-    assert_eq!(rt; drawn(rt.alloc(), asked)?.as_str(), PLAIN);
+fn a_highlighter_counts_where_colours_are_asked_for(rt: HostRuntime) -> Result<(), Fail> {
+    for (colours, wanted) in [(true, STYLED), (false, PLAIN)] {
+        let asked = highlighting(rt.alloc(), colours)?;
+        assert_eq!(rt; drawn(rt.alloc(), asked)?.as_str(), wanted);
+    }
     Ok(())
 }
 
 #[test]
 fn a_highlighter_that_is_taken_back(rt: HostRuntime) -> Result<(), Fail> {
-    let first_red = Box::new(rt.alloc(), FirstRed)?;
-    let asked = MietteHandlerOpts::new()
-        .color(true)
-        .with_syntax_highlighting(first_red)
-        .without_syntax_highlighting();
+    let asked = highlighting(rt.alloc(), true)?.without_syntax_highlighting();
     assert_eq!(rt; drawn(rt.alloc(), asked)?.as_str(), PLAIN);
     Ok(())
 }

@@ -1,7 +1,7 @@
 //! Labels with their own numbers of context lines over a source that stops. Those over nine lines stand in
 //! `cases/job-nine-lines.jsonl`.
 
-use crate::drawn::{PLAIN, draws, handler_of};
+use crate::drawn::{draws, plain};
 use crate::json::stops_early;
 use miette::diagnostic::MietteDiagnostic;
 use miette::error::RenderError;
@@ -31,7 +31,7 @@ fn stopped(alloc: Global, place: Place) -> Result<Report, Fail> {
 #[test]
 fn a_group_that_is_not_read_again(rt: HostRuntime) -> Result<(), Fail> {
     let alloc = rt.alloc();
-    let mut drawing = handler_of(alloc, PLAIN)?;
+    let mut drawing = plain(alloc)?;
     let mut telling = NarratableReportHandler::new();
     let own = stopped(alloc, (0, 1))?;
     let mut out = String::from_str(alloc, "as before")?;
@@ -48,7 +48,7 @@ fn a_group_that_is_not_read_again(rt: HostRuntime) -> Result<(), Fail> {
         )
     );
     assert_eq!(rt; out.as_str(), "as before");
-    let plain = stopped(alloc, (0, 0))?;
+    let as_asked = stopped(alloc, (0, 0))?;
     let wanted = "  × m\n   ╭─[f:1:1]\n 1 │ abcdef\n   · ─\n   ╰────\n";
-    draws(&rt, alloc, drawing, &plain, wanted)
+    draws(&rt, alloc, drawing, &as_asked, wanted)
 }

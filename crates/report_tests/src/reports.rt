@@ -1,22 +1,19 @@
 //! Pictures by a handler that is made by calls. More of them, by `job`, stand in `cases/worked.jsonl`.
 
-use crate::drawn::{Asked, PLAIN, Theme, draws, handler_of};
+use crate::drawn::{draws, given, plain, themed};
 use crate::written::{M, README, Written, report_of, told_why};
 use miette::diagnostic::MietteDiagnostic;
-use miette::handlers::{GraphicalReportHandler, ReportHandler};
+use miette::handlers::GraphicalReportHandler;
 use miette::protocol::LabeledSpan;
 use miette::report::{OwnedSource, Report};
+use miette::theme::GraphicalTheme;
 use std::alloc::Global;
 use std::test::Fail;
 
 /// ASCII alone, with the footer `bye`.
 fn footed(alloc: Global) -> Result<GraphicalReportHandler, Fail> {
     let footer = String::from_str(alloc, "bye")?;
-    let ascii = Asked {
-        theme: Theme::Ascii,
-        ..PLAIN
-    };
-    Ok(handler_of(alloc, ascii)?.with_footer(footer))
+    Ok(themed(GraphicalTheme::none(alloc)?).with_footer(footer))
 }
 
 #[test]
@@ -48,22 +45,13 @@ fn a_primary_label(rt: HostRuntime) -> Result<(), Fail> {
     let wanted =
         "  × m\n   ╭─[f:2:3]\n 1 │ source\n   · ──────\n 2 │   text\n   ·   ────\n 3 │     here\n   ╰────\n";
     let alloc = rt.alloc();
-    draws(
-        &rt,
-        alloc,
-        handler_of(alloc, PLAIN)?,
-        &primary(alloc)?,
-        wanted,
-    )
+    draws(&rt, alloc, plain(alloc)?, &primary(alloc)?, wanted)
 }
 
-/// What the handler gives as a `ReportHandler`.
-fn debugged(alloc: Global, written: &Written<'_>) -> Result<String, Fail> {
+/// What the handler gives of it, as any handler does.
+fn drawn(alloc: Global, written: &Written<'_>) -> Result<String, Fail> {
     let report = report_of(alloc, written)?;
-    let mut handler = handler_of(alloc, PLAIN)?;
-    let mut out = String::new(alloc);
-    handler.debug(&report, &mut out)?;
-    Ok(out)
+    given(alloc, &mut plain(alloc)?, &report)
 }
 
 #[test]
@@ -77,6 +65,6 @@ fn a_label_over_all_lines(rt: HostRuntime) -> Result<(), Fail> {
     };
     let wanted =
         "  × oops!\n   ╭─[bad_file.rs:1:1]\n 1 │ ╭─▶ source\n 2 │ │     text\n 3 │ ├─▶     here\n   · ╰──── whole\n   ╰────\n";
-    assert_eq!(rt; debugged(rt.alloc(), &whole)?.as_str(), wanted);
+    assert_eq!(rt; drawn(rt.alloc(), &whole)?.as_str(), wanted);
     Ok(())
 }

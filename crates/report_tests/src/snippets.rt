@@ -1,6 +1,6 @@
 //! A source that holds what is no text. More snippets, by `job`, stand in `cases/worked.jsonl`.
 
-use crate::drawn::{PLAIN, draws, handler_of};
+use crate::drawn::{draws, plain};
 use crate::written::{M, Written, report_of};
 use std::test::Fail;
 
@@ -13,6 +13,5 @@ fn a_byte_that_is_no_text(rt: HostRuntime) -> Result<(), Fail> {
     };
     let report = report_of(rt.alloc(), &written)?;
     let wanted = "  × m\n   ╭────\n 1 │ a\u{FFFD}b\n   ·  ─\n   ╰────\n";
-    let handler = handler_of(rt.alloc(), PLAIN)?;
-    draws(&rt, rt.alloc(), handler, &report, wanted)
+    draws(&rt, rt.alloc(), plain(rt.alloc())?, &report, wanted)
 }

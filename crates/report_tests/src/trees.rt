@@ -1,5 +1,6 @@
 //! Reports as they are made, wrapped and looked into.
 
+use crate::drops::boxed_owner;
 use crate::load;
 use miette_protocol::diagnostic::MietteDiagnostic;
 use miette_protocol::protocol::{Diagnostic, LabeledSpan, Severity, SourceOffset, SourceSpan};
@@ -11,6 +12,7 @@ use miette_tree::report::{
 use miette_tree::{bail, diagnostic, ensure, miette};
 use std::alloc::{AllocError, Global};
 use std::process::Abort;
+use std::rc::Rc;
 use std::test::Fail;
 
 fn refused<T>(_back: T) -> Fail
@@ -234,14 +236,13 @@ fn full_in_context(alloc: Global) -> Result<Report, Fail> {
 
 #[test]
 fn a_message_in_front_keeps_the_parts(rt: HostRuntime) -> Result<(), Fail> {
-    let alloc = rt.alloc();
-    let report = full_in_context(alloc)?;
+    let report = full_in_context(rt.alloc())?;
+    assert_eq!(rt; report.severity(), Some(Severity::Warning));
     assert_eq!(rt;
         (report.message(), report.code(), report.help(), report.url()),
         ("outer", Some("a::b"), Some("try"), Some("http://x"))
     );
-    assert_eq!(rt; report.severity(), Some(Severity::Warning));
-    assert_eq!(rt; joined(alloc, report.cause())?.as_str(), "inner ");
+    assert_eq!(rt; joined(rt.alloc(), report.cause())?.as_str(), "inner ");
     Ok(())
 }
 
@@ -250,7 +251,9 @@ fn a_message_in_front_keeps_the_labels(rt: HostRuntime) -> Result<(), Fail> {
     let report = full_in_context(rt.alloc())?;
     let labels = report.labels().ok_or("labels")?;
     assert_eq!(rt; labels.len(), 1);
-    assert_eq!(rt; labels[0].offset(), 2);
+    for label in labels {
+        assert_eq!(rt; label.offset(), 2);
+    }
     Ok(())
 }
 
@@ -285,47 +288,9 @@ fn a_clone_of_a_chain(rt: HostRuntime) -> Result<(), Fail> {
     Ok(())
 }
 
-/// A diagnostic of its own, with a message alone.
-#[derive(Drop)]
-struct Lost {
-    message: String,
-}
-
-impl Diagnostic for Lost {
-    ghost use Rattle.miette_protocol.specs.views.Diagnostic.{message_alone};
-    ghost use Rattle.std.specs.Prelude.{string_bytes};
-
-    ghost meaning = { λ it. message_alone (string_bytes it.message) };
-
-    fn message(&self) -> &str {
-        self.message.as_str()
-    }
-
-    fn code(&self) -> Option<&str> {
-        None
-    }
-
-    fn severity(&self) -> Option<Severity> {
-        None
-    }
-
-    fn help(&self) -> Option<&str> {
-        None
-    }
-
-    fn url(&self) -> Option<&str> {
-        None
-    }
-
-    fn labels(&self) -> Option<&[LabeledSpan]> {
-        None
-    }
-}
-
 /// A report of a boxed diagnostic, with a related report and an empty list of cause texts.
 fn of_a_box(alloc: Global) -> Result<Report, Fail> {
-    let message = String::from_str(alloc, "lost")?;
-    let boxed: Box<dyn Diagnostic> = Box::new(alloc, Lost { message })?;
+    let boxed = boxed_owner(alloc, "lost", &Rc::new(alloc, 0u8)?)?;
     let mut related = Vec::new(alloc);
     related.push(Report::msg(alloc, "r")?)?;
     Ok(
