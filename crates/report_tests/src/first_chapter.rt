@@ -1,6 +1,7 @@
 //! The report of the first chapter of docs/GUIDE.md, by the calls that it shows. The same report by `job` stands first in
 //! `cases/gallery.jsonl`.
 
+use crate::clauses::{draw_both, warning};
 use miette::diagnostic::MietteDiagnostic;
 use miette::handlers::{GraphicalReportHandler, NarratableReportHandler};
 use miette::protocol::LabeledSpan;
@@ -46,6 +47,16 @@ fn first_told(alloc: Global) -> Result<String, Fail> {
     let mut told = String::new(alloc);
     NarratableReportHandler::new().render_report(&report, &mut told)?;
     Ok(told)
+}
+
+const WARNING: &str =
+    "  × no such host\n   ╭─[app.toml:2:8]\n 1 │ port = 80\n 2 │ host = x\n   ·        ┬\n   ·        ╰── this name\n   ╰────\n";
+
+#[test]
+fn a_warning_whose_clauses_are_used(rt: HostRuntime) -> Result<(), Fail> {
+    let drawn = draw_both(rt.alloc(), &warning(rt.alloc())?)?;
+    assert_eq!(rt; drawn.plain.as_str(), WARNING);
+    Ok(())
 }
 
 #[test]

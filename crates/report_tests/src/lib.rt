@@ -2,6 +2,7 @@
 //! texts were written by hand from the rules. What a description can say stands in `cases/`.
 #![tactic(auto)]
 
+pub mod clauses;
 #[cfg(test)]
 mod debug;
 #[cfg(test)]

@@ -1,0 +1,51 @@
+-- What is known of the pictures of one report.
+use Rattle.std.specs.Prelude.{◌≡◌, ℕ, false, List, [], ◌∷◌, Some, None, codes}
+use Rattle.miette_protocol.specs.views.Diagnostic.{message_alone}
+use Rattle.miette_protocol.specs.views.Meaning.{Label}
+use Rattle.miette_protocol.specs.rules.Reading.{Source, named, plain_source}
+use Rattle.miette_tree.specs.rules.Tree.{Tree, alone, with_source}
+use Rattle.miette_style.specs.rules.Themes.{ansi_styles, no_styles, unicode_characters}
+use Rattle.miette_layout.specs.rules.Marks.{Mark}
+use Rattle.miette_layout.specs.rules.Numbers.{runs}
+use Rattle.miette_graphical.specs.rules.Settings.{Settings, default_settings}
+use Rattle.miette_graphical.specs.laws.Headline.{AreOwnMarks, ShowsRuns, SnippetHangs, groups_of, marks_under, shown_lines}
+use Rattle.std.specs.List.{AllByRecursion}
+
+-- ---- the report: a label on the one letter of a name, in the second of two lines
+
+abbrev pub settings_file : Source
+settings_file = named (plain_source (codes "port = 80\nhost = x\n")) (codes "app.toml") None
+
+abbrev pub name_label : Label
+name_label = record { text = Some (codes "this name"); span = record { offset = 17; len = 1 }; primary = false; context = None }
+
+abbrev pub warning_tree : Tree
+warning_tree = with_source settings_file (alone (record (message_alone (codes "no such host")) { labels = Some (name_label ∷ []) }))
+
+-- ---- how it is drawn
+
+abbrev pub in_colours : Settings
+in_colours = default_settings unicode_characters ansi_styles
+
+abbrev pub plain : Settings
+plain = default_settings unicode_characters no_styles
+
+-- ---- what its snippet shows
+
+-- the lines 0 and 1, in one frame
+pub record ShowsBothLines (s : Settings) : Type 0 where
+  pub lines : runs (shown_lines s settings_file (name_label ∷ [])) ≡ (0 ∷ 1 ∷ []) ∷ []
+  pub shown : ShowsRuns s settings_file (name_label ∷ [])
+
+-- the columns that a mark has
+abbrev pub columns_of : Mark → List ℕ
+columns_of mark = mark.from ∷ mark.until ∷ []
+
+-- under the line 1 one mark, at the column 7, and it is alone there
+pub record HasOwnMark (s : Settings) : Type 0 where
+  pub columns : AllByRecursion (λ mark. columns_of mark ≡ 7 ∷ 8 ∷ []) (marks_under s settings_file (name_label ∷ []) 1)
+  pub own : AreOwnMarks (marks_under s settings_file (name_label ∷ []) 1)
+
+-- in each snippet the label's text hangs from its mark
+abbrev pub TextHangs : Settings → Type 0
+TextHangs s = AllByRecursion (SnippetHangs s settings_file (name_label ∷ [])) (groups_of s settings_file (name_label ∷ []))

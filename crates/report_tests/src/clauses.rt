@@ -1,0 +1,64 @@
+//! What a caller knows of the pictures of a report, by the clauses of the call that draws them.
+
+ghost use Rattle.std.specs.Prelude.{◌≡◌, IfOk, string_bytes, encode_utf8_all};
+ghost use Rattle.miette_graphical.specs.rules.Answers.{unlisted};
+ghost use Rattle.miette_graphical.specs.rules.Snippets.{drawn_rows};
+ghost use Rattle.miette_graphical.specs.rules.Text.{report_text};
+ghost use Rattle.miette_text.specs.rules.Sequences.{erase};
+ghost use Rattle.miette_tree.specs.views.Report.{tree_of};
+ghost use Rattle.report_tests.specs.Known.{HasOwnMark, ShowsBothLines, TextHangs, plain, warning_tree};
+
+use miette::diagnostic::MietteDiagnostic;
+use miette::error::RenderError;
+use miette::handlers::GraphicalReportHandler;
+use miette::protocol::{Diagnostic, LabeledSpan};
+use miette::report::{OwnedSource, Report};
+use miette::source::SourceCode;
+use miette::theme::GraphicalTheme;
+use miette_graphical::laws::themes_law;
+use std::alloc::{AllocError, Global};
+
+/// A report in colours, and in plain characters.
+#[derive(Drop)]
+pub struct Pictures {
+    /// In the terminal's own colours.
+    pub coloured: String,
+    /// In the same characters.
+    pub plain: String,
+}
+
+/// A warning on the second of two settings.
+pub fn warning(alloc: Global) -> Result<Report, AllocError>
+    ensures { IfOk result (λ r. tree_of ⟦<Box<dyn Diagnostic> as Diagnostic>⟧.meaning
+        ⟦<Box<dyn SourceCode> as SourceCode>⟧.source r ≡ warning_tree) }
+{
+    let label = LabeledSpan::at(alloc, (17, 1), "this name")?;
+    let diagnostic = MietteDiagnostic::new(alloc, "no such host")?.with_label(alloc, label)?;
+    let settings = "port = 80\nhost = x\n".as_bytes().to_vec(alloc)?;
+    let source = OwnedSource::named(alloc, "app.toml", None, settings)?;
+    Ok(Report::new(diagnostic).with_owned_source(source))
+}
+
+/// Both pictures of that warning.
+pub fn draw_both(alloc: Global, report: &Report) -> Result<Pictures, RenderError>
+    requires { tree_of ⟦<Box<dyn Diagnostic> as Diagnostic>⟧.meaning
+        ⟦<Box<dyn SourceCode> as SourceCode>⟧.source report.now ≡ warning_tree }
+    // the plain one is the text of the definition,
+    ensures plain { IfOk result (λ p. string_bytes p.plain
+        ≡ encode_utf8_all (report_text drawn_rows plain warning_tree unlisted)) }
+    // and without their colours they are the same
+    ensures colours { IfOk result (λ p. erase (string_bytes p.coloured) ≡ erase (string_bytes p.plain)) }
+    // its snippet shows the two lines, the label's mark is the column of the name, and its text hangs from it
+    ensures lines { IfOk result (λ p. ShowsBothLines plain) }
+    ensures marks { IfOk result (λ p. HasOwnMark plain) }
+    ensures texts { IfOk result (λ p. TextHangs plain) }
+{
+    themes_law();
+    let mut coloured = String::new(alloc);
+    let mut plain = String::new(alloc);
+    let mut handler = GraphicalReportHandler::new_themed(GraphicalTheme::unicode(alloc)?);
+    handler.render_report(report, &mut coloured)?;
+    let mut handler = GraphicalReportHandler::new_themed(GraphicalTheme::unicode_nocolor(alloc)?);
+    handler.render_report(report, &mut plain)?;
+    Ok(Pictures { coloured, plain })
+}
