@@ -10,7 +10,7 @@ use Rattle.miette_page.specs.rules.Rows.{Row, styled}
 use Rattle.miette_style.specs.rules.Styles.{plain}
 use Rattle.miette_layout.specs.rules.Drawing.{blank}
 use Rattle.miette_layout.specs.rules.Frames.{Settings, Place, place_text}
-use Rattle.miette_layout.specs.rules.Framed.{corner_row}
+use Rattle.miette_layout.specs.steps.Framed.{corner_row}
 use Rattle.miette_page.specs.views.Told.{Token, begins, told, run_told, text_told, bytes_told}
 use Rattle.miette_page.proofs.Paging.{told_append, told_one}
 use Rattle.miette_layout.proofs.Telling.{then, told_as, run_one, run_more, blank_row, styled_told, styled_row}

@@ -24,7 +24,7 @@ use Rattle.miette_layout.specs.rules.Gutters.{gutter_columns, most_labels}
 use Rattle.miette_lines.specs.rules.Labels.{DrawnLabel, is_one_line, is_multi_line, one_line, multi_line}
 use Rattle.miette_layout.specs.rules.Layout.{cells_of, line_rows, line_rows_of, rows_of_lines, body_rows}
 use Rattle.miette_layout.specs.rules.Highlighted.{EachHasPieces, ArePieces, decoded_text, texts_of}
-use Rattle.miette_layout.specs.views.Lent.{cells_in, text_in, texts_in, lent_rows, lent_snippet, width_of_count, gutter_of, PutsRows}
+use Rattle.miette_layout.specs.steps.Lent.{cells_in, text_in, texts_in, lent_rows, lent_snippet, width_of_count, gutter_of, PutsRows}
 use Rattle.miette_lines.specs.views.Placing.{placed_from}
 use Rattle.miette_lines.specs.views.Read.{IsRead}
 use Rattle.miette_lines.specs.views.TextLines.{line_of_text}

@@ -15,7 +15,7 @@ use Rattle.miette_layout.specs.rules.Drawing.{blank, mark_runs, rows_below, mark
 use Rattle.miette_layout.specs.rules.Frames.{Settings, number_start}
 use Rattle.miette_layout.specs.rules.Layout.{before_each}
 use Rattle.miette_page.specs.views.Told.{Token, begins, row_end, told, told_rows, run_told, text_told, bytes_told}
-use Rattle.miette_layout.specs.views.TellingCells.{cells_told, highlight_of}
+use Rattle.miette_layout.specs.steps.TellingCells.{cells_told, highlight_of}
 use Rattle.miette_page.proofs.Paging.{told_append, told_one}
 use Rattle.miette_layout.proofs.Telling.{then, told_as, run_one, blank_told, styled_row}
 use Rattle.miette_layout.proofs.Texting.{row_done, rows_then, parts_then}

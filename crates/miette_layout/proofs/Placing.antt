@@ -8,7 +8,7 @@ use Rattle.miette_lines.specs.rules.Labels.{DrawnLabel}
 use Rattle.miette_layout.specs.rules.Marks.{Text, Mark, mark_from, mark_until, marks_from}
 use Rattle.miette_lines.specs.views.Sweeping.{label_of, nothing}
 use Rattle.miette_lines.specs.views.Given.{drawn_of}
-use Rattle.miette_layout.specs.views.Made.{mark_of}
+use Rattle.miette_layout.specs.steps.Made.{mark_of}
 
 abbrev pub no_mark : MadeMark
 no_mark = record { from = 0; until = 0; label = nothing }

@@ -12,7 +12,7 @@ use Rattle.miette_lines.specs.views.Given.{width_of}
 use Rattle.miette_page.specs.views.Told.{Token, begins, told, text_told, bytes_told}
 use Rattle.miette_style.specs.declared.style.Style.{Style}
 use Rattle.std.proofs.lemmas.List.{nil_from_length}
-use Rattle.miette_layout.specs.views.TellingCells.{cells_told, highlight_of}
+use Rattle.miette_layout.specs.steps.TellingCells.{cells_told, highlight_of}
 use Rattle.miette_layout.specs.rules.Layout.{text_of_cells}
 use Rattle.miette_layout.specs.rules.Marks.{Text}
 use Rattle.miette_lines.specs.views.Printable.{is_printable, plain_cells}

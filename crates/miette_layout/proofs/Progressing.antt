@@ -27,7 +27,7 @@ use Rattle.miette_lines.specs.rules.Groups.{in_order, refusal, groups_of, some_f
 use Rattle.miette_layout.specs.rules.Highlighted.{EachHasPieces, SnippetsHavePieces, texts_of}
 use Rattle.miette_lines.specs.rules.Labels.{DrawnLabel, drawn_from}
 use Rattle.miette_layout.specs.rules.Layout.{snippet, all_snippets, line_rows, settings_around, rows_unless, place_of, body_rows}
-use Rattle.miette_layout.specs.views.Lent.{cells_in, lent_rows, lent_snippet, PutsRows}
+use Rattle.miette_layout.specs.steps.Lent.{cells_in, lent_rows, lent_snippet, PutsRows}
 use Rattle.miette_lines.specs.views.Placing.{placed_from}
 use Rattle.miette_lines.specs.views.Primary.{chosen, PointsTo, is_unread}
 use Rattle.miette_lines.specs.views.Read.{IsRead, IsLent, AreGroups, AreGrouped, IsUnread, AreRead, name_of}

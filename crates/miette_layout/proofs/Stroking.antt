@@ -12,7 +12,7 @@ use Rattle.miette_style.specs.rules.Styles.{plain}
 use Rattle.miette_lines.specs.rules.Labels.{parts_of, cut_at_lf, onto_part, is_empty}
 use Rattle.miette_layout.specs.rules.Marks.{Mark, anchor}
 use Rattle.miette_layout.specs.rules.Drawing.{mark_code, mark_run, mark_runs, code_with_parts}
-use Rattle.miette_layout.specs.views.Made.{mark_of}
+use Rattle.miette_layout.specs.steps.Made.{mark_of}
 use Rattle.miette_page.specs.views.Told.{Token, begins, told, told_run, run_told, text_told, bytes_told}
 use Rattle.miette_layout.proofs.Numbers.{range_with_len-append}
 use Rattle.miette_lines.proofs.Numbers.{by_cases}

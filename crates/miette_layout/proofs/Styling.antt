@@ -11,7 +11,7 @@ use Rattle.miette_layout.specs.rules.Gutters.{gutter_columns}
 use Rattle.miette_layout.specs.rules.Highlighted.{ArePieces, EachHasPieces, SnippetsHavePieces, piece_of, texts_of}
 use Rattle.miette_lines.specs.rules.Labels.{DrawnLabel, drawn_from}
 use Rattle.miette_layout.specs.rules.Layout.{line_rows, rows_of_lines, cells_of, all_snippets, place_of}
-use Rattle.miette_layout.specs.views.TellingCells.{highlight_of}
+use Rattle.miette_layout.specs.steps.TellingCells.{highlight_of}
 
 same_pieces : (ps : List Piece) → map piece_of (map highlight_of ps) ≡ ps
 same_pieces [] = refl

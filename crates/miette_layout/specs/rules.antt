@@ -1,7 +1,6 @@
 -- What users rely on, in the words of docs/RULES.md.
 pub mod PrintedCells
 pub mod Drawing
-pub mod Framed
 pub mod Frames
 pub mod Gutters
 pub mod Highlighted

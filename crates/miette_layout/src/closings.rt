@@ -8,7 +8,7 @@ ghost use Rattle.miette_layout.specs.rules.Frames.{other_start};
 ghost use Rattle.miette_layout.specs.rules.Layout.{before_each};
 ghost use Rattle.miette_lines.specs.views.Sweeping.{label_of};
 ghost use Rattle.miette_lines.specs.views.Given.{drawn_of};
-ghost use Rattle.miette_layout.specs.views.Sheets.{settings, multi_labels, closed_line, open_line};
+ghost use Rattle.miette_layout.specs.steps.Sheets.{settings, multi_labels, closed_line, open_line};
 ghost use Rattle.miette_lines.specs.views.TextLines.{line_of_text};
 
 use crate::gutters::{ends, push_open_gutter, push_other_gutter, starts};
@@ -122,7 +122,7 @@ fn push_closing(page: &mut Page, sheet: &Sheet, label: &Placed) -> Result<(), Al
 
 /// The rows of the texts of the labels of several lines that end on the sheet's line, in order. `AllocError` where
 /// memory is refused, or `number_width + 2` is past the largest `usize`.
-pub fn push_closings(page: &mut Page, sheet: &Sheet) -> Result<(), AllocError>
+pub(crate) fn push_closings(page: &mut Page, sheet: &Sheet) -> Result<(), AllocError>
     ensures { OnOk result (page.new ≡ page.old
         ++ told_rows (before_each (other_start (settings sheet.now) sheet.now.number_width)
         (closing_rows (settings sheet.now).width (settings sheet.now).characters (line_of_text sheet.now.line)

@@ -8,7 +8,7 @@ ghost use Rattle.miette_page.specs.views.Told.{told, told_rows, run_told, text_t
 ghost use Rattle.miette_layout.specs.rules.Frames.{top_row_of, bottom_row, location, location_of, place_text};
 ghost use Rattle.miette_layout.specs.rules.Frames.{refused_row, text_or_none};
 ghost use Rattle.miette_layout.specs.views.ThemeSettings.{settings_of};
-ghost use Rattle.miette_layout.specs.rules.Framed.{corner_row, place_at, refused_front};
+ghost use Rattle.miette_layout.specs.steps.Framed.{corner_row, place_at, refused_front};
 
 use crate::options::LayoutOptions;
 use miette_page::page::{PLAIN, Page};
@@ -19,13 +19,13 @@ use std::alloc::AllocError;
 
 /// What a snippet's frame is drawn with.
 #[derive(Clone, Copy)]
-pub struct Frame<'a> {
+pub(crate) struct Frame<'a> {
     /// The characters and styles.
-    pub theme: &'a GraphicalTheme,
+    pub(crate) theme: &'a GraphicalTheme,
     /// Whether the frame shows where its primary label begins.
-    pub options: LayoutOptions,
+    pub(crate) options: LayoutOptions,
     /// The columns of the line numbers.
-    pub number_width: usize,
+    pub(crate) number_width: usize,
 }
 
 // A run of ASCII characters.
@@ -174,7 +174,7 @@ fn push_location(
 /// `several` says whether the snippet has more than one line; `place` is where its primary label begins, line and
 /// column counted from 0. `AllocError` where memory is refused, or `number_width + 2` or a number counted from 1 is
 /// past the largest `usize`.
-pub fn push_top_row(
+pub(crate) fn push_top_row(
     page: &mut Page,
     frame: &Frame,
     name: Option<&str>,
@@ -193,7 +193,7 @@ pub fn push_top_row(
 
 /// The row under a snippet's lines: `   ╰────`. `AllocError` where memory is refused, or `number_width + 2` is past
 /// the largest `usize`.
-pub fn push_bottom_row(page: &mut Page, frame: &Frame) -> Result<(), AllocError>
+pub(crate) fn push_bottom_row(page: &mut Page, frame: &Frame) -> Result<(), AllocError>
     ensures { OnOk result (page.new ≡ page.old
         ++ told_rows (bottom_row (settings_of frame.now.theme.now frame.now.options) frame.now.number_width ∷ [])) }
 {
@@ -234,7 +234,7 @@ fn push_refused_text(page: &mut Page, frame: &Frame, label: &LabeledSpan) -> Res
 
 /// The row in place of snippets where a label is refused, with the refusal's name: "  [Failed to read contents for
 /// label `TEXT` (offset: O, length: N): NAME]". `AllocError` where memory is refused.
-pub fn push_refused_row(
+pub(crate) fn push_refused_row(
     page: &mut Page,
     frame: &Frame,
     label: &LabeledSpan,

@@ -6,7 +6,7 @@ ghost use Rattle.miette_lines.specs.rules.Labels.{starts_on, ends_on};
 ghost use Rattle.miette_lines.specs.views.Sweeping.{label_of};
 ghost use Rattle.miette_layout.specs.rules.Gutters.{number_gutter, other_gutter, open_gutter, ending_corner};
 ghost use Rattle.miette_lines.specs.views.Given.{drawn_of};
-ghost use Rattle.miette_layout.specs.views.Sheets.{settings, multi_labels};
+ghost use Rattle.miette_layout.specs.steps.Sheets.{settings, multi_labels};
 ghost use Rattle.miette_lines.specs.views.TextLines.{line_of_text};
 
 use crate::sheet::Sheet;
@@ -47,7 +47,11 @@ fn corner_at_end(sheet: &Sheet, label: &Placed) -> char
 
 /// The gutter of a row that isn't the number row, in so many columns: a bar for each label that goes on,
 /// then a corner for the first one that ends on the line: `│╰───`. `AllocError` where memory is refused.
-pub fn push_other_gutter(page: &mut Page, sheet: &Sheet, columns: usize) -> Result<(), AllocError>
+pub(crate) fn push_other_gutter(
+    page: &mut Page,
+    sheet: &Sheet,
+    columns: usize,
+) -> Result<(), AllocError>
     ensures { OnOk result (page.new ≡ page.old
         ++ told (other_gutter (settings sheet.now).width (settings sheet.now).characters (line_of_text sheet.now.line)
         columns (multi_labels sheet.now))) }
@@ -72,7 +76,11 @@ pub fn push_other_gutter(page: &mut Page, sheet: &Sheet, columns: usize) -> Resu
 }
 
 /// The same with spaces in place of the corner: `│    `. `AllocError` where memory is refused.
-pub fn push_open_gutter(page: &mut Page, sheet: &Sheet, columns: usize) -> Result<(), AllocError>
+pub(crate) fn push_open_gutter(
+    page: &mut Page,
+    sheet: &Sheet,
+    columns: usize,
+) -> Result<(), AllocError>
     ensures { OnOk result (page.new ≡ page.old
         ++ told (open_gutter (settings sheet.now).width (settings sheet.now).characters (line_of_text sheet.now.line)
         columns (multi_labels sheet.now))) }
@@ -112,7 +120,7 @@ fn push_arrow(
 
 /// The gutter of the number row: a bar for each label that runs through, an arrow for the first one that starts or
 /// ends on the line: `│╭─▶ `. `AllocError` where memory is refused.
-pub fn push_number_gutter(page: &mut Page, sheet: &Sheet) -> Result<(), AllocError>
+pub(crate) fn push_number_gutter(page: &mut Page, sheet: &Sheet) -> Result<(), AllocError>
     ensures { OnOk result (page.new ≡ page.old
         ++ told (number_gutter (settings sheet.now).width (settings sheet.now).characters (line_of_text sheet.now.line)
         sheet.now.gutter (multi_labels sheet.now))) }

@@ -2,7 +2,7 @@
 
 ghost use Rattle.std.specs.Prelude.{◌≡◌, ℕ, List, true, map, IfOk};
 ghost use Rattle.miette_layout.specs.rules.Highlighted.{ArePieces, decoded_text, leaves_plain};
-ghost use Rattle.miette_layout.specs.views.TellingCells.{highlight_of};
+ghost use Rattle.miette_layout.specs.steps.TellingCells.{highlight_of};
 ghost use Rattle.miette_style.specs.rules.Pieces.{CutsLine, plain_pieces};
 
 use bstr::ByteSlice;
@@ -13,7 +13,7 @@ use miette_style::style::Style;
 use std::alloc::{AllocError, Global};
 
 /// Begins a new snippet, of what its read lent.
-pub fn restart<H: Highlighter>(highlighter: &mut Option<H>, lent: &MietteSpanContents<'_>)
+pub(crate) fn restart<H: Highlighter>(highlighter: &mut Option<H>, lent: &MietteSpanContents<'_>)
     ensures { leaves_plain H.is_blank highlighter.new ≡ leaves_plain H.is_blank highlighter.old }
 {
     match highlighter {
@@ -50,7 +50,7 @@ fn is_plain(pieces: &[(usize, Style)]) -> bool
 /// A highlighter's pieces for the bytes of a line's text; none where it leaves the line plain, and where there is no
 /// highlighter. Each is a length in bytes of the decoded text, and a style. `AllocError` where memory is refused, to
 /// the highlighter too.
-pub fn pieces_of<H: Highlighter>(
+pub(crate) fn pieces_of<H: Highlighter>(
     alloc: Global,
     highlighter: &mut Option<H>,
     text: &[u8],

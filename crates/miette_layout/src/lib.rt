@@ -1,17 +1,19 @@
 //! The rows of a diagnostic's snippets: which lines are shown, how labels are marked, and where their texts stand.
 #![tactic(auto)]
 
-pub mod closings;
-pub mod frame;
-pub mod gutters;
-pub mod highlighting;
+mod closings;
+mod frame;
+mod gutters;
+mod highlighting;
 pub mod laws;
-pub mod line;
-pub mod marks;
+mod line;
+mod marks;
 pub mod options;
 mod parts;
-pub mod sheet;
-pub mod snippet;
+mod sheet;
+mod snippet;
 pub mod snippets;
-pub mod strokes;
-pub mod texts;
+mod strokes;
+mod texts;
+
+pub use miette_page::page;

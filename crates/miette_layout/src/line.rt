@@ -8,11 +8,11 @@ ghost use Rattle.miette_layout.specs.rules.Drawing.{marked_rows};
 ghost use Rattle.miette_layout.specs.rules.Frames.{number_start};
 ghost use Rattle.miette_layout.specs.rules.Layout.{before_each, line_rows_of, text_of_cells};
 ghost use Rattle.miette_page.specs.views.Told.{told, told_rows, text_told};
-ghost use Rattle.miette_layout.specs.views.TellingCells.{cells_told, highlight_of};
+ghost use Rattle.miette_layout.specs.steps.TellingCells.{cells_told, highlight_of};
 ghost use Rattle.miette_lines.specs.views.Walking.{cell_of};
-ghost use Rattle.miette_layout.specs.views.Made.{mark_of};
-ghost use Rattle.miette_layout.specs.views.Sheets.{settings, multi_labels, before_marks, number_row, shown_cells};
-ghost use Rattle.miette_layout.specs.views.Sheets.{labels_alone};
+ghost use Rattle.miette_layout.specs.steps.Made.{mark_of};
+ghost use Rattle.miette_layout.specs.steps.Sheets.{settings, multi_labels, before_marks, number_row, shown_cells};
+ghost use Rattle.miette_layout.specs.steps.Sheets.{labels_alone};
 ghost use Rattle.miette_lines.specs.views.TextLines.{line_of_text};
 
 use crate::closings::push_closings;
@@ -172,7 +172,7 @@ fn push_one_line_labels(
 /// The rows of the sheet's line: the number row, the marks and texts of the labels that lie on it alone, and the texts
 /// of the labels of several lines that end there. `AllocError` where memory is refused, or a column is past the
 /// largest `usize`.
-pub fn push_line_rows(
+pub(crate) fn push_line_rows(
     alloc: Global,
     page: &mut Page,
     sheet: &Sheet,

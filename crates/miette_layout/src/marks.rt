@@ -10,7 +10,7 @@ ghost use Rattle.miette_layout.specs.rules.Marks.{mark_from, mark_until, marks};
 ghost use Rattle.miette_layout.specs.rules.Layout.{text_of_cells};
 ghost use Rattle.miette_lines.specs.views.Sweeping.{label_of};
 ghost use Rattle.miette_lines.specs.views.Given.{drawn_of, width_of};
-ghost use Rattle.miette_layout.specs.views.Made.{mark_of, ComeFrom, IsStop};
+ghost use Rattle.miette_layout.specs.steps.Made.{mark_of, ComeFrom, IsStop};
 
 use miette_lines::cells::Walk;
 use miette_lines::plain::all_printable;
@@ -32,7 +32,7 @@ struct Stop<'a> {
 /// Where the characters of a line's text stand, by offset. A text of printable ASCII characters needs no walk: its
 /// bytes are its columns.
 #[derive(Drop)]
-pub struct Columns<'a> {
+pub(crate) struct Columns<'a> {
     plain: &'a [u8],
     start: usize,
     whole: Walk<'a>,
@@ -45,7 +45,7 @@ impl<'a> Model for Columns<'a> {
     ghost use Rattle.std.specs.Prelude.{◌++◌};
     ghost use Rattle.std.specs.List.{All};
     ghost use Rattle.miette_layout.specs.rules.Marks.{Text};
-    ghost use Rattle.miette_layout.specs.views.Made.{IsStop};
+    ghost use Rattle.miette_layout.specs.steps.Made.{IsStop};
     ghost use Rattle.miette_lines.specs.views.Printable.{plain_cells};
 
     ghost Value = { Text };
@@ -136,7 +136,7 @@ fn stops_of<'a>(alloc: Global, walk: Walk<'a>) -> Result<(Vec<Stop<'a>>, usize),
 impl<'a> Columns<'a> {
     /// The columns of a line's text, whose bytes are given, with tabs of so many columns. `AllocError` where memory
     /// is refused, or the text has more columns than a `usize` counts.
-    pub fn new(
+    pub(crate) fn new(
         alloc: Global,
         line: &LineOfText,
         text: &'a [u8],
@@ -183,7 +183,7 @@ impl<'a> Columns<'a> {
 
     /// The column of an offset, rounded down to a character's start. A column past the largest `usize` is refused as
     /// want of memory.
-    pub fn first_column(&self, offset: usize) -> Result<usize, AllocError>
+    pub(crate) fn first_column(&self, offset: usize) -> Result<usize, AllocError>
         ensures { IfOk result (λ column. column
             ≡ first_of_cells self.now.cells self.now.text_end self.now.width offset) }
     {
@@ -198,7 +198,7 @@ impl<'a> Columns<'a> {
     }
 
     /// The same, rounded up: `AllocError` too where that is past the largest `usize`.
-    pub fn last_column(&self, offset: usize) -> Result<usize, AllocError>
+    pub(crate) fn last_column(&self, offset: usize) -> Result<usize, AllocError>
         ensures { IfOk result (λ column. column
             ≡ last_of_cells self.now.cells self.now.text_end self.now.width offset) }
     {
@@ -215,13 +215,13 @@ impl<'a> Columns<'a> {
 
 /// A mark: its columns from the one up to the other, and its label.
 #[derive(Clone, Copy, Debug, PartialEq, Eq, Drop)]
-pub struct Mark {
+pub(crate) struct Mark {
     /// Its first column, counted from 0 where the line's text begins.
-    pub from: usize,
+    pub(crate) from: usize,
     /// The column behind its last one.
-    pub until: usize,
+    pub(crate) until: usize,
     /// The label that it marks.
-    pub label: Placed,
+    pub(crate) label: Placed,
 }
 
 // The mark of a label, where the mark before it ends at a column.
@@ -271,7 +271,7 @@ fn marks_in(
 /// many columns.
 /// Each has at least one column, and begins at its label's first column or where the mark before it ends, whichever
 /// is later. `AllocError` where memory is refused, or a column is past the largest `usize`.
-pub fn marks_on(
+pub(crate) fn marks_on(
     alloc: Global,
     line: &LineOfText,
     text: &[u8],

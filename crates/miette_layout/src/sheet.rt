@@ -11,32 +11,32 @@ use miette_style::theme::GraphicalTheme;
 
 /// What all rows of a line are drawn with.
 #[derive(Clone, Copy)]
-pub struct Sheet<'a> {
+pub(crate) struct Sheet<'a> {
     /// The characters and styles.
-    pub theme: &'a GraphicalTheme,
+    pub(crate) theme: &'a GraphicalTheme,
     /// The width of tabs.
-    pub options: LayoutOptions,
+    pub(crate) options: LayoutOptions,
     /// The columns of the line numbers.
-    pub number_width: usize,
+    pub(crate) number_width: usize,
     /// The columns of the gutter.
-    pub gutter: usize,
+    pub(crate) gutter: usize,
     /// The line.
-    pub line: LineOfText,
+    pub(crate) line: LineOfText,
     /// The diagnostic's labels, whose texts are drawn.
-    pub labels: &'a [LabeledSpan],
+    pub(crate) labels: &'a [LabeledSpan],
     /// The labels of several lines that lie on the line, by offset.
-    pub multi: &'a [Placed],
+    pub(crate) multi: &'a [Placed],
 }
 
 /// A line as its own rows show it.
 #[derive(Clone, Copy)]
-pub struct ShownLine<'a> {
+pub(crate) struct ShownLine<'a> {
     /// Its number, counted from 1.
-    pub number: usize,
+    pub(crate) number: usize,
     /// The bytes of its text.
-    pub text: &'a [u8],
+    pub(crate) text: &'a [u8],
     /// The labels that lie on it alone, by offset.
-    pub one: &'a [Placed],
+    pub(crate) one: &'a [Placed],
     /// A highlighter's pieces of its text, each a length in bytes and a style.
-    pub pieces: &'a [(usize, Style)],
+    pub(crate) pieces: &'a [(usize, Style)],
 }

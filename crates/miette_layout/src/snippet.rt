@@ -23,8 +23,8 @@ ghost use Rattle.miette_newlines.specs.rules.Lines.{lines_from};
 ghost use Rattle.miette_layout.specs.views.ThemeSettings.{settings_of};
 ghost use Rattle.miette_lines.specs.views.Given.{drawn_of};
 ghost use Rattle.miette_layout.specs.rules.Highlighted.{leaves_plain};
-ghost use Rattle.miette_layout.specs.views.Lent.{PutsRows, PutsSnippet, texts_in, lent_rows};
-ghost use Rattle.miette_layout.specs.views.Lent.{width_of_count, gutter_of};
+ghost use Rattle.miette_layout.specs.steps.Lent.{PutsRows, PutsSnippet, texts_in, lent_rows};
+ghost use Rattle.miette_layout.specs.steps.Lent.{width_of_count, gutter_of};
 ghost use Rattle.miette_lines.specs.views.Sweeping.{IsAt, AreSorted};
 
 use crate::frame::{Frame, push_bottom_row, push_top_row};
@@ -44,26 +44,26 @@ use std::alloc::{AllocError, Global};
 
 /// What the snippets of a diagnostic are drawn with.
 #[derive(Clone, Copy)]
-pub struct Drawing<'a> {
+pub(crate) struct Drawing<'a> {
     /// Where memory comes from.
-    pub alloc: Global,
+    pub(crate) alloc: Global,
     /// The characters and styles.
-    pub theme: &'a GraphicalTheme,
+    pub(crate) theme: &'a GraphicalTheme,
     /// How snippets are laid out.
-    pub options: LayoutOptions,
+    pub(crate) options: LayoutOptions,
     /// The labels as given, whose texts are drawn.
-    pub labels: &'a [LabeledSpan],
+    pub(crate) labels: &'a [LabeledSpan],
     /// The labels as they are drawn, by offset.
-    pub placed: &'a [Placed],
+    pub(crate) placed: &'a [Placed],
 }
 
 /// A sweep over labels, and the offset to which it has come.
 #[derive(Drop)]
-pub struct Passage {
+pub(crate) struct Passage {
     /// What the sweep knows there.
-    pub sweep: Sweep,
+    pub(crate) sweep: Sweep,
     /// The offset.
-    pub at: usize,
+    pub(crate) at: usize,
 }
 
 // What the lines of a snippet are drawn with: their frame and gutter, how many lines stand before them, and their
@@ -241,7 +241,7 @@ fn push_framed<'a, H: Highlighter>(
 /// the pieces of the highlighter, which is restarted. The sweep over the labels comes to where the lent bytes end.
 /// `AllocError` where memory is refused, to the highlighter too, or an offset, a line's number or a column is past
 /// the largest `usize`.
-pub fn push_snippet<'a, H: Highlighter>(
+pub(crate) fn push_snippet<'a, H: Highlighter>(
     drawing: &Drawing<'a>,
     highlighter: &mut Option<H>,
     page: &mut Page,

@@ -6,8 +6,8 @@ ghost use Rattle.miette_page.specs.views.Told.{told, told_run};
 ghost use Rattle.miette_lines.specs.rules.Labels.{is_empty};
 ghost use Rattle.miette_layout.specs.rules.Drawing.{code_with_parts, mark_run, mark_runs};
 ghost use Rattle.miette_lines.specs.views.Given.{drawn_of};
-ghost use Rattle.miette_layout.specs.views.Made.{mark_of};
-ghost use Rattle.miette_layout.specs.views.Sheets.{settings};
+ghost use Rattle.miette_layout.specs.steps.Made.{mark_of};
+ghost use Rattle.miette_layout.specs.steps.Sheets.{settings};
 
 use crate::marks::Mark;
 use crate::sheet::Sheet;
@@ -16,7 +16,7 @@ use miette_page::page::Page;
 use std::alloc::AllocError;
 
 /// The column of a mark at which its text hangs: the middle one, rounded down.
-pub fn anchor_of(mark: &Mark) -> usize
+pub(crate) fn anchor_of(mark: &Mark) -> usize
     requires { mark.now.from < mark.now.until }
     ensures is { result ≡ (mark.now.from + mark.now.until) / 2 }
     ensures from { mark.now.from ≤ result }
@@ -59,7 +59,7 @@ fn push_mark(page: &mut Page, sheet: &Sheet, mark: &Mark) -> Result<(), AllocErr
 }
 
 /// The marks, each behind the spaces before it: `  ──┬── ▲ ─┬─`. `AllocError` where memory is refused.
-pub fn push_marks(page: &mut Page, sheet: &Sheet, marks: &[Mark]) -> Result<(), AllocError>
+pub(crate) fn push_marks(page: &mut Page, sheet: &Sheet, marks: &[Mark]) -> Result<(), AllocError>
     requires { All (λ mark. mark.from < mark.until) marks.now }
     ensures { OnOk result (page.new ≡ page.old
         ++ told (mark_runs (settings sheet.now).width (settings sheet.now).characters 0

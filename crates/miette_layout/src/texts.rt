@@ -8,8 +8,8 @@ ghost use Rattle.miette_layout.specs.rules.Drawing.{lead_runs, beside, rows_of_p
 ghost use Rattle.miette_layout.specs.rules.Frames.{other_start};
 ghost use Rattle.miette_layout.specs.rules.Layout.{before_each};
 ghost use Rattle.miette_lines.specs.views.Given.{drawn_of};
-ghost use Rattle.miette_layout.specs.views.Made.{mark_of};
-ghost use Rattle.miette_layout.specs.views.Sheets.{settings, before_marks, text_line};
+ghost use Rattle.miette_layout.specs.steps.Made.{mark_of};
+ghost use Rattle.miette_layout.specs.steps.Sheets.{settings, before_marks, text_line};
 
 use crate::gutters::push_other_gutter;
 use crate::marks::Mark;
@@ -22,7 +22,7 @@ use std::alloc::AllocError;
 
 /// What stands before the gutter of a row that isn't the number row: `   · `. `AllocError` where memory is refused, or
 /// `number_width + 2` is past the largest `usize`.
-pub fn push_other_start(page: &mut Page, sheet: &Sheet) -> Result<(), AllocError>
+pub(crate) fn push_other_start(page: &mut Page, sheet: &Sheet) -> Result<(), AllocError>
     ensures { OnOk result (page.new ≡ page.old ++ told (other_start (settings sheet.now) sheet.now.number_width)) }
 {
     let Some(columns) = sheet.number_width.checked_add(2) else {
@@ -34,7 +34,7 @@ pub fn push_other_start(page: &mut Page, sheet: &Sheet) -> Result<(), AllocError
 }
 
 /// What stands before the marks and the texts under a line: `   · │╰──`. It fails as `push_other_start` does.
-pub fn push_before_marks(page: &mut Page, sheet: &Sheet) -> Result<(), AllocError>
+pub(crate) fn push_before_marks(page: &mut Page, sheet: &Sheet) -> Result<(), AllocError>
     ensures { OnOk result (page.new ≡ page.old ++ told (before_marks sheet.now)) }
 {
     push_other_start(page, sheet)?;
@@ -153,7 +153,7 @@ fn push_text(
 }
 
 /// The rows of the texts of all marks, the last one's first. It fails as `push_other_start` does.
-pub fn push_texts(page: &mut Page, sheet: &Sheet, marks: &[Mark]) -> Result<(), AllocError>
+pub(crate) fn push_texts(page: &mut Page, sheet: &Sheet, marks: &[Mark]) -> Result<(), AllocError>
     requires { All (λ mark. mark.from < mark.until) marks.now }
     ensures { OnOk result (page.new ≡ page.old ++ told_rows (before_each (before_marks sheet.now)
         (rows_below (settings sheet.now).width (settings sheet.now).characters []

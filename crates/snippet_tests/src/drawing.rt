@@ -1,8 +1,8 @@
 //! Snippets as the tests draw them, with the sources and the highlighter that they take.
 
 use miette_layout::options::LayoutOptions;
+use miette_layout::page::{Page, Part};
 use miette_layout::snippets::snippets;
-use miette_page::page::{Page, Part};
 use miette_protocol::error::{MietteError, RenderError};
 use miette_protocol::protocol::{LabeledSpan, SourceSpan};
 use miette_protocol::source::{MietteSpanContents, SourceCode};
@@ -61,14 +61,26 @@ pub(crate) fn text_of(alloc: Global, page: &Page) -> Result<String, AllocError> 
 fn drawn_by<S: SourceCode, H: Highlighter>(
     alloc: Global,
     highlighter: &mut Option<H>,
+    options: &LayoutOptions,
     source: &S,
     labels: &[LabeledSpan],
 ) -> Result<Result<String, RenderError>, AllocError> {
     let theme = GraphicalTheme::unicode_nocolor(alloc)?;
-    match snippets(alloc, highlighter, &theme, &OPTIONS, source, labels) {
+    match snippets(alloc, highlighter, &theme, options, source, labels) {
         Ok(page) => Ok(Ok(text_of(alloc, &page)?)),
         Err(error) => Ok(Err(error)),
     }
+}
+
+/// The source's snippets without a highlighter, laid out as told.
+pub(crate) fn draw_with<S: SourceCode>(
+    alloc: Global,
+    options: &LayoutOptions,
+    source: &S,
+    labels: &[LabeledSpan],
+) -> Result<Result<String, RenderError>, AllocError> {
+    let mut none: Option<BlankHighlighter> = None;
+    drawn_by(alloc, &mut none, options, source, labels)
 }
 
 /// The source's snippets without a highlighter.
@@ -77,8 +89,7 @@ pub(crate) fn draw<S: SourceCode>(
     source: &S,
     labels: &[LabeledSpan],
 ) -> Result<Result<String, RenderError>, AllocError> {
-    let mut none: Option<BlankHighlighter> = None;
-    drawn_by(alloc, &mut none, source, labels)
+    draw_with(alloc, &OPTIONS, source, labels)
 }
 
 /// The source's snippets are drawn so.
@@ -176,7 +187,7 @@ pub(crate) fn told<S: SourceCode>(
         reads: Vec::new(alloc),
         lines: String::new(alloc),
     });
-    let drawn = drawn_by(alloc, &mut highlighter, source, labels)?;
+    let drawn = drawn_by(alloc, &mut highlighter, &OPTIONS, source, labels)?;
     match (drawn, highlighter) {
         (Ok(text), Some(telling)) => Ok((text, telling)),
         _ => Err(Fail::from("refused")),

@@ -1,7 +1,7 @@
 use Rattle.std.proofs.Common.{◌∙◌, ◌++◌, ◌+◌, ap, sym, map, drop}
 use Rattle.miette_layout.specs.rules.Frames.{other_start}
 use Rattle.miette_lines.specs.views.Given.{drawn_of, width_of}
-use Rattle.miette_layout.specs.views.Sheets.{settings, multi_labels}
+use Rattle.miette_layout.specs.steps.Sheets.{settings, multi_labels}
 use Rattle.miette_lines.specs.views.TextLines.{line_of_text}
 use Rattle.miette_layout.proofs.Closing.{closing_more, closing_skip, rest_of}
 use Rattle.miette_layout.proofs.closings.push_closings.Goals as goal

@@ -4,7 +4,7 @@ use Rattle.std.specs.Option.{option_map_or, option_copied}
 use Rattle.miette_page.specs.views.Told.{told_rows}
 use Rattle.miette_lines.specs.rules.Labels.{cut_at_lf, parts_of}
 use Rattle.miette_lines.specs.views.Given.{drawn_of}
-use Rattle.miette_layout.specs.views.Sheets.{open_line}
+use Rattle.miette_layout.specs.steps.Sheets.{open_line}
 use Rattle.miette_layout.proofs.closings.push_open_rows.Given as goal
 
 abbrev pub invariant-loop-left : goal.invariant-loop-left

@@ -1,7 +1,7 @@
 use Rattle.std.proofs.Common.{◌++◌, ◌≡◌, ◌∙◌, cond, true, ap, sym, rules}
 use Rattle.std.specs.Prelude.{chars, codes}
 use Rattle.miette_layout.specs.rules.Frames.{place_text}
-use Rattle.miette_layout.specs.rules.Framed.{place_at}
+use Rattle.miette_layout.specs.steps.Framed.{place_at}
 use Rattle.miette_page.specs.views.Told.{run_told}
 use Rattle.miette_layout.proofs.Framing.{link_put}
 use Rattle.miette_layout.proofs.frame.push_link.Goals as goal

@@ -1,5 +1,5 @@
 use Rattle.std.proofs.Common.{rules, ◌≡◌, ◌+◌}
-use Rattle.miette_layout.specs.rules.Framed.{place_at}
+use Rattle.miette_layout.specs.steps.Framed.{place_at}
 use Rattle.miette_layout.proofs.Framing.{place_put}
 use Rattle.miette_layout.proofs.frame.push_place.Goals as goal
 

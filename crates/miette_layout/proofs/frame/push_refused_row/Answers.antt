@@ -2,7 +2,7 @@ use Rattle.std.proofs.Common.{[], ◌∷◌, ◌++◌, ◌∙◌, ap}
 use Rattle.std.specs.Prelude.{codes, chars, decimal}
 use Rattle.miette_page.specs.rules.Rows.{Row, styled}
 use Rattle.miette_style.specs.rules.Styles.{plain}
-use Rattle.miette_layout.specs.rules.Framed.{refused_front}
+use Rattle.miette_layout.specs.steps.Framed.{refused_front}
 use Rattle.miette_layout.specs.views.ThemeSettings.{settings_of}
 use Rattle.miette_lines.specs.views.Given.{width_of}
 use Rattle.miette_page.specs.views.Told.{run_told}

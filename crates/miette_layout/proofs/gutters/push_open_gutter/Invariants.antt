@@ -1,7 +1,7 @@
 use Rattle.std.proofs.Common.{◌≡◌, ◌++◌, map, drop}
 use Rattle.miette_page.specs.views.Told.{told}
 use Rattle.miette_lines.specs.views.Given.{drawn_of}
-use Rattle.miette_layout.specs.views.Sheets.{settings, multi_labels}
+use Rattle.miette_layout.specs.steps.Sheets.{settings, multi_labels}
 use Rattle.miette_lines.specs.views.TextLines.{line_of_text}
 use Rattle.miette_layout.specs.rules.Gutters.{open_gutter}
 use Rattle.miette_layout.proofs.gutters.push_open_gutter.Given as goal

@@ -1,5 +1,5 @@
 use Rattle.std.proofs.Common.{◌≡◌, ◌++◌, length}
-use Rattle.miette_layout.specs.views.TellingCells.{cells_told}
+use Rattle.miette_layout.specs.steps.TellingCells.{cells_told}
 use Rattle.miette_layout.proofs.line.push_cells.Given as goal
 
 abbrev pub invariant-loop-cell : goal.invariant-loop-cell

@@ -1,6 +1,6 @@
 use Rattle.std.proofs.Common.{◌≡◌, ◌++◌}
 use Rattle.miette_layout.specs.rules.PrintedCells.{cells_within, cells_beyond}
-use Rattle.miette_layout.specs.views.TellingCells.{cells_told}
+use Rattle.miette_layout.specs.steps.TellingCells.{cells_told}
 use Rattle.miette_layout.proofs.line.push_cells_within.Given as goal
 
 abbrev pub invariant-loop-left : goal.invariant-loop-left

@@ -5,7 +5,7 @@ use Rattle.miette_layout.specs.rules.Gutters.{closing_rows}
 use Rattle.miette_layout.specs.rules.Frames.{other_start}
 use Rattle.miette_layout.specs.rules.Layout.{before_each, text_of_cells}
 use Rattle.miette_lines.specs.views.Given.{width_of}
-use Rattle.miette_layout.specs.views.Sheets.{settings, multi_labels, before_marks, number_row, shown_cells, labels_alone}
+use Rattle.miette_layout.specs.steps.Sheets.{settings, multi_labels, before_marks, number_row, shown_cells, labels_alone}
 use Rattle.miette_lines.specs.views.TextLines.{line_of_text}
 use Rattle.miette_layout.proofs.Lining.{line_put}
 use Rattle.miette_layout.proofs.line.push_line_rows.Goals as goal

@@ -1,7 +1,7 @@
 use Rattle.std.proofs.Common.{◌≡◌, ◌++◌, map, drop}
 use Rattle.miette_page.specs.views.Told.{told}
 use Rattle.miette_layout.specs.rules.PrintedCells.{line_runs}
-use Rattle.miette_layout.specs.views.TellingCells.{highlight_of}
+use Rattle.miette_layout.specs.steps.TellingCells.{highlight_of}
 use Rattle.miette_layout.proofs.line.push_line_text.Given as goal
 
 abbrev pub invariant-loop-piece : goal.invariant-loop-piece

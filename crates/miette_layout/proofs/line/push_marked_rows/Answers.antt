@@ -3,8 +3,8 @@ use Rattle.miette_layout.specs.rules.Drawing.{mark_runs, rows_below}
 use Rattle.miette_page.specs.views.Told.{told_rows}
 use Rattle.miette_layout.specs.rules.Layout.{before_each}
 use Rattle.miette_lines.specs.views.Given.{width_of}
-use Rattle.miette_layout.specs.views.Made.{mark_of}
-use Rattle.miette_layout.specs.views.Sheets.{before_marks}
+use Rattle.miette_layout.specs.steps.Made.{mark_of}
+use Rattle.miette_layout.specs.steps.Sheets.{before_marks}
 use Rattle.miette_layout.proofs.Lining.{marked_put, marked_some}
 use Rattle.miette_layout.proofs.line.push_marked_rows.Goals as goal
 use Rattle.miette_style.specs.rules.Themes.{characters_of}

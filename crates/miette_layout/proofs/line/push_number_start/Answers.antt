@@ -1,4 +1,4 @@
-use Rattle.miette_layout.specs.views.Sheets.{settings}
+use Rattle.miette_layout.specs.steps.Sheets.{settings}
 use Rattle.miette_layout.proofs.Lining.{number_put}
 use Rattle.miette_layout.proofs.line.push_number_start.Goals as goal
 

@@ -2,7 +2,7 @@ use Rattle.std.proofs.Common.{◌≡◌, ◌++◌, ◌<◌, List, map, drop}
 use Rattle.std.specs.List.{All}
 use Rattle.miette_protocol.specs.views.Meaning.{Label}
 use Rattle.miette_layout.specs.rules.Marks.{marks, marks_from}
-use Rattle.miette_layout.specs.views.Made.{mark_of}
+use Rattle.miette_layout.specs.steps.Made.{mark_of}
 use Rattle.miette_lines.specs.views.Given.{drawn_of}
 use Rattle.miette_layout.proofs.marks.marks_in.Given as goal
 

@@ -1,7 +1,7 @@
 use Rattle.std.proofs.Common.{◌≡◌, ◌<◌, ◌≤◌, ℕ, length}
 use Rattle.std.specs.List.{All}
 use Rattle.miette_layout.specs.rules.PrintedCells.{first_column, last_column, cells_width}
-use Rattle.miette_layout.specs.views.Made.{ComeFrom, IsStop}
+use Rattle.miette_layout.specs.steps.Made.{ComeFrom, IsStop}
 use Rattle.miette_layout.proofs.marks.stops_of.Given as goal
 
 abbrev pub invariant-loop-stops : goal.invariant-loop-stops

@@ -1,6 +1,6 @@
 use Rattle.std.proofs.Common.{ap, ◌∙◌}
 use Rattle.std.specs.Option.{option_map}
-use Rattle.miette_layout.specs.rules.Framed.{place_at}
+use Rattle.miette_layout.specs.steps.Framed.{place_at}
 use Rattle.miette_layout.specs.views.ThemeSettings.{settings_of}
 use Rattle.miette_layout.specs.rules.Highlighted.{leaves_plain}
 use Rattle.miette_layout.proofs.Lending.{told_lent}

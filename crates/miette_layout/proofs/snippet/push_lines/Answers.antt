@@ -3,10 +3,10 @@ use Rattle.miette_lines.specs.declared.sweep.Placed.{Placed}
 use Rattle.miette_layout.specs.views.ThemeSettings.{settings_of}
 use Rattle.miette_lines.specs.views.Given.{drawn_of}
 use Rattle.miette_layout.specs.rules.Highlighted.{leaves_plain, decoded_text, ArePieces}
-use Rattle.miette_layout.specs.views.Lent.{text_in}
+use Rattle.miette_layout.specs.steps.Lent.{text_in}
 use Rattle.miette_lines.specs.views.TextLines.{line_of_text}
 use Rattle.miette_lines.specs.views.Sweeping.{IsAt}
-use Rattle.miette_layout.specs.views.TellingCells.{highlight_of}
+use Rattle.miette_layout.specs.steps.TellingCells.{highlight_of}
 use Rattle.miette_lines.proofs.Firsts.{state_more}
 use Rattle.miette_layout.proofs.Lending.{AreLined, lines_first, lines_more, lines_all, text_fits}
 use Rattle.miette_layout.proofs.snippet.push_lines.Goals as goal

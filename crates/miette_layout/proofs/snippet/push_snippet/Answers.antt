@@ -1,9 +1,9 @@
 use Rattle.std.proofs.Common.{ℕ, ◌≡◌, ◌+◌, ap, ◌∙◌, sym, subst, length, map}
 use Rattle.std.specs.Option.{option_map}
-use Rattle.miette_layout.specs.rules.Framed.{place_at}
+use Rattle.miette_layout.specs.steps.Framed.{place_at}
 use Rattle.miette_layout.specs.views.ThemeSettings.{settings_of}
 use Rattle.miette_lines.specs.views.Given.{drawn_of}
-use Rattle.miette_layout.specs.views.Lent.{PutsRows, lent_snippet}
+use Rattle.miette_layout.specs.steps.Lent.{PutsRows, lent_snippet}
 use Rattle.miette_lines.specs.views.Sweeping.{IsAt}
 use Rattle.miette_layout.proofs.Lending.{lent_texts}
 use Rattle.miette_layout.proofs.snippet.push_snippet.Goals as goal

@@ -2,14 +2,14 @@ use Rattle.std.proofs.Common.{rules, refl, ap, sym, ◌∙◌, map, List, Option
 use Rattle.std.specs.Option.{option_map}
 use Rattle.miette_lines.specs.declared.sweep.Placed.{Placed}
 use Rattle.miette_protocol.specs.rules.Reading.{Span}
-use Rattle.miette_layout.specs.rules.Framed.{place_at}
+use Rattle.miette_layout.specs.steps.Framed.{place_at}
 use Rattle.miette_lines.specs.rules.Around.{group_context}
 use Rattle.miette_lines.specs.rules.Groups.{in_order}
 use Rattle.miette_layout.specs.rules.Layout.{settings_around}
 use Rattle.miette_layout.specs.views.ThemeSettings.{settings_of}
 use Rattle.miette_lines.specs.views.Given.{drawn_of}
 use Rattle.miette_layout.specs.rules.Highlighted.{leaves_plain}
-use Rattle.miette_layout.specs.views.Lent.{PutsRows, lent_snippet}
+use Rattle.miette_layout.specs.steps.Lent.{PutsRows, lent_snippet}
 use Rattle.miette_lines.specs.views.Placing.{placed_from}
 use Rattle.miette_lines.specs.views.Primary.{PointsTo}
 use Rattle.miette_lines.specs.views.Read.{AreGroups}

@@ -1,6 +1,6 @@
 use Rattle.std.proofs.Common.{rules, ◌-◌}
 use Rattle.miette_lines.specs.views.Given.{width_of}
-use Rattle.miette_layout.specs.views.Made.{mark_of}
+use Rattle.miette_layout.specs.steps.Made.{mark_of}
 use Rattle.miette_layout.proofs.Stroking.{mark_put}
 use Rattle.miette_layout.proofs.strokes.push_mark.Goals as goal
 use Rattle.miette_style.specs.rules.Themes.{characters_of}

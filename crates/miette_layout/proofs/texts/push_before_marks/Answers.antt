@@ -1,5 +1,5 @@
 use Rattle.miette_layout.specs.rules.Frames.{other_start}
-use Rattle.miette_layout.specs.views.Sheets.{settings, gutter_below}
+use Rattle.miette_layout.specs.steps.Sheets.{settings, gutter_below}
 use Rattle.miette_layout.proofs.Texting.{parts_then}
 use Rattle.miette_layout.proofs.texts.push_before_marks.Goals as goal
 

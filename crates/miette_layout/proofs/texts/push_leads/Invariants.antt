@@ -1,8 +1,8 @@
 use Rattle.std.proofs.Common.{◌≡◌, ◌++◌, map, drop}
 use Rattle.miette_page.specs.views.Told.{told}
 use Rattle.miette_layout.specs.rules.Drawing.{lead_runs}
-use Rattle.miette_layout.specs.views.Made.{mark_of}
-use Rattle.miette_layout.specs.views.Sheets.{settings}
+use Rattle.miette_layout.specs.steps.Made.{mark_of}
+use Rattle.miette_layout.specs.steps.Sheets.{settings}
 use Rattle.miette_layout.proofs.texts.push_leads.Given as goal
 
 abbrev pub invariant-loop-mark : goal.invariant-loop-mark

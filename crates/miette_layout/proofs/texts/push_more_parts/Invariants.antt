@@ -4,8 +4,8 @@ use Rattle.std.specs.Option.{option_map_or, option_copied}
 use Rattle.miette_page.specs.views.Told.{told_rows}
 use Rattle.miette_lines.specs.rules.Labels.{cut_at_lf, parts_of}
 use Rattle.miette_layout.specs.rules.Drawing.{beside}
-use Rattle.miette_layout.specs.views.Made.{mark_of}
-use Rattle.miette_layout.specs.views.Sheets.{settings, text_line}
+use Rattle.miette_layout.specs.steps.Made.{mark_of}
+use Rattle.miette_layout.specs.steps.Sheets.{settings, text_line}
 use Rattle.miette_layout.proofs.texts.push_more_parts.Given as goal
 
 abbrev pub invariant-loop-left : goal.invariant-loop-left

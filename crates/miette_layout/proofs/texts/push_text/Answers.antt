@@ -2,8 +2,8 @@ use Rattle.std.proofs.Common.{◌∙◌, ◌∷◌, ap, sym, map}
 use Rattle.std.specs.Prelude.{chars, option_copied}
 use Rattle.miette_lines.specs.rules.Labels.{parts_of}
 use Rattle.miette_lines.specs.views.Given.{width_of}
-use Rattle.miette_layout.specs.views.Made.{mark_of}
-use Rattle.miette_layout.specs.views.Sheets.{before_marks}
+use Rattle.miette_layout.specs.steps.Made.{mark_of}
+use Rattle.miette_layout.specs.steps.Sheets.{before_marks}
 use Rattle.miette_layout.proofs.Texting.{several_parts}
 use Rattle.miette_layout.proofs.texts.push_text.Goals as goal
 use Rattle.miette_style.specs.rules.Themes.{characters_of}

@@ -1,8 +1,8 @@
 use Rattle.std.proofs.Common.{map}
 use Rattle.std.specs.Prelude.{chars}
 use Rattle.miette_lines.specs.views.Given.{width_of}
-use Rattle.miette_layout.specs.views.Made.{mark_of}
-use Rattle.miette_layout.specs.views.Sheets.{before_marks}
+use Rattle.miette_layout.specs.steps.Made.{mark_of}
+use Rattle.miette_layout.specs.steps.Sheets.{before_marks}
 use Rattle.miette_layout.proofs.Texting.{text_put}
 use Rattle.miette_layout.proofs.texts.push_text_row.Goals as goal
 use Rattle.miette_style.specs.rules.Themes.{characters_of}

@@ -1,6 +1,6 @@
 use Rattle.std.proofs.Common.{◌<◌, ◌-◌, ◌+◌, ◌≡◌, ◌≤◌, length, arith}
 use Rattle.miette_lines.specs.views.Given.{width_of}
-use Rattle.miette_layout.specs.views.Sheets.{before_marks}
+use Rattle.miette_layout.specs.steps.Sheets.{before_marks}
 use Rattle.miette_layout.proofs.Placing.{no_mark}
 use Rattle.miette_layout.proofs.Texting.{below_more}
 use Rattle.miette_layout.proofs.texts.push_texts.Goals as goal

@@ -3,7 +3,7 @@ use Rattle.miette_lines.specs.rules.Cells.{Cell}
 use Rattle.miette_layout.specs.rules.Marks.{Text}
 use Rattle.miette_lines.specs.views.Printable.{plain_cells}
 use Rattle.miette_lines.specs.views.Given.{width_of}
-use Rattle.miette_layout.specs.views.Made.{ComeFrom}
+use Rattle.miette_layout.specs.steps.Made.{ComeFrom}
 use Rattle.miette_lines.proofs.Stepping.{cells_end}
 use Rattle.miette_layout.proofs.Stopping.{cells_come}
 use Rattle.miette_layout.proofs.Plaining.{plain_text}

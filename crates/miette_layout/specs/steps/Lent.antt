@@ -9,7 +9,7 @@ use Rattle.miette_lines.specs.rules.Answers.{Highlight, first_of, later_of}
 use Rattle.miette_lines.specs.rules.Cells.{Cell, characters, cells_from}
 use Rattle.miette_lines.specs.rules.Contexts.{lines_of_contents}
 use Rattle.miette_layout.specs.declared.snippet.Drawing.{Drawing}
-use Rattle.miette_layout.specs.rules.Framed.{place_at}
+use Rattle.miette_layout.specs.steps.Framed.{place_at}
 use Rattle.miette_layout.specs.views.ThemeSettings.{settings_of}
 use Rattle.miette_lines.specs.views.Given.{drawn_of}
 use Rattle.miette_layout.specs.rules.Frames.{Settings, Place, top_row, bottom_row, number_width}
