@@ -1,0 +1,14 @@
+use Rattle.std.proofs.Common.{List, ◌++◌}
+use Rattle.std.specs.Str.{IsUtf8, chars}
+use Rattle.miette_style.specs.rules.Pieces.{Piece, CutsLine}
+use Rattle.miette_highlight.specs.rules.Characters.{AreCharacters}
+use Rattle.miette_highlight.proofs.characters.by_char.Given as goal
+
+-- whatever cuts the rest of the line, behind the pieces so far, is a cut of the line; and so with the styles
+abbrev pub invariant-loop-c : goal.invariant-loop-c
+invariant-loop-c g l = record {
+  utf8 : IsUtf8 l.c-iterator.rest.now;
+  cuts : (more : List Piece) → CutsLine l.c-iterator.rest.now more → CutsLine l.fn.line (l.pieces.items ++ more);
+  styles : (more : List Piece) → AreCharacters (λ c s. goal.F-post g l.style_of c s) (chars l.c-iterator.rest.now) more
+      → AreCharacters (λ c s. goal.F-post g l.style_of c s) (chars l.fn.line) (l.pieces.items ++ more);
+}

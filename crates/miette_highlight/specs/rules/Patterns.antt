@@ -1,0 +1,71 @@
+-- What a pattern finds at the start of a text, in bytes.
+use Rattle.std.specs.Prelude.{◌≡◌, ℕ, ◌+◌, Bool, true, false, ◌&&◌, ◌||◌, not, ◌==◌, nat_le, nat_eq, if◌then◌else◌}
+use Rattle.std.specs.Prelude.{Option, Some, None, List, [], ◌∷◌, length, take, drop, map, string_bytes, String}
+use Rattle.std.specs.Char.{is_ascii_alphanumeric}
+use Rattle.std.specs.List.{starts_with}
+use Rattle.std.specs.Str.{bytes_eq}
+use Rattle.std.specs.declared.alloc.Global.{Global}
+use Rattle.miette_highlight.specs.declared.patterns.Marks.{Marks}
+use Rattle.miette_highlight.specs.declared.patterns.Pattern.{Pattern}
+use Rattle.miette_highlight.specs.declared.patterns.Pattern.TheVariants.{Words, From, Between}
+
+-- a byte of a letter or a digit of ASCII, of `_`, or of a character beyond ASCII
+abbrev pub is_word_byte : ℕ → Bool
+is_word_byte b = is_ascii_alphanumeric b || b == 95 || nat_le 128 b
+
+-- where the word ends that a text begins with, the text beginning at a place
+abbrev pub word_end : ℕ → List ℕ → ℕ
+word_end at [] = at
+word_end at (b ∷ bs) = if is_word_byte b then word_end (at + 1) bs else at
+
+-- a word is one of these
+abbrev pub is_among : List (String Global) → List ℕ → Bool
+is_among [] word = false
+is_among (w ∷ ws) word = if bytes_eq (string_bytes w) word then true else is_among ws word
+
+-- a text begins with a byte from the first up to the last
+abbrev pub begins_within : ℕ → ℕ → List ℕ → Bool
+begins_within first last [] = false
+begins_within first last (b ∷ bs) = nat_le first b && nat_le b last
+
+abbrev pub is_escape : Option ℕ → ℕ → Bool
+is_escape None b = false
+is_escape (Some escape) b = escape == b
+
+-- where the first closing mark ends that isn't escaped, the text beginning at a place, behind an escape or not
+abbrev pub close_end : Marks → Bool → ℕ → List ℕ → Option ℕ
+close_end marks escaped at [] = None
+close_end marks escaped at (b ∷ bs) =
+    if not escaped && starts_with nat_eq (b ∷ bs) (string_bytes marks.closes)
+    then Some (at + length (string_bytes marks.closes))
+    else close_end marks (not escaped && is_escape marks.escape b) (at + 1) bs
+
+-- up to the end that was found; else up to the line's end, and over it where marks may
+abbrev pub closed_at : Option ℕ → ℕ → Bool → ℕ × Bool
+closed_at (Some end) line_end over_lines = (end, false)
+closed_at None line_end over_lines = (line_end, over_lines)
+
+-- where what lies behind an opening mark ends, the text beginning at a place, and whether it stays open
+abbrev pub inside : Marks → ℕ → List ℕ → ℕ × Bool
+inside marks at text = closed_at (close_end marks false at text) (at + length text) marks.over_lines
+
+-- how many bytes a pattern finds at the start of a text, and whether what it finds stays open
+abbrev pub match_of : Pattern → List ℕ → Option (ℕ × Bool)
+match_of (Words words) text =
+    if is_among words.items (take (word_end 0 text) text) then Some (word_end 0 text, false) else None
+match_of (From first last) text = if begins_within first last text then Some (word_end 0 text, false) else None
+match_of (Between marks) text =
+    if starts_with nat_eq text (string_bytes marks.opens)
+    then Some (inside marks (length (string_bytes marks.opens)) (drop (length (string_bytes marks.opens)) text))
+    else None
+
+-- the pattern is that of these words
+abbrev pub IsWords : List (List ℕ) → Pattern → Type 0
+IsWords texts (Words words) = map (λ w. string_bytes w) words.items ≡ texts
+IsWords texts (From first last) = ⊥
+IsWords texts (Between marks) = ⊥
+
+-- the marks, their escape, and whether what lies between them goes on over lines
+abbrev pub HasMarks : List ℕ → List ℕ → Option ℕ → Bool → Marks → Type 0
+HasMarks opens closes escape over_lines marks = (string_bytes marks.opens ≡ opens) × (string_bytes marks.closes ≡ closes)
+    × (marks.escape ≡ escape) × (marks.over_lines ≡ over_lines)

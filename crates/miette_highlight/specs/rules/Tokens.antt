@@ -1,0 +1,71 @@
+-- The pieces that rules cut a line into: each is what the first rule finds at its place.
+use Rattle.std.specs.Prelude.{◌≡◌, ℕ, ◌+◌, ◌<◌, ◌≤◌, Bool, max, if◌then◌else◌, Option, Some, None, List, [], ◌∷◌, length, drop}
+use Rattle.std.specs.Prelude.{slice_get}
+use Rattle.std.specs.Str.{IsCharBoundary}
+use Rattle.miette_style.specs.rules.Pieces.{Piece}
+use Rattle.miette_style.specs.rules.Styles.{plain}
+use Rattle.miette_style.specs.declared.style.Style.{Style}
+use Rattle.miette_highlight.specs.rules.Patterns.{inside, match_of, word_end}
+use Rattle.miette_highlight.specs.declared.patterns.Pattern.{Pattern}
+use Rattle.miette_highlight.specs.declared.patterns.Pattern.TheVariants.{Words, From, Between}
+use Rattle.miette_highlight.specs.declared.patterns.Rule.{Rule}
+use Rattle.miette_highlight.specs.declared.tokens.Token.{Token}
+
+-- what the rule of this number found: so many bytes, which stay open or not
+abbrev pub token_of : ℕ → Style → ℕ × Bool → Token
+token_of rule style found = record { bytes = found.0; style = style; left_open = if found.1 then Some rule else None }
+
+-- the first token where there is one, else the second
+abbrev pub else_token : Option Token → Token → Token
+else_token None other = other
+else_token (Some token) other = token
+
+-- what a rule found, or what the others find
+abbrev pub found_or : ℕ → Style → Option (ℕ × Bool) → Option Token → Option Token
+found_or rule style None others = others
+found_or rule style (Some found) others = Some (token_of rule style found)
+
+-- what the first rule that finds something finds, the rules counted from a number on
+abbrev pub first_match : ℕ → List Rule → List ℕ → Option Token
+first_match at [] text = None
+first_match at (rule ∷ rules) text = found_or at rule.style (match_of rule.pattern text) (first_match (at + 1) rules text)
+
+-- the rest of what a rule found before: only what lies between marks goes on
+abbrev pub running_in : ℕ → Style → Pattern → List ℕ → Option Token
+running_in at style (Words words) text = None
+running_in at style (From first last) text = None
+running_in at style (Between marks) text = Some (token_of at style (inside marks 0 text))
+
+abbrev pub running_rule : ℕ → Option Rule → List ℕ → Option Token
+running_rule at None text = None
+running_rule at (Some rule) text = running_in at rule.style rule.pattern text
+
+abbrev pub running : List Rule → Option ℕ → List ℕ → Option Token
+running rules None text = None
+running rules (Some at) text = running_rule at (slice_get rules at) text
+
+-- the word at the start of a text, plain
+abbrev pub plain_token : List ℕ → Token
+plain_token text = record { bytes = word_end 0 text; style = plain; left_open = None }
+
+-- what stands at the start of a text: the rest of the open rule, what the first rule finds, or a plain word
+unfoldable pub token_at : List Rule → Option ℕ → List ℕ → Token
+token_at rules left_open text = else_token (running rules left_open text) (else_token (first_match 0 rules text) (plain_token text))
+
+-- k is where the first character ends at or behind n
+pub record EndsFrom (text : List ℕ) (n k : ℕ) : Type 0 where
+  pub bound : n ≤ length text → n ≤ k
+  pub boundary : IsCharBoundary text k
+  pub nearest : (i : ℕ) → n ≤ i → i < k → ¬ (IsCharBoundary text i)
+
+-- a piece is the token, with whole characters, at least one
+pub record IsToken (token : Token) (text : List ℕ) (piece : Piece) : Type 0 where
+  pub some : 0 < length text
+  pub ends : EndsFrom text (max token.bytes 1) piece.0
+  pub style : piece.1 ≡ token.style
+
+-- the pieces of a text are its tokens; the first goes on with the open rule, the last leaves that of after open
+abbrev pub AreTokens : List Rule → Option ℕ → List ℕ → List Piece → Option ℕ → Type 0
+AreTokens rules left_open text [] after = (text ≡ []) × (after ≡ left_open)
+AreTokens rules left_open text (p ∷ ps) after =
+    IsToken (token_at rules left_open text) text p × AreTokens rules (token_at rules left_open text).left_open (drop p.0 text) ps after

@@ -1,0 +1,8 @@
+//! Highlighters of source lines: a piece for each character, and rules for words and for what lies between marks.
+#![tactic(auto)]
+
+pub mod characters;
+pub mod highlight;
+pub mod patterns;
+mod sets;
+mod tokens;

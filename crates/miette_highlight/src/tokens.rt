@@ -1,0 +1,232 @@
+//! What rules find at the start of a text, and the pieces that they cut a line into.
+
+ghost use Rattle.std.specs.Prelude.{◌≡◌, ◌+◌, ◌^◌, ◌<◌, ◌≤◌, ◌&&◌, not, nat_eq, IsTrue, IfSome, IfOk, false, length, take, drop, string_bytes};
+ghost use Rattle.std.specs.List.{starts_with};
+ghost use Rattle.miette_highlight.specs.rules.Patterns.{begins_within, close_end, is_among, is_escape, is_word_byte};
+ghost use Rattle.miette_highlight.specs.rules.Patterns.{inside, match_of, word_end};
+ghost use Rattle.miette_highlight.specs.rules.Tokens.{AreTokens, IsToken, first_match, running, token_at, token_of};
+ghost use Rattle.miette_style.specs.rules.Pieces.{CutsLine};
+
+use crate::patterns::{Marks, Pattern, Rule};
+use miette_style::style::Style;
+use std::alloc::{AllocError, Global};
+
+/// What stands at the start of a text.
+#[derive(Clone, Copy)]
+pub struct Token {
+    /// How many bytes it has.
+    pub bytes: usize,
+    /// Its style.
+    pub style: Style,
+    /// The rule that it leaves open.
+    pub left_open: Option<usize>,
+}
+
+// Whether it belongs to a word.
+fn is_word_byte(byte: u8) -> bool
+    ensures { result ≡ is_word_byte byte }
+{
+    byte.is_ascii_alphanumeric() || byte == b'_' || 128 <= byte
+}
+
+// How many bytes the word has that a text begins with.
+fn word_end(text: &[u8]) -> usize
+    ensures end { result ≡ word_end 0 text.now }
+    ensures within { result ≤ length text.now }
+{
+    let mut at = 0;
+    let mut rest = text;
+    while let Some((byte, tail)) = rest.split_first() {
+        if !is_word_byte(*byte) {
+            return at;
+        }
+        rest = tail;
+        at += 1;
+    }
+    at
+}
+
+// Whether a word is one of these.
+fn is_among(words: &[String], word: &[u8]) -> bool
+    ensures { result ≡ is_among words.now word.now }
+{
+    let mut rest = words;
+    while let Some((first, tail)) = rest.split_first() {
+        if first.as_bytes() == word {
+            return true;
+        }
+        rest = tail;
+    }
+    false
+}
+
+// Whether a text begins with a byte from the first up to the last.
+fn begins_within(first: u8, last: u8, text: &[u8]) -> bool
+    ensures { result ≡ begins_within first last text.now }
+{
+    match text.split_first() {
+        Some((byte, _)) => first <= *byte && *byte <= last,
+        None => false,
+    }
+}
+
+// Whether a byte is the escape.
+fn is_escape(escape: Option<u8>, byte: u8) -> bool
+    ensures { result ≡ is_escape escape byte }
+{
+    match escape {
+        Some(escape) => escape == byte,
+        None => false,
+    }
+}
+
+// Whether the closing mark stands here.
+fn closes_here(marks: &Marks, escaped: bool, text: &[u8]) -> bool
+    ensures closes { result ≡ (not escaped && starts_with nat_eq text.now (string_bytes marks.now.closes)) }
+    ensures bound { IsTrue result → length (string_bytes marks.now.closes) ≤ length text.now }
+{
+    !escaped && text.starts_with(marks.closes.as_bytes())
+}
+
+// Where the first closing mark ends that isn't escaped, the text beginning at a place.
+fn close_end(marks: &Marks, start: usize, text: &[u8]) -> Option<usize>
+    requires { start + length text.now < 2 ^ 64 }
+    ensures { result ≡ close_end marks.now false start text.now }
+{
+    let mut escaped = false;
+    let mut at = start;
+    let mut rest = text;
+    while let Some((byte, tail)) = rest.split_first() {
+        if closes_here(marks, escaped, rest) {
+            return Some(at + marks.closes.as_bytes().len());
+        }
+        escaped = !escaped && is_escape(marks.escape, *byte);
+        rest = tail;
+        at += 1;
+    }
+    None
+}
+
+// Where what lies behind an opening mark ends, the text beginning at a place, and whether it stays open.
+fn inside(marks: &Marks, start: usize, text: &[u8]) -> (usize, bool)
+    requires { start + length text.now < 2 ^ 64 }
+    ensures { result ≡ inside marks.now start text.now }
+{
+    match close_end(marks, start, text) {
+        Some(end) => (end, false),
+        None => (start + text.len(), marks.over_lines),
+    }
+}
+
+// How many bytes a pattern finds at the start of a text, and whether what it finds stays open.
+fn match_of(pattern: &Pattern, text: &[u8]) -> Option<(usize, bool)>
+    ensures { result ≡ match_of pattern.now text.now }
+{
+    let word = word_end(text);
+    match pattern {
+        Pattern::Words(words) if is_among(words, &text[..word]) => Some((word, false)),
+        Pattern::From(first, last) if begins_within(*first, *last, text) => Some((word, false)),
+        Pattern::Between(marks) if text.starts_with(marks.opens.as_bytes()) => {
+            let start = marks.opens.as_bytes().len();
+            Some(inside(marks, start, &text[start..]))
+        }
+        _ => None,
+    }
+}
+
+// What a rule found, as a token.
+fn token_of(rule: usize, style: Style, found: (usize, bool)) -> Token
+    ensures { result ≡ token_of rule style found }
+{
+    Token {
+        bytes: found.0,
+        style,
+        left_open: if found.1 { Some(rule) } else { None },
+    }
+}
+
+// What the first rule that finds something finds.
+fn first_match(rules: &[Rule], text: &[u8]) -> Option<Token>
+    ensures { result ≡ first_match 0 rules.now text.now }
+{
+    let mut at = 0;
+    let mut rest = rules;
+    while let Some((rule, tail)) = rest.split_first() {
+        if let Some(found) = match_of(&rule.pattern, text) {
+            return Some(token_of(at, rule.style, found));
+        }
+        rest = tail;
+        at += 1;
+    }
+    None
+}
+
+// The rest of what the open rule found before.
+fn running(rules: &[Rule], left_open: Option<usize>, text: &[u8]) -> Option<Token>
+    ensures { result ≡ running rules.now left_open text.now }
+{
+    let at = left_open?;
+    let rule = rules.get(at)?;
+    match &rule.pattern {
+        Pattern::Between(marks) => Some(token_of(at, rule.style, inside(marks, 0, text))),
+        _ => None,
+    }
+}
+
+// What stands at the start of a text.
+#[tactic(auto, unfolding(crate::specs::rules::Tokens::token_at))]
+fn token_at(rules: &[Rule], left_open: Option<usize>, text: &[u8]) -> Token
+    ensures { result ≡ token_at rules.now left_open text.now }
+{
+    if let Some(token) = running(rules, left_open, text) {
+        return token;
+    }
+    match first_match(rules, text) {
+        Some(token) => token,
+        None => Token {
+            bytes: word_end(text),
+            style: Style::new(),
+            left_open: None,
+        },
+    }
+}
+
+// The piece at the start of a text, the rule that it leaves open, and the text behind it.
+fn step<'a>(
+    rules: &[Rule],
+    left_open: Option<usize>,
+    text: &'a str,
+) -> ((usize, Style), Option<usize>, &'a str)
+    requires { 0 < length text.now }
+    ensures piece { IsToken (token_at rules.now left_open text.now) text.now result.0 }
+    ensures left_open { result.1 ≡ (token_at rules.now left_open text.now).left_open }
+    ensures rest { result.2.now ≡ drop result.0.0 text.now }
+    ensures shorter { length result.2.now < length text.now }
+{
+    let found = token_at(rules, left_open, text.as_bytes());
+    let length = text.ceil_char_boundary(found.bytes.max(1));
+    let (_, rest) = text.split_at(length);
+    ((length, found.style), found.left_open, rest)
+}
+
+/// The pieces of a line, and the rule that it leaves open. `AllocError` where memory is refused.
+pub fn pieces_of(
+    alloc: Global,
+    rules: &[Rule],
+    left_open: Option<usize>,
+    line: &str,
+) -> Result<(Vec<(usize, Style)>, Option<usize>), AllocError>
+    ensures tokens { IfOk result (λ r. AreTokens rules.now left_open line.now r.0.items r.1) }
+    ensures cuts { IfOk result (λ r. CutsLine line.now r.0.items) }
+{
+    let mut pieces = Vec::new(alloc);
+    let mut left = left_open;
+    let mut rest = line;
+    while !rest.is_empty() {
+        let (piece, next, tail) = step(rules, left, rest);
+        pieces.push(piece)?;
+        left = next;
+        rest = tail;
+    }
+    Ok((pieces, left))
+}
