@@ -88,7 +88,8 @@ impl GraphicalReportHandler {
     /// causes, wrapped rows, words broken where they are too wide, the place of the primary label in a frame, and
     /// related reports one after another.
     pub fn new_themed(theme: GraphicalTheme) -> Self
-        ensures { result ≡ without_highlighter (default_settings (characters_of theme.characters) (styles_of theme.styles)) }
+        ensures { result
+            ≡ without_highlighter (default_settings (characters_of theme.characters) (styles_of theme.styles)) }
     {
         Self::themed(theme)
     }
@@ -97,7 +98,8 @@ impl GraphicalReportHandler {
 impl<H: Highlighter> GraphicalReportHandler<H> {
     /// As `new_themed`, for highlighters of any type.
     pub fn themed(theme: GraphicalTheme) -> Self
-        ensures { result ≡ without_highlighter (default_settings (characters_of theme.characters) (styles_of theme.styles)) }
+        ensures { result
+            ≡ without_highlighter (default_settings (characters_of theme.characters) (styles_of theme.styles)) }
     {
         GraphicalReportHandler {
             theme,

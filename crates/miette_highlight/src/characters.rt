@@ -19,7 +19,8 @@ pub fn by_char<F: Fn(char) -> Style>(
 ) -> Result<Vec<(usize, Style)>, AllocError>
     requires { F.IsAlwaysCallable style_of }
     ensures cuts { IfOk result (λ pieces. CutsLine line.now pieces.items) }
-    ensures styles { IfOk result (λ pieces. AreCharacters (λ c style. F.post style_of c style) (chars line.now) pieces.items) }
+    ensures styles { IfOk result (λ pieces.
+        AreCharacters (λ c style. F.post style_of c style) (chars line.now) pieces.items) }
 {
     let mut pieces = Vec::new(alloc);
     for c in line.chars() {

@@ -67,5 +67,6 @@ IsWords texts (Between marks) = ⊥
 
 -- the marks, their escape, and whether what lies between them goes on over lines
 abbrev pub HasMarks : List ℕ → List ℕ → Option ℕ → Bool → Marks → Type 0
-HasMarks opens closes escape over_lines marks = (string_bytes marks.opens ≡ opens) × (string_bytes marks.closes ≡ closes)
+HasMarks opens closes escape over_lines marks =
+    (string_bytes marks.opens ≡ opens) × (string_bytes marks.closes ≡ closes)
     × (marks.escape ≡ escape) × (marks.over_lines ≡ over_lines)

@@ -1,5 +1,6 @@
 -- The pieces that rules cut a line into: each is what the first rule finds at its place.
-use Rattle.std.specs.Prelude.{◌≡◌, ℕ, ◌+◌, ◌<◌, ◌≤◌, Bool, max, if◌then◌else◌, Option, Some, None, List, [], ◌∷◌, length, drop}
+use Rattle.std.specs.Prelude.{◌≡◌, ℕ, ◌+◌, ◌<◌, ◌≤◌, Bool, max, if◌then◌else◌, Option, Some, None}
+use Rattle.std.specs.Prelude.{List, [], ◌∷◌, length, drop}
 use Rattle.std.specs.Prelude.{slice_get}
 use Rattle.std.specs.Str.{IsCharBoundary}
 use Rattle.miette_style.specs.rules.Pieces.{Piece}
@@ -28,7 +29,8 @@ found_or rule style (Some found) others = Some (token_of rule style found)
 -- what the first rule that finds something finds, the rules counted from a number on
 abbrev pub first_match : ℕ → List Rule → List ℕ → Option Token
 first_match at [] text = None
-first_match at (rule ∷ rules) text = found_or at rule.style (match_of rule.pattern text) (first_match (at + 1) rules text)
+first_match at (rule ∷ rules) text =
+    found_or at rule.style (match_of rule.pattern text) (first_match (at + 1) rules text)
 
 -- the rest of what a rule found before: only what lies between marks goes on
 abbrev pub running_in : ℕ → Style → Pattern → List ℕ → Option Token
@@ -50,7 +52,8 @@ plain_token text = record { bytes = word_end 0 text; style = plain; left_open = 
 
 -- what stands at the start of a text: the rest of the open rule, what the first rule finds, or a plain word
 unfoldable pub token_at : List Rule → Option ℕ → List ℕ → Token
-token_at rules left_open text = else_token (running rules left_open text) (else_token (first_match 0 rules text) (plain_token text))
+token_at rules left_open text =
+    else_token (running rules left_open text) (else_token (first_match 0 rules text) (plain_token text))
 
 -- k is where the first character ends at or behind n
 pub record EndsFrom (text : List ℕ) (n k : ℕ) : Type 0 where
@@ -68,4 +71,5 @@ pub record IsToken (token : Token) (text : List ℕ) (piece : Piece) : Type 0 wh
 abbrev pub AreTokens : List Rule → Option ℕ → List ℕ → List Piece → Option ℕ → Type 0
 AreTokens rules left_open text [] after = (text ≡ []) × (after ≡ left_open)
 AreTokens rules left_open text (p ∷ ps) after =
-    IsToken (token_at rules left_open text) text p × AreTokens rules (token_at rules left_open text).left_open (drop p.0 text) ps after
+    IsToken (token_at rules left_open text) text p
+    × AreTokens rules (token_at rules left_open text).left_open (drop p.0 text) ps after

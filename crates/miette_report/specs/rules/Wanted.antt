@@ -1,5 +1,6 @@
 -- What the words of `job` and `bench` ask for: a table from words to the handler, its options and the terminal.
-use Rattle.std.specs.Prelude.{◌≡◌, ◌==◌, ℕ, max, Bool, true, false, ◌&&◌, List, [], ◌∷◌, length, Option, Some, None, is_some, if◌then◌else◌}
+use Rattle.std.specs.Prelude.{◌≡◌, ◌==◌, ℕ, max, Bool, true, false, ◌&&◌, List, [], ◌∷◌, length, Option, Some, None}
+use Rattle.std.specs.Prelude.{is_some, if◌then◌else◌}
 use Rattle.std.specs.Prelude.{nat_lt, ◌^◌, codes, bytes_eq, string_bytes}
 use Rattle.std.specs.Option.{option_map}
 use Rattle.std.specs.Str.{all_ascii_digits}
