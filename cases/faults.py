@@ -124,9 +124,9 @@ def deep(count, key):
     return text
 
 
-# how often what stands in what, and the KB of stack that docs/PERFORMANCE.md says are enough; on a smaller stack a program may
-# end by a signal
-STACKS = ((b"cause", 0, 68), (b"cause", 126, 444), (b"related", 62, 308))
+# how often what stands in what, and KB of stack that are enough: a tenth and more above what docs/PERFORMANCE.md says; on a
+# smaller stack a program may end by a signal
+STACKS = ((b"cause", 0, 96), (b"cause", 126, 512), (b"related", 62, 384))
 
 
 def small_stacks():
