@@ -75,8 +75,8 @@ fn push_flag(out: &mut String, some: bool, on: bool, code: &str) -> Result<bool,
     Ok(true)
 }
 
-/// Appends what begins a style.
-pub(crate) fn push_style(out: &mut String, style: Style) -> Result<(), AllocError>
+// What begins a style, code by code.
+fn push_each_code(out: &mut String, style: Style) -> Result<(), AllocError>
     ensures { OnOk result (string_bytes out.new ≡ string_bytes out.old ++ colour_start style) }
 {
     out.push_str("\u{1B}[")?;
@@ -87,6 +87,41 @@ pub(crate) fn push_style(out: &mut String, style: Style) -> Result<(), AllocErro
     push_flag(out, some, style.underline, "4")?;
     out.push_str("m")?;
     Ok(())
+}
+
+// What begins a style that is one of the terminal's own colours and nothing else.
+fn own_start(style: Style) -> Option<&'static str>
+    ensures { IfSome result (λ text. colour_start style ≡ text.now) }
+{
+    let Style {
+        fg: Some(color),
+        bold: false,
+        dimmed: false,
+        italic: false,
+        underline: false,
+    } = style
+    else {
+        return None;
+    };
+    match color {
+        Color::Red => Some("\u{1B}[31m"),
+        Color::Green => Some("\u{1B}[32m"),
+        Color::Yellow => Some("\u{1B}[33m"),
+        Color::Blue => Some("\u{1B}[34m"),
+        Color::Magenta => Some("\u{1B}[35m"),
+        Color::Cyan => Some("\u{1B}[36m"),
+        Color::Rgb(..) => None,
+    }
+}
+
+/// Appends what begins a style: at once where it is one of the terminal's own colours.
+pub(crate) fn push_style(out: &mut String, style: Style) -> Result<(), AllocError>
+    ensures { OnOk result (string_bytes out.new ≡ string_bytes out.old ++ colour_start style) }
+{
+    match own_start(style) {
+        Some(start) => out.push_str(start),
+        None => push_each_code(out, style),
+    }
 }
 
 // One of the terminal's own colours, by the digit behind the `3` of its code.

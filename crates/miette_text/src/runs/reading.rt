@@ -13,10 +13,32 @@ use crate::runs::sign::{Mark, Sign};
 use crate::runs::{Parts, Runs, is_whole};
 use std::alloc::{AllocError, Global};
 
-fn codes_of(alloc: Global, text: &str) -> Result<Vec<char>, AllocError>
+fn decoded(alloc: Global, text: &str) -> Result<Vec<char>, AllocError>
     ensures { IfOk result (λ v. v.items ≡ chars text.now) }
 {
     text.chars().collect(alloc)
+}
+
+// A character for each byte.
+fn byte_codes(alloc: Global, bytes: &[u8]) -> Result<Vec<char>, AllocError>
+    ensures { IfOk result (λ v. v.items ≡ bytes.now) }
+{
+    let mut codes = Vec::with_capacity(alloc, bytes.len())?;
+    for byte in bytes {
+        codes.push(char::from(*byte))?;
+    }
+    Ok(codes)
+}
+
+// The characters of a text; those of ASCII are its bytes.
+fn codes_of(alloc: Global, text: &str) -> Result<Vec<char>, AllocError>
+    ensures { IfOk result (λ v. v.items ≡ chars text.now) }
+{
+    if text.is_ascii() {
+        let codes = byte_codes(alloc, text.as_bytes())?;
+        return Ok(codes);
+    }
+    decoded(alloc, text)
 }
 
 fn has_no_escape(codes: &[char]) -> bool
