@@ -1,4 +1,4 @@
-use Rattle.std.proofs.Common.{rules, ◌≡◌, ◌∙◌, Result, Ok, Err, IfOk}
+use Rattle.std.proofs.Common.{rules, ◌∙◌, Result, Ok, Err, IfOk}
 use Rattle.miette_description.proofs.Shape.{given_some, given_none}
 use Rattle.miette_description.proofs.report.report_with.Goals as goal
 
