@@ -4,11 +4,11 @@ use Rattle.std.specs.Prelude.{is_some}
 use Rattle.std.specs.Ordering.{match_ordering}
 use Rattle.std.specs.Cmp.Lexicographic.{slice_cmp}
 use Rattle.serde_json.specs.Data.{Data, null, boolean, number, string, array, object, Items, no_items, item, Members, no_members, member, depth, items_depth, members_depth}
-use Rattle.serde_json.specs.Find.{get, get_member, as_null, as_array}
+use Rattle.serde_json.specs.Find.{get, get_member, as_null, as_array, as_str}
 use Rattle.miette_description.specs.views.Seen.{seen, items_seen}
 use Rattle.json.specs.declared.value.Value.{Value}
 use Rattle.miette_tree.specs.rules.Tree.{Tree, Trees, trees}
-use Rattle.miette_description.specs.rules.Members.{given, present, at_key, typed, all_of}
+use Rattle.miette_description.specs.rules.Members.{given, present, at_key, typed, all_of, list_of, source_of, meaning_in}
 use Rattle.miette_description.specs.rules.Description.{nullable, report_from, report_in, cause_in, related_in, reports_in, each_in}
 
 typed_here : {A : Type 0} (b : Bool) (reads : Data → Option A) (d : Data) → is_some (as_null d) ≡ b → nullable d (reads d) ≡ typed reads (present (Some d))
@@ -97,6 +97,27 @@ given_some x f e = ap (λ o. given o f) e
 
 pub given_none : {A B : Type 0} {t : Option A} (f : A → Option B) → t ≡ None → given t f ≡ None
 given_none f e = ap (λ o. given o f) e
+
+given_never : {A B : Type 0} (o : Option A) (f : A → Option B) → ((x : A) → f x ≡ None) → given o f ≡ None
+given_never None f never = refl
+given_never (Some x) f never = never x
+
+-- where a nested part is none, the description is none
+pub without_cause : (c : Option (Option Tree)) (r : Option (Option Trees)) (d : Data) → c ≡ None → report_from c r d ≡ None
+without_cause c r d none =
+    given_never (meaning_in d) _ (λ m. given_never (typed source_of (at_key (codes "source") d)) _ (λ s. given_none _ none))
+
+pub without_related : (c : Option (Option Tree)) (r : Option (Option Trees)) (d : Data) → r ≡ None → report_from c r d ≡ None
+without_related c r d none =
+    given_never (meaning_in d) _ (λ m. given_never (typed source_of (at_key (codes "source") d)) _ (λ s. given_never c _ (λ one.
+    given_never (typed (list_of as_str) (at_key (codes "causes") d)) _ (λ several. given_none _ none))))
+
+-- a description whose nested parts are these
+pub with_nested : (d : Data) (c : Option Tree) (r : Option Trees) → typed report_in (at_key (codes "cause") d) ≡ Some c
+    → typed reports_in (at_key (codes "related") d) ≡ Some r → report_in d ≡ report_from (Some c) (Some r) d
+with_nested d c r cause related =
+    report_parts d ∙ ap (λ o. report_from o (typed reports_in (at_key (codes "related") d)) d) cause
+    ∙ ap (λ o. report_from (Some c) o d) related
 
 list_read : (d : Data) (ds : Items) → as_array d ≡ Some ds → reports_in d ≡ option_map trees (all_of report_in ds)
 list_read null ds is = cc

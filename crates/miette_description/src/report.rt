@@ -14,7 +14,7 @@ ghost use Rattle.miette_description.specs.rules.Members.{given, typed, at_key, a
 ghost use Rattle.miette_protocol.specs.views.Diagnostic.{meaning_of};
 ghost use Rattle.miette_tree.specs.views.Owned.{owned_source};
 ghost use Rattle.miette_description.specs.rules.Description.{one_cause, wrapped_in, assembled, report_in, reports_in};
-ghost use Rattle.miette_description.specs.rules.Description.{described, tree_for};
+ghost use Rattle.miette_description.specs.rules.Description.{described, report_from, tree_for};
 ghost use Rattle.miette_description.specs.steps.Built.{maybe_sourced, maybe_related};
 
 use crate::error::BuildError;
@@ -224,7 +224,32 @@ fn assembled<D: Diagnostic, S: SourceCode>(
     wrapped(alloc, related(report, list), contexts)
 }
 
-/// The report of a description.
+/// The report of a description whose cause and related reports are made. What it needs of the stack it gives back
+/// before the next level is read.
+#[inline(never)]
+fn report_with<D: Diagnostic, S: SourceCode>(
+    alloc: Global,
+    value: &Value<'_>,
+    one: Option<Report<D, S>>,
+    list: Option<Vec<Report<D, S>>>,
+) -> Result<Report<D, S>, BuildError>
+    ensures ok { IfOk result (λ r.
+        report_from (Some (option_map (tree_of D.meaning S.source) one))
+        (Some (option_map (λ v. trees (map (tree_of D.meaning S.source) v.items)) list)) (seen value.now)
+        ≡ Some (tree_of D.meaning S.source r)) }
+    ensures description { (result ≡ Err BuildError.Description) →
+        report_from (Some (option_map (tree_of D.meaning S.source) one))
+        (Some (option_map (λ v. trees (map (tree_of D.meaning S.source) v.items)) list)) (seen value.now) ≡ None }
+{
+    let diagnostic = diagnostic_from(alloc, value)?;
+    let source = source_at(alloc, value, "source")?;
+    let several = texts_at(alloc, value, "causes")?;
+    let contexts = texts_at(alloc, value, "contexts")?;
+    let causes = Causes { one, several };
+    assembled(alloc, diagnostic, source, causes, list, contexts)
+}
+
+/// The report of a description. What is nested in it is made first, so that a level takes little of the stack.
 #[cycle(description)]
 fn report_from<D: Diagnostic, S: SourceCode>(
     alloc: Global,
@@ -233,14 +258,9 @@ fn report_from<D: Diagnostic, S: SourceCode>(
     ensures ok { IfOk result (λ r. report_in (seen value.now) ≡ Some (tree_of D.meaning S.source r)) }
     ensures description { (result ≡ Err BuildError.Description) → report_in (seen value.now) ≡ None }
 {
-    let diagnostic = diagnostic_from(alloc, value)?;
-    let source = source_at(alloc, value, "source")?;
     let one = cause_at(alloc, value, "cause")?;
-    let several = texts_at(alloc, value, "causes")?;
     let list = related_at(alloc, value, "related")?;
-    let contexts = texts_at(alloc, value, "contexts")?;
-    let causes = Causes { one, several };
-    assembled(alloc, diagnostic, source, causes, list, contexts)
+    report_with(alloc, value, one, list)
 }
 
 /// The cause that is a description, where one stands at the key.

@@ -6,7 +6,7 @@ use Rattle.miette_tree.specs.rules.Tree.{trees}
 use Rattle.miette_tree.specs.views.Report.{tree_of}
 use Rattle.miette_description.specs.rules.Members.{at_key}
 use Rattle.miette_description.specs.rules.Description.{report_in}
-use Rattle.miette_description.proofs.Shape.{report_parts, at_key-depth, array-depth, item-depth, given_some, given_none, related_read}
+use Rattle.miette_description.proofs.Shape.{report_parts, with_nested, without_cause, without_related, at_key-depth, array-depth, item-depth, related_read}
 use Rattle.miette_description.proofs.report.+description.Goals as goal
 
 pub cause_at-report_from-requires : goal.cause_at-report_from-requires
@@ -36,24 +36,11 @@ related_at-returns-clause-ok g t c =
 
 pub report_from-returns-in_err-one-clause-description : goal.report_from-returns-in_err-one-clause-description
 report_from-returns-in_err-one-clause-description g t c e =
-    report_parts (seen c.args.value.now) ∙ given_some _ _ c.in_ok-diagnostic.ensures.ok ∙ given_some _ _ c.in_ok-source.ensures.ok
-    ∙ given_none _ (c.in_err-one.ensures.description (search rules))
-
-pub report_from-returns-in_err-several-clause-description : goal.report_from-returns-in_err-several-clause-description
-report_from-returns-in_err-several-clause-description g t c e =
-    report_parts (seen c.args.value.now) ∙ given_some _ _ c.in_ok-diagnostic.ensures.ok ∙ given_some _ _ c.in_ok-source.ensures.ok
-    ∙ given_some _ _ c.in_ok-one.ensures.ok ∙ given_none _ (c.in_err-several.ensures.description (search rules))
+    report_parts (seen c.args.value.now) ∙ without_cause _ _ (seen c.args.value.now) (c.in_err-one.ensures.description (search rules))
 
 pub report_from-returns-in_err-list-clause-description : goal.report_from-returns-in_err-list-clause-description
 report_from-returns-in_err-list-clause-description g t c e =
-    report_parts (seen c.args.value.now) ∙ given_some _ _ c.in_ok-diagnostic.ensures.ok ∙ given_some _ _ c.in_ok-source.ensures.ok
-    ∙ given_some _ _ c.in_ok-one.ensures.ok ∙ given_some _ _ c.in_ok-several.ensures.ok ∙ given_none _ (c.in_err-list.ensures.description (search rules))
-
-pub report_from-returns-in_err-contexts-clause-description : goal.report_from-returns-in_err-contexts-clause-description
-report_from-returns-in_err-contexts-clause-description g t c e =
-    report_parts (seen c.args.value.now) ∙ given_some _ _ c.in_ok-diagnostic.ensures.ok ∙ given_some _ _ c.in_ok-source.ensures.ok
-    ∙ given_some _ _ c.in_ok-one.ensures.ok ∙ given_some _ _ c.in_ok-several.ensures.ok ∙ given_some _ _ c.in_ok-list.ensures.ok
-    ∙ given_none _ (c.in_err-contexts.ensures.description (search rules))
+    report_parts (seen c.args.value.now) ∙ without_related _ _ (seen c.args.value.now) (c.in_err-list.ensures.description (search rules))
 
 pub reports_from-report_from-requires : goal.reports_from-report_from-requires
 reports_from-report_from-requires g t c =
@@ -68,15 +55,12 @@ if_ok (Err e) f p = p
 
 pub report_from-returns-clause-ok : goal.report_from-returns-clause-ok
 report_from-returns-clause-ok g t c =
-    let chain = report_parts (seen c.args.value.now) ∙ given_some _ _ c.in_ok-diagnostic.ensures.ok ∙ given_some _ _ c.in_ok-source.ensures.ok
-    ∙ given_some _ _ c.in_ok-one.ensures.ok ∙ given_some _ _ c.in_ok-several.ensures.ok ∙ given_some _ _ c.in_ok-list.ensures.ok ∙ given_some _ _ c.in_ok-contexts.ensures.ok in
-    if_ok c.assembled.result (λ r p. chain ∙ p) c.assembled.ensures.ok
+    let chain = with_nested (seen c.args.value.now) _ _ c.in_ok-one.ensures.ok c.in_ok-list.ensures.ok in
+    if_ok c.report_with.result (λ r p. chain ∙ p) c.report_with.ensures.ok
 
 pub report_from-returns-clause-description : goal.report_from-returns-clause-description
 report_from-returns-clause-description g t c e =
-    report_parts (seen c.args.value.now) ∙ given_some _ _ c.in_ok-diagnostic.ensures.ok ∙ given_some _ _ c.in_ok-source.ensures.ok
-    ∙ given_some _ _ c.in_ok-one.ensures.ok ∙ given_some _ _ c.in_ok-several.ensures.ok ∙ given_some _ _ c.in_ok-list.ensures.ok ∙ given_some _ _ c.in_ok-contexts.ensures.ok
-    ∙ c.assembled.ensures.description e
+    with_nested (seen c.args.value.now) _ _ c.in_ok-one.ensures.ok c.in_ok-list.ensures.ok ∙ c.report_with.ensures.description e
 
 pub reports_from-returns-in_err-report-clause-description : goal.reports_from-returns-in_err-report-clause-description
 reports_from-returns-in_err-report-clause-description g t c e =
