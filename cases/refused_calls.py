@@ -1,0 +1,143 @@
+#!/usr/bin/env python3
+"""refused_calls.py: runs the built program `calls` with each growth of memory refused in turn, until a run meets none.
+
+`calls` makes every public call that can want memory, `calls report` renders worked reports by each handler. The run that
+meets no refusal prints what is expected (calls_expected.py, calls_reports.py). Each other run ends with status 0, and its
+rows are the same but for that of the call that was refused. That one says so, and what came back, or what the text holds
+that was appended to, is what the call was given. The last line is 'N passed, M failed', one for each call and each report
+by a handler, and the exit status is 0 only where nothing failed."""
+import os
+import sys
+import tempfile
+from concurrent.futures import ThreadPoolExecutor
+
+from calls_expected import PRINTED, ROWS, text
+from calls_reports import REPORTS, WORDS, is_wanted
+from refusals import MOST, ROOT, built, library_in, run_with
+
+# (with some, so that their texts want memory)
+VARIABLES = {
+    "LANG": "C.UTF-8",
+    "TERM": "xterm",
+    "TERM_PROGRAM": "none",
+    "COLORTERM": "none",
+    "COLUMNS": "80",
+}
+OUT_OF_MEMORY = (1, b"", b"calls: out of memory\n")
+WORDS_READ = "the words of the program"
+UNPRINTED = "a report could not be printed: out of memory"
+BEFORE = "no memory before the call"
+# what these hand back or append to is as before
+KEEPING = ("render", "debug", "display", "fill", "append_whole", "write_report", "print_to", "render_report")
+HANDING = ("Report::wrap_err", "Report::context", "Report::with_diagnostic_cause")
+
+
+def keeps(name):
+    """Whether a refusal of this call leaves what it was given."""
+    last = name.split(" for ")[0].split("::")[-1]
+    return ", " in name or name in HANDING or last in KEEPING
+
+
+def is_refusal(whole, got):
+    """Whether a row is that of the same call, refused."""
+    if got[-1] == BEFORE:
+        return got[:-1] == whole[: len(got) - 1]
+    same = 0
+    while same < min(len(whole), len(got)) and whole[same] == got[same]:
+        same += 1
+    if same == 0 or same == len(got) or not got[same].startswith("refused"):
+        return False
+    if keeps(got[0]):
+        kept = [got[same].removeprefix("refused: "), *got[same + 1 :]]
+        return kept == (got[1:same] or ['""'])
+    return got[same] == "refused" and got[same + 1 :] == whole[same + 1 :]
+
+
+def rows_of(shown):
+    return [row.split("\t") for row in shown.decode().split("\n")]
+
+
+def unprinted(wanted, rows):
+    """The call that prints a report and wasn't made for want of memory, where all other rows are there."""
+    for name in PRINTED:
+        if [name, BEFORE] in rows and [name, "printed"] in wanted:
+            # its rows, from `prints:` to `printed`, are this one
+            at = rows.index([name, BEFORE])
+            behind = wanted[wanted.index([name, "printed"]) + 1 :]
+            return name if (rows[:at], rows[at + 1 :]) == (wanted[:at], behind) else None
+    return None
+
+
+def refused(whole, got):
+    """What answers its refusal in a run that else is the whole one, by its name; an empty name where a smaller growth served."""
+    if got == whole:
+        return ""
+    if got == OUT_OF_MEMORY:
+        return WORDS_READ
+    wanted, rows = rows_of(whole[1]), rows_of(got[1])
+    told = got[2].decode().count(UNPRINTED)
+    if got[0] != 0 or told > 1:
+        return None
+    if told:
+        # a report that isn't printed: its row is missing there, and all others are the same
+        lacking = [i for i in range(len(wanted)) if wanted[:i] + wanted[i + 1 :] == rows]
+        return "a report that is printed" if rows == wanted or lacking else None
+    if len(wanted) != len(rows):
+        return unprinted(wanted, rows)
+    changed = [(a, b) for a, b in zip(wanted, rows) if a != b]
+    return changed[0][0][0] if got[2] == whole[2] and len(changed) == 1 and is_refusal(*changed[0]) else None
+
+
+def fault_of(words, is_expected, library):
+    """What the first refused growth that is answered in another way gave, if any, and how many were refused and answered."""
+    argv = ["calls", *words]
+    whole, _ = run_with(argv, b"", library, 0, VARIABLES)
+    if whole[0] != 0 or not is_expected(whole[1].decode()):
+        return ("no growth refused", whole), 0
+    answered = 0
+    for growth in range(1, MOST):
+        got, was_refused = run_with(argv, b"", library, growth, VARIABLES)
+        if not was_refused:
+            return (None if got == whole and growth > 1 else ("a last run", got)), answered
+        name = refused(whole, got)
+        if name is None:
+            return (f"growth {growth} refused", got), answered
+        answered += name not in ("", WORDS_READ)
+    return ("no end", whole), answered
+
+
+def of_call(name):
+    """The words that make one call, and whether its rows are the expected ones."""
+    return [name], lambda shown: shown == text([name])
+
+
+def of_report(name, handler):
+    """The words that render one report by a handler, and whether its row is the expected one."""
+
+    def is_expected(shown):
+        first, *columns = shown.rstrip("\n").split("\t")
+        return first == f"{name}, {handler}" and is_wanted(REPORTS[name], handler, columns)
+
+    return ["report", name, handler], is_expected
+
+
+def main():
+    calls = [([], lambda shown: shown == text()), *map(of_call, [*ROWS, *PRINTED])]
+    reports = [of_report(name, handler) for name in REPORTS for handler in WORDS]
+    with tempfile.TemporaryDirectory(dir=built("calls")) as folder, ThreadPoolExecutor(os.cpu_count() or 2) as pool:
+        library = library_in(folder, "refuse")
+        found = list(pool.map(lambda it: fault_of(*it, library), [*calls, *reports]))
+    failed = 0
+    for (words, _), (fault, _) in zip([*calls, *reports], found):
+        if fault:
+            failed += 1
+            print(f"calls {words!r}: {fault!r}")
+    counts = [count for _, count in found]
+    print(f"public calls: {len(calls) - 1}, growths refused: {sum(counts[1:len(calls)])}, and in one run of all: {counts[0]}")
+    print(f"worked reports by a handler: {len(reports)}, growths refused: {sum(counts[len(calls):])}")
+    print(f"{len(found) - failed} passed, {failed} failed")
+    return 1 if failed else 0
+
+
+if __name__ == "__main__":
+    sys.exit(main())

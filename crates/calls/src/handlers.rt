@@ -1,0 +1,150 @@
+//! Handlers: what makes them, and the texts that they append.
+
+use crate::reports::caused;
+use crate::rows::{Done, Stop, answered, appended, cloned, given};
+use crate::sources::README;
+use crate::themes::terminal;
+use miette::error::RenderError;
+use miette::handlers::{
+    DebugReportHandler, GraphicalReportHandler, JSONReportHandler, NarratableReportHandler,
+    ReportHandler,
+};
+use miette::highlight::BlankHighlighter;
+use miette::options::{MietteHandler, MietteHandlerOpts};
+use miette::report::{OwnedSource, Report};
+use miette::theme::GraphicalTheme;
+use std::alloc::{AllocError, Global};
+use std::io::Write;
+
+/// The calls of this module.
+pub const NAMES: [&str; 15] = [
+    "GraphicalReportHandler::new",
+    "GraphicalReportHandler::render_report",
+    "ReportHandler::debug for GraphicalReportHandler",
+    "NarratableReportHandler::render_report",
+    "NarratableReportHandler::render",
+    "NarratableReportHandler::clone",
+    "ReportHandler::debug for NarratableReportHandler",
+    "JSONReportHandler::render_report",
+    "ReportHandler::debug for JSONReportHandler",
+    "DebugReportHandler::render_report",
+    "ReportHandler::debug for DebugReportHandler",
+    "ReportHandler::display",
+    "MietteHandlerOpts::build",
+    "MietteHandler::new",
+    "ReportHandler::debug for MietteHandler",
+];
+
+/// Makes the call of this name.
+///
+/// # Errors
+/// `Memory` where what it needs can't be made, `Write` where standard output took no more.
+pub fn make<W: Write>(alloc: Global, name: &str, out: &mut W) -> Done {
+    match name {
+        "NarratableReportHandler::clone" => {
+            let footer = String::from_str(alloc, "bye")?;
+            cloned(out, &NarratableReportHandler::new().with_footer(footer))
+        }
+        "GraphicalReportHandler::new" | "MietteHandlerOpts::build" | "MietteHandler::new" => {
+            made(alloc, name, out)
+        }
+        _ => {
+            let source = OwnedSource::named(alloc, "bad_file.rs", None, README.to_vec(alloc)?)?;
+            let report = caused(alloc)?.with_owned_source(source);
+            let mut text = String::from_str(alloc, "> ")?;
+            given(out, &text)?;
+            let answer = rendered(alloc, name, &report, &mut text)?;
+            appended(out, answer, &text)
+        }
+    }
+}
+
+/// What the call of this name answers; nothing where it has no handler.
+fn rendered(
+    alloc: Global,
+    name: &str,
+    report: &Report,
+    text: &mut String,
+) -> Result<Result<(), RenderError>, Stop> {
+    let mut telling = NarratableReportHandler::new();
+    let mut spelling = JSONReportHandler::new();
+    let mut showing = DebugReportHandler::new();
+    Ok(match name {
+        "NarratableReportHandler::render_report" => telling.render_report(report, text),
+        "NarratableReportHandler::render" => telling.render(report, text),
+        "ReportHandler::debug for NarratableReportHandler" => telling.debug(report, text),
+        "JSONReportHandler::render_report" => spelling.render_report(report, text),
+        "ReportHandler::debug for JSONReportHandler" => spelling.debug(report, text),
+        "DebugReportHandler::render_report" => showing.render_report(report, text),
+        "ReportHandler::debug for DebugReportHandler" => showing.debug(report, text),
+        "ReportHandler::display" => showing.display(report, true, text),
+        _ => return drawn(alloc, name, report, text),
+    })
+}
+
+fn drawn(
+    alloc: Global,
+    name: &str,
+    report: &Report,
+    text: &mut String,
+) -> Result<Result<(), RenderError>, Stop> {
+    let theme = GraphicalTheme::unicode(alloc)?;
+    let mut drawing = GraphicalReportHandler::new_themed(theme).with_width(40);
+    match name {
+        "GraphicalReportHandler::render_report" => Ok(drawing.render_report(report, text)),
+        "ReportHandler::debug for GraphicalReportHandler" => Ok(drawing.debug(report, text)),
+        "ReportHandler::debug for MietteHandler" => {
+            let mut chosen: MietteHandler = MietteHandler::Graphical(drawing);
+            Ok(chosen.debug(report, text))
+        }
+        _ => Ok(Ok(())),
+    }
+}
+
+/// A handler that a terminal chooses, and what it makes of a report.
+fn made<W: Write>(alloc: Global, name: &str, out: &mut W) -> Done {
+    let terminal = terminal(alloc)?;
+    given(out, &terminal)?;
+    match name {
+        "GraphicalReportHandler::new" => shown(
+            alloc,
+            out,
+            GraphicalReportHandler::new(alloc, &terminal),
+        ),
+        "MietteHandler::new" => shown(alloc, out, MietteHandler::new(alloc, &terminal)),
+        _ => {
+            let options: MietteHandlerOpts<BlankHighlighter> = MietteHandlerOpts::default();
+            shown(alloc, out, options.width(20).build(alloc, &terminal))
+        }
+    }
+}
+
+fn shown<H: ReportHandler + Drop, W: Write>(
+    alloc: Global,
+    out: &mut W,
+    answer: Result<H, AllocError>,
+) -> Done {
+    let mut handler = match answer {
+        Ok(handler) => handler,
+        Err(AllocError) => {
+            write!(out, "\trefused")?;
+            return Ok(());
+        }
+    };
+    match picture(alloc, &mut handler) {
+        Ok(text) => given(out, &text),
+        Err(RenderError::Memory) => answered::<u8, W>(out, Err(AllocError)),
+        Err(RenderError::Refused) => {
+            write!(out, "\tnot read")?;
+            Ok(())
+        }
+    }
+}
+
+/// What a handler makes of a message alone.
+fn picture<H: ReportHandler>(alloc: Global, handler: &mut H) -> Result<String, RenderError> {
+    let report = Report::msg(alloc, "one two three four five")?;
+    let mut text = String::new(alloc);
+    handler.debug(&report, &mut text)?;
+    Ok(text)
+}

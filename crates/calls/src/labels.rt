@@ -1,0 +1,29 @@
+//! Labels.
+
+use crate::rows::{Done, answered, cloned};
+use miette::protocol::LabeledSpan;
+use std::alloc::Global;
+use std::io::Write;
+
+/// The calls of this module.
+pub const NAMES: [&str; 3] = [
+    "LabeledSpan::at",
+    "LabeledSpan::at_offset",
+    "LabeledSpan::clone",
+];
+
+/// Makes the call of this name.
+///
+/// # Errors
+/// `Memory` where what it needs can't be made, `Write` where standard output took no more.
+pub fn make<W: Write>(alloc: Global, name: &str, out: &mut W) -> Done {
+    match name {
+        "LabeledSpan::at" => answered(out, LabeledSpan::at(alloc, (9, 4), "This bit here")),
+        "LabeledSpan::at_offset" => answered(out, LabeledSpan::at_offset(alloc, 9, "here")),
+        "LabeledSpan::clone" => {
+            let label = LabeledSpan::at(alloc, (9, 4), "This bit here")?;
+            cloned(out, &label.with_context_lines(2))
+        }
+        _ => Ok(()),
+    }
+}

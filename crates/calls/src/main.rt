@@ -1,0 +1,166 @@
+//! Makes each public call that can want memory, and prints what came of it: `calls`, or `calls NAME` for one of them;
+//! `calls report`, `calls report NAME`, `calls report NAME HANDLER`: worked reports by each handler; `calls stops`:
+//! reports over sources that stop.
+//!
+//! A row has the call's name, what it is given, and what it gave, with tabs between them. Where memory is refused it
+//! says `refused`, and behind that what was handed back, or what the text holds that the call appends to.
+#![tactic(auto)]
+
+mod diagnostics;
+mod handlers;
+mod labels;
+mod printing;
+mod reports;
+mod rows;
+mod runs;
+mod sources;
+mod stopping;
+mod stops;
+mod texts;
+mod themes;
+mod worked;
+mod written;
+
+use crate::rows::{Done, Stop, end_row};
+use miette::terminal::Streams;
+use std::env;
+use std::env::Env;
+use std::io::Write;
+use std::process::ExitCode;
+
+fn main(rt: HostRuntime) -> ExitCode {
+    match run(&rt) {
+        Ok(()) => ExitCode::SUCCESS,
+        Err(stop) => ended(stop, rt.faults()),
+    }
+}
+
+fn ended<F: Write + Drop>(stop: Stop, mut faults: F) -> ExitCode {
+    let (status, why) = match stop {
+        Stop::Memory => (1, "calls: out of memory"),
+        Stop::Write => (1, "calls: write fault"),
+        Stop::Usage => (2, "usage: calls [NAME | report [NAME [HANDLER]] | stops]"),
+    };
+    let _ = writeln!(faults, "{why}");
+    ExitCode::from(status)
+}
+
+fn run<R: Env + AllocGlobal + Streams>(rt: &R) -> Done {
+    let words: Vec<String> = match env::args(rt) {
+        Ok(words) => words.skip(1).collect(rt.alloc())?,
+        Err(_) => return Err(Stop::Memory),
+    };
+    match words.as_slice() {
+        [] => rows_of(rt, None),
+        [name] => named(rt, name.as_str()),
+        [kind, name] => worked_rows(rt, kind.as_str(), name.as_str(), ""),
+        [kind, name, handler] => worked_rows(rt, kind.as_str(), name.as_str(), handler.as_str()),
+        _ => Err(Stop::Usage),
+    }
+}
+
+fn named<R: Env + AllocGlobal + Streams>(rt: &R, name: &str) -> Done {
+    match name {
+        "report" => worked_rows(rt, name, "", ""),
+        "stops" => stops::rows(rt.alloc(), &mut rt.output()),
+        _ => rows_of(rt, Some(name)),
+    }
+}
+
+/// The rows of worked reports.
+fn worked_rows<R: AllocGlobal + Streams>(rt: &R, kind: &str, name: &str, handler: &str) -> Done {
+    if kind != "report" {
+        return Err(Stop::Usage);
+    }
+    worked::rows_of(rt.alloc(), &mut rt.output(), name, handler)
+}
+
+/// What the calls of a module are about.
+#[derive(Clone, Copy)]
+enum Subject {
+    Labels,
+    Diagnostics,
+    Sources,
+    Themes,
+    Reports,
+    Texts,
+    Runs,
+    Handlers,
+    Printing,
+}
+
+const SUBJECTS: [Subject; 9] = [
+    Subject::Labels,
+    Subject::Diagnostics,
+    Subject::Sources,
+    Subject::Themes,
+    Subject::Reports,
+    Subject::Texts,
+    Subject::Runs,
+    Subject::Handlers,
+    Subject::Printing,
+];
+
+fn names(subject: Subject) -> &'static [&'static str] {
+    match subject {
+        Subject::Labels => &labels::NAMES,
+        Subject::Diagnostics => &diagnostics::NAMES,
+        Subject::Sources => &sources::NAMES,
+        Subject::Themes => &themes::NAMES,
+        Subject::Reports => &reports::NAMES,
+        Subject::Texts => &texts::NAMES,
+        Subject::Runs => &runs::NAMES,
+        Subject::Handlers => &handlers::NAMES,
+        Subject::Printing => &printing::NAMES,
+    }
+}
+
+/// Whether a call is asked for.
+fn is_wanted(wanted: Option<&str>, name: &str) -> bool {
+    match wanted {
+        Some(wanted) => wanted == name,
+        None => true,
+    }
+}
+
+/// The rows of all calls, or that of one.
+fn rows_of<R: Env + AllocGlobal + Streams>(rt: &R, wanted: Option<&str>) -> Done {
+    let mut found = false;
+    for subject in SUBJECTS {
+        for name in names(subject) {
+            if is_wanted(wanted, name) {
+                found = true;
+                row(rt, subject, name)?;
+            }
+        }
+    }
+    if found { Ok(()) } else { Err(Stop::Usage) }
+}
+
+/// The row of a call.
+fn row<R: Env + AllocGlobal + Streams>(rt: &R, subject: Subject, name: &str) -> Done {
+    let mut out = rt.output();
+    write!(out, "{name}")?;
+    let done = made(rt, subject, name, &mut out);
+    end_row(&mut out, done)
+}
+
+fn made<R: Env + AllocGlobal + Streams, W: Write>(
+    rt: &R,
+    subject: Subject,
+    name: &str,
+    out: &mut W,
+) -> Done {
+    let alloc = rt.alloc();
+    match subject {
+        Subject::Labels => labels::make(alloc, name, out),
+        Subject::Diagnostics => diagnostics::make(alloc, name, out),
+        Subject::Sources => sources::make(alloc, name, out),
+        Subject::Themes => themes::make(alloc, name, out),
+        Subject::Reports => reports::make(alloc, name, out),
+        Subject::Texts => texts::make(alloc, name, out),
+        Subject::Runs => runs::make(alloc, name, out),
+        Subject::Handlers => handlers::make(alloc, name, out),
+        Subject::Printing => printing::make(rt, name, out),
+    }
+}

@@ -1,0 +1,108 @@
+//! What a program is told of its terminal, and reports that are printed there.
+
+use crate::reports::caused;
+use crate::rows::{Done, answered};
+use miette::handlers::NarratableReportHandler;
+use miette::highlight::BlankHighlighter;
+use miette::options::MietteHandlerOpts;
+use miette::print::{
+    PrintError, eprint_report, eprint_report_with, print_report, print_report_with, print_to,
+    write_report,
+};
+use miette::report::Report;
+use miette::terminal::{Stream, Streams, Variables, detect};
+use std::env::Env;
+use std::io;
+use std::io::Write;
+
+/// The calls of this module.
+pub const NAMES: [&str; 8] = [
+    "Variables::read",
+    "detect",
+    "write_report",
+    "print_to",
+    "print_report",
+    "print_report_with",
+    "eprint_report",
+    "eprint_report_with",
+];
+
+/// Makes the call of this name. What the printing ones print stands in rows of its own.
+///
+/// # Errors
+/// `Memory` where what it needs can't be made, `Write` where standard output took no more.
+pub fn make<R: Env + AllocGlobal + Streams, W: Write>(rt: &R, name: &str, out: &mut W) -> Done {
+    match name {
+        "Variables::read" => answered(out, Variables::read(rt, true, true).map(|_| "read")),
+        "detect" => answered(out, detect(rt, Stream::Stdout).map(|_| "detected")),
+        "write_report" | "print_to" => written(rt, name, out),
+        _ => printed(rt, name, out),
+    }
+}
+
+fn printed<R: Env + AllocGlobal + Streams, W: Write>(rt: &R, name: &str, out: &mut W) -> Done {
+    let report = Report::msg(rt.alloc(), "oops!")?;
+    let options: MietteHandlerOpts<BlankHighlighter> = MietteHandlerOpts::default();
+    writeln!(out, "\tprints:")?;
+    let _ = match name {
+        "print_report" => print_report(rt, &report),
+        "print_report_with" => print_report_with(rt, options.color(true), &report),
+        "eprint_report" => eprint_report(rt, &report),
+        _ => eprint_report_with(rt, options.color(true), &report),
+    };
+    write!(out, "{name}\tprinted")?;
+    Ok(())
+}
+
+/// Takes as many bytes as there is room for from the start.
+#[derive(Drop)]
+struct Room {
+    held: Vec<u8>,
+}
+
+impl Write for Room {
+    fn write(&mut self, buf: &[u8]) -> io::Result<usize> {
+        self.held.extend_from_slice(buf)?;
+        Ok(buf.len())
+    }
+
+    fn flush(&mut self) -> io::Result<()> {
+        Ok(())
+    }
+}
+
+fn written<R: Env + AllocGlobal + Streams, W: Write>(rt: &R, name: &str, out: &mut W) -> Done {
+    let alloc = rt.alloc();
+    let report = caused(alloc)?;
+    let mut room = Room {
+        held: Vec::with_capacity(alloc, 4096)?,
+    };
+    let answer = if name == "print_to" {
+        let options: MietteHandlerOpts<BlankHighlighter> = MietteHandlerOpts::default();
+        print_to(
+            rt,
+            Stream::Stdout,
+            options.force_narrated(true),
+            &report,
+            &mut room,
+        )
+    } else {
+        write_report(
+            alloc,
+            &mut NarratableReportHandler::new(),
+            &report,
+            &mut room,
+        )
+    };
+    told(out, answer, room)
+}
+
+fn told<W: Write>(out: &mut W, answer: Result<(), PrintError>, room: Room) -> Done {
+    let held = str::from_utf8(room.held.as_slice()).unwrap_or("no text");
+    match answer {
+        Ok(()) => write!(out, "\t{held:?}")?,
+        Err(PrintError::Memory) => write!(out, "\trefused: {held:?}")?,
+        Err(error) => write!(out, "\t{error}: {held:?}")?,
+    }
+    Ok(())
+}

@@ -1,0 +1,166 @@
+//! Reports: what makes them, and what is put in front of them and below them.
+
+use crate::diagnostics::full;
+use crate::rows::{Done, given, parts, report_answered, report_changed, report_given};
+use miette::error::MietteError;
+use miette::report::{IntoDiagnostic, Report, Result, WrapErr};
+use miette_tree::{bail, ensure, miette};
+use std::alloc::{AllocError, Global};
+use std::io::Write;
+
+/// The calls of this module.
+pub const NAMES: [&str; 18] = [
+    "Report::copied",
+    "Report::msg",
+    "Report::from_err",
+    "Report::with_diagnostic_cause",
+    "Report::wrap_err",
+    "Report::context",
+    "WrapErr::wrap_err for Option",
+    "WrapErr::context for Option",
+    "WrapErr::wrap_err_with for Option",
+    "WrapErr::with_context for Option",
+    "WrapErr::wrap_err for Result",
+    "WrapErr::context for Result",
+    "WrapErr::wrap_err_with for Result",
+    "WrapErr::with_context for Result",
+    "IntoDiagnostic::into_diagnostic for Result",
+    "miette!",
+    "bail!",
+    "ensure!",
+];
+
+/// Makes the call of this name.
+///
+/// # Errors
+/// `Memory` where what it needs can't be made, `Write` where standard output took no more.
+pub fn make<W: Write>(alloc: Global, name: &str, out: &mut W) -> Done {
+    match name {
+        "Report::copied" => {
+            let full = full(alloc)?;
+            given(out, &full)?;
+            made(out, Report::copied(alloc, &full))
+        }
+        "Report::msg" => made(out, Report::msg(alloc, "oops!")),
+        "Report::from_err" => made(out, Report::from_err(alloc, MietteError::OutOfBounds)),
+        "Report::with_diagnostic_cause" => over(alloc, out),
+        "Report::wrap_err" => {
+            let report = caused(alloc)?;
+            report_given(out, &report)?;
+            report_changed(out, report.wrap_err(alloc, "in front"))
+        }
+        "Report::context" => {
+            let report = caused(alloc)?;
+            report_given(out, &report)?;
+            report_changed(out, report.context(alloc, "in front"))
+        }
+        "miette!" => report_answered(
+            out,
+            &miette!(in alloc; code = "a::b", help = "try", "{} is too much", 7),
+        ),
+        "bail!" => failed(out, is_refused(alloc, 7)),
+        "ensure!" => failed(out, is_held(alloc, 7)),
+        _ => in_front(alloc, name, out),
+    }
+}
+
+/// A message in front of what is missing or has failed.
+fn in_front<W: Write>(alloc: Global, name: &str, out: &mut W) -> Done {
+    match name {
+        "WrapErr::wrap_err for Option" => failed(out, None.wrap_err(alloc, "nothing is there")),
+        "WrapErr::context for Option" => failed(out, None.context(alloc, "nothing is there")),
+        "WrapErr::wrap_err_with for Option" => {
+            failed(
+                out,
+                None.wrap_err_with(alloc, || format!(in alloc; "item {} is missing", 7)),
+            )
+        }
+        "WrapErr::with_context for Option" => {
+            failed(
+                out,
+                None.with_context(alloc, || format!(in alloc; "item {} is missing", 7)),
+            )
+        }
+        "IntoDiagnostic::into_diagnostic for Result" => {
+            let error: std::result::Result<u32, MietteError> = Err(MietteError::OutOfBounds);
+            failed(out, error.into_diagnostic(alloc))
+        }
+        _ => in_front_of_error(alloc, name, out),
+    }
+}
+
+fn in_front_of_error<W: Write>(alloc: Global, name: &str, out: &mut W) -> Done {
+    let report = caused(alloc)?;
+    report_given(out, &report)?;
+    let error: Result<u32> = Err(report);
+    match name {
+        "WrapErr::wrap_err for Result" => failed(out, error.wrap_err(alloc, "in front")),
+        "WrapErr::context for Result" => failed(out, error.context(alloc, "in front")),
+        "WrapErr::wrap_err_with for Result" => {
+            failed(
+                out,
+                error.wrap_err_with(alloc, || format!(in alloc; "{} in front", 7)),
+            )
+        }
+        "WrapErr::with_context for Result" => {
+            failed(
+                out,
+                error.with_context(alloc, || format!(in alloc; "{} in front", 7)),
+            )
+        }
+        _ => Ok(()),
+    }
+}
+
+/// A report over another one; where memory is refused both come back.
+fn over<W: Write>(alloc: Global, out: &mut W) -> Done {
+    let report = Report::new(full(alloc)?);
+    let cause = caused(alloc)?;
+    report_given(out, &report)?;
+    report_given(out, &cause)?;
+    match report.with_diagnostic_cause(alloc, cause) {
+        Ok(made) => report_given(out, &made),
+        Err((report, cause)) => {
+            write!(out, "\trefused: ")?;
+            parts(out, &report)?;
+            report_given(out, &cause)
+        }
+    }
+}
+
+/// `oops!` with all parts, over two texts.
+pub fn caused(alloc: Global) -> Result<Report, AllocError> {
+    let texts = vec![in alloc;
+        String::from_str(alloc, "b")?,
+        String::from_str(alloc, "c")?,
+    ]?;
+    Ok(Report::new(full(alloc)?).with_cause_texts(texts))
+}
+
+fn is_refused(alloc: Global, number: u32) -> Result<u32> {
+    bail!(in alloc; "{number} is too much")
+}
+
+fn is_held(alloc: Global, number: u32) -> Result<u32> {
+    ensure!(in alloc; number < 7, "{number} is too much");
+    Ok(number)
+}
+
+/// The report that a call gave, or that memory was refused.
+fn made<W: Write>(out: &mut W, answer: Result<Report, AllocError>) -> Done {
+    match answer {
+        Ok(report) => report_given(out, &report),
+        Err(AllocError) => {
+            write!(out, "\trefused")?;
+            Ok(())
+        }
+    }
+}
+
+/// The report of what is missing or has failed.
+fn failed<W: Write>(out: &mut W, answer: Result<u32>) -> Done {
+    match answer {
+        Ok(value) => given(out, &value),
+        Err(report) => report_answered(out, &report),
+    }
+}

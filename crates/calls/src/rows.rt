@@ -1,0 +1,159 @@
+//! Rows of output: a call's name, what it is given, and what came of it, with tabs between them.
+
+use miette::error::RenderError;
+use miette::report::{Report, ReportKind};
+use std::alloc::{AllocError, AllocFailed};
+use std::fmt::Debug;
+use std::io;
+use std::io::Write;
+
+/// Why a call isn't made, or the program ends.
+#[derive(Clone, Copy, Debug, PartialEq, Eq)]
+pub enum Stop {
+    /// Memory was refused before the call.
+    Memory,
+    /// Standard output took no more.
+    Write,
+    /// The words name no call.
+    Usage,
+}
+
+impl From<AllocError> for Stop {
+    fn from(_refused: AllocError) -> Stop {
+        Stop::Memory
+    }
+}
+
+impl<T: Drop> From<AllocFailed<T>> for Stop {
+    fn from(_refused: AllocFailed<T>) -> Stop {
+        Stop::Memory
+    }
+}
+
+impl From<io::Error> for Stop {
+    fn from(_failed: io::Error) -> Stop {
+        Stop::Write
+    }
+}
+
+/// What writing a row gives.
+pub type Done = Result<(), Stop>;
+
+/// The rest of a row, behind what its call wrote.
+///
+/// # Errors
+/// `Write` where standard output took no more.
+pub fn end_row<W: Write>(out: &mut W, done: Done) -> Done {
+    match done {
+        Ok(()) => writeln!(out)?,
+        Err(Stop::Memory) => writeln!(out, "\tno memory before the call")?,
+        Err(stop) => return Err(stop),
+    }
+    Ok(())
+}
+
+/// A value that a call is given.
+///
+/// # Errors
+/// `Write` where standard output took no more.
+pub fn given<T: Debug, W: Write>(out: &mut W, value: &T) -> Done {
+    write!(out, "\t{value:?}")?;
+    Ok(())
+}
+
+/// The value that a call gave, or that memory was refused.
+///
+/// # Errors
+/// `Write` where standard output took no more.
+pub fn answered<T: Debug + Drop, W: Write>(out: &mut W, answer: Result<T, AllocError>) -> Done {
+    match answer {
+        Ok(value) => write!(out, "\t{value:?}")?,
+        Err(AllocError) => write!(out, "\trefused")?,
+    }
+    Ok(())
+}
+
+/// What a text holds after a call that appends to it.
+///
+/// # Errors
+/// `Write` where standard output took no more.
+pub fn appended<W: Write>(out: &mut W, answer: Result<(), RenderError>, text: &String) -> Done {
+    match answer {
+        Ok(()) => write!(out, "\t{text:?}")?,
+        Err(RenderError::Memory) => write!(out, "\trefused: {text:?}")?,
+        Err(RenderError::Refused) => write!(out, "\tnot read: {text:?}")?,
+    }
+    Ok(())
+}
+
+/// What a value is after a call that changes it in place; after a refusal that is open.
+///
+/// # Errors
+/// `Write` where standard output took no more.
+pub fn changed<T: Debug, W: Write>(out: &mut W, answer: Result<(), AllocError>, value: &T) -> Done {
+    match answer {
+        Ok(()) => write!(out, "\t{value:?}")?,
+        Err(AllocError) => write!(out, "\trefused")?,
+    }
+    Ok(())
+}
+
+/// A value, and two clones of it.
+///
+/// # Errors
+/// `Write` where standard output took no more.
+pub fn cloned<T: Clone + Debug + Drop, W: Write>(out: &mut W, value: &T) -> Done {
+    given(out, value)?;
+    answered(out, value.clone())?;
+    answered(out, value.clone())
+}
+
+/// The parts of a report.
+///
+/// # Errors
+/// `Write` where standard output took no more.
+pub fn parts<W: Write>(out: &mut W, report: &Report) -> Done {
+    let code = report.code();
+    let help = report.help();
+    let labels = report.labels();
+    write!(
+        out,
+        "{report:?}, code {code:?}, help {help:?}, labels {labels:?}"
+    )?;
+    Ok(())
+}
+
+/// A report that a call is given.
+///
+/// # Errors
+/// `Write` where standard output took no more.
+pub fn report_given<W: Write>(out: &mut W, report: &Report) -> Done {
+    write!(out, "\t")?;
+    parts(out, report)
+}
+
+/// A report that a call gave; that of refused memory says that it was refused.
+///
+/// # Errors
+/// `Write` where standard output took no more.
+pub fn report_answered<W: Write>(out: &mut W, report: &Report) -> Done {
+    match report.kind() {
+        ReportKind::OutOfMemory => write!(out, "\trefused")?,
+        _ => report_given(out, report)?,
+    }
+    Ok(())
+}
+
+/// A report with more in front of it or below it, or as it came back.
+///
+/// # Errors
+/// `Write` where standard output took no more.
+pub fn report_changed<W: Write>(out: &mut W, answer: Result<Report, Report>) -> Done {
+    match answer {
+        Ok(report) => report_given(out, &report),
+        Err(report) => {
+            write!(out, "\trefused: ")?;
+            parts(out, &report)
+        }
+    }
+}

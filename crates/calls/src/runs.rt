@@ -1,0 +1,121 @@
+//! Runs of characters and signs, and outputs that print or collect them.
+
+use crate::rows::{Done, answered, changed, given};
+use miette::style::{Color, Style};
+use miette_text::runs::Runs;
+use miette_text::runs::output::Output;
+use miette_text::runs::reading::read_text;
+use std::alloc::{AllocError, Global};
+use std::io::Write;
+
+/// The calls of this module.
+pub const NAMES: [&str; 23] = [
+    "Runs::new",
+    "Runs::push",
+    "Runs::push_chars",
+    "Runs::push_str",
+    "Runs::begin",
+    "Runs::end",
+    "Runs::push_run",
+    "Runs::push_run_chars",
+    "Runs::push_link",
+    "Runs::push_link_end",
+    "Runs::append",
+    "Output::printed",
+    "Output::collected",
+    "Output::push",
+    "Output::push_chars",
+    "Output::push_str",
+    "Output::begin",
+    "Output::end",
+    "Output::push_run",
+    "Output::push_link",
+    "Output::push_link_end",
+    "Output::into_text",
+    "Output::into_runs",
+];
+
+/// Makes the call of this name.
+///
+/// # Errors
+/// `Memory` where what it needs can't be made, `Write` where standard output took no more.
+pub fn make<W: Write>(alloc: Global, name: &str, out: &mut W) -> Done {
+    match name {
+        "Runs::new" => given(out, &Runs::new(alloc)),
+        "Output::printed" => given(out, &Output::printed(alloc)),
+        "Output::collected" => given(out, &Output::collected(alloc)),
+        "Output::into_text" => ended(alloc, out, true),
+        "Output::into_runs" => ended(alloc, out, false),
+        _ => {
+            if name.starts_with("Runs::") {
+                pushed(alloc, name, out)
+            } else {
+                put(name, out, Output::printed(alloc))?;
+                put(name, out, Output::collected(alloc))
+            }
+        }
+    }
+}
+
+fn red() -> Style {
+    Style::new().color(Color::Red)
+}
+
+fn pushed<W: Write>(alloc: Global, name: &str, out: &mut W) -> Done {
+    let mut runs = read_text(alloc, "\u{1b}[31ma\u{1b}[0m")?;
+    let more = read_text(alloc, "\u{1b}[32mb\u{1b}[0mc")?;
+    given(out, &runs)?;
+    let answer = match name {
+        "Runs::push" => runs.push('x'),
+        "Runs::push_chars" => runs.push_chars(&['x', 'y']),
+        "Runs::push_str" => runs.push_str("xyz"),
+        "Runs::begin" => runs.begin(red().bold()),
+        "Runs::end" => runs.end(),
+        "Runs::push_run" => runs.push_run(red(), "xyz"),
+        "Runs::push_run_chars" => runs.push_run_chars(red().dimmed(), &['x', 'y']),
+        "Runs::push_link" => runs.push_link("http://x"),
+        "Runs::push_link_end" => runs.push_link_end(),
+        "Runs::append" => runs.append(&more),
+        _ => Ok(()),
+    };
+    changed(out, answer, &runs)
+}
+
+fn put<W: Write>(name: &str, out: &mut W, output: Output) -> Done {
+    let mut output = output;
+    let answer = match name {
+        "Output::push" => output.push('x'),
+        "Output::push_chars" => output.push_chars(&['x', 'y']),
+        "Output::push_str" => output.push_str("xyz"),
+        "Output::begin" => output.begin(red()),
+        "Output::end" => output.end(),
+        "Output::push_run" => output.push_run(red(), "xyz"),
+        "Output::push_link" => output.push_link("http://x"),
+        "Output::push_link_end" => output.push_link_end(),
+        _ => Ok(()),
+    };
+    changed(out, answer, &output)
+}
+
+/// An output with a red text, which prints or collects.
+fn filled(alloc: Global, prints: bool) -> Result<Output, AllocError> {
+    let mut output = if prints {
+        Output::printed(alloc)
+    } else {
+        Output::collected(alloc)
+    };
+    output.push_run(red(), "xyz")?;
+    Ok(output)
+}
+
+fn ended<W: Write>(alloc: Global, out: &mut W, as_text: bool) -> Done {
+    let printed = filled(alloc, true)?;
+    let collected = filled(alloc, false)?;
+    if as_text {
+        answered(out, printed.into_text(alloc))?;
+        answered(out, collected.into_text(alloc))
+    } else {
+        answered(out, printed.into_runs(alloc))?;
+        answered(out, collected.into_runs(alloc))
+    }
+}

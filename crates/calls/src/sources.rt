@@ -1,0 +1,69 @@
+//! Sources.
+
+use crate::rows::{Done, given};
+use miette::protocol::{SourceOffset, SourceSpan};
+use miette::report::OwnedSource;
+use miette::source::{IndexedSource, NamedSource, SourceCode};
+use std::alloc::{AllocError, Global};
+use std::io::Write;
+
+/// The calls of this module.
+pub const NAMES: [&str; 6] = [
+    "IndexedSource::new",
+    "NamedSource::new",
+    "NamedSource::with_language",
+    "NamedSource::clone",
+    "OwnedSource::new",
+    "OwnedSource::named",
+];
+
+/// Three lines, the last without a line feed.
+pub const README: &[u8] = b"source\n  text\n    here";
+
+/// Makes the call of this name.
+///
+/// # Errors
+/// `Memory` where what it needs can't be made, `Write` where standard output took no more.
+pub fn make<W: Write>(alloc: Global, name: &str, out: &mut W) -> Done {
+    let bytes = README.to_vec(alloc)?;
+    match name {
+        "IndexedSource::new" => read(out, IndexedSource::new(alloc, bytes)),
+        "NamedSource::new" => read(out, NamedSource::new(alloc, "bad_file.rs", bytes)),
+        "OwnedSource::new" => read(out, OwnedSource::new(alloc, bytes)),
+        "OwnedSource::named" => read(
+            out,
+            OwnedSource::named(alloc, "bad_file.rs", Some("rust"), bytes),
+        ),
+        _ => of_named(alloc, name, out),
+    }
+}
+
+fn of_named<W: Write>(alloc: Global, name: &str, out: &mut W) -> Done {
+    let named = NamedSource::new(alloc, "bad_file.rs", README.to_vec(alloc)?)?;
+    match name {
+        "NamedSource::with_language" => {
+            given(out, &named)?;
+            read(out, named.with_language(alloc, "rust"))
+        }
+        "NamedSource::clone" => {
+            let named = named.with_language(alloc, "rust")?;
+            given(out, &named)?;
+            read(out, named.clone())?;
+            read(out, named.clone())
+        }
+        _ => Ok(()),
+    }
+}
+
+/// A read of the source that a call gave, with a line of context.
+fn read<S: SourceCode, W: Write>(out: &mut W, answer: Result<S, AllocError>) -> Done {
+    match answer {
+        Ok(source) => {
+            let span = SourceSpan::new(SourceOffset::from(9), 4);
+            let contents = source.read_span(&span, 1, 1);
+            write!(out, "\t{contents:?}")?;
+        }
+        Err(AllocError) => write!(out, "\trefused")?,
+    }
+    Ok(())
+}

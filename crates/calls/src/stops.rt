@@ -1,0 +1,111 @@
+//! Reports over sources that stop after each number of reads: `calls stops`.
+
+use crate::rows::{Done, Stop, end_row};
+use crate::stopping::{Reads, Stopping};
+use crate::worked::rendered;
+use crate::written::{M, Made, Written, over, report_of, stopping_report};
+use std::alloc::{AllocError, Global};
+use std::cell::Cell;
+use std::io::Write;
+
+const NAMES: [&str; 6] = [
+    "one label",
+    "two labels",
+    "labels far apart",
+    "own context",
+    "no labels",
+    "a cause",
+];
+
+const HANDLERS: [&str; 5] = ["graphical", "nested", "narrated", "json", "debug"];
+
+/// How many reads are tried at most.
+const MOST: usize = 99;
+
+const NINE: &[u8] = b"1\n2\n3\n4\n5\n6\n7\n8\n9\n";
+
+const ONE: Written<'static> = Written {
+    labels: &[(8, 1, 0, "here")],
+    ..M
+};
+
+const TWO: Written<'static> = Written {
+    labels: &[(4, 1, 0, "a"), (8, 1, 0, "b")],
+    ..M
+};
+
+const APART: Written<'static> = Written {
+    labels: &[(0, 1, 0, "a"), (16, 1, 0, "b")],
+    ..M
+};
+
+const OWN: Written<'static> = Written {
+    labels: &[(0, 1, 1, "a"), (4, 1, 2, "b"), (16, 1, 0, "c")],
+    ..M
+};
+
+/// A row for each handler, each number of context lines and each read that fails, alone or with those after it. The
+/// last row of each is that in which no read fails.
+///
+/// # Errors
+/// `Write` where standard output took no more, `Memory` where it was refused.
+pub fn rows<W: Write>(alloc: Global, out: &mut W) -> Done {
+    for name in NAMES {
+        for handler in HANDLERS {
+            for lines in [0usize, 1, 2] {
+                until_none_fails(alloc, out, (name, handler, lines), false)?;
+                until_none_fails(alloc, out, (name, handler, lines), true)?;
+            }
+        }
+    }
+    Ok(())
+}
+
+fn until_none_fails<W: Write>(
+    alloc: Global,
+    out: &mut W,
+    (name, handler, lines): (&str, &str, usize),
+    stays: bool,
+) -> Done {
+    let how = if stays { "from" } else { "at" };
+    for fails_at in 1..MOST {
+        let reads = Reads {
+            count: Cell::new(0),
+            fails_at,
+            stays,
+        };
+        write!(out, "{name}, {handler}, {lines}, {how} {fails_at}")?;
+        let done = row(alloc, out, (name, handler, lines), &reads);
+        let none_fails = reads.count.get() < fails_at;
+        end_row(out, done)?;
+        if none_fails {
+            return Ok(());
+        }
+    }
+    Err(Stop::Usage)
+}
+
+fn row<W: Write>(
+    alloc: Global,
+    out: &mut W,
+    (name, handler, lines): (&str, &str, usize),
+    reads: &Reads,
+) -> Done {
+    let report = report(alloc, name, reads)?;
+    rendered(alloc, out, &report, handler, lines)
+}
+
+fn report<'a>(alloc: Global, name: &str, reads: &'a Reads) -> Result<Made<'a>, AllocError> {
+    let source = Stopping { bytes: NINE, reads };
+    match name {
+        "one label" => stopping_report(alloc, &ONE, source),
+        "two labels" => stopping_report(alloc, &TWO, source),
+        "labels far apart" => stopping_report(alloc, &APART, source),
+        "own context" => stopping_report(alloc, &OWN, source),
+        "no labels" => stopping_report(alloc, &M, source),
+        _ => {
+            let below = stopping_report(alloc, &ONE, source)?;
+            over(alloc, report_of(alloc, &APART)?, below)
+        }
+    }
+}

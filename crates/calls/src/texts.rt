@@ -1,0 +1,96 @@
+//! Texts that are wrapped, read as runs, and printed.
+
+use crate::rows::{Done, answered, appended, changed, given};
+use miette::error::RenderError;
+use miette::wrap::{Plan, WordSeparator, WordSplitter, WrapOptions, fill, wrap};
+use miette_text::runs::output::Output;
+use miette_text::runs::reading::{columns_of, print, read, read_text};
+use miette_text::wrap::cutting::{without_leading, without_trailing};
+use miette_tree::report_handler::append_whole;
+use std::alloc::Global;
+use std::io::Write;
+
+/// The calls of this module.
+pub const NAMES: [&str; 9] = [
+    "fill",
+    "wrap",
+    "without_leading",
+    "without_trailing",
+    "read",
+    "read_text",
+    "print",
+    "columns_of",
+    "append_whole",
+];
+
+/// A red word, a long one that is cut, and a link.
+const TEXT: &str =
+    "a \u{1b}[31mred\u{1b}[0m word-and-another, abcdefghijklmnop\n\u{1b}]8;;u\u{1b}\\here\u{1b}]8;;\u{1b}\\ \u{6f22}\n";
+
+/// Makes the call of this name.
+///
+/// # Errors
+/// `Memory` where what it needs can't be made, `Write` where standard output took no more.
+pub fn make<W: Write>(alloc: Global, name: &str, out: &mut W) -> Done {
+    match name {
+        "fill" => filled(alloc, out),
+        "wrap" => wrapped(alloc, out),
+        "append_whole" => {
+            let mut text = String::from_str(alloc, "> ")?;
+            given(out, &text)?;
+            let answer = append_whole("a text that is longer than what is there", &mut text);
+            appended(out, answer, &text)
+        }
+        "read" => {
+            let codes: Vec<char> = TEXT.chars().collect(alloc)?;
+            answered(out, read(alloc, codes))
+        }
+        "read_text" => answered(out, read_text(alloc, TEXT)),
+        _ => of_runs(alloc, name, out),
+    }
+}
+
+fn of_runs<W: Write>(alloc: Global, name: &str, out: &mut W) -> Done {
+    let runs = read_text(alloc, "\n\u{1b}[31m\nred\u{1b}[0m\n")?;
+    given(out, &runs)?;
+    match name {
+        "without_leading" => answered(out, without_leading(alloc, runs)),
+        "without_trailing" => answered(out, without_trailing(alloc, runs)),
+        "print" => answered(out, print(alloc, &runs)),
+        "columns_of" => answered(out, columns_of(alloc, &runs)),
+        _ => Ok(()),
+    }
+}
+
+fn filled<W: Write>(alloc: Global, out: &mut W) -> Done {
+    let options = WrapOptions {
+        width: 12,
+        first_indent: "* ",
+        further_indent: "| ",
+        break_words: true,
+        wrap_lines: true,
+        separator: WordSeparator::AsciiSpace,
+        splitter: WordSplitter::HyphenSplitter,
+    };
+    let mut text = String::from_str(alloc, "> ")?;
+    given(out, &text)?;
+    let answer = fill(TEXT, &options, &mut text);
+    appended(out, answer.map_err(|it| RenderError::from(it)), &text)
+}
+
+fn wrapped<W: Write>(alloc: Global, out: &mut W) -> Done {
+    let text = read_text(alloc, TEXT)?;
+    let (first, further) = (read_text(alloc, "* ")?, read_text(alloc, "| ")?);
+    let plan = Plan {
+        wraps: true,
+        hyphens: true,
+        breaks: true,
+        width: 12,
+        first: &first,
+        further: &further,
+    };
+    let mut output = Output::collected(alloc);
+    given(out, &output)?;
+    let answer = wrap(alloc, plan, &text, &mut output);
+    changed(out, answer, &output)
+}

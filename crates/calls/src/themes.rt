@@ -1,0 +1,83 @@
+//! Themes and highlighters.
+
+use crate::rows::{Done, answered, cloned, given};
+use miette::highlight::{BlankHighlighter, Highlighter};
+use miette::theme::{GraphicalTheme, Terminal, ThemeCharacters, ThemeStyles};
+use std::alloc::{AllocError, Global};
+use std::io::Write;
+
+/// The calls of this module.
+pub const NAMES: [&str; 16] = [
+    "ThemeCharacters::unicode",
+    "ThemeCharacters::emoji",
+    "ThemeCharacters::ascii",
+    "ThemeCharacters::clone",
+    "ThemeStyles::rgb",
+    "ThemeStyles::ansi",
+    "ThemeStyles::none",
+    "ThemeStyles::clone",
+    "GraphicalTheme::ascii",
+    "GraphicalTheme::unicode",
+    "GraphicalTheme::unicode_nocolor",
+    "GraphicalTheme::none",
+    "GraphicalTheme::for_terminal",
+    "GraphicalTheme::clone",
+    "Highlighter::highlight_line for BlankHighlighter",
+    "Highlighter::highlight_line for Box",
+];
+
+/// Makes the call of this name.
+///
+/// # Errors
+/// `Memory` where what it needs can't be made, `Write` where standard output took no more.
+pub fn make<W: Write>(alloc: Global, name: &str, out: &mut W) -> Done {
+    match name {
+        "ThemeCharacters::unicode" => answered(out, ThemeCharacters::unicode(alloc)),
+        "ThemeCharacters::emoji" => answered(out, ThemeCharacters::emoji(alloc)),
+        "ThemeCharacters::ascii" => answered(out, ThemeCharacters::ascii(alloc)),
+        "ThemeCharacters::clone" => cloned(out, &ThemeCharacters::emoji(alloc)?),
+        "ThemeStyles::rgb" => answered(out, ThemeStyles::rgb(alloc)),
+        "ThemeStyles::ansi" => answered(out, ThemeStyles::ansi(alloc)),
+        "ThemeStyles::none" => answered(out, ThemeStyles::none(alloc)),
+        "ThemeStyles::clone" => cloned(out, &ThemeStyles::rgb(alloc)?),
+        "GraphicalTheme::ascii" => answered(out, GraphicalTheme::ascii(alloc)),
+        "GraphicalTheme::unicode" => answered(out, GraphicalTheme::unicode(alloc)),
+        "GraphicalTheme::unicode_nocolor" => answered(out, GraphicalTheme::unicode_nocolor(alloc)),
+        "GraphicalTheme::none" => answered(out, GraphicalTheme::none(alloc)),
+        "GraphicalTheme::clone" => cloned(out, &GraphicalTheme::unicode(alloc)?),
+        _ => others(alloc, name, out),
+    }
+}
+
+fn others<W: Write>(alloc: Global, name: &str, out: &mut W) -> Done {
+    match name {
+        "GraphicalTheme::for_terminal" => {
+            let terminal = terminal(alloc)?;
+            given(out, &terminal)?;
+            answered(out, GraphicalTheme::for_terminal(alloc, &terminal))
+        }
+        "Highlighter::highlight_line for BlankHighlighter" => {
+            let mut highlighter = BlankHighlighter;
+            answered(out, highlighter.highlight_line(alloc, "let x = 1;"))
+        }
+        "Highlighter::highlight_line for Box" => {
+            let mut highlighter: Box<dyn Highlighter> = Box::new(alloc, BlankHighlighter)?;
+            answered(out, highlighter.highlight_line(alloc, "let x = 1;"))
+        }
+        _ => Ok(()),
+    }
+}
+
+/// Colours that its user doesn't want.
+pub fn terminal(alloc: Global) -> Result<Terminal, AllocError> {
+    Ok(Terminal {
+        width: Some(40),
+        color: Some(true),
+        unicode: true,
+        hyperlinks: true,
+        stdout_terminal: true,
+        stderr_terminal: true,
+        no_graphics: None,
+        no_color: Some(String::from_str(alloc, "1")?),
+    })
+}

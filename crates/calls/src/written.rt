@@ -1,0 +1,153 @@
+//! Reports as they are written down, over sources that are owned or that stop.
+
+use crate::stopping::Stopping;
+use miette::diagnostic::MietteDiagnostic;
+use miette::protocol::{LabeledSpan, Severity};
+use miette::report::{OwnedSource, Report};
+use std::alloc::{AllocError, Global};
+
+/// A report over plain diagnostics and sources that may stop.
+pub type Made<'a> = Report<MietteDiagnostic, Stopping<'a>>;
+
+/// A label: offset, length, its own number of context lines (0 where it has none), text (none where it is empty).
+pub type Label<'a> = (usize, usize, usize, &'a str);
+
+/// A diagnostic and its owned source. A text or a name that is empty isn't there.
+#[derive(Clone, Copy)]
+pub struct Written<'a> {
+    /// The message.
+    pub message: &'a str,
+    /// The code.
+    pub code: &'a str,
+    /// The url.
+    pub url: &'a str,
+    /// The help text.
+    pub help: &'a str,
+    /// How grave it is.
+    pub severity: Option<Severity>,
+    /// The labels.
+    pub labels: &'a [Label<'a>],
+    /// The source's name.
+    pub name: &'a str,
+    /// The bytes of its source.
+    pub source: Option<&'a [u8]>,
+}
+
+/// The message `m`, and nothing else.
+pub const M: Written<'static> = Written {
+    message: "m",
+    code: "",
+    url: "",
+    help: "",
+    severity: None,
+    labels: &[],
+    name: "",
+    source: None,
+};
+
+/// The report that is written.
+///
+/// # Errors
+/// Where memory is refused.
+pub fn report_of<'a>(alloc: Global, written: &Written<'_>) -> Result<Made<'a>, AllocError> {
+    let report = Report::built(diagnostic_of(alloc, written)?);
+    match written.source {
+        Some(bytes) => Ok(report.with_owned_source(source_of(alloc, written.name, bytes)?)),
+        None => Ok(report),
+    }
+}
+
+/// The same over a source that stops, in place of the one that is written.
+///
+/// # Errors
+/// Where memory is refused.
+pub fn stopping_report<'a>(
+    alloc: Global,
+    written: &Written<'_>,
+    source: Stopping<'a>,
+) -> Result<Made<'a>, AllocError> {
+    Ok(Report::built(diagnostic_of(alloc, written)?).with_source_code(source))
+}
+
+/// A report over another one.
+///
+/// # Errors
+/// Where memory is refused.
+pub fn over<'a>(alloc: Global, report: Made<'a>, cause: Made<'a>) -> Result<Made<'a>, AllocError> {
+    match report.with_diagnostic_cause(alloc, cause) {
+        Ok(made) => Ok(made),
+        Err(_) => Err(AllocError),
+    }
+}
+
+/// A report over texts.
+///
+/// # Errors
+/// Where memory is refused.
+pub fn told_why<'a>(
+    alloc: Global,
+    report: Made<'a>,
+    texts: &[&str],
+) -> Result<Made<'a>, AllocError> {
+    let mut list = Vec::new(alloc);
+    for text in texts {
+        list.push(String::from_str(alloc, text)?)?;
+    }
+    Ok(report.with_cause_texts(list))
+}
+
+/// A report with others beside it.
+///
+/// # Errors
+/// Where memory is refused.
+pub fn beside<'a>(
+    alloc: Global,
+    report: Made<'a>,
+    others: &[Written<'_>],
+) -> Result<Made<'a>, AllocError> {
+    let mut list = Vec::new(alloc);
+    for written in others {
+        list.push(report_of(alloc, written)?)?;
+    }
+    Ok(report.with_related(list))
+}
+
+fn diagnostic_of(alloc: Global, written: &Written<'_>) -> Result<MietteDiagnostic, AllocError> {
+    Ok(MietteDiagnostic {
+        message: String::from_str(alloc, written.message)?,
+        code: text_of(alloc, written.code)?,
+        severity: written.severity,
+        help: text_of(alloc, written.help)?,
+        url: text_of(alloc, written.url)?,
+        labels: Some(labels_of(alloc, written.labels)?),
+    })
+}
+
+fn text_of(alloc: Global, text: &str) -> Result<Option<String>, AllocError> {
+    if text.is_empty() {
+        return Ok(None);
+    }
+    Ok(Some(String::from_str(alloc, text)?))
+}
+
+fn labels_of(alloc: Global, labels: &[Label<'_>]) -> Result<Vec<LabeledSpan>, AllocError> {
+    let mut list = Vec::new(alloc);
+    for label in labels {
+        let (offset, length, lines, text) = *label;
+        let made = LabeledSpan::new(text_of(alloc, text)?, offset, length);
+        if lines == 0 {
+            list.push(made)?;
+        } else {
+            list.push(made.with_context_lines(lines))?;
+        }
+    }
+    Ok(list)
+}
+
+fn source_of(alloc: Global, name: &str, bytes: &[u8]) -> Result<OwnedSource, AllocError> {
+    let bytes = bytes.to_vec(alloc)?;
+    if name.is_empty() {
+        return OwnedSource::new(alloc, bytes);
+    }
+    OwnedSource::named(alloc, name, None, bytes)
+}
