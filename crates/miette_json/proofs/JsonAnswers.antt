@@ -64,7 +64,7 @@ report_written inherited (tree m s c rs) source labels related old a b p k q r n
     let own = effective s inherited in
     let here : AppendsPlaces own (given_labels m.labels) b p = subst (λ l. AppendsPlaces own l b p) el (subst (λ o. AppendsPlaces o labels b p) es places) in
     let there : AppendsRelated own rs q r = subst (λ ts. AppendsRelated own ts q r) er (subst (λ o. AppendsRelated o related q r) es others) in
-    let answers = listed here.fault there.answers in record {
+    let answers : NameAnswers = listed here.fault unlisted there.answers in record {
       answers = answers;
       possible = (here.may_fail, there.possible);
       appended = joined _ _ _ _ _ _ _ _ _ _ _ _ _ e f here.appended g h there.appended i ∙ ap (λ l. old ++ l) (sym (report_parts inherited answers (tree m s c rs)));

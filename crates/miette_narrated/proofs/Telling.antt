@@ -69,7 +69,7 @@ report_told context inherited (tree m s c rs) source labels related old a b p q 
     let here : AppendsSnippets context own (given_labels m.labels) b p = subst (λ l. AppendsSnippets context own l b p) el (subst (λ o. AppendsSnippets context o labels b p) es snippets) in
     let there : AppendsRelated context own rs q new = subst (λ ts. AppendsRelated context own ts q new) er (subst (λ o. AppendsRelated context o related q new) es others) in
     record {
-      answers = listed here.fails there.answers;
+      answers = listed here.fails unlisted there.answers;
       possible = (here.possible, there.possible);
       appended = parts_joined old a b p q new (titled_rows m) (cause_rows (causes_of c)) (snippet_rows context own here.fails (given_labels m.labels)) (advice_rows m) (blank_before rs ++ related_reports context own there.answers rs) e f here.appended g there.appended;
     }
@@ -96,7 +96,7 @@ whole_told s (tree m own c rs) source labels related start a b p q r new es el e
     whole_joined start a b p q r new (head_rows m) (causes_if s.chain (causes_of c)) (snippet_rows s.context eff here.fails (given_labels m.labels)) (advice_rows m) (blank_before rs ++ related_reports s.context eff there.answers rs) (row_if [] s.footer)
     empty e f here.appended g there.appended i in
     record {
-      answers = listed here.fails there.answers;
+      answers = listed here.fails unlisted there.answers;
       possible = (here.possible, there.possible);
       is = made ∙ ap (λ o. head_rows m ++ (causes_if s.chain (causes_of c) ++ ((snippet_rows s.context o here.fails (given_labels m.labels) ++ advice_rows m)
           ++ ((blank_before rs ++ related_reports s.context o there.answers rs) ++ row_if [] s.footer)))) (own_none own);

@@ -1,5 +1,6 @@
 -- What users rely on, in the words of docs/RULES.md.
 pub mod Tree
+pub mod Answers
 pub mod CauseTexts
 pub mod Chain
 pub mod WrapErr

@@ -1,6 +1,9 @@
 -- What isn't determined by a tree and the settings: what reads answered, and the highlighter's pieces.
 use Rattle.std.specs.Prelude.{List, []}
 use Rattle.miette_lines.specs.rules.Answers as layout
+use Rattle.miette_tree.specs.rules.Answers.{AnswerTree, AnswerTrees, own_or}
+pub use Rattle.miette_tree.specs.rules.Answers.{unlisted, listed, no_more, and_more, cause_answers, related_answers}
+pub use Rattle.miette_tree.specs.rules.Answers.{first_answers, later_answers}
 
 -- Of one diagnostic: whether each read failed, and the highlighter's pieces for each line of each snippet. A read
 -- that isn't listed succeeds, and a line that isn't listed is plain.
@@ -16,31 +19,11 @@ nothing_listed = pieces_listed []
 
 -- Of a tree: of its diagnostic, of its cause, and of each related one. Nothing is listed where all sources always
 -- read and the highlighter is blank.
-mutual
-  pub data Answers : Type 0 where
-    unlisted : Answers
-    listed : Answer → Answers → RelatedAnswers → Answers
+abbrev pub Answers : Type 0
+Answers = AnswerTree Answer
 
-  pub data RelatedAnswers : Type 0 where
-    no_more : RelatedAnswers
-    and_more : Answers → RelatedAnswers → RelatedAnswers
+abbrev pub RelatedAnswers : Type 0
+RelatedAnswers = AnswerTrees Answer
 
 abbrev pub own_answer : Answers → Answer
-own_answer unlisted = nothing_listed
-own_answer (listed own cause related) = own
-
-abbrev pub cause_answers : Answers → Answers
-cause_answers unlisted = unlisted
-cause_answers (listed own cause related) = cause
-
-abbrev pub related_answers : Answers → RelatedAnswers
-related_answers unlisted = no_more
-related_answers (listed own cause related) = related
-
-abbrev pub first_answers : RelatedAnswers → Answers
-first_answers no_more = unlisted
-first_answers (and_more first more) = first
-
-abbrev pub later_answers : RelatedAnswers → RelatedAnswers
-later_answers no_more = no_more
-later_answers (and_more first more) = more
+own_answer a = own_or nothing_listed a

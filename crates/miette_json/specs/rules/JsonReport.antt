@@ -4,6 +4,9 @@ use Rattle.std.specs.Prelude.{Option, Some, None, option_map, unwrap_or, codes, 
 use Rattle.miette_protocol.specs.views.Meaning.{Label}
 use Rattle.miette_protocol.specs.rules.Reading.{Source, Span}
 use Rattle.miette_tree.specs.rules.Tree.{Tree, tree, causes_of, Trees, no_trees, more_trees, effective}
+use Rattle.miette_tree.specs.rules.Answers.{AnswerTree, AnswerTrees, own_or}
+pub use Rattle.miette_tree.specs.rules.Answers.{unlisted, listed, no_more, and_more, related_answers}
+pub use Rattle.miette_tree.specs.rules.Answers.{first_answers, later_answers}
 use Rattle.miette_json.specs.rules.Json.{Json, number, string, array, object, Items, no_items, item, Members}
 use Rattle.miette_json.specs.rules.Json.{no_members, member}
 use Rattle.miette_tree.specs.rules.Parts.{given_labels, severity_text}
@@ -11,31 +14,15 @@ use Rattle.miette_tree.specs.rules.Parts.{given_labels, severity_text}
 -- ---- answers
 
 -- Of a report, and of the reports that are related to it: did the read for the file name meet a fault? What isn't
--- listed met none.
-mutual
-  pub data NameAnswers : Type 0 where
-    unlisted : NameAnswers
-    listed : Bool → RelatedNameAnswers → NameAnswers
+-- listed met none. Causes have no file name, so what is listed of them says nothing.
+abbrev pub NameAnswers : Type 0
+NameAnswers = AnswerTree Bool
 
-  pub data RelatedNameAnswers : Type 0 where
-    no_more : RelatedNameAnswers
-    and_more : NameAnswers → RelatedNameAnswers → RelatedNameAnswers
+abbrev pub RelatedNameAnswers : Type 0
+RelatedNameAnswers = AnswerTrees Bool
 
 abbrev pub own_fault : NameAnswers → Bool
-own_fault unlisted = false
-own_fault (listed fault related) = fault
-
-abbrev pub related_answers : NameAnswers → RelatedNameAnswers
-related_answers unlisted = no_more
-related_answers (listed fault related) = related
-
-abbrev pub first_answers : RelatedNameAnswers → NameAnswers
-first_answers no_more = unlisted
-first_answers (and_more first more) = first
-
-abbrev pub later_answers : RelatedNameAnswers → RelatedNameAnswers
-later_answers no_more = no_more
-later_answers (and_more first more) = more
+own_fault a = own_or false a
 
 abbrev pub MayFail : Option Source → Type 0
 MayFail None = ⊥

@@ -5,6 +5,9 @@ use Rattle.miette_protocol.specs.rules.Reading.{Source}
 use Rattle.miette_protocol.specs.declared.protocol.Severity.{Severity}
 use Rattle.miette_protocol.specs.declared.protocol.Severity.TheVariants.{Advice, Warning, Error}
 use Rattle.miette_tree.specs.rules.Tree.{Tree, tree, causes_of, Trees, no_trees, more_trees, effective}
+use Rattle.miette_tree.specs.rules.Answers.{AnswerTree, AnswerTrees, own_or}
+pub use Rattle.miette_tree.specs.rules.Answers.{unlisted, listed, no_more, and_more, related_answers}
+pub use Rattle.miette_tree.specs.rules.Answers.{first_answers, later_answers}
 use Rattle.miette_narrated.specs.rules.Labels.{row}
 use Rattle.miette_narrated.specs.rules.Snippets.{snippets}
 use Rattle.miette_tree.specs.rules.Parts.{given_labels, severity_text}
@@ -20,31 +23,16 @@ default_settings = record { chain = true; context = 1; footer = None }
 
 -- ---- answers
 
--- Of a report, which reads of groups fail, and the same of its related reports. A read that isn't listed succeeds.
-mutual
-  pub data Answers : Type 0 where
-    unlisted : Answers
-    listed : List Bool → RelatedAnswers → Answers
+-- Of a report, which reads of groups fail, and the same of its related reports; those of causes are not told. A read
+-- that isn't listed succeeds.
+abbrev pub Answers : Type 0
+Answers = AnswerTree (List Bool)
 
-  pub data RelatedAnswers : Type 0 where
-    no_more : RelatedAnswers
-    and_more : Answers → RelatedAnswers → RelatedAnswers
+abbrev pub RelatedAnswers : Type 0
+RelatedAnswers = AnswerTrees (List Bool)
 
 abbrev pub own_answer : Answers → List Bool
-own_answer unlisted = []
-own_answer (listed fails related) = fails
-
-abbrev pub related_answers : Answers → RelatedAnswers
-related_answers unlisted = no_more
-related_answers (listed fails related) = related
-
-abbrev pub first_answers : RelatedAnswers → Answers
-first_answers no_more = unlisted
-first_answers (and_more first more) = first
-
-abbrev pub later_answers : RelatedAnswers → RelatedAnswers
-later_answers no_more = no_more
-later_answers (and_more first more) = more
+own_answer a = own_or [] a
 
 -- ---- parts
 
