@@ -17,3 +17,4 @@ pub mod DrawnRows
 pub mod SnippetsFading
 pub mod Styled
 pub mod Themes
+pub mod Rendered

@@ -70,53 +70,6 @@ impl<H: Highlighter> GraphicalReportHandler<H> {
         }
     }
 
-    // Appends the picture of a report.
-    fn draw<D: Diagnostic, S: SourceCode>(
-        &mut self,
-        report: &Report<D, S>,
-        out: &mut String,
-    ) -> Result<(), RenderError>
-        ensures settings { self.new.settings ≡ self.old.settings }
-        ensures blank { draws_plain H.is_blank self.new ≡ draws_plain H.is_blank self.old }
-        ensures ok { OnOk result (Appends drawn_rows self.old.settings (draws_plain H.is_blank self.old)
-            (tree_of D.meaning S.source report.now) (string_bytes out.old) (string_bytes out.new)) }
-        ensures only { OnOk result (draws_plain H.is_blank self.old ≡ true →
-            all_read (printed self.old.settings (tree_of D.meaning S.source report.now)) ≡ true →
-            string_bytes out.new ≡ string_bytes out.old
-            ++ encode_utf8_all (report_text drawn_rows self.old.settings (tree_of D.meaning S.source report.now)
-            unlisted)) }
-        ensures colours { OnOk result (AreCleanSettings self.old.settings →
-            IsCleanTree (tree_of D.meaning S.source report.now) →
-            AppendsOne (IsColouredText drawn_rows self.old.settings (draws_plain H.is_blank self.old)
-            (tree_of D.meaning S.source report.now)) (string_bytes out.old) (string_bytes out.new)) }
-        ensures colourless { OnOk result (all_read (printed self.old.settings (tree_of D.meaning S.source report.now))
-            ≡ true →
-            AreCleanSettings self.old.settings → IsCleanTree (tree_of D.meaning S.source report.now) →
-            AppendsErasing (string_bytes out.old) (string_bytes out.new)
-            (encode_utf8_all (report_text drawn_rows (colourless self.old.settings)
-            (tree_of D.meaning S.source report.now) unlisted))) }
-        ensures themes { OnOk result (all_read (printed self.old.settings (tree_of D.meaning S.source report.now))
-            ≡ true →
-            AreCleanSettings self.old.settings → IsCleanTree (tree_of D.meaning S.source report.now) →
-            (others : List ℕ) →
-            IsRestyledText drawn_rows self.old.settings (tree_of D.meaning S.source report.now) others →
-            AppendsErasing (string_bytes out.old) (string_bytes out.new) (erase others)) }
-        ensures refused { (result ≡ Err RenderError.Refused) →
-            all_read (printed self.old.settings (tree_of D.meaning S.source report.now)) ≡ false }
-        ensures err { OnErr result (string_bytes out.new ≡ string_bytes out.old) }
-    {
-        erasing_law();
-        let alloc = *out.allocator();
-        let mut pen = Pen {
-            alloc,
-            highlighter: self.highlighter.take(),
-        };
-        let drawn = report_output(&mut pen, self.layout(), report);
-        self.highlighter = pen.highlighter;
-        append_printed(alloc, drawn?, out)?;
-        Ok(())
-    }
-
     /// Appends the picture of a report. The highlighter is restarted before each snippet with the contents of the
     /// snippet's read, and is then given the text of each line in order. After an error `out` is as before: `Memory`
     /// where memory was refused, to the highlighter too; `Refused` where a printed diagnostic has labels over a
@@ -175,7 +128,8 @@ impl<H: Highlighter> GraphicalReportHandler<H> {
         ensures err { OnErr result (string_bytes out.new ≡ string_bytes out.old) }
     {
         snippets_law();
-        self.draw(report, out)
+        erasing_law();
+        self.debug(report, out)
     }
 }
 
@@ -192,6 +146,14 @@ impl<H: Highlighter> ReportHandler for GraphicalReportHandler<H> {
         report: &Report<D, S>,
         out: &mut String,
     ) -> Result<(), RenderError> {
-        self.draw::<D, S>(report, out)
+        let alloc = *out.allocator();
+        let mut pen = Pen {
+            alloc,
+            highlighter: self.highlighter.take(),
+        };
+        let drawn = report_output(&mut pen, self.layout(), report);
+        self.highlighter = pen.highlighter;
+        append_printed(alloc, drawn?, out)?;
+        Ok(())
     }
 }
