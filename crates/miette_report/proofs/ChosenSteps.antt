@@ -1,6 +1,6 @@
 -- Steps from the handler that was chosen to the text that the settings ask for.
-use Rattle.std.proofs.Common.{◌≡◌, ℕ, Bool, List, length, ◌++◌, ◌∙◌, Option, None, Some, IfSome, Result, Ok, Err, IfOk, OnOk, IsUtf8, String, string_bytes, true, false, encode_utf8_all, refl, sym, subst}
-use Rattle.std.proofs.lemmas.List.{append_cancel_left}
+use Rattle.std.proofs.Common.{◌≡◌, ℕ, Bool, List, [], length, ◌++◌, ◌∙◌, ap, Option, None, Some, IfSome, Result, Ok, Err, IfOk, OnOk, OnErr, IsUtf8, String, string_bytes, true, false, encode_utf8_all, refl, sym, subst}
+use Rattle.miette_graphical.proofs.Only.{same-report}
 use Rattle.miette.specs.rules.Options.{Options}
 use Rattle.miette.specs.declared.options.handler.MietteHandler.TheVariants as handler
 use Rattle.miette_style.specs.declared.theme.Terminal.{Terminal}
@@ -41,15 +41,21 @@ pub debug-given : {A E H : Type 0} (is_blank : H → Bool) (h : Chosen H) (t : T
 debug-given is_blank h t old new (Err e) is text = tt
 debug-given is_blank h t old new (Ok x) is text = subst (λ k. AppendsOne (IsGiven is_blank k t) old new) (sym is) text
 
+-- where lines are left plain, the text is the one under the answers that always come
+only-text : {H : Type 0} (is_blank : H → Bool) (it : Handling H) (t : Tree) (text : List ℕ) → AlwaysReads t → drawn.IsTextOf drawn_rows it.settings (draws_plain is_blank it) t text
+    → draws_plain is_blank it ≡ true → text ≡ encode_utf8_all (report_text drawn_rows it.settings t unlisted)
+only-text is_blank it t text reads given plain =
+    let answered : drawn.IsReport drawn_rows it.settings true t given.0 = subst (λ b. drawn.IsReport drawn_rows it.settings b t given.0) plain given.1 in
+    given.2 ∙ ap encode_utf8_all (answered.2 ∙ same-report drawn_rows it.settings t answered.0 answered.1 (printed-reads it.settings t reads))
+
 pub graphical-given : {A E H : Type 0} (is_blank : H → Bool) (h : Chosen H) (it : Handling H) (t : Tree) (old new : List ℕ) (r : Result A E) → h ≡ chosen.Built (handler.Graphical it) → AlwaysReads t
-    → OnOk r (drawn.Appends drawn_rows it.settings (draws_plain is_blank it) t old new)
-    → OnOk r (draws_plain is_blank it ≡ true → all_read (printed it.settings t) ≡ true → new ≡ old ++ encode_utf8_all (report_text drawn_rows it.settings t unlisted)) → OnOk r (AppendsOne (IsGiven is_blank h t) old new)
-graphical-given is_blank h it t old new (Err e) is reads ok only = tt
-graphical-given is_blank h it t old new (Ok x) is reads ok only =
+    → OnOk r (drawn.Appends drawn_rows it.settings (draws_plain is_blank it) t old new) → OnOk r (AppendsOne (IsGiven is_blank h t) old new)
+graphical-given is_blank h it t old new (Err e) is reads ok = tt
+graphical-given is_blank h it t old new (Ok x) is reads ok =
     let one : AppendsOne (IsGiven is_blank (chosen.Built (handler.Graphical it)) t) old new =
     record {
       text = ok.text;
-      is_given = (ok.is_given, λ plain. append_cancel_left old ok.text (encode_utf8_all (report_text drawn_rows it.settings t unlisted)) (sym ok.appended ∙ only plain (printed-reads it.settings t reads)));
+      is_given = (ok.is_given, only-text is_blank it t ok.text reads ok.is_given);
       appended = ok.appended;
     } in
     subst (λ k. AppendsOne (IsGiven is_blank k t) old new) (sym is) one
@@ -69,6 +75,14 @@ narrated-given is_blank h s t old new (Ok x) is reads text only =
       appended = only (told-reads t reads);
     } in
     subst (λ k. AppendsOne (IsGiven is_blank k t) old new) (sym is) one
+
+-- the text where it was appended to none
+pub text-given : {A E F Z : Type 0} (rendered : Result A E) (result : Result (String Z) F) (text : String Z) (old : List ℕ) (P : List ℕ → Type 0) → OnOk rendered (AppendsOne P old (string_bytes text))
+    → IfOk result (λ it. (it ≡ text) × OnErr rendered ⊥) → old ≡ [] → IfOk result (λ it. P (string_bytes it))
+text-given (Ok x) (Ok it) text old P one is none = subst (λ s. P (string_bytes s)) (sym is.0) (subst P (sym (one.appended ∙ ap (λ o. o ++ one.text) none)) one.is_given)
+text-given (Err e) (Ok it) text old P one is none = absurd is.1
+text-given (Ok x) (Err f) text old P one is none = tt
+text-given (Err e) (Err f) text old P one is none = tt
 
 -- ---- what was asked for
 

@@ -1,8 +1,7 @@
 //! The handler that a job is asked for.
 
-ghost use Rattle.std.specs.Prelude.{◌≡◌, ◌⊎◌, IfOk, OnOk, OnErr, string_bytes};
+ghost use Rattle.std.specs.Prelude.{◌≡◌, ◌⊎◌, IfOk, OnErr, string_bytes};
 ghost use Rattle.miette_tree.specs.views.Report.{tree_of};
-ghost use Rattle.miette_tree.specs.views.Handler.{AppendsOne};
 ghost use Rattle.miette_json.specs.rules.Reads.{AlwaysReads};
 ghost use Rattle.miette_report.specs.rules.Chosen.{IsAsked, IsGiven, MayRefuse, Stays};
 
@@ -10,7 +9,7 @@ use crate::fault::Fault;
 use crate::option_words::Choice;
 use crate::settings::Settings;
 use miette::error::RenderError;
-use miette::handlers::{DebugReportHandler, JSONReportHandler};
+use miette::handlers::{DebugReportHandler, JSONReportHandler, ReportHandler};
 use miette::highlight::Highlighter;
 use miette::options::MietteHandler;
 use miette::protocol::Diagnostic;
@@ -44,6 +43,19 @@ impl Chosen {
     }
 }
 
+/// The text that was rendered, or why there is none.
+fn text_or_fault(rendered: Result<(), RenderError>, text: String) -> Result<String, Fault>
+    ensures ok { IfOk result (λ it. (it ≡ text) × OnErr rendered ⊥) }
+    ensures refused { (result ≡ Err Fault.Refused) → rendered ≡ Err RenderError.Refused }
+    ensures others { OnErr result ((result ≡ Err Fault.Refused) ⊎ (result ≡ Err Fault.Memory)) }
+{
+    match rendered {
+        Ok(()) => Ok(text),
+        Err(RenderError::Memory) => Err(Fault::Memory),
+        Err(RenderError::Refused) => Err(Fault::Refused),
+    }
+}
+
 impl<H: Highlighter> Chosen<H> {
     /// The text of a report whose sources always read.
     pub(crate) fn render(&mut self, alloc: Global, report: &Report) -> Result<String, Fault>
@@ -59,10 +71,21 @@ impl<H: Highlighter> Chosen<H> {
         ensures stays { Stays H.is_blank self.old self.new }
     {
         let mut text = String::new(alloc);
-        match self.append(report, &mut text) {
-            Ok(()) => Ok(text),
-            Err(RenderError::Memory) => Err(Fault::Memory),
-            Err(RenderError::Refused) => Err(Fault::Refused),
+        match self {
+            Chosen::Json => text_or_fault(
+                JSONReportHandler::new().render_report(report, &mut text),
+                text,
+            ),
+            Chosen::Debug => text_or_fault(
+                DebugReportHandler::new().render_report(report, &mut text),
+                text,
+            ),
+            Chosen::Built(MietteHandler::Graphical(handler)) => {
+                text_or_fault(handler.debug(report, &mut text), text)
+            }
+            Chosen::Built(MietteHandler::Narrated(handler)) => {
+                text_or_fault(handler.render_report(report, &mut text), text)
+            }
         }
     }
 
@@ -88,25 +111,5 @@ impl<H: Highlighter> Chosen<H> {
         }
         let last = self.render(alloc, report)?;
         Ok(last)
-    }
-
-    /// Appends that text.
-    fn append(&mut self, report: &Report, out: &mut String) -> Result<(), RenderError>
-        requires reads { AlwaysReads (tree_of ⟦<Box<dyn Diagnostic> as Diagnostic>⟧.meaning
-            ⟦<Box<dyn SourceCode> as SourceCode>⟧.source report.now) }
-        ensures ok { OnOk result (AppendsOne (IsGiven H.is_blank self.old
-            (tree_of ⟦<Box<dyn Diagnostic> as Diagnostic>⟧.meaning ⟦<Box<dyn SourceCode> as SourceCode>⟧.source
-            report.now)) (string_bytes out.old) (string_bytes out.new)) }
-        ensures refused { (result ≡ Err RenderError.Refused) →
-            MayRefuse self.old (tree_of ⟦<Box<dyn Diagnostic> as Diagnostic>⟧.meaning
-            ⟦<Box<dyn SourceCode> as SourceCode>⟧.source report.now) }
-        ensures stays { Stays H.is_blank self.old self.new }
-    {
-        match self {
-            Chosen::Json => JSONReportHandler::new().render_report(report, out),
-            Chosen::Debug => DebugReportHandler::new().render_report(report, out),
-            Chosen::Built(MietteHandler::Graphical(handler)) => handler.render_report(report, out),
-            Chosen::Built(MietteHandler::Narrated(handler)) => handler.render_report(report, out),
-        }
     }
 }
