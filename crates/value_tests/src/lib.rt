@@ -14,6 +14,8 @@ mod labels;
 #[cfg(test)]
 mod named;
 #[cfg(test)]
+mod patterns;
+#[cfg(test)]
 mod reads;
 #[cfg(test)]
 mod runs;

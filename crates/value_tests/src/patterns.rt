@@ -1,0 +1,194 @@
+//! Lines that rules style, with what they style in brackets and a letter behind them.
+
+use miette_highlight::highlight::{Highlighter, Marks, Pattern, PatternHighlighter, Rule, by_char};
+use miette_protocol::protocol::SourceSpan;
+use miette_protocol::source::MietteSpanContents;
+use miette_style::style::{Color, Style};
+use std::alloc::{AllocError, Global};
+use std::process::Abort;
+use std::test::Fail;
+
+/// Digits in cyan, and the rest plain.
+#[derive(Drop)]
+struct Digits;
+
+impl Highlighter for Digits {
+    fn restart(&mut self, _contents: &MietteSpanContents<'_>) {}
+
+    fn highlight_line(
+        &mut self,
+        alloc: Global,
+        line: &str,
+    ) -> Result<Vec<(usize, Style)>, AllocError> {
+        let cyan = Style::new().color(Color::Cyan);
+        by_char(alloc, line, |c| {
+            if c.is_ascii_digit() {
+                cyan
+            } else {
+                Style::new()
+            }
+        })
+    }
+}
+
+// The letter of a style.
+fn letter(style: Style) -> &'static str {
+    match style.fg {
+        Some(Color::Green) => "g",
+        Some(Color::Yellow) => "y",
+        Some(Color::Magenta) => "m",
+        Some(Color::Cyan) => "c",
+        Some(_) => "?",
+        None if style.dimmed => "d",
+        None => "",
+    }
+}
+
+// A line's text in its pieces.
+fn painted(alloc: Global, it: &mut PatternHighlighter, line: &str) -> Result<String, Fail> {
+    let mut out = String::new(alloc);
+    let mut rest = line;
+    let pieces = it.highlight_line(alloc, line)?;
+    for piece in &pieces {
+        let Some((text, tail)) = rest.split_at_checked(piece.0) else {
+            return Err(Fail::from("a piece ends inside a character"));
+        };
+        let letter = letter(piece.1);
+        if letter.is_empty() {
+            out.push_str(text)?;
+        } else {
+            out.push('[')?;
+            out.push_str(text)?;
+            out.push(']')?;
+            out.push_str(letter)?;
+        }
+        rest = tail;
+    }
+    out.push('|')?;
+    out.push_str(rest)?;
+    Ok(out)
+}
+
+// Each line as it is wanted, from the start of a snippet on.
+fn paints(
+    rt: &impl Abort,
+    alloc: Global,
+    it: &mut PatternHighlighter,
+    lines: &[(&str, &str)],
+) -> Result<(), Fail> {
+    it.restart(&MietteSpanContents::new(b"", SourceSpan::from((0, 0)), 0, 0, 0));
+    for (line, wanted) in lines {
+        let found = painted(alloc, it, line)?;
+        assert_eq!(rt; found.as_str(), *wanted);
+    }
+    Ok(())
+}
+
+#[test]
+fn a_piece_for_each_character(rt: HostRuntime) -> Result<(), Fail> {
+    let cyan = Style::new().color(Color::Cyan);
+    let pieces = Digits.highlight_line(rt.alloc(), "aé1")?;
+    let wanted = [(1, Style::new()), (2, Style::new()), (1, cyan)];
+    assert_eq!(rt; pieces.as_slice(), wanted.as_slice());
+    Ok(())
+}
+
+#[test]
+fn the_first_rule_decides(rt: HostRuntime) -> Result<(), Fail> {
+    let alloc = rt.alloc();
+    let green = Style::new().color(Color::Green);
+    let cyan = Style::new().color(Color::Cyan);
+    let rules = vec![
+        in alloc; Rule {
+            pattern: Pattern::words(alloc, &["if", "é"])?,
+            style: green,
+        },
+        Rule {
+            pattern: Pattern::From(b'a', b'i'),
+            style: cyan,
+        },
+        Rule {
+            pattern: Pattern::Between(Marks::new(alloc, "<é", "é>")?),
+            style: green,
+        }
+    ]?;
+    let mut it = PatternHighlighter::new(rules);
+    paints(
+        &rt,
+        alloc,
+        &mut it,
+        &[
+            ("if iff xif é éé", "[if]g [iff]c xif [é]g éé|"),
+            ("<é, éé> <x <é>", "[<é, éé>]g <x [<é>]g|"),
+            ("", "|"),
+        ],
+    )
+}
+
+#[test]
+fn words_and_texts(rt: HostRuntime) -> Result<(), Fail> {
+    let alloc = rt.alloc();
+    let rules = vec![
+        in alloc; Rule {
+            pattern: Pattern::words(alloc, &["let", "in"])?,
+            style: Style::new().color(Color::Magenta),
+        },
+        Rule {
+            pattern: Pattern::Between(Marks::new(alloc, "\"", "\"")?),
+            style: Style::new().color(Color::Green),
+        }
+    ]?;
+    let mut highlighter = PatternHighlighter::new(rules);
+    paints(
+        &rt,
+        alloc,
+        &mut highlighter,
+        &[("let letter = \"in\"", "[let]m letter = [\"in\"]g|")],
+    )
+}
+
+#[test]
+fn json_and_toml(rt: HostRuntime) -> Result<(), Fail> {
+    let alloc = rt.alloc();
+    let mut json = PatternHighlighter::json(alloc)?;
+    paints(
+        &rt,
+        alloc,
+        &mut json,
+        &[(
+            "{\"a\\\"b\": [1.5, true, nul, \"ä]",
+            "{[\"a\\\"b\"]g: [[1]c.[5]c, [true]y, nul, [\"ä]]g|",
+        )],
+    )?;
+    let mut toml = PatternHighlighter::toml(alloc)?;
+    paints(
+        &rt,
+        alloc,
+        &mut toml,
+        &[
+            ("key = 'a\\' # \"x", "key = ['a\\']g [# \"x]d|"),
+            ("k1 = \"\"\"a \"b\" c", "k1 = [\"\"\"a \"b\" c]g|"),
+            ("", "|"),
+            ("\\\"\"\"\" # inf", "[\\\"\"\"\"]g [# inf]d|"),
+        ],
+    )
+}
+
+#[test]
+fn rust_over_lines(rt: HostRuntime) -> Result<(), Fail> {
+    let alloc = rt.alloc();
+    let mut it = PatternHighlighter::rust(alloc)?;
+    let lines = [
+        ("/* a", "[/* a]d|"),
+        (
+            "fn */ let x: &'a str = \"é\";",
+            "[fn */]d [let]m x: &'a str = [\"é\"]g;|",
+        ),
+        ("\"a // b", "[\"a // b]g|"),
+        ("b\" fnord('\"', 0xff)", "[b\"]g fnord(['\"']g, [0xff]c)|"),
+        ("r#\"\"a\"# // \"", "[r#\"\"a\"#]g [// \"]d|"),
+        ("/* open", "[/* open]d|"),
+    ];
+    paints(&rt, alloc, &mut it, lines.as_slice())?;
+    paints(&rt, alloc, &mut it, &[("fn", "[fn]m|")])
+}
