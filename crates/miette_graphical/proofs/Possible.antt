@@ -1,5 +1,5 @@
 -- Answers without a highlighter's pieces are possible in plain styles: the snippets have rows there too.
-use Rattle.std.proofs.Common.{◌≡◌, Bool, true, List, [], Option, Some, None, is_some, map, option_map, refl, ap, subst}
+use Rattle.std.proofs.Common.{◌≡◌, Bool, true, List, Option, Some, None, is_some, map, option_map, refl, ap, subst}
 use Rattle.miette_protocol.specs.views.Meaning.{Label, Meaning}
 use Rattle.miette_protocol.specs.rules.Reading.{Source}
 use Rattle.miette_tree.specs.rules.Parts.{given_labels}

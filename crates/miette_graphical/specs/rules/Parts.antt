@@ -10,7 +10,6 @@ use Rattle.miette_graphical.specs.rules.Settings.{Settings, Urls, AsLinks, AsTex
 use Rattle.miette_graphical.specs.rules.Answers.{Answer}
 use Rattle.miette_graphical.specs.rules.Indents.{bare, wrapped_under, icon_indent, bar_indent, arrow_indent}
 use Rattle.miette_graphical.specs.rules.Indents.{stem_indent, help_indent, further_help_indent, footer_indent}
-use Rattle.miette_tree.specs.rules.Parts.{given_labels}
 
 abbrev pub line_feed : List ℕ
 line_feed = 10 ∷ []
