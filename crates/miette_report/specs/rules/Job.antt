@@ -1,5 +1,5 @@
 -- The text of a job: by the bytes that were read, and by what was asked for.
-use Rattle.std.specs.Prelude.{◌≡◌, ℕ, Bool, List, Option, Some, true, false, IsUtf8, encode_utf8_all}
+use Rattle.std.specs.Prelude.{◌≡◌, ℕ, Bool, List, Some, true, false, IsUtf8, encode_utf8_all}
 use Rattle.miette.specs.rules.Choice.{IsChosen, is_graphical}
 use Rattle.miette.specs.rules.Options.{Options}
 use Rattle.miette.specs.declared.options.handler.MietteHandler.{MietteHandler}

@@ -1,4 +1,4 @@
-use Rattle.std.proofs.Common.{◌∙◌, ap, sym, subst}
+use Rattle.std.proofs.Common.{ap, subst}
 use Rattle.std.specs.Option.{option_map}
 use Rattle.miette_report.specs.views.AskView.{built_ask}
 use Rattle.miette_report.specs.rules.Words.{IsReadAs}
