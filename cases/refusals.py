@@ -67,16 +67,34 @@ RUNS = [
 
 def run(words, given, library, growth):
     """Status, standard output, standard error of a run in which one growth is refused, and whether there was such a growth."""
+    return run_with(words, given.encode(), library, growth, {})
+
+
+def run_with(words, given, library, growth, variables):
+    """The same, of bytes and with these variables."""
     mine, its = os.pipe()
-    told = {"LD_PRELOAD": library, "REFUSED_GROWTH": str(growth), "REFUSED_REPORT": str(its)}
+    told = {**variables, "LD_PRELOAD": library, "REFUSED_GROWTH": str(growth), "REFUSED_REPORT": str(its)}
     name, *rest = words
     program = os.path.join(ROOT, "crates", name, "out", name)
     try:
-        done = subprocess.run([program, *rest], input=given.encode(), capture_output=True, env=told, pass_fds=[its], timeout=60)
+        done = subprocess.run([program, *rest], input=given, capture_output=True, env=told, pass_fds=[its], timeout=60)
         os.close(its)
         return (done.returncode, done.stdout, done.stderr), os.read(mine, 1) == b"r"
     finally:
         os.close(mine)
+
+
+def built(name):
+    """The folder of a built program, where files may surely be run."""
+    return os.path.join(ROOT, "crates", name, "out")
+
+
+def library_in(folder, name):
+    """What refuses a growth, or stops a stream, built into a folder."""
+    library = os.path.join(folder, f"{name}.so")
+    compiler = os.environ.get("CC") or shutil.which("cc") or "gcc"
+    subprocess.run([compiler, "-O1", "-shared", "-fPIC", "-o", library, os.path.join(HERE, f"{name}.c")], check=True)
+    return library
 
 
 def fault_of(words, given, library):
@@ -97,12 +115,8 @@ def fault_of(words, given, library):
 
 
 def main():
-    # (beside a program, where files may surely be run)
-    beside = os.path.join(ROOT, "crates", "draw", "out")
-    with tempfile.TemporaryDirectory(dir=beside) as folder, ThreadPoolExecutor(os.cpu_count() or 2) as pool:
-        library = os.path.join(folder, "refuse.so")
-        compiler = os.environ.get("CC") or shutil.which("cc") or "gcc"
-        subprocess.run([compiler, "-O1", "-shared", "-fPIC", "-o", library, os.path.join(HERE, "refuse.c")], check=True)
+    with tempfile.TemporaryDirectory(dir=built("draw")) as folder, ThreadPoolExecutor(os.cpu_count() or 2) as pool:
+        library = library_in(folder, "refuse")
         found = list(pool.map(lambda it: fault_of(*it, library), RUNS))
     failed = 0
     for (words, given), (fault, _) in zip(RUNS, found):

@@ -66,6 +66,8 @@ JOINED = {
     "flags": "🇫🇷".encode(),
     "Khmer": "ក".encode(),
 }
+# Joined characters on a whole line, each of which joins both of its neighbours with no place between.
+LINKED = {"joined emoji with selectors": "👁\ufe0f\u200d".encode()}
 # Characters that take no columns, on a whole line.
 FAINT = {
     "marks": "\u0301".encode(),
@@ -101,9 +103,9 @@ def listed(member, item):
     return lambda size: (form % (member, ",".join([item] * size))).encode()
 
 
-def repeated(unit):
-    """So many times the same bytes."""
-    return lambda size: unit * size
+def repeated(unit, head=b""):
+    """So many times the same bytes behind a head."""
+    return lambda size: head + unit * size
 
 
 def labelled(text, spans, label=None):
@@ -141,12 +143,12 @@ def crossing(size):
     return labelled("ab\n" * 10 * size, ((3 * i, 27 * size) for i in range(size)), "x")
 
 
-def labels_on(unit):
-    """So many labels on a line of ten times so many characters."""
+def labels_on(unit, head=b""):
+    """So many labels on a line of ten times so many characters behind its head."""
 
     def make(size):
-        spans = ((10 * len(unit) * i, len(unit)) for i in range(size))
-        return labelled((unit * 10 * size).decode(), spans)
+        spans = ((len(head) + 10 * len(unit) * i, len(unit)) for i in range(size))
+        return labelled((head + unit * 10 * size).decode(), spans)
 
     return make
 
@@ -161,6 +163,22 @@ def within(member, inner, depth, wrap):
 def deep_related(depth):
     """Related reports in one another, of which the last has a help of so many bytes."""
     return lambda size: within("related", helped(size), depth, True)
+
+
+def each_helped(depth):
+    """Related reports in one another, each with a help of so many bytes."""
+
+    def make(size):
+        inner = described(message="m", help=text_of(size)).decode()
+        head = inner[:-1] + ',"related":['
+        return (head * depth + inner + "]}" * depth).encode()
+
+    return make
+
+
+def of_depth(member, wrap):
+    """Reports in one another, so many deep, of which the last has a help of 10,000 bytes."""
+    return lambda depth: within(member, helped(10_000), depth, wrap)
 
 
 def deep_causes(depth):
@@ -210,7 +228,10 @@ def with_sizes(sizes, *others):
 COUNTS = doubled(10_000, 1_000_000)
 LENGTHS = doubled(25_000, 1_600_000)
 DEPTH_LENGTHS = doubled(12_500, 100_000)
+DEPTHS = doubled(15, 120)
+LABELS = doubled(1_000, 256_000)
 SQUARES = doubled(1_000, 8_000)
+DRAWN = (PLAIN, COLOUR)
 TOLD = (PLAIN, NARRATED)
 ONE = (1,)
 
@@ -240,9 +261,12 @@ def pictures():
     yield Family("a label on each line", line_each, COUNTS, (10_000,), HANDLERS)
     yield Family("labels over three lines", chained, COUNTS, (10_000,), HANDLERS)
     yield Family("texts on one line", one_line("x"), SQUARES, (1_000,), HANDLERS, True, TOLD)
-    sizes = doubled(125, 1_000)
-    yield Family("labels in labels", nested, sizes, (250,), HANDLERS, True, (PLAIN,))
-    yield Family("labels across labels", crossing, sizes, (250,), HANDLERS, True)
+    sizes = doubled(125, 2_000)
+    yield Family("labels in labels", nested, sizes, (250,), DRAWN, True, (PLAIN,))
+    yield Family("labels across labels", crossing, sizes, (250,), DRAWN, True)
+    sizes = doubled(1_000, 64_000)
+    yield Family("labels in labels, told", nested, sizes, (), (NARRATED, JSON, DEBUG))
+    yield Family("labels across labels, told", crossing, sizes, (250,), (NARRATED, JSON, DEBUG))
     yield Family("lint", lint_lines("a"), COUNTS, (20_000,), (LINT,))
     sizes = (400_000,)
     yield Family("lint of 9.6 MB", lint_lines("let it = that + other;"), sizes, (), (LINT,))
@@ -256,6 +280,9 @@ def long_texts():
     yield Family("long label", long_label(WORDS), LENGTHS, (200_000,), HANDLERS)
     yield Family("label of many lines", long_label("x\n"), LENGTHS, (200_000,), HANDLERS)
     yield Family("help in related 20 deep", deep_related(20), DEPTH_LENGTHS, (), ALL)
+    yield Family("helps in related 20 deep", each_helped(19), DEPTH_LENGTHS[:-1], (), (NESTED_COLOUR,))
+    yield Family("depth of related", of_depth("related", True), DEPTHS[:-1], (), ALL, True)
+    yield Family("depth of causes", of_depth("cause", False), DEPTHS, (), ALL, True)
 
 
 def long_lines():
@@ -263,12 +290,15 @@ def long_lines():
     for kind, unit in CHARACTERS.items():
         yield Family(f"line of {kind}", repeated(unit), COUNTS, (80_000,), (DRAW, LINT))
         if kind != "FF":
-            sizes = doubled(1_000, 64_000)
-            yield Family(f"labels on {kind}", labels_on(unit), sizes, (8_000,), TOLD)
-    for kind, unit in (JOINED | FAINT).items():
-        sizes = doubled(1_000, 64_000)
-        yield Family(f"labels on {kind}", labels_on(unit), sizes, (1_000,), (NARRATED,))
-    sizes = (10_000_000, 100_000_000)
+            yield Family(f"labels on {kind}", labels_on(unit), LABELS, (8_000,), TOLD)
+    unit, head, kind = CHARACTERS["digits"], b"\t", "digits behind a tab"
+    yield Family(f"line of {kind}", repeated(unit, head), COUNTS, (), (DRAW, LINT))
+    yield Family(f"labels on {kind}", labels_on(unit, head), LABELS, (1_000,), TOLD)
+    for kind, unit in (JOINED | FAINT | LINKED).items():
+        gate = () if kind in LINKED else (1_000,)
+        yield Family(f"line of {kind}", repeated(unit), COUNTS, (), (DRAW, LINT))
+        yield Family(f"labels on {kind}", labels_on(unit), LABELS, gate, (NARRATED,))
+    sizes = with_sizes((10_000_000, 100_000_000), 50_000_000)
     yield Family("up to 100 MB of FF", repeated(b"\xff"), sizes, (), (DRAW, LINT))
 
 

@@ -14,7 +14,8 @@ Under `--all` a run also fails where its peak memory is above eight times its te
 and where its time or memory grows by more than 2.2 times from a size to its double, or, where by
 rule a picture grows with the square of the size, by more than 2.2 times what its text grows by.
 Time is instructions, which `perf` counts where it can, or valgrind where `--valgrind` asks for it;
-it is otherwise the processor's seconds, where there are enough of them.
+it is otherwise the processor's seconds, where there are enough of them. A second table names the
+worst growth of each family, so far as there is one, and the most memory that it takes for its text.
 
 `--least-stack` finds the least stack on which the deepest descriptions run. The programs are
 `crates/NAME/out/NAME`, as the gate leaves them. The last line is 'N passed, M failed', and the exit
@@ -38,7 +39,7 @@ GATE_SECONDS, ALL_SECONDS = 2, 60
 MEMORY_TIMES, MEMORY_MORE = 8, 4 * MB
 GROWTH = 2.2
 # A shorter run than this, in seconds, says nothing of growth.
-LEAST_SECONDS = 1.0
+LEAST_SECONDS = 0.2
 # A growth of seconds that is above the bound, but within noise, is measured so often again.
 AGAIN, NOISE = 2, 1.5
 DEEPEST = ("only a message", "related 62 deep", "causes 126 deep")
@@ -46,6 +47,9 @@ BECOME_REAPER = 36
 HEAD = """| Input | Size | Text bytes | Seconds | Instructions | Peak MB | Memory/text \
 | Time grows by | Memory grows by | Text grows by | Stack | Faults |
 |---|--:|--:|--:|--:|--:|--:|--:|--:|--:|--:|---|"""
+
+WORST_HEAD = """| Input | Time grows by | Memory grows by | Text grows by | Memory/text | Up to |
+|---|--:|--:|--:|--:|--:|"""
 
 
 class Case(NamedTuple):
@@ -164,6 +168,25 @@ def rows_of(family, ways, sizes, asked):
                 yield row
 
 
+def worst(rows, of):
+    """The largest number of a family's rows, with its size, or nothing."""
+    told = [(of(row), row.size) for row in rows if of(row) is not None]
+    return "{:.2f} at {:,}".format(*max(told)) if told else ""
+
+
+def worst_row(name, rows):
+    """The row of a family in the table of what is worst of each."""
+    grown = [row for row in rows if row.growths[2]]
+    cells = [worst(grown, lambda row, i=i: row.growths[i]) for i in range(3)]
+    cells.append(worst(rows, lambda row: memory_times(row) or None))
+    return f"| {name} | " + " | ".join([*cells, f"{max(row.size for row in rows):,}"]) + " |"
+
+
+def memory_times(row):
+    """How many times its text a run takes of memory, where the text is long enough to say so."""
+    return row.whole.memory / row.text if row.text >= MB // 16 else None
+
+
 def shown(value, form):
     """A number for the table, or nothing."""
     return "" if value is None else form.format(value)
@@ -179,7 +202,7 @@ def stack_of(row, asked):
 def table_row(row, asked):
     """A row of the table."""
     whole = row.whole
-    times = whole.memory / row.text if row.text >= MB // 16 else None
+    times = memory_times(row)
     cells = [row.name, f"{row.size:,}", f"{row.text:,}", f"{whole.seconds:.2f}"]
     cells += [shown(row.instructions, "{:,}"), f"{whole.memory / MB:.1f}", shown(times, "{:.1f}")]
     cells += [shown(it, "{:.2f}") for it in row.growths]
@@ -204,16 +227,22 @@ def gate_sizes(family, asked):
 def run_all(asked):
     """Runs all that is asked for, and says what failed."""
     passed = failed = 0
+    families = {}
     if asked.table:
         print(HEAD)
     for family, ways, sizes in chosen(asked):
         for row in rows_of(family, ways, sizes, asked):
+            families.setdefault(row.name, []).append(row)
             passed += not row.faults
             failed += bool(row.faults)
             if asked.table:
                 print(table_row(row, asked), flush=True)
             elif row.faults:
                 print(f"{row.name}, size {row.size:,}: {'; '.join(row.faults)}", flush=True)
+    if asked.all:
+        print("\n" + WORST_HEAD)
+        for name, rows in families.items():
+            print(worst_row(name, rows))
     print(f"{passed} passed, {failed} failed")
     return 1 if failed else 0
 

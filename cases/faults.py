@@ -1,0 +1,147 @@
+#!/usr/bin/env python3
+"""faults.py: runs the built programs where the machine fails, and says what each did. It is run by hand.
+
+    cases/faults.py     closed and full outputs, closed pipes, inputs of 100 MB, little address space, small stacks
+
+A program has to end by itself, with a status of its own and one row on standard error. A closed pipe may end it by the
+signal SIGPIPE, as it ends most programs. The last line is 'N passed, M failed'."""
+import json
+import os
+import resource
+import signal
+import subprocess
+import sys
+import time
+
+HERE = os.path.dirname(os.path.abspath(__file__))
+ROOT = os.path.dirname(HERE)
+MEGABYTE = 1 << 20
+
+LABELLED = {"message": "m", "source": {"text": "a\nb"}, "labels": [{"offset": 2, "length": 1, "label": "x"}]}
+CALLS = {
+    "draw": (["bad_file.rs", "9", "4", "This bit here", "oops!"], b"source\n  text\n    here"),
+    "lint": (["f", "80"], b"x = 1 \n \ty\nend"),
+    "job": ([], json.dumps(LABELLED).encode()),
+    "bench": (["3", "--json"], json.dumps(LABELLED).encode()),
+}
+
+
+def limited(limits):
+    """What sets limits before a program begins."""
+
+    def before():
+        for what, most in limits.items():
+            resource.setrlimit(what, (most, most))
+
+    return before
+
+
+def run(name, words, given, limits=None, stdout=subprocess.PIPE, before=None):
+    """Status, bytes written, what it said, seconds."""
+    program = os.path.join(ROOT, "crates", name, "out", name)
+    begun = time.time()
+
+    def prepared():
+        if before:
+            before()
+        if limits:
+            limited(limits)()
+
+    done = subprocess.run([program, *words], input=given, stdout=stdout, stderr=subprocess.PIPE, timeout=600, preexec_fn=prepared)
+    return done.returncode, len(done.stdout or b""), done.stderr, time.time() - begun
+
+
+def ends_well(status, said, statuses):
+    """Whether it ended by itself, and said so in at most one row."""
+    return status in statuses and said.count(b"\n") <= 1
+
+
+def told(what, name, got, is_well):
+    status, count, said, seconds = got
+    how = f"signal {signal.Signals(-status).name}" if status < 0 else f"status {status}"
+    print(f"{'' if is_well else 'NOT AS IT SHOULD: '}{what}: {name}: {how}, {count} bytes written, said {said.decode(errors='replace').strip()!r}, {seconds:.1f} s", flush=True)
+    return is_well
+
+
+def bad_outputs():
+    """Outputs that take nothing."""
+    for name, (words, given) in CALLS.items():
+        wanted = (2,) if name == "lint" else (1,)
+        got = run(name, words, given, stdout=None, before=lambda: os.close(1))
+        yield told("output closed", name, got, ends_well(got[0], got[2], wanted) and got[2].endswith(b"write fault\n"))
+        with open("/dev/full", "wb") as full:
+            got = run(name, words, given, stdout=full)
+        yield told("full device", name, got, ends_well(got[0], got[2], wanted) and got[2].endswith(b"write fault\n"))
+        mine, its = os.pipe()
+        os.close(mine)
+        got = run(name, words, given, stdout=its)
+        os.close(its)
+        yield told("closed pipe", name, got, ends_well(got[0], got[2], (*wanted, -signal.SIGPIPE)))
+        got = run_without_input(name, words)
+        yield told("input closed", name, got, ends_well(got[0], got[2], wanted) and got[2].endswith(b"read fault\n"))
+
+
+def run_without_input(name, words):
+    """The same, with standard input closed."""
+    program = os.path.join(ROOT, "crates", name, "out", name)
+    begun = time.time()
+    done = subprocess.run([program, *words], capture_output=True, timeout=60, preexec_fn=lambda: os.close(0))
+    return done.returncode, len(done.stdout), done.stderr, time.time() - begun
+
+
+def big_inputs():
+    """Inputs of 100 MB: lines, one line, a description with a long text, and bytes that describe nothing."""
+    size = 100 * MEGABYTE
+    lines = b"a line of text\n" * (size // 15)
+    text = json.dumps({**LABELLED, "source": {"text": lines.decode()}}).encode()
+    rows = [
+        ("draw", ["f", "50000000", "4", "here", "m"], lines, (0,)),
+        ("draw", ["f", "50000000", "4", "here", "m"], b"x" * size, (0,)),
+        ("lint", ["f", "80"], lines, (0,)),
+        ("lint", ["f", "80"], b"x" * size, (1,)),
+        ("job", [], text, (0,)),
+        ("job", ["--narrated"], text, (0,)),
+        ("job", ["--json"], text, (0,)),
+        ("job", [], b"[" * size, (3,)),
+        ("job", [], b" " * size, (3,)),
+        ("bench", ["1", "--json"], text, (0,)),
+    ]
+    for name, words, given, wanted in rows:
+        got = run(name, words, given)
+        yield told(f"100 MB, {given[:8]!r}", f"{name} {words}", got, ends_well(got[0], got[2], wanted))
+        for room in (16, 64, 128):
+            got = run(name, words, given, {resource.RLIMIT_AS: room * MEGABYTE})
+            statuses = (*wanted, 2 if name == "lint" else 1)
+            is_well = ends_well(got[0], got[2], statuses) and (got[0] in wanted or got[1] == 0)
+            yield told(f"100 MB, {given[:8]!r}, {room} MB of address space", f"{name} {words}", got, is_well)
+
+
+def deep(count, key):
+    """A description whose causes or related reports stand in one another so often."""
+    text = b'{"message":"m"}'
+    for _ in range(count):
+        text = b'{"message":"m","%s":%s}' % (key, text if key == b"cause" else b"[" + text + b"]")
+    return text
+
+
+# how often what stands in what, and KB of stack that are enough: a tenth and more above what docs/PERFORMANCE.md says; on a
+# smaller stack a program may end by a signal
+STACKS = ((b"cause", 0, 96), (b"cause", 126, 512), (b"related", 62, 384))
+
+
+def small_stacks():
+    """Descriptions as deep as they may be, on the stacks that they need."""
+    for key, most, stack in STACKS:
+        for words in ([], ["--nested", "yes"], ["--narrated"], ["--json"], ["--debug"]):
+            got = run("job", words, deep(most, key), {resource.RLIMIT_STACK: stack * 1024})
+            yield told(f"{most} of {key.decode()} in one another, a stack of {stack} KB", f"job {words}", got, ends_well(got[0], got[2], (0,)))
+
+
+def main():
+    found = [*bad_outputs(), *big_inputs(), *small_stacks()]
+    print(f"{sum(found)} passed, {len(found) - sum(found)} failed")
+    return 0 if all(found) else 1
+
+
+if __name__ == "__main__":
+    sys.exit(main())
