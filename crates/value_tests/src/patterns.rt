@@ -98,8 +98,8 @@ fn the_first_rule_decides(rt: HostRuntime) -> Result<(), Fail> {
     let alloc = rt.alloc();
     let green = Style::new().color(Color::Green);
     let cyan = Style::new().color(Color::Cyan);
-    let rules = vec![
-        in alloc; Rule {
+    let rules = vec![in alloc;
+        Rule {
             pattern: Pattern::words(alloc, &["if", "é"])?,
             style: green,
         },
@@ -110,7 +110,7 @@ fn the_first_rule_decides(rt: HostRuntime) -> Result<(), Fail> {
         Rule {
             pattern: Pattern::Between(Marks::new(alloc, "<é", "é>")?),
             style: green,
-        }
+        },
     ]?;
     let mut it = PatternHighlighter::new(rules);
     paints(
@@ -128,15 +128,15 @@ fn the_first_rule_decides(rt: HostRuntime) -> Result<(), Fail> {
 #[test]
 fn words_and_texts(rt: HostRuntime) -> Result<(), Fail> {
     let alloc = rt.alloc();
-    let rules = vec![
-        in alloc; Rule {
+    let rules = vec![in alloc;
+        Rule {
             pattern: Pattern::words(alloc, &["let", "in"])?,
             style: Style::new().color(Color::Magenta),
         },
         Rule {
             pattern: Pattern::Between(Marks::new(alloc, "\"", "\"")?),
             style: Style::new().color(Color::Green),
-        }
+        },
     ]?;
     let mut highlighter = PatternHighlighter::new(rules);
     paints(
