@@ -4,7 +4,8 @@ A row has the call's name, what it is given and what it gives, with tabs between
 runs of characters are written here as the text that prints them."""
 import re
 
-RED, CYAN = "\x1b[31m", "\x1b[36m"
+RED, CYAN, YELLOW = "\x1b[31m", "\x1b[36m", "\x1b[33m"
+LINK = "\x1b[36;1;4m"
 END = "\x1b[0m"
 LINK_END = "\x1b]8;;\x1b\\"
 COLOURS = {"31": "Red", "32": "Green"}
@@ -81,6 +82,21 @@ def contents(name=None, language=None):
 
 def named_source(language):
     return struct("NamedSource", name=quoted("bad_file.rs"), source=quoted("<redacted>"), language=language)
+
+
+def marks(opens, closes, escape="None", over_lines="false"):
+    return struct("Marks", opens=quoted(opens), closes=quoted(closes), escape=escape, over_lines=over_lines)
+
+
+def by_rule(left_open):
+    """The highlighter of one rule."""
+    return struct("PatternHighlighter", rules=listed([RULE]), left_open=left_open)
+
+
+def pieces(*parts):
+    """Pieces of a line: texts that are plain, and texts with their styles."""
+    styled = ((it, style()) if isinstance(it, str) else it for it in parts)
+    return listed(f"({len(text.encode())}, {its_style})" for text, its_style in styled)
 
 
 FIELDS = "hbar vbar xbar vbar_break uarrow rarrow ltop mtop rtop lbot rbot mbot lbox rbox lcross rcross underbar underline"
@@ -163,6 +179,10 @@ SHOWN = (
     f'labels: {quoted(listed([HERE]))}, caused by: "b" }}\n'
 )
 
+RULE = struct("Rule", pattern=f"Between({marks('/*', '*/', some(92), 'true')})", style=style(None, "dimmed"))
+LET_IN = f"Words({listed(map(quoted, ('let', 'in')))})"
+GREEN, COMMENT = style("Green"), style(None, "dimmed")
+
 LINKED = "\x1b]8;;u\x1b\\here" + LINK_END
 WORDS = f"a {RED}red{END} word-and-another, abcdefghijklmnop\n{LINKED} 漢\n"
 FILLED = f"* a {RED}red{END}\n| word-and-\n| another,\n| abcdefghij\n| klmnop\n| {LINKED} 漢\n| "
@@ -225,6 +245,23 @@ ROWS = {
     "GraphicalTheme::clone": [theme(UNICODE, ANSI)] * 3,
     "Highlighter::highlight_line for BlankHighlighter": [f"[(10, {style()})]"],
     "Highlighter::highlight_line for Box": [f"[(10, {style()})]"],
+    "by_char": [pieces("a", ("1", style("Cyan")))],
+    "Marks::new": [marks("/*", "*/")],
+    "Marks::clone": [marks("/*", "*/")] * 3,
+    "Pattern::words": [LET_IN],
+    "Pattern::clone": [LET_IN] * 3,
+    "Rule::clone": [RULE] * 3,
+    "PatternHighlighter::json": [
+        quoted('{"a": [1, true]}'),
+        pieces("{", ('"a"', GREEN), ":", " ", "[", ("1", style("Cyan")), ",", " ", ("true", style("Yellow")), "]", "}"),
+    ],
+    "PatternHighlighter::toml": [quoted("a = 'x' # c"), pieces("a", " ", "=", " ", ("'x'", GREEN), " ", ("# c", COMMENT))],
+    "PatternHighlighter::rust": [
+        quoted('let s = "x"; // c'),
+        pieces(("let", style("Magenta")), " ", "s", " ", "=", " ", ('"x"', GREEN), ";", " ", ("// c", COMMENT)),
+    ],
+    "PatternHighlighter::clone": [by_rule("None")] * 3,
+    "Highlighter::highlight_line for PatternHighlighter": [by_rule("None"), pieces("a", " ", ("/*b", COMMENT)), by_rule("Some(0)")],
     "Report::copied": [FULL, f"oops!, {THERE}"],
     "Report::msg": [f"oops!, {NOTHING}"],
     "Report::from_err": [BOUNDS],

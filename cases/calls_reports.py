@@ -8,7 +8,7 @@ import os
 import re
 import subprocess
 
-from calls_expected import CYAN, END, LINK_END, RED, quoted
+from calls_expected import CYAN, END, LINK, LINK_END, RED, YELLOW, quoted
 
 ROOT = os.path.dirname(os.path.dirname(os.path.abspath(__file__)))
 BEFORE = '"> "'
@@ -50,6 +50,7 @@ MANY = (
     (12, 4, "i"),
     (16, 1, "j"),
 )
+RELATED = {"message": "m", "related": [{"message": "rel", "severity": "warning"}, OOPS]}
 STOPS = "a cause over a source that stops"
 REPORTS = {
     "one label": OOPS,
@@ -62,7 +63,8 @@ REPORTS = {
     "a linked cause": {"message": "m", "cause": LINKED},
     "causes with sources": {"message": "m", "cause": {**OOPS, "cause": CROSSING}},
     "texts": {"message": "m", "causes": ["first", "se-cond\nin two lines", "third"]},
-    "related reports": {"message": "m", "related": [{"message": "rel", "severity": "warning"}, OOPS]},
+    "related reports": RELATED,
+    "related reports in one another": {**CROSSING, "related": [RELATED]},
     "a refused label": over("a", (9, 1, "far off"), (0, 1, "here")),
     STOPS: {"message": "m", "cause": UNNAMED},
 }
@@ -75,15 +77,22 @@ STOPPED = {
     "a cause": {"message": "m", "labels": labels((0, 1, "a"), (16, 1, "b")), "cause": over(NINE, (8, 1, "here"))},
 }
 DRAWN = ["--theme", "unicode", "--links", "yes"]
+NESTED = ["--nested", "yes"]
 WORDS = {
     "graphical": [*DRAWN, "--width", "40"],
-    "nested": [*DRAWN, "--width", "30", "--nested", "yes"],
+    "nested": [*DRAWN, "--width", "30", *NESTED],
     "highlighted": [*DRAWN, "--width", "30"],
+    "chosen": [*DRAWN, "--width", "30"],
     "wanting": [*DRAWN, "--width", "30"],
+    "nested wanting": [*DRAWN, "--width", "30", *NESTED],
+    "chosen wanting": [*DRAWN, "--width", "30"],
     "narrated": ["--narrated"],
     "json": ["--json"],
     "debug": ["--debug"],
 }
+# what colours the lines of sources, what is refused memory at the second one
+HIGHLIGHTING = [it for it in WORDS if it not in ("graphical", "narrated", "json", "debug")]
+WANTING = [it for it in WORDS if it.endswith("wanting")]
 RED_TEXT = re.compile(re.escape(RED) + "(.*?)" + re.escape(END))
 NUMBER = re.compile(r"\x1b\[2m *\d+\x1b\[0m │ .")
 
@@ -94,7 +103,6 @@ def indented(*rows):
     return f"  {RED}×{END} m\n" + "".join((f"{RED}      {END}" if at else first) + row + "\n" for at, row in enumerate(rows))
 
 
-LINK = "\x1b[36;1;4m"
 HEAD = (
     f"\x1b]8;;http://x\x1b\\{RED}oops::my::bad {END}{LINK}(link){END}{LINK_END}",
     "",
@@ -105,7 +113,7 @@ IN_40 = indented(
     *HEAD,
     f"  [{RED}Failed to read contents for",
     f"label{END} `{LINK}This bit here{END}` (offset:",
-    f"{LINK}9{END}, length: {LINK}4{END}): \x1b[33mIoError{END}]",
+    f"{LINK}9{END}, length: {LINK}4{END}): {YELLOW}IoError{END}]",
     f"{CYAN}  help: {END}try doing it better next",
     "        time?",
     "",
@@ -116,13 +124,13 @@ IN_30 = indented(
     f"contents for label{END}",
     f"`{LINK}This bit here{END}`",
     f"(offset: {LINK}9{END}, length:",
-    f"{LINK}4{END}): \x1b[33mIoError{END}]",
+    f"{LINK}4{END}): {YELLOW}IoError{END}]",
     f"{CYAN}  help: {END}try doing it",
     "        better next",
     "        time?",
     "",
 )
-UNREAD = {"graphical": IN_40, "nested": IN_30, "highlighted": IN_30, "wanting": IN_30}
+UNREAD = {"graphical": IN_40, **dict.fromkeys(HIGHLIGHTING, IN_30)}
 
 
 def job(description, handler, lines=1):
@@ -159,7 +167,7 @@ def is_wanted(description, handler, columns, lines=1):
         return False
     if text is None:
         return columns[1] == f"not read: {BEFORE}"
-    if handler == "wanting" and len(NUMBER.findall(text)) > 1:
+    if handler in WANTING and len(NUMBER.findall(text)) > 1:
         # the second line is refused memory
         return columns[1] == f"refused: {BEFORE}"
-    return is_drawn(columns[1], text, handler in ("nested", "highlighted", "wanting"))
+    return is_drawn(columns[1], text, handler in HIGHLIGHTING)

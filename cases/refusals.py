@@ -15,7 +15,7 @@ from concurrent.futures import ThreadPoolExecutor
 HERE = os.path.dirname(os.path.abspath(__file__))
 ROOT = os.path.dirname(HERE)
 MOST = 20000
-STATUS = {"draw": 1, "job": 1, "lint": 2}
+STATUS = {"draw": 1, "job": 1, "bench": 1, "lint": 2}
 
 README = "source\n  text\n    here"
 NINE = "1\n2\n3\n4\n5\n6\n7\n8\n9\n"
@@ -57,6 +57,7 @@ PLAIN = ["--term-unicode", "yes"]
 RUNS = [
     (["draw", "bad_file.rs", "9", "4", "This bit here", "oops!"], README),
     (["lint", "f", "80"], "x = 1 \n \ty\nend"),
+    (["bench", "2", *PLAIN], json.dumps(LABELLED)),
 ] + [
     (["job", *words], json.dumps(description))
     for description in (LABELLED, LINKED, RELATED, MANY, APART, OWN, REFUSED)

@@ -29,7 +29,12 @@ UNPRINTED = "a report could not be printed: out of memory"
 BEFORE = "no memory before the call"
 # what these hand back or append to is as before
 KEEPING = ("render", "debug", "display", "fill", "append_whole", "write_report", "print_to", "render_report")
-HANDING = ("Report::wrap_err", "Report::context", "Report::with_diagnostic_cause")
+HANDING = (
+    "Report::wrap_err",
+    "Report::context",
+    "Report::with_diagnostic_cause",
+    "Highlighter::highlight_line for PatternHighlighter",
+)
 
 
 def keeps(name):
@@ -89,21 +94,24 @@ def refused(whole, got):
 
 
 def fault_of(words, is_expected, library):
-    """What the first refused growth that is answered in another way gave, if any, and how many were refused and answered."""
+    """What the first refused growth that is answered in another way gave, if any, how many were refused and answered, and how
+    many of these the call itself met."""
     argv = ["calls", *words]
     whole, _ = run_with(argv, b"", library, 0, VARIABLES)
     if whole[0] != 0 or not is_expected(whole[1].decode()):
-        return ("no growth refused", whole), 0
-    answered = 0
+        return ("no growth refused", whole), 0, 0
+    answered = own = 0
     for growth in range(1, MOST):
         got, was_refused = run_with(argv, b"", library, growth, VARIABLES)
         if not was_refused:
-            return (None if got == whole and growth > 1 else ("a last run", got)), answered
+            is_last = got == whole and growth > 1 and (own > 0) == (words[:1] != [] and words[0] not in NO_GROWTH)
+            return (None if is_last or not words and got == whole else ("a last run", got)), answered, own
         name = refused(whole, got)
         if name is None:
-            return (f"growth {growth} refused", got), answered
+            return (f"growth {growth} refused", got), answered, own
         answered += name not in ("", WORDS_READ)
-    return ("no end", whole), answered
+        own += name not in ("", WORDS_READ) and BEFORE.encode() not in got[1]
+    return ("no end", whole), answered, own
 
 
 def of_call(name):

@@ -2,84 +2,201 @@
 """stopped.py: runs the built program `calls` over sources that stop after each number of reads.
 
 `calls stops` renders reports over a source of which one read fails, the first, the second, and so on until none does, alone
-or with all after it, by each handler, with 0, 1 and 2 lines of context. Where a read failed, the report is refused and the
-text is as before, or it says which label wasn't read, or labels that couldn't be read together stand apart. JSON and the
-debug report are as without the fault. Where none failed the text is that of `job` (calls_reports.py). Each row is also that
-of calls-stops.txt, which the program printed. The last line is
-'N passed, M failed'."""
+or with all after it, by each handler, with 0, 1 and 2 lines of context. What each row must be is worked out here from
+docs/RULES.md: which reads a handler makes, one after another, and what comes of one that fails. The report is refused and the
+text is as before; or one row says which label wasn't read; or two labels stand apart whose span couldn't be read as one. JSON
+and the debug report are as without the fault. A text without a fault is that of `job` (calls_reports.py), each other one is
+written by hand here. The last line is 'N passed, M failed'."""
 import os
-import re
 import subprocess
 import sys
 from concurrent.futures import ThreadPoolExecutor
+from itertools import count
 
-from calls_reports import BEFORE, STOPPED, is_wanted
+from calls_expected import END, LINK, RED, YELLOW
+from calls_reports import BEFORE, STOPPED, indented, is_drawn, is_wanted
 from devices import SHOWN
-from refusals import HERE, ROOT
+from refusals import ROOT
 
-UNREAD = "[Failed to read"
-CORNER = "\u256d"
-COLOUR = re.compile(r"\\u\{1b\}\[[0-9;]*m")
-TOLD_LABEL = re.compile(r"    label (?!ending)")
-
-
-def is_stated(handler, whole, answer):
-    """Whether this may be the answer where a read failed, and without the fault it is this whole text."""
-    if handler in ("json", "debug"):
-        return answer == whole
-    if answer == f"not read: {BEFORE}":
-        return True
-    if not answer.startswith(BEFORE[:-1]):
-        return False
-    if handler == "narrated":
-        snippets = "Begin snippet"
-        told = [len(TOLD_LABEL.findall(it)) for it in (whole, answer)]
-        return answer.count(snippets) >= whole.count(snippets) and told[1] >= told[0]
-    plain = [COLOUR.sub("", it) for it in (whole, answer)]
-    return UNREAD in plain[1] and "IoError]" in plain[1] or plain[1].count(CORNER) >= plain[0].count(CORNER)
+HANDLERS = ("graphical", "nested", "narrated", "json", "debug")
+LINES = (0, 1, 2)
+WAYS = ("at", "from")
+# what comes of a fault, beside the label that wasn't read
+WHOLE, REFUSED, APART = "whole", "refused", "apart"
 
 
-def groups_of(rows):
-    """The rows of each report, handler, number of lines and way to stop, in order of the read that fails."""
-    groups = {}
+class Reads:
+    """Reads of which one fails, alone or with all after it."""
+
+    def __init__(self, fails_at, stays):
+        self.count, self.fails_at, self.stays = 0, fails_at, stays
+
+    def is_read(self):
+        self.count += 1
+        return not (self.count == self.fails_at or self.stays and self.fails_at < self.count)
+
+
+def lines_of(label, lines):
+    """The first and the last line of a label's context. The nine lines have a digit and a line feed each."""
+    line, own = label["offset"] // 2, label.get("context", lines)
+    return max(line - own, 0), min(line + own, 8)
+
+
+def shown_labels(name, handler):
+    """The labels that a handler draws or tells, in order. Those of causes are not told, and those over no source aren't drawn."""
+    report = STOPPED[name]
+    if "source" in report:
+        return report["labels"]
+    return report["cause"]["labels"] if handler in ("graphical", "nested") else []
+
+
+def outcome(labels, handler, lines, reads):
+    """What a report by a handler comes to, over these reads."""
+    if handler == "debug":
+        return WHOLE
+    if handler == "json":
+        # the first label is read for the source's name, and these sources have none
+        if labels:
+            reads.is_read()
+        return WHOLE
+    for label in labels:
+        if not reads.is_read():
+            return REFUSED if handler == "narrated" else label["label"]
+    has_own = any("context" in it for it in labels)
+    groups, apart = [], False
+    for label in labels:
+        first, last = lines_of(label, max(lines, 1) if has_own else lines)
+        is_near = bool(groups) and first <= groups[-1] + 1
+        if is_near and (has_own or reads.is_read()):
+            groups[-1] = max(groups[-1], last)
+        else:
+            groups.append(last)
+            apart = apart or is_near
+    # then groups of labels with their own numbers of lines are read, and the place of each picture
+    for is_asked in (has_own, handler != "narrated"):
+        if is_asked and not all(reads.is_read() for _ in groups):
+            return REFUSED
+    return APART if apart else WHOLE
+
+
+HEAD = f"  {RED}×{END} m\n"
+FOOT = "   ╰────\n"
+TOLD_HEAD = "m\n    Diagnostic severity: error\n"
+
+
+def unread(label):
+    """A report whose label wasn't read."""
+    span = f"(offset: {LINK}{label['offset']}{END}, length: {LINK}{label['length']}{END})"
+    text = f"`{LINK}{label['label']}{END}`"
+    return f"{HEAD}  [{RED}Failed to read contents for label{END} {text} {span}: {YELLOW}IoError{END}]\n"
+
+
+# the same of the label (8, 1) `here` as a cause: of 40 columns, and of 30
+UNREAD_CAUSE = {
+    "graphical": indented(
+        f"  {RED}×{END} m",
+        f"  [{RED}Failed to read contents for",
+        f"label{END} `{LINK}here{END}` (offset: {LINK}8{END}, length:",
+        f"{LINK}1{END}): {YELLOW}IoError{END}]",
+        "",
+    ),
+    "nested": indented(
+        f"  {RED}×{END} m",
+        f"  [{RED}Failed to read",
+        f"contents for label{END}",
+        f"`{LINK}here{END}` (offset: {LINK}8{END},",
+        f"length: {LINK}1{END}): {YELLOW}IoError{END}]",
+        "",
+    ),
+}
+
+
+def drawn(*rows):
+    """A picture of lines, by their numbers, and of marks below them."""
+    colours = {"a": "\x1b[35;1m", "b": "\x1b[33;1m"}
+    shown = ""
     for row in rows:
-        name, *columns = row.split("\t")
-        groups.setdefault(name.rpartition(" ")[0], []).append((row, columns))
-    return groups
+        if row in colours:
+            shown += f"   · {colours[row]}┬{END}\n   · {colours[row]}╰── {row}{END}\n"
+        else:
+            shown += f" \x1b[2m{row}{END} │ {row}\n"
+    return shown
 
 
-def wrong_in(group, rows):
-    """The rows of a group that don't answer as stated. No read fails in the last one."""
-    name, handler, lines, _ = group.split(", ")
-    last, whole = rows[-1]
-    wrong = [row for row, columns in rows if columns[0] != BEFORE or not is_stated(handler, whole[1], columns[1])]
-    # of one that is nested the lines are red, as by a highlighter
-    return wrong if is_wanted(STOPPED[name], handler, whole, int(lines)) else [*wrong, last]
+def told(*rows):
+    """The lines of a snippet by their numbers, and rows of labels."""
+    return "".join(f"snippet line {it}: {it}\n" if isinstance(it, int) else f"    label at {it}\n" for it in rows)
 
 
-def sources(pool):
-    """How many renderings over sources that stop were wrong and were made, and how many reads failed."""
-    program = os.path.join(ROOT, "crates", "calls", "out", "calls")
-    done = subprocess.run([program, "stops"], capture_output=True, timeout=60)
-    with open(os.path.join(HERE, "calls-stops.txt"), encoding="utf-8") as text:
-        recorded = text.read()
-    rows = done.stdout.decode().splitlines()
-    wrong = [f"status {done.returncode}: {done.stderr!r}"] if done.returncode or done.stderr else []
-    wrong += [f"got {a!r}\n  recorded {b!r}" for a, b in zip(rows, recorded.splitlines()) if a != b]
-    wrong += ["more or fewer rows than calls-stops.txt has"] if len(rows) != len(recorded.splitlines()) else []
-    groups = groups_of(rows)
-    for found in pool.map(lambda it: wrong_in(*it), groups.items()):
-        wrong += found
-    return wrong, len(rows), len(rows) - len(groups)
+def begins(line):
+    return f"Begin snippet starting at line {line}, column 1\n\n"
+
+
+# The labels (4, 1) `a` and (8, 1) `b`, on lines 3 and 5, whose contexts meet and can't be read as one span. Each picture has
+# the marks of both labels where it has their lines; each snippet's last line tells too of a label that begins where it ends.
+THIRD, FIFTH = "line 3, column 1: a", "line 5, column 1: b"
+DRAWN_APART = {
+    1: f"{HEAD}   ╭─[3:1]\n{drawn(2, 3, 'a', 4)}{FOOT}   ╭─[5:1]\n{drawn(4, 5, 'b', 6)}{FOOT}",
+    2: f"{HEAD}   ╭─[3:1]\n{drawn(1, 2, 3, 'a', 4, 5, 'b')}{FOOT}   ╭─[5:1]\n{drawn(3, 'a', 4, 5, 'b', 6, 7)}{FOOT}",
+}
+TOLD_APART = {
+    1: f"{TOLD_HEAD}{begins(2)}{told(2, 3, THIRD, 4, 'line 4, columns 2 to 1: b')}{begins(4)}{told(4, 5, FIFTH, 6)}",
+    2: f"{TOLD_HEAD}{begins(1)}{told(1, 2, 3, THIRD, 4, 5, FIFTH)}{begins(3)}{told(3, THIRD, 4, 5, FIFTH, 6, 7)}",
+}
+
+
+def is_expected(name, handler, lines, came_to, columns):
+    """Whether the columns behind a row's name are those of what the report came to."""
+    if came_to == WHOLE:
+        return is_wanted(STOPPED[name], handler, columns, lines)
+    if len(columns) != 2 or columns[0] != BEFORE:
+        return False
+    if came_to == REFUSED:
+        return columns[1] == f"not read: {BEFORE}"
+    if came_to == APART:
+        text = (TOLD_APART if handler == "narrated" else DRAWN_APART)[lines]
+    elif name == "a cause":
+        text = UNREAD_CAUSE[handler]
+    else:
+        text = unread(next(it for it in STOPPED[name]["labels"] if it["label"] == came_to))
+    return is_drawn(columns[1], text, handler == "nested")
+
+
+def rows():
+    """The rows that are wanted: report, handler, lines, how and where reads fail, and what that comes to."""
+    for name in STOPPED:
+        for handler in HANDLERS:
+            for lines in LINES:
+                for way in WAYS:
+                    for fails_at in count(1):
+                        reads = Reads(fails_at, way == "from")
+                        came_to = outcome(shown_labels(name, handler), handler, lines, reads)
+                        yield (name, handler, lines, f"{way} {fails_at}"), came_to
+                        if reads.count < fails_at:
+                            break
+
+
+def is_right(wanted, row):
+    """Whether a row has the wanted name and what stands behind it."""
+    (name, handler, lines, where), came_to = wanted
+    first, *columns = row.split("\t")
+    return first == f"{name}, {handler}, {lines}, {where}" and is_expected(name, handler, lines, came_to, columns)
 
 
 def main():
+    program = os.path.join(ROOT, "crates", "calls", "out", "calls")
+    done = subprocess.run([program, "stops"], capture_output=True, timeout=60)
+    wanted, got = list(rows()), done.stdout.decode().splitlines()
+    wrong = [f"status {done.returncode}: {done.stderr!r}"] if done.returncode or done.stderr else []
+    wrong += [f"{len(got)} rows in place of {len(wanted)}"] if len(got) != len(wanted) else []
     with ThreadPoolExecutor(os.cpu_count() or 2) as pool:
-        wrong, renderings, reads = sources(pool)
+        right = list(pool.map(is_right, wanted, got))
+    wrong += [f"wanted {want!r}\n  got {row!r}" for want, row, it in zip(wanted, got, right) if not it]
     print("\n".join(wrong[:SHOWN]), end="\n" if wrong else "")
-    print(f"renderings over sources that stop: {renderings}, reads that failed: {reads}")
-    failed = min(len(wrong), renderings)
-    print(f"{renderings - failed} passed, {failed} failed")
+    whole = len(STOPPED) * len(HANDLERS) * len(LINES) * len(WAYS)
+    print(f"renderings over sources that stop: {len(wanted)}, reads that failed: {len(wanted) - whole}")
+    failed = min(len(wrong), len(wanted))
+    print(f"{len(wanted) - failed} passed, {failed} failed")
     return 1 if failed else 0
 
 

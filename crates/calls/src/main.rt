@@ -8,6 +8,7 @@
 
 mod diagnostics;
 mod handlers;
+mod highlighters;
 mod labels;
 mod printing;
 mod reports;
@@ -82,6 +83,7 @@ enum Subject {
     Diagnostics,
     Sources,
     Themes,
+    Highlighters,
     Reports,
     Texts,
     Runs,
@@ -89,11 +91,12 @@ enum Subject {
     Printing,
 }
 
-const SUBJECTS: [Subject; 9] = [
+const SUBJECTS: [Subject; 10] = [
     Subject::Labels,
     Subject::Diagnostics,
     Subject::Sources,
     Subject::Themes,
+    Subject::Highlighters,
     Subject::Reports,
     Subject::Texts,
     Subject::Runs,
@@ -107,6 +110,7 @@ fn names(subject: Subject) -> &'static [&'static str] {
         Subject::Diagnostics => &diagnostics::NAMES,
         Subject::Sources => &sources::NAMES,
         Subject::Themes => &themes::NAMES,
+        Subject::Highlighters => &highlighters::NAMES,
         Subject::Reports => &reports::NAMES,
         Subject::Texts => &texts::NAMES,
         Subject::Runs => &runs::NAMES,
@@ -157,6 +161,7 @@ fn made<R: Env + AllocGlobal + Streams, W: Write>(
         Subject::Diagnostics => diagnostics::make(alloc, name, out),
         Subject::Sources => sources::make(alloc, name, out),
         Subject::Themes => themes::make(alloc, name, out),
+        Subject::Highlighters => highlighters::make(alloc, name, out),
         Subject::Reports => reports::make(alloc, name, out),
         Subject::Texts => texts::make(alloc, name, out),
         Subject::Runs => runs::make(alloc, name, out),

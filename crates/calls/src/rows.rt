@@ -98,6 +98,22 @@ pub fn changed<T: Debug, W: Write>(out: &mut W, answer: Result<(), AllocError>, 
     Ok(())
 }
 
+/// What a call gave, and the value that it may change; after a refusal that is as before.
+///
+/// # Errors
+/// `Write` where standard output took no more.
+pub fn kept<T: Debug + Drop, V: Debug, W: Write>(
+    out: &mut W,
+    answer: Result<T, AllocError>,
+    value: &V,
+) -> Done {
+    match answer {
+        Ok(made) => write!(out, "\t{made:?}\t{value:?}")?,
+        Err(AllocError) => write!(out, "\trefused: {value:?}")?,
+    }
+    Ok(())
+}
+
 /// A value, and two clones of it.
 ///
 /// # Errors

@@ -3,11 +3,13 @@
 use crate::rows::{Done, appended, end_row, given};
 use crate::sources::README;
 use crate::stopping::{Reads, Red, Stopping};
+use crate::themes::terminal;
 use crate::written::{Label, M, Made, Written, beside, over, report_of, stopping_report, told_why};
 use miette::handlers::{
     DebugReportHandler, GraphicalReportHandler, JSONReportHandler, NarratableReportHandler,
     ReportHandler,
 };
+use miette::options::MietteHandlerOpts;
 use miette::protocol::Severity;
 use miette::theme::GraphicalTheme;
 use std::alloc::{AllocError, Global};
@@ -15,7 +17,7 @@ use std::cell::Cell;
 use std::io::Write;
 
 /// The reports.
-pub const NAMES: [&str; 13] = [
+pub const NAMES: [&str; 14] = [
     "one label",
     "labels on one line",
     "wide characters",
@@ -27,16 +29,20 @@ pub const NAMES: [&str; 13] = [
     "causes with sources",
     "texts",
     "related reports",
+    "related reports in one another",
     "a refused label",
     "a cause over a source that stops",
 ];
 
 /// The handlers.
-pub const HANDLERS: [&str; 7] = [
+pub const HANDLERS: [&str; 10] = [
     "graphical",
     "nested",
     "highlighted",
+    "chosen",
     "wanting",
+    "nested wanting",
+    "chosen wanting",
     "narrated",
     "json",
     "debug",
@@ -119,7 +125,11 @@ fn report<'a>(alloc: Global, name: &str, reads: &'a Reads) -> Result<Made<'a>, A
         ),
         "many labels" => labelled(alloc, NINE, MANY),
         "a refused label" => labelled(alloc, b"a", &[(9, 1, 0, "far off"), (0, 1, 0, "here")]),
-        "related reports" => beside(alloc, report_of(alloc, &M)?, &BESIDE),
+        "related reports" => related(alloc),
+        "related reports in one another" => {
+            let outer = report_of(alloc, &CROSSING)?;
+            Ok(outer.with_related(vec![in alloc; related(alloc)?]?))
+        }
         "texts" => told_why(
             alloc,
             report_of(alloc, &M)?,
@@ -127,6 +137,10 @@ fn report<'a>(alloc: Global, name: &str, reads: &'a Reads) -> Result<Made<'a>, A
         ),
         _ => with_cause(alloc, name, reads),
     }
+}
+
+fn related<'a>(alloc: Global) -> Result<Made<'a>, AllocError> {
+    beside(alloc, report_of(alloc, &M)?, &BESIDE)
 }
 
 fn with_cause<'a>(alloc: Global, name: &str, reads: &'a Reads) -> Result<Made<'a>, AllocError> {
@@ -211,8 +225,11 @@ pub fn rendered<W: Write>(
         "json" => behind(alloc, out, &mut JSONReportHandler::new(), report),
         "debug" => behind(alloc, out, &mut DebugReportHandler::new(), report),
         "wanting" => drawn(alloc, out, Red(2), false, (report, lines)),
+        "nested wanting" => drawn(alloc, out, Red(2), true, (report, lines)),
+        "chosen wanting" => chosen(alloc, out, Red(2), (report, lines)),
         "highlighted" => drawn(alloc, out, Red(usize::MAX), false, (report, lines)),
         "nested" => drawn(alloc, out, Red(usize::MAX), true, (report, lines)),
+        "chosen" => chosen(alloc, out, Red(usize::MAX), (report, lines)),
         _ => {
             let theme = GraphicalTheme::unicode(alloc)?;
             let mut drawing: GraphicalReportHandler<Red> = GraphicalReportHandler::themed(theme);
@@ -236,6 +253,22 @@ fn drawn<W: Write>(
         .with_show_related_as_nested(nested)
         .with_syntax_highlighting(highlighter);
     behind(alloc, out, &mut drawing, report)
+}
+
+/// By the handler that options choose for a terminal.
+fn chosen<W: Write>(
+    alloc: Global,
+    out: &mut W,
+    highlighter: Red,
+    (report, lines): (&Made<'_>, usize),
+) -> Done {
+    let options: MietteHandlerOpts<Red> = MietteHandlerOpts::default();
+    let mut handler = options
+        .width(30)
+        .context_lines(lines)
+        .with_syntax_highlighting(highlighter)
+        .build(alloc, &terminal(alloc)?)?;
+    behind(alloc, out, &mut handler, report)
 }
 
 fn behind<H: ReportHandler, W: Write>(

@@ -12,7 +12,7 @@ use miette_style::style::Style;
 use std::alloc::{AllocError, Global};
 
 /// The marks that a part of a text begins and ends with.
-#[derive(Drop)]
+#[derive(Clone, Debug, Drop)]
 pub struct Marks {
     /// What it begins with.
     pub opens: String,
@@ -64,7 +64,7 @@ impl Marks {
 
 /// What a rule looks for at a place of a line. A word is a longest run of letters and digits of ASCII, of `_`, and of
 /// characters beyond ASCII.
-#[derive(Drop)]
+#[derive(Clone, Debug, Drop)]
 pub enum Pattern {
     /// A word that is one of these.
     Words(Vec<String>),
@@ -91,7 +91,7 @@ impl Pattern {
 }
 
 /// A pattern, and the style of what it finds.
-#[derive(Drop)]
+#[derive(Clone, Debug, Drop)]
 pub struct Rule {
     /// What it looks for.
     pub pattern: Pattern,
@@ -102,7 +102,7 @@ pub struct Rule {
 /// Styles what its rules find. At the start of a line, and behind each piece, the first rule that finds something
 /// there decides; where none does, the word there is plain, or the one character. What a rule finds is at least one
 /// character.
-#[derive(Drop)]
+#[derive(Clone, Debug, Drop)]
 pub struct PatternHighlighter {
     /// The rules, those that count first before others.
     pub rules: Vec<Rule>,
