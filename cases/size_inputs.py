@@ -63,11 +63,12 @@ CHARACTERS = {
 # Characters that stand joined or paired with their neighbours on a whole line.
 JOINED = {
     "joined emoji": "👩\u200d".encode(),
+    "joined emoji with selectors": "👁\ufe0f\u200d".encode(),
+    "joined emoji with skin tones": "👩🏽\u200d".encode(),
     "flags": "🇫🇷".encode(),
     "Khmer": "ក".encode(),
+    "lameds": "ל".encode(),
 }
-# Joined characters on a whole line, each of which joins both of its neighbours with no place between.
-LINKED = {"joined emoji with selectors": "👁\ufe0f\u200d".encode()}
 # Characters that take no columns, on a whole line.
 FAINT = {
     "marks": "\u0301".encode(),
@@ -294,10 +295,9 @@ def long_lines():
     unit, head, kind = CHARACTERS["digits"], b"\t", "digits behind a tab"
     yield Family(f"line of {kind}", repeated(unit, head), COUNTS, (), (DRAW, LINT))
     yield Family(f"labels on {kind}", labels_on(unit, head), LABELS, (1_000,), TOLD)
-    for kind, unit in (JOINED | FAINT | LINKED).items():
-        gate = () if kind in LINKED else (1_000,)
+    for kind, unit in (JOINED | FAINT).items():
         yield Family(f"line of {kind}", repeated(unit), COUNTS, (), (DRAW, LINT))
-        yield Family(f"labels on {kind}", labels_on(unit), LABELS, gate, (NARRATED,))
+        yield Family(f"labels on {kind}", labels_on(unit), LABELS, (1_000,), (NARRATED,))
     sizes = with_sizes((10_000_000, 100_000_000), 50_000_000)
     yield Family("up to 100 MB of FF", repeated(b"\xff"), sizes, (), (DRAW, LINT))
 

@@ -1,6 +1,8 @@
 -- Steps over the characters of a text, and the column that they come to.
-use Rattle.std.proofs.Common.{ℕ, ◌+◌, ◌-◌, ◌<◌, ◌≤◌, ◌≡◌, true, false, List, [], ◌∷◌, ◌++◌, refl, sym, ap, ◌∙◌, append_assoc, append-nil, arith, eqb}
+use Rattle.std.proofs.Common.{ℕ, ◌+◌, ◌-◌, ◌<◌, ◌≤◌, ◌≡◌, true, false, List, [], ◌∷◌, ◌++◌, map, refl, sym, ap, ◌∙◌, append_assoc, append-nil, arith, eqb}
 use Rattle.std.specs.Prelude.{IsUtf8, chars, encode_utf8, encode_utf8_all}
+use Rattle.bstr.specs.Utf8.{Decoded, or_replacement, pieces}
+use Rattle.bstr.proofs.lemmas.EncodeLemmas.{lossy_chars-utf8}
 use Rattle.std.proofs.lemmas.Str.{chars_from_encodes, encodes-append, encodes-chars, chars-nil}
 use Rattle.std.proofs.lemmas.Bool.{ne_eqb, le-ltb, lt-ltb}
 use Rattle.unicode_width.specs.Width.{str_width}
@@ -11,6 +13,14 @@ use Rattle.miette_narrated.specs.rules.Columns.{begun, is_boundary, widths, colu
 use Rattle.miette_narrated.specs.rules.Lines.{decoded_text}
 use Rattle.miette_narrated.specs.declared.places.Place.{Place}
 use Rattle.miette_narrated.specs.steps.Places.{held, twice, column_behind}
+
+codes : (ps : List Decoded) → map (λ (c : Character). c.code) (map (λ (p : Decoded). made (or_replacement p.char) p.size) ps) ≡ map (λ (p : Decoded). or_replacement p.char) ps
+codes [] = refl
+codes (p ∷ ps) = ap (λ cs. or_replacement p.char ∷ cs) (codes ps)
+
+-- a text in UTF-8 is its characters
+pub decoded_utf8 : (bytes : List ℕ) → IsUtf8 bytes → decoded_text (characters bytes) ≡ bytes
+decoded_utf8 bytes h = ap encode_utf8_all (codes (pieces bytes)) ∙ lossy_chars-utf8 bytes h
 
 pub decoded_more : (old new rest left : List ℕ) (code size : ℕ) (goal : List ℕ) → IsFirst rest left code size → new ≡ old ++ encode_utf8 code →
     old ++ decoded_text (characters rest) ≡ goal → new ++ decoded_text (characters left) ≡ goal
@@ -37,12 +47,15 @@ chars_pushed old new code u v e =
     sym (chars_from_encodes (chars old ++ code ∷ []) new v
     (encodes-append (chars old) (code ∷ []) ∙ ap (λ o. o ++ encode_utf8_all (code ∷ [])) (encodes-chars old u) ∙ ap (λ o. old ++ o) (append-nil (encode_utf8 code)) ∙ sym e))
 
--- a text of no character, or of one
+-- a text of no character, of one or of two
 pub none_held_text : (text : List ℕ) → text ≡ [] → chars text ≡ []
 none_held_text text e = ap chars e ∙ chars-nil
 
 pub one_held_text : (old new : List ℕ) (code : ℕ) → IsUtf8 old → IsUtf8 new → old ≡ [] → new ≡ old ++ encode_utf8 code → chars new ≡ code ∷ []
 one_held_text old new code u v e p = chars_pushed old new code u v p ∙ ap (λ o. o ++ code ∷ []) (none_held_text old e)
+
+pub two_held_text : (old new newer : List ℕ) (code second : ℕ) → IsUtf8 old → IsUtf8 new → IsUtf8 newer → old ≡ [] → new ≡ old ++ encode_utf8 code → newer ≡ new ++ encode_utf8 second → chars newer ≡ code ∷ second ∷ []
+two_held_text old new newer code second u v w e p q = chars_pushed new newer second v w q ∙ ap (λ o. o ++ second ∷ []) (one_held_text old new code u v e p)
 
 nonzero : (left : ℕ) → 0 < left → eqb left 0 ≡ false
 nonzero left h = ne_eqb left 0 (λ e. omega arith)

@@ -22,6 +22,8 @@ use Rattle.unicode_width.specs.Kind.{kind, is_ligature_transparent, is_text_pres
 use Rattle.unicode_width.specs.Width.{before, plain, is_indicator, is_nothing, is_joined_emoji, of_kind, alone, before_alef, is_lam, joins, joined_or, Reading, if_kept, skips_marks, is_plain, past_selectors, in_context, past_emoji, step, read_before, str_width}
 use Rattle.unicode_width.proofs.KindLemmas.{kind_stepped, is_ligature_transparent_stepped, is_text_presentation_base_stepped}
 use Rattle.unicode_width.proofs.Computing.{unicode_width}
+use Rattle.miette_narrated.specs.declared.places.Held.{Held}
+use Rattle.miette_narrated.specs.declared.places.Held.TheVariants.{Nothing, One, Selected}
 use Rattle.miette_narrated.specs.steps.Parting.{may_part_flags}
 use Rattle.miette_narrated.specs.steps.Places.{held, IsHeld}
 use Rattle.miette_narrated.proofs.Lone.{read_append, shifted, from_not, or_false}
@@ -379,11 +381,12 @@ pub record EndsInFlags (text : List ℕ) (last : ℕ) (is_half : Bool) : Type 0 
   pub half : is_odd flags ≡ is_half
   pub some : is_indicator last ≡ true → 0 < length flags
 
-free_held : (first : Option ℕ) → IsHeld first → IsFree (held first)
-free_held None h = inl refl
-free_held (Some c) h = inr (record { front = []; last = c; is = refl; other = h c refl })
+free_held : (first : Held) → IsHeld first → IsFree (held first)
+free_held Nothing h = inl refl
+free_held (One c) h = inr (record { front = []; last = c; is = refl; other = h })
+free_held (Selected c) h = inr (record { front = c ∷ []; last = 0xFE0F; is = refl; other = refl })
 
-pub no_flags : (text : List ℕ) (last : ℕ) (first : Option ℕ) → chars text ≡ held first → IsHeld first → is_indicator last ≡ false → EndsInFlags text last false
+pub no_flags : (text : List ℕ) (last : ℕ) (first : Held) → chars text ≡ held first → IsHeld first → is_indicator last ≡ false → EndsInFlags text last false
 no_flags text last first e h n = record {
   front = held first;
   flags = [];

@@ -1,5 +1,4 @@
--- A character that closes, before a joiner: what it leaves to be read is the same whatever stands behind the joiner. So the width of a text
--- and that of the character are together the width of what ends with it and that of what begins with it.
+-- A character that closes leaves the same to be read, whatever stands behind it but a selector or a skin tone.
 use Rattle.std.proofs.Common.{ℕ, ◌+◌, ◌<◌, ◌≤◌, ◌≡◌, Bool, true, false, cond, not, ◌&&◌, ◌||◌, ◌==◌, nat_le, List, [], ◌∷◌, ◌++◌, Option, Some, None, refl, sym, ap, subst, add_comm, ◌∙◌, arith, inl, inr, eqb-true}
 use Rattle.std.specs.Prelude.{if◌then◌else◌}
 use Rattle.std.specs.Int.{is_in_range}
@@ -18,92 +17,14 @@ use Rattle.unicode_width.specs.declared.state.After.TheVariants as afters
 use Rattle.unicode_width.specs.declared.state.State.{State}
 use Rattle.unicode_width.specs.declared.state.Change.{Change}
 use Rattle.unicode_width.specs.declared.state.Change.TheVariants.{Less, Same}
-use Rattle.unicode_width.specs.Kind.{kind, is_text_presentation_base}
+use Rattle.unicode_width.specs.Kind.{kind, is_ligature_transparent}
 use Rattle.unicode_width.specs.Width.{before, plain, is_joined_emoji, is_line_feed, of_kind, alone, before_alef, is_lam, is_emoji, joins, first_of, joined_or, Reading, added, if_kept, skips_marks, is_plain, past_selectors, in_context, past_emoji, step, read_before, str_width}
 use Rattle.unicode_width.proofs.KindLemmas.{kind_stepped}
 use Rattle.unicode_width.proofs.Computing.{unicode_width}
 use Rattle.miette_narrated.specs.steps.Parting.{is_joining, is_closing}
-use Rattle.miette_narrated.proofs.Lone.{shifted, read_append, from_not, or_false}
+use Rattle.miette_narrated.proofs.Lone.{from_not, or_false}
+use Rattle.miette_narrated.proofs.Opening.{is_modifier, IsOpen}
 use Rattle.miette_narrated.proofs.Parted.{is_mild_kind, mild, unlisted, no_transparent, no_indicator, no_modifier, no_tag_letter, no_tag_digit, no_joiner, no_keycap, no_tag_end, no_vowel, no_selector, own_width, unligated, low_parts}
-
--- ---- what a joiner leaves to be read
-
-abbrev is_modifier : After → Bool
-is_modifier afters.EmojiModifier = true
-is_modifier _ = false
-
--- no selector, and no modifier
-abbrev IsOpen : State → Type 0
-IsOpen s = (after : After) × ((s ≡ before after) × (is_modifier after ≡ false))
-
-open_cond : (b : Bool) (x y : Reading) → IsOpen x.1 → IsOpen y.1 → IsOpen (cond b x y).1
-open_cond true x y p q = p
-open_cond false x y p q = q
-
-joiner_after : (t : ℕ) (after : After) → IsOpen (past_selectors false 0x200D t after).1
-unfolding unicode_width
-joiner_after t afters.Nothing = (afters.Nothing, (refl, refl))
-joiner_after t afters.LineFeed = (afters.Nothing, (refl, refl))
-joiner_after t afters.EmojiModifier = (afters.ZwjEmoji, (refl, refl))
-joiner_after t afters.RegionalIndicator = (afters.Nothing, (refl, refl))
-joiner_after t afters.RegionalIndicators = (afters.ZwjEmoji, (refl, refl))
-joiner_after t afters.Emoji = (afters.ZwjEmoji, (refl, refl))
-joiner_after t afters.ZwjEmoji = (afters.Nothing, (refl, refl))
-joiner_after t afters.KeycapZwjEmoji = (afters.Nothing, (refl, refl))
-joiner_after t afters.IndicatorZwj = (afters.Nothing, (refl, refl))
-joiner_after t afters.EvenIndicatorsZwj = (afters.ZwjEmoji, (refl, refl))
-joiner_after t afters.OddIndicatorsZwj = (afters.ZwjEmoji, (refl, refl))
-joiner_after t afters.TagEnd = (afters.Nothing, (refl, refl))
-joiner_after t afters.TagDigit1 = (afters.Nothing, (refl, refl))
-joiner_after t afters.TagDigit2 = (afters.Nothing, (refl, refl))
-joiner_after t afters.TagDigit3 = (afters.Nothing, (refl, refl))
-joiner_after t afters.TagLetter1 = (afters.Nothing, (refl, refl))
-joiner_after t afters.TagLetter2 = (afters.Nothing, (refl, refl))
-joiner_after t afters.TagLetter3 = (afters.Nothing, (refl, refl))
-joiner_after t afters.TagLetter4 = (afters.Nothing, (refl, refl))
-joiner_after t afters.TagLetter5 = (afters.Nothing, (refl, refl))
-joiner_after t afters.TagLetter6 = (afters.Nothing, (refl, refl))
-joiner_after t afters.KiratE = (afters.Nothing, (refl, refl))
-joiner_after t afters.KiratAi = (afters.Nothing, (refl, refl))
-joiner_after t afters.Alef = (afters.Nothing, (refl, refl))
-joiner_after t afters.Solidus = (afters.Solidus, (refl, refl))
-joiner_after t afters.SolidusAlef = (afters.Solidus, (refl, refl))
-joiner_after t afters.Lamed = (afters.ZwjLamed, (refl, refl))
-joiner_after t afters.ZwjLamed = (afters.ZwjLamed, (refl, refl))
-joiner_after t afters.Ya = (afters.ZwjYa, (refl, refl))
-joiner_after t afters.ZwjYa = (afters.ZwjYa, (refl, refl))
-joiner_after t afters.VowelZwjYa = (afters.VowelZwjYa, (refl, refl))
-joiner_after t afters.Tifinagh = (afters.ZwjTifinagh, (refl, refl))
-joiner_after t afters.ZwjTifinagh = (afters.ZwjTifinagh, (refl, refl))
-joiner_after t afters.JoinerTifinagh = (afters.JoinerTifinagh, (refl, refl))
-joiner_after t afters.LisuTone = (afters.LisuTone, (refl, refl))
-joiner_after t afters.OrkhonI = (afters.ZwjOrkhonI, (refl, refl))
-joiner_after t afters.ZwjOrkhonI = (afters.ZwjOrkhonI, (refl, refl))
-joiner_after t afters.KhmerLetter = (afters.KhmerLetter, (refl, refl))
-
-no_text : is_text_presentation_base 0x200D ≡ false
-unfolding unicode_width
-no_text = refl
-
-joiner_in_context : (t : ℕ) (s : State) → IsOpen (in_context false 0x200D t s).1
-unfolding in_context
-joiner_in_context t s = rw (no_text, and_right s.text false refl, and_right s.quote false refl) (joiner_after t s.after)
-
-joiner_alone : (t : ℕ) → IsOpen (added t (alone false 0x200D)).1
-unfolding unicode_width
-joiner_alone t = (afters.Nothing, (refl, refl))
-
-joiner_past : (t : ℕ) (s : State) → IsOpen (past_emoji false 0x200D t s).1
-unfolding past_emoji
-joiner_past t s = open_cond (is_plain s) (added t (alone false 0x200D)) (in_context false 0x200D t s) (joiner_alone t) (joiner_in_context t s)
-
-joiner_step : (t : ℕ) (s : State) → IsOpen (step false 0x200D (t, s)).1
-unfolding step
-joiner_step t s =
-    open_cond (not s.emoji) (past_emoji false 0x200D t s) (cond (is_emoji_variation_base 0x200D) (t + (if is_joined_emoji s.after then 0 else 2), before afters.Emoji) (past_emoji false 0x200D t (record (if_kept s) { emoji = false })))
-    (joiner_past t s)
-    (open_cond (is_emoji_variation_base 0x200D) (t + (if is_joined_emoji s.after then 0 else 2), before afters.Emoji) (past_emoji false 0x200D t (record (if_kept s) { emoji = false }))
-    (afters.Emoji, (refl, refl)) (joiner_past t (record (if_kept s) { emoji = false })))
 
 -- ---- letters that join others are no emoji
 
@@ -180,11 +101,11 @@ emoji_own : (c : ℕ) → is_emoji (kind c) ≡ true → before afters.Emoji ≡
 unfolding alone
 emoji_own c h = emoji_kind c (kind c) h
 
-abbrev JoinsOwn : ℕ → Option (Change × After) → Type 0
+abbrev pub JoinsOwn : ℕ → Option (Change × After) → Type 0
 JoinsOwn c None = Unit {0}
 JoinsOwn c (Some j) = before j.1 ≡ (alone false c).1
 
-either : (c : ℕ) (b : Bool) (x y : Option (Change × After)) → (b ≡ true → JoinsOwn c x) → JoinsOwn c y → JoinsOwn c (cond b x y)
+pub either : (c : ℕ) (b : Bool) (x y : Option (Change × After)) → (b ≡ true → JoinsOwn c x) → JoinsOwn c y → JoinsOwn c (cond b x y)
 either c true x y p q = p refl
 either c false x y p q = q
 
@@ -265,70 +186,60 @@ joins_own afters.ZwjOrkhonI c u n h = first_only c _ (either c (c == 0x10C32) (S
 joins_own afters.KhmerLetter c u n h = first_only c _ (either c (c == 0x17D2) (Some (Less, afters.Nothing)) None (λ e. literal 0x17D2 afters.Nothing own_17d2 c e) tt)
 
 -- what it leaves by itself
-abbrev own_state : ℕ → State
+abbrev pub own_state : ℕ → State
 own_state c = if nat_le c 0xA0 then plain else (alone false c).1
+
+-- characters that leave the same before all but modifiers, and are no marks
+pub record IsApart (c : ℕ) : Type 0 where
+  pub joiner : (c == 0x200D) ≡ false
+  pub transparent : is_ligature_transparent c ≡ false
+  pub selector : ((c == 0xFE0F) ≡ false) × (((c == 0xFE01) ≡ false) × ((c == 0xFE0E) ≡ false))
+  pub own : (after : After) → is_modifier after ≡ false → JoinsOwn c (joins false after c)
 
 own_joined : (c t : ℕ) (j : Option (Change × After)) → JoinsOwn c j → (joined_or t j (alone false c)).1 ≡ (alone false c).1
 own_joined c t None p = refl
 own_joined c t (Some j) p = p
 
-past_quotes : (c t : ℕ) (after : After) → is_modifier after ≡ false → is_joining c ≡ false → is_mild_kind (kind c) ≡ true → (past_selectors false c t after).1 ≡ (alone false c).1
+past_quotes : (c t : ℕ) (after : After) → is_modifier after ≡ false → IsApart c → (past_selectors false c t after).1 ≡ (alone false c).1
 unfolding past_selectors
-past_quotes c t after u n h =
-    rw (no_joiner c h, no_transparent c h, and_right (skips_marks after) false refl) (own_joined c t (joins false after c) (joins_own after c u n h))
+past_quotes c t after u is =
+    rw (is.joiner, is.transparent, and_right (skips_marks after) false refl) (own_joined c t (joins false after c) (is.own after u))
 
-after_open : (c t : ℕ) (after : After) → is_modifier after ≡ false → is_joining c ≡ false → is_mild_kind (kind c) ≡ true → (in_context false c t (before after)).1 ≡ (alone false c).1
+after_open : (c t : ℕ) (after : After) → is_modifier after ≡ false → IsApart c → (in_context false c t (before after)).1 ≡ (alone false c).1
 unfolding in_context
-after_open c t after u n h = rw ((no_selector c h).0, (no_selector c h).1.0, (no_selector c h).1.1) (past_quotes c t after u n h)
+after_open c t after u is = rw (is.selector.0, is.selector.1.0, is.selector.1.1) (past_quotes c t after u is)
 
 same_cond : (b : Bool) (x y : Reading) (s : State) → x.1 ≡ s → y.1 ≡ s → (cond b x y).1 ≡ s
 same_cond true x y s p q = p
 same_cond false x y s p q = q
 
-past_high : (c t : ℕ) (after : After) → 0xA0 < c → is_modifier after ≡ false → is_joining c ≡ false → is_mild_kind (kind c) ≡ true → (past_emoji false c t (before after)).1 ≡ (alone false c).1
+past_high : (c t : ℕ) (after : After) → 0xA0 < c → is_modifier after ≡ false → IsApart c → (past_emoji false c t (before after)).1 ≡ (alone false c).1
 unfolding past_emoji
-past_high c t after high u n h =
+past_high c t after high u is =
     rw (ne_eqb c 0x0A (λ e. omega (arith, e, high)), ne_eqb c 0x0D (λ e. omega (arith, e, high)), lt-leb c 0xA0 high)
-    (same_cond (is_plain (before after)) (added t (alone false c)) (in_context false c t (before after)) (alone false c).1 refl (after_open c t after u n h))
+    (same_cond (is_plain (before after)) (added t (alone false c)) (in_context false c t (before after)) (alone false c).1 refl (after_open c t after u is))
+
+pub step_apart : (c t : ℕ) (s : State) → 0xA0 < c → IsOpen s → IsApart c → (step false c (t, s)).1 ≡ (alone false c).1
+unfolding step
+step_apart c t s high (after, (e, u)) is = ap (λ x. (step false c (t, x)).1) e ∙ past_high c t after high u is
 
 past_low : (c t : ℕ) (after : After) → c ≤ 0xA0 → (c == 0x0A) ≡ false → (past_emoji false c t (before after)).1 ≡ plain
 unfolding past_emoji
 past_low c t after low n = rw (n, le-leb c 0xA0 low) (same_cond ((c == 0x0D) && is_line_feed after) (t, plain) (t + 1, plain) plain refl refl)
 
-past_all : (c t : ℕ) (after : After) → is_modifier after ≡ false → is_closing c ≡ true → (past_emoji false c t (before after)).1 ≡ own_state c
-past_all c t after u h =
-    elim (cases_lt 0xA0 c) [
-      | inl high ↦ past_high c t after high u (unlisted c high h) (mild c high h) ∙ sym (cond-false (nat_le c 0xA0) plain (alone false c).1 (lt-leb c 0xA0 high))
-      | inr low ↦ past_low c t after low (low_parts c low h) ∙ sym (cond-true (nat_le c 0xA0) plain (alone false c).1 (le-leb c 0xA0 low))
-    ]
-
-step_before : (c t : ℕ) (after : After) → is_modifier after ≡ false → is_closing c ≡ true → (step false c (t, before after)).1 ≡ own_state c
+step_low : (c t : ℕ) (s : State) → c ≤ 0xA0 → IsOpen s → (c == 0x0A) ≡ false → (step false c (t, s)).1 ≡ plain
 unfolding step
-step_before c t after u h = past_all c t after u h
+step_low c t s low (after, (e, u)) n = ap (λ x. (step false c (t, x)).1) e ∙ past_low c t after low n
 
-step_open : (c t : ℕ) (s : State) → IsOpen s → is_closing c ≡ true → (step false c (t, s)).1 ≡ own_state c
-step_open c t s (after, (e, u)) h = ap (λ x. (step false c (t, x)).1) e ∙ step_before c t after u h
+closing_apart : (c : ℕ) → is_joining c ≡ false → is_mild_kind (kind c) ≡ true → IsApart c
+closing_apart c n h = record { joiner = no_joiner c h; transparent = no_transparent c h; selector = no_selector c h; own = λ after u. joins_own after c u n h }
 
--- ---- so widths are told from one another
-
-same_reading : (a b : Reading) → a.0 ≡ b.0 → a.1 ≡ b.1 → a ≡ b
-same_reading (t, s) (u, r) e f = ap (λ n. (n, s)) e ∙ ap (λ x. (u, x)) f
-
-pub held : (xs ys : List ℕ) (c : ℕ) → is_closing c ≡ true → str_width false (xs ++ c ∷ 0x200D ∷ ys) + str_width false (c ∷ []) ≡ str_width false (xs ++ c ∷ []) + str_width false (c ∷ 0x200D ∷ ys)
-held xs ys c h =
-    let w = str_width false (c ∷ []) in
-    let v = str_width false (c ∷ 0x200D ∷ ys) in
-    let one = read_before false (c ∷ []) (v, plain) in
-    let rest = read_before false ys (w, plain) in
-    let joiner = step false 0x200D rest in
-    let all = read_before false (c ∷ 0x200D ∷ ys) (w, plain) in
-    let all_state : all.1 ≡ own_state c = step_open c joiner.0 joiner.1 (joiner_step rest.0 rest.1) h in
-    let one_state : one.1 ≡ own_state c = step_open c v plain (afters.Nothing, (refl, refl)) h in
-    let all_total : all.0 ≡ v + w = shifted (c ∷ 0x200D ∷ ys) w in
-    let one_total : one.0 ≡ w + v = shifted (c ∷ []) v in
-    let same : all ≡ one = same_reading all one (all_total ∙ add_comm v w ∙ sym one_total) (all_state ∙ sym one_state) in
-    sym (shifted (xs ++ c ∷ 0x200D ∷ ys) w) ∙ ap (λ r. r.0) (read_append xs (c ∷ 0x200D ∷ ys) (w, plain)) ∙ ap (λ r. (read_before false xs r).0) same
-    ∙ sym (ap (λ r. r.0) (read_append xs (c ∷ []) (v, plain))) ∙ shifted (xs ++ c ∷ []) v
+pub step_closing : (c t : ℕ) (s : State) → IsOpen s → is_closing c ≡ true → (step false c (t, s)).1 ≡ own_state c
+step_closing c t s is h =
+    elim (cases_lt 0xA0 c) [
+      | inl high ↦ step_apart c t s high is (closing_apart c (unlisted c high h) (mild c high h)) ∙ sym (cond-false (nat_le c 0xA0) plain (alone false c).1 (lt-leb c 0xA0 high))
+      | inr low ↦ step_low c t s low is (low_parts c low h) ∙ sym (cond-true (nat_le c 0xA0) plain (alone false c).1 (le-leb c 0xA0 low))
+    ]
 
 low_indicator : (c : ℕ) → c ≤ 0xA0 → is_in_range 0x1F1E6 0x1F1FF c ≡ false
 low_indicator c low = rw (lt-leb 0x1F1E6 c (omega arith)) refl

@@ -3,7 +3,10 @@ pub mod Putting
 pub mod Columning
 pub mod Lone
 pub mod Parted
+pub mod Opening
 pub mod Held
+pub mod Keeping
+pub mod Settled
 pub mod Flags
 pub mod Placed
 pub mod Faint

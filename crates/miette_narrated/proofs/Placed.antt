@@ -1,35 +1,31 @@
 -- Places of a line's text from which a walk over its characters goes on.
-use Rattle.std.proofs.Common.{ℕ, zero, suc, ◌+◌, ◌-◌, ◌<◌, ◌≤◌, ◌≡◌, ◌==◌, ◌||◌, Bool, true, false, inl, inr, List, [], ◌∷◌, ◌++◌, Option, Some, None, length, drop, refl, sym, ap, subst, ◌∙◌, append_assoc, append-nil, arith, eqb-true}
+use Rattle.std.proofs.Common.{ℕ, zero, suc, ◌+◌, ◌-◌, ◌<◌, ◌≤◌, ◌≡◌, ◌==◌, ◌||◌, Bool, true, false, cond, inl, inr, List, [], ◌∷◌, ◌++◌, Option, Some, None, length, drop, refl, sym, ap, subst, ◌∙◌, append_assoc, append-nil, arith}
 use Rattle.std.specs.Prelude.{IsUtf8, chars, encode_utf8, if◌then◌else◌}
-use Rattle.std.proofs.lemmas.Bool.{and_parts, or_cases}
+use Rattle.std.proofs.lemmas.Bool.{or_cases, cond-true, cond-false}
 use Rattle.std.proofs.lemmas.List.{drop-drop}
 use Rattle.std.proofs.lemmas.Option.{none-some, same_Some}
-use Rattle.unicode_width.specs.Width.{str_width, is_indicator}
+use Rattle.ucd_emoji.specs.Binary.{is_emoji_variation_base}
+use Rattle.unicode_width.specs.Width.{str_width}
 use Rattle.miette_lines.specs.rules.Cells.{characters}
 use Rattle.miette_lines.specs.views.Given.{width_of}
 use Rattle.miette_lines.proofs.Stepping.{IsFirst, characters_step}
+use Rattle.miette_narrated.specs.declared.places.Held.{Held}
+use Rattle.miette_narrated.specs.declared.places.Held.TheVariants.{Nothing}
 use Rattle.miette_narrated.specs.declared.places.Place.{Place}
 use Rattle.miette_narrated.specs.rules.Columns.{begun, is_boundary, column}
-use Rattle.miette_narrated.specs.steps.Parting.{is_closing, may_part, may_part_flags, may_hold}
+use Rattle.miette_narrated.specs.steps.Parting.{may_part, may_part_flags, opens, end_held, held_between}
 use Rattle.miette_narrated.specs.steps.Places.{held, IsHeld, twice, column_behind, IsPlace}
 use Rattle.miette_narrated.proofs.Columning.{IsOver, none_over, one_over, begun_more, begun_zero, chars_pushed, at_boundary, off_boundary, behind_boundary, behind_other, twice_boundary, twice_other, told_column, boundary_at_zero, all_at_zero}
 use Rattle.miette_narrated.proofs.Parted.{parted, no_width}
-use Rattle.miette_narrated.proofs.Held.{held as told_held, held_no_indicator}
+use Rattle.miette_narrated.proofs.Settled.{Settles, settled, EndsIn, end_settles}
 use Rattle.miette_narrated.proofs.Flags.{EndsInFlags, flags_part}
 use Rattle.miette_narrated.proofs.Sweeps.{by_cases}
 
--- nothing held is no half flag, nor is what none is
-no_held : IsHeld None
-no_held c e = absurd (none-some c e)
-
-one_held : (last : ℕ) → is_indicator last ≡ false → IsHeld (Some last)
-one_held last h c e = subst (λ k. is_indicator k ≡ false) (same_Some last c e) h
-
-pub first_place : (text : List ℕ) (place : Place) → place.bytes ≡ 0 → place.column ≡ 0 → place.widths ≡ 0 → place.held ≡ None → place.twice ≡ 0 → IsPlace text place
+pub first_place : (text : List ℕ) (place : Place) → place.bytes ≡ 0 → place.column ≡ 0 → place.widths ≡ 0 → place.held ≡ Nothing → place.twice ≡ 0 → IsPlace text place
 first_place text place b c w f d = (
   omega (arith, b),
   (
-    subst IsHeld (sym f) no_held,
+    subst IsHeld (sym f) refl,
     λ more.
         let start = drop place.bytes text in
         let cs = characters start in
@@ -96,42 +92,44 @@ one_since text from over new sum wider bytes later code size h is u v e w some t
           (subst (λ k. IsOver (held from.held) from.widths start ((bytes - from.bytes) + (size + more)) new wider (drop size (drop bytes text)) k) left step));
     }
 
--- the last character of a text
-pub record EndsBy (text : List ℕ) (last : ℕ) : Type 0 where
-  pub front : List ℕ
-  pub is : chars text ≡ front ++ last ∷ []
-
-pub ends_pushed : (old new : List ℕ) (code : ℕ) → IsUtf8 old → IsUtf8 new → new ≡ old ++ encode_utf8 code → EndsBy new code
+pub ends_pushed : (old new : List ℕ) (code : ℕ) → IsUtf8 old → IsUtf8 new → new ≡ old ++ encode_utf8 code → EndsIn new (code ∷ [])
 ends_pushed old new code u v e = record { front = chars old; is = chars_pushed old new code u v e }
 
+pub ends_twice : (old new : List ℕ) (last code : ℕ) → IsUtf8 old → IsUtf8 new → new ≡ old ++ encode_utf8 code → EndsIn old (last ∷ []) → EndsIn new (last ∷ code ∷ [])
+ends_twice old new last code u v e ends = record {
+  front = ends.front;
+  is = chars_pushed old new code u v e ∙ ap (λ o. o ++ code ∷ []) ends.is ∙ append_assoc ends.front (last ∷ []) (code ∷ []);
+}
+
+-- The last two characters of a text, where the one before the last is an emoji that may be selected.
+abbrev pub EndsByEmoji : List ℕ → ℕ → ℕ → Type 0
+EndsByEmoji text before last = is_emoji_variation_base before ≡ true → EndsIn text (before ∷ last ∷ [])
+
 -- behind a text that ends before a character widths are told from that of what begins with what is held
-abbrev pub IsPart : List ℕ → ℕ → Option ℕ → Type 0
+abbrev pub IsPart : List ℕ → ℕ → Held → Type 0
 IsPart over code first = (later : List ℕ) → str_width false (chars over ++ code ∷ later) + str_width false (held first) ≡ str_width false (chars over) + str_width false (held first ++ code ∷ later)
 
 -- where a text may be parted it adds its width
-pub none_held : (over : List ℕ) (code : ℕ) → ((later : List ℕ) → str_width false (chars over ++ code ∷ later) ≡ str_width false (chars over) + str_width false (code ∷ later)) → IsPart over code None
+pub none_held : (over : List ℕ) (code : ℕ) → ((later : List ℕ) → str_width false (chars over ++ code ∷ later) ≡ str_width false (chars over) + str_width false (code ∷ later)) → IsPart over code Nothing
 none_held over code h later =
     let wide = h later in
     omega (arith, wide, no_width)
 
-pub ends_part : (over : List ℕ) (last code : ℕ) → EndsBy over last → may_part last code ≡ true → IsPart over code None
+ends_part : (over : List ℕ) (last code : ℕ) → EndsIn over (last ∷ []) → may_part last code ≡ true → IsPart over code Nothing
 ends_part over last code ends h =
     none_held over code (λ later.
     ap (λ o. str_width false (o ++ code ∷ later)) ends.is ∙ ap (str_width false) (append_assoc ends.front (last ∷ []) (code ∷ later))
     ∙ parted ends.front later last code h ∙ ap (λ o. str_width false o + str_width false (code ∷ later)) (sym ends.is))
 
-pub ends_held : (over : List ℕ) (last code : ℕ) → EndsBy over last → may_hold last code ≡ true → IsPart over code (Some last)
-ends_held over last code ends h later =
-    let both = and_parts (code == 0x200D) (is_closing last) h in
-    let joiner : code ≡ 0x200D = eqb-true code 0x200D both.0 in
-    let wide : str_width false (chars over ++ code ∷ later) ≡ str_width false (ends.front ++ last ∷ 0x200D ∷ later) =
-    ap (λ o. str_width false (o ++ code ∷ later)) ends.is ∙ ap (str_width false) (append_assoc ends.front (last ∷ []) (code ∷ later)) ∙ ap (λ k. str_width false (ends.front ++ last ∷ k ∷ later)) joiner in
-    let ended : str_width false (chars over) ≡ str_width false (ends.front ++ last ∷ []) = ap (str_width false) ends.is in
-    let begins : str_width false (last ∷ code ∷ later) ≡ str_width false (last ∷ 0x200D ∷ later) = ap (λ k. str_width false (last ∷ k ∷ later)) joiner in
-    let sums = told_held ends.front later last both.1 in
-    omega (arith, wide, ended, begins, sums)
+ends_held : (over : List ℕ) (code : ℕ) (first : Held) → EndsIn over (held first) → Settles (held first) → opens code ≡ true → IsPart over code first
+ends_held over code first ends settles h later =
+    let wide : str_width false (chars over ++ code ∷ later) ≡ str_width false (ends.front ++ (held first ++ code ∷ later)) =
+    ap (λ o. str_width false (o ++ code ∷ later)) ends.is ∙ ap (str_width false) (append_assoc ends.front (held first) (code ∷ later)) in
+    let ended : str_width false (chars over) ≡ str_width false (ends.front ++ held first) = ap (str_width false) ends.is in
+    let sums = settled ends.front (held first) later code h settles in
+    omega (arith, wide, ended, sums)
 
-parted_begun : (over : List ℕ) (first : Option ℕ) (code size more : ℕ) (bytes after : List ℕ) → IsFirst bytes after code size → IsPart over code first →
+parted_begun : (over : List ℕ) (first : Held) (code size more : ℕ) (bytes after : List ℕ) → IsFirst bytes after code size → IsPart over code first →
     str_width false (chars over ++ begun more (characters bytes)) + str_width false (held first) ≡ str_width false (chars over) + str_width false (held first ++ begun more (characters bytes))
 parted_begun over first code size zero bytes after is part =
     let none = begun_zero (characters bytes) in
@@ -196,26 +194,34 @@ next_place text from place over after code size is h first part free c d = (
 )
 
 -- what a place holds between two neighbours
-abbrev pub first_of : Bool → ℕ → Option ℕ
-first_of parted last = if parted then None else Some last
-
-pub holds : (over : List ℕ) (last code : ℕ) (half parted : Bool) → EndsBy over last → EndsInFlags over last half → parted ≡ (may_part last code || may_part_flags last half code) → (parted || may_hold last code) ≡ true →
-    IsPart over code (first_of parted last) × IsHeld (first_of parted last)
-holds over last code half true ends flags is some = (
-  elim (or_cases (may_part last code) (may_part_flags last half code) (sym is)) [
-    | inl h ↦ ends_part over last code ends h
-    | inr h ↦ none_held over code (flags_part over last code half flags h)
-  ],
-  no_held,
-)
-holds over last code half false ends flags is some = (ends_held over last code ends some, one_held last (held_no_indicator last (and_parts (code == 0x200D) (is_closing last) some).1))
+pub holds : (over : List ℕ) (before last code : ℕ) (half : Bool) (first : Held) → EndsIn over (last ∷ []) → EndsByEmoji over before last → EndsInFlags over last half →
+    held_between before last half code ≡ Some first → IsPart over code first × IsHeld first
+holds over before last code half first one two flags some =
+    let parts = may_part last code || may_part_flags last half code in
+    let ends = end_held before last in
+    let other : Option Held = if opens code then ends else None in
+    by_cases {C = IsPart over code first × IsHeld first} parts
+    (λ y.
+    let e : Nothing ≡ first = same_Some Nothing first (sym (cond-true parts (Some Nothing) other y) ∙ some) in
+    let part : IsPart over code Nothing = elim (or_cases (may_part last code) (may_part_flags last half code) y) [
+      | inl h ↦ ends_part over last code one h
+      | inr h ↦ none_held over code (flags_part over last code half flags h)
+    ] in
+    subst (λ f. IsPart over code f × IsHeld f) e (part, refl))
+    (λ n.
+    let more : other ≡ Some first = sym (cond-false parts (Some Nothing) other n) ∙ some in
+    by_cases {C = IsPart over code first × IsHeld first} (opens code)
+    (λ y.
+    let is = end_settles over before last first one two (sym (cond-true (opens code) ends None y) ∙ more) in
+    (ends_held over code first is.0 is.1.0 y, is.1.1))
+    (λ m. absurd (none-some first (sym (cond-false (opens code) ends None m) ∙ more))))
 
 -- so the next place is one
-pub is_next_place : (text : List ℕ) (from place : Place) (over after : List ℕ) (code size sum bytes last : ℕ) (half parted : Bool) → IsPlace text from → IsSince text from over sum bytes →
-    IsFirst (drop bytes text) after code size → EndsBy over last → EndsInFlags over last half → parted ≡ (may_part last code || may_part_flags last half code) → (parted || may_hold last code) ≡ true →
-    place.bytes ≡ bytes → place.widths ≡ sum → place.held ≡ first_of parted last → place.column ≡ (from.column + str_width false (chars over)) - from.twice → place.twice ≡ str_width false (held (first_of parted last)) → IsPlace text place
-is_next_place text from place over after code size sum bytes last half parted is since first ends flags e some b w f c d =
-    let both = holds over last code half parted ends flags e some in
+pub is_next_place : (text : List ℕ) (from place : Place) (over after : List ℕ) (code size sum bytes before last : ℕ) (half : Bool) (front : Held) → IsPlace text from → IsSince text from over sum bytes →
+    IsFirst (drop bytes text) after code size → EndsIn over (last ∷ []) → EndsByEmoji over before last → EndsInFlags over last half → held_between before last half code ≡ Some front →
+    place.bytes ≡ bytes → place.widths ≡ sum → place.held ≡ front → place.column ≡ (from.column + str_width false (chars over)) - from.twice → place.twice ≡ str_width false (held front) → IsPlace text place
+is_next_place text from place over after code size sum bytes before last half front is since first one two flags some b w f c d =
+    let both = holds over before last code half front one two flags some in
     next_place text from place over after code size is
     (subst (λ k. IsSince text from over k place.bytes) (sym w) (subst (λ k. IsSince text from over sum k) (sym b) since))
     (subst (λ k. IsFirst (drop k text) after code size) (sym b) first) (subst (IsPart over code) (sym f) both.0) (subst IsHeld (sym f) both.1) c (d ∙ ap (λ o. str_width false (held o)) (sym f))

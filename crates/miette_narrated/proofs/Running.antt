@@ -14,7 +14,8 @@ use Rattle.miette_narrated.specs.steps.Places.{held, IsPlace}
 use Rattle.miette_narrated.specs.steps.Runs.{is_faint, AreFaint, IsRun, first_size}
 use Rattle.miette_narrated.proofs.Columning.{begun_more, begun_zero, boundary_more, boundary_inside, boundary_zero, behind_boundary, behind_other, twice_boundary, twice_other}
 use Rattle.miette_narrated.proofs.Faint.{faint_behind, faint_width}
-use Rattle.miette_narrated.proofs.Placed.{IsSince, EndsBy}
+use Rattle.miette_narrated.proofs.Settled.{EndsIn}
+use Rattle.miette_narrated.proofs.Placed.{IsSince}
 use Rattle.miette_narrated.proofs.Sweeps.{by_cases}
 
 -- ---- fewer of such characters
@@ -40,7 +41,7 @@ no_widths (c ∷ cs) h =
     let rest = no_widths cs both.1 in
     omega (arith, own, rest)
 
-ends_behind : (over : List ℕ) (last : ℕ) (cs : List ℕ) → EndsBy over last → is_faint last ≡ true → list_all is_faint cs ≡ true → str_width false (chars over ++ cs) ≡ str_width false (chars over)
+ends_behind : (over : List ℕ) (last : ℕ) (cs : List ℕ) → EndsIn over (last ∷ []) → is_faint last ≡ true → list_all is_faint cs ≡ true → str_width false (chars over ++ cs) ≡ str_width false (chars over)
 ends_behind over last cs ends h all =
     ap (λ o. str_width false (o ++ cs)) ends.is ∙ ap (str_width false) (append_assoc ends.front (last ∷ []) cs)
     ∙ faint_behind ends.front cs last h all ∙ sym (ap (str_width false) ends.is)
@@ -115,7 +116,7 @@ all_faint text from bytes h =
 
 -- ---- a run behind its first character
 
-pub first_run : (text : List ℕ) (from : Place) (over : List ℕ) (last : ℕ) (run : Run) → IsPlace text from → IsSince text from over run.widths run.bytes → EndsBy over last → is_faint last ≡ true →
+pub first_run : (text : List ℕ) (from : Place) (over : List ℕ) (last : ℕ) (run : Run) → IsPlace text from → IsSince text from over run.widths run.bytes → EndsIn over (last ∷ []) → is_faint last ≡ true →
     AreFaint text run.bytes run.until → run.column ≡ (from.column + str_width false (chars over)) - from.twice → IsRun text run
 first_run text from over last run is h ends faint all c = (
   all,

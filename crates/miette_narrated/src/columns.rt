@@ -13,7 +13,18 @@ use miette_lines::cells::{columns_of, first_character};
 use std::alloc::{AllocError, Global};
 
 /// Appends bytes as characters, U+FFFD for those that are none.
+#[tactic(auto, using(crate::proofs::Columning::decoded_utf8))]
 pub(crate) fn push_decoded(out: &mut String, bytes: &[u8]) -> Result<(), AllocError>
+    ensures { OnOk result (string_bytes out.new ≡ string_bytes out.old ++ decoded_text (characters bytes.now)) }
+{
+    match str::from_utf8(bytes) {
+        Ok(text) => out.push_str(text),
+        Err(_) => push_replaced(out, bytes),
+    }
+}
+
+// The same, character by character.
+fn push_replaced(out: &mut String, bytes: &[u8]) -> Result<(), AllocError>
     ensures { OnOk result (string_bytes out.new ≡ string_bytes out.old ++ decoded_text (characters bytes.now)) }
 {
     let mut rest = bytes;

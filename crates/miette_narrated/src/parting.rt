@@ -3,10 +3,12 @@
 ghost use Rattle.std.specs.Prelude.{◌≡◌};
 ghost use Rattle.std.specs.Int.{is_in_range};
 ghost use Rattle.miette_narrated.specs.steps.Parting.{is_lone, is_joining, is_closing, may_part, may_part_flags};
-ghost use Rattle.miette_narrated.specs.steps.Parting.{may_hold};
+ghost use Rattle.miette_narrated.specs.steps.Parting.{is_keeping, opens, end_held, held_between};
 ghost use Rattle.unicode_width.specs.Width.{is_indicator};
 
+use crate::places::Held;
 use miette_lines::cells::columns_of;
+use ucd_emoji::is_emoji_variation_base;
 
 fn in_range(code: u32, low: u32, high: u32) -> bool
     ensures { result ≡ is_in_range low high code }
@@ -71,7 +73,7 @@ fn is_closing(character: char) -> bool
 }
 
 /// Whether a text may be parted between two neighbours.
-pub(crate) fn may_part(last: char, next: char) -> bool
+fn may_part(last: char, next: char) -> bool
     ensures { result ≡ may_part last next }
 {
     is_lone(last) || is_closing(next) && last != '\u{200d}'
@@ -85,15 +87,59 @@ pub(crate) fn is_indicator(character: char) -> bool
 }
 
 /// Whether a text may be parted between two regional indicators, where the first one ends a flag or is half of one.
-pub(crate) fn may_part_flags(last: char, is_half: bool, next: char) -> bool
+fn may_part_flags(last: char, is_half: bool, next: char) -> bool
     ensures { result ≡ may_part_flags last is_half next }
 {
     !is_half && is_indicator(last) && is_indicator(next)
 }
 
-/// Whether columns behind two neighbours may be told from that of the first: it closes, and the other is a joiner.
-pub(crate) fn may_hold(last: char, next: char) -> bool
-    ensures { result ≡ may_hold last next }
+/// Whether a character is a skin tone, or a letter that nothing behind it joins though it may join those before it.
+fn is_keeping(character: char) -> bool
+    ensures { result ≡ is_keeping character }
 {
-    next == '\u{200d}' && is_closing(last)
+    let code = character as u32;
+    in_range(code, 0x5dc, 0x5dc)
+        || in_range(code, 0x671, 0x675)
+        || in_range(code, 0x773, 0x774)
+        || in_range(code, 0x870, 0x882)
+        || in_range(code, 0x1a10, 0x1a10)
+        || in_range(code, 0xa4fc, 0xa4fd)
+        || in_range(code, 0xfb3c, 0xfb3c)
+        || in_range(code, 0x10c03, 0x10c03)
+        || in_range(code, 0x1f3fb, 0x1f3ff)
+}
+
+/// Whether a character is no selector and no skin tone.
+fn opens(character: char) -> bool
+    ensures { result ≡ opens character }
+{
+    let code = character as u32;
+    !(in_range(code, 0xfe00, 0xfe0f) || in_range(code, 0x1f3fb, 0x1f3ff))
+}
+
+// What is held where a text may be told from its last characters.
+fn end_held(before: char, last: char) -> Option<Held>
+    ensures { result ≡ end_held before last }
+{
+    if is_closing(last) || is_keeping(last) {
+        Some(Held::One(last))
+    } else if last == '\u{fe0f}' && is_emoji_variation_base(before) {
+        Some(Held::Selected(before))
+    } else {
+        None
+    }
+}
+
+/// What a place between two neighbours holds, if one may lie there: nothing where the text may be parted, else its last
+/// characters, from whose columns those behind are told.
+pub(crate) fn held_between(before: char, last: char, is_half: bool, next: char) -> Option<Held>
+    ensures { result ≡ held_between before last is_half next }
+{
+    if may_part(last, next) || may_part_flags(last, is_half, next) {
+        Some(Held::Nothing)
+    } else if opens(next) {
+        end_held(before, last)
+    } else {
+        None
+    }
 }

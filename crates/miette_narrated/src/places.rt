@@ -6,10 +6,19 @@ ghost use Rattle.std.specs.List.{All};
 ghost use Rattle.unicode_width.specs.Width.{str_width};
 ghost use Rattle.miette_narrated.specs.steps.Places.{IsPlace, held};
 
-use crate::parting::{is_indicator, may_hold, may_part, may_part_flags};
+use crate::parting::{held_between, is_indicator};
 use miette_lines::cells::{columns_of, first_character};
 use std::alloc::{AllocError, Global};
 use unicode_width::UnicodeWidthStr;
+
+/// What a walk from a place begins with, of the characters before it.
+#[derive(Clone, Copy)]
+pub(crate) enum Held {
+    Nothing,
+    One(char),
+    /// An emoji, and U+FE0F behind it.
+    Selected(char),
+}
 
 /// How many bytes of the text lie before a place, how many columns they have, and how many their characters have each
 /// by itself.
@@ -18,9 +27,8 @@ pub(crate) struct Place {
     pub(crate) bytes: usize,
     pub(crate) column: usize,
     pub(crate) widths: usize,
-    /// The character before the place that a walk begins with, if it does, and its columns, which are then counted
-    /// twice.
-    pub(crate) held: Option<char>,
+    /// What a walk begins with, and its columns, which are then counted twice.
+    pub(crate) held: Held,
     pub(crate) twice: usize,
 }
 
@@ -36,21 +44,25 @@ pub(crate) fn start(text: &[u8]) -> Place
         bytes: 0,
         column: 0,
         widths: 0,
-        held: None,
+        held: Held::Nothing,
         twice: 0,
     }
 }
 
 /// What a walk from a place begins with.
 #[tactic(auto, using(crate::proofs::Columning::none_held_text))]
-pub(crate) fn held_text(alloc: Global, first: Option<char>) -> Result<String, AllocError>
+pub(crate) fn held_text(alloc: Global, first: Held) -> Result<String, AllocError>
     ensures { IfOk result (λ text. chars (string_bytes text) ≡ held first) }
 {
     let mut text = String::new(alloc);
-    let Some(first) = first else {
-        return Ok(text);
-    };
-    text.push(first)?;
+    match first {
+        Held::Nothing => {}
+        Held::One(character) => text.push(character)?,
+        Held::Selected(emoji) => {
+            text.push(emoji)?;
+            text.push('\u{fe0f}')?;
+        }
+    }
     Ok(text)
 }
 
@@ -65,14 +77,14 @@ pub(crate) fn column_after(from: Place, text: &str) -> Result<usize, AllocError>
     }
 }
 
-// The place behind so many bytes, which holds a character or none, where a text is over since another place.
+// The place behind so many bytes, which holds some characters, where a text is over since another place.
 fn place_at(
     alloc: Global,
     from: Place,
     over: &str,
     bytes: usize,
     widths: usize,
-    first: Option<char>,
+    first: Held,
 ) -> Result<Place, AllocError>
     ensures bytes { IfOk result (λ place. place.bytes ≡ bytes) }
     ensures column { IfOk result (λ place. place.column
@@ -99,6 +111,7 @@ fn next_place(alloc: Global, text: &[u8], from: Place) -> Result<Option<Place>, 
     ensures { IfOk result (λ next. IfSome next (λ place. IsPlace text.now place × (from.bytes < place.bytes))) }
 {
     let mut over = held_text(alloc, from.held)?;
+    let mut before = '\0';
     let mut last = '\0';
     let mut is_half = false;
     let mut widths = from.widths;
@@ -106,9 +119,7 @@ fn next_place(alloc: Global, text: &[u8], from: Place) -> Result<Option<Place>, 
     while bytes < text.len() {
         let (code, size) = first_character(&text[bytes..]);
         if bytes - from.bytes >= APART {
-            let is_parted = may_part(last, code) || may_part_flags(last, is_half, code);
-            if is_parted || may_hold(last, code) {
-                let first = if is_parted { None } else { Some(last) };
+            if let Some(first) = held_between(before, last, is_half, code) {
                 let place = place_at(alloc, from, over.as_str(), bytes, widths, first)?;
                 return Ok(Some(place));
             }
@@ -118,6 +129,7 @@ fn next_place(alloc: Global, text: &[u8], from: Place) -> Result<Option<Place>, 
             return Err(AllocError);
         };
         is_half = is_indicator(code) && !is_half;
+        before = last;
         last = code;
         widths = wider;
         bytes += size;

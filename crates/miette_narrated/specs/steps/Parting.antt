@@ -1,8 +1,11 @@
 -- Between which characters a text may be parted: its width is that of the one part and that of the other.
-use Rattle.std.specs.Prelude.{ℕ, Bool, not, nat_lt, nat_le, ◌==◌, ◌&&◌, ◌||◌, if◌then◌else◌}
+use Rattle.std.specs.Prelude.{ℕ, Bool, Option, Some, None, not, nat_lt, nat_le, ◌==◌, ◌&&◌, ◌||◌, if◌then◌else◌}
 use Rattle.std.specs.Int.{is_in_range}
+use Rattle.ucd_emoji.specs.Binary.{is_emoji_variation_base}
 use Rattle.unicode_width.specs.Width.{is_indicator}
 use Rattle.miette_lines.specs.views.Given.{width_of}
+use Rattle.miette_narrated.specs.declared.places.Held.{Held}
+use Rattle.miette_narrated.specs.declared.places.Held.TheVariants.{Nothing, One, Selected}
 
 -- ASCII characters and letters of scripts that join nothing that stands behind them
 abbrev pub is_lone : ℕ → Bool
@@ -35,6 +38,25 @@ may_part last next = is_lone last || (is_closing next && not (last == 0x200D))
 abbrev pub may_part_flags : ℕ → Bool → ℕ → Bool
 may_part_flags last is_half next = not is_half && (is_indicator last && is_indicator next)
 
--- whether a text may be held between two neighbours, so that behind them widths are told from that of the first
-abbrev pub may_hold : ℕ → ℕ → Bool
-may_hold last next = (next == 0x200D) && is_closing last
+-- Skin tones, and letters that may join those before them: what they leave to be read is the same, unless a selector or
+-- a skin tone stands behind them.
+abbrev pub is_keeping : ℕ → Bool
+is_keeping c =
+    is_in_range 0x5DC 0x5DC c || is_in_range 0x671 0x675 c || is_in_range 0x773 0x774 c || is_in_range 0x870 0x882 c
+    || is_in_range 0x1A10 0x1A10 c || is_in_range 0xA4FC 0xA4FD c || is_in_range 0xFB3C 0xFB3C c
+    || is_in_range 0x10C03 0x10C03 c || is_in_range 0x1F3FB 0x1F3FF c
+
+-- no selector and no skin tone
+abbrev pub opens : ℕ → Bool
+opens c = not (is_in_range 0xFE00 0xFE0F c || is_in_range 0x1F3FB 0x1F3FF c)
+
+-- what is held where a text may be told from its last characters, before one that opens
+abbrev pub end_held : ℕ → ℕ → Option Held
+end_held before last = if is_closing last || is_keeping last then Some (One last)
+    else (if (last == 0xFE0F) && is_emoji_variation_base before then Some (Selected before) else None)
+
+-- What a place between two neighbours holds, if one may lie there: nothing where the text may be parted, else the last
+-- characters, from whose columns those behind are told.
+abbrev pub held_between : ℕ → ℕ → Bool → ℕ → Option Held
+held_between before last is_half next = if may_part last next || may_part_flags last is_half next then Some Nothing
+    else (if opens next then end_held before last else None)

@@ -1,20 +1,27 @@
 -- Places of a line's text from which a walk over its characters may go on.
-use Rattle.std.specs.Prelude.{ℕ, ◌+◌, ◌≤◌, ◌≡◌, List, [], ◌∷◌, ◌++◌, Option, Some, None, length, drop, false}
+use Rattle.std.specs.Prelude.{ℕ, Bool, ◌+◌, ◌≤◌, ◌≡◌, List, [], ◌∷◌, ◌++◌, length, drop, false}
 use Rattle.std.specs.Prelude.{if◌then◌else◌}
-use Rattle.std.specs.Option.{ForSome}
 use Rattle.unicode_width.specs.Width.{str_width, is_indicator}
 use Rattle.miette_lines.specs.rules.Cells.{Character, characters}
+use Rattle.miette_narrated.specs.declared.places.Held.{Held}
+use Rattle.miette_narrated.specs.declared.places.Held.TheVariants.{Nothing, One, Selected}
 use Rattle.miette_narrated.specs.declared.places.Place.{Place}
 use Rattle.miette_narrated.specs.rules.Columns.{begun, is_boundary, widths, column}
 
--- the character before a place that a walk begins with, if it does
-abbrev pub held : Option ℕ → List ℕ
-held None = []
-held (Some c) = c ∷ []
+-- the characters before a place that a walk begins with
+abbrev pub held : Held → List ℕ
+held Nothing = []
+held (One c) = c ∷ []
+held (Selected c) = c ∷ 0xFE0F ∷ []
 
--- no half flag
-abbrev pub IsHeld : Option ℕ → Type 0
-IsHeld first = ForSome first (λ c. is_indicator c ≡ false)
+-- whether it ends with what may be half a flag
+abbrev pub ends_in_flag : Held → Bool
+ends_in_flag Nothing = false
+ends_in_flag (One c) = is_indicator c
+ends_in_flag (Selected c) = false
+
+abbrev pub IsHeld : Held → Type 0
+IsHeld first = ends_in_flag first ≡ false
 
 -- the columns that are counted twice behind so many bytes: those of the characters that a walk begins with
 abbrev pub twice : Place → ℕ → List Character → ℕ

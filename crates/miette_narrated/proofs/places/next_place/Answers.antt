@@ -1,22 +1,30 @@
-use Rattle.std.proofs.Common.{◌≡◌, ◌||◌, ◌+◌, ◌-◌, ◌<◌, false, drop, length, string_bytes, ap, subst, ◌∙◌, refl, rules, arith, length-drop}
+use Rattle.std.proofs.Common.{◌≡◌, ◌+◌, ◌-◌, ◌<◌, Some, false, sym, drop, length, string_bytes, ap, subst, ◌∙◌, refl, rules, arith, length-drop}
 use Rattle.std.specs.Prelude.{chars}
+use Rattle.std.proofs.lemmas.Bool.{true≢false}
 use Rattle.std.proofs.lemmas.List.{take_rest}
 use Rattle.std.proofs.lemmas.Str.{IsUtf8-string_bytes}
+use Rattle.ucd_emoji.specs.Binary.{is_emoji_variation_base}
 use Rattle.unicode_width.specs.Width.{str_width}
+use Rattle.unicode_width.proofs.Computing.{unicode_width}
 use Rattle.miette_lines.specs.views.Given.{width_of}
 use Rattle.miette_lines.proofs.Stepping.{IsFirst}
 use Rattle.miette_narrated.proofs.Columning.{chars_pushed}
 use Rattle.miette_narrated.proofs.Flags.{no_flags, flags_pushed}
-use Rattle.miette_narrated.proofs.Placed.{none_since, one_since, ends_pushed, first_of, is_next_place}
-use Rattle.miette_narrated.specs.steps.Parting.{may_part, may_part_flags}
-use Rattle.miette_narrated.specs.steps.Places.{held}
+use Rattle.miette_narrated.proofs.Placed.{none_since, one_since, ends_pushed, ends_twice, is_next_place}
+use Rattle.miette_narrated.specs.steps.Parting.{held_between}
 use Rattle.miette_narrated.proofs.places.next_place.Goals as goal
+
+no_base : is_emoji_variation_base 0 ≡ false
+unfolding unicode_width
+no_base = refl
 
 pub loop-bytes-init : goal.loop-bytes-init
 loop-bytes-init c = record {
   since = none_since c.args.text.now c.args.from (string_bytes c.in_ok-over.over) c.requires.0 c.in_ok-over.ensures;
   flags = no_flags (string_bytes c.in_ok-over.over) 0 c.args.from.held c.in_ok-over.ensures c.requires.1.0 refl;
   last = λ h. absurd (omega (arith, h));
+  emoji = λ h. absurd (true≢false (sym h ∙ no_base));
+  before = λ h. absurd (true≢false (sym h ∙ no_base));
 }
 
 pub loop-bytes-preserved : goal.loop-bytes-preserved
@@ -34,18 +42,21 @@ loop-bytes-preserved c =
       code_is = c.first_character-code.ensures.code;
       size_is = c.first_character-code.ensures.size;
     }) in
-    let wider : c.in-Some.wider ≡ c.loop-bytes.widths + width_of code = search rules in
+    let wider : c.in-Some-checked_add.wider ≡ c.loop-bytes.widths + width_of code = search rules in
+    let ends = ends_pushed (string_bytes c.loop-bytes.over) (string_bytes c.push.new.self) code (IsUtf8-string_bytes c.loop-bytes.over) (IsUtf8-string_bytes c.push.new.self) c.in_ok-push.ensures.bytes in
     record {
-      since = one_since text c.args.from (string_bytes c.loop-bytes.over) (string_bytes c.push.new.self) c.loop-bytes.widths c.in-Some.wider bytes (bytes + size) code size c.loop-bytes.invariant.since first
+      since = one_since text c.args.from (string_bytes c.loop-bytes.over) (string_bytes c.push.new.self) c.loop-bytes.widths c.in-Some-checked_add.wider bytes (bytes + size) code size c.loop-bytes.invariant.since first
           (IsUtf8-string_bytes c.loop-bytes.over) (IsUtf8-string_bytes c.push.new.self) c.in_ok-push.ensures.bytes wider c.first_character-code.ensures.some refl
           (omega (arith, c.first_character-code.ensures.within, ap length (take_rest text bytes), left, c.loop-bytes-test.true));
       flags = flags_pushed (string_bytes c.loop-bytes.over) (string_bytes c.push.new.self) c.loop-bytes.last code c.loop-bytes.is_half _ c.loop-bytes.invariant.flags
           (chars_pushed (string_bytes c.loop-bytes.over) (string_bytes c.push.new.self) code (IsUtf8-string_bytes c.loop-bytes.over) (IsUtf8-string_bytes c.push.new.self) c.in_ok-push.ensures.bytes) (search rules);
-      last = λ h. ends_pushed (string_bytes c.loop-bytes.over) (string_bytes c.push.new.self) code (IsUtf8-string_bytes c.loop-bytes.over) (IsUtf8-string_bytes c.push.new.self) c.in_ok-push.ensures.bytes;
+      last = λ h. ends;
+      emoji = λ h. ends;
+      before = λ h. ends_twice (string_bytes c.loop-bytes.over) (string_bytes c.push.new.self) c.loop-bytes.last code (IsUtf8-string_bytes c.loop-bytes.over) (IsUtf8-string_bytes c.push.new.self) c.in_ok-push.ensures.bytes (c.loop-bytes.invariant.emoji h);
     }
 
-pub returns-then-is_parted : goal.returns-then-is_parted
-returns-then-is_parted c =
+pub returns-in-Some : goal.returns-in-Some
+returns-in-Some c =
     let text = c.args.text.now in
     let from = c.args.from in
     let bytes = c.loop-bytes.bytes in
@@ -61,12 +72,11 @@ returns-then-is_parted c =
       size_is = c.first_character-code.ensures.size;
     }) in
     let behind : from.bytes < bytes = search rules in
-    let parted = may_part c.loop-bytes.last code || may_part_flags c.loop-bytes.last c.loop-bytes.is_half code in
-    let holds : c.if-is_parted-2.first ≡ first_of parted c.loop-bytes.last = search rules in
+    let some : held_between c.loop-bytes.before c.loop-bytes.last c.loop-bytes.is_half code ≡ Some c.in-Some.first = search rules in
     let at : c.in_ok-place.place.bytes ≡ bytes = c.in_ok-place.ensures.bytes in (
-      is_next_place text from c.in_ok-place.place (string_bytes c.loop-bytes.over) (drop size (drop bytes text)) code size c.loop-bytes.widths bytes c.loop-bytes.last c.loop-bytes.is_half parted
-          c.requires c.loop-bytes.invariant.since first (c.loop-bytes.invariant.last behind) c.loop-bytes.invariant.flags refl (search rules)
-          at c.in_ok-place.ensures.widths (c.in_ok-place.ensures.held ∙ holds)
-          (c.in_ok-place.ensures.column ∙ ap (λ t. (from.column + str_width false (chars t)) - from.twice) c.as_str.ensures.value) (c.in_ok-place.ensures.twice ∙ ap (λ o. str_width false (held o)) holds),
+      is_next_place text from c.in_ok-place.place (string_bytes c.loop-bytes.over) (drop size (drop bytes text)) code size c.loop-bytes.widths bytes c.loop-bytes.before c.loop-bytes.last c.loop-bytes.is_half c.in-Some.first
+          c.requires c.loop-bytes.invariant.since first (c.loop-bytes.invariant.last behind) c.loop-bytes.invariant.before c.loop-bytes.invariant.flags some
+          at c.in_ok-place.ensures.widths c.in_ok-place.ensures.held
+          (c.in_ok-place.ensures.column ∙ ap (λ t. (from.column + str_width false (chars t)) - from.twice) c.as_str.ensures.value) c.in_ok-place.ensures.twice,
       omega (arith, at, behind),
     )

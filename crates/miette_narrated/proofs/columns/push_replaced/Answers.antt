@@ -1,7 +1,7 @@
 use Rattle.std.proofs.Common.{◌-◌, ◌<◌, take, drop, length, string_bytes, sym, ◌∙◌, rules, eqb-true}
 use Rattle.std.proofs.lemmas.List.{nil_from_length, take_rest}
 use Rattle.miette_narrated.proofs.Columning.{decoded_more, decoded_all}
-use Rattle.miette_narrated.proofs.columns.push_decoded.Goals as goal
+use Rattle.miette_narrated.proofs.columns.push_replaced.Goals as goal
 
 pub loop-rest-preserved : goal.loop-rest-preserved
 loop-rest-preserved c =

@@ -1,7 +1,7 @@
 use Rattle.std.proofs.Common.{◌≡◌, ◌++◌, string_bytes, length}
 use Rattle.miette_lines.specs.rules.Cells.{characters}
 use Rattle.miette_narrated.specs.rules.Lines.{decoded_text}
-use Rattle.miette_narrated.proofs.columns.push_decoded.Given as goal
+use Rattle.miette_narrated.proofs.columns.push_replaced.Given as goal
 
 abbrev pub invariant-loop-rest : goal.invariant-loop-rest
 invariant-loop-rest l = string_bytes l.out ++ decoded_text (characters l.rest) ≡ string_bytes l.fn.out ++ decoded_text (characters l.bytes)
