@@ -9,7 +9,8 @@ pub mod terminal;
 
 pub use miette_handlers::handlers;
 pub use miette_handlers::handlers::ReportHandler as EyreContext;
+pub use miette_highlight::highlight;
 pub use miette_protocol::{diagnostic, error, protocol, source};
-pub use miette_text::{highlight, style, theme, wrap};
+pub use miette_text::{style, theme, wrap};
 pub use miette_tree::report::{Report as ErrReport, Report as Error};
 pub use miette_tree::{bail, ensure, miette, report};
