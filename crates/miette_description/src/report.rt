@@ -105,12 +105,12 @@ pub fn report_of<D: Diagnostic, S: SourceCode>(
     let value = value_of(alloc, text, &mut scratch)?;
     refuse_float(alloc, text, &value)?;
     let report = report_from(alloc, &value)?;
-    Ok(report)
+    Ok(Box::into_inner(report))
 }
 
 /// What a description says of the cause: a description of its own, texts, or both, which is refused.
 struct Causes<D: Diagnostic, S: SourceCode> {
-    one: Option<Report<D, S>>,
+    one: Option<Box<Report<D, S>>>,
     several: Option<Vec<String>>,
 }
 
@@ -124,10 +124,11 @@ fn caused<D: Diagnostic, S: SourceCode>(
     ensures ok { IfOk result (λ r.
         let value = tree_of D.meaning S.source in
         option_map (λ c. with_cause c (value report))
-        (one_cause (option_map value causes.one) (option_map (λ v. map string_bytes v.items) causes.several))
+        (one_cause (option_map (λ b. value b.value) causes.one)
+        (option_map (λ v. map string_bytes v.items) causes.several))
         ≡ Some (value r)) }
     ensures description { (result ≡ Err BuildError.Description) →
-        one_cause (option_map (tree_of D.meaning S.source) causes.one)
+        one_cause (option_map (λ b. tree_of D.meaning S.source b.value) causes.one)
         (option_map (λ v. map string_bytes v.items) causes.several) ≡ None }
 {
     let Causes { one, several } = causes;
@@ -138,7 +139,7 @@ fn caused<D: Diagnostic, S: SourceCode>(
         },
         Some(cause) => match several {
             Some(_) => Err(BuildError::Description),
-            None => match report.with_diagnostic_cause(alloc, cause) {
+            None => match report.with_diagnostic_cause(alloc, Box::into_inner(cause)) {
                 Ok(made) => Ok(made),
                 Err(_) => Err(BuildError::Memory),
             },
@@ -210,12 +211,14 @@ fn assembled<D: Diagnostic, S: SourceCode>(
 ) -> Result<Report<D, S>, BuildError>
     ensures ok { IfOk result (λ r.
         assembled (meaning_of diagnostic) (option_map owned_source source)
-        (option_map (tree_of D.meaning S.source) causes.one) (option_map (λ v. map string_bytes v.items) causes.several)
+        (option_map (λ b. tree_of D.meaning S.source b.value) causes.one)
+        (option_map (λ v. map string_bytes v.items) causes.several)
         (option_map (λ v. trees (map (tree_of D.meaning S.source) v.items)) list)
         (option_map (λ v. map string_bytes v.items) contexts) ≡ Some (tree_of D.meaning S.source r)) }
     ensures description { (result ≡ Err BuildError.Description) →
         assembled (meaning_of diagnostic) (option_map owned_source source)
-        (option_map (tree_of D.meaning S.source) causes.one) (option_map (λ v. map string_bytes v.items) causes.several)
+        (option_map (λ b. tree_of D.meaning S.source b.value) causes.one)
+        (option_map (λ v. map string_bytes v.items) causes.several)
         (option_map (λ v. trees (map (tree_of D.meaning S.source) v.items)) list)
         (option_map (λ v. map string_bytes v.items) contexts) ≡ None }
 {
@@ -224,21 +227,35 @@ fn assembled<D: Diagnostic, S: SourceCode>(
     wrapped(alloc, related(report, list), contexts)
 }
 
+/// A report in a place of its own, out of the stack.
+fn boxed<D: Diagnostic, S: SourceCode>(
+    alloc: Global,
+    report: Report<D, S>,
+) -> Result<Box<Report<D, S>>, BuildError>
+    ensures ok { IfOk result (λ b. b.value ≡ report) }
+    ensures memory { (result ≡ Err BuildError.Description) → ⊥ }
+{
+    match Box::new(alloc, report) {
+        Ok(boxed) => Ok(boxed),
+        Err(_) => Err(BuildError::Memory),
+    }
+}
+
 /// The report of a description whose cause and related reports are made. What it needs of the stack it gives back
 /// before the next level is read.
 #[inline(never)]
 fn report_with<D: Diagnostic, S: SourceCode>(
     alloc: Global,
     value: &Value<'_>,
-    one: Option<Report<D, S>>,
+    one: Option<Box<Report<D, S>>>,
     list: Option<Vec<Report<D, S>>>,
-) -> Result<Report<D, S>, BuildError>
-    ensures ok { IfOk result (λ r.
-        report_from (Some (option_map (tree_of D.meaning S.source) one))
+) -> Result<Box<Report<D, S>>, BuildError>
+    ensures ok { IfOk result (λ made.
+        report_from (Some (option_map (λ b. tree_of D.meaning S.source b.value) one))
         (Some (option_map (λ v. trees (map (tree_of D.meaning S.source) v.items)) list)) (seen value.now)
-        ≡ Some (tree_of D.meaning S.source r)) }
+        ≡ Some (tree_of D.meaning S.source made.value)) }
     ensures description { (result ≡ Err BuildError.Description) →
-        report_from (Some (option_map (tree_of D.meaning S.source) one))
+        report_from (Some (option_map (λ b. tree_of D.meaning S.source b.value) one))
         (Some (option_map (λ v. trees (map (tree_of D.meaning S.source) v.items)) list)) (seen value.now) ≡ None }
 {
     let diagnostic = diagnostic_from(alloc, value)?;
@@ -246,16 +263,18 @@ fn report_with<D: Diagnostic, S: SourceCode>(
     let several = texts_at(alloc, value, "causes")?;
     let contexts = texts_at(alloc, value, "contexts")?;
     let causes = Causes { one, several };
-    assembled(alloc, diagnostic, source, causes, list, contexts)
+    let report = assembled(alloc, diagnostic, source, causes, list, contexts)?;
+    boxed(alloc, report)
 }
 
-/// The report of a description. What is nested in it is made first, so that a level takes little of the stack.
+/// The report of a description. What is nested in it is made first, and each report lies in a place of its own, so
+/// that a level takes little of the stack.
 #[cycle(description)]
 fn report_from<D: Diagnostic, S: SourceCode>(
     alloc: Global,
     value: &Value<'_>,
-) -> Result<Report<D, S>, BuildError>
-    ensures ok { IfOk result (λ r. report_in (seen value.now) ≡ Some (tree_of D.meaning S.source r)) }
+) -> Result<Box<Report<D, S>>, BuildError>
+    ensures ok { IfOk result (λ b. report_in (seen value.now) ≡ Some (tree_of D.meaning S.source b.value)) }
     ensures description { (result ≡ Err BuildError.Description) → report_in (seen value.now) ≡ None }
 {
     let one = cause_at(alloc, value, "cause")?;
@@ -269,9 +288,9 @@ fn cause_at<D: Diagnostic, S: SourceCode>(
     alloc: Global,
     value: &Value<'_>,
     key: &str,
-) -> Result<Option<Report<D, S>>, BuildError>
-    ensures ok { IfOk result (λ o.
-        typed report_in (at_key key.now (seen value.now)) ≡ Some (option_map (tree_of D.meaning S.source) o)) }
+) -> Result<Option<Box<Report<D, S>>>, BuildError>
+    ensures ok { IfOk result (λ o. typed report_in (at_key key.now (seen value.now))
+        ≡ Some (option_map (λ b. tree_of D.meaning S.source b.value) o)) }
     ensures description { (result ≡ Err BuildError.Description) →
         typed report_in (at_key key.now (seen value.now)) ≡ None }
 {
@@ -315,7 +334,7 @@ fn reports_from<D: Diagnostic, S: SourceCode>(
     let mut reports = Vec::new(alloc);
     for value in list {
         let report = report_from(alloc, value)?;
-        if reports.push(report).is_err() {
+        if reports.push(Box::into_inner(report)).is_err() {
             return Err(BuildError::Memory);
         }
     }

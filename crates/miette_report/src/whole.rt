@@ -16,6 +16,8 @@ const CHUNK: usize = 16384;
 ///
 /// # Errors
 /// `Read` exactly where a call of the reader failed, and `Memory` where none is found for what it gave.
+// What a chunk needs of the stack is given back before anything is made of what was read.
+#[inline(never)]
 pub fn read_whole<R: Read>(alloc: Global, reader: &mut Device<R>) -> Result<Vec<u8>, Fault>
     requires unmarked { reader.old.failed ≡ false }
     ensures bytes { IfOk result (λ all. IfSome (R.remaining reader.old.inner) (λ told. all.items ≡ told)) }

@@ -68,6 +68,6 @@ reports_from-returns-in_err-report-clause-description g t c e =
 
 pub reports_from-loop-value-preserved : goal.reports_from-loop-value-preserved
 reports_from-loop-value-preserved g t c =
-    let pushed : c.push.new.self.items ≡ c.loop-value.reports.items ++ c.in_ok-report.report ∷ [] = search rules in
+    let pushed : c.push.new.self.items ≡ c.loop-value.reports.items ++ c.in_ok-report.report.value ∷ [] = search rules in
     one_read_as report_in (tree_of g.D.Diagnostic.meaning g.S.SourceCode.source) c.args.list.now c.loop-value.reports.items c.push.new.self.items c.loop-value.value-index c.value-item.result
-    c.in_ok-report.report pushed c.loop-value-test.true c.value-item.is c.in_ok-report.ensures.ok c.loop-value.invariant
+    c.in_ok-report.report.value pushed c.loop-value-test.true c.value-item.is c.in_ok-report.ensures.ok c.loop-value.invariant

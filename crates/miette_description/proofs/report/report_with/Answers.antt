@@ -1,4 +1,5 @@
-use Rattle.std.proofs.Common.{rules, ◌∙◌, Result, Ok, Err, IfOk}
+use Rattle.std.proofs.Common.{rules, ap, sym, ◌∙◌, Some, Result, Ok, Err, IfOk}
+use Rattle.miette_tree.specs.views.Report.{tree_of}
 use Rattle.miette_description.proofs.Shape.{given_some, given_none}
 use Rattle.miette_description.proofs.report.report_with.Goals as goal
 
@@ -12,6 +13,11 @@ returns-in_err-contexts-clause-description g c e =
     given_some _ _ c.in_ok-diagnostic.ensures.ok ∙ given_some _ _ c.in_ok-source.ensures.ok
     ∙ given_some _ _ c.in_ok-several.ensures.ok ∙ given_none _ (c.in_err-contexts.ensures.description (search rules))
 
+pub returns-in_err-report-clause-description : goal.returns-in_err-report-clause-description
+returns-in_err-report-clause-description g c e =
+    given_some _ _ c.in_ok-diagnostic.ensures.ok ∙ given_some _ _ c.in_ok-source.ensures.ok
+    ∙ given_some _ _ c.in_ok-several.ensures.ok ∙ given_some _ _ c.in_ok-contexts.ensures.ok ∙ c.in_err-report.ensures.description (search rules)
+
 if_ok : {A E : Type 0} {P Q : A → Type 0} (r : Result A E) → ((x : A) → P x → Q x) → IfOk r P → IfOk r Q
 if_ok (Ok x) f p = f x p
 if_ok (Err e) f p = p
@@ -19,10 +25,8 @@ if_ok (Err e) f p = p
 pub returns-clause-ok : goal.returns-clause-ok
 returns-clause-ok g c =
     let chain = given_some _ _ c.in_ok-diagnostic.ensures.ok ∙ given_some _ _ c.in_ok-source.ensures.ok
-    ∙ given_some _ _ c.in_ok-several.ensures.ok ∙ given_some _ _ c.in_ok-contexts.ensures.ok in
-    if_ok c.assembled.result (λ r p. chain ∙ p) c.assembled.ensures.ok
+    ∙ given_some _ _ c.in_ok-several.ensures.ok ∙ given_some _ _ c.in_ok-contexts.ensures.ok ∙ c.in_ok-report.ensures.ok in
+    if_ok c.boxed.result (λ b p. chain ∙ ap (λ r. Some (tree_of g.D.Diagnostic.meaning g.S.SourceCode.source r)) (sym p)) c.boxed.ensures.ok
 
 pub returns-clause-description : goal.returns-clause-description
-returns-clause-description g c e =
-    given_some _ _ c.in_ok-diagnostic.ensures.ok ∙ given_some _ _ c.in_ok-source.ensures.ok
-    ∙ given_some _ _ c.in_ok-several.ensures.ok ∙ given_some _ _ c.in_ok-contexts.ensures.ok ∙ c.assembled.ensures.description e
+returns-clause-description g c e = absurd (c.boxed.ensures.memory e)
