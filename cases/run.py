@@ -3,7 +3,8 @@
 
 Each line of the file is a JSON object: `argv` (the program's name and its words), `stdin` and `stdout` (base64), or
 in their place `stdin_text` and `stdout_text` (plain) or `report` (the description that is the input), `status` and
-`stderr`. `what` says what a case shows. With `beginnings` a case is one for each beginning of its input but the
+`stderr`. `what` says what a case shows. `folder` is where the program runs, `variables` are all that it is told of its
+surroundings. With `beginnings` a case is one for each beginning of its input but the
 whole. The program NAME is `crates/NAME/out/NAME`, as the gate leaves it. The first mismatches are shown in full. The
 last line is 'N passed, M failed', and the exit status is 0 only where nothing failed."""
 import base64
@@ -39,7 +40,14 @@ def run(case):
     name, *words = case["argv"]
     program = os.path.join(ROOT, "crates", name, "out", name)
     try:
-        done = subprocess.run([program, *words], input=case["given"], capture_output=True, timeout=60)
+        done = subprocess.run(
+            [program, *words],
+            input=case["given"],
+            capture_output=True,
+            timeout=60,
+            cwd=os.path.join(ROOT, case.get("folder", ".")),
+            env=case.get("variables"),
+        )
     except (OSError, subprocess.TimeoutExpired) as fault:
         return (str(fault), b"", b"")
     return (done.returncode, done.stdout, done.stderr)

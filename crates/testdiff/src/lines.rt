@@ -1,0 +1,35 @@
+//! Two texts, line by line.
+
+use miette::prelude::LabeledSpan;
+use std::alloc::{AllocError, Global};
+
+/// A label on each line of a text that isn't the expected one, and one on its last byte for each line that is missing.
+///
+/// # Errors
+/// Where no memory is found for the labels.
+pub fn differences(
+    alloc: Global,
+    expected: &str,
+    actual: &str,
+) -> Result<Vec<LabeledSpan>, AllocError> {
+    let mut labels = Vec::new(alloc);
+    let mut wanted = expected.lines();
+    let mut start = 0usize;
+    for line in actual.split_inclusive('\n') {
+        let found = line.strip_suffix('\n').unwrap_or(line);
+        let why = match wanted.next() {
+            Some(same) if same == found => None,
+            Some(other) => Some(format!(in alloc; "expected: {other}")?),
+            None => Some(String::from_str(alloc, "nothing more was expected")?),
+        };
+        if why.is_some() {
+            labels.push(LabeledSpan::new(why, start, found.len()))?;
+        }
+        start = start.saturating_add(line.len());
+    }
+    for line in wanted {
+        let why = format!(in alloc; "missing: {line}")?;
+        labels.push(LabeledSpan::new(Some(why), actual.len().saturating_sub(1), 1))?;
+    }
+    Ok(labels)
+}
