@@ -55,7 +55,7 @@ by_word word words (Some a) = refl
 by_word word [] None = refl
 by_word word (value ∷ words) None = by_value words (value_ask word value)
 
-after : {H : Type 0} (w : Wanted H) (ask : Ask) (o : Option (List Ask)) → option_map (λ asks. with_all asks w) (onto (Some ask) o) ≡ option_map (λ asks. with_all asks (with_ask ask w)) o
+after : (w : Wanted) (ask : Ask) (o : Option (List Ask)) → option_map (λ asks. with_all asks w) (onto (Some ask) o) ≡ option_map (λ asks. with_all asks (with_ask ask w)) o
 after w ask None = refl
 after w ask (Some asks) = refl
 
@@ -63,7 +63,7 @@ first_by : (words : List (List ℕ)) → 0 < length words → asked_by words ≡
 first_by [] h = absurd (omega (arith, h))
 first_by (word ∷ words) h = by_word word words (word_ask word)
 
-pub step : {H : Type 0} (words rest : List (List ℕ)) (ask : Ask) (w : Wanted H) → 0 < length words → Some (ask, rest) ≡ first_ask words →
+pub step : (words rest : List (List ℕ)) (ask : Ask) (w : Wanted) → 0 < length words → Some (ask, rest) ≡ first_ask words →
     option_map (λ asks. with_all asks w) (asked_by words) ≡ option_map (λ asks. with_all asks (with_ask ask w)) (asked_by rest)
 step words rest ask w h e = ap (option_map (λ asks. with_all asks w)) (first_by words h ∙ ap then_by (sym e)) ∙ after w ask (asked_by rest)
 
@@ -95,7 +95,7 @@ names_ask word value x t told none read not_yes not_no is =
 
 -- ---- the words that are left
 
-pub all_done : {H Z : Type 0} (rest : List (String Z)) (w : Wanted H) → true ≡ (length rest == 0) → option_map (λ asks. with_all asks w) (asked_by (map string_bytes rest)) ≡ Some w
+pub all_done : {Z : Type 0} (rest : List (String Z)) (w : Wanted) → true ≡ (length rest == 0) → option_map (λ asks. with_all asks w) (asked_by (map string_bytes rest)) ≡ Some w
 all_done [] w h = refl
 all_done (x ∷ xs) w h = absurd (omega (arith, eqb-true (length (x ∷ xs)) 0 (sym h)))
 
@@ -107,13 +107,13 @@ some_left : {Z : Type 0} (rest : List (String Z)) → false ≡ (length rest == 
 some_left [] h = let k : false ≡ true = h in absurd (cc)
 some_left (x ∷ xs) h = omega arith
 
-pub none_asked : {H Z : Type 0} (words : List (List ℕ)) (rest : List (String Z)) (start w : Wanted H) →
+pub none_asked : {Z : Type 0} (words : List (List ℕ)) (rest : List (String Z)) (start w : Wanted) →
     option_map (λ asks. with_all asks start) (asked_by words) ≡ option_map (λ asks. with_all asks w) (asked_by (map string_bytes rest)) →
     false ≡ (length rest == 0) → None ≡ first_ask (map string_bytes rest) → asked_by words ≡ None
 none_asked words rest start w same some none =
     none_of (λ asks. with_all asks start) (asked_by words) (same ∙ ap (option_map (λ asks. with_all asks w)) (stop (map string_bytes rest) (some_left rest some) none))
 
-pub one_more : {H Z : Type 0} (words more : List (List ℕ)) (rest : List (String Z)) (start w next : Wanted H) (ask : Ask) →
+pub one_more : {Z : Type 0} (words more : List (List ℕ)) (rest : List (String Z)) (start w next : Wanted) (ask : Ask) →
     option_map (λ asks. with_all asks start) (asked_by words) ≡ option_map (λ asks. with_all asks w) (asked_by (map string_bytes rest)) →
     false ≡ (length rest == 0) → Some (ask, more) ≡ first_ask (map string_bytes rest) → next ≡ with_ask ask w →
     option_map (λ asks. with_all asks start) (asked_by words) ≡ option_map (λ asks. with_all asks next) (asked_by more)

@@ -6,6 +6,7 @@ ghost use Rattle.miette_json.specs.rules.Reads.{AlwaysReads};
 ghost use Rattle.miette_report.specs.rules.Chosen.{IsAsked, IsGiven, MayRefuse, Stays};
 
 use crate::fault::Fault;
+use crate::language::LanguageHighlighter;
 use crate::option_words::Choice;
 use crate::settings::Settings;
 use miette::error::RenderError;
@@ -19,15 +20,15 @@ use std::alloc::{AllocError, Global};
 
 /// The handler of a job.
 #[derive(Drop)]
-pub(crate) enum Chosen<H = Box<dyn Highlighter>> {
+pub(crate) enum Chosen<H> {
     Json,
     Debug,
     Built(MietteHandler<H>),
 }
 
-impl Chosen {
+impl Chosen<LanguageHighlighter> {
     /// The handler that the settings ask for.
-    pub(crate) fn new(alloc: Global, settings: Settings) -> Result<Chosen, AllocError>
+    pub(crate) fn new(alloc: Global, settings: Settings) -> Result<Self, AllocError>
         ensures { IfOk result (IsAsked settings.choice settings.options settings.terminal) }
     {
         let Settings {

@@ -7,6 +7,7 @@ pub mod device;
 pub mod draw;
 pub mod fault;
 pub mod job;
+pub mod language;
 pub mod lint;
 mod lint_lines;
 mod option_words;

@@ -7,6 +7,7 @@ ghost use Rattle.miette_report.specs.rules.Wanted.{answer_ask, first_ask, name_a
 ghost use Rattle.miette_report.specs.rules.Wanted.{value_ask, word_ask};
 ghost use Rattle.miette_report.specs.views.AskView.{ask_of, built_ask};
 
+use crate::language::Language;
 use crate::words::number;
 use miette::options::RgbColors;
 
@@ -58,6 +59,7 @@ pub(crate) enum OptionAsked<'a> {
     Nested(bool),
     Rgb(RgbColors),
     Footer(&'a str),
+    Highlight(Language),
 }
 
 /// What is said of the terminal.
@@ -191,6 +193,9 @@ fn with_name<'a>(word: &str, name: &str) -> Option<BuildAsked<'a>>
         ("--rgb", "always") => OptionAsked::Rgb(RgbColors::Always),
         ("--rgb", "preferred") => OptionAsked::Rgb(RgbColors::Preferred),
         ("--rgb", "never") => OptionAsked::Rgb(RgbColors::Never),
+        ("--highlight", "toml") => OptionAsked::Highlight(Language::Toml),
+        ("--highlight", "json") => OptionAsked::Highlight(Language::Json),
+        ("--highlight", "rust") => OptionAsked::Highlight(Language::Rust),
         ("--term-color", "none") => return Some(BuildAsked::Terminal(TerminalAsked::Color(None))),
         ("--term-color", "ansi") => {
             return Some(BuildAsked::Terminal(TerminalAsked::Color(Some(false))));

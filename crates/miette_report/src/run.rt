@@ -12,6 +12,7 @@ ghost use Rattle.miette_report.specs.rules.Job.{IsDescription, IsNarrating, IsRe
 use crate::chosen::Chosen;
 use crate::device::Device;
 use crate::fault::Fault;
+use crate::language::LanguageHighlighter;
 use crate::settings::Settings;
 use crate::whole::{read_whole, write_whole};
 use miette::highlight::Highlighter;
@@ -41,7 +42,7 @@ fn report_of(alloc: Global, bytes: &[u8]) -> Result<Report, Fault>
 
 /// The text for a description.
 fn text_of(alloc: Global, bytes: &[u8], settings: Settings) -> Result<String, Fault>
-    ensures ok { IfOk result (λ text. Writes ⟦<Box<dyn Highlighter> as Highlighter>⟧.is_blank settings.choice
+    ensures ok { IfOk result (λ text. Writes ⟦<LanguageHighlighter as Highlighter>⟧.is_blank settings.choice
         settings.options settings.terminal bytes.now (λ given. string_bytes text ≡ given)) }
     ensures description { (result ≡ Err Fault.Description) → IsUtf8 bytes.now → tree_for bytes.now ≡ None }
     ensures refused { (result ≡ Err Fault.Refused) →
@@ -62,7 +63,7 @@ pub(crate) fn rendered_length(
     settings: Settings,
 ) -> Result<usize, Fault>
     ensures ok { IfOk result (λ n. 0 < times →
-        Writes ⟦<Box<dyn Highlighter> as Highlighter>⟧.is_blank settings.choice settings.options settings.terminal
+        Writes ⟦<LanguageHighlighter as Highlighter>⟧.is_blank settings.choice settings.options settings.terminal
         bytes.now (λ text. n ≡ length text)) }
     ensures described { OnOk result (IsDescription bytes.now) }
     ensures description { (result ≡ Err Fault.Description) → IsUtf8 bytes.now → tree_for bytes.now ≡ None }
@@ -97,7 +98,7 @@ pub fn run<R: Read, W: Write>(
     requires writer_unmarked { writer.old.failed ≡ false }
     // All that the reader had left is a description, and the writer took its text and nothing else.
     ensures ok { OnOk result (IfSome (R.remaining reader.old.inner) (λ bytes.
-        Writes ⟦<Box<dyn Highlighter> as Highlighter>⟧.is_blank settings.choice settings.options settings.terminal bytes
+        Writes ⟦<LanguageHighlighter as Highlighter>⟧.is_blank settings.choice settings.options settings.terminal bytes
         (Appends (W.contents writer.old.inner) (W.contents writer.new.inner)))) }
     ensures description { (result ≡ Err Fault.Description) → IfSome (R.remaining reader.old.inner) (λ bytes.
         IsUtf8 bytes → tree_for bytes ≡ None) }
@@ -109,7 +110,7 @@ pub fn run<R: Read, W: Write>(
         × IfSome (R.remaining reader.old.inner) IsRefused }
     // After a write fault a beginning of the text was taken.
     ensures beginning { (result ≡ Err Fault.Write) → IfSome (R.remaining reader.old.inner) (λ bytes.
-        Writes ⟦<Box<dyn Highlighter> as Highlighter>⟧.is_blank settings.choice settings.options settings.terminal bytes
+        Writes ⟦<LanguageHighlighter as Highlighter>⟧.is_blank settings.choice settings.options settings.terminal bytes
         (TakesBeginning (W.contents writer.old.inner) (W.contents writer.new.inner))) }
     ensures called { ¬ (result ≡ Err Fault.Usage) }
     // After any other error nothing was written.

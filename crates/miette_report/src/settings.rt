@@ -4,11 +4,12 @@ ghost use Rattle.std.specs.Prelude.{◌≡◌, ◌⊎◌, IfOk, OnErr, map, stri
 ghost use Rattle.std.specs.Prelude.{None};
 ghost use Rattle.miette_style.specs.rules.Themes.{theme_of as theme_value};
 ghost use Rattle.miette_report.specs.rules.Asked.{chosen_by, choice_in};
-ghost use Rattle.miette_report.specs.rules.Wanted.{AreWanted, asked_by, facts_of, facts_with, nothing_asked};
-ghost use Rattle.miette_report.specs.rules.Wanted.{options_with as with_option, wanted, with_ask};
+ghost use Rattle.miette_report.specs.rules.Wanted.{AreWanted, asked_by, by_language, facts_of, facts_with};
+ghost use Rattle.miette_report.specs.rules.Wanted.{nothing_asked, options_with as with_option, wanted, with_ask};
 ghost use Rattle.miette_report.specs.views.AskView.{ask_of, option_ask, terminal_ask, theme_named};
 
 use crate::fault::Fault;
+use crate::language::LanguageHighlighter;
 use crate::option_words::{
     Asked, BuildAsked, Choice, OptionAsked, TerminalAsked, ThemeAsked, first_asked,
 };
@@ -23,7 +24,7 @@ pub struct Settings {
     /// Which handler gives the text.
     pub choice: Choice,
     /// What the handler that is built is asked for.
-    pub options: MietteHandlerOpts,
+    pub options: MietteHandlerOpts<LanguageHighlighter>,
     /// What the text goes to. It has nothing that wasn't given.
     pub terminal: Terminal,
 }
@@ -110,10 +111,10 @@ impl Settings {
 /// The options with one more.
 fn options_with(
     alloc: Global,
-    options: MietteHandlerOpts,
+    options: MietteHandlerOpts<LanguageHighlighter>,
     asked: OptionAsked<'_>,
-) -> Result<MietteHandlerOpts, AllocError>
-    ensures { IfOk result (λ it. it ≡ with_option (option_ask asked.entry) options) }
+) -> Result<MietteHandlerOpts<LanguageHighlighter>, AllocError>
+    ensures { IfOk result (λ it. by_language it ≡ with_option (option_ask asked.entry) (by_language options)) }
 {
     Ok(match asked {
         OptionAsked::Narrated => options.force_narrated(true),
@@ -135,6 +136,9 @@ fn options_with(
         OptionAsked::Nested(false) => options.show_related_errors_as_siblings(),
         OptionAsked::Rgb(colors) => options.rgb_colors(colors),
         OptionAsked::Footer(text) => options.footer(String::from_str(alloc, text)?),
+        OptionAsked::Highlight(language) => {
+            options.with_syntax_highlighting(LanguageHighlighter::new(alloc, language)?)
+        }
     })
 }
 

@@ -10,6 +10,9 @@ use Rattle.miette_style.specs.declared.theme.Terminal.{Terminal}
 use Rattle.miette.specs.rules.Options.{Options, no_options}
 use Rattle.miette.specs.declared.options.RgbColors.{RgbColors}
 use Rattle.miette.specs.declared.options.RgbColors.TheVariants.{Always, Preferred, Never}
+use Rattle.miette_report.specs.declared.language.Language.{Language}
+use Rattle.miette_report.specs.declared.language.Language.TheVariants as language
+use Rattle.miette_report.specs.declared.language.LanguageHighlighter.{LanguageHighlighter}
 use Rattle.miette_report.specs.declared.option_words.Choice.{Choice}
 use Rattle.miette_report.specs.declared.option_words.Choice.TheVariants.{Build, Json, Debug}
 
@@ -33,6 +36,7 @@ pub data OptionAsk : Type 0 where
   Nested : Bool → OptionAsk
   Rgb : RgbColors → OptionAsk
   Footer : List ℕ → OptionAsk
+  Highlighted : Language → OptionAsk
 
 -- of what the terminal is or has
 pub data TerminalAsk : Type 0 where
@@ -109,12 +113,20 @@ colours_ask name =
     else (if bytes_eq name (codes "ansi") then Some (OfTerminal (Colours (Some false)))
     else (if bytes_eq name (codes "rgb") then Some (OfTerminal (Colours (Some true))) else None))
 
+-- the languages by their names
+abbrev pub language_ask : List ℕ → Option Ask
+language_ask name =
+    if bytes_eq name (codes "toml") then Some (OfOptions (Highlighted language.Toml))
+    else (if bytes_eq name (codes "json") then Some (OfOptions (Highlighted language.Json))
+    else (if bytes_eq name (codes "rust") then Some (OfOptions (Highlighted language.Rust)) else None))
+
 -- a word whose value is a name
 abbrev pub name_ask : List ℕ → List ℕ → Option Ask
 name_ask word name =
     if bytes_eq word (codes "--theme") then theme_ask name
     else (if bytes_eq word (codes "--rgb") then rgb_ask name
-    else (if bytes_eq word (codes "--term-color") then colours_ask name else None))
+    else (if bytes_eq word (codes "--term-color") then colours_ask name
+    else (if bytes_eq word (codes "--highlight") then language_ask name else None)))
 
 -- the number that a word writes: one digit or more and nothing else, below 2 ^ 64
 abbrev pub read_number : List ℕ → Option ℕ
@@ -165,14 +177,14 @@ facts_of t = record {
   no_color = option_map string_bytes t.no_color;
 }
 
--- the handler, its options, and the terminal
-pub record Wanted (H : Type 0) : Type 0 where
+-- the handler, its options with a language in place of a highlighter, and the terminal
+pub record Wanted : Type 0 where
   pub choice : Choice
-  pub options : Options H
+  pub options : Options Language
   pub facts : Facts
 
 -- where nothing is asked for
-abbrev pub nothing_asked : {H : Type 0} → Wanted H
+abbrev pub nothing_asked : Wanted
 nothing_asked = record {
   choice = Build;
   options = no_options;
@@ -188,12 +200,38 @@ nothing_asked = record {
   };
 }
 
+-- options with the language of their highlighter in its place
+abbrev pub by_language : Options LanguageHighlighter → Options Language
+by_language o = record {
+  narrated = o.narrated;
+  graphical = o.graphical;
+  width = o.width;
+  links = o.links;
+  theme = o.theme;
+  unicode = o.unicode;
+  color = o.color;
+  rgb = o.rgb;
+  footer = o.footer;
+  context = o.context;
+  chain = o.chain;
+  tab = o.tab;
+  nested = o.nested;
+  wraps = o.wraps;
+  breaks = o.breaks;
+  hyphens = o.hyphens;
+  highlighter = option_map (λ it. it.language) o.highlighter;
+}
+
 -- the handler, its options, and what a terminal is and has
-abbrev pub wanted : {H : Type 0} → Choice → Options H → Terminal → Wanted H
-wanted choice options terminal = record { choice = choice; options = options; facts = facts_of terminal }
+abbrev pub wanted : Choice → Options LanguageHighlighter → Terminal → Wanted
+wanted choice options terminal = record {
+  choice = choice;
+  options = by_language options;
+  facts = facts_of terminal;
+}
 
 -- Options with one thing more, in place of what was asked for it before.
-abbrev pub options_with : {H : Type 0} → OptionAsk → Options H → Options H
+abbrev pub options_with : OptionAsk → Options Language → Options Language
 options_with Narrated o = record o { narrated = Some true }
 options_with Graphical o = record o { graphical = Some true }
 options_with (Width n) o = record o { width = Some n }
@@ -210,6 +248,7 @@ options_with (Hyphens on) o = record o { hyphens = Some on }
 options_with (Nested on) o = record o { nested = Some on }
 options_with (Rgb colors) o = record o { rgb = colors }
 options_with (Footer text) o = record o { footer = Some text }
+options_with (Highlighted it) o = record o { highlighter = Some it }
 
 abbrev pub facts_with : TerminalAsk → Facts → Facts
 facts_with (Columns n) f = record f { width = Some n }
@@ -218,13 +257,13 @@ facts_with (DrawsUnicode on) f = record f { unicode = on }
 facts_with (ShowsLinks on) f = record f { hyperlinks = on }
 facts_with (NoGraphics text) f = record f { no_graphics = Some text }
 
-abbrev pub with_ask : {H : Type 0} → Ask → Wanted H → Wanted H
+abbrev pub with_ask : Ask → Wanted → Wanted
 with_ask (OfHandler choice) w = record w { choice = choice }
 with_ask (OfOptions ask) w = record w { options = options_with ask w.options }
 with_ask (OfTerminal ask) w = record w { facts = facts_with ask w.facts }
 
 -- with all that is asked for, one after another
-abbrev pub with_all : {H : Type 0} → List Ask → Wanted H → Wanted H
+abbrev pub with_all : List Ask → Wanted → Wanted
 with_all [] w = w
 with_all (ask ∷ asks) w = with_all asks (with_ask ask w)
 
@@ -255,6 +294,6 @@ abbrev mutual
   asked_behind word (value ∷ words) = onto (value_ask word value) (asked_by words)
 
 -- these settings are what the words ask for by the table
-abbrev pub AreWanted : {H : Type 0} → List (List ℕ) → Choice → Options H → Terminal → Type 0
+abbrev pub AreWanted : List (List ℕ) → Choice → Options LanguageHighlighter → Terminal → Type 0
 AreWanted words choice options terminal =
     option_map (λ asks. with_all asks nothing_asked) (asked_by words) ≡ Some (wanted choice options terminal)

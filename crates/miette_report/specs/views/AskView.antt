@@ -12,7 +12,7 @@ use Rattle.miette_report.specs.declared.option_words.ThemeAsked.{ThemeAsked}
 use Rattle.miette_report.specs.declared.option_words.ThemeAsked.TheVariants as theme
 use Rattle.miette_report.specs.rules.Wanted.{Ask, OfHandler, OfOptions, OfTerminal}
 use Rattle.miette_report.specs.rules.Wanted.{OptionAsk, Narrated, Graphical, Width, Context, Tab, Drawn, Unicode, Color}
-use Rattle.miette_report.specs.rules.Wanted.{Links, Chain, Break, Wrap, Hyphens, Nested, Rgb, Footer}
+use Rattle.miette_report.specs.rules.Wanted.{Links, Chain, Break, Wrap, Hyphens, Nested, Rgb, Footer, Highlighted}
 use Rattle.miette_report.specs.rules.Wanted.{TerminalAsk, Columns, Colours, DrawsUnicode, ShowsLinks, NoGraphics}
 
 abbrev pub theme_named : ThemeAsked → Theme
@@ -38,6 +38,7 @@ option_ask (option.Hyphens on) = Hyphens on
 option_ask (option.Nested on) = Nested on
 option_ask (option.Rgb colors) = Rgb colors
 option_ask (option.Footer text) = Footer text.now
+option_ask (option.Highlight it) = Highlighted it
 
 abbrev pub terminal_ask : TerminalAsked → TerminalAsk
 terminal_ask (terminal.Width n) = Columns n

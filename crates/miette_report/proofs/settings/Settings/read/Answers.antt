@@ -6,7 +6,7 @@ use Rattle.miette_report.proofs.WantedSteps.{all_done, none_asked, one_more}
 use Rattle.miette_report.proofs.settings.Settings.read.Goals as goal
 
 pub loop-rest-preserved : goal.loop-rest-preserved
-loop-rest-preserved g c =
+loop-rest-preserved c =
     let old = c.loop-rest.settings in
     let new = c.in_ok-settings.settings in (
       c.loop-rest.invariant.0 ∙ c.in-Some.ensures.choice old.choice
@@ -16,10 +16,10 @@ loop-rest-preserved g c =
     )
 
 pub returns-in_default-clause-usage : goal.returns-in_default-clause-usage
-returns-in_default-clause-usage g c = λ _.
+returns-in_default-clause-usage c = λ _.
     none_asked (map string_bytes c.args.words.now) c.loop-rest.rest.now nothing_asked (wanted c.loop-rest.settings.choice c.loop-rest.settings.options c.loop-rest.settings.terminal)
     c.loop-rest.invariant.1 (c.loop-rest-test.ensures) (sym (ap (option_map _) c.in_default.is) ∙ c.first_asked.ensures.table)
 
 pub returns-clause-table : goal.returns-clause-table
-returns-clause-table g c =
+returns-clause-table c =
     c.loop-rest.invariant.1 ∙ all_done c.loop-rest.rest.now (wanted c.loop-rest.settings.choice c.loop-rest.settings.options c.loop-rest.settings.terminal) (c.loop-rest-test.ensures)

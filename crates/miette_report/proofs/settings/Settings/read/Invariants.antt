@@ -6,10 +6,10 @@ use Rattle.miette_report.proofs.settings.Settings.read.Given as goal
 
 -- the words that are left choose from what those before chose, and ask for more than those before asked for
 abbrev pub invariant-loop-rest : goal.invariant-loop-rest
-invariant-loop-rest g l =
+invariant-loop-rest l =
     (choice_in Build (map string_bytes l.words) ≡ choice_in l.settings.choice (map string_bytes l.rest))
     × (option_map (λ asks. with_all asks nothing_asked) (asked_by (map string_bytes l.words))
     ≡ option_map (λ asks. with_all asks (wanted l.settings.choice l.settings.options l.settings.terminal)) (asked_by (map string_bytes l.rest)))
 
 abbrev pub decreases-loop-rest : goal.decreases-loop-rest
-decreases-loop-rest g l = length l.rest
+decreases-loop-rest l = length l.rest
