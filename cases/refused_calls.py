@@ -37,8 +37,16 @@ HANDING = (
 )
 
 
-# these meet no refusal of their own: what they make holds nothing yet
-NO_GROWTH = ("Runs::new", "Output::printed", "Output::collected")
+# these meet no refusal of their own: what they make holds nothing yet, or what they are given here has room for it
+NO_GROWTH = (
+    "Runs::new",
+    "Output::printed",
+    "Output::collected",
+    "MietteDiagnostic::with_labels_from",
+    "without_leading",
+    "without_trailing",
+    "columns_of",
+)
 
 
 def keeps(name):
