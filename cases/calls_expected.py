@@ -187,7 +187,6 @@ LINKED = "\x1b]8;;u\x1b\\here" + LINK_END
 WORDS = f"a {RED}red{END} word-and-another, abcdefghijklmnop\n{LINKED} 漢\n"
 FILLED = f"* a {RED}red{END}\n| word-and-\n| another,\n| abcdefghij\n| klmnop\n| {LINKED} 漢\n| "
 FEEDS = f"\n{RED}\nred{END}\n"
-A = f"{RED}a{END}"
 
 
 def behind(text):
@@ -196,8 +195,8 @@ def behind(text):
 
 
 def pushed(text):
-    """What runs of a red letter are, and with this behind it."""
-    return [runs(A), runs(A + text)]
+    """What empty runs are, and with this in them."""
+    return [runs(""), runs(text)]
 
 
 def put(text):

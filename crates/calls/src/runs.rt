@@ -62,7 +62,7 @@ fn red() -> Style {
 }
 
 fn pushed<W: Write>(alloc: Global, name: &str, out: &mut W) -> Done {
-    let mut runs = read_text(alloc, "\u{1b}[31ma\u{1b}[0m")?;
+    let mut runs = Runs::new(alloc);
     let more = read_text(alloc, "\u{1b}[32mb\u{1b}[0mc")?;
     given(out, &runs)?;
     let answer = match name {
