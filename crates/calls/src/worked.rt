@@ -185,15 +185,28 @@ fn labelled<'a, 'x>(
 /// `Write` where standard output took no more, `Memory` where it was refused before any row.
 pub fn rows_of<W: Write>(alloc: Global, out: &mut W, name: &str, handler: &str) -> Done {
     for one in NAMES {
-        for by in HANDLERS {
-            if (name.is_empty() || name == one) && (handler.is_empty() || handler == by) {
-                write!(out, "{one}, {by}")?;
-                let done = row(alloc, out, one, by);
-                end_row(out, done)?;
-            }
+        if name.is_empty() || name == one {
+            rows_by(alloc, out, one, handler)?;
         }
     }
     Ok(())
+}
+
+/// The rows of a report that are asked for.
+fn rows_by<W: Write>(alloc: Global, out: &mut W, name: &str, handler: &str) -> Done {
+    for by in HANDLERS {
+        if handler.is_empty() || handler == by {
+            row_by(alloc, out, name, by)?;
+        }
+    }
+    Ok(())
+}
+
+/// The row of a report by a handler.
+fn row_by<W: Write>(alloc: Global, out: &mut W, name: &str, handler: &str) -> Done {
+    write!(out, "{name}, {handler}")?;
+    let done = row(alloc, out, name, handler);
+    end_row(out, done)
 }
 
 fn row<W: Write>(alloc: Global, out: &mut W, name: &str, handler: &str) -> Done {
