@@ -121,6 +121,9 @@ def fault_of(words, is_expected, library):
         name = refused(whole, got)
         if name is None:
             return (f"growth {growth} refused", got), answered, own
+        if name == WORDS_READ and answered:
+            # the words are read before any call is made
+            return (f"growth {growth} refused", got), answered, own
         answered += name not in ("", WORDS_READ)
         own += name not in ("", WORDS_READ) and BEFORE.encode() not in got[1]
     return ("no end", whole), answered, own
