@@ -1,5 +1,5 @@
 #!/usr/bin/env python3
-"""faults.py: runs the built programs where the machine fails, and says what each did. It is run by hand.
+"""faults.py: runs the built programs where the machine fails, and says what each did.
 
     cases/faults.py     closed and full outputs, closed pipes, inputs of 100 MB, little address space, small stacks
 
