@@ -334,13 +334,11 @@ ROWS = {
     "write_report": [quoted(TOLD + FOOT)],
     "print_to": [quoted(TOLD + FOOT)],
 }
-# what these print stands in rows between two of theirs, or on standard error
-PRINTED = {
-    "print_report": "  × oops!\n",
-    "print_report_with": f"  {RED}×{END} oops!\n",
-    "eprint_report": "",
-    "eprint_report_with": "",
-}
+# what these print stands in a row between two of theirs, or on standard error
+PICTURE = "  × oops!\n"
+IN_RED = f"  {RED}×{END} oops!\n"
+PRINTED = {"print_report": PICTURE, "print_report_with": IN_RED, "eprint_report": "", "eprint_report_with": ""}
+FAULTS = {"eprint_report": PICTURE, "eprint_report_with": IN_RED}
 
 
 def text(names=None):
@@ -348,3 +346,8 @@ def text(names=None):
     names = [*ROWS, *PRINTED] if names is None else names
     rows = ("\t".join([name, *ROWS[name]]) if name in ROWS else f"{name}\tprints:\n{PRINTED[name]}{name}\tprinted" for name in names)
     return "".join(row + "\n" for row in rows)
+
+
+def faults(names=None):
+    """What these calls, or all, print on standard error."""
+    return "".join(FAULTS[name] for name in FAULTS if names is None or name in names)

@@ -1,5 +1,5 @@
 #!/usr/bin/env python3
-"""faults.py: runs the built programs where the machine fails, and says what each did. It is run by hand.
+"""faults.py: runs the built programs where the machine fails, and says what each did.
 
     cases/faults.py     closed and full outputs, closed pipes, inputs of 100 MB, little address space, small stacks
 
@@ -111,8 +111,8 @@ def big_inputs():
         yield told(f"100 MB, {given[:8]!r}", f"{name} {words}", got, ends_well(got[0], got[2], wanted))
         for room in (16, 64, 128):
             got = run(name, words, given, {resource.RLIMIT_AS: room * MEGABYTE})
-            statuses = (*wanted, 2 if name == "lint" else 1)
-            is_well = ends_well(got[0], got[2], statuses) and (got[0] in wanted or got[1] == 0)
+            # that is too little for each of these: it says so, and writes nothing
+            is_well = got[:3] == (2 if name == "lint" else 1, 0, f"{name}: out of memory\n".encode())
             yield told(f"100 MB, {given[:8]!r}, {room} MB of address space", f"{name} {words}", got, is_well)
 
 
@@ -124,17 +124,23 @@ def deep(count, key):
     return text
 
 
-# how often what stands in what, and KB of stack that are enough: a tenth and more above what docs/PERFORMANCE.md says; on a
-# smaller stack a program may end by a signal
-STACKS = ((b"cause", 0, 96), (b"cause", 126, 512), (b"related", 62, 384))
+# how often what stands in what at most, and KB of stack that are enough: a tenth and more above what docs/PERFORMANCE.md
+# says; on a smaller stack a program may end by a signal
+STACKS = ((b"cause", 0, 96), (b"cause", 126, 192), (b"related", 63, 192))
+PROGRAMS = [("job", it) for it in ([], ["--nested", "yes"], ["--narrated"], ["--json"], ["--debug"])] + [("bench", ["1"])]
 
 
 def small_stacks():
     """Descriptions as deep as they may be, on the stacks that they need."""
     for key, most, stack in STACKS:
-        for words in ([], ["--nested", "yes"], ["--narrated"], ["--json"], ["--debug"]):
-            got = run("job", words, deep(most, key), {resource.RLIMIT_STACK: stack * 1024})
-            yield told(f"{most} of {key.decode()} in one another, a stack of {stack} KB", f"job {words}", got, ends_well(got[0], got[2], (0,)))
+        for name, words in PROGRAMS:
+            got = run(name, words, deep(most, key), {resource.RLIMIT_STACK: stack * 1024})
+            is_well = ends_well(got[0], got[2], (0,))
+            yield told(f"{most} of {key.decode()} in one another, a stack of {stack} KB", f"{name} {words}", got, is_well)
+        if most:
+            got = run("job", [], deep(most + 1, key))
+            is_well = got[:3] == (3, 0, b"job: bad description\n")
+            yield told(f"{most + 1} of {key.decode()} in one another", "job []", got, is_well)
 
 
 def main():

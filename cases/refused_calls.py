@@ -11,7 +11,7 @@ import sys
 import tempfile
 from concurrent.futures import ThreadPoolExecutor
 
-from calls_expected import PRINTED, ROWS, text
+from calls_expected import FAULTS, PRINTED, ROWS, faults, text
 from calls_reports import REPORTS, WORDS, is_wanted
 from refusals import MOST, ROOT, built, library_in, run_with
 
@@ -25,7 +25,7 @@ VARIABLES = {
 }
 OUT_OF_MEMORY = (1, b"", b"calls: out of memory\n")
 WORDS_READ = "the words of the program"
-UNPRINTED = "a report could not be printed: out of memory"
+UNPRINTED = "a report could not be printed: out of memory\n"
 BEFORE = "no memory before the call"
 # what these hand back or append to is as before
 KEEPING = ("render", "debug", "display", "fill", "append_whole", "write_report", "print_to", "render_report")
@@ -74,14 +74,20 @@ def rows_of(shown):
     return [row.split("\t") for row in shown.decode().split("\n")]
 
 
-def unprinted(wanted, rows):
-    """The call that prints a report and wasn't made for want of memory, where all other rows are there."""
-    for name in PRINTED:
-        if [name, BEFORE] in rows and [name, "printed"] in wanted:
-            # its rows, from `prints:` to `printed`, are this one
-            at = rows.index([name, BEFORE])
-            behind = wanted[wanted.index([name, "printed"]) + 1 :]
-            return name if (rows[:at], rows[at + 1 :]) == (wanted[:at], behind) else None
+def unprinted(whole, got):
+    """The call that prints a report, and was refused that or wasn't made, where all else is as in the whole run."""
+    shown, told = got[1].decode(), got[2].decode()
+    wanted, its_faults = whole[1].decode(), whole[2].decode()
+    for name, row in PRINTED.items():
+        whole_rows, fault = f"{name}\tprints:\n{row}{name}\tprinted\n", FAULTS.get(name, "")
+        if whole_rows not in wanted:
+            continue
+        # each of the four has its own text on its own stream, so that these are the same only where the call is
+        unmade = (wanted.replace(whole_rows, f"{name}\t{BEFORE}\n"), its_faults.replace(fault, "") if fault else its_faults)
+        silent = wanted.replace(whole_rows, f"{name}\tprints:\n{name}\tprinted\n")
+        refusal = (silent, its_faults.replace(fault, UNPRINTED) if fault else UNPRINTED + its_faults)
+        if (shown, told) in (unmade, refusal):
+            return name
     return None
 
 
@@ -92,17 +98,12 @@ def refused(whole, got):
     if got == OUT_OF_MEMORY:
         return WORDS_READ
     wanted, rows = rows_of(whole[1]), rows_of(got[1])
-    told = got[2].decode().count(UNPRINTED)
-    if got[0] != 0 or told > 1:
+    if got[0] != 0:
         return None
-    if told:
-        # a report that isn't printed: its row is missing there, and all others are the same
-        lacking = [i for i in range(len(wanted)) if wanted[:i] + wanted[i + 1 :] == rows]
-        return "a report that is printed" if rows == wanted or lacking else None
-    if len(wanted) != len(rows):
-        return unprinted(wanted, rows)
+    if got[2] != whole[2] or len(wanted) != len(rows):
+        return unprinted(whole, got)
     changed = [(a, b) for a, b in zip(wanted, rows) if a != b]
-    return changed[0][0][0] if got[2] == whole[2] and len(changed) == 1 and is_refusal(*changed[0]) else None
+    return changed[0][0][0] if len(changed) == 1 and is_refusal(*changed[0]) else None
 
 
 def fault_of(words, is_expected, library):
@@ -110,7 +111,7 @@ def fault_of(words, is_expected, library):
     many of these the call itself met."""
     argv = ["calls", *words]
     whole, _ = run_with(argv, b"", library, 0, VARIABLES)
-    if whole[0] != 0 or not is_expected(whole[1].decode()):
+    if whole[0] != 0 or not is_expected(whole[1].decode(), whole[2].decode()):
         return ("no growth refused", whole), 0, 0
     answered = own = 0
     for growth in range(1, MOST):
@@ -131,21 +132,21 @@ def fault_of(words, is_expected, library):
 
 def of_call(name):
     """The words that make one call, and whether its rows are the expected ones."""
-    return [name], lambda shown: shown == text([name])
+    return [name], lambda *shown: shown == (text([name]), faults([name]))
 
 
 def of_report(name, handler):
     """The words that render one report by a handler, and whether its row is the expected one."""
 
-    def is_expected(shown):
+    def is_expected(shown, told):
         first, *columns = shown.rstrip("\n").split("\t")
-        return first == f"{name}, {handler}" and is_wanted(REPORTS[name], handler, columns)
+        return told == "" and first == f"{name}, {handler}" and is_wanted(REPORTS[name], handler, columns)
 
     return ["report", name, handler], is_expected
 
 
 def main():
-    calls = [([], lambda shown: shown == text()), *map(of_call, [*ROWS, *PRINTED])]
+    calls = [([], lambda *shown: shown == (text(), faults())), *map(of_call, [*ROWS, *PRINTED])]
     reports = [of_report(name, handler) for name in REPORTS for handler in WORDS]
     with tempfile.TemporaryDirectory(dir=built("calls")) as folder, ThreadPoolExecutor(os.cpu_count() or 2) as pool:
         library = library_in(folder, "refuse")
