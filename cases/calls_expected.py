@@ -32,7 +32,7 @@ def struct(kind, **fields):
 
 def label(text, offset, length, lines="None"):
     span = struct("SourceSpan", offset=f"SourceOffset({offset})", length=length)
-    return struct("LabeledSpan", label=some(quoted(text)), span=span, primary="false", context_lines=lines)
+    return struct("LabeledSpan", label=some(quoted(text)) if text else "None", span=span, primary="false", context_lines=lines)
 
 
 def diagnostic(message="oops!", code="a::b", help="try", url="http://x", labels=None):
@@ -151,8 +151,15 @@ TERMINAL = struct(
 
 HERE = label("This bit here", 9, 4)
 FULL = diagnostic(labels=[HERE])
-THERE = f'code Some("a::b"), help Some("try"), labels Some([{HERE}])'
-NOTHING = "code None, help None, labels None"
+
+
+def parts(code="None", severity="None", help="None", url="None", labels="None"):
+    """The parts of a report behind its message and causes."""
+    return f"code {code}, severity {severity}, help {help}, url {url}, labels {labels}"
+
+
+THERE = parts('Some("a::b")', "Some(Warning)", 'Some("try")', 'Some("http://x")', f"Some([{HERE}])")
+NOTHING = parts()
 OOPS = f"oops!: b: c, {THERE}"
 IN_FRONT = f"in front: {OOPS}"
 SEVEN = f"7 is too much, {NOTHING}"
@@ -217,7 +224,7 @@ ROWS = {
     "MietteDiagnostic::with_help": [FULL, diagnostic(help="try again", labels=[HERE])],
     "MietteDiagnostic::with_url": [FULL, diagnostic(url="http://y", labels=[HERE])],
     "MietteDiagnostic::with_label": [FULL, diagnostic(labels=[label("and this", 0, 6)])],
-    "MietteDiagnostic::with_labels_from": [FULL, diagnostic(labels=[label("first", 0, 6), label("second", 18, 4)])],
+    "MietteDiagnostic::with_labels_from": [FULL, diagnostic(labels=[label("", 4, 0), label("", 7, 0)])],
     "MietteDiagnostic::and_label": [FULL, diagnostic(labels=[HERE, label("and this", 0, 6)])],
     "MietteDiagnostic::and_labels": [FULL, diagnostic(labels=[HERE, label("first", 0, 6), label("second", 18, 4)])],
     "MietteDiagnostic::clone": [FULL] * 3,
@@ -276,7 +283,7 @@ ROWS = {
     "WrapErr::wrap_err_with for Result": [OOPS, f"7 {IN_FRONT}"],
     "WrapErr::with_context for Result": [OOPS, f"7 {IN_FRONT}"],
     "IntoDiagnostic::into_diagnostic for Result": [BOUNDS],
-    "miette!": ['7 is too much, code Some("a::b"), help Some("try"), labels None'],
+    "miette!": ["7 is too much, " + parts('Some("a::b")', help='Some("try")')],
     "bail!": [SEVEN],
     "ensure!": [SEVEN],
     "fill": behind(FILLED),

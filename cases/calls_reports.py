@@ -74,6 +74,7 @@ STOPPED = {
     "labels far apart": over(NINE, (0, 1, "a"), (16, 1, "b")),
     "own context": over(NINE, (0, 1, "a", 1), (4, 1, "b", 2), (16, 1, "c")),
     "no labels": over(NINE),
+    "a related report": {"message": "m", "related": [over(NINE, (8, 1, "here"))]},
     "a cause": {"message": "m", "labels": labels((0, 1, "a"), (16, 1, "b")), "cause": over(NINE, (8, 1, "here"))},
 }
 DRAWN = ["--theme", "unicode", "--links", "yes"]
@@ -86,12 +87,14 @@ WORDS = {
     "wanting": [*DRAWN, "--width", "30"],
     "nested wanting": [*DRAWN, "--width", "30", *NESTED],
     "chosen wanting": [*DRAWN, "--width", "30"],
+    "chosen narrated": ["--narrated"],
     "narrated": ["--narrated"],
     "json": ["--json"],
     "debug": ["--debug"],
 }
 # what colours the lines of sources, what is refused memory at the second one
-HIGHLIGHTING = [it for it in WORDS if it not in ("graphical", "narrated", "json", "debug")]
+NARRATED = ("chosen narrated", "narrated")
+HIGHLIGHTING = [it for it in WORDS if it not in ("graphical", *NARRATED, "json", "debug")]
 WANTING = [it for it in WORDS if it.endswith("wanting")]
 RED_TEXT = re.compile(re.escape(RED) + "(.*?)" + re.escape(END))
 NUMBER = re.compile(r"\x1b\[2m *\d+\x1b\[0m │ .")

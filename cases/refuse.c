@@ -1,5 +1,5 @@
-/* Loaded before the C library: refuses the growth whose number stands in REFUSED_GROWTH, counting from 1, and then writes one
-   byte to the file number in REFUSED_REPORT. All other growths are the C library's. */
+/* Loaded before the C library: refuses the growth whose number stands in REFUSED_GROWTH, counting from 1, and as many behind it
+   as REFUSED_MORE says, and then writes one byte to the file number in REFUSED_REPORT. All other growths are the C library's. */
 #include <stdlib.h>
 #include <unistd.h>
 
@@ -15,7 +15,9 @@ static long number_of(const char *name)
 static int is_refused(void)
 {
     static long growths;
-    if (++growths != number_of("REFUSED_GROWTH"))
+    long first = number_of("REFUSED_GROWTH");
+    growths++;
+    if (first == 0 || growths < first || growths > first + number_of("REFUSED_MORE"))
         return 0;
     return write((int)number_of("REFUSED_REPORT"), "r", 1) == 1;
 }

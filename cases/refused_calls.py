@@ -11,7 +11,7 @@ import sys
 import tempfile
 from concurrent.futures import ThreadPoolExecutor
 
-from calls_expected import FAULTS, PRINTED, ROWS, faults, text
+from calls_expected import FAULTS, NOTHING, PRINTED, ROWS, faults, text
 from calls_reports import REPORTS, WORDS, is_wanted
 from refusals import MOST, ROOT, built, library_in, run_with
 
@@ -42,17 +42,27 @@ NO_GROWTH = (
     "Runs::new",
     "Output::printed",
     "Output::collected",
-    "MietteDiagnostic::with_labels_from",
     "without_leading",
     "without_trailing",
     "columns_of",
 )
 
 
+# a smaller growth serves these where one is refused, so that the next one is refused too
+TWICE = ("MietteDiagnostic::with_labels_from",)
+
+
 def keeps(name):
     """Whether a refusal of this call leaves what it was given."""
     last = name.split(" for ")[0].split("::")[-1]
     return ", " in name or name in HANDING or last in KEEPING
+
+
+def answer(name):
+    """What a refusal of a call gives that keeps nothing: where that is a report, its text and parts."""
+    if name.startswith(("WrapErr::", "IntoDiagnostic::")) or name in ("miette!", "bail!", "ensure!"):
+        return f"refused: memory allocation failed, {NOTHING}"
+    return "refused"
 
 
 def is_refusal(whole, got):
@@ -67,7 +77,7 @@ def is_refusal(whole, got):
     if keeps(got[0]):
         kept = [got[same].removeprefix("refused: "), *got[same + 1 :]]
         return kept == (got[1:same] or ['""'])
-    return got[same] == "refused" and got[same + 1 :] == whole[same + 1 :]
+    return got[same] == answer(got[0]) and got[same + 1 :] == whole[same + 1 :]
 
 
 def rows_of(shown):
@@ -110,12 +120,13 @@ def fault_of(words, is_expected, library):
     """What the first refused growth that is answered in another way gave, if any, how many were refused and answered, and how
     many of these the call itself met."""
     argv = ["calls", *words]
-    whole, _ = run_with(argv, b"", library, 0, VARIABLES)
+    variables = {**VARIABLES, "REFUSED_MORE": "1" if words and words[0] in TWICE else "0"}
+    whole, _ = run_with(argv, b"", library, 0, variables)
     if whole[0] != 0 or not is_expected(whole[1].decode(), whole[2].decode()):
         return ("no growth refused", whole), 0, 0
     answered = own = 0
     for growth in range(1, MOST):
-        got, was_refused = run_with(argv, b"", library, growth, VARIABLES)
+        got, was_refused = run_with(argv, b"", library, growth, variables)
         if not was_refused:
             is_own = words[:1] in ([], ["report"]) or (own > 0) == (words[0] not in NO_GROWTH)
             return (None if got == whole and growth > 1 and is_own else ("a last run", got)), answered, own

@@ -241,7 +241,7 @@ def small():
     """Inputs that are small, or deep."""
     yield Family("only a message", lambda _: described(message="m"), ONE, ONE, (*HANDLERS, BENCH))
     yield Family("empty texts", empty_texts, ONE, ONE, ALL)
-    yield Family("related 62 deep", deep_related(62), ONE, ONE, ALL)
+    yield Family("related 63 deep", deep_related(63), ONE, ONE, ALL)
     yield Family("causes 126 deep", deep_causes(126), ONE, ONE, HANDLERS)
 
 

@@ -42,7 +42,7 @@ GROWTH = 2.2
 LEAST_SECONDS = 0.2
 # A growth of seconds that is above the bound, but within noise, is measured so often again.
 AGAIN, NOISE = 2, 1.5
-DEEPEST = ("only a message", "related 62 deep", "causes 126 deep")
+DEEPEST = ("only a message", "related 63 deep", "causes 126 deep")
 BECOME_REAPER = 36
 HEAD = """| Input | Size | Text bytes | Seconds | Instructions | Peak MB | Memory/text \
 | Time grows by | Memory grows by | Text grows by | Stack | Faults |

@@ -14,11 +14,12 @@ from concurrent.futures import ThreadPoolExecutor
 from itertools import count
 
 from calls_expected import END, LINK, RED, YELLOW
-from calls_reports import BEFORE, STOPPED, indented, is_drawn, is_wanted
+from calls_reports import BEFORE, HIGHLIGHTING, NARRATED, STOPPED, indented, is_drawn, is_wanted
 from devices import SHOWN
 from refusals import ROOT
 
-HANDLERS = ("graphical", "nested", "narrated", "json", "debug")
+HANDLERS = ("graphical", "nested", "chosen", "chosen narrated", "narrated", "json", "debug")
+DRAWING = ("graphical", "nested", "chosen")
 LINES = (0, 1, 2)
 WAYS = ("at", "from")
 # what comes of a fault, beside the label that wasn't read
@@ -45,9 +46,9 @@ def lines_of(label, lines):
 def shown_labels(name, handler):
     """The labels that a handler draws or tells, in order. Those of causes are not told, and those over no source aren't drawn."""
     report = STOPPED[name]
-    if "source" in report:
-        return report["labels"]
-    return report["cause"]["labels"] if handler in ("graphical", "nested") else []
+    if "cause" in report:
+        return report["cause"]["labels"] if handler in DRAWING else []
+    return (report["related"][0] if "related" in report else report)["labels"]
 
 
 def outcome(labels, handler, lines, reads):
@@ -61,7 +62,7 @@ def outcome(labels, handler, lines, reads):
         return WHOLE
     for label in labels:
         if not reads.is_read():
-            return REFUSED if handler == "narrated" else label["label"]
+            return REFUSED if handler in NARRATED else label["label"]
     has_own = any("context" in it for it in labels)
     groups, apart = [], False
     for label in labels:
@@ -73,7 +74,7 @@ def outcome(labels, handler, lines, reads):
             groups.append(last)
             apart = apart or is_near
     # then groups of labels with their own numbers of lines are read, and the place of each picture
-    for is_asked in (has_own, handler != "narrated"):
+    for is_asked in (has_own, handler not in NARRATED):
         if is_asked and not all(reads.is_read() for _ in groups):
             return REFUSED
     return APART if apart else WHOLE
@@ -91,24 +92,29 @@ def unread(label):
     return f"{HEAD}  [{RED}Failed to read contents for label{END} {text} {span}: {YELLOW}IoError{END}]\n"
 
 
-# the same of the label (8, 1) `here` as a cause: of 40 columns, and of 30
-UNREAD_CAUSE = {
-    "graphical": indented(
-        f"  {RED}×{END} m",
-        f"  [{RED}Failed to read contents for",
-        f"label{END} `{LINK}here{END}` (offset: {LINK}8{END}, length:",
-        f"{LINK}1{END}): {YELLOW}IoError{END}]",
-        "",
-    ),
-    "nested": indented(
-        f"  {RED}×{END} m",
-        f"  [{RED}Failed to read",
-        f"contents for label{END}",
-        f"`{LINK}here{END}` (offset: {LINK}8{END},",
-        f"length: {LINK}1{END}): {YELLOW}IoError{END}]",
-        "",
-    ),
-}
+# the same of the label (8, 1) `here` below an arrow: in 40 columns, and in 30
+IN_40 = (
+    f"  {RED}×{END} m",
+    f"  [{RED}Failed to read contents for",
+    f"label{END} `{LINK}here{END}` (offset: {LINK}8{END}, length:",
+    f"{LINK}1{END}): {YELLOW}IoError{END}]",
+)
+IN_30 = (
+    f"  {RED}×{END} m",
+    f"  [{RED}Failed to read",
+    f"contents for label{END}",
+    f"`{LINK}here{END}` (offset: {LINK}8{END},",
+    f"length: {LINK}1{END}): {YELLOW}IoError{END}]",
+)
+
+
+def unread_text(name, handler, label):
+    """The picture of a report whose label wasn't read, or that of its cause or its related report."""
+    if name == "a cause":
+        return indented(*(IN_40 if handler == "graphical" else IN_30), "")
+    if name == "a related report":
+        return indented(*IN_30) if handler == "nested" else f"{HEAD}\nError: \n{unread(label)}"
+    return unread(label)
 
 
 def drawn(*rows):
@@ -154,12 +160,11 @@ def is_expected(name, handler, lines, came_to, columns):
     if came_to == REFUSED:
         return columns[1] == f"not read: {BEFORE}"
     if came_to == APART:
-        text = (TOLD_APART if handler == "narrated" else DRAWN_APART)[lines]
-    elif name == "a cause":
-        text = UNREAD_CAUSE[handler]
+        text = (TOLD_APART if handler in NARRATED else DRAWN_APART)[lines]
     else:
-        text = unread(next(it for it in STOPPED[name]["labels"] if it["label"] == came_to))
-    return is_drawn(columns[1], text, handler == "nested")
+        label = next(it for it in shown_labels(name, handler) if it["label"] == came_to)
+        text = unread_text(name, handler, label)
+    return is_drawn(columns[1], text, handler in HIGHLIGHTING)
 
 
 def rows():

@@ -67,7 +67,10 @@ fn with_labels<W: Write>(alloc: Global, name: &str, out: &mut W) -> Done {
     given(out, &full)?;
     match name {
         "MietteDiagnostic::with_label" => answered(out, full.with_label(alloc, label)),
-        "MietteDiagnostic::with_labels_from" => answered(out, full.with_labels_from(alloc, more)),
+        "MietteDiagnostic::with_labels_from" => {
+            let spans = [4, 7].into_iter().map(LabeledSpan::underline);
+            answered(out, full.with_labels_from(alloc, spans))
+        }
         "MietteDiagnostic::and_label" => answered(out, full.and_label(alloc, label)),
         "MietteDiagnostic::and_labels" => answered(out, full.and_labels(alloc, more)),
         _ => Ok(()),

@@ -130,11 +130,13 @@ pub fn cloned<T: Clone + Debug + Drop, W: Write>(out: &mut W, value: &T) -> Done
 /// `Write` where standard output took no more.
 pub fn parts<W: Write>(out: &mut W, report: &Report) -> Done {
     let code = report.code();
+    let severity = report.severity();
     let help = report.help();
+    let url = report.url();
     let labels = report.labels();
     write!(
         out,
-        "{report:?}, code {code:?}, help {help:?}, labels {labels:?}"
+        "{report:?}, code {code:?}, severity {severity:?}, help {help:?}, url {url:?}, labels {labels:?}"
     )?;
     Ok(())
 }
@@ -148,16 +150,18 @@ pub fn report_given<W: Write>(out: &mut W, report: &Report) -> Done {
     parts(out, report)
 }
 
-/// A report that a call gave; that of refused memory says that it was refused.
+/// A report that a call gave; in front of that of refused memory stands that it was refused.
 ///
 /// # Errors
 /// `Write` where standard output took no more.
 pub fn report_answered<W: Write>(out: &mut W, report: &Report) -> Done {
     match report.kind() {
-        ReportKind::OutOfMemory => write!(out, "\trefused")?,
-        _ => report_given(out, report)?,
+        ReportKind::OutOfMemory => {
+            write!(out, "\trefused: ")?;
+            parts(out, report)
+        }
+        _ => report_given(out, report),
     }
-    Ok(())
 }
 
 /// A report with more in front of it or below it, or as it came back.

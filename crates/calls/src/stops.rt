@@ -8,16 +8,25 @@ use std::alloc::{AllocError, Global};
 use std::cell::Cell;
 use std::io::Write;
 
-const NAMES: [&str; 6] = [
+const NAMES: [&str; 7] = [
     "one label",
     "two labels",
     "labels far apart",
     "own context",
     "no labels",
+    "a related report",
     "a cause",
 ];
 
-const HANDLERS: [&str; 5] = ["graphical", "nested", "narrated", "json", "debug"];
+const HANDLERS: [&str; 7] = [
+    "graphical",
+    "nested",
+    "chosen",
+    "chosen narrated",
+    "narrated",
+    "json",
+    "debug",
+];
 
 /// How many reads are tried at most.
 const MOST: usize = 99;
@@ -103,6 +112,10 @@ fn report<'a>(alloc: Global, name: &str, reads: &'a Reads) -> Result<Made<'a>, A
         "labels far apart" => stopping_report(alloc, &APART, source),
         "own context" => stopping_report(alloc, &OWN, source),
         "no labels" => stopping_report(alloc, &M, source),
+        "a related report" => {
+            let related = stopping_report(alloc, &ONE, source)?;
+            Ok(report_of(alloc, &M)?.with_related(vec![in alloc; related]?))
+        }
         _ => {
             let below = stopping_report(alloc, &ONE, source)?;
             over(alloc, report_of(alloc, &APART)?, below)

@@ -35,7 +35,7 @@ pub const NAMES: [&str; 14] = [
 ];
 
 /// The handlers.
-pub const HANDLERS: [&str; 10] = [
+pub const HANDLERS: [&str; 11] = [
     "graphical",
     "nested",
     "highlighted",
@@ -43,6 +43,7 @@ pub const HANDLERS: [&str; 10] = [
     "wanting",
     "nested wanting",
     "chosen wanting",
+    "chosen narrated",
     "narrated",
     "json",
     "debug",
@@ -239,10 +240,11 @@ pub fn rendered<W: Write>(
         "debug" => behind(alloc, out, &mut DebugReportHandler::new(), report),
         "wanting" => drawn(alloc, out, Red(2), false, (report, lines)),
         "nested wanting" => drawn(alloc, out, Red(2), true, (report, lines)),
-        "chosen wanting" => chosen(alloc, out, Red(2), (report, lines)),
+        "chosen wanting" => chosen(alloc, out, Red(2), false, (report, lines)),
         "highlighted" => drawn(alloc, out, Red(usize::MAX), false, (report, lines)),
         "nested" => drawn(alloc, out, Red(usize::MAX), true, (report, lines)),
-        "chosen" => chosen(alloc, out, Red(usize::MAX), (report, lines)),
+        "chosen" => chosen(alloc, out, Red(usize::MAX), false, (report, lines)),
+        "chosen narrated" => chosen(alloc, out, Red(usize::MAX), true, (report, lines)),
         _ => {
             let theme = GraphicalTheme::unicode(alloc)?;
             let mut drawing: GraphicalReportHandler<Red> = GraphicalReportHandler::themed(theme);
@@ -273,11 +275,13 @@ fn chosen<W: Write>(
     alloc: Global,
     out: &mut W,
     highlighter: Red,
+    narrated: bool,
     (report, lines): (&Made<'_>, usize),
 ) -> Done {
     let options: MietteHandlerOpts<Red> = MietteHandlerOpts::default();
     let mut handler = options
         .width(30)
+        .force_narrated(narrated)
         .context_lines(lines)
         .with_syntax_highlighting(highlighter)
         .build(alloc, &terminal(alloc)?)?;

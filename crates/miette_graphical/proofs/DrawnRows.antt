@@ -1,25 +1,27 @@
 -- The rows of snippets under answers: where nothing fails, they are those in which nothing is listed.
-use Rattle.std.proofs.Common.{◌≡◌, ◌≢◌, ℕ, Bool, true, false, ◌&&◌, ◌||◌, if◌then◌else◌, ◌⊎◌, inl, inr, List, [], ◌∷◌, refl, sym, ap, ap₂, ◌∙◌, subst, Option, Some, None, is_some, option_map, codes, length, ◌<◌, ◌≤◌, arith}
+use Rattle.std.proofs.Common.{◌≡◌, ◌≢◌, ℕ, Bool, true, false, ◌&&◌, ◌||◌, if◌then◌else◌, ◌⊎◌, inl, inr, List, [], ◌∷◌, refl, sym, ap, ap₂, ◌∙◌, subst, Option, Some, None, is_some, option_map, codes, length, ◌<◌, ◌≤◌, arith, ◌++◌}
 use Rattle.miette_protocol.specs.views.Meaning.{Label, Meaning}
 use Rattle.miette_protocol.specs.rules.Reading.{Source, Span}
 use Rattle.miette_text.specs.rules.Tame.{is_nil}
 use Rattle.miette_lines.specs.rules.Answers.{Highlight, NoneFails, AlwaysReads, next_answer, later_answers}
 use Rattle.miette_lines.specs.rules.Contexts.{is_accepted, contents, lines_of_contents}
+use Rattle.miette_style.specs.rules.Asked.{Call, Leads}
 use Rattle.miette_layout.specs.views.Drawn.{MayGive}
 use Rattle.miette_layout.specs.rules.Frames as frames
 use Rattle.miette_layout.specs.rules.Frames.{refused_row}
 use Rattle.miette_lines.specs.rules.Around.{has_own, group_context}
 use Rattle.miette_lines.specs.rules.Groups.{refusal, joins_before, joined, groups_from, groups_answered, own_groups, groups_of, some_fails, groups_fail, in_order, spans_of}
-use Rattle.miette_layout.specs.rules.Highlighted.{EachHasPieces, SnippetsHavePieces, texts_of}
+use Rattle.miette_layout.specs.rules.Highlighted.{EachHasPieces, SnippetsHavePieces, texts_of, group_calls, snippet_calls}
 use Rattle.miette_layout.specs.rules.Layout.{snippet_rows, rows_unless, rows_of_groups, settings_around, all_snippets}
 use Rattle.miette_page.specs.rules.Rows.{Row}
-use Rattle.miette_page.specs.views.Told.{Token, told_rows}
+use Rattle.miette_page.specs.views.Told.{told_rows}
+use Rattle.miette_page.specs.views.Printouts.{Printout, printout_of, ended, ◌⊕◌}
+use Rattle.miette_tree.specs.views.Handler.{AppendsOne}
 use Rattle.miette_graphical.specs.rules.Answers.{Answer, nothing_listed, pieces_listed}
 use Rattle.miette_graphical.specs.rules.Answered.{HasRows, HasPieces, IsAnswerOf, AreDrawn, IsDrawn}
 use Rattle.miette_graphical.specs.rules.Printed.{always_reads}
 use Rattle.miette_graphical.specs.rules.Parts.{rows_text}
 use Rattle.miette_tree.specs.rules.Parts.{given_labels}
-use Rattle.miette_graphical.specs.views.Printing.{page_text}
 use Rattle.miette_graphical.specs.rules.Settings.{Settings}
 use Rattle.miette_graphical.specs.rules.Snippets.{layout_settings, shown_rows, drawn_rows}
 use Rattle.miette_graphical.proofs.Printed.{rows_printed}
@@ -72,7 +74,7 @@ unread_none : (context : ℕ) (source : Source) (fails : List Bool) (labels : Li
 unread_none context source fails labels h = and_none (has_own labels) (some_fails fails (groups_of context source fails labels)) (places_none fails (groups_of context source fails labels) h)
 
 -- the rows of groups where nothing fails
-groups_given : (s : frames.Settings) (source : Source) (labels : List Label) (a : Answer) → AlwaysReads a →
+pub groups_given : (s : frames.Settings) (source : Source) (labels : List Label) (a : Answer) → AlwaysReads a →
     rows_of_groups s source labels a (groups_of s.context source a.join_fails labels)
     ≡ Some (all_snippets (settings_around s labels) source labels a.pieces (groups_of s.context source [] labels))
 groups_given s source labels a h =
@@ -134,24 +136,29 @@ decide : (b : Bool) → (b ≡ true) ⊎ (b ≡ false)
 decide true = inl refl
 decide false = inr refl
 
-page_given : (rows : Option (List Row)) (page : List Token) → Some page ≡ option_map told_rows rows → page_text page ≡ rows_text (shown_rows rows)
-page_given None page e = absurd (cc)
-page_given (Some rows) page e = let same : page ≡ told_rows rows = cc in ap page_text same ∙ rows_printed rows
+page_given : (text : List ℕ) (rows : Option (List Row)) (page : Printout) → Some page ≡ option_map (λ rows. printout_of text ⊕ told_rows rows) rows → ended page ≡ text ++ rows_text (shown_rows rows)
+page_given text None page e = absurd (cc)
+page_given text (Some rows) page e = let same : page ≡ printout_of text ⊕ told_rows rows = cc in ap ended same ∙ rows_printed text rows
 
-rows_some : (rows : Option (List Row)) (page : List Token) → Some page ≡ option_map told_rows rows → is_some rows ≡ true
-rows_some None page e = absurd (cc)
-rows_some (Some rows) page e = refl
+rows_some : (before : Printout) (rows : Option (List Row)) (page : Printout) → Some page ≡ option_map (λ rows. before ⊕ told_rows rows) rows → is_some rows ≡ true
+rows_some before None page e = absurd (cc)
+rows_some before (Some rows) page e = refl
 
-rows_none : (rows : Option (List Row)) → None ≡ option_map told_rows rows → rows ≡ None
-rows_none None e = refl
-rows_none (Some rows) e = absurd (cc)
+rows_none : (before : Printout) (rows : Option (List Row)) → None ≡ option_map (λ rows. before ⊕ told_rows rows) rows → rows ≡ None
+rows_none before None e = refl
+rows_none before (Some rows) e = absurd (cc)
 
-pub drawn_page : (s : Settings) (source : Source) (labels : List Label) (blank : Bool) (page : List Token) (text : List ℕ) →
-    MayGive (layout_settings s) source labels blank (Some page) → text ≡ page_text page → AreDrawn s blank source labels text
-drawn_page s source labels blank page text g e =
+-- the calls for the snippets of some labels where no read failed
+calls_same : (context : ℕ) (source : Source) (labels : List Label) (a : Answer) → AlwaysReads a → snippet_calls context source labels a ≡ snippet_calls context source labels (pieces_listed a.pieces)
+calls_same context source labels a h =
+    ap₂ (λ r groups. if is_some r then [] else group_calls (group_context context (in_order labels)) source groups a.pieces)
+    (refusal_none source.bytes a.label_fails (in_order labels) h.labels) (grouped_none context source a.join_fails (in_order labels) h.joins)
+
+drawn_text : {happen : List Call → Type 0} (s : Settings) (source : Source) (labels : List Label) (blank : Bool) (before : List ℕ) (page : Printout) →
+    (g : MayGive (layout_settings s) source labels blank happen (printout_of before) (Some page)) → AreDrawn s blank happen source labels (rows_text (drawn_rows s (Some source) labels g.answers))
+drawn_text {happen} s source labels blank before page g =
     let l = layout_settings s in
     let a = g.answers in
-    let shown : text ≡ rows_text (drawn_rows s (Some source) labels a) = e ∙ page_given (snippet_rows l source labels a) page g.is in
     elim (decide source.always_reads) [
       | inl reads ↦ (
         pieces_listed a.pieces,
@@ -161,38 +168,54 @@ drawn_page s source labels blank page text g e =
           pieces = subst (λ groups. SnippetsHavePieces (group_context l.context (in_order labels)) blank source groups a.pieces) (grouped_none l.context source a.join_fails (in_order labels) (g.always reads).joins) g.pieces;
           rows = always_rows l (Some source) labels a.pieces;
         },
-        shown ∙ ap (λ r. rows_text (shown_rows r)) (rows_same l source labels a (g.always reads)),
+        subst happen (calls_same s.context source labels a (g.always reads)) g.calls,
+        ap (λ r. rows_text (shown_rows r)) (rows_same l source labels a (g.always reads)),
       )
       | inr fails ↦ (
         a,
-        record { read = λ h. absurd (cc); plain = g.plain; pieces = g.pieces; rows = rows_some (snippet_rows l source labels a) page g.is },
-        shown,
+        record { read = λ h. absurd (cc); plain = g.plain; pieces = g.pieces; rows = rows_some (printout_of before) (snippet_rows l source labels a) page g.is },
+        g.calls,
+        refl,
       )
     ]
 
-pub refused_page : (s : Settings) (source : Source) (labels : List Label) (blank : Bool) → MayGive (layout_settings s) source labels blank None → source.always_reads ≡ false
-refused_page s source labels blank g =
+pub drawn_page : {happen : List Call → Type 0} (s : Settings) (source : Source) (labels : List Label) (blank : Bool) (before : List ℕ) (page : Printout) →
+    MayGive (layout_settings s) source labels blank happen (printout_of before) (Some page) → AppendsOne (AreDrawn s blank happen source labels) before (ended page)
+drawn_page {happen} s source labels blank before page g =
+    let l = layout_settings s in
+    let a = g.answers in
+    let text : List ℕ = rows_text (drawn_rows s (Some source) labels a) in
+    record { text = text; is_given = drawn_text s source labels blank before page g; appended = page_given before (snippet_rows l source labels a) page g.is }
+
+pub refused_page : {happen : List Call → Type 0} (s : Settings) (source : Source) (labels : List Label) (blank : Bool) (before : Printout) → MayGive (layout_settings s) source labels blank happen before None → source.always_reads ≡ false
+refused_page s source labels blank before g =
     elim (decide source.always_reads) [
-      | inl reads ↦ absurd (no_rows_fail (layout_settings s) source labels g.answers (g.always reads) (rows_none (snippet_rows (layout_settings s) source labels g.answers) g.is))
+      | inl reads ↦ absurd (no_rows_fail (layout_settings s) source labels g.answers (g.always reads) (rows_none before (snippet_rows (layout_settings s) source labels g.answers) g.is))
       | inr fails ↦ fails
     ]
 
 -- ---- a diagnostic's snippets
 
-pub drawn_nowhere : (s : Settings) (blank : Bool) (m : Meaning) (text : List ℕ) → text ≡ [] → IsDrawn drawn_rows s blank None m text
-drawn_nowhere s blank m text e = (nothing_listed, unlisted_is (layout_settings s) blank None (given_labels m.labels) (always_reads None m), e)
+pub drawn_nowhere : (s : Settings) (blank : Bool) (now : List Call → Type 0) (m : Meaning) (text : List ℕ) → text ≡ [] → IsDrawn drawn_rows s blank (λ calls. Leads now calls now) None m text
+drawn_nowhere s blank now m text e = (nothing_listed, unlisted_is (layout_settings s) blank None (given_labels m.labels) (always_reads None m), (λ later h. h), e)
 
-pub drawn_unlabelled : (s : Settings) (blank : Bool) (source : Source) (m : Meaning) (text : List ℕ) → given_labels m.labels ≡ [] → text ≡ [] → IsDrawn drawn_rows s blank (Some source) m text
-drawn_unlabelled s blank source m text e t =
-    (nothing_listed, unlisted_is (layout_settings s) blank (Some source) (given_labels m.labels) (always_reads (Some source) m), t ∙ ap (λ ls. rows_text (drawn_rows s (Some source) ls nothing_listed)) (sym e))
+pub drawn_unlabelled : (s : Settings) (blank : Bool) (now : List Call → Type 0) (source : Source) (m : Meaning) (text : List ℕ) → given_labels m.labels ≡ [] → text ≡ [] →
+    IsDrawn drawn_rows s blank (λ calls. Leads now calls now) (Some source) m text
+drawn_unlabelled s blank now source m text e t = (
+  nothing_listed,
+  unlisted_is (layout_settings s) blank (Some source) (given_labels m.labels) (always_reads (Some source) m),
+  subst (λ (ls : List Label). Leads now (snippet_calls s.context source ls nothing_listed) now) (sym e) (λ later h. h),
+  t ∙ ap (λ ls. rows_text (drawn_rows s (Some source) ls nothing_listed)) (sym e),
+)
 
 reads_some : (source : Source) (labels : List Label) → labels ≢ [] → (if is_nil labels then true else source.always_reads) ≡ source.always_reads
 reads_some source [] h = absurd (h refl)
 reads_some source (label ∷ labels) h = refl
 
-pub drawn_labelled : (s : Settings) (blank : Bool) (source : Source) (m : Meaning) (text : List ℕ) → given_labels m.labels ≢ [] → AreDrawn s blank source (given_labels m.labels) text → IsDrawn drawn_rows s blank (Some source) m text
-drawn_labelled s blank source m text some d =
-    (d.0, record { read = λ h. d.1.read (sym (reads_some source (given_labels m.labels) some) ∙ h); plain = d.1.plain; pieces = d.1.pieces; rows = d.1.rows }, d.2)
+pub drawn_labelled : (happen : List Call → Type 0) (s : Settings) (blank : Bool) (source : Source) (m : Meaning) (text : List ℕ) → given_labels m.labels ≢ [] → AreDrawn s blank happen source (given_labels m.labels) text →
+    IsDrawn drawn_rows s blank happen (Some source) m text
+drawn_labelled happen s blank source m text some d =
+    (d.0, record { read = λ h. d.1.read (sym (reads_some source (given_labels m.labels) some) ∙ h); plain = d.1.plain; pieces = d.1.pieces; rows = d.1.rows }, d.2, d.3)
 
 pub refused_labelled : (source : Source) (m : Meaning) → given_labels m.labels ≢ [] → source.always_reads ≡ false → always_reads (Some source) m ≡ false
 refused_labelled source m some e = reads_some source (given_labels m.labels) some ∙ e

@@ -4,7 +4,7 @@ use Rattle.miette_text.specs.rules.Sequences.{tokens, erase}
 use Rattle.miette_text.specs.rules.Tame.{IsTame, AllTame}
 use Rattle.miette_text.specs.rules.Runs.{Run, HaveNoEscape, plain_run, print}
 use Rattle.miette_text.specs.rules.Cutting.{without_leading, without_trailing}
-use Rattle.miette_text.specs.rules.Wrapping.{Layout, columns_of, wrapped}
+use Rattle.miette_text.specs.rules.Wrapping.{Plan, columns_of, wrapped}
 use Rattle.miette_graphical.proofs.TextLaws.{TextLaws, plain-tame, plain-erase}
 use Rattle.miette_graphical.specs.rules.Settings.{Settings}
 use Rattle.miette_layout.specs.laws.Clean.{IsClean}
@@ -51,22 +51,22 @@ module _ (laws : TextLaws) where
   fades-only_if true x y h = h
   fades-only_if false x y h = fades-clean [] refl
 
-  abbrev layout : Settings → List ℕ → List ℕ → Layout
-  layout s first further = record { room = s.width - 2; first = first; further = further; breaks = s.breaks; wraps = s.wraps; hyphens = s.hyphens }
+  abbrev plan : Settings → List ℕ → List ℕ → Plan (List ℕ)
+  plan s first further = record { room = s.width - 2; first = first; further = further; breaks = s.breaks; wraps = s.wraps; hyphens = s.hyphens }
 
   pub fades-under : (s : Settings) (f f2 g g2 : List Run) (x y : List ℕ) → Pales f f2 → Pales g g2 → Fades x y →
       Fades (wrapped_under s f g x) (wrapped_under (colourless s) f2 g2 y)
   fades-under s f f2 g g2 x y a b h =
       let p = fades-print f f2 a in
       let q = fades-print g g2 b in
-      let all : AllTame (layout s (print f) (print g)) x = record { first = p.tame; further = q.tame; inner = h.tame } in
+      let all : AllTame (plan s (print f) (print g)) x = record { first = p.tame; further = q.tame; inner = h.tame } in
       record {
-        tame = laws.wrapped-tame (layout s (print f) (print g)) x all;
+        tame = laws.wrapped-tame (plan s (print f) (print g)) x all;
         same =
-            laws.erase-wrapped (layout s (print f) (print g)) x all
-            ∙ ap (λ t. wrapped (layout s t (erase (print g))) (erase x)) p.same
-            ∙ ap (λ t. wrapped (layout s (print f2) t) (erase x)) q.same
-            ∙ ap (λ t. wrapped (layout s (print f2) (print g2)) t) h.same;
+            laws.erase-wrapped (plan s (print f) (print g)) x all
+            ∙ ap (λ t. wrapped (plan s t (erase (print g))) (erase x)) p.same
+            ∙ ap (λ t. wrapped (plan s (print f2) t) (erase x)) q.same
+            ∙ ap (λ t. wrapped (plan s (print f2) (print g2)) t) h.same;
       }
 
   -- Colours have no columns.

@@ -18,3 +18,4 @@ pub mod SnippetsFading
 pub mod Styled
 pub mod Themes
 pub mod Rendered
+pub mod Stateless

@@ -1,57 +1,49 @@
--- What a page prints, part by part, and that it is what its rows print.
-use Rattle.std.proofs.Common.{◌≡◌, ℕ, false, List, [], ◌∷◌, ◌++◌, map, refl, sym, ap, ◌∙◌, append_assoc, append-nil, chars, encode_utf8_all}
-use Rattle.std.proofs.lemmas.Str.{chars-nil}
-use Rattle.miette_text.specs.rules.Runs.{print, printed_run}
-use Rattle.miette_style.specs.rules.Styles.{plain}
+-- What is printed behind a text as its rows are made is what these rows print.
+use Rattle.std.proofs.Common.{◌≡◌, ℕ, true, List, [], ◌∷◌, ◌++◌, map, refl, sym, ap, ◌∙◌, append_assoc, append-nil}
+use Rattle.miette_text.specs.rules.Runs.{print, printed_run, style_codes, colour_start, colour_stop}
 use Rattle.miette_style.specs.declared.style.Style.{Style}
-use Rattle.miette_page.specs.rules.Rows.{Row}
-use Rattle.miette_page.specs.views.Told.{Token, begins, byte, row_end, bytes_told, told, told_rows}
-use Rattle.miette_page.specs.views.PageParts.{part_told, begins_with_byte, EndsBefore}
-use Rattle.miette_page.specs.declared.page.Part.{Part}
-use Rattle.miette_page.specs.declared.page.Part.TheVariants as parts
+use Rattle.miette_page.specs.rules.Rows.{Row, Run}
+use Rattle.miette_page.specs.views.Printouts.{Printout, printout_of, start_of, stop_of, ended, put, ◌⊕◌}
+use Rattle.miette_page.specs.views.Told.{Token, begins, row_end, told, told_run, told_rows, run_told, text_told}
+use Rattle.miette_page.proofs.Paging.{put_append, text_put}
 use Rattle.miette_graphical.specs.rules.Parts.{rows_text}
-use Rattle.miette_graphical.specs.views.Printing.{page_text_from, page_text, part_text}
+use Rattle.miette_graphical.proofs.SnippetsFading.{run_codes}
 use Rattle.miette_graphical.specs.rules.Snippets.{run_text, runs_of_row}
 
--- the bytes of a run are gathered
-gathered : (style : Style) (bytes more : List ℕ) (tokens : List Token) → page_text_from style bytes (bytes_told more ++ tokens) ≡ page_text_from style (bytes ++ more) tokens
-gathered style bytes [] tokens = ap (λ bs. page_text_from style bs tokens) (sym (append-nil bytes))
-gathered style bytes (b ∷ more) tokens =
-    gathered style (bytes ++ b ∷ []) more tokens ∙ ap (λ bs. page_text_from style bs tokens) (append_assoc bytes (b ∷ []) more)
+grouped : (a b c d : List ℕ) → ((a ++ b) ++ c) ++ d ≡ a ++ ((b ++ c) ++ d)
+grouped a b c d = ap (λ x. x ++ d) (append_assoc a b c) ∙ append_assoc a (b ++ c) d
 
--- no bytes print nothing
-pub nothing : printed_run plain (chars []) ≡ []
-nothing = ap (printed_run plain) chars-nil
+-- the characters of a run between what begins and ends its style
+between_by : (text : List ℕ) (style : Style) (c : ℕ) (cs : List ℕ) (codes : List (List ℕ)) →
+    ((text ++ elim codes [ [] ↦ [] | x ∷ xs ↦ colour_start style ]) ++ c ∷ cs) ++ elim codes [ [] ↦ [] | x ∷ xs ↦ colour_stop ]
+    ≡ text ++ elim codes [ [] ↦ c ∷ cs | x ∷ xs ↦ colour_start style ++ (c ∷ cs) ++ colour_stop ]
+between_by text style c cs [] = append-nil ((text ++ []) ++ c ∷ cs) ∙ ap (λ t. t ++ c ∷ cs) (append-nil text)
+between_by text style c cs (x ∷ xs) = grouped text (colour_start style) (c ∷ cs) colour_stop
 
--- a run ends where no byte follows
-ended : (style : Style) (bytes : List ℕ) (tokens : List Token) → begins_with_byte tokens ≡ false → page_text_from style bytes tokens ≡ printed_run style (chars bytes) ++ page_text tokens
-ended style bytes [] h = sym (append-nil (printed_run style (chars bytes))) ∙ ap (λ t. printed_run style (chars bytes) ++ t) (sym nothing)
-ended style bytes (begins next ∷ tokens) h = ap (λ t. printed_run style (chars bytes) ++ (t ++ page_text_from next [] tokens)) (sym nothing)
-ended style bytes (row_end ∷ tokens) h = ap (λ t. printed_run style (chars bytes) ++ (t ++ 10 ∷ page_text tokens)) (sym nothing)
-ended style bytes (byte b ∷ tokens) h = absurd (cc)
+between : (text : List ℕ) (style : Style) (c : ℕ) (cs : List ℕ) → ((text ++ start_of style) ++ c ∷ cs) ++ stop_of style ≡ text ++ printed_run style (c ∷ cs)
+between text style c cs = between_by text style c cs (style_codes style)
 
-pub part_step : (part : Part) (old new : List Token) → old ≡ part_told part ++ new → EndsBefore part new → page_text old ≡ part_text part ++ page_text new
-part_step (parts.Run style text) old new e h =
-    ap page_text e ∙ ap (λ t. t ++ page_text_from style [] (bytes_told text.now ++ new)) nothing
-    ∙ gathered style [] text.now new ∙ ended style text.now new h
-part_step (parts.Loose text) old new e h = ap page_text e ∙ gathered plain [] text.now new ∙ ended plain text.now new h
-part_step parts.RowEnd old new e h = ap page_text e ∙ ap (λ t. t ++ 10 ∷ page_text new) nothing
+-- a run
+run_put : (p : Printout) (style : Style) (codes : List ℕ) → ended (p ⊕ run_told style codes) ≡ ended p ++ printed_run style codes
+run_put p style [] = sym (append-nil (ended p))
+run_put p style (c ∷ cs) = ap ended (text_put (put p (begins style)) c cs) ∙ between (ended p) style c cs
 
-row_printed : (style : Style) (bytes : List ℕ) (row : Row) (tokens : List Token) →
-    page_text_from style bytes (told row ++ row_end ∷ tokens) ≡ printed_run style (chars bytes) ++ (print (runs_of_row row) ++ 10 ∷ page_text tokens)
-row_printed style bytes [] tokens = refl
-row_printed style bytes (run ∷ row) tokens =
-    let text = encode_utf8_all (map (λ p. p.code) run.pieces) in
-    ap (λ ts. printed_run style (chars bytes) ++ page_text_from run.style [] ts) (append_assoc (bytes_told text) (told row) (row_end ∷ tokens))
-    ∙ ap (λ t. printed_run style (chars bytes) ++ t)
-    (gathered run.style [] text (told row ++ row_end ∷ tokens)
-    ∙ row_printed run.style text row tokens
-    ∙ sym (append_assoc (printed_run run.style (run_text run)) (print (runs_of_row row)) (10 ∷ page_text tokens)))
+-- a row without its end
+row_put : (p : Printout) (row : Row) → ended (p ⊕ told row) ≡ ended p ++ print (runs_of_row row)
+row_put p [] = sym (append-nil (ended p))
+row_put p (run ∷ row) =
+    ap ended (sym (put_append p (told_run run) (told row)))
+    ∙ row_put (p ⊕ told_run run) row
+    ∙ ap (λ t. t ++ print (runs_of_row row)) (run_put p run.style (map (λ p. p.code) run.pieces) ∙ ap (λ codes. ended p ++ printed_run run.style codes) (sym (run_codes run)))
+    ∙ append_assoc (ended p) (printed_run run.style (run_text run)) (print (runs_of_row row))
 
-pub rows_printed : (rows : List Row) → page_text (told_rows rows) ≡ rows_text (map runs_of_row rows)
-rows_printed [] = nothing
-rows_printed (row ∷ rows) =
-    row_printed plain [] row (told_rows rows)
-    ∙ ap (λ t. t ++ (print (runs_of_row row) ++ 10 ∷ page_text (told_rows rows))) nothing
-    ∙ ap (λ t. print (runs_of_row row) ++ 10 ∷ t) (rows_printed rows)
-    ∙ sym (append_assoc (print (runs_of_row row)) (10 ∷ []) (rows_text (map runs_of_row rows)))
+-- rows, where a row begins
+pub rows_printed : (text : List ℕ) (rows : List Row) → ended (printout_of text ⊕ told_rows rows) ≡ text ++ rows_text (map runs_of_row rows)
+rows_printed text [] = sym (append-nil text)
+rows_printed text (row ∷ rows) =
+    ap ended (sym (put_append (printout_of text) (told row) (row_end ∷ told_rows rows)))
+    ∙ rows_printed (ended (printout_of text ⊕ told row) ++ 10 ∷ []) rows
+    ∙ ap (λ t. (t ++ 10 ∷ []) ++ rows_text (map runs_of_row rows)) (row_put (printout_of text) row)
+    ∙ append_assoc (text ++ print (runs_of_row row)) (10 ∷ []) (rows_text (map runs_of_row rows))
+    ∙ append_assoc text (print (runs_of_row row)) (10 ∷ rows_text (map runs_of_row rows))
+    ∙ ap (λ t. text ++ t) (sym (append_assoc (print (runs_of_row row)) (10 ∷ []) (rows_text (map runs_of_row rows))))

@@ -1,6 +1,7 @@
 -- What is known of the bytes that a handler appended for a tree.
 use Rattle.std.proofs.Common.{◌≡◌, ◌∙◌, ap, subst, ℕ, Bool, true, List, ◌++◌, Result, Ok, Err, OnOk, encode_utf8_all}
-use Rattle.miette_graphical.specs.rules.Answered.{Appends, IsReport, IsTextOf}
+use Rattle.miette_style.specs.rules.Asked.{Call}
+use Rattle.miette_graphical.specs.rules.Answered.{Appends, AppendsAsked, IsReport, IsTextOf}
 use Rattle.miette_graphical.specs.rules.Answers.{unlisted}
 use Rattle.miette_graphical.specs.rules.Printed.{all_read, printed}
 use Rattle.miette_graphical.specs.rules.Settings.{Settings}
@@ -9,10 +10,24 @@ use Rattle.miette_graphical.specs.rules.Text.{report_text}
 use Rattle.miette_graphical.specs.laws.Clean.{AreCleanSettings, IsCleanTree}
 use Rattle.miette_graphical.specs.laws.Colourless.{IsColouredText, IsRestyledText, colourless}
 use Rattle.miette_text.specs.rules.Sequences.{erase}
-use Rattle.miette_text.specs.views.Filling.{AppendsErasing}
+use Rattle.miette_text.specs.rules.Tame.{AppendsErasing}
 use Rattle.miette_tree.specs.rules.Tree.{Tree}
 use Rattle.miette_tree.specs.views.Handler.{AppendsOne}
 use Rattle.miette_graphical.proofs.Only.{same-report}
+
+-- by whatever calls
+pub unasked : (s : Settings) (blank : Bool) (happen : List Call → Type 0) (t : Tree) (old new : List ℕ) → AppendsAsked drawn_rows s blank happen t old new → Appends drawn_rows s blank t old new
+unasked s blank happen t old new ok =
+    let given = ok.is_given.1 in record {
+      text = ok.text;
+      is_given = (ok.is_given.0, (given.0, given.1, given.3), ok.is_given.2);
+      appended = ok.appended;
+    }
+
+pub rendered-ok : {A E : Type 0} (r : Result A E) (s : Settings) (blank : Bool) (happen : List Call → Type 0) (t : Tree) (old new : List ℕ) → OnOk r (AppendsAsked drawn_rows s blank happen t old new)
+    → OnOk r (Appends drawn_rows s blank t old new)
+rendered-ok (Err e) s blank happen t old new ok = tt
+rendered-ok (Ok x) s blank happen t old new ok = unasked s blank happen t old new ok
 
 only-text : (s : Settings) (blank : Bool) (t : Tree) (old new : List ℕ) → Appends drawn_rows s blank t old new → blank ≡ true → all_read (printed s t) ≡ true
     → new ≡ old ++ encode_utf8_all (report_text drawn_rows s t unlisted)

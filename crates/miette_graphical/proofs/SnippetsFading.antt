@@ -91,7 +91,7 @@ encoded (c ∷ cs) = reads c (encode_utf8_all cs) ∙ ap (λ xs. c ∷ xs) (enco
 abbrev codes_of : List Piece → List ℕ
 codes_of pieces = map (λ p. p.code) pieces
 
-run_codes : (run : Run) → run_text run ≡ codes_of run.pieces
+pub run_codes : (run : Run) → run_text run ≡ codes_of run.pieces
 run_codes run = encoded (codes_of run.pieces)
 
 plain_print : (text : List ℕ) → printed_run plain text ≡ text

@@ -21,7 +21,9 @@ use Rattle.miette_graphical.proofs.DrawnRows.{unlisted_is}
 use Rattle.miette_graphical.proofs.Lists.{first_fails, later_fails}
 use Rattle.miette_graphical.proofs.Outermost.{report_over}
 use Rattle.miette_tree.specs.views.Handler.{AppendsOne}
-use Rattle.miette_graphical.specs.rules.Answered.{IsAnswer, AreCauseAnswers, AreRelatedAnswers, IsDrawn, AreCauses, AreRelated, IsInner, IsSibling, IsOneCause, IsNested, IsOneRelated, AreRootCauses, IsBelow, IsReport}
+use Rattle.miette_graphical.specs.rules.Answered.{IsAnswer, AreCauseAnswers, AreRelatedAnswers, IsDrawn, AreCauses, AreRelated, IsInner, IsSibling, IsOneCause, IsNested, IsOneRelated, AreRootCauses, IsBelow, IsAskedReport}
+use Rattle.miette_graphical.specs.rules.Calls.{own_calls, cause_calls, related_calls}
+use Rattle.miette_style.specs.rules.Asked.{Call, Leads}
 
 pub not_last : {R : Type 0} (value : R → Tree) (rs : List R) → 1 ≤ length rs → false ≡ are_last (trees (map value rs))
 not_last value [] h = absurd (omega arith)
@@ -52,80 +54,98 @@ mutual
     related-unlisted l blank inherited ts,
   )
 
+-- ---- calls
+
+pub leads_none : (a : List Call → Type 0) → Leads a [] a
+leads_none a = λ later h. h
+
+pub leads_on : (a b c : List Call → Type 0) (xs ys : List Call) → Leads a xs b → Leads b ys c → Leads a (xs ++ ys) c
+leads_on a b c xs ys h k = λ later n. subst a (sym (append_assoc xs ys later)) (h (ys ++ later) (k later n))
+
 -- ---- texts
 
-pub causes_none : (rows : SnippetRows) (s : Settings) (blank : Bool) (outer : Option Severity) (inherited : Option Source) (ts : List (List ℕ)) (text : List ℕ) →
-    text ≡ causes_text rows s outer inherited (texts ts) unlisted → AreCauses rows s blank outer inherited (texts ts) text
-causes_none rows s blank outer inherited ts text e = (unlisted, tt, e)
+pub causes_none : (rows : SnippetRows) (s : Settings) (blank : Bool) (now : List Call → Type 0) (outer : Option Severity) (inherited : Option Source) (ts : List (List ℕ)) (text : List ℕ) →
+    text ≡ causes_text rows s outer inherited (texts ts) unlisted → AreCauses rows s blank (λ calls. Leads now calls now) outer inherited (texts ts) text
+causes_none rows s blank now outer inherited ts text e = (unlisted, tt, leads_none now, e)
 
-pub cause_step : (rows : SnippetRows) (s : Settings) (blank : Bool) (outer : Option Severity) (inherited : Option Source) (t : Tree) (one more : List ℕ) →
-    IsOneCause rows s blank outer inherited t one → AreCauses rows s blank outer inherited (cause_of t) more →
-    AreCauses rows s blank outer inherited (diagnostic t) (one ++ more)
-cause_step rows s blank outer inherited (tree m own c r) one more p q = (
+pub cause_step : (rows : SnippetRows) (s : Settings) (blank : Bool) (begun mid now : List Call → Type 0) (outer : Option Severity) (inherited : Option Source) (t : Tree) (one more : List ℕ) →
+    IsOneCause rows s blank (λ calls. Leads begun calls mid) outer inherited t one → AreCauses rows s blank (λ calls. Leads mid calls now) outer inherited (cause_of t) more →
+    AreCauses rows s blank (λ calls. Leads begun calls now) outer inherited (diagnostic t) (one ++ more)
+cause_step rows s blank begun mid now outer inherited (tree m own c r) one more p q = (
   listed p.1.0 q.0 p.1.1,
   (p.1.2, p.1.3, q.1),
-  ap₂ (λ x y. x ++ y) (p.2 ∙ ap (under_arrow s outer (ends_there c)) p.1.4) q.2,
+  leads_on begun mid now (own_calls s.context (effective own inherited) m p.1.0 ++ related_calls s.context s.nested (effective own inherited) r p.1.1) (cause_calls s.context s.nested inherited c q.0) p.1.4 q.2,
+  ap₂ (λ x y. x ++ y) (p.2 ∙ ap (under_arrow s outer (ends_there c)) p.1.5) q.3,
 )
 
-pub none_related : {R : Type 0} (rows : SnippetRows) (s : Settings) (blank : Bool) (outer : Option Severity) (inherited : Option Source) (value : R → Tree) (rs : List R) (text : List ℕ) →
-    length rs < 1 → text ≡ [] → AreRelated rows s blank outer inherited (trees (map value rs)) text
-none_related rows s blank outer inherited value [] text h e = (no_more, tt, e)
-none_related rows s blank outer inherited value (r ∷ rs) text h e = absurd (omega arith)
+pub none_related : {R : Type 0} (rows : SnippetRows) (s : Settings) (blank : Bool) (now : List Call → Type 0) (outer : Option Severity) (inherited : Option Source) (value : R → Tree) (rs : List R) (text : List ℕ) →
+    length rs < 1 → text ≡ [] → AreRelated rows s blank (λ calls. Leads now calls now) outer inherited (trees (map value rs)) text
+none_related rows s blank now outer inherited value [] text h e = (no_more, tt, leads_none now, e)
+none_related rows s blank now outer inherited value (r ∷ rs) text h e = absurd (omega arith)
 
-pub inner_step : (rows : SnippetRows) (s : Settings) (blank : Bool) (source : Option Source) (t : Tree) (drawn : List ℕ) (related : List ℕ) →
-    IsDrawn rows s blank source (head t) drawn → AreRelated rows s blank (head t).severity source (related_of t) related →
-    IsInner rows s blank source t (inner_over s (head t) drawn related)
-inner_step rows s blank source (tree m own c r) drawn related p q =
-    (p.0, q.0, p.1, q.1, ap₂ (inner_over s m) p.2 q.2)
+-- the texts of what stands below a tree's causes
+abbrev pub below_drawn : (rows : SnippetRows) (s : Settings) (blank : Bool) (happen : List Call → Type 0) (source : Option Source) (t : Tree) (text : List ℕ) → IsBelow rows s blank happen source t text → List ℕ
+below_drawn rows s blank happen source t text p = rows_text (rows s source (given_labels (head t).labels) p.0)
 
-pub sibling_step : (rows : SnippetRows) (s : Settings) (blank : Bool) (source : Option Source) (t : Tree) (drawn : List ℕ) (causes related : List ℕ) →
-    IsDrawn rows s blank source (head t) drawn → AreCauses rows s blank (head t).severity source (cause_of t) causes →
-    AreRelated rows s blank (head t).severity source (related_of t) related →
-    IsSibling rows s blank source t (title_text s (head t) ++ body_over s (head t) drawn causes related)
-sibling_step rows s blank source (tree m own c r) drawn causes related p q k = (
+abbrev pub below_related : (rows : SnippetRows) (s : Settings) (blank : Bool) (happen : List Call → Type 0) (source : Option Source) (t : Tree) (text : List ℕ) → IsBelow rows s blank happen source t text → List ℕ
+below_related rows s blank happen source t text p = related_text rows s (head t).severity source (related_of t) p.1
+
+pub inner_step : (rows : SnippetRows) (s : Settings) (blank : Bool) (happen : List Call → Type 0) (source : Option Source) (t : Tree) (text : List ℕ) (p : IsBelow rows s blank happen source t text) →
+    IsInner rows s blank happen source t (inner_over s (head t) (below_drawn rows s blank happen source t text p) (below_related rows s blank happen source t text p))
+inner_step rows s blank happen source (tree m own c r) text p = (p.0, p.1, p.2, p.3, p.4, refl)
+
+pub sibling_step : (rows : SnippetRows) (s : Settings) (blank : Bool) (begun mid now : List Call → Type 0) (source : Option Source) (t : Tree) (causes text : List ℕ) →
+    AreCauses rows s blank (λ calls. Leads begun calls mid) (head t).severity source (cause_of t) causes → (p : IsBelow rows s blank (λ calls. Leads mid calls now) source t text) →
+    IsSibling rows s blank (λ calls. Leads begun calls now) source t
+    (title_text s (head t) ++ body_over s (head t) (below_drawn rows s blank (λ calls. Leads mid calls now) source t text p) causes (below_related rows s blank (λ calls. Leads mid calls now) source t text p))
+sibling_step rows s blank begun mid now source (tree m own c r) causes text q p = (
   p.0,
   q.0,
-  k.0,
   p.1,
+  p.2,
   q.1,
-  k.1,
-  ap (λ d. title_text s m ++ body_over s m d causes related) p.2
-      ∙ ap₂ (λ x y. title_text s m ++ body_over s m (rows_text (rows s source (given_labels m.labels) p.0)) x y) q.2 k.2,
+  p.3,
+  leads_on begun mid now (cause_calls s.context s.nested source c q.0) (own_calls s.context source m p.0 ++ related_calls s.context s.nested source r p.1) q.2 p.4,
+  ap (λ x. title_text s m ++ body_over s m (rows_text (rows s source (given_labels m.labels) p.0)) x (related_text rows s m.severity source r p.1)) q.3,
 )
 
 -- one of several related reports, with its answers in one
-one_by : (rows : SnippetRows) (s : Settings) (blank : Bool) (outer : Option Severity) (source : Option Source) (last : Bool) (m : Meaning) (own : Option Source) (c : Cause) (r : Trees) (text : List ℕ) (nested : Bool) →
-    MatchBool nested (IsNested rows s blank outer source last (tree m own c r) text) (IsSibling rows s blank source (tree m own c r) text) →
+one_by : (rows : SnippetRows) (s : Settings) (blank : Bool) (happen : List Call → Type 0) (outer : Option Severity) (source : Option Source) (last : Bool) (m : Meaning) (own : Option Source) (c : Cause) (r : Trees) (text : List ℕ) (nested : Bool) →
+    MatchBool nested (IsNested rows s blank happen outer source last (tree m own c r) text) (IsSibling rows s blank happen source (tree m own c r) text) →
     (a : Answers) × IsAnswer (layout_settings s) blank source m (own_answer a) × AreCauseAnswers (layout_settings s) blank source c (cause_answers a) × AreRelatedAnswers (layout_settings s) blank source r (related_answers a)
+    × happen ((if nested then [] else cause_calls s.context s.nested source c (cause_answers a)) ++ (own_calls s.context source m (own_answer a) ++ related_calls s.context s.nested source r (related_answers a)))
     × (text ≡ (if nested then
     under_arrow s outer last (without_trailing (inner_text rows (narrowed s outer last) m source (own_answer a) (related_text rows (narrowed s outer last) m.severity source r (related_answers a))))
     else title_text s m ++ body rows s m source (own_answer a) (causes_text rows s m.severity source c (cause_answers a)) (related_text rows s m.severity source r (related_answers a))))
-one_by rows s blank outer source last m own c r text true p =
-    (listed p.1.0 unlisted p.1.1, p.1.2, causes-unlisted (layout_settings s) blank source c, p.1.3, p.2 ∙ ap (λ x. under_arrow s outer last (without_trailing x)) p.1.4)
-one_by rows s blank outer source last m own c r text false p = (listed p.0 p.1 p.2, p.3, p.4, p.5, p.6)
+one_by rows s blank happen outer source last m own c r text true p =
+    (listed p.1.0 unlisted p.1.1, p.1.2, causes-unlisted (layout_settings s) blank source c, p.1.3, p.1.4, p.2 ∙ ap (λ x. under_arrow s outer last (without_trailing x)) p.1.5)
+one_by rows s blank happen outer source last m own c r text false p = (listed p.0 p.1 p.2, p.3, p.4, p.5, p.6, p.7)
 
-pub related_step : (rows : SnippetRows) (s : Settings) (blank : Bool) (outer : Option Severity) (inherited : Option Source) (t : Tree) (ts : Trees) (one more : List ℕ) →
-    IsOneRelated rows s blank outer (effective (source_of t) inherited) (are_last ts) t one → AreRelated rows s blank outer inherited ts more →
-    AreRelated rows s blank outer inherited (more_trees t ts) (one ++ more)
-related_step rows s blank outer inherited (tree m own c r) ts one more p q =
-    let k = one_by rows s blank outer (effective own inherited) (are_last ts) m own c r one s.nested p in
-    (and_more k.0 q.0, (k.1, k.2, k.3, q.1), ap₂ (λ x y. x ++ y) k.4 q.2)
+pub related_step : (rows : SnippetRows) (s : Settings) (blank : Bool) (begun mid now : List Call → Type 0) (outer : Option Severity) (inherited : Option Source) (t : Tree) (ts : Trees) (one more : List ℕ) →
+    IsOneRelated rows s blank (λ calls. Leads begun calls mid) outer (effective (source_of t) inherited) (are_last ts) t one → AreRelated rows s blank (λ calls. Leads mid calls now) outer inherited ts more →
+    AreRelated rows s blank (λ calls. Leads begun calls now) outer inherited (more_trees t ts) (one ++ more)
+related_step rows s blank begun mid now outer inherited (tree m own c r) ts one more p q =
+    let source = effective own inherited in
+    let k = one_by rows s blank (λ calls. Leads begun calls mid) outer source (are_last ts) m own c r one s.nested p in
+    let calls : List Call = (if s.nested then [] else cause_calls s.context s.nested source c (cause_answers k.0)) ++ (own_calls s.context source m (own_answer k.0) ++ related_calls s.context s.nested source r (related_answers k.0)) in
+    (and_more k.0 q.0, (k.1, k.2, k.3, q.1), leads_on begun mid now calls (related_calls s.context s.nested inherited ts q.0) k.4 q.2, ap₂ (λ x y. x ++ y) k.5 q.3)
 
-root_by : (rows : SnippetRows) (s : Settings) (blank : Bool) (m : Meaning) (own : Option Source) (c : Cause) (causes : List ℕ) (chain : Bool) →
-    MatchBool chain (AreCauses rows s blank m.severity own c causes) (causes ≡ []) →
-    (a : Answers) × (chain ≡ true → AreCauseAnswers (layout_settings s) blank own c a) × (causes ≡ only_if chain (causes_text rows s m.severity own c a))
-root_by rows s blank m own c causes true p = (p.0, λ h. p.1, p.2)
-root_by rows s blank m own c causes false p = (unlisted, λ h. causes-unlisted (layout_settings s) blank own c, p)
+root_by : (rows : SnippetRows) (s : Settings) (blank : Bool) (happen : List Call → Type 0) (m : Meaning) (own : Option Source) (c : Cause) (causes : List ℕ) (chain : Bool) →
+    MatchBool chain (AreCauses rows s blank happen m.severity own c causes) (happen [] × (causes ≡ [])) →
+    (a : Answers) × (chain ≡ true → AreCauseAnswers (layout_settings s) blank own c a) × happen (if chain then cause_calls s.context s.nested own c a else []) × (causes ≡ only_if chain (causes_text rows s m.severity own c a))
+root_by rows s blank happen m own c causes true p = (p.0, λ h. p.1, p.2, p.3)
+root_by rows s blank happen m own c causes false p = (unlisted, λ h. causes-unlisted (layout_settings s) blank own c, p.0, p.1)
 
-pub root_step : (rows : SnippetRows) (s : Settings) (blank : Bool) (t : Tree) (drawn : List ℕ) (causes related : List ℕ) →
-    IsDrawn rows s blank (source_of t) (head t) drawn → AreRootCauses rows s blank t causes → AreRelated rows s blank (head t).severity (source_of t) (related_of t) related →
-    IsReport rows s blank t (report_over s (head t) drawn causes related)
-root_step rows s blank (tree m own c r) drawn causes related p q k =
-    let b = root_by rows s blank m own c causes s.chain q in (
-      listed p.0 b.0 k.0,
-      (p.1, b.1, k.1),
-      ap (λ d. report_over s m d causes related) p.2
-          ∙ ap₂ (λ x y. report_over s m (rows_text (rows s own (given_labels m.labels) p.0)) x y) b.2 k.2,
+pub root_step : (rows : SnippetRows) (s : Settings) (blank : Bool) (begun mid now : List Call → Type 0) (t : Tree) (causes text : List ℕ) →
+    AreRootCauses rows s blank (λ calls. Leads begun calls mid) t causes → (p : IsBelow rows s blank (λ calls. Leads mid calls now) (source_of t) t text) →
+    IsAskedReport rows s blank (λ calls. Leads begun calls now) t
+    (report_over s (head t) (below_drawn rows s blank (λ calls. Leads mid calls now) (source_of t) t text p) causes (below_related rows s blank (λ calls. Leads mid calls now) (source_of t) t text p))
+root_step rows s blank begun mid now (tree m own c r) causes text q p =
+    let b = root_by rows s blank (λ calls. Leads begun calls mid) m own c causes s.chain q in (
+      listed p.0 b.0 p.1,
+      (p.2, b.1, p.3),
+      leads_on begun mid now (if s.chain then cause_calls s.context s.nested own c b.0 else []) (own_calls s.context own m p.0 ++ related_calls s.context s.nested own r p.1) b.2 p.4,
+      ap (λ x. report_over s m (rows_text (rows s own (given_labels m.labels) p.0)) x (related_text rows s m.severity own r p.1)) b.3,
     )
 
 -- ---- texts that are appended
@@ -137,35 +157,32 @@ behind old mid new first more p q = q ∙ ap (λ x. x ++ more) p ∙ append_asso
 pub nothing_behind : (P : List ℕ → Type 0) (old : List ℕ) → P [] → AppendsOne P old old
 nothing_behind P old p = record { text = []; is_given = p; appended = sym (append-nil old) }
 
-pub cause_texts_behind : (rows : SnippetRows) (s : Settings) (blank : Bool) (outer : Option Severity) (inherited : Option Source) (ts : List (List ℕ)) (old new : List ℕ) →
-    new ≡ old ++ cause_texts s outer ts → AppendsOne (AreCauses rows s blank outer inherited (texts ts)) old new
-cause_texts_behind rows s blank outer inherited ts old new e = record { text = cause_texts s outer ts; is_given = causes_none rows s blank outer inherited ts (cause_texts s outer ts) refl; appended = e }
+pub cause_texts_behind : (rows : SnippetRows) (s : Settings) (blank : Bool) (now : List Call → Type 0) (outer : Option Severity) (inherited : Option Source) (ts : List (List ℕ)) (old new : List ℕ) →
+    new ≡ old ++ cause_texts s outer ts → AppendsOne (AreCauses rows s blank (λ calls. Leads now calls now) outer inherited (texts ts)) old new
+cause_texts_behind rows s blank now outer inherited ts old new e = record { text = cause_texts s outer ts; is_given = causes_none rows s blank now outer inherited ts (cause_texts s outer ts) refl; appended = e }
 
-pub cause_behind : (rows : SnippetRows) (s : Settings) (blank : Bool) (outer : Option Severity) (inherited : Option Source) (t : Tree) (old mid new : List ℕ) →
-    AppendsOne (IsOneCause rows s blank outer inherited t) old mid → AppendsOne (AreCauses rows s blank outer inherited (cause_of t)) mid new →
-    AppendsOne (AreCauses rows s blank outer inherited (diagnostic t)) old new
-cause_behind rows s blank outer inherited t old mid new p q =
-    record { text = p.text ++ q.text; is_given = cause_step rows s blank outer inherited t p.text q.text p.is_given q.is_given; appended = behind old mid new p.text q.text p.appended q.appended }
+pub no_related_behind : {R : Type 0} (rows : SnippetRows) (s : Settings) (blank : Bool) (now : List Call → Type 0) (outer : Option Severity) (inherited : Option Source) (value : R → Tree) (rs : List R) (old : List ℕ) →
+    length rs < 1 → AppendsOne (AreRelated rows s blank (λ calls. Leads now calls now) outer inherited (trees (map value rs))) old old
+no_related_behind rows s blank now outer inherited value rs old h =
+    nothing_behind (AreRelated rows s blank (λ calls. Leads now calls now) outer inherited (trees (map value rs))) old (none_related rows s blank now outer inherited value rs [] h refl)
 
-pub no_related_behind : {R : Type 0} (rows : SnippetRows) (s : Settings) (blank : Bool) (outer : Option Severity) (inherited : Option Source) (value : R → Tree) (rs : List R) (old : List ℕ) →
-    length rs < 1 → AppendsOne (AreRelated rows s blank outer inherited (trees (map value rs))) old old
-no_related_behind rows s blank outer inherited value rs old h =
-    nothing_behind (AreRelated rows s blank outer inherited (trees (map value rs))) old (none_related rows s blank outer inherited value rs [] h refl)
-
-pub related_behind : (rows : SnippetRows) (s : Settings) (blank : Bool) (outer : Option Severity) (inherited : Option Source) (t : Tree) (ts : Trees) (old mid new : List ℕ) →
-    AppendsOne (IsOneRelated rows s blank outer (effective (source_of t) inherited) (are_last ts) t) old mid → AppendsOne (AreRelated rows s blank outer inherited ts) mid new →
-    AppendsOne (AreRelated rows s blank outer inherited (more_trees t ts)) old new
-related_behind rows s blank outer inherited t ts old mid new p q =
-    record { text = p.text ++ q.text; is_given = related_step rows s blank outer inherited t ts p.text q.text p.is_given q.is_given; appended = behind old mid new p.text q.text p.appended q.appended }
-
-pub below_behind : (rows : SnippetRows) (s : Settings) (blank : Bool) (source : Option Source) (t : Tree) (old drawn helped new : List ℕ) →
-    AppendsOne (IsDrawn rows s blank source (head t)) old drawn → helped ≡ drawn ++ help_text s (head t).help →
-    AppendsOne (AreRelated rows s blank (head t).severity source (related_of t)) helped new → AppendsOne (IsBelow rows s blank source t) old new
-below_behind rows s blank source t old drawn helped new p e q = record {
-  text = p.text ++ help_text s (head t).help ++ q.text;
-  is_given = (p.text, q.text, p.is_given, q.is_given, refl);
-  appended = behind old helped new (p.text ++ help_text s (head t).help) q.text (behind old drawn helped p.text (help_text s (head t).help) p.appended e) q.appended;
-}
+pub below_behind : (rows : SnippetRows) (s : Settings) (blank : Bool) (begun mid now : List Call → Type 0) (source : Option Source) (t : Tree) (old drawn helped new : List ℕ) →
+    AppendsOne (IsDrawn rows s blank (λ calls. Leads begun calls mid) source (head t)) old drawn → helped ≡ drawn ++ help_text s (head t).help →
+    AppendsOne (AreRelated rows s blank (λ calls. Leads mid calls now) (head t).severity source (related_of t)) helped new → AppendsOne (IsBelow rows s blank (λ calls. Leads begun calls now) source t) old new
+below_behind rows s blank begun mid now source t old drawn helped new p e q =
+    let own = p.is_given in
+    let more = q.is_given in record {
+      text = p.text ++ help_text s (head t).help ++ q.text;
+      is_given = (
+        own.0,
+        more.0,
+        own.1,
+        more.1,
+        leads_on begun mid now (own_calls s.context source (head t) own.0) (related_calls s.context s.nested source (related_of t) more.0) own.2 more.2,
+        ap₂ (λ x y. x ++ help_text s (head t).help ++ y) own.3 more.3,
+      );
+      appended = behind old helped new (p.text ++ help_text s (head t).help) q.text (behind old drawn helped p.text (help_text s (head t).help) p.appended e) q.appended;
+    }
 
 regrouped : (a b c d : List ℕ) → a ++ (b ++ c ++ d) ≡ a ++ b ++ c ++ d
 regrouped a b c d = sym (append_assoc a (b ++ c) d) ∙ ap (λ x. x ++ d) (sym (append_assoc a b c))
@@ -177,36 +194,39 @@ body_behind s m old told caused new drawn causes related below p q r e =
     behind old caused new (message_text s m ++ causes) below (behind old told caused (message_text s m) causes p q) r
     ∙ ap (λ x. old ++ x) (ap (λ x. message_text s m ++ causes ++ x) e ∙ regrouped (message_text s m ++ causes) drawn (help_text s m.help) related)
 
-pub inner_whole : (rows : SnippetRows) (s : Settings) (blank : Bool) (source : Option Source) (t : Tree) (old headed told new text : List ℕ) →
-    old ≡ [] → headed ≡ old ++ print (header s (head t)) → told ≡ headed ++ message_text s (head t) → AppendsOne (IsBelow rows s blank source t) told new →
-    text ≡ without_leading new → IsInner rows s blank source t text
-inner_whole rows s blank source t old headed told new text n h m p e =
-    let below = p.is_given in
-    let body : new ≡ headed ++ body_over s (head t) below.0 [] below.1 = body_behind s (head t) headed told told new below.0 [] below.1 p.text m (sym (append-nil told)) p.appended below.4 in
-    subst (λ x. IsInner rows s blank source t x)
-    (sym (e ∙ ap without_leading (body ∙ ap (λ x. x ++ body_over s (head t) below.0 [] below.1) (h ∙ ap (λ x. x ++ print (header s (head t))) n))))
-    (inner_step rows s blank source t below.0 below.1 below.2 below.3)
+pub inner_whole : (rows : SnippetRows) (s : Settings) (blank : Bool) (happen : List Call → Type 0) (source : Option Source) (t : Tree) (old headed told new text : List ℕ) →
+    old ≡ [] → headed ≡ old ++ print (header s (head t)) → told ≡ headed ++ message_text s (head t) → AppendsOne (IsBelow rows s blank happen source t) told new →
+    text ≡ without_leading new → IsInner rows s blank happen source t text
+inner_whole rows s blank happen source t old headed told new text n h m p e =
+    let drawn = below_drawn rows s blank happen source t p.text p.is_given in
+    let related = below_related rows s blank happen source t p.text p.is_given in
+    let body : new ≡ headed ++ body_over s (head t) drawn [] related = body_behind s (head t) headed told told new drawn [] related p.text m (sym (append-nil told)) p.appended p.is_given.5 in
+    subst (λ x. IsInner rows s blank happen source t x)
+    (sym (e ∙ ap without_leading (body ∙ ap (λ x. x ++ body_over s (head t) drawn [] related) (h ∙ ap (λ x. x ++ print (header s (head t))) n))))
+    (inner_step rows s blank happen source t p.text p.is_given)
 
-pub sibling_behind : (rows : SnippetRows) (s : Settings) (blank : Bool) (source : Option Source) (t : Tree) (old titled told caused new : List ℕ) →
-    titled ≡ old ++ title_text s (head t) → told ≡ titled ++ message_text s (head t) → AppendsOne (AreCauses rows s blank (head t).severity source (cause_of t)) told caused →
-    AppendsOne (IsBelow rows s blank source t) caused new → AppendsOne (IsSibling rows s blank source t) old new
-sibling_behind rows s blank source t old titled told caused new h m c p =
-    let below = p.is_given in record {
-      text = title_text s (head t) ++ body_over s (head t) below.0 c.text below.1;
-      is_given = sibling_step rows s blank source t below.0 c.text below.1 below.2 c.is_given below.3;
-      appended = behind old titled new (title_text s (head t)) (body_over s (head t) below.0 c.text below.1) h
-          (body_behind s (head t) titled told caused new below.0 c.text below.1 p.text m c.appended p.appended below.4);
+pub sibling_behind : (rows : SnippetRows) (s : Settings) (blank : Bool) (begun mid now : List Call → Type 0) (source : Option Source) (t : Tree) (old titled told caused new : List ℕ) →
+    titled ≡ old ++ title_text s (head t) → told ≡ titled ++ message_text s (head t) → AppendsOne (AreCauses rows s blank (λ calls. Leads begun calls mid) (head t).severity source (cause_of t)) told caused →
+    AppendsOne (IsBelow rows s blank (λ calls. Leads mid calls now) source t) caused new → AppendsOne (IsSibling rows s blank (λ calls. Leads begun calls now) source t) old new
+sibling_behind rows s blank begun mid now source t old titled told caused new h m c p =
+    let drawn = below_drawn rows s blank (λ calls. Leads mid calls now) source t p.text p.is_given in
+    let related = below_related rows s blank (λ calls. Leads mid calls now) source t p.text p.is_given in record {
+      text = title_text s (head t) ++ body_over s (head t) drawn c.text related;
+      is_given = sibling_step rows s blank begun mid now source t c.text p.text c.is_given p.is_given;
+      appended = behind old titled new (title_text s (head t)) (body_over s (head t) drawn c.text related) h
+          (body_behind s (head t) titled told caused new drawn c.text related p.text m c.appended p.appended p.is_given.5);
     }
 
-pub report_whole : (rows : SnippetRows) (s : Settings) (blank : Bool) (t : Tree) (old headed told caused drawn text : List ℕ) →
-    old ≡ [] → headed ≡ old ++ print (header s (head t)) → told ≡ headed ++ message_text s (head t) → AppendsOne (AreRootCauses rows s blank t) told caused →
-    AppendsOne (IsBelow rows s blank (source_of t) t) caused drawn → text ≡ drawn ++ footer_text s → IsReport rows s blank t text
-report_whole rows s blank t old headed told caused drawn text n h m c p e =
-    let below = p.is_given in
-    let body : drawn ≡ headed ++ body_over s (head t) below.0 c.text below.1 = body_behind s (head t) headed told caused drawn below.0 c.text below.1 p.text m c.appended p.appended below.4 in
-    subst (λ x. IsReport rows s blank t x)
-    (sym (e ∙ ap (λ x. x ++ footer_text s) (body ∙ ap (λ x. x ++ body_over s (head t) below.0 c.text below.1) (h ∙ ap (λ x. x ++ print (header s (head t))) n))))
-    (root_step rows s blank t below.0 c.text below.1 below.2 c.is_given below.3)
+pub report_whole : (rows : SnippetRows) (s : Settings) (blank : Bool) (begun mid now : List Call → Type 0) (t : Tree) (old headed told caused drawn text : List ℕ) →
+    old ≡ [] → headed ≡ old ++ print (header s (head t)) → told ≡ headed ++ message_text s (head t) → AppendsOne (AreRootCauses rows s blank (λ calls. Leads begun calls mid) t) told caused →
+    AppendsOne (IsBelow rows s blank (λ calls. Leads mid calls now) (source_of t) t) caused drawn → text ≡ drawn ++ footer_text s → IsAskedReport rows s blank (λ calls. Leads begun calls now) t text
+report_whole rows s blank begun mid now t old headed told caused drawn text n h m c p e =
+    let own = below_drawn rows s blank (λ calls. Leads mid calls now) (source_of t) t p.text p.is_given in
+    let related = below_related rows s blank (λ calls. Leads mid calls now) (source_of t) t p.text p.is_given in
+    let body : drawn ≡ headed ++ body_over s (head t) own c.text related = body_behind s (head t) headed told caused drawn own c.text related p.text m c.appended p.appended p.is_given.5 in
+    subst (λ x. IsAskedReport rows s blank (λ calls. Leads begun calls now) t x)
+    (sym (e ∙ ap (λ x. x ++ footer_text s) (body ∙ ap (λ x. x ++ body_over s (head t) own c.text related) (h ∙ ap (λ x. x ++ print (header s (head t))) n))))
+    (root_step rows s blank begun mid now t c.text p.text c.is_given p.is_given)
 
 -- ---- refusals
 

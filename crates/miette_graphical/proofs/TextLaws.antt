@@ -7,11 +7,11 @@ use Rattle.miette_text.specs.rules.Tame as tame
 use Rattle.miette_text.specs.rules.Runs.{Run, Styled, HaveNoEscape, plain_run, print}
 use Rattle.miette_style.specs.rules.Styles.{plain}
 use Rattle.miette_text.specs.rules.Cutting.{without_leading, without_trailing}
-use Rattle.miette_text.specs.rules.Wrapping.{Layout, columns_of, wrapped}
+use Rattle.miette_text.specs.rules.Wrapping.{Plan, columns_of, wrapped}
 
 pub record TextLaws : Type 0 where
-  pub wrapped-tame : (l : Layout) (text : List ℕ) → AllTame l text → IsTame (wrapped l text)
-  pub erase-wrapped : (l : Layout) (text : List ℕ) → AllTame l text → erase (wrapped l text) ≡ wrapped (tame.colourless l) (erase text)
+  pub wrapped-tame : (p : Plan (List ℕ)) (text : List ℕ) → AllTame p text → IsTame (wrapped p text)
+  pub erase-wrapped : (p : Plan (List ℕ)) (text : List ℕ) → AllTame p text → erase (wrapped p text) ≡ wrapped (tame.colourless p) (erase text)
   pub append-tame : (x y : List ℕ) → IsTame x → IsTame y → IsTame (x ++ y)
   pub erase-append : (x y : List ℕ) → IsTame x → IsTame y → erase (x ++ y) ≡ erase x ++ erase y
   pub leading-tame : (text : List ℕ) → IsTame text → IsTame (without_leading text)

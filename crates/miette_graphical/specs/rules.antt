@@ -7,3 +7,5 @@ pub mod Text
 pub mod Printed
 pub mod Answered
 pub mod Snippets
+pub mod Calls
+pub mod ByLine

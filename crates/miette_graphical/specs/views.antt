@@ -2,4 +2,3 @@
 pub mod Handling
 pub mod Modes
 pub mod SettingsView
-pub mod Printing

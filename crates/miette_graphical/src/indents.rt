@@ -1,11 +1,11 @@
 //! What stands in front of rows, and text wrapped under it.
 
 ghost use Rattle.std.specs.Prelude.{◌≡◌, ◌++◌, ◌-◌, IfOk, OnOk, chars, option_map};
-ghost use Rattle.miette_graphical.specs.rules.Indents as indents;
-ghost use Rattle.miette_graphical.specs.rules.Parts as parts;
 ghost use Rattle.miette_graphical.specs.views.Modes.{splits};
 ghost use Rattle.miette_graphical.specs.views.SettingsView.{settings_of};
-ghost use Rattle.miette_text.specs.views.Filling.{layout_with};
+ghost use Rattle.miette_graphical.specs.rules.Indents as indents;
+ghost use Rattle.miette_graphical.specs.rules.Parts as parts;
+ghost use Rattle.miette_text.specs.views.Plans.{printed_plan};
 ghost use Rattle.miette_text.specs.rules.Runs.{print};
 ghost use Rattle.miette_text.specs.rules.Sequences.{spell};
 ghost use Rattle.miette_text.specs.rules.Wrapping.{wrapped};
@@ -52,9 +52,8 @@ fn push_wrapped(
     text: &Runs,
     out: &mut Output,
 ) -> Result<(), AllocError>
-    ensures { OnOk result (out.new ≡ out.old ++ (wrapped
-        (layout_with plan.entry.wraps plan.entry.hyphens plan.entry.breaks plan.entry.width (spell plan.entry.first.now)
-        (spell plan.entry.further.now)) (spell text.now) ++ parts.line_feed)) }
+    ensures { OnOk result (out.new ≡ out.old ++ (wrapped (printed_plan plan.entry) (spell text.now)
+        ++ parts.line_feed)) }
 {
     wrap(alloc, plan, text, out)?;
     out.push('\n')

@@ -7,7 +7,7 @@ ghost use Rattle.miette_graphical.specs.rules.Answered.{IsNested, IsOneCause, Is
 ghost use Rattle.miette_tree.specs.views.Handler.{AppendsOne};
 ghost use Rattle.miette_graphical.specs.rules.Printed.{all_read, always_reads, printed_causes, printed_inner};
 ghost use Rattle.miette_graphical.specs.rules.Printed.{printed_one, printed_related, printed_sibling};
-ghost use Rattle.miette_layout.specs.rules.Highlighted.{leaves_plain};
+ghost use Rattle.miette_layout.specs.rules.Highlighted.{AreCallsOn, leaves_plain};
 ghost use Rattle.miette_tree.specs.views.Owned.{shown_source};
 ghost use Rattle.miette_graphical.specs.rules.Snippets.{drawn_rows};
 ghost use Rattle.miette_graphical.specs.rules.Text as texts;
@@ -19,10 +19,10 @@ ghost use Rattle.miette_text.specs.rules.Sequences.{spell};
 use crate::diagnostic::{is_nil, push_cause_texts, push_header_of, push_message_of, push_title};
 use crate::indents::{Branch, narrowed, push_help, push_under_arrow};
 use crate::pen::Pen;
-use crate::printing::push_page;
 use crate::settings::Layout;
-use miette_layout::options::LayoutOptions;
+use miette_layout::options::{LayoutOptions, Look};
 use miette_layout::snippets::snippets;
+use miette_page::page::Page;
 use miette_protocol::error::RenderError;
 use miette_protocol::protocol::{Diagnostic, LabeledSpan, Severity};
 use miette_protocol::source::SourceCode;
@@ -32,6 +32,7 @@ use miette_text::runs::output::Output;
 use miette_text::wrap::cutting::{without_leading, without_trailing};
 use miette_tree::parts::{cause_texts, labels_of, own_or};
 use miette_tree::report::{Cause, Report, SourceRef};
+use std::mem;
 
 /// Appends the text of the rows of a diagnostic's snippets, over its effective source.
 fn push_rows<D: Diagnostic, S: SourceCode, H: Highlighter>(
@@ -42,7 +43,9 @@ fn push_rows<D: Diagnostic, S: SourceCode, H: Highlighter>(
     out: &mut Output,
 ) -> Result<(), RenderError>
     ensures ok { OnOk result (AppendsOne (IsDrawn drawn_rows (settings_of layout.entry)
-        (leaves_plain H.is_blank pen.old.highlighter) (option_map (shown_source S.source) source.entry)
+        (leaves_plain H.is_blank pen.old.highlighter)
+        (AreCallsOn H.may_follow pen.old.highlighter pen.new.highlighter)
+        (option_map (shown_source S.source) source.entry)
         (head (tree_of D.meaning S.source report.now))) out.old out.new) }
     ensures refused { (result ≡ Err RenderError.Refused) →
         always_reads (option_map (shown_source S.source) source.entry) (head (tree_of D.meaning S.source report.now))
@@ -64,7 +67,8 @@ fn push_shown<D: Diagnostic, S: SourceCode, H: Highlighter>(
     out: &mut Output,
 ) -> Result<(), RenderError>
     ensures ok { OnOk result (AppendsOne (IsDrawn drawn_rows (settings_of layout.entry)
-        (leaves_plain H.is_blank pen.old.highlighter) (Some (shown_source S.source source.entry))
+        (leaves_plain H.is_blank pen.old.highlighter)
+        (AreCallsOn H.may_follow pen.old.highlighter pen.new.highlighter) (Some (shown_source S.source source.entry))
         (head (tree_of D.meaning S.source report.now))) out.old out.new) }
     ensures refused { (result ≡ Err RenderError.Refused) →
         always_reads (Some (shown_source S.source source.entry)) (head (tree_of D.meaning S.source report.now))
@@ -87,29 +91,29 @@ fn push_drawn<S: SourceCode, H: Highlighter>(
     out: &mut Output,
 ) -> Result<(), RenderError>
     ensures ok { OnOk result (AppendsOne (AreDrawn (settings_of layout.entry)
-        (leaves_plain H.is_blank pen.old.highlighter) (shown_source S.source source.entry) labels.now) out.old
+        (leaves_plain H.is_blank pen.old.highlighter)
+        (AreCallsOn H.may_follow pen.old.highlighter pen.new.highlighter)
+        (shown_source S.source source.entry) labels.now) out.old
         out.new) }
     ensures refused { (result ≡ Err RenderError.Refused) → (shown_source S.source source.entry).always_reads ≡ false }
     ensures stays { leaves_plain H.is_blank pen.new.highlighter ≡ leaves_plain H.is_blank pen.old.highlighter }
 {
-    let options = LayoutOptions {
-        tab_width: layout.tab,
-        context_lines: layout.context,
-        primary_start: layout.primary_start,
+    let look = Look {
+        alloc: pen.alloc,
+        theme: layout.theme,
+        options: LayoutOptions {
+            tab_width: layout.tab,
+            context_lines: layout.context,
+            primary_start: layout.primary_start,
+        },
     };
-    let page = match snippets(
-        pen.alloc,
-        &mut pen.highlighter,
-        layout.theme,
-        &options,
-        &source,
-        labels,
-    ) {
+    let page = Page::over(mem::replace(out, Output::printed(pen.alloc)));
+    let page = match snippets(&mut pen.highlighter, &look, &source, labels, page) {
         Ok(page) => page,
         Err(RenderError::Refused) => return Err(RenderError::Refused),
         Err(RenderError::Memory) => return Err(RenderError::Memory),
     };
-    push_page(&page, out)?;
+    *out = page.into_output()?;
     Ok(())
 }
 
@@ -143,7 +147,9 @@ pub fn push_causes<D: Diagnostic, S: SourceCode, H: Highlighter>(
     out: &mut Output,
 ) -> Result<(), RenderError>
     ensures ok { OnOk result (AppendsOne (AreCauses drawn_rows (settings_of layout.entry)
-        (leaves_plain H.is_blank pen.old.highlighter) outer (option_map (shown_source S.source) inherited.entry)
+        (leaves_plain H.is_blank pen.old.highlighter)
+        (AreCallsOn H.may_follow pen.old.highlighter pen.new.highlighter)
+        outer (option_map (shown_source S.source) inherited.entry)
         (cause_of (tree_of D.meaning S.source report.now))) out.old out.new) }
     ensures refused { (result ≡ Err RenderError.Refused) →
         all_read (printed_causes layout.entry.nested (option_map (shown_source S.source) inherited.entry)
@@ -170,7 +176,9 @@ fn push_one_cause<D: Diagnostic, S: SourceCode, H: Highlighter>(
     out: &mut Output,
 ) -> Result<(), RenderError>
     ensures ok { OnOk result (AppendsOne (IsOneCause drawn_rows (settings_of layout.entry)
-        (leaves_plain H.is_blank pen.old.highlighter) outer (option_map (shown_source S.source) inherited.entry)
+        (leaves_plain H.is_blank pen.old.highlighter)
+        (AreCallsOn H.may_follow pen.old.highlighter pen.new.highlighter)
+        outer (option_map (shown_source S.source) inherited.entry)
         (tree_of D.meaning S.source cause.now)) out.old out.new) }
     ensures refused { (result ≡ Err RenderError.Refused) →
         all_read (printed_inner layout.entry.nested
@@ -197,7 +205,9 @@ fn inner_text<D: Diagnostic, S: SourceCode, H: Highlighter>(
     report: &Report<D, S>,
 ) -> Result<Runs, RenderError>
     ensures ok { IfOk result (λ r. IsInner drawn_rows (settings_of layout.entry)
-        (leaves_plain H.is_blank pen.old.highlighter) (option_map (shown_source S.source) source.entry)
+        (leaves_plain H.is_blank pen.old.highlighter)
+        (AreCallsOn H.may_follow pen.old.highlighter pen.new.highlighter)
+        (option_map (shown_source S.source) source.entry)
         (tree_of D.meaning S.source report.now) (spell r)) }
     ensures refused { (result ≡ Err RenderError.Refused) →
         all_read (printed_inner layout.entry.nested (option_map (shown_source S.source) source.entry)
@@ -223,7 +233,9 @@ pub fn push_below<D: Diagnostic, S: SourceCode, H: Highlighter>(
     out: &mut Output,
 ) -> Result<(), RenderError>
     ensures ok { OnOk result (AppendsOne (IsBelow drawn_rows (settings_of layout.entry)
-        (leaves_plain H.is_blank pen.old.highlighter) (option_map (shown_source S.source) source.entry)
+        (leaves_plain H.is_blank pen.old.highlighter)
+        (AreCallsOn H.may_follow pen.old.highlighter pen.new.highlighter)
+        (option_map (shown_source S.source) source.entry)
         (tree_of D.meaning S.source report.now)) out.old out.new) }
     ensures refused { (result ≡ Err RenderError.Refused) →
         all_read (printed_inner layout.entry.nested (option_map (shown_source S.source) source.entry)
@@ -247,7 +259,9 @@ fn push_sibling<D: Diagnostic, S: SourceCode, H: Highlighter>(
     out: &mut Output,
 ) -> Result<(), RenderError>
     ensures ok { OnOk result (AppendsOne (IsSibling drawn_rows (settings_of layout.entry)
-        (leaves_plain H.is_blank pen.old.highlighter) (option_map (shown_source S.source) source.entry)
+        (leaves_plain H.is_blank pen.old.highlighter)
+        (AreCallsOn H.may_follow pen.old.highlighter pen.new.highlighter)
+        (option_map (shown_source S.source) source.entry)
         (tree_of D.meaning S.source report.now)) out.old out.new) }
     ensures refused { (result ≡ Err RenderError.Refused) →
         all_read (printed_sibling layout.entry.nested (option_map (shown_source S.source) source.entry)
@@ -272,7 +286,9 @@ fn push_nested<D: Diagnostic, S: SourceCode, H: Highlighter>(
     out: &mut Output,
 ) -> Result<(), RenderError>
     ensures ok { OnOk result (AppendsOne (IsNested drawn_rows (settings_of layout.entry)
-        (leaves_plain H.is_blank pen.old.highlighter) branch.outer (option_map (shown_source S.source) source.entry)
+        (leaves_plain H.is_blank pen.old.highlighter)
+        (AreCallsOn H.may_follow pen.old.highlighter pen.new.highlighter)
+        branch.outer (option_map (shown_source S.source) source.entry)
         branch.is_last (tree_of D.meaning S.source report.now)) out.old out.new) }
     ensures refused { (result ≡ Err RenderError.Refused) →
         all_read (printed_inner layout.entry.nested (option_map (shown_source S.source) source.entry)
@@ -297,7 +313,9 @@ fn push_one_related<D: Diagnostic, S: SourceCode, H: Highlighter>(
     out: &mut Output,
 ) -> Result<(), RenderError>
     ensures ok { OnOk result (AppendsOne (IsOneRelated drawn_rows (settings_of layout.entry)
-        (leaves_plain H.is_blank pen.old.highlighter) branch.outer (option_map (shown_source S.source) source.entry)
+        (leaves_plain H.is_blank pen.old.highlighter)
+        (AreCallsOn H.may_follow pen.old.highlighter pen.new.highlighter)
+        branch.outer (option_map (shown_source S.source) source.entry)
         branch.is_last (tree_of D.meaning S.source report.now)) out.old out.new) }
     ensures refused { (result ≡ Err RenderError.Refused) →
         all_read (printed_one layout.entry.nested (option_map (shown_source S.source) source.entry)
@@ -322,7 +340,9 @@ fn push_related<D: Diagnostic, S: SourceCode, H: Highlighter>(
     out: &mut Output,
 ) -> Result<(), RenderError>
     ensures ok { OnOk result (AppendsOne (AreRelated drawn_rows (settings_of layout.entry)
-        (leaves_plain H.is_blank pen.old.highlighter) outer (option_map (shown_source S.source) inherited.entry)
+        (leaves_plain H.is_blank pen.old.highlighter)
+        (AreCallsOn H.may_follow pen.old.highlighter pen.new.highlighter)
+        outer (option_map (shown_source S.source) inherited.entry)
         (trees (map (tree_of D.meaning S.source) reports.now))) out.old out.new) }
     ensures refused { (result ≡ Err RenderError.Refused) →
         all_read (printed_related layout.entry.nested (option_map (shown_source S.source) inherited.entry)

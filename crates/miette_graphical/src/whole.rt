@@ -1,10 +1,10 @@
 //! The outermost report, from its header to its footer.
 
 ghost use Rattle.std.specs.Prelude.{◌≡◌, IfOk, OnOk, false};
-ghost use Rattle.miette_graphical.specs.rules.Answered.{AreRootCauses, IsReport};
+ghost use Rattle.miette_graphical.specs.rules.Answered.{AreRootCauses, IsAskedReport};
 ghost use Rattle.miette_tree.specs.views.Handler.{AppendsOne};
 ghost use Rattle.miette_graphical.specs.rules.Printed.{all_read, printed, printed_root_causes};
-ghost use Rattle.miette_layout.specs.rules.Highlighted.{leaves_plain};
+ghost use Rattle.miette_layout.specs.rules.Highlighted.{AreCallsOn, leaves_plain};
 ghost use Rattle.miette_graphical.specs.rules.Snippets.{drawn_rows};
 ghost use Rattle.miette_graphical.specs.views.SettingsView.{settings_of};
 ghost use Rattle.miette_tree.specs.views.Report.{tree_of};
@@ -29,7 +29,9 @@ fn push_root_causes<D: Diagnostic, S: SourceCode, H: Highlighter>(
     out: &mut Output,
 ) -> Result<(), RenderError>
     ensures ok { OnOk result (AppendsOne (AreRootCauses drawn_rows (settings_of layout.entry)
-        (leaves_plain H.is_blank pen.old.highlighter) (tree_of D.meaning S.source report.now)) out.old out.new) }
+        (leaves_plain H.is_blank pen.old.highlighter)
+        (AreCallsOn H.may_follow pen.old.highlighter pen.new.highlighter)
+        (tree_of D.meaning S.source report.now)) out.old out.new) }
     ensures refused { (result ≡ Err RenderError.Refused) →
         all_read (printed_root_causes layout.entry.chain layout.entry.nested (tree_of D.meaning S.source report.now))
         ≡ false }
@@ -48,8 +50,9 @@ pub fn report_output<D: Diagnostic, S: SourceCode, H: Highlighter>(
     layout: Layout<'_>,
     report: &Report<D, S>,
 ) -> Result<Output, RenderError>
-    ensures ok { IfOk result (λ o. IsReport drawn_rows (settings_of layout.entry)
-        (leaves_plain H.is_blank pen.old.highlighter) (tree_of D.meaning S.source report.now) o) }
+    ensures ok { IfOk result (λ o. IsAskedReport drawn_rows (settings_of layout.entry)
+        (leaves_plain H.is_blank pen.old.highlighter)
+        (AreCallsOn H.may_follow pen.old.highlighter pen.new.highlighter) (tree_of D.meaning S.source report.now) o) }
     ensures refused { (result ≡ Err RenderError.Refused) →
         all_read (printed (settings_of layout.entry) (tree_of D.meaning S.source report.now)) ≡ false }
     ensures stays { leaves_plain H.is_blank pen.new.highlighter ≡ leaves_plain H.is_blank pen.old.highlighter }

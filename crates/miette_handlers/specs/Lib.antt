@@ -14,8 +14,9 @@ pub use Rattle.miette_graphical.specs.laws.Paths
 pub use Rattle.miette_graphical.specs.laws.Alike
 pub use Rattle.miette_graphical.specs.laws.Shipped
 pub use Rattle.miette_graphical.specs.rules.Answered
+pub use Rattle.miette_graphical.specs.rules.Calls
+pub use Rattle.miette_graphical.specs.rules.ByLine
 pub use Rattle.miette_graphical.specs.rules.Snippets
-pub use Rattle.miette_graphical.specs.views.Printing
 pub use Rattle.miette_graphical.specs.laws.Headline
 pub use Rattle.miette_json.specs.rules.Json
 pub use Rattle.miette_json.specs.rules.Denotes

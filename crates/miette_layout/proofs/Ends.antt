@@ -109,15 +109,15 @@ text_is (l ∷ ls) (suc i) = text_is ls i
 
 -- a label as it is placed is the label as it is drawn
 one_is : (styles : List Style) (context : ℕ) (source : Source) (labels : List Label) (i : ℕ) (r : ReadLabel) → IsRead context source labels r →
-    drawn_of labels (placed_one styles labels i r) ≡ drawn_label styles (length source.bytes) i (label_at labels r.index)
+    drawn_of labels (placed_one styles i r) ≡ drawn_label styles (length source.bytes) i (label_at labels r.index)
 one_is styles context source labels i r h =
     ap (λ e. record { start = r.span.offset; after = e; style = style_at styles i; parts = parts_of (text_at labels r.index) }) (end_is context source labels r h)
     ∙ ap (λ s. record { start = s.offset; after = max (label_at labels r.index).span.offset (min (end_of_span (label_at labels r.index).span) (length source.bytes)); style = style_at styles i; parts = parts_of (text_at labels r.index) }) h.span
     ∙ ap (λ t. record { start = (label_at labels r.index).span.offset; after = max (label_at labels r.index).span.offset (min (end_of_span (label_at labels r.index).span) (length source.bytes)); style = style_at styles i; parts = parts_of t }) (text_is labels r.index)
 
 pub placed_drawn : (styles : List Style) (context : ℕ) (source : Source) (labels : List Label) (i : ℕ) (reads : List ReadLabel) → All (IsRead context source labels) reads →
-    map (drawn_of labels) (placed_from styles labels i reads) ≡ drawn_from styles (length source.bytes) i (map (read_of labels) reads)
+    map (drawn_of labels) (placed_from styles i reads) ≡ drawn_from styles (length source.bytes) i (map (read_of labels) reads)
 placed_drawn styles context source labels i [] h = refl
 placed_drawn styles context source labels i (r ∷ rs) h =
-    ap (λ d. d ∷ map (drawn_of labels) (placed_from styles labels (i + 1) rs)) (one_is styles context source labels i r (h 0 r (omega arith)))
+    ap (λ d. d ∷ map (drawn_of labels) (placed_from styles (i + 1) rs)) (one_is styles context source labels i r (h 0 r (omega arith)))
     ∙ ap (λ ds. drawn_label styles (length source.bytes) i (label_at labels r.index) ∷ ds) (placed_drawn styles context source labels (i + 1) rs (λ k d lt. h (suc k) d (omega arith)))

@@ -1,4 +1,6 @@
 -- What gutters tell.
+use Rattle.miette_page.proofs.Paging.{put_append}
+use Rattle.miette_page.specs.views.Printouts.{Printout, ◌⊕◌}
 use Rattle.std.proofs.Common.{ℕ, ◌+◌, ◌-◌, ◌<◌, ◌≤◌, ◌≡◌, Bool, true, false, cond, List, [], ◌∷◌, ◌++◌, map, length, drop, get_or, replicate, refl, sym, ap, ◌∙◌, append_assoc}
 use Rattle.std.specs.Prelude.{chars, encode_utf8, ◌==◌, Option, Some}
 use Rattle.std.proofs.lemmas.List.{at_drop_more, at_drop_all}
@@ -13,7 +15,7 @@ use Rattle.miette_layout.specs.rules.Drawing.{blank}
 use Rattle.miette_layout.specs.rules.Gutters.{number_gutter, other_gutter, open_gutter, ending_corner, arrow}
 use Rattle.miette_lines.specs.views.Given.{drawn_of}
 use Rattle.miette_lines.specs.views.Sweeping.{nothing}
-use Rattle.miette_page.specs.views.Told.{Token, told, run_told, bytes_told}
+use Rattle.miette_page.specs.views.Told.{Token, told, run_told, text_told}
 use Rattle.miette_lines.proofs.Numbers.{by_cases}
 use Rattle.miette_layout.proofs.Telling.{styled_told, styled_row, blank_row, then, run_one}
 use Rattle.miette_style.specs.rules.Themes.{Characters}
@@ -22,22 +24,22 @@ use Rattle.miette_style.specs.rules.Themes.{Characters}
 abbrev Gutter : Type 0
 Gutter = List DrawnLabel → Row
 
-pub at_end : (f : Gutter) (ls : List Label) (placed : List Placed) (i : ℕ) (row new whole own : List Token) → length placed ≤ i →
-    told (f []) ≡ own → new ≡ row ++ own → row ++ told (f (map (drawn_of ls) (drop i placed))) ≡ whole → new ≡ whole
+pub at_end : (f : Gutter) (ls : List Label) (placed : List Placed) (i : ℕ) (row new whole : Printout) (own : List Token) → length placed ≤ i →
+    told (f []) ≡ own → new ≡ row ⊕ own → row ⊕ told (f (map (drawn_of ls) (drop i placed))) ≡ whole → new ≡ whole
 at_end f ls placed i row new whole own le e n h =
-    n ∙ ap (λ r. row ++ r) (sym e) ∙ ap (λ r. row ++ told (f r)) (sym (at_drop_all (map (drawn_of ls)) placed i le)) ∙ h
+    n ∙ ap (λ r. row ⊕ r) (sym e) ∙ ap (λ r. row ⊕ told (f r)) (sym (at_drop_all (map (drawn_of ls)) placed i le)) ∙ h
 
-pub at_last : (f : Gutter) (ls : List Label) (placed : List Placed) (i : ℕ) (row new whole own : List Token) → i < length placed →
-    told (f (drawn_of ls (get_or placed i nothing) ∷ map (drawn_of ls) (drop (i + 1) placed))) ≡ own → new ≡ row ++ own → row ++ told (f (map (drawn_of ls) (drop i placed))) ≡ whole → new ≡ whole
+pub at_last : (f : Gutter) (ls : List Label) (placed : List Placed) (i : ℕ) (row new whole : Printout) (own : List Token) → i < length placed →
+    told (f (drawn_of ls (get_or placed i nothing) ∷ map (drawn_of ls) (drop (i + 1) placed))) ≡ own → new ≡ row ⊕ own → row ⊕ told (f (map (drawn_of ls) (drop i placed))) ≡ whole → new ≡ whole
 at_last f ls placed i row new whole own lt e n h =
-    n ∙ ap (λ r. row ++ r) (sym e) ∙ ap (λ r. row ++ told (f r)) (sym (at_drop_more (map (drawn_of ls)) placed i nothing lt)) ∙ h
+    n ∙ ap (λ r. row ⊕ r) (sym e) ∙ ap (λ r. row ⊕ told (f r)) (sym (at_drop_more (map (drawn_of ls)) placed i nothing lt)) ∙ h
 
-pub at_more : (f g : Gutter) (ls : List Label) (placed : List Placed) (i : ℕ) (row new whole own : List Token) → i < length placed →
-    told (f (drawn_of ls (get_or placed i nothing) ∷ map (drawn_of ls) (drop (i + 1) placed))) ≡ own ++ told (g (map (drawn_of ls) (drop (i + 1) placed))) → new ≡ row ++ own →
-    row ++ told (f (map (drawn_of ls) (drop i placed))) ≡ whole → new ++ told (g (map (drawn_of ls) (drop (i + 1) placed))) ≡ whole
+pub at_more : (f g : Gutter) (ls : List Label) (placed : List Placed) (i : ℕ) (row new whole : Printout) (own : List Token) → i < length placed →
+    told (f (drawn_of ls (get_or placed i nothing) ∷ map (drawn_of ls) (drop (i + 1) placed))) ≡ own ++ told (g (map (drawn_of ls) (drop (i + 1) placed))) → new ≡ row ⊕ own →
+    row ⊕ told (f (map (drawn_of ls) (drop i placed))) ≡ whole → new ⊕ told (g (map (drawn_of ls) (drop (i + 1) placed))) ≡ whole
 at_more f g ls placed i row new whole own lt e n h =
     let rest : List Token = told (g (map (drawn_of ls) (drop (i + 1) placed))) in
-    ap (λ r. r ++ rest) n ∙ append_assoc row own rest ∙ ap (λ r. row ++ r) (sym e) ∙ ap (λ r. row ++ told (f r)) (sym (at_drop_more (map (drawn_of ls)) placed i nothing lt)) ∙ h
+    ap (λ r. r ⊕ rest) n ∙ put_append row own rest ∙ ap (λ r. row ⊕ r) (sym e) ∙ ap (λ r. row ⊕ told (f r)) (sym (at_drop_more (map (drawn_of ls)) placed i nothing lt)) ∙ h
 
 -- a gutter goes on behind a label's bar
 pub bar_told : (w : ℕ → ℕ) (t : Characters) (style : Style) (rest : Row) → told (styled w style (t.vbar ∷ []) ∷ rest) ≡ run_told style (t.vbar ∷ []) ++ told rest
@@ -109,12 +111,12 @@ corner_of_cut t (c ∷ cs) = by_cases (c == 10) (λ e. ap (λ b. ending_corner t
 pub corner_of_some : (t : Characters) (text : Option (List ℕ)) (bytes : List ℕ) → text ≡ Some bytes → t.lcross ≡ ending_corner t (parts_of text)
 corner_of_some t text bytes e = corner_of_cut t (chars bytes) ∙ ap (λ x. ending_corner t (parts_of x)) (sym e)
 
-pub arrow_put : (t : Characters) (style : Style) (corner left less : ℕ) (p q r n : List Token) → less ≡ left - 3 → q ≡ p ++ run_told style (corner ∷ replicate less t.hbar) → r ≡ q ++ bytes_told (encode_utf8 t.rarrow) → n ≡ r ++ run_told plain (32 ∷ []) →
-    n ≡ p ++ arrow_told t style corner left
+pub arrow_put : (t : Characters) (style : Style) (corner left less : ℕ) (p q r n : Printout) → less ≡ left - 3 → q ≡ p ⊕ run_told style (corner ∷ replicate less t.hbar) → r ≡ q ⊕ text_told (t.rarrow ∷ []) → n ≡ r ⊕ run_told plain (32 ∷ []) →
+    n ≡ p ⊕ arrow_told t style corner left
 arrow_put t style corner left less p q r n z e f g =
     let bars : List ℕ = corner ∷ replicate less t.hbar in
     let space : List Token = run_told plain (32 ∷ []) in
-    g ∙ ap (λ x. x ++ space) (then p (run_told style bars) (bytes_told (encode_utf8 t.rarrow)) e f)
-    ∙ append_assoc p (run_told style bars ++ bytes_told (encode_utf8 t.rarrow)) space
-    ∙ ap (λ x. p ++ (x ++ space)) (run_one style bars t.rarrow)
-    ∙ ap (λ k. p ++ (run_told style (corner ∷ replicate k t.hbar ++ t.rarrow ∷ []) ++ space)) z
+    g ∙ ap (λ x. x ⊕ space) (then p (run_told style bars) (text_told (t.rarrow ∷ [])) e f)
+    ∙ put_append p (run_told style bars ++ text_told (t.rarrow ∷ [])) space
+    ∙ ap (λ x. p ⊕ (x ++ space)) (run_one style bars t.rarrow)
+    ∙ ap (λ k. p ⊕ (run_told style (corner ∷ replicate k t.hbar ++ t.rarrow ∷ []) ++ space)) z

@@ -1,4 +1,6 @@
 -- The rows that are drawn from what a read lent are those of the definition, which has the whole source.
+use Rattle.miette_page.proofs.Paging.{put_append, put_nil}
+use Rattle.miette_page.specs.views.Printouts.{Printout, ◌⊕◌}
 use Rattle.std.proofs.Common.{ℕ, zero, suc, ◌+◌, ◌-◌, ◌^◌, ◌<◌, ◌≤◌, ◌≡◌, max, Bool, true, false, eqb, ltb, List, [], ◌∷◌, ◌++◌, length, map, take, drop, Option, refl, sym, ap, ◌∙◌, subst, arith, All, append_assoc, append-nil}
 use Rattle.std.specs.Prelude.{slice_range, slice_index_or}
 use Rattle.std.specs.List.{AllByRecursion, filter}
@@ -10,8 +12,9 @@ use Rattle.miette_newlines.specs.rules.Lines.{Line}
 use Rattle.miette_protocol.specs.views.Meaning.{Label}
 use Rattle.miette_protocol.specs.rules.Reading.{Span, Source, Contents, data_start, data_end}
 use Rattle.miette_style.specs.declared.style.Style.{Style}
+use Rattle.miette_style.specs.rules.Asked.{Call, Leads, asked, restarted}
 use Rattle.miette_lines.specs.declared.reading.ReadLabel.{ReadLabel}
-use Rattle.miette_lines.specs.declared.text_line.LineOfText.{LineOfText}
+use Rattle.miette_newlines.specs.declared.lines.LineOfText.{LineOfText}
 use Rattle.miette_lines.specs.declared.sweep.Placed.{Placed}
 use Rattle.miette_lines.specs.rules.Answers.{Highlight, first_of, later_of}
 use Rattle.miette_page.specs.rules.Rows.{Row}
@@ -23,11 +26,11 @@ use Rattle.miette_lines.specs.rules.Groups.{in_order, spans_of}
 use Rattle.miette_layout.specs.rules.Gutters.{gutter_columns, most_labels}
 use Rattle.miette_lines.specs.rules.Labels.{DrawnLabel, is_one_line, is_multi_line, one_line, multi_line}
 use Rattle.miette_layout.specs.rules.Layout.{cells_of, line_rows, line_rows_of, rows_of_lines, body_rows}
-use Rattle.miette_layout.specs.rules.Highlighted.{EachHasPieces, ArePieces, decoded_text, texts_of}
+use Rattle.miette_layout.specs.rules.Highlighted.{EachHasPieces, ArePieces, decoded_text, texts_of, line_calls, piece_of}
 use Rattle.miette_layout.specs.steps.Lent.{cells_in, text_in, texts_in, lent_rows, lent_snippet, width_of_count, gutter_of, PutsRows}
 use Rattle.miette_lines.specs.views.Placing.{placed_from}
 use Rattle.miette_lines.specs.views.Read.{IsRead}
-use Rattle.miette_lines.specs.views.TextLines.{line_of_text}
+use Rattle.miette_newlines.specs.views.Walking.{line_of_text}
 use Rattle.miette_lines.specs.views.Sweeping.{is_one, is_multi, nothing, start_at, AreSorted, IsAt}
 use Rattle.miette_lines.specs.views.Swept.{most_multi}
 use Rattle.miette_page.specs.views.Told.{Token, told, told_rows, row_end}
@@ -139,12 +142,12 @@ width_is line [] = refl
 width_is line (l ∷ ls) = let no : eqb (length (l ∷ ls)) 0 ≡ false = ne_eqb (length (l ∷ ls)) 0 (λ e. omega (arith, e)) in rw no refl
 
 -- what the page holds after the three parts of a snippet
-pub told_snippet : (before : List Token) (top bottom : Row) (body : List Row) → ((before ++ told_rows (top ∷ [])) ++ told_rows body) ++ told_rows (bottom ∷ []) ≡ before ++ told_rows (top ∷ body ++ bottom ∷ [])
+pub told_snippet : (before : Printout) (top bottom : Row) (body : List Row) → ((before ⊕ told_rows (top ∷ [])) ⊕ told_rows body) ⊕ told_rows (bottom ∷ []) ≡ before ⊕ told_rows (top ∷ body ++ bottom ∷ [])
 told_snippet before top bottom body =
-    append_assoc (before ++ told_rows (top ∷ [])) (told_rows body) (told_rows (bottom ∷ []))
-    ∙ ap (λ r. (before ++ told_rows (top ∷ [])) ++ r) (sym (told_rows-append body (bottom ∷ [])))
-    ∙ append_assoc before (told_rows (top ∷ [])) (told_rows (body ++ bottom ∷ []))
-    ∙ ap (λ r. before ++ r) (sym (told_rows-append (top ∷ []) (body ++ bottom ∷ [])))
+    put_append (before ⊕ told_rows (top ∷ [])) (told_rows body) (told_rows (bottom ∷ []))
+    ∙ ap (λ r. (before ⊕ told_rows (top ∷ [])) ⊕ r) (sym (told_rows-append body (bottom ∷ [])))
+    ∙ put_append before (told_rows (top ∷ [])) (told_rows (body ++ bottom ∷ []))
+    ∙ ap (λ r. before ⊕ r) (sym (told_rows-append (top ∷ []) (body ++ bottom ∷ [])))
 
 -- placed labels come by offset
 
@@ -170,7 +173,7 @@ ascends-drawn from zero (p ∷ ps) h lt = h.1
 ascends-drawn from (suc k) (p ∷ ps) h lt = ascends-drawn p.start k ps h.2 (omega (arith, lt))
 
 placed_ascends : (styles : List Style) (context : ℕ) (source : Source) (labels : List Label) (from i : ℕ) (reads : List ReadLabel) → All (IsRead context source labels) reads →
-    IsAscending from (spans_of (map (read_of labels) reads)) → Ascends from (placed_from styles labels i reads)
+    IsAscending from (spans_of (map (read_of labels) reads)) → Ascends from (placed_from styles i reads)
 placed_ascends styles context source labels from i [] h up = tt
 placed_ascends styles context source labels from i (r ∷ rs) h up =
     let own : IsRead context source labels r = h 0 r (omega arith) in
@@ -179,11 +182,11 @@ placed_ascends styles context source labels from i (r ∷ rs) h up =
     (omega (arith, at, up.0), omega arith, placed_ascends styles context source labels r.span.offset (i + 1) rs (tail_all (IsRead context source labels) r rs h) next)
 
 pub placed_sorted : (styles : List Style) (context : ℕ) (source : Source) (labels : List Label) (reads : List ReadLabel) → All (IsRead context source labels) reads →
-    map (read_of labels) reads ≡ in_order labels → AreSorted (placed_from styles labels 0 reads)
+    map (read_of labels) reads ≡ in_order labels → AreSorted (placed_from styles 0 reads)
 placed_sorted styles context source labels reads h e =
     let up : IsAscending 0 (spans_of (map (read_of labels) reads)) =
     subst (λ (ss : List Span). IsAscending 0 ss) (sym (ap spans_of e ∙ order_same labels)) (sorted (spans_of labels)) in
-    let ps : List Placed = placed_from styles labels 0 reads in
+    let ps : List Placed = placed_from styles 0 reads in
     let k : Ascends 0 ps = placed_ascends styles context source labels 0 0 reads h up in
     record { order = λ i j le lt. ascends-order 0 i j ps k le lt; drawn = λ i lt. ascends-drawn 0 i ps k lt }
 
@@ -191,10 +194,10 @@ placed_sorted styles context source labels reads h e =
 pub at_start : (labels : List Placed) → IsAt labels 0 0 []
 at_start labels = record { count = omega arith; before = λ k lt. absurd (omega (arith, lt)); later = λ k le lt. omega arith; carried = refl }
 
-pub told_parts : (p0 p1 p2 p3 : List Token) (top bottom : Row) (body : List Row) → p1 ≡ p0 ++ told_rows (top ∷ []) → p2 ≡ p1 ++ told_rows body → p3 ≡ p2 ++ told_rows (bottom ∷ []) →
-    p3 ≡ p0 ++ told_rows (top ∷ body ++ bottom ∷ [])
+pub told_parts : (p0 p1 p2 p3 : Printout) (top bottom : Row) (body : List Row) → p1 ≡ p0 ⊕ told_rows (top ∷ []) → p2 ≡ p1 ⊕ told_rows body → p3 ≡ p2 ⊕ told_rows (bottom ∷ []) →
+    p3 ≡ p0 ⊕ told_rows (top ∷ body ++ bottom ∷ [])
 told_parts p0 p1 p2 p3 top bottom body a b c =
-    c ∙ ap (λ p. p ++ told_rows (bottom ∷ [])) (b ∙ ap (λ p. p ++ told_rows body) a) ∙ told_snippet p0 top bottom body
+    c ∙ ap (λ p. p ⊕ told_rows (bottom ∷ [])) (b ∙ ap (λ p. p ⊕ told_rows body) a) ∙ told_snippet p0 top bottom body
 
 -- the loop over a snippet's lines
 
@@ -204,26 +207,29 @@ pub text_fits : (start : ℕ) (bytes : List ℕ) (line : LineOfText) → start �
 text_fits start bytes line from text ending to small =
     omega (arith, from, text, ending, to, small, length-take (line.text_end - start - (line.start - start)) (drop (line.start - start) bytes))
 
--- the lines before a place are drawn: whatever pieces the others have, there are pieces for all
-abbrev pub AreLined : Settings → ℕ → ℕ → List DrawnLabel → ℕ → List ℕ → ℕ → Bool → ℕ → ℕ → List Token → List Token → Type 0
-AreLined s w columns drawn start bytes first blank at number before page =
+-- the lines before a place are drawn: whatever pieces the others have, there are pieces for all, and calls that bring a
+-- highlighter from its first state over the state now
+abbrev pub AreLined : Settings → ℕ → ℕ → List DrawnLabel → ℕ → List ℕ → ℕ → Bool → (List Call → Type 0) → (List Call → Type 0) → ℕ → ℕ → Printout → Printout → Type 0
+AreLined s w columns drawn start bytes first blank begun now at number before page =
     (more : List (List Highlight)) → EachHasPieces blank (texts_in start bytes (P.lines_from (start + at) (drop at bytes))) more →
     (all : List (List Highlight)) × EachHasPieces blank (texts_in start bytes (P.lines_from start bytes)) all
-    × (page ++ told_rows (lent_rows s w columns drawn start bytes number more (P.lines_from (start + at) (drop at bytes))) ≡ before ++ told_rows (lent_rows s w columns drawn start bytes first all (P.lines_from start bytes)))
+    × ((later : List Call) → now (line_calls (texts_in start bytes (P.lines_from (start + at) (drop at bytes))) more ++ later) → begun (line_calls (texts_in start bytes (P.lines_from start bytes)) all ++ later))
+    × (page ⊕ told_rows (lent_rows s w columns drawn start bytes number more (P.lines_from (start + at) (drop at bytes))) ≡ before ⊕ told_rows (lent_rows s w columns drawn start bytes first all (P.lines_from start bytes)))
 
-pub lines_first : (s : Settings) (w columns : ℕ) (drawn : List DrawnLabel) (start : ℕ) (bytes : List ℕ) (first : ℕ) (blank : Bool) (page : List Token) → AreLined s w columns drawn start bytes first blank 0 first page page
-lines_first s w columns drawn start bytes first blank page = λ more h.
+pub lines_first : (s : Settings) (w columns : ℕ) (drawn : List DrawnLabel) (start : ℕ) (bytes : List ℕ) (first : ℕ) (blank : Bool) (begun : List Call → Type 0) (page : Printout) → AreLined s w columns drawn start bytes first blank begun begun 0 first page page
+lines_first s w columns drawn start bytes first blank begun page = λ more h.
     let e : start + 0 ≡ start = omega arith in
-    (more, subst (λ (n : ℕ). EachHasPieces blank (texts_in start bytes (P.lines_from n bytes)) more) e h, ap (λ n. page ++ told_rows (lent_rows s w columns drawn start bytes first more (P.lines_from n bytes))) e)
+    (more, subst (λ (n : ℕ). EachHasPieces blank (texts_in start bytes (P.lines_from n bytes)) more) e h, (λ later k. subst (λ (n : ℕ). begun (line_calls (texts_in start bytes (P.lines_from n bytes)) more ++ later)) e k), ap (λ n. page ⊕ told_rows (lent_rows s w columns drawn start bytes first more (P.lines_from n bytes))) e)
 
 -- the rows of one line more
-lines_more_of : (s : Settings) (w columns : ℕ) (drawn : List DrawnLabel) (start : ℕ) (bytes : List ℕ) (first : ℕ) (blank : Bool) (at number : ℕ) (line : LineOfText) (pieces : List Highlight) (before page more : List Token) →
-    AreLined s w columns drawn start bytes first blank at number before page →
+lines_more_of : (s : Settings) (w columns : ℕ) (drawn : List DrawnLabel) (start : ℕ) (bytes : List ℕ) (first : ℕ) (blank : Bool) (begun was now : List Call → Type 0) (at number : ℕ) (line : LineOfText) (pieces : List Highlight) (before page more : Printout) →
+    AreLined s w columns drawn start bytes first blank begun was at number before page →
     P.lines_from (start + at) (drop at bytes) ≡ line_of_text line ∷ P.lines_from line.end (drop (line.end - start) bytes) → start ≤ line.end →
     ArePieces blank (decoded_text (text_in start bytes (line_of_text line))) pieces →
-    more ≡ page ++ told_rows (line_rows s w columns drawn (line_of_text line) number (cells_in s start bytes (line_of_text line)) pieces) →
-    AreLined s w columns drawn start bytes first blank (line.end - start) (number + 1) before more
-lines_more_of s w columns drawn start bytes first blank at number line pieces before page more h part low p e = λ later own.
+    Leads was (asked (decoded_text (text_in start bytes (line_of_text line))) (map piece_of pieces) ∷ []) now →
+    more ≡ page ⊕ told_rows (line_rows s w columns drawn (line_of_text line) number (cells_in s start bytes (line_of_text line)) pieces) →
+    AreLined s w columns drawn start bytes first blank begun now (line.end - start) (number + 1) before more
+lines_more_of s w columns drawn start bytes first blank begun was now at number line pieces before page more h part low p call e = λ later own.
     let sums : start + (line.end - start) ≡ line.end = omega (arith, low) in
     let behind : List Line = P.lines_from line.end (drop (line.end - start) bytes) in
     let here : List Row = line_rows s w columns drawn (line_of_text line) number (cells_in s start bytes (line_of_text line)) pieces in
@@ -232,77 +238,89 @@ lines_more_of s w columns drawn start bytes first blank at number line pieces be
     let rest = h (pieces ∷ later) (subst (λ (ls : List Line). EachHasPieces blank (texts_in start bytes ls) (pieces ∷ later)) (sym part) (p, others)) in (
       rest.0,
       rest.1,
-      ap (λ n. more ++ told_rows (lent_rows s w columns drawn start bytes (number + 1) later (P.lines_from n (drop (line.end - start) bytes)))) sums
-          ∙ ap (λ m. m ++ told_rows there) e
-          ∙ append_assoc page (told_rows here) (told_rows there)
-          ∙ ap (λ t. page ++ t) (sym (told_rows-append here there))
-          ∙ ap (λ ls. page ++ told_rows (lent_rows s w columns drawn start bytes number (pieces ∷ later) ls)) (sym part)
-          ∙ rest.2,
+      (λ calls k. rest.2 calls (subst (λ (ls : List Line). was (line_calls (texts_in start bytes ls) (pieces ∷ later) ++ calls)) (sym part)
+          (call (line_calls (texts_in start bytes behind) later ++ calls) (subst (λ (n : ℕ). now (line_calls (texts_in start bytes (P.lines_from n (drop (line.end - start) bytes))) later ++ calls)) sums k)))),
+      ap (λ n. more ⊕ told_rows (lent_rows s w columns drawn start bytes (number + 1) later (P.lines_from n (drop (line.end - start) bytes)))) sums
+          ∙ ap (λ m. m ⊕ told_rows there) e
+          ∙ put_append page (told_rows here) (told_rows there)
+          ∙ ap (λ t. page ⊕ t) (sym (told_rows-append here there))
+          ∙ ap (λ ls. page ⊕ told_rows (lent_rows s w columns drawn start bytes number (pieces ∷ later) ls)) (sym part)
+          ∙ rest.3,
     )
 
-pub lines_more : (s : Settings) (w columns : ℕ) (labels : List Label) (placed : List Placed) (start : ℕ) (bytes : List ℕ) (first : ℕ) (blank : Bool) (at number : ℕ) (line : LineOfText) (one multi : List Placed) (pieces : List Highlight) (before page more : List Token) →
-    AreLined s w columns (map (drawn_of labels) placed) start bytes first blank at number before page →
+pub lines_more : (s : Settings) (w columns : ℕ) (labels : List Label) (placed : List Placed) (start : ℕ) (bytes : List ℕ) (first : ℕ) (blank : Bool) (begun was now : List Call → Type 0) (at number : ℕ) (line : LineOfText) (one multi : List Placed) (pieces : List Highlight) (before page more : Printout) →
+    AreLined s w columns (map (drawn_of labels) placed) start bytes first blank begun was at number before page →
     P.lines_from (start + at) (drop at bytes) ≡ line_of_text line ∷ P.lines_from line.end (drop (line.end - start) bytes) → start ≤ line.end →
     one ≡ filter (is_one (line_of_text line)) placed → multi ≡ filter (is_multi (line_of_text line)) placed →
     ArePieces blank (decoded_text (text_in start bytes (line_of_text line))) pieces →
-    more ≡ page ++ told_rows (line_rows_of s w columns (map (drawn_of labels) one) (map (drawn_of labels) multi) (line_of_text line) number (cells_in s start bytes (line_of_text line)) pieces) →
-    AreLined s w columns (map (drawn_of labels) placed) start bytes first blank (line.end - start) (number + 1) before more
-lines_more s w columns labels placed start bytes first blank at number line one multi pieces before page more h part low a b p e =
+    Leads was (asked (decoded_text (text_in start bytes (line_of_text line))) (map piece_of pieces) ∷ []) now →
+    more ≡ page ⊕ told_rows (line_rows_of s w columns (map (drawn_of labels) one) (map (drawn_of labels) multi) (line_of_text line) number (cells_in s start bytes (line_of_text line)) pieces) →
+    AreLined s w columns (map (drawn_of labels) placed) start bytes first blank begun now (line.end - start) (number + 1) before more
+lines_more s w columns labels placed start bytes first blank begun was now at number line one multi pieces before page more h part low a b p call e =
     let drawn : List DrawnLabel = map (drawn_of labels) placed in
     let cells : List Cell = cells_in s start bytes (line_of_text line) in
-    lines_more_of s w columns drawn start bytes first blank at number line pieces before page more h part low p
-    (e ∙ ap (λ x. page ++ told_rows (line_rows_of s w columns x (map (drawn_of labels) multi) (line_of_text line) number cells pieces)) (ap (map (drawn_of labels)) a ∙ one_same labels placed (line_of_text line))
-    ∙ ap (λ x. page ++ told_rows (line_rows_of s w columns (one_line (line_of_text line) drawn) x (line_of_text line) number cells pieces)) (ap (map (drawn_of labels)) b ∙ multi_same labels placed (line_of_text line)))
+    lines_more_of s w columns drawn start bytes first blank begun was now at number line pieces before page more h part low p call
+    (e ∙ ap (λ x. page ⊕ told_rows (line_rows_of s w columns x (map (drawn_of labels) multi) (line_of_text line) number cells pieces)) (ap (map (drawn_of labels)) a ∙ one_same labels placed (line_of_text line))
+    ∙ ap (λ x. page ⊕ told_rows (line_rows_of s w columns (one_line (line_of_text line) drawn) x (line_of_text line) number cells pieces)) (ap (map (drawn_of labels)) b ∙ multi_same labels placed (line_of_text line)))
 
 -- all lines are drawn
-pub lines_all : (s : Settings) (w columns : ℕ) (drawn : List DrawnLabel) (start : ℕ) (bytes : List ℕ) (first : ℕ) (blank : Bool) (at number : ℕ) (before page : List Token) →
-    AreLined s w columns drawn start bytes first blank at number before page → length bytes ≤ at →
-    PutsRows blank (texts_in start bytes (P.lines_from start bytes)) (λ pieces. lent_rows s w columns drawn start bytes first pieces (P.lines_from start bytes)) before page
-lines_all s w columns drawn start bytes first blank at number before page h le =
+pub lines_all : (s : Settings) (w columns : ℕ) (drawn : List DrawnLabel) (start : ℕ) (bytes : List ℕ) (first : ℕ) (blank : Bool) (begun now : List Call → Type 0) (at number : ℕ) (before page : Printout) →
+    AreLined s w columns drawn start bytes first blank begun now at number before page → length bytes ≤ at →
+    PutsRows blank (λ calls. Leads begun calls now) (texts_in start bytes (P.lines_from start bytes)) (λ pieces. lent_rows s w columns drawn start bytes first pieces (P.lines_from start bytes)) before page
+lines_all s w columns drawn start bytes first blank begun now at number before page h le =
     let none : drop at bytes ≡ [] = drop_all at bytes le in
     let all = h [] (subst (λ (xs : List ℕ). EachHasPieces blank (texts_in start bytes (P.lines_from (start + at) xs)) []) (sym none) tt) in
     record {
       pieces = all.0;
       are = all.1;
-      is = sym (append-nil page) ∙ ap (λ xs. page ++ told_rows (lent_rows s w columns drawn start bytes number [] (P.lines_from (start + at) xs))) (sym none) ∙ all.2;
+      calls = λ later k. all.2 later (subst (λ (xs : List ℕ). now (line_calls (texts_in start bytes (P.lines_from (start + at) xs)) [] ++ later)) (sym none) k);
+      is = sym (put_nil page) ∙ ap (λ xs. page ⊕ told_rows (lent_rows s w columns drawn start bytes number [] (P.lines_from (start + at) xs))) (sym none) ∙ all.3;
     }
 
 -- the rows of a snippet whose lines are counted
-told_counted : (s : Settings) (labels : List Label) (placed : List Placed) (lent : Contents) (place : Option Place) (pieces : List (List Highlight)) (w columns lines most : ℕ) (p0 p1 p2 p3 : List Token) →
+told_counted : (s : Settings) (labels : List Label) (placed : List Placed) (lent : Contents) (place : Option Place) (pieces : List (List Highlight)) (w columns lines most : ℕ) (p0 p1 p2 p3 : Printout) →
     lines ≡ length (lines_of_contents lent) → most ≡ most_multi placed (lines_of_contents lent) → w ≡ width_of_count lent.line lines → columns ≡ gutter_of most →
-    p1 ≡ p0 ++ told_rows (top_row_of s w lent.name (ltb 1 lines) place ∷ []) →
-    p2 ≡ p1 ++ told_rows (lent_rows s w columns (map (drawn_of labels) placed) lent.span.offset lent.bytes (lent.line + 1) pieces (lines_of_contents lent)) →
-    p3 ≡ p2 ++ told_rows (bottom_row s w ∷ []) → p3 ≡ p0 ++ told_rows (lent_snippet s (map (drawn_of labels) placed) lent place pieces)
+    p1 ≡ p0 ⊕ told_rows (top_row_of s w lent.name (ltb 1 lines) place ∷ []) →
+    p2 ≡ p1 ⊕ told_rows (lent_rows s w columns (map (drawn_of labels) placed) lent.span.offset lent.bytes (lent.line + 1) pieces (lines_of_contents lent)) →
+    p3 ≡ p2 ⊕ told_rows (bottom_row s w ∷ []) → p3 ≡ p0 ⊕ told_rows (lent_snippet s (map (drawn_of labels) placed) lent place pieces)
 told_counted s labels placed lent place pieces w columns lines most p0 p1 p2 p3 many widest width gutter a b c =
     let drawn : List DrawnLabel = map (drawn_of labels) placed in
     let real : List Line = lines_of_contents lent in
     let whole : w ≡ number_width lent = width ∙ ap (width_of_count lent.line) many ∙ sym (width_is lent.line real) in
     let room : columns ≡ gutter_columns drawn real = gutter ∙ ap gutter_of (widest ∙ most_is labels placed real) in
     told_parts p0 p1 p2 p3 (top_row_of s w lent.name (ltb 1 lines) place) (bottom_row s w) (lent_rows s w columns drawn lent.span.offset lent.bytes (lent.line + 1) pieces real) a b c
-    ∙ ap (λ n. p0 ++ told_rows (top_row_of s n lent.name (ltb 1 lines) place ∷ lent_rows s n columns drawn lent.span.offset lent.bytes (lent.line + 1) pieces real ++ bottom_row s n ∷ [])) whole
-    ∙ ap (λ n. p0 ++ told_rows (top_row_of s (number_width lent) lent.name (ltb 1 n) place ∷ lent_rows s (number_width lent) columns drawn lent.span.offset lent.bytes (lent.line + 1) pieces real ++ bottom_row s (number_width lent) ∷ [])) many
-    ∙ ap (λ n. p0 ++ told_rows (top_row s lent place ∷ lent_rows s (number_width lent) n drawn lent.span.offset lent.bytes (lent.line + 1) pieces real ++ bottom_row s (number_width lent) ∷ [])) room
+    ∙ ap (λ n. p0 ⊕ told_rows (top_row_of s n lent.name (ltb 1 lines) place ∷ lent_rows s n columns drawn lent.span.offset lent.bytes (lent.line + 1) pieces real ++ bottom_row s n ∷ [])) whole
+    ∙ ap (λ n. p0 ⊕ told_rows (top_row_of s (number_width lent) lent.name (ltb 1 n) place ∷ lent_rows s (number_width lent) columns drawn lent.span.offset lent.bytes (lent.line + 1) pieces real ++ bottom_row s (number_width lent) ∷ [])) many
+    ∙ ap (λ n. p0 ⊕ told_rows (top_row s lent place ∷ lent_rows s (number_width lent) n drawn lent.span.offset lent.bytes (lent.line + 1) pieces real ++ bottom_row s (number_width lent) ∷ [])) room
 
 -- what the getters of a read gave stands for its parts
-pub told_lent : (s : Settings) (labels : List Label) (placed : List Placed) (lent : Contents) (place : Option Place) (blank : Bool) (w columns lines most line start : ℕ) (name : Option (List ℕ)) (bytes : List ℕ) (p0 p1 p2 p3 : List Token) →
+pub told_lent : (s : Settings) (labels : List Label) (placed : List Placed) (lent : Contents) (place : Option Place) (blank : Bool) (happen : List Call → Type 0) (w columns lines most line start : ℕ) (name : Option (List ℕ)) (bytes : List ℕ) (p0 p1 p2 p3 : Printout) →
     line ≡ lent.line → start ≡ lent.span.offset → name ≡ lent.name → bytes ≡ lent.bytes →
     lines ≡ length (P.lines_from start bytes) → most ≡ most_multi placed (P.lines_from start bytes) → w ≡ width_of_count line lines → columns ≡ gutter_of most →
-    p1 ≡ p0 ++ told_rows (top_row_of s w name (ltb 1 lines) place ∷ []) →
-    PutsRows blank (texts_in start bytes (P.lines_from start bytes)) (λ pieces. lent_rows s w columns (map (drawn_of labels) placed) start bytes (line + 1) pieces (P.lines_from start bytes)) p1 p2 →
-    p3 ≡ p2 ++ told_rows (bottom_row s w ∷ []) →
-    PutsRows blank (lent_texts lent) (lent_snippet s (map (drawn_of labels) placed) lent place) p0 p3
-told_lent s labels placed lent place blank w columns lines most line start name bytes p0 p1 p2 p3 la at named data' many widest width gutter a b c =
+    p1 ≡ p0 ⊕ told_rows (top_row_of s w name (ltb 1 lines) place ∷ []) →
+    PutsRows blank happen (texts_in start bytes (P.lines_from start bytes)) (λ pieces. lent_rows s w columns (map (drawn_of labels) placed) start bytes (line + 1) pieces (P.lines_from start bytes)) p1 p2 →
+    p3 ≡ p2 ⊕ told_rows (bottom_row s w ∷ []) →
+    PutsRows blank happen (lent_texts lent) (lent_snippet s (map (drawn_of labels) placed) lent place) p0 p3
+told_lent s labels placed lent place blank happen w columns lines most line start name bytes p0 p1 p2 p3 la at named data' many widest width gutter a b c =
     let drawn : List DrawnLabel = map (drawn_of labels) placed in
     let same : P.lines_from start bytes ≡ lines_of_contents lent = ap (λ n. P.lines_from n bytes) at ∙ ap (P.lines_from lent.span.offset) data' in
     record {
       pieces = b.pieces;
+      calls = subst (λ (ls : List Line). happen (line_calls (texts_in lent.span.offset lent.bytes ls) b.pieces)) same
+          (subst (λ (n : ℕ). happen (line_calls (texts_in n lent.bytes (P.lines_from start bytes)) b.pieces)) at (subst (λ (bs : List ℕ). happen (line_calls (texts_in start bs (P.lines_from start bytes)) b.pieces)) data' b.calls));
       are = subst (λ (ls : List Line). EachHasPieces blank (texts_in lent.span.offset lent.bytes ls) b.pieces) same
           (subst (λ (n : ℕ). EachHasPieces blank (texts_in n lent.bytes (P.lines_from start bytes)) b.pieces) at (subst (λ (bs : List ℕ). EachHasPieces blank (texts_in start bs (P.lines_from start bytes)) b.pieces) data' b.are));
       is = told_counted s labels placed lent place b.pieces w columns lines most p0 p1 p2 p3 (many ∙ ap length same) (widest ∙ ap (most_multi placed) same) (width ∙ ap (λ n. width_of_count n lines) la) gutter
-          (a ∙ ap (λ n. p0 ++ told_rows (top_row_of s w n (ltb 1 lines) place ∷ [])) named)
-          (b.is ∙ ap (λ ls. p1 ++ told_rows (lent_rows s w columns drawn start bytes (line + 1) b.pieces ls)) same
-          ∙ ap (λ n. p1 ++ told_rows (lent_rows s w columns drawn n bytes (line + 1) b.pieces (lines_of_contents lent))) at
-          ∙ ap (λ n. p1 ++ told_rows (lent_rows s w columns drawn lent.span.offset n (line + 1) b.pieces (lines_of_contents lent))) data'
-          ∙ ap (λ n. p1 ++ told_rows (lent_rows s w columns drawn lent.span.offset lent.bytes (n + 1) b.pieces (lines_of_contents lent))) la)
+          (a ∙ ap (λ n. p0 ⊕ told_rows (top_row_of s w n (ltb 1 lines) place ∷ [])) named)
+          (b.is ∙ ap (λ ls. p1 ⊕ told_rows (lent_rows s w columns drawn start bytes (line + 1) b.pieces ls)) same
+          ∙ ap (λ n. p1 ⊕ told_rows (lent_rows s w columns drawn n bytes (line + 1) b.pieces (lines_of_contents lent))) at
+          ∙ ap (λ n. p1 ⊕ told_rows (lent_rows s w columns drawn lent.span.offset n (line + 1) b.pieces (lines_of_contents lent))) data'
+          ∙ ap (λ n. p1 ⊕ told_rows (lent_rows s w columns drawn lent.span.offset lent.bytes (n + 1) b.pieces (lines_of_contents lent))) la)
           c;
     }
+
+-- a restart before the calls for lines
+pub restarted_first : (blank : Bool) (had begun now : List Call → Type 0) (texts : List (List ℕ)) (rows : List (List Highlight) → List Row) (read : Contents) (before after : Printout) →
+    Leads had (restarted read ∷ []) begun → PutsRows blank (λ calls. Leads begun calls now) texts rows before after → PutsRows blank (λ calls. Leads had (restarted read ∷ calls) now) texts rows before after
+restarted_first blank had begun now texts rows read before after first h =
+    record { pieces = h.pieces; are = h.are; calls = λ later k. first (line_calls texts h.pieces ++ later) (h.calls later k); is = h.is }

@@ -1,12 +1,16 @@
 -- Snippets one after the other, and what the whole gives.
+use Rattle.miette_page.proofs.Paging.{put_append, put_nil}
+use Rattle.miette_page.specs.views.Printouts.{Printout, ◌⊕◌}
 use Rattle.std.proofs.Common.{ℕ, zero, suc, ◌+◌, ◌<◌, ◌≤◌, ◌≡◌, Bool, true, false, cond, List, [], ◌∷◌, ◌++◌, length, map, drop, get_or, Option, Some, None, ◌||◌, refl, sym, ap, ap₂, ◌∙◌, subst, arith, All, append_assoc, append-nil}
 use Rattle.std.specs.Option.{option_map}
+use Rattle.std.specs.Prelude.{is_some, if◌then◌else◌}
 use Rattle.std.specs.Str.{chars}
 use Rattle.std.proofs.lemmas.List.{drop_all, length-map}
 use Rattle.miette_newlines.specs.rules.Lines.{Line}
 use Rattle.miette_protocol.specs.views.Meaning.{Label}
 use Rattle.miette_protocol.specs.rules.Reading.{Span, Source, Contents}
 use Rattle.miette_style.specs.declared.style.Style.{Style}
+use Rattle.miette_style.specs.rules.Asked.{Call, Leads, restarted}
 use Rattle.miette_lines.specs.declared.grouping.Group.{Group}
 use Rattle.miette_lines.specs.declared.primary.Place.{Place as Found}
 use Rattle.miette_lines.specs.declared.reading.ReadLabel.{ReadLabel}
@@ -24,7 +28,7 @@ use Rattle.miette_layout.specs.rules.Frames.{Settings, Place, refused_row, top_r
 use Rattle.miette_lines.specs.views.Given.{drawn_of, label_at}
 use Rattle.miette_layout.specs.rules.Gutters.{gutter_columns}
 use Rattle.miette_lines.specs.rules.Groups.{in_order, refusal, groups_of, some_fails, AreAccepted}
-use Rattle.miette_layout.specs.rules.Highlighted.{EachHasPieces, SnippetsHavePieces, texts_of}
+use Rattle.miette_layout.specs.rules.Highlighted.{EachHasPieces, SnippetsHavePieces, texts_of, line_calls, group_calls, snippet_calls}
 use Rattle.miette_lines.specs.rules.Labels.{DrawnLabel, drawn_from}
 use Rattle.miette_layout.specs.rules.Layout.{snippet, all_snippets, line_rows, settings_around, rows_unless, place_of, body_rows}
 use Rattle.miette_layout.specs.steps.Lent.{cells_in, lent_rows, lent_snippet, PutsRows}
@@ -36,7 +40,7 @@ use Rattle.miette_layout.proofs.Bodies.{none_refused}
 use Rattle.miette_lines.proofs.Bodies.{some_none}
 use Rattle.miette_layout.proofs.Choosing.{framed_place, place_is, unread_fails}
 use Rattle.miette_layout.proofs.Ends.{placed_drawn}
-use Rattle.miette_layout.proofs.Styling.{none_have, snippets_plain}
+use Rattle.miette_layout.proofs.Styling.{none_have, snippets_plain, calls_plain}
 use Rattle.miette_layout.proofs.Lending.{told_rows-append, lent_body, lent_texts, lent_texts_are}
 use Rattle.miette_lines.proofs.Owning.{own_ordered}
 use Rattle.miette_lines.proofs.Refusing.{read_of, all_accepted}
@@ -47,14 +51,15 @@ abbrev pub spans_grouped : List Group → List Span
 spans_grouped groups = map (λ group. group.span) groups
 
 -- so many groups are drawn: whatever pieces the others have, there are pieces for all
-abbrev pub AreDrawn : Settings → Source → List Label → Bool → List Group → ℕ → List Token → Type 0
-AreDrawn s source labels blank groups i page =
+abbrev pub AreDrawn : Settings → Source → List Label → Bool → (List Call → Type 0) → (List Call → Type 0) → List Group → ℕ → Printout → Printout → Type 0
+AreDrawn s source labels blank begun now groups i before page =
     (more : List (List (List Highlight))) → SnippetsHavePieces s.context blank source (spans_grouped (drop i groups)) more →
     (all : List (List (List Highlight))) × SnippetsHavePieces s.context blank source (spans_grouped groups) all
-    × (page ++ told_rows (all_snippets s source (in_order labels) more (spans_grouped (drop i groups))) ≡ told_rows (all_snippets s source (in_order labels) all (spans_grouped groups)))
+    × ((later : List Call) → now (group_calls s.context source (spans_grouped (drop i groups)) more ++ later) → begun (group_calls s.context source (spans_grouped groups) all ++ later))
+    × (page ⊕ told_rows (all_snippets s source (in_order labels) more (spans_grouped (drop i groups))) ≡ before ⊕ told_rows (all_snippets s source (in_order labels) all (spans_grouped groups)))
 
-pub none_drawn : (s : Settings) (source : Source) (labels : List Label) (blank : Bool) (groups : List Group) (page : List Token) → page ≡ [] → AreDrawn s source labels blank groups 0 page
-none_drawn s source labels blank groups page e = λ more h. (more, h, ap (λ p. p ++ told_rows (all_snippets s source (in_order labels) more (spans_grouped groups))) e)
+pub none_drawn : (s : Settings) (source : Source) (labels : List Label) (blank : Bool) (begun : List Call → Type 0) (groups : List Group) (page : Printout) → AreDrawn s source labels blank begun begun groups 0 page page
+none_drawn s source labels blank begun groups page = λ more h. (more, h, (λ later k. k), refl)
 
 snippet_same : (s : Settings) (source : Source) (labels : List Label) (span : Span) (drawn : List DrawnLabel) (lent : Contents) (place : Option Place) (pieces : List (List Highlight)) →
     drawn ≡ drawn_from s.styles.highlights (length source.bytes) 0 labels → lent ≡ contents s.context source span → place ≡ place_of source span labels →
@@ -77,12 +82,13 @@ snippet_around s c drawn lent place pieces =
     ap (λ rows. top_row s lent place ∷ rows ++ bottom_row s (number_width lent) ∷ [])
     (rows_around s c (number_width lent) (gutter_columns drawn (lines_of_contents lent)) drawn lent.span.offset lent.bytes (lent.line + 1) pieces (lines_of_contents lent))
 
-pub puts_around : (s : Settings) (c : ℕ) (blank : Bool) (texts : List (List ℕ)) (drawn : List DrawnLabel) (lent : Contents) (place : Option Place) (page more : List Token) →
-    PutsRows blank texts (lent_snippet s drawn lent place) page more → PutsRows blank texts (lent_snippet (record s { context = c }) drawn lent place) page more
-puts_around s c blank texts drawn lent place page more h = record {
+pub puts_around : (s : Settings) (c : ℕ) (blank : Bool) (happen : List Call → Type 0) (texts : List (List ℕ)) (drawn : List DrawnLabel) (lent : Contents) (place : Option Place) (page more : Printout) →
+    PutsRows blank happen texts (lent_snippet s drawn lent place) page more → PutsRows blank happen texts (lent_snippet (record s { context = c }) drawn lent place) page more
+puts_around s c blank happen texts drawn lent place page more h = record {
   pieces = h.pieces;
   are = h.are;
-  is = h.is ∙ ap (λ rows. page ++ told_rows rows) (sym (snippet_around s c drawn lent place h.pieces));
+  calls = h.calls;
+  is = h.is ∙ ap (λ rows. page ⊕ told_rows rows) (sym (snippet_around s c drawn lent place h.pieces));
 }
 
 drop_at : {X : Type 0} (xs : List X) (i : ℕ) (d : X) → i < length xs → drop i xs ≡ get_or xs i d ∷ drop (i + 1) xs
@@ -91,57 +97,71 @@ drop_at (x ∷ xs) zero d lt = refl
 drop_at (x ∷ xs) (suc i) d lt = let e : suc i + 1 ≡ suc (i + 1) = omega arith in rw e (drop_at xs i d (omega (arith, lt)))
 
 -- the rows of one group more
-group_step : (s : Settings) (source : Source) (labels : List Label) (groups : List Group) (i : ℕ) (group : Group) (pieces : List (List Highlight)) (later : List (List (List Highlight))) (page more : List Token) (drawn : List DrawnLabel) (place : Option Place) →
+group_step : (s : Settings) (source : Source) (labels : List Label) (groups : List Group) (i : ℕ) (group : Group) (pieces : List (List Highlight)) (later : List (List (List Highlight))) (page more : Printout) (drawn : List DrawnLabel) (place : Option Place) →
     spans_grouped (drop i groups) ≡ group.span ∷ spans_grouped (drop (i + 1) groups) → IsLent s.context source group.span group.contents →
     drawn ≡ drawn_from s.styles.highlights (length source.bytes) 0 (in_order labels) → place ≡ place_of source group.span (in_order labels) →
-    more ≡ page ++ told_rows (lent_snippet s drawn group.contents place pieces) →
-    more ++ told_rows (all_snippets s source (in_order labels) later (spans_grouped (drop (i + 1) groups))) ≡ page ++ told_rows (all_snippets s source (in_order labels) (pieces ∷ later) (spans_grouped (drop i groups)))
+    more ≡ page ⊕ told_rows (lent_snippet s drawn group.contents place pieces) →
+    more ⊕ told_rows (all_snippets s source (in_order labels) later (spans_grouped (drop (i + 1) groups))) ≡ page ⊕ told_rows (all_snippets s source (in_order labels) (pieces ∷ later) (spans_grouped (drop i groups)))
 group_step s source labels groups i group pieces later page more drawn place front lent d p e =
     let ls : List Label = in_order labels in
     let rest : List Row = all_snippets s source ls later (spans_grouped (drop (i + 1) groups)) in
     let own : List Row = snippet s source ls group.span pieces in
-    ap (λ m. m ++ told_rows rest) e
-    ∙ append_assoc page (told_rows (lent_snippet s drawn group.contents place pieces)) (told_rows rest)
-    ∙ ap (λ rows. page ++ (told_rows rows ++ told_rows rest)) (snippet_same s source ls group.span drawn group.contents place pieces d lent.is p)
-    ∙ ap (λ t. page ++ t) (sym (told_rows-append own rest))
-    ∙ ap (λ ss. page ++ told_rows (all_snippets s source ls (pieces ∷ later) ss)) (sym front)
+    ap (λ m. m ⊕ told_rows rest) e
+    ∙ put_append page (told_rows (lent_snippet s drawn group.contents place pieces)) (told_rows rest)
+    ∙ ap (λ rows. page ⊕ (told_rows rows ++ told_rows rest)) (snippet_same s source ls group.span drawn group.contents place pieces d lent.is p)
+    ∙ ap (λ t. page ⊕ t) (sym (told_rows-append own rest))
+    ∙ ap (λ ss. page ⊕ told_rows (all_snippets s source ls (pieces ∷ later) ss)) (sym front)
 
-pub drawn_more : (s : Settings) (source : Source) (labels : List Label) (blank : Bool) (groups : List Group) (i : ℕ) (group : Group) (page more : List Token) (drawn : List DrawnLabel) (place : Option Place) →
-    AreDrawn s source labels blank groups i page → i < length groups → group ≡ get_or groups i group → IsLent s.context source group.span group.contents →
+pub drawn_more : (s : Settings) (source : Source) (labels : List Label) (blank : Bool) (begun was now : List Call → Type 0) (groups : List Group) (i : ℕ) (group : Group) (before page more : Printout) (drawn : List DrawnLabel) (place : Option Place) →
+    AreDrawn s source labels blank begun was groups i before page → i < length groups → group ≡ get_or groups i group → IsLent s.context source group.span group.contents →
     drawn ≡ drawn_from s.styles.highlights (length source.bytes) 0 (in_order labels) → place ≡ place_of source group.span (in_order labels) →
-    PutsRows blank (lent_texts group.contents) (lent_snippet s drawn group.contents place) page more → AreDrawn s source labels blank groups (i + 1) more
-drawn_more s source labels blank groups i group page more drawn place h lt is lent d p e = λ later own.
+    PutsRows blank (λ calls. Leads was (restarted group.contents ∷ calls) now) (lent_texts group.contents) (lent_snippet s drawn group.contents place) page more → AreDrawn s source labels blank begun now groups (i + 1) before more
+drawn_more s source labels blank begun was now groups i group before page more drawn place h lt is lent d p e = λ later own.
     let front : spans_grouped (drop i groups) ≡ group.span ∷ spans_grouped (drop (i + 1) groups) = ap spans_grouped (drop_at groups i group lt) ∙ ap (λ (g : Group). g.span ∷ spans_grouped (drop (i + 1) groups)) (sym is) in
     let mine : EachHasPieces blank (texts_of source.bytes (lines_of_contents (contents s.context source group.span))) e.pieces =
     subst (λ (ts : List (List ℕ)). EachHasPieces blank ts e.pieces) (ap lent_texts lent.is ∙ lent_texts_are s.context source group.span) e.are in
     let all = h (e.pieces ∷ later) (subst (λ (ss : List Span). SnippetsHavePieces s.context blank source ss (e.pieces ∷ later)) (sym front) (mine, own)) in
-    (all.0, all.1, group_step s source labels groups i group e.pieces later page more drawn place front lent d p e.is ∙ all.2)
+    let read : Contents = contents s.context source group.span in
+    let lines : List Call = line_calls (texts_of source.bytes (lines_of_contents read)) e.pieces in
+    let others : List Call = group_calls s.context source (spans_grouped (drop (i + 1) groups)) later in
+    let called : Leads was (restarted read ∷ lines) now =
+    subst (λ (ts : List (List ℕ)). Leads was (restarted read ∷ line_calls ts e.pieces) now) (lent_texts_are s.context source group.span)
+    (subst (λ (c : Contents). Leads was (restarted c ∷ line_calls (lent_texts c) e.pieces) now) lent.is e.calls) in (
+      all.0,
+      all.1,
+      (λ calls k. all.2 calls (subst (λ (ss : List Span). was (group_calls s.context source ss (e.pieces ∷ later) ++ calls)) (sym front)
+          (subst (λ (cs : List Call). was (restarted read ∷ cs)) (sym (append_assoc lines others calls)) (called (others ++ calls) k)))),
+      group_step s source labels groups i group e.pieces later page more drawn place front lent d p e.is ∙ all.3,
+    )
 
 -- all groups are drawn
-pub record IsWhole (s : Settings) (source : Source) (labels : List Label) (blank : Bool) (groups : List Group) (page : List Token) : Type 0 where
+pub record IsWhole (s : Settings) (source : Source) (labels : List Label) (blank : Bool) (happen : List Call → Type 0) (groups : List Group) (before page : Printout) : Type 0 where
   pub pieces : List (List (List Highlight))
   pub have : SnippetsHavePieces s.context blank source (spans_grouped groups) pieces
   pub plain : blank ≡ true → pieces ≡ []
-  pub is : page ≡ told_rows (all_snippets s source (in_order labels) pieces (spans_grouped groups))
+  pub calls : happen (group_calls s.context source (spans_grouped groups) pieces)
+  pub is : page ≡ before ⊕ told_rows (all_snippets s source (in_order labels) pieces (spans_grouped groups))
 
 -- where lines are left plain there are no pieces
-unless_plain : (s : Settings) (source : Source) (labels : List Label) (blank : Bool) (groups : List Group) (page : List Token) (pieces : List (List (List Highlight))) →
-    SnippetsHavePieces s.context blank source (spans_grouped groups) pieces → page ≡ told_rows (all_snippets s source (in_order labels) pieces (spans_grouped groups)) → IsWhole s source labels blank groups page
-unless_plain s source labels true groups page pieces h e = record {
+unless_plain : (s : Settings) (source : Source) (labels : List Label) (blank : Bool) (happen : List Call → Type 0) (groups : List Group) (before page : Printout) (pieces : List (List (List Highlight))) →
+    SnippetsHavePieces s.context blank source (spans_grouped groups) pieces → happen (group_calls s.context source (spans_grouped groups) pieces) → page ≡ before ⊕ told_rows (all_snippets s source (in_order labels) pieces (spans_grouped groups)) → IsWhole s source labels blank happen groups before page
+unless_plain s source labels true happen groups before page pieces h c e = record {
   pieces = [];
   have = none_have s.context true source (spans_grouped groups);
   plain = λ b. refl;
-  is = e ∙ ap told_rows (snippets_plain s source (in_order labels) pieces (spans_grouped groups) h);
+  calls = subst happen (calls_plain s.context source (spans_grouped groups) pieces h) c;
+  is = e ∙ ap (λ rows. before ⊕ told_rows rows) (snippets_plain s source (in_order labels) pieces (spans_grouped groups) h);
 }
-unless_plain s source labels false groups page pieces h e = record { pieces = pieces; have = h; plain = λ b. absurd (cc); is = e }
+unless_plain s source labels false happen groups before page pieces h c e = record { pieces = pieces; have = h; plain = λ b. absurd (cc); calls = c; is = e }
 
-pub all_drawn : (s : Settings) (source : Source) (labels : List Label) (blank : Bool) (groups : List Group) (i : ℕ) (page : List Token) → AreDrawn s source labels blank groups i page → length groups ≤ i →
-    IsWhole s source labels blank groups page
-all_drawn s source labels blank groups i page h le =
+pub all_drawn : (s : Settings) (source : Source) (labels : List Label) (blank : Bool) (begun now : List Call → Type 0) (groups : List Group) (i : ℕ) (before page : Printout) → AreDrawn s source labels blank begun now groups i before page → length groups ≤ i →
+    IsWhole s source labels blank (λ calls. Leads begun calls now) groups before page
+all_drawn s source labels blank begun now groups i before page h le =
     let none : drop i groups ≡ [] = drop_all i groups le in
     let all = h [] (none_have s.context blank source (spans_grouped (drop i groups))) in
-    unless_plain s source labels blank groups page all.0 all.1
-    (sym (append-nil page) ∙ ap (λ gs. page ++ told_rows (all_snippets s source (in_order labels) [] (spans_grouped gs))) (sym none) ∙ all.2)
+    unless_plain s source labels blank (λ calls. Leads begun calls now) groups before page all.0 all.1
+    (λ later k. all.2 later (subst (λ (gs : List Group). now (group_calls s.context source (spans_grouped gs) [] ++ later)) (sym none) k))
+    (sym (put_nil page) ∙ ap (λ gs. page ⊕ told_rows (all_snippets s source (in_order labels) [] (spans_grouped gs))) (sym none) ∙ all.3)
 
 -- the labels' groups
 
@@ -151,10 +171,10 @@ none_refused_here context source labels reads order h =
     none_refused source.bytes [] (in_order labels) tt (subst (λ (ls : List Label). AreAccepted source.bytes ls) order (all_accepted context source labels reads h))
 
 -- all snippets were drawn
-pub gives_rows : (s : Settings) (source : Source) (labels : List Label) (blank : Bool) (reads : List ReadLabel) (groups : List Group) (page : List Token) → map (read_of labels) reads ≡ in_order labels →
-    All (IsRead s.context source labels) reads → AreGroups s.context source (in_order labels) groups → IsWhole (settings_around s (in_order labels)) source labels blank groups page →
-    MayGive s source labels blank (Some page)
-gives_rows s source labels blank reads groups page order h g e =
+pub gives_rows : (s : Settings) (source : Source) (labels : List Label) (blank : Bool) (happen : List Call → Type 0) (reads : List ReadLabel) (groups : List Group) (before page : Printout) → map (read_of labels) reads ≡ in_order labels →
+    All (IsRead s.context source labels) reads → AreGroups s.context source (in_order labels) groups → IsWhole (settings_around s (in_order labels)) source labels blank happen groups before page →
+    MayGive s source labels blank happen before (Some page)
+gives_rows s source labels blank happen reads groups before page order h g e =
     let ls : List Label = in_order labels in
     let s' : Settings = settings_around s ls in
     let answers : Answers = record { label_fails = []; join_fails = g.fails; place_fails = []; pieces = e.pieces } in
@@ -164,9 +184,11 @@ gives_rows s source labels blank reads groups page order h g e =
       always = λ a. record { labels = tt; joins = g.always a; places = tt };
       pieces = subst (λ (gs : List Span). SnippetsHavePieces s'.context blank source gs e.pieces) g.are e.have;
       plain = e.plain;
-      is = ap Some (e.is ∙ ap (λ gs. told_rows (all_snippets s' source ls e.pieces gs)) g.are)
-          ∙ sym (ap₂ (λ a b. option_map told_rows (cond (a || b) None (Some (all_snippets s' source ls e.pieces spans)))) g.read (some_none [] spans tt))
-          ∙ sym (ap (λ r. option_map told_rows (rows_unless s source ls answers (option_map (refused_row s) r))) (none_refused_here s.context source labels reads order h));
+      calls = subst (λ r. happen (if is_some r then [] else group_calls s'.context source spans e.pieces)) (sym (none_refused_here s.context source labels reads order h))
+          (subst (λ (gs : List Span). happen (group_calls s'.context source gs e.pieces)) g.are e.calls);
+      is = ap Some (e.is ∙ ap (λ gs. before ⊕ told_rows (all_snippets s' source ls e.pieces gs)) g.are)
+          ∙ sym (ap₂ (λ a b. option_map (λ rows. before ⊕ told_rows rows) (cond (a || b) None (Some (all_snippets s' source ls e.pieces spans)))) g.read (some_none [] spans tt))
+          ∙ sym (ap (λ r. option_map (λ rows. before ⊕ told_rows rows) (rows_unless s source ls answers (option_map (refused_row s) r))) (none_refused_here s.context source labels reads order h));
     }
 
 -- the answers up to a place that can't be read
@@ -180,10 +202,10 @@ one_fails zero (g ∷ gs) lt = refl
 one_fails (suc i) (g ∷ gs) lt = one_fails i gs (omega (arith, lt))
 
 -- a place can't be read
-pub gives_none : (s : Settings) (source : Source) (labels : List Label) (blank own : Bool) (reads : List ReadLabel) (groups : List Group) (i : ℕ) (span : Span) (found : Found) → map (read_of labels) reads ≡ in_order labels →
+pub gives_none : (s : Settings) (source : Source) (labels : List Label) (blank : Bool) (happen : List Call → Type 0) (own : Bool) (reads : List ReadLabel) (groups : List Group) (i : ℕ) (span : Span) (found : Found) (before : Printout) → map (read_of labels) reads ≡ in_order labels →
     All (IsRead s.context source labels) reads → AreGroups s.context source (in_order labels) groups → i < length groups →
-    PointsTo source (chosen own span None reads) found → is_unread found ≡ true → MayGive s source labels blank None
-gives_none s source labels blank own reads groups i span found order h g lt p u =
+    PointsTo source (chosen own span None reads) found → is_unread found ≡ true → MayGive s source labels blank happen before None
+gives_none s source labels blank happen own reads groups i span found before order h g lt p u =
     let ls : List Label = in_order labels in
     let s' : Settings = settings_around s ls in
     let answers : Answers = record { label_fails = []; join_fails = g.fails; place_fails = fails_at i; pieces = [] } in
@@ -195,14 +217,15 @@ gives_none s source labels blank own reads groups i span found order h g lt p u 
       always = λ a. cc;
       pieces = none_have s'.context blank source spans;
       plain = λ b. refl;
-      is = sym (ap₂ (λ a b. option_map told_rows (cond (a || b) None (Some (all_snippets s' source ls [] spans)))) g.read (one_fails i spans many))
-          ∙ sym (ap (λ r. option_map told_rows (rows_unless s source ls answers (option_map (refused_row s) r))) (none_refused_here s.context source labels reads order h));
+      calls = tt;
+      is = sym (ap₂ (λ a b. option_map (λ rows. before ⊕ told_rows rows) (cond (a || b) None (Some (all_snippets s' source ls [] spans)))) g.read (one_fails i spans many))
+          ∙ sym (ap (λ r. option_map (λ rows. before ⊕ told_rows rows) (rows_unless s source ls answers (option_map (refused_row s) r))) (none_refused_here s.context source labels reads order h));
     }
 
 -- the read of a group failed
-pub gives_unread : (s : Settings) (source : Source) (labels : List Label) (blank : Bool) (reads : List ReadLabel) → map (read_of labels) reads ≡ in_order labels → All (IsRead s.context source labels) reads →
-    IsUnread s.context source (in_order labels) → MayGive s source labels blank None
-gives_unread s source labels blank reads order h g =
+pub gives_unread : (s : Settings) (source : Source) (labels : List Label) (blank : Bool) (happen : List Call → Type 0) (reads : List ReadLabel) (before : Printout) → map (read_of labels) reads ≡ in_order labels → All (IsRead s.context source labels) reads →
+    IsUnread s.context source (in_order labels) → MayGive s source labels blank happen before None
+gives_unread s source labels blank happen reads before order h g =
     let ls : List Label = in_order labels in
     let s' : Settings = settings_around s ls in
     let answers : Answers = record { label_fails = []; join_fails = g.fails; place_fails = []; pieces = [] } in
@@ -212,13 +235,14 @@ gives_unread s source labels blank reads order h g =
       always = λ a. let no : source.always_reads ≡ false = g.always in cc;
       pieces = none_have s'.context blank source spans;
       plain = λ b. refl;
-      is = sym (ap (λ b. option_map told_rows (cond (b || some_fails [] spans) None (Some (all_snippets s' source ls [] spans)))) g.unread)
-          ∙ sym (ap (λ r. option_map told_rows (rows_unless s source ls answers (option_map (refused_row s) r))) (none_refused_here s.context source labels reads order h));
+      calls = tt;
+      is = sym (ap (λ b. option_map (λ rows. before ⊕ told_rows rows) (cond (b || some_fails [] spans) None (Some (all_snippets s' source ls [] spans)))) g.unread)
+          ∙ sym (ap (λ r. option_map (λ rows. before ⊕ told_rows rows) (rows_unless s source ls answers (option_map (refused_row s) r))) (none_refused_here s.context source labels reads order h));
     }
 
 -- the labels as they are drawn, in order
 pub drawn_is : (styles : List Style) (context : ℕ) (source : Source) (labels : List Label) (reads : List ReadLabel) (placed : List Placed) → map (read_of labels) reads ≡ in_order labels →
-    All (IsRead context source labels) reads → placed ≡ placed_from styles labels 0 reads → map (drawn_of labels) placed ≡ drawn_from styles (length source.bytes) 0 (in_order labels)
+    All (IsRead context source labels) reads → placed ≡ placed_from styles 0 reads → map (drawn_of labels) placed ≡ drawn_from styles (length source.bytes) 0 (in_order labels)
 drawn_is styles context source labels reads placed order h e =
     ap (map (drawn_of labels)) e ∙ placed_drawn styles context source labels 0 reads h ∙ ap (drawn_from styles (length source.bytes) 0) order
 
@@ -234,10 +258,10 @@ named reasons.IoError = refl
 named reasons.OutOfBounds = refl
 
 -- a label is refused
-pub gives_refused : (s : Settings) (source : Source) (labels order : List Label) (blank : Bool) (read : ReadLabels) (index : ℕ) (reason : Refusal) (label : Label) (text : List ℕ) (before page : List Token) →
-    AreRead s.context source labels order read → read ≡ reads.Refused index reason → order ≡ in_order labels → label ≡ get_or labels index label → text ≡ name_of reason → before ≡ [] →
-    page ≡ before ++ told_rows (refused_row s (record { label = label; name = chars text }) ∷ []) → MayGive s source labels blank (Some page)
-gives_refused s source labels order blank read index reason label text before page h is same at called none e =
+pub gives_refused : (s : Settings) (source : Source) (labels order : List Label) (blank : Bool) (happen : List Call → Type 0) (read : ReadLabels) (index : ℕ) (reason : Refusal) (label : Label) (text : List ℕ) (before page : Printout) →
+    AreRead s.context source labels order read → read ≡ reads.Refused index reason → order ≡ in_order labels → label ≡ get_or labels index label → text ≡ name_of reason →
+    page ≡ before ⊕ told_rows (refused_row s (record { label = label; name = chars text }) ∷ []) → happen [] → MayGive s source labels blank happen before (Some page)
+gives_refused s source labels order blank happen read index reason label text before page h is same at called e nothing =
     let name : List ℕ = chars text in
     let names : name ≡ name_of reason = ap chars called ∙ named reason in
     let k : AreRead s.context source labels order (reads.Refused index reason) = subst (λ (r : ReadLabels). AreRead s.context source labels order r) is h in
@@ -252,8 +276,9 @@ gives_refused s source labels order blank read index reason label text before pa
       always = λ a. record { labels = k.1 a; joins = tt; places = tt };
       pieces = none_have (group_context s.context ls) blank source (groups_of s.context source [] ls);
       plain = λ b. refl;
-      is = ap Some (e ∙ ap (λ b. b ++ told_rows (refused_row s (record { label = label; name = name }) ∷ [])) none)
-          ∙ sym (ap (λ r. option_map told_rows (rows_unless s source ls answers (option_map (refused_row s) r))) refused);
+      calls = subst (λ r. happen (if is_some r then [] else group_calls (group_context s.context ls) source (groups_of s.context source [] ls) [])) (sym refused) nothing;
+      is = ap Some e
+          ∙ sym (ap (λ r. option_map (λ rows. before ⊕ told_rows rows) (rows_unless s source ls answers (option_map (refused_row s) r))) refused);
     }
 
 pub groups_lent : (context : ℕ) (source : Source) (labels : List Label) (groups : List Group) (i : ℕ) (group : Group) → AreGroups context source labels groups → i < length groups → group ≡ get_or groups i group →

@@ -1,6 +1,7 @@
 //! The texts of the labels of several lines that end on a line.
 
 ghost use Rattle.std.specs.Prelude.{◌≡◌, ◌++◌, ◌∷◌, [], not, ◌&&◌, chars, map, OnOk};
+ghost use Rattle.miette_page.specs.views.Printouts.{◌⊕◌};
 ghost use Rattle.miette_page.specs.views.Told.{row_end, told_rows, run_told};
 ghost use Rattle.miette_lines.specs.rules.Labels.{starts_on, ends_on, cut_at_lf, closing};
 ghost use Rattle.miette_layout.specs.rules.Gutters.{closing_parts, closing_rows};
@@ -9,7 +10,7 @@ ghost use Rattle.miette_layout.specs.rules.Layout.{before_each};
 ghost use Rattle.miette_lines.specs.views.Sweeping.{label_of};
 ghost use Rattle.miette_lines.specs.views.Given.{drawn_of};
 ghost use Rattle.miette_layout.specs.steps.Sheets.{settings, multi_labels, closed_line, open_line};
-ghost use Rattle.miette_lines.specs.views.TextLines.{line_of_text};
+ghost use Rattle.miette_newlines.specs.views.Walking.{line_of_text};
 
 use crate::gutters::{ends, push_open_gutter, push_other_gutter, starts};
 use crate::parts::first_part;
@@ -17,7 +18,7 @@ use crate::sheet::Sheet;
 use crate::texts::push_other_start;
 use miette_lines::drawn_labels::text_of;
 use miette_lines::sweep::Placed;
-use miette_lines::text_line::LineOfText;
+use miette_newlines::lines::LineOfText;
 use miette_page::page::Page;
 use miette_style::style::Style;
 use std::alloc::AllocError;
@@ -32,7 +33,7 @@ fn closes(line: &LineOfText, label: &Placed) -> bool
 
 // The end of a row: `─ a label's text`.
 fn push_part(page: &mut Page, style: Style, bar: char, part: &str) -> Result<(), AllocError>
-    ensures { OnOk result (page.new ≡ page.old ++ (run_told style (bar ∷ 32 ∷ chars part.now) ++ row_end ∷ [])) }
+    ensures { OnOk result (page.new ≡ page.old ⊕ (run_told style (bar ∷ 32 ∷ chars part.now) ++ row_end ∷ [])) }
 {
     page.push_line(style, bar, ' ', 1)?;
     page.push_str(part)?;
@@ -50,7 +51,7 @@ fn push_closed_row(
     part: &str,
 ) -> Result<(), AllocError>
     ensures { OnOk result (page.new ≡ page.old
-        ++ told_rows (closed_line sheet.now columns (drawn_of sheet.now.labels.now label.now) bar (chars part.now)
+        ⊕ told_rows (closed_line sheet.now columns (drawn_of sheet.now.labels.now label.now) bar (chars part.now)
         ∷ [])) }
 {
     push_other_start(page, sheet)?;
@@ -68,7 +69,7 @@ fn push_open_row(
     part: &str,
 ) -> Result<(), AllocError>
     ensures { OnOk result (page.new ≡ page.old
-        ++ told_rows (open_line sheet.now columns (drawn_of sheet.now.labels.now label.now) (chars part.now) ∷ [])) }
+        ⊕ told_rows (open_line sheet.now columns (drawn_of sheet.now.labels.now label.now) (chars part.now) ∷ [])) }
 {
     push_other_start(page, sheet)?;
     push_open_gutter(page, sheet, columns)?;
@@ -85,7 +86,7 @@ fn push_open_rows(
     text: &str,
 ) -> Result<(), AllocError>
     ensures { OnOk result (page.new ≡ page.old
-        ++ told_rows (map (open_line sheet.now columns (drawn_of sheet.now.labels.now label.now))
+        ⊕ told_rows (map (open_line sheet.now columns (drawn_of sheet.now.labels.now label.now))
         (cut_at_lf (chars text.now)))) }
 {
     let mut left = Some(text);
@@ -100,7 +101,7 @@ fn push_open_rows(
 // The rows of a label's text: `╰──── text`, or `╰───┤ text` and a row for each further part.
 fn push_closing(page: &mut Page, sheet: &Sheet, label: &Placed) -> Result<(), AllocError>
     ensures { OnOk result (page.new ≡ page.old
-        ++ told_rows (before_each (other_start (settings sheet.now) sheet.now.number_width)
+        ⊕ told_rows (before_each (other_start (settings sheet.now) sheet.now.number_width)
         (closing_parts (settings sheet.now).width (settings sheet.now).characters (line_of_text sheet.now.line)
         sheet.now.gutter (multi_labels sheet.now)
         (drawn_of sheet.now.labels.now label.now) (drawn_of sheet.now.labels.now label.now).parts))) }
@@ -124,7 +125,7 @@ fn push_closing(page: &mut Page, sheet: &Sheet, label: &Placed) -> Result<(), Al
 /// memory is refused, or `number_width + 2` is past the largest `usize`.
 pub(crate) fn push_closings(page: &mut Page, sheet: &Sheet) -> Result<(), AllocError>
     ensures { OnOk result (page.new ≡ page.old
-        ++ told_rows (before_each (other_start (settings sheet.now) sheet.now.number_width)
+        ⊕ told_rows (before_each (other_start (settings sheet.now) sheet.now.number_width)
         (closing_rows (settings sheet.now).width (settings sheet.now).characters (line_of_text sheet.now.line)
         sheet.now.gutter (multi_labels sheet.now)
         (closing (line_of_text sheet.now.line) (multi_labels sheet.now))))) }

@@ -4,6 +4,7 @@ ghost use Rattle.std.specs.Prelude.{◌≡◌, ◌++◌, ◌∷◌, [], IsTrue, 
 ghost use Rattle.std.specs.Prelude.{if◌then◌else◌, false, OnOk};
 ghost use Rattle.std.specs.List.{list_all};
 ghost use Rattle.std.specs.Option.{option_map};
+ghost use Rattle.miette_page.specs.views.Printouts.{◌⊕◌};
 ghost use Rattle.miette_page.specs.views.Told.{told, told_rows, run_told, text_told};
 ghost use Rattle.miette_layout.specs.rules.Frames.{top_row_of, bottom_row, location, location_of, place_text};
 ghost use Rattle.miette_layout.specs.rules.Frames.{refused_row, text_or_none};
@@ -31,7 +32,7 @@ pub(crate) struct Frame<'a> {
 // A run of ASCII characters.
 fn push_ascii(page: &mut Page, style: Style, text: &str) -> Result<(), AllocError>
     requires { IsTrue (list_all (λ b. nat_lt b 128) text.now) }
-    ensures { OnOk result (page.new ≡ page.old ++ run_told style text.now) }
+    ensures { OnOk result (page.new ≡ page.old ⊕ run_told style text.now) }
 {
     page.begin(style)?;
     page.push_str(text)?;
@@ -40,7 +41,7 @@ fn push_ascii(page: &mut Page, style: Style, text: &str) -> Result<(), AllocErro
 
 // A run of a text.
 fn push_styled(page: &mut Page, style: Style, text: &str) -> Result<(), AllocError>
-    ensures { OnOk result (page.new ≡ page.old ++ run_told style (chars text.now)) }
+    ensures { OnOk result (page.new ≡ page.old ⊕ run_told style (chars text.now)) }
 {
     page.begin(style)?;
     page.push_str(text)?;
@@ -49,7 +50,7 @@ fn push_styled(page: &mut Page, style: Style, text: &str) -> Result<(), AllocErr
 
 // A run of a number.
 fn push_count(page: &mut Page, style: Style, number: usize) -> Result<(), AllocError>
-    ensures { OnOk result (page.new ≡ page.old ++ run_told style (decimal number)) }
+    ensures { OnOk result (page.new ≡ page.old ⊕ run_told style (decimal number)) }
 {
     page.begin(style)?;
     page.push_number(number)?;
@@ -59,7 +60,7 @@ fn push_count(page: &mut Page, style: Style, number: usize) -> Result<(), AllocE
 // The spaces before a corner, the corner, and what follows it: `   ╭─`.
 fn push_corner(page: &mut Page, frame: &Frame, corner: char, many: usize) -> Result<(), AllocError>
     ensures { OnOk result (page.new ≡ page.old
-        ++ told (corner_row (settings_of frame.now.theme.now frame.now.options) frame.now.number_width corner many)) }
+        ⊕ told (corner_row (settings_of frame.now.theme.now frame.now.options) frame.now.number_width corner many)) }
 {
     let Some(columns) = frame.number_width.checked_add(2) else {
         return Err(AllocError);
@@ -71,7 +72,7 @@ fn push_corner(page: &mut Page, frame: &Frame, corner: char, many: usize) -> Res
 
 // A line's and a column's number, counted from 1 where they are given from 0: `2:3`.
 fn push_place(page: &mut Page, place: (usize, usize)) -> Result<(), AllocError>
-    ensures { OnOk result (page.new ≡ page.old ++ text_told (place_text (place_at place))) }
+    ensures { OnOk result (page.new ≡ page.old ⊕ text_told (place_text (place_at place))) }
 {
     let Some(line) = place.0.checked_add(1) else {
         return Err(AllocError);
@@ -92,7 +93,7 @@ fn push_link(
     name: &str,
     place: (usize, usize),
 ) -> Result<(), AllocError>
-    ensures { OnOk result (page.new ≡ page.old ++ run_told frame.now.theme.now.styles.link
+    ensures { OnOk result (page.new ≡ page.old ⊕ run_told frame.now.theme.now.styles.link
         (if frame.now.options.primary_start then chars name.now ++ codes ":" ++ place_text (place_at place)
         else chars name.now)) }
 {
@@ -113,7 +114,7 @@ fn push_named_place(
     place: (usize, usize),
 ) -> Result<(), AllocError>
     ensures { OnOk result (page.new ≡ page.old
-        ++ told (location (settings_of frame.now.theme.now frame.now.options) (Some name.now) false (place_at place))) }
+        ⊕ told (location (settings_of frame.now.theme.now frame.now.options) (Some name.now) false (place_at place))) }
 {
     push_ascii(page, PLAIN, "[")?;
     push_link(page, frame, name, place)?;
@@ -129,7 +130,7 @@ fn push_bare_place(
     place: (usize, usize),
 ) -> Result<(), AllocError>
     ensures { OnOk result (page.new ≡ page.old
-        ++ told (location (settings_of frame.now.theme.now frame.now.options) None several (place_at place))) }
+        ⊕ told (location (settings_of frame.now.theme.now frame.now.options) None several (place_at place))) }
 {
     if several && frame.options.primary_start {
         page.push_line(PLAIN, '[', ' ', 0)?;
@@ -151,7 +152,7 @@ fn push_location(
     place: Option<(usize, usize)>,
 ) -> Result<(), AllocError>
     ensures { OnOk result (page.new ≡ page.old
-        ++ told (location_of (settings_of frame.now.theme.now frame.now.options) (option_copied name.entry) several
+        ⊕ told (location_of (settings_of frame.now.theme.now frame.now.options) (option_copied name.entry) several
         (option_map place_at place))) }
 {
     let Some(place) = place else {
@@ -182,7 +183,7 @@ pub(crate) fn push_top_row(
     place: Option<(usize, usize)>,
 ) -> Result<(), AllocError>
     ensures { OnOk result (page.new ≡ page.old
-        ++ told_rows (top_row_of (settings_of frame.now.theme.now frame.now.options) frame.now.number_width
+        ⊕ told_rows (top_row_of (settings_of frame.now.theme.now frame.now.options) frame.now.number_width
         (option_copied name.entry) several (option_map place_at place) ∷ [])) }
 {
     push_corner(page, frame, frame.theme.characters.ltop, 1)?;
@@ -195,7 +196,7 @@ pub(crate) fn push_top_row(
 /// the largest `usize`.
 pub(crate) fn push_bottom_row(page: &mut Page, frame: &Frame) -> Result<(), AllocError>
     ensures { OnOk result (page.new ≡ page.old
-        ++ told_rows (bottom_row (settings_of frame.now.theme.now frame.now.options) frame.now.number_width ∷ [])) }
+        ⊕ told_rows (bottom_row (settings_of frame.now.theme.now frame.now.options) frame.now.number_width ∷ [])) }
 {
     push_corner(page, frame, frame.theme.characters.lbot, 4)?;
     page.end_row()?;
@@ -204,7 +205,7 @@ pub(crate) fn push_bottom_row(page: &mut Page, frame: &Frame) -> Result<(), Allo
 
 // A label's text, or that it has none.
 fn push_label_text(page: &mut Page, style: Style, label: &LabeledSpan) -> Result<(), AllocError>
-    ensures { OnOk result (page.new ≡ page.old ++ run_told style (text_or_none label.now.text)) }
+    ensures { OnOk result (page.new ≡ page.old ⊕ run_told style (text_or_none label.now.text)) }
 {
     match label.label() {
         Some(text) => {
@@ -221,7 +222,7 @@ fn push_label_text(page: &mut Page, style: Style, label: &LabeledSpan) -> Result
 // What stands before a refused label's offset: "  [Failed to read contents for label `TEXT` (offset: ".
 fn push_refused_text(page: &mut Page, frame: &Frame, label: &LabeledSpan) -> Result<(), AllocError>
     ensures { OnOk result (page.new ≡ page.old
-        ++ told (refused_front (settings_of frame.now.theme.now frame.now.options) label.now)) }
+        ⊕ told (refused_front (settings_of frame.now.theme.now frame.now.options) label.now)) }
 {
     let styles = &frame.theme.styles;
     push_ascii(page, PLAIN, "  [")?;
@@ -241,7 +242,7 @@ pub(crate) fn push_refused_row(
     name: &str,
 ) -> Result<(), AllocError>
     ensures { OnOk result (page.new ≡ page.old
-        ++ told_rows (refused_row (settings_of frame.now.theme.now frame.now.options)
+        ⊕ told_rows (refused_row (settings_of frame.now.theme.now frame.now.options)
         (record { label = label.now; name = chars name.now }) ∷ [])) }
 {
     let styles = &frame.theme.styles;

@@ -1,18 +1,19 @@
 //! The gutter of a row, over the labels of several lines that lie on its line.
 
 ghost use Rattle.std.specs.Prelude.{◌≡◌, ◌++◌, ◌-◌, ◌∷◌, [], replicate, map, OnOk};
+ghost use Rattle.miette_page.specs.views.Printouts.{◌⊕◌};
 ghost use Rattle.miette_page.specs.views.Told.{told, run_told};
 ghost use Rattle.miette_lines.specs.rules.Labels.{starts_on, ends_on};
 ghost use Rattle.miette_lines.specs.views.Sweeping.{label_of};
 ghost use Rattle.miette_layout.specs.rules.Gutters.{number_gutter, other_gutter, open_gutter, ending_corner};
 ghost use Rattle.miette_lines.specs.views.Given.{drawn_of};
 ghost use Rattle.miette_layout.specs.steps.Sheets.{settings, multi_labels};
-ghost use Rattle.miette_lines.specs.views.TextLines.{line_of_text};
+ghost use Rattle.miette_newlines.specs.views.Walking.{line_of_text};
 
 use crate::sheet::Sheet;
 use miette_lines::drawn_labels::text_of;
 use miette_lines::sweep::Placed;
-use miette_lines::text_line::LineOfText;
+use miette_newlines::lines::LineOfText;
 use miette_page::page::{PLAIN, Page};
 use miette_style::style::Style;
 use std::alloc::AllocError;
@@ -53,7 +54,7 @@ pub(crate) fn push_other_gutter(
     columns: usize,
 ) -> Result<(), AllocError>
     ensures { OnOk result (page.new ≡ page.old
-        ++ told (other_gutter (settings sheet.now).width (settings sheet.now).characters (line_of_text sheet.now.line)
+        ⊕ told (other_gutter (settings sheet.now).width (settings sheet.now).characters (line_of_text sheet.now.line)
         columns (multi_labels sheet.now))) }
 {
     let characters = &sheet.theme.characters;
@@ -82,7 +83,7 @@ pub(crate) fn push_open_gutter(
     columns: usize,
 ) -> Result<(), AllocError>
     ensures { OnOk result (page.new ≡ page.old
-        ++ told (open_gutter (settings sheet.now).width (settings sheet.now).characters (line_of_text sheet.now.line)
+        ⊕ told (open_gutter (settings sheet.now).width (settings sheet.now).characters (line_of_text sheet.now.line)
         columns (multi_labels sheet.now))) }
 {
     let characters = &sheet.theme.characters;
@@ -108,7 +109,7 @@ fn push_arrow(
     left: usize,
 ) -> Result<(), AllocError>
     ensures { OnOk result (page.new ≡ page.old
-        ++ (run_told style (corner ∷ replicate (left - 3) (settings sheet.now).characters.hbar
+        ⊕ (run_told style (corner ∷ replicate (left - 3) (settings sheet.now).characters.hbar
         ++ (settings sheet.now).characters.rarrow ∷ []) ++ run_told PLAIN (32 ∷ []))) }
 {
     let characters = &sheet.theme.characters;
@@ -122,7 +123,7 @@ fn push_arrow(
 /// ends on the line: `│╭─▶ `. `AllocError` where memory is refused.
 pub(crate) fn push_number_gutter(page: &mut Page, sheet: &Sheet) -> Result<(), AllocError>
     ensures { OnOk result (page.new ≡ page.old
-        ++ told (number_gutter (settings sheet.now).width (settings sheet.now).characters (line_of_text sheet.now.line)
+        ⊕ told (number_gutter (settings sheet.now).width (settings sheet.now).characters (line_of_text sheet.now.line)
         sheet.now.gutter (multi_labels sheet.now))) }
 {
     let characters = &sheet.theme.characters;

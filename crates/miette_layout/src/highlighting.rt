@@ -1,20 +1,22 @@
 //! What a highlighter answers for the lines of a snippet.
 
-ghost use Rattle.std.specs.Prelude.{◌≡◌, ℕ, List, true, map, IfOk};
-ghost use Rattle.miette_layout.specs.rules.Highlighted.{ArePieces, decoded_text, leaves_plain};
-ghost use Rattle.miette_layout.specs.steps.TellingCells.{highlight_of};
+ghost use Rattle.std.specs.Prelude.{◌≡◌, ℕ, List, [], ◌∷◌, true, map, IfOk, if◌then◌else◌};
+ghost use Rattle.miette_layout.specs.rules.Highlighted.{AreCallsOn, ArePieces, decoded_text, highlight_of, leaves_plain};
+ghost use Rattle.miette_style.specs.rules.Asked.{Leads, asked, listed, restarted};
 ghost use Rattle.miette_style.specs.rules.Pieces.{CutsLine, plain_pieces};
 
 use bstr::ByteSlice;
 use miette_page::page::PLAIN;
 use miette_protocol::source::MietteSpanContents;
 use miette_style::highlight::Highlighter;
+use miette_style::laws::comparison_laws;
 use miette_style::style::Style;
 use std::alloc::{AllocError, Global};
 
 /// Begins a new snippet, of what its read lent.
 pub(crate) fn restart<H: Highlighter>(highlighter: &mut Option<H>, lent: &MietteSpanContents<'_>)
-    ensures { leaves_plain H.is_blank highlighter.new ≡ leaves_plain H.is_blank highlighter.old }
+    ensures calls { AreCallsOn H.may_follow highlighter.old highlighter.new (restarted lent.now ∷ []) }
+    ensures stays { leaves_plain H.is_blank highlighter.new ≡ leaves_plain H.is_blank highlighter.old }
 {
     match highlighter {
         Some(highlighter) => highlighter.restart(lent),
@@ -31,6 +33,8 @@ fn answered<H: Highlighter>(
     ensures cut { IfOk result (λ pieces. CutsLine (decoded_text text.now) pieces.items) }
     ensures plain { H.is_blank highlighter.old ≡ true →
         IfOk result (λ pieces. pieces.items ≡ plain_pieces (decoded_text text.now)) }
+    ensures calls { IfOk result (λ pieces. Leads (H.may_follow highlighter.old)
+        (asked (decoded_text text.now) (listed pieces.items) ∷ []) (H.may_follow highlighter.new)) }
     ensures stays { H.is_blank highlighter.new ≡ H.is_blank highlighter.old }
 {
     let line = text.to_str_lossy(alloc)?;
@@ -39,8 +43,10 @@ fn answered<H: Highlighter>(
 
 // Whether a line is left in one plain piece.
 fn is_plain(pieces: &[(usize, Style)]) -> bool
-    ensures { (line : List ℕ) → pieces.now ≡ plain_pieces line → result ≡ true }
+    ensures plain { (line : List ℕ) → pieces.now ≡ plain_pieces line → result ≡ true }
+    ensures counts { listed pieces.now ≡ (if result then [] else pieces.now) }
 {
+    comparison_laws();
     match pieces {
         [piece] => piece.1 == PLAIN,
         _ => false,
@@ -57,6 +63,8 @@ pub(crate) fn pieces_of<H: Highlighter>(
 ) -> Result<Vec<(usize, Style)>, AllocError>
     ensures pieces { IfOk result (λ pieces. ArePieces (leaves_plain H.is_blank highlighter.old) (decoded_text text.now)
         (map highlight_of pieces.items)) }
+    ensures calls { IfOk result (λ pieces. AreCallsOn H.may_follow highlighter.old highlighter.new
+        (asked (decoded_text text.now) pieces.items ∷ [])) }
     ensures stays { leaves_plain H.is_blank highlighter.new ≡ leaves_plain H.is_blank highlighter.old }
 {
     match highlighter {

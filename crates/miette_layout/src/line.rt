@@ -1,19 +1,21 @@
 //! All rows of one line.
 
-ghost use Rattle.std.specs.Prelude.{◌≡◌, ◌++◌, ◌+◌, ◌^◌, ◌<◌, ◌∷◌, [], map, length, OnOk};
+ghost use Rattle.std.specs.Prelude.{◌≡◌, ◌++◌, ◌+◌, ◌^◌, ◌<◌, ◌∷◌, [], map, length, IfOk, OnOk};
 ghost use Rattle.std.specs.List.{All};
 ghost use Rattle.miette_layout.specs.rules.PrintedCells.{printed, cells_within, cells_beyond, line_runs};
 ghost use Rattle.miette_layout.specs.rules.Marks.{marks};
 ghost use Rattle.miette_layout.specs.rules.Drawing.{marked_rows};
 ghost use Rattle.miette_layout.specs.rules.Frames.{number_start};
 ghost use Rattle.miette_layout.specs.rules.Layout.{before_each, line_rows_of, text_of_cells};
+ghost use Rattle.miette_page.specs.views.Printouts.{◌⊕◌};
 ghost use Rattle.miette_page.specs.views.Told.{told, told_rows, text_told};
-ghost use Rattle.miette_layout.specs.steps.TellingCells.{cells_told, highlight_of};
+ghost use Rattle.miette_layout.specs.steps.TellingCells.{cells_told};
+ghost use Rattle.miette_layout.specs.rules.Highlighted.{highlight_of};
 ghost use Rattle.miette_lines.specs.views.Walking.{cell_of};
 ghost use Rattle.miette_layout.specs.steps.Made.{mark_of};
 ghost use Rattle.miette_layout.specs.steps.Sheets.{settings, multi_labels, before_marks, number_row, shown_cells};
 ghost use Rattle.miette_layout.specs.steps.Sheets.{labels_alone};
-ghost use Rattle.miette_lines.specs.views.TextLines.{line_of_text};
+ghost use Rattle.miette_newlines.specs.views.Walking.{line_of_text};
 
 use crate::closings::push_closings;
 use crate::gutters::push_number_gutter;
@@ -30,7 +32,7 @@ use std::alloc::{AllocError, Global};
 // The number of a line: ` 12 │ `.
 fn push_number_start(page: &mut Page, sheet: &Sheet, number: usize) -> Result<(), AllocError>
     ensures { OnOk result (page.new ≡ page.old
-        ++ told (number_start (settings sheet.now) sheet.now.number_width number)) }
+        ⊕ told (number_start (settings sheet.now) sheet.now.number_width number)) }
 {
     page.push_blank(1)?;
     page.begin(sheet.theme.styles.linum)?;
@@ -42,7 +44,7 @@ fn push_number_start(page: &mut Page, sheet: &Sheet, number: usize) -> Result<()
 
 // A character as it prints, a tab as spaces.
 fn push_cell(page: &mut Page, cell: &Cell) -> Result<(), AllocError>
-    ensures { OnOk result (page.new ≡ page.old ++ text_told (map (λ p. p.code) (printed (cell_of cell.now)))) }
+    ensures { OnOk result (page.new ≡ page.old ⊕ text_told (map (λ p. p.code) (printed (cell_of cell.now)))) }
 {
     if cell.code == '\t' {
         page.push_copies(' ', cell.until.saturating_sub(cell.from))?;
@@ -54,7 +56,7 @@ fn push_cell(page: &mut Page, cell: &Cell) -> Result<(), AllocError>
 
 // The characters that fill so many bytes.
 fn push_cells_within(page: &mut Page, walk: &mut Walk, bytes: usize) -> Result<(), AllocError>
-    ensures within { OnOk result (page.new ≡ page.old ++ cells_told (cells_within bytes walk.old)) }
+    ensures within { OnOk result (page.new ≡ page.old ⊕ cells_told (cells_within bytes walk.old)) }
     ensures beyond { OnOk result (walk.new ≡ cells_beyond bytes walk.old) }
 {
     let mut left = bytes;
@@ -70,7 +72,7 @@ fn push_cells_within(page: &mut Page, walk: &mut Walk, bytes: usize) -> Result<(
 
 // All characters that are left.
 fn push_cells(page: &mut Page, walk: &mut Walk) -> Result<(), AllocError>
-    ensures { OnOk result (page.new ≡ page.old ++ cells_told walk.old) }
+    ensures { OnOk result (page.new ≡ page.old ⊕ cells_told walk.old) }
 {
     while let Some(cell) = walk.next()? {
         push_cell(page, &cell)?;
@@ -84,7 +86,7 @@ fn push_line_text(
     walk: &mut Walk,
     pieces: &[(usize, Style)],
 ) -> Result<(), AllocError>
-    ensures { OnOk result (page.new ≡ page.old ++ told (line_runs (map highlight_of pieces.now) walk.old)) }
+    ensures { OnOk result (page.new ≡ page.old ⊕ told (line_runs (map highlight_of pieces.now) walk.old)) }
 {
     for piece in pieces {
         page.begin(piece.1)?;
@@ -99,7 +101,7 @@ fn push_line_text(
 fn push_text(page: &mut Page, sheet: &Sheet, shown: &ShownLine) -> Result<(), AllocError>
     requires { sheet.now.line.start + length shown.now.text.now < 2 ^ 64 }
     ensures { OnOk result (page.new ≡ page.old
-        ++ told (line_runs (map highlight_of shown.now.pieces.now) (shown_cells sheet.now shown.now))) }
+        ⊕ told (line_runs (map highlight_of shown.now.pieces.now) (shown_cells sheet.now shown.now))) }
 {
     if shown.pieces.is_empty() {
         if let Some(plain) = printable(shown.text) {
@@ -116,7 +118,7 @@ fn push_text(page: &mut Page, sheet: &Sheet, shown: &ShownLine) -> Result<(), Al
 // The number row: ` 12 │ ╭─▶ the line's text`.
 fn push_number_row(page: &mut Page, sheet: &Sheet, shown: &ShownLine) -> Result<(), AllocError>
     requires { sheet.now.line.start + length shown.now.text.now < 2 ^ 64 }
-    ensures { OnOk result (page.new ≡ page.old ++ told_rows (number_row sheet.now shown.now ∷ [])) }
+    ensures { OnOk result (page.new ≡ page.old ⊕ told_rows (number_row sheet.now shown.now ∷ [])) }
 {
     push_number_start(page, sheet, shown.number)?;
     push_number_gutter(page, sheet)?;
@@ -128,7 +130,7 @@ fn push_number_row(page: &mut Page, sheet: &Sheet, shown: &ShownLine) -> Result<
 // The mark row and the rows of texts under it, where there is a mark.
 fn push_marked_rows(page: &mut Page, sheet: &Sheet, marks: &[Mark]) -> Result<(), AllocError>
     requires { All (λ mark. mark.from < mark.until) marks.now }
-    ensures { OnOk result (page.new ≡ page.old ++ told_rows (before_each (before_marks sheet.now)
+    ensures { OnOk result (page.new ≡ page.old ⊕ told_rows (before_each (before_marks sheet.now)
         (marked_rows (settings sheet.now).width (settings sheet.now).characters
         (map (mark_of sheet.now.labels.now) marks.now)))) }
 {
@@ -142,31 +144,24 @@ fn push_marked_rows(page: &mut Page, sheet: &Sheet, marks: &[Mark]) -> Result<()
     Ok(())
 }
 
-// The rows under a line's number row for the labels that lie on it alone.
-fn push_one_line_labels(
-    alloc: Global,
-    page: &mut Page,
-    sheet: &Sheet,
-    shown: &ShownLine,
-) -> Result<(), AllocError>
+// The marks of the labels that lie on a line alone.
+fn marks_alone(alloc: Global, sheet: &Sheet, shown: &ShownLine) -> Result<Vec<Mark>, AllocError>
     requires { sheet.now.line.start + length shown.now.text.now < 2 ^ 64 }
-    ensures { OnOk result (page.new ≡ page.old ++ told_rows (before_each (before_marks sheet.now)
-        (marked_rows (settings sheet.now).width (settings sheet.now).characters
-        (marks (text_of_cells (shown_cells sheet.now shown.now) sheet.now.line.text_end)
-        (labels_alone sheet.now shown.now))))) }
+    ensures some { IfOk result (λ alone. All (λ mark. mark.from < mark.until) alone.items) }
+    ensures marks { IfOk result (λ alone. map (mark_of sheet.now.labels.now) alone.items
+        ≡ marks (text_of_cells (shown_cells sheet.now shown.now) sheet.now.line.text_end)
+        (labels_alone sheet.now shown.now)) }
 {
     if shown.one.is_empty() {
-        return Ok(());
+        return Ok(Vec::new(alloc));
     }
-    let marks = marks_on(
+    marks_on(
         alloc,
         &sheet.line,
         shown.text,
         sheet.options.tab_width,
         shown.one,
-    )?;
-    push_marked_rows(page, sheet, &marks)?;
-    Ok(())
+    )
 }
 
 /// The rows of the sheet's line: the number row, the marks and texts of the labels that lie on it alone, and the texts
@@ -180,12 +175,13 @@ pub(crate) fn push_line_rows(
 ) -> Result<(), AllocError>
     requires { sheet.now.line.start + length shown.now.text.now < 2 ^ 64 }
     ensures { OnOk result (page.new ≡ page.old
-        ++ told_rows (line_rows_of (settings sheet.now) sheet.now.number_width sheet.now.gutter
+        ⊕ told_rows (line_rows_of (settings sheet.now) sheet.now.number_width sheet.now.gutter
         (labels_alone sheet.now shown.now) (multi_labels sheet.now) (line_of_text sheet.now.line) shown.now.number
         (shown_cells sheet.now shown.now) (map highlight_of shown.now.pieces.now))) }
 {
     push_number_row(page, sheet, shown)?;
-    push_one_line_labels(alloc, page, sheet, shown)?;
+    let marks = marks_alone(alloc, sheet, shown)?;
+    push_marked_rows(page, sheet, &marks)?;
     push_closings(page, sheet)?;
     Ok(())
 }

@@ -15,7 +15,7 @@ ghost use Rattle.miette_layout.specs.steps.Made.{mark_of, ComeFrom, IsStop};
 use miette_lines::cells::Walk;
 use miette_lines::plain::all_printable;
 use miette_lines::sweep::Placed;
-use miette_lines::text_line::LineOfText;
+use miette_newlines::lines::LineOfText;
 use std::alloc::{AllocError, Global};
 use std::marker::Model;
 

@@ -1,4 +1,7 @@
-//! What the layout is told beside a theme.
+//! What snippets are drawn with.
+
+use miette_style::theme::GraphicalTheme;
+use std::alloc::Global;
 
 /// How snippets are laid out.
 #[derive(Clone, Copy, Debug, PartialEq, Eq, Drop)]
@@ -9,4 +12,15 @@ pub struct LayoutOptions {
     pub context_lines: usize,
     /// Whether a frame shows where its primary label begins.
     pub primary_start: bool,
+}
+
+/// How snippets look: a theme's characters and styles, and the layout; and where the memory that they need comes from.
+#[derive(Clone, Copy)]
+pub struct Look<'a> {
+    /// Where memory comes from.
+    pub alloc: Global,
+    /// The characters and styles.
+    pub theme: &'a GraphicalTheme,
+    /// The layout.
+    pub options: LayoutOptions,
 }

@@ -4,7 +4,7 @@ ghost use Rattle.std.specs.Prelude.{◌≡◌};
 
 use crate::options::LayoutOptions;
 use miette_lines::sweep::Placed;
-use miette_lines::text_line::LineOfText;
+use miette_newlines::lines::LineOfText;
 use miette_protocol::protocol::LabeledSpan;
 use miette_style::style::Style;
 use miette_style::theme::GraphicalTheme;

@@ -18,11 +18,12 @@
 //!    (`gutters.rt`), the marks and their leaders (`marks.rt`, `strokes.rt`), the texts
 //!    (`texts.rt`), and the texts of labels that end there (`closings.rt`).
 
-ghost use Rattle.std.specs.Prelude.{◌≡◌, ◌+◌, ◌<◌, ◌^◌, map, length, decimal, IfOk, OnOk};
+ghost use Rattle.std.specs.Prelude.{◌≡◌, ◌∷◌, ◌+◌, ◌<◌, ◌^◌, map, length, decimal, IfOk, OnOk};
 ghost use Rattle.miette_newlines.specs.rules.Lines.{lines_from};
 ghost use Rattle.miette_layout.specs.views.ThemeSettings.{settings_of};
 ghost use Rattle.miette_lines.specs.views.Given.{drawn_of};
-ghost use Rattle.miette_layout.specs.rules.Highlighted.{leaves_plain};
+ghost use Rattle.miette_layout.specs.rules.Highlighted.{AreCallsOn, leaves_plain};
+ghost use Rattle.miette_style.specs.rules.Asked.{restarted};
 ghost use Rattle.miette_layout.specs.steps.Lent.{PutsRows, PutsSnippet, texts_in, lent_rows};
 ghost use Rattle.miette_layout.specs.steps.Lent.{width_of_count, gutter_of};
 ghost use Rattle.miette_lines.specs.views.Sweeping.{IsAt, AreSorted};
@@ -149,6 +150,7 @@ fn push_lines<'a, H: Highlighter>(
     requires at { IsAt drawing.now.placed.now body.now.start sweep.old.next sweep.old.running.items }
     requires small { body.now.start + length body.now.bytes.now < 2 ^ 64 }
     ensures rows { OnOk result (PutsRows (leaves_plain H.is_blank highlighter.old)
+        (AreCallsOn H.may_follow highlighter.old highlighter.new)
         (texts_in body.now.start body.now.bytes.now (lines_from body.now.start body.now.bytes.now))
         (λ pieces. lent_rows (settings_of body.now.frame.theme.now body.now.frame.options) body.now.frame.number_width
         body.now.gutter (map (drawn_of drawing.now.labels.now) drawing.now.placed.now)
@@ -209,8 +211,9 @@ fn push_framed<'a, H: Highlighter>(
     requires sorted { AreSorted drawing.now.placed.now }
     requires at { IsAt drawing.now.placed.now lent.now.span.offset sweep.old.next sweep.old.running.items }
     requires small { lent.now.span.offset + length lent.now.bytes < 2 ^ 64 }
-    ensures rows { OnOk result (PutsSnippet (leaves_plain H.is_blank highlighter.old) drawing.now lent.now place
-        page.old page.new) }
+    ensures rows { OnOk result (PutsSnippet (leaves_plain H.is_blank highlighter.old)
+        (AreCallsOn H.may_follow highlighter.old highlighter.new)
+        drawing.now lent.now place page.old page.new) }
     ensures stays { leaves_plain H.is_blank highlighter.new ≡ leaves_plain H.is_blank highlighter.old }
     ensures at { OnOk result (IsAt drawing.now.placed.now (lent.now.span.offset + length lent.now.bytes) sweep.new.next
         sweep.new.running.items) }
@@ -251,8 +254,9 @@ pub(crate) fn push_snippet<'a, H: Highlighter>(
 ) -> Result<(), AllocError>
     requires sorted { AreSorted drawing.now.placed.now }
     requires at { IsAt drawing.now.placed.now passage.old.at passage.old.sweep.next passage.old.sweep.running.items }
-    ensures rows { OnOk result (PutsSnippet (leaves_plain H.is_blank highlighter.old) drawing.now lent.now place
-        page.old page.new) }
+    ensures rows { OnOk result (PutsSnippet (leaves_plain H.is_blank highlighter.old)
+        (λ calls. AreCallsOn H.may_follow highlighter.old highlighter.new (restarted lent.now ∷ calls)) drawing.now
+        lent.now place page.old page.new) }
     ensures stays { leaves_plain H.is_blank highlighter.new ≡ leaves_plain H.is_blank highlighter.old }
     ensures at { OnOk result (IsAt drawing.now.placed.now passage.new.at passage.new.sweep.next
         passage.new.sweep.running.items) }

@@ -6,14 +6,14 @@ ghost use Rattle.miette_layout.specs.views.Drawn.{MayGive, RefusesWith};
 ghost use Rattle.miette_layout.specs.views.ThemeSettings.{settings_of};
 ghost use Rattle.miette_lines.specs.views.Given.{label_at};
 ghost use Rattle.miette_lines.specs.rules.Groups.{in_order};
-ghost use Rattle.miette_layout.specs.rules.Highlighted.{leaves_plain};
+ghost use Rattle.miette_layout.specs.rules.Highlighted.{AreCallsOn, leaves_plain};
 ghost use Rattle.miette_lines.specs.views.Read.{IsRead, name_of as name_of_reason};
 
 use crate::frame::{Frame, push_refused_row};
-use crate::options::LayoutOptions;
+use crate::options::Look;
 use crate::snippet::{Drawing, Passage, push_snippet};
 use miette_lines::drawn_labels::placed;
-use miette_lines::grouping::{Group, groups};
+use miette_lines::grouping::groups;
 use miette_lines::order::by_offset;
 use miette_lines::primary::{near, place_of};
 use miette_lines::reading::{ReadLabel, ReadLabels, Refusal, read_labels, some_own};
@@ -23,20 +23,7 @@ use miette_protocol::error::RenderError;
 use miette_protocol::protocol::LabeledSpan;
 use miette_protocol::source::SourceCode;
 use miette_style::highlight::Highlighter;
-use miette_style::theme::GraphicalTheme;
-use std::alloc::{AllocError, Global};
-
-// The room of a new page: so many bytes more than the lines have that are drawn, and so many marks.
-const MORE_BYTES: usize = 256;
-
-const MARKS: usize = 64;
-
-// How snippets look: a theme's characters and styles, and the layout.
-#[derive(Clone, Copy)]
-struct Look<'a> {
-    theme: &'a GraphicalTheme,
-    options: LayoutOptions,
-}
+use std::alloc::AllocError;
 
 // The bare name of a reason.
 fn name_of(refusal: Refusal) -> &'static str
@@ -48,33 +35,24 @@ fn name_of(refusal: Refusal) -> &'static str
     }
 }
 
-// A page without rows, with room for the rows of these groups.
-fn page_for(alloc: Global, groups: &[Group<'_>]) -> Result<Page, AllocError>
-    ensures { IfOk result (λ page. page ≡ []) }
-{
-    let mut bytes = MORE_BYTES;
-    for group in groups {
-        bytes = bytes.saturating_add(group.contents.data().len());
-    }
-    Page::with_room(alloc, bytes, MARKS)
-}
-
 // The snippets of labels that were read, or none where the read of a group or of some place failed.
 fn read_snippets<'a, 'b, S: SourceCode, H: Highlighter>(
-    alloc: Global,
     highlighter: &mut Option<H>,
     look: &Look<'b>,
     source: &'a S,
     labels: &'b [LabeledSpan],
     reads: &[ReadLabel<'a>],
+    page: Page,
 ) -> Result<Option<Page>, AllocError>
     requires order { map (λ read. label_at labels.now read.index) reads.now ≡ in_order labels.now }
     requires each { All (IsRead look.now.options.context_lines (S.source source.now) labels.now) reads.now }
-    ensures gives { IfOk result (λ page. MayGive (settings_of look.now.theme.now look.now.options)
-        (S.source source.now) labels.now (leaves_plain H.is_blank highlighter.old) page) }
+    ensures gives { IfOk result (λ given. MayGive (settings_of look.now.theme.now look.now.options)
+        (S.source source.now) labels.now (leaves_plain H.is_blank highlighter.old)
+        (AreCallsOn H.may_follow highlighter.old highlighter.new) page given) }
     ensures stays { leaves_plain H.is_blank highlighter.new ≡ leaves_plain H.is_blank highlighter.old }
 {
-    let placed = placed(alloc, &look.theme.styles.highlights, labels, reads)?;
+    let alloc = look.alloc;
+    let placed = placed(alloc, &look.theme.styles.highlights, reads)?;
     let Some(groups) = groups(alloc, source, look.options.context_lines, labels, reads)? else {
         return Ok(None);
     };
@@ -86,7 +64,7 @@ fn read_snippets<'a, 'b, S: SourceCode, H: Highlighter>(
         labels,
         placed: &placed,
     };
-    let mut page = page_for(alloc, &groups)?;
+    let mut page = page;
     let mut passage = Passage {
         sweep: Sweep::new(alloc),
         at: 0,
@@ -111,60 +89,62 @@ fn read_snippets<'a, 'b, S: SourceCode, H: Highlighter>(
 
 // All snippets, or the one row of a label that is refused; none where the read of a group or of some place failed.
 fn all_snippets<'b, S: SourceCode, H: Highlighter>(
-    alloc: Global,
     highlighter: &mut Option<H>,
     look: &Look<'b>,
     source: &S,
     labels: &'b [LabeledSpan],
+    page: Page,
 ) -> Result<Option<Page>, AllocError>
-    ensures gives { IfOk result (λ page. MayGive (settings_of look.now.theme.now look.now.options)
-        (S.source source.now) labels.now (leaves_plain H.is_blank highlighter.old) page) }
+    ensures gives { IfOk result (λ given. MayGive (settings_of look.now.theme.now look.now.options)
+        (S.source source.now) labels.now (leaves_plain H.is_blank highlighter.old)
+        (AreCallsOn H.may_follow highlighter.old highlighter.new) page given) }
     ensures stays { leaves_plain H.is_blank highlighter.new ≡ leaves_plain H.is_blank highlighter.old }
 {
-    let order = by_offset(alloc, labels)?;
-    match read_labels(alloc, source, look.options.context_lines, labels, &order)? {
-        ReadLabels::All(reads) => {
-            read_snippets(alloc, highlighter, look, source, labels, &reads)
-        }
+    let order = by_offset(look.alloc, labels)?;
+    match read_labels(
+        look.alloc,
+        source,
+        look.options.context_lines,
+        labels,
+        &order,
+    )? {
+        ReadLabels::All(reads) => { read_snippets(highlighter, look, source, labels, &reads, page) }
         ReadLabels::Refused(index, refusal) => {
             let frame = Frame {
                 theme: look.theme,
                 options: look.options,
                 number_width: 0,
             };
-            let mut page = Page::new(alloc);
+            let mut page = page;
             push_refused_row(&mut page, &frame, &labels[index], name_of(refusal))?;
             Ok(Some(page))
         }
     }
 }
 
-/// The rows of a diagnostic's snippets, whose labels are given over its source: frames, numbered lines, marks and the
-/// labels' texts; or the one row of the first label that is refused. A highlighter styles the lines: it is restarted
-/// for each snippet with the contents of the snippet's read, and is then given the text of each line in order,
-/// decoded. Fails with `Refused` where a group of labels with their own numbers of context lines or a label's place
-/// can't be read, which a source that always reads never does, and with `Memory` where memory is refused, to the
-/// highlighter too.
+/// Prints the rows of a diagnostic's snippets, whose labels are given over its source, behind what the page holds:
+/// frames, numbered lines, marks and the labels' texts; or the one row of the first label that is refused. A
+/// highlighter styles the lines: it is restarted for each snippet with the contents of the snippet's read, and is then
+/// given the text of each line in order, decoded. Fails with `Refused` where a group of labels with their own numbers
+/// of context lines or a label's place can't be read, which a source that always reads never does, and with `Memory`
+/// where memory is refused, to the highlighter too.
 pub fn snippets<'b, S: SourceCode, H: Highlighter>(
-    alloc: Global,
     highlighter: &mut Option<H>,
-    theme: &'b GraphicalTheme,
-    options: &LayoutOptions,
+    look: &Look<'b>,
     source: &S,
     labels: &'b [LabeledSpan],
+    page: Page,
 ) -> Result<Page, RenderError>
     ensures gives { MatchResult result
-        (λ page. MayGive (settings_of theme.now options.now) (S.source source.now) labels.now
-        (leaves_plain H.is_blank highlighter.old) (Some page))
-        (λ e. RefusesWith (settings_of theme.now options.now) (S.source source.now) labels.now
-        (leaves_plain H.is_blank highlighter.old) e) }
+        (λ given. MayGive (settings_of look.now.theme.now look.now.options) (S.source source.now) labels.now
+        (leaves_plain H.is_blank highlighter.old)
+        (AreCallsOn H.may_follow highlighter.old highlighter.new) page (Some given))
+        (λ e. RefusesWith (settings_of look.now.theme.now look.now.options) (S.source source.now) labels.now
+        (leaves_plain H.is_blank highlighter.old)
+        (AreCallsOn H.may_follow highlighter.old highlighter.new) page e) }
     ensures stays { leaves_plain H.is_blank highlighter.new ≡ leaves_plain H.is_blank highlighter.old }
 {
-    let look = Look {
-        theme,
-        options: *options,
-    };
-    match all_snippets(alloc, highlighter, &look, source, labels) {
+    match all_snippets(highlighter, look, source, labels, page) {
         Ok(Some(page)) => Ok(page),
         Ok(None) => Err(RenderError::Refused),
         Err(_) => Err(RenderError::Memory),

@@ -2,6 +2,7 @@
 
 ghost use Rattle.std.specs.Prelude.{◌≡◌, ◌++◌, ◌+◌, ◌∷◌, [], ◌<◌, List, chars, map, replicate, OnOk};
 ghost use Rattle.std.specs.List.{All};
+ghost use Rattle.miette_page.specs.views.Printouts.{◌⊕◌};
 ghost use Rattle.miette_page.specs.views.Told.{told, told_rows};
 ghost use Rattle.miette_lines.specs.rules.Labels.{cut_at_lf};
 ghost use Rattle.miette_layout.specs.rules.Drawing.{lead_runs, beside, rows_of_parts, rows_below};
@@ -23,7 +24,7 @@ use std::alloc::AllocError;
 /// What stands before the gutter of a row that isn't the number row: `   · `. `AllocError` where memory is refused, or
 /// `number_width + 2` is past the largest `usize`.
 pub(crate) fn push_other_start(page: &mut Page, sheet: &Sheet) -> Result<(), AllocError>
-    ensures { OnOk result (page.new ≡ page.old ++ told (other_start (settings sheet.now) sheet.now.number_width)) }
+    ensures { OnOk result (page.new ≡ page.old ⊕ told (other_start (settings sheet.now) sheet.now.number_width)) }
 {
     let Some(columns) = sheet.number_width.checked_add(2) else {
         return Err(AllocError);
@@ -35,7 +36,7 @@ pub(crate) fn push_other_start(page: &mut Page, sheet: &Sheet) -> Result<(), All
 
 /// What stands before the marks and the texts under a line: `   · │╰──`. It fails as `push_other_start` does.
 pub(crate) fn push_before_marks(page: &mut Page, sheet: &Sheet) -> Result<(), AllocError>
-    ensures { OnOk result (page.new ≡ page.old ++ told (before_marks sheet.now)) }
+    ensures { OnOk result (page.new ≡ page.old ⊕ told (before_marks sheet.now)) }
 {
     push_other_start(page, sheet)?;
     push_other_gutter(page, sheet, sheet.gutter)?;
@@ -51,7 +52,7 @@ fn push_leads(
 ) -> Result<(), AllocError>
     requires { All (λ mark. mark.from < mark.until) earlier.now }
     ensures { OnOk result (page.new ≡ page.old
-        ++ told (lead_runs (settings sheet.now).width (settings sheet.now).characters 0
+        ⊕ told (lead_runs (settings sheet.now).width (settings sheet.now).characters 0
         (map (mark_of sheet.now.labels.now) earlier.now) column)) }
 {
     let bar = sheet.theme.characters.vbar;
@@ -82,7 +83,7 @@ fn push_text_row(
     requires earlier { All (λ mark. mark.from < mark.until) earlier.now }
     requires own { mark.now.from < mark.now.until }
     ensures { OnOk result (page.new ≡ page.old
-        ++ told_rows (text_line sheet.now (map (mark_of sheet.now.labels.now) earlier.now)
+        ⊕ told_rows (text_line sheet.now (map (mark_of sheet.now.labels.now) earlier.now)
         (mark_of sheet.now.labels.now mark.now) (front.0 ∷ front.1 ∷ front.2 ∷ 32 ∷ []) (chars part.now) ∷ [])) }
 {
     let anchor = anchor_of(mark);
@@ -106,7 +107,7 @@ fn push_more_parts(
 ) -> Result<(), AllocError>
     requires earlier { All (λ mark. mark.from < mark.until) earlier.now }
     requires own { mark.now.from < mark.now.until }
-    ensures { OnOk result (page.new ≡ page.old ++ told_rows (map
+    ensures { OnOk result (page.new ≡ page.old ⊕ told_rows (map
         (text_line sheet.now (map (mark_of sheet.now.labels.now) earlier.now) (mark_of sheet.now.labels.now mark.now)
         (beside (settings sheet.now).characters))
         (cut_at_lf (chars text.now)))) }
@@ -131,7 +132,7 @@ fn push_text(
 ) -> Result<(), AllocError>
     requires earlier { All (λ mark. mark.from < mark.until) earlier.now }
     requires own { mark.now.from < mark.now.until }
-    ensures { OnOk result (page.new ≡ page.old ++ told_rows (before_each (before_marks sheet.now)
+    ensures { OnOk result (page.new ≡ page.old ⊕ told_rows (before_each (before_marks sheet.now)
         (rows_of_parts (settings sheet.now).width (settings sheet.now).characters
         (map (mark_of sheet.now.labels.now) earlier.now) (mark_of sheet.now.labels.now mark.now)
         (drawn_of sheet.now.labels.now mark.now.label).parts))) }
@@ -155,7 +156,7 @@ fn push_text(
 /// The rows of the texts of all marks, the last one's first. It fails as `push_other_start` does.
 pub(crate) fn push_texts(page: &mut Page, sheet: &Sheet, marks: &[Mark]) -> Result<(), AllocError>
     requires { All (λ mark. mark.from < mark.until) marks.now }
-    ensures { OnOk result (page.new ≡ page.old ++ told_rows (before_each (before_marks sheet.now)
+    ensures { OnOk result (page.new ≡ page.old ⊕ told_rows (before_each (before_marks sheet.now)
         (rows_below (settings sheet.now).width (settings sheet.now).characters []
         (map (mark_of sheet.now.labels.now) marks.now)))) }
 {

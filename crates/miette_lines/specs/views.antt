@@ -4,7 +4,6 @@ pub mod Placing
 pub mod Primary
 pub mod Printable
 pub mod Read
-pub mod TextLines
 pub mod Sweeping
 pub mod Swept
 pub mod Walking

@@ -1,6 +1,6 @@
 //! Labels as they are drawn.
 
-ghost use Rattle.std.specs.Prelude.{option_copied, ◌≡◌, ℕ, List, IfOk, is_some};
+ghost use Rattle.std.specs.Prelude.{option_copied, ◌≡◌, ℕ, List, IfOk};
 ghost use Rattle.miette_lines.specs.rules.Labels.{style_at};
 ghost use Rattle.miette_lines.specs.views.Given.{text_at};
 ghost use Rattle.miette_lines.specs.views.Placing.{placed_from, end_drawn};
@@ -23,16 +23,6 @@ fn style_of(styles: &[Style], i: usize) -> Style
     }
 }
 
-// Whether a label has a text.
-fn has_text(labels: &[LabeledSpan], index: usize) -> bool
-    ensures { result ≡ is_some (text_at labels.now index) }
-{
-    match labels.get(index) {
-        Some(label) => label.label().is_some(),
-        None => false,
-    }
-}
-
 // Where a label's drawn end lies: its own end, cut to the end of what its read lent. No read tells where the source
 // ends, but what a label's read lent ends there, or where the label does or later.
 fn drawn_end(read: &ReadLabel<'_>) -> Result<usize, AllocError>
@@ -47,10 +37,9 @@ fn drawn_end(read: &ReadLabel<'_>) -> Result<usize, AllocError>
 pub fn placed(
     alloc: Global,
     styles: &[Style],
-    labels: &[LabeledSpan],
     reads: &[ReadLabel<'_>],
 ) -> Result<Vec<Placed>, AllocError>
-    ensures { IfOk result (λ placed. placed.items ≡ placed_from styles.now labels.now 0 reads.now) }
+    ensures { IfOk result (λ placed. placed.items ≡ placed_from styles.now 0 reads.now) }
 {
     let mut placed = Vec::with_capacity(alloc, reads.len())?;
     for (i, read) in reads.iter().enumerate() {
@@ -58,7 +47,6 @@ pub fn placed(
             start: read.span.offset(),
             after: drawn_end(read)?,
             style: style_of(styles, i),
-            has_text: has_text(labels, read.index),
             index: read.index,
         })?;
     }

@@ -4,8 +4,8 @@ ghost use Rattle.std.specs.Prelude.{◌≡◌, ◌≢◌, ◌+◌, nat_le, true,
 ghost use Rattle.std.specs.List.{All};
 ghost use Rattle.std.specs.Option.{option_map};
 ghost use Rattle.miette_protocol.specs.rules.Reading.{IsAccepted};
-ghost use Rattle.miette_lines.specs.views.Given.{label_at};
 ghost use Rattle.miette_lines.specs.rules.Groups.{in_order, joined, joins_before, by_begin, joined_stretches};
+ghost use Rattle.miette_lines.specs.views.Given.{label_at};
 ghost use Rattle.miette_lines.specs.views.Read.{IsLent, IsRead, AreJoined, AreGrouped};
 
 use crate::reading::{ReadLabel, some_own};

@@ -12,4 +12,3 @@ pub mod reading;
 mod spans;
 mod stretches;
 pub mod sweep;
-pub mod text_line;

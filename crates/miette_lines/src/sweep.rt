@@ -8,7 +8,7 @@ ghost use Rattle.miette_lines.specs.views.Sweeping.{line_of_bounds};
 use miette_style::style::Style;
 use std::alloc::{AllocError, Global};
 
-/// A label up to its drawn end, with its style, whether it has a text, and which label it is.
+/// A label up to its drawn end, with its style, and which label it is.
 #[derive(Clone, Copy, Debug, PartialEq, Eq, Drop)]
 pub struct Placed {
     /// The offset where it begins, in bytes of the source.
@@ -17,8 +17,6 @@ pub struct Placed {
     pub after: usize,
     /// The style that it is drawn in.
     pub style: Style,
-    /// Whether it has a text.
-    pub has_text: bool,
     /// Its number in the list as given, counted from 0.
     pub index: usize,
 }

@@ -1,50 +1,70 @@
 -- The rows of lines, one line after the other.
-use Rattle.std.proofs.Common.{ℕ, zero, suc, ◌+◌, ◌<◌, ◌≤◌, ◌≡◌, List, [], ◌∷◌, ◌++◌, map, length, drop, get_or, eqb, refl, sym, ap, ◌∙◌, append_assoc, append-nil, arith, add-one}
-use Rattle.std.proofs.Math.Seq.{drop-cons}
+use Rattle.std.proofs.Common.{ℕ, ◌+◌, ◌-◌, ◌<◌, ◌≤◌, ◌≡◌, Bool, true, false, List, [], ◌∷◌, ◌++◌, length, drop, eqb, refl, sym, ap, ◌∙◌, subst, append_assoc, append-nil, arith}
+use Rattle.std.specs.Prelude.{slice_index}
 use Rattle.std.proofs.lemmas.Bool.{ne_eqb, eq-eqb, eqb-true, eqb-false}
-use Rattle.miette_newlines.specs.rules.Lines.{Line}
+use Rattle.std.proofs.lemmas.List.{length-drop}
+use Rattle.miette_newlines.specs.rules.Lines.{Line, lines_from, ends_line, with_byte}
+use Rattle.miette_newlines.specs.declared.lines.LineOfText.{LineOfText}
+use Rattle.miette_newlines.specs.views.Walking.{Rest, IsFirst, behind, line_of_text, lines_left}
 use Rattle.miette_protocol.specs.rules.Reading.{Contents}
-use Rattle.miette_lines.specs.declared.line_sweep.SweptLine.{SweptLine}
-use Rattle.miette_lines.specs.views.TextLines.{line_of_text}
+use Rattle.miette_lines.specs.rules.Contexts.{lines_of_contents}
 use Rattle.miette_narrated.specs.rules.Labels.{Told, Shown}
 use Rattle.miette_narrated.proofs.Sweeps.{by_cases}
 use Rattle.miette_narrated.specs.rules.Lines.{shown, is_nil, rows_of_line, rows_of_lines}
 
-abbrev pub lines_of_swept : List SweptLine → List Line
-lines_of_swept ls = map (λ l. line_of_text l.line) ls
+-- The lines that are left of what a read lent, with numbers behind this one, have the rows that are left of the goal.
+pub record AreLeft (labels : List Told) (lent : Contents) (before : ℕ) (rest : Rest) (out goal : List ℕ) : Type 0 where
+  pub rows : out ++ rows_of_lines labels lent (before + 1) (lines_left rest) ≡ goal
+  pub from : lent.span.offset ≤ rest.start
+  pub to : rest.start + length rest.bytes ≡ lent.span.offset + length lent.bytes
 
-pub none_left : {X : Type 0} (xs : List X) (i : ℕ) → length xs ≤ i → drop i xs ≡ []
-none_left [] zero h = refl
-none_left [] (suc i) h = refl
-none_left (x ∷ xs) zero h = absurd (omega arith)
-none_left (x ∷ xs) (suc i) h = none_left xs i (omega arith)
+-- all of them
+pub left_first : (labels : List Told) (lent : Contents) (before : ℕ) (rest : Rest) (out : List ℕ) → rest ≡ record { start = lent.span.offset; bytes = lent.bytes } → before ≡ lent.line →
+    AreLeft labels lent before rest out (out ++ rows_of_lines labels lent (lent.line + 1) (lines_of_contents lent))
+left_first labels lent before rest out is n =
+    subst (λ (r : Rest). AreLeft labels lent before r out (out ++ rows_of_lines labels lent (lent.line + 1) (lines_of_contents lent))) (sym is)
+    (record { rows = ap (λ k. out ++ rows_of_lines labels lent (k + 1) (lines_of_contents lent)) n; from = omega arith; to = refl })
 
-eqb_later : (a b c d : ℕ) → c ≡ suc a → d ≡ suc b → eqb a b ≡ eqb c d
-eqb_later a b c d e f =
-    by_cases {C = eqb a b ≡ eqb c d} (eqb a b)
-    (λ t. let same : a ≡ b = eqb-true a b t in t ∙ sym (eq-eqb c d (omega (arith, e, f, same))))
-    (λ g. g ∙ sym (ne_eqb c d (λ h. eqb-false a b g (omega (arith, e, f, h)))))
+-- bytes have no line where there is none of them
+with_some : (b at : ℕ) (ls : List Line) → is_nil (with_byte b at ls) ≡ false
+with_some b at [] = refl
+with_some b at (l ∷ ls) = refl
 
-last_is : (ls : List SweptLine) (i : ℕ) → i < length ls → is_nil (lines_of_swept (drop (suc i) ls)) ≡ eqb (i + 1) (length ls)
-last_is [] i lt = absurd (omega arith)
-last_is (l ∷ []) zero lt = refl
-last_is (l ∷ m ∷ ls) zero lt = sym (ne_eqb 1 (length (l ∷ m ∷ ls)) (λ e. omega arith))
-last_is (l ∷ ls) (suc i) lt = last_is ls i (omega arith) ∙ eqb_later (i + 1) (length ls) (suc i + 1) (suc (length ls)) (omega arith) refl
+some_line : (at b : ℕ) (bs : List ℕ) → is_nil (lines_from at (b ∷ bs)) ≡ false
+some_line at b bs =
+    by_cases {C = is_nil (lines_from at (b ∷ bs)) ≡ false} (ends_line b (slice_index bs 0)) (λ t. rw t refl) (λ f. rw f (with_some b at (lines_from (at + 1) bs)))
 
-pub lines_more : (labels : List Told) (lent : Contents) (number : ℕ) (ls : List SweptLine) (i : ℕ) (d : SweptLine) (it : Shown) (out new goal : List ℕ) → i < length ls → d ≡ get_or ls i d →
-    it ≡ shown lent number (eqb (i + 1) (length ls)) (line_of_text d.line) → new ≡ out ++ rows_of_line labels it →
-    out ++ rows_of_lines labels lent number (lines_of_swept (drop i ls)) ≡ goal → new ++ rows_of_lines labels lent (number + 1) (lines_of_swept (drop (i + 1) ls)) ≡ goal
-lines_more labels lent number ls i d it out new goal lt is here e h =
-    let rest = lines_of_swept (drop (suc i) ls) in
-    let later = rows_of_lines labels lent (number + 1) rest in
-    let same : it ≡ shown lent number (is_nil rest) (line_of_text d.line) = here ∙ ap (λ b. shown lent number b (line_of_text d.line)) (sym (last_is ls i lt)) in
-    let left : drop i ls ≡ d ∷ drop (suc i) ls = drop-cons ls i d lt ∙ ap (λ x. x ∷ drop (suc i) ls) (sym is) in
-    ap (λ k. new ++ rows_of_lines labels lent (number + 1) (lines_of_swept (drop k ls))) (add-one i)
-    ∙ ap (λ o. o ++ later) (e ∙ ap (λ x. out ++ rows_of_line labels x) same)
-    ∙ append_assoc out (rows_of_line labels (shown lent number (is_nil rest) (line_of_text d.line))) later
-    ∙ ap (λ xs. out ++ rows_of_lines labels lent number (lines_of_swept xs)) (sym left) ∙ h
+nil_of : (at : ℕ) (bytes : List ℕ) → is_nil (lines_from at bytes) ≡ eqb (length bytes) 0
+nil_of at [] = refl
+nil_of at (b ∷ bs) = some_line at b bs ∙ sym (ne_eqb (length (b ∷ bs)) 0 (λ e. omega (arith, e)))
 
-pub lines_end : (labels : List Told) (lent : Contents) (number : ℕ) (ls : List SweptLine) (i : ℕ) (out goal : List ℕ) → length ls ≤ i →
-    out ++ rows_of_lines labels lent number (lines_of_swept (drop i ls)) ≡ goal → out ≡ goal
-lines_end labels lent number ls i out goal le h =
-    sym (append-nil out) ∙ ap (λ xs. out ++ rows_of_lines labels lent number (lines_of_swept xs)) (sym (none_left ls i le)) ∙ h
+-- a line is the last one where it ends with the bytes
+last_is : (rest : Rest) (line : LineOfText) (end : ℕ) → IsFirst rest line → rest.start + length rest.bytes ≡ end → is_nil (lines_left (behind rest line)) ≡ eqb line.end end
+last_is rest line end h to =
+    let left : length (drop (line.end - rest.start) rest.bytes) ≡ length rest.bytes - (line.end - rest.start) = length-drop (line.end - rest.start) rest.bytes in
+    let n : ℕ = length (drop (line.end - rest.start) rest.bytes) in
+    nil_of line.end (drop (line.end - rest.start) rest.bytes)
+    ∙ by_cases {C = eqb n 0 ≡ eqb line.end end} (eqb line.end end)
+    (λ t. let e : line.end ≡ end = eqb-true line.end end t in eq-eqb n 0 (omega (arith, left, to, e, h.from, h.some)) ∙ sym t)
+    (λ f. ne_eqb n 0 (λ z. eqb-false line.end end f (omega (arith, left, to, z, h.from, h.some, h.to))) ∙ sym f)
+
+pub left_more : (labels : List Told) (lent : Contents) (before number : ℕ) (rest after : Rest) (line : LineOfText) (is_last : Bool) (it : Shown) (out new goal : List ℕ) → AreLeft labels lent before rest out goal →
+    IsFirst rest line → after ≡ behind rest line → number ≡ before + 1 → is_last ≡ eqb line.end (lent.span.offset + length lent.bytes) →
+    it ≡ shown lent number is_last (line_of_text line) → new ≡ out ++ rows_of_line labels it → AreLeft labels lent number after new goal
+left_more labels lent before number rest after line is_last it out new goal h first left n last here put =
+    let later : List ℕ = rows_of_lines labels lent (number + 1) (lines_left (behind rest line)) in
+    let at_end : is_nil (lines_left (behind rest line)) ≡ is_last = last_is rest line (lent.span.offset + length lent.bytes) first h.to ∙ sym last in
+    let size : length (drop (line.end - rest.start) rest.bytes) ≡ length rest.bytes - (line.end - rest.start) = length-drop (line.end - rest.start) rest.bytes in
+    subst (λ (r : Rest). AreLeft labels lent number r new goal) (sym left)
+    (record {
+      rows = ap (λ o. o ++ later) (put ∙ ap (λ x. out ++ rows_of_line labels x) (here ∙ ap (λ b. shown lent number b (line_of_text line)) (sym at_end)))
+          ∙ append_assoc out (rows_of_line labels (shown lent number (is_nil (lines_left (behind rest line))) (line_of_text line))) later
+          ∙ ap (λ ls. out ++ rows_of_lines labels lent number ls) (sym first.lines)
+          ∙ ap (λ k. out ++ rows_of_lines labels lent k (lines_left rest)) n ∙ h.rows;
+      from = omega (arith, h.from, first.from, first.some);
+      to = omega (arith, h.to, size, first.from, first.some, first.to);
+    })
+
+pub left_none : (labels : List Told) (lent : Contents) (before : ℕ) (rest : Rest) (out goal : List ℕ) → AreLeft labels lent before rest out goal → rest.bytes ≡ [] → out ≡ goal
+left_none labels lent before rest out goal h none =
+    sym (append-nil out) ∙ ap (λ bs. out ++ rows_of_lines labels lent (before + 1) (lines_from rest.start bs)) (sym none) ∙ h.rows

@@ -14,7 +14,7 @@ use Rattle.miette_narrated.specs.rules.Report.{Settings, Answers, unlisted, list
 use Rattle.miette_tree.specs.rules.Parts.{given_labels}
 use Rattle.miette_narrated.specs.rules.Answered.{holds_of, holds_of_all, always_reads, accepts, report_reads, IsAnswered, AreAnswers, AllAnswers, AppendsSnippets, AppendsReport, AppendsRelated, IsNarrated, Appends}
 use Rattle.miette_narrated.proofs.Sweeps.{by_cases}
-use Rattle.miette_narrated.proofs.Lining.{none_left}
+use Rattle.std.proofs.lemmas.List.{drop_all}
 
 -- ---- related reports, one after the other
 
@@ -49,7 +49,7 @@ next_of value rs i d h is = ap (λ l. trees (map value l)) (drop-cons rs i d h �
 
 pub at_the_end : {R : Type 0} (value : R → Tree) (context : ℕ) (inherited : Option Source) (rs : List R) (all : Trees) (i : ℕ) (old now : List ℕ) → length rs ≤ i
     → RelatedSoFar context inherited all (trees (map value (drop i rs))) old now → RelatedSoFar context inherited all no_trees old now
-at_the_end value context inherited rs all i old now h r = subst (λ l. RelatedSoFar context inherited all (trees (map value l)) old now) (none_left rs i h) r
+at_the_end value context inherited rs all i old now h r = subst (λ l. RelatedSoFar context inherited all (trees (map value l)) old now) (drop_all i rs h) r
 
 pub blank_some : {R : Type 0} (value : R → Tree) (rs : List R) → (length rs ≡ 0 → ⊥) → blank_before (trees (map value rs)) ≡ 10 ∷ []
 blank_some value [] h = absurd (h refl)

@@ -3,13 +3,13 @@
 ghost use Rattle.std.specs.Prelude.{◌≡◌, nat_lt, IfOk};
 ghost use Rattle.std.specs.List.{filter};
 ghost use Rattle.std.specs.List.Sorted.{IsNonDecreasingBy};
-ghost use Rattle.miette_lines.specs.views.TextLines.{line_of_text};
+ghost use Rattle.miette_newlines.specs.views.Walking.{line_of_text};
 ghost use Rattle.miette_narrated.specs.steps.Ends.{is_begun, is_ended, ends_within, labels_of, ranked, AreEnds};
 ghost use Rattle.miette_narrated.specs.steps.Ends.{IsOrder};
 ghost use Rattle.miette_narrated.specs.steps.Sweeping.{AreOrdered};
 
 use miette_lines::sweep::Placed;
-use miette_lines::text_line::LineOfText;
+use miette_newlines::lines::LineOfText;
 use miette_protocol::protocol::LabeledSpan;
 use std::alloc::{AllocError, Global};
 

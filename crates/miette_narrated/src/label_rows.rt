@@ -3,7 +3,7 @@
 ghost use Rattle.std.specs.Prelude.{◌≡◌, ◌++◌, IfOk, OnOk, string_bytes, option_copied};
 ghost use Rattle.miette_narrated.specs.rules.Labels.{row, begins, begins_within, reaches_line, ends_before};
 ghost use Rattle.miette_narrated.specs.rules.Labels.{first_number, last_number, columns_text, text_behind, whole_row};
-ghost use Rattle.miette_narrated.specs.rules.Labels.{start_row, end_row, begun_row, reaching_row, label_row};
+ghost use Rattle.miette_narrated.specs.rules.Labels.{column_row, start_row, end_row, begun_row, label_row};
 ghost use Rattle.miette_narrated.specs.rules.Labels.{label_rows};
 ghost use Rattle.std.specs.List.{All};
 ghost use Rattle.miette_narrated.specs.steps.Ends.{labels_of};
@@ -100,123 +100,6 @@ fn push_columns(out: &mut String, first: usize, last: usize) -> Result<(), Alloc
     Ok(())
 }
 
-/// `    label at line 2, columns 3 to 6: This bit here`
-fn push_whole(
-    alloc: Global,
-    out: &mut String,
-    it: &ShownLine<'_, '_>,
-    labels: &[LabeledSpan],
-    label: &Placed,
-) -> Result<(), AllocError>
-    ensures { OnOk result (string_bytes out.new
-        ≡ string_bytes out.old ++ whole_row (shown_of it.now) (told_of labels.now label.now)) }
-{
-    let first = first_number(alloc, it, label)?;
-    let last = last_number(alloc, it, label)?;
-    push_number(out, "    label at line ", it.number)?;
-    push_columns(out, first, last)?;
-    push_end(out, text_of(labels, label))?;
-    Ok(())
-}
-
-/// `    label starting at line 1, column 1`
-fn push_start(
-    alloc: Global,
-    out: &mut String,
-    it: &ShownLine<'_, '_>,
-    labels: &[LabeledSpan],
-    label: &Placed,
-) -> Result<(), AllocError>
-    ensures { OnOk result (string_bytes out.new
-        ≡ string_bytes out.old ++ start_row (shown_of it.now) (told_of labels.now label.now)) }
-{
-    let first = first_number(alloc, it, label)?;
-    push_number(out, "    label starting at line ", it.number)?;
-    push_number(out, ", column ", first)?;
-    push_end(out, text_of(labels, label))?;
-    Ok(())
-}
-
-/// `    label ending at line 2, column 0`
-fn push_ending(
-    alloc: Global,
-    out: &mut String,
-    it: &ShownLine<'_, '_>,
-    labels: &[LabeledSpan],
-    label: &Placed,
-) -> Result<(), AllocError>
-    ensures { OnOk result (string_bytes out.new
-        ≡ string_bytes out.old ++ end_row (shown_of it.now) (told_of labels.now label.now)) }
-{
-    let last = last_number(alloc, it, label)?;
-    push_number(out, "    label ending at line ", it.number)?;
-    push_number(out, ", column ", last)?;
-    push_end(out, text_of(labels, label))?;
-    Ok(())
-}
-
-/// The row of a label that begins on a line or behind it, where it has one there.
-fn push_begun(
-    alloc: Global,
-    out: &mut String,
-    it: &ShownLine<'_, '_>,
-    labels: &[LabeledSpan],
-    label: &Placed,
-) -> Result<(), AllocError>
-    ensures { OnOk result (string_bytes out.new
-        ≡ string_bytes out.old ++ begun_row (shown_of it.now) (told_of labels.now label.now)) }
-{
-    if ends_before(it, label) {
-        push_whole(alloc, out, it, labels, label)?;
-        return Ok(());
-    }
-    if begins_within(it, label) {
-        push_start(alloc, out, it, labels, label)?;
-        return Ok(());
-    }
-    Ok(())
-}
-
-/// The row of a label that began before a line and reaches it, where it has one there.
-fn push_reaching(
-    alloc: Global,
-    out: &mut String,
-    it: &ShownLine<'_, '_>,
-    labels: &[LabeledSpan],
-    label: &Placed,
-) -> Result<(), AllocError>
-    ensures { OnOk result (string_bytes out.new
-        ≡ string_bytes out.old ++ reaching_row (shown_of it.now) (told_of labels.now label.now)) }
-{
-    if ends_before(it, label) {
-        push_ending(alloc, out, it, labels, label)?;
-        return Ok(());
-    }
-    Ok(())
-}
-
-/// The row of a label under a line, where it has one there.
-fn push_label(
-    alloc: Global,
-    out: &mut String,
-    it: &ShownLine<'_, '_>,
-    labels: &[LabeledSpan],
-    label: &Placed,
-) -> Result<(), AllocError>
-    ensures { OnOk result (string_bytes out.new
-        ≡ string_bytes out.old ++ label_row (shown_of it.now) (told_of labels.now label.now)) }
-{
-    if begins(it, label) {
-        push_begun(alloc, out, it, labels, label)?;
-        return Ok(());
-    }
-    if reaches(it, label) {
-        push_reaching(alloc, out, it, labels, label)?;
-        return Ok(());
-    }
-    Ok(())
-}
-
 // Places and runs in a line's text for the columns of so many labels: none where each byte is a column, and none for
 // one label.
 fn places_for(
@@ -235,73 +118,161 @@ fn places_for(
     Ok((places, runs))
 }
 
-// The rows of labels under a line, in order, from the line with the places of its text.
-fn push_each(
-    alloc: Global,
-    out: &mut String,
-    it: &ShownLine<'_, '_>,
-    labels: &[LabeledSpan],
-    placed: &[Placed],
-) -> Result<(), AllocError>
-    ensures { OnOk result (string_bytes out.new
-        ≡ string_bytes out.old ++ label_rows (shown_of it.now) (all_told labels.now placed.now)) }
-{
-    for label in placed {
-        push_label(alloc, out, it, labels, label)?;
+/// A line of a snippet, and the labels of its diagnostic.
+#[derive(Clone, Copy, Drop)]
+pub(crate) struct LabelledLine<'r, 'a, 'p> {
+    /// The line.
+    pub(crate) line: &'r ShownLine<'a, 'p>,
+    /// The labels as given, whose texts are told.
+    pub(crate) labels: &'r [LabeledSpan],
+}
+
+impl LabelledLine<'_, '_, '_> {
+    /// `    label at line 2, columns 3 to 6: This bit here`
+    fn push_whole(&self, alloc: Global, out: &mut String, label: &Placed) -> Result<(), AllocError>
+        ensures { OnOk result (string_bytes out.new
+            ≡ string_bytes out.old ++ whole_row (shown_of self.now.line.now) (told_of self.now.labels.now label.now)) }
+    {
+        let first = first_number(alloc, self.line, label)?;
+        let last = last_number(alloc, self.line, label)?;
+        push_number(out, "    label at line ", self.line.number)?;
+        push_columns(out, first, last)?;
+        push_end(out, text_of(self.labels, label))?;
+        Ok(())
     }
-    Ok(())
-}
 
-/// The rows of labels under a line, in order.
-pub(crate) fn push_labels(
-    alloc: Global,
-    out: &mut String,
-    it: &ShownLine<'_, '_>,
-    labels: &[LabeledSpan],
-    placed: &[Placed],
-) -> Result<(), AllocError>
-    ensures { OnOk result (string_bytes out.new
-        ≡ string_bytes out.old ++ label_rows (shown_of it.now) (all_told labels.now placed.now)) }
-{
-    let (places, runs) = places_for(alloc, it.text, placed.len())?;
-    let marked = it.with_places(&places, &runs);
-    push_each(alloc, out, &marked, labels, placed)?;
-    Ok(())
-}
-
-// The rows of labels that end on a line, in order, from the line with the places of its text.
-fn push_ended(
-    alloc: Global,
-    out: &mut String,
-    it: &ShownLine<'_, '_>,
-    labels: &[LabeledSpan],
-    ended: &[Ranked],
-) -> Result<(), AllocError>
-    ensures { OnOk result (string_bytes out.new
-        ≡ string_bytes out.old ++ label_rows (shown_of it.now) (all_told labels.now (labels_of ended.now))) }
-{
-    for end in ended {
-        push_label(alloc, out, it, labels, &end.label)?;
+    /// The row of one column of a label: `    label starting at line 1, column 1`, whose words are given.
+    fn push_column(
+        &self,
+        out: &mut String,
+        words: &str,
+        column: usize,
+        label: &Placed,
+    ) -> Result<(), AllocError>
+        ensures { OnOk result (string_bytes out.new ≡ string_bytes out.old
+            ++ column_row words.now (shown_of self.now.line.now) column (told_of self.now.labels.now label.now)) }
+    {
+        push_number(out, words, self.line.number)?;
+        push_number(out, ", column ", column)?;
+        push_end(out, text_of(self.labels, label))?;
+        Ok(())
     }
-    Ok(())
-}
 
-/// The rows of labels that end on a line, and behind them those of labels that begin there, each in order.
-pub(crate) fn push_ended_and_begun(
-    alloc: Global,
-    out: &mut String,
-    it: &ShownLine<'_, '_>,
-    labels: &[LabeledSpan],
-    ended: &[Ranked],
-    begun: &[Placed],
-) -> Result<(), AllocError>
-    ensures { OnOk result (string_bytes out.new
-        ≡ (string_bytes out.old ++ label_rows (shown_of it.now) (all_told labels.now (labels_of ended.now)))
-        ++ label_rows (shown_of it.now) (all_told labels.now begun.now)) }
-{
-    let (places, runs) = places_for(alloc, it.text, ended.len().saturating_add(begun.len()))?;
-    let marked = it.with_places(&places, &runs);
-    push_ended(alloc, out, &marked, labels, ended)?;
-    push_each(alloc, out, &marked, labels, begun)?;
-    Ok(())
+    /// `    label starting at line 1, column 1`
+    fn push_start(&self, alloc: Global, out: &mut String, label: &Placed) -> Result<(), AllocError>
+        ensures { OnOk result (string_bytes out.new
+            ≡ string_bytes out.old ++ start_row (shown_of self.now.line.now) (told_of self.now.labels.now label.now)) }
+    {
+        let first = first_number(alloc, self.line, label)?;
+        self.push_column(out, "    label starting at line ", first, label)
+    }
+
+    /// `    label ending at line 2, column 0`
+    fn push_ending(&self, alloc: Global, out: &mut String, label: &Placed) -> Result<(), AllocError>
+        ensures { OnOk result (string_bytes out.new
+            ≡ string_bytes out.old ++ end_row (shown_of self.now.line.now) (told_of self.now.labels.now label.now)) }
+    {
+        let last = last_number(alloc, self.line, label)?;
+        self.push_column(out, "    label ending at line ", last, label)
+    }
+
+    /// The row of a label that begins on the line or behind it, where it has one there.
+    fn push_begun(&self, alloc: Global, out: &mut String, label: &Placed) -> Result<(), AllocError>
+        ensures { OnOk result (string_bytes out.new
+            ≡ string_bytes out.old ++ begun_row (shown_of self.now.line.now) (told_of self.now.labels.now label.now)) }
+    {
+        if ends_before(self.line, label) {
+            self.push_whole(alloc, out, label)?;
+        } else if begins_within(self.line, label) {
+            self.push_start(alloc, out, label)?;
+        }
+        Ok(())
+    }
+
+    /// The row of a label under the line, where it has one there; one that began before the line has one where it ends.
+    fn push_label(&self, alloc: Global, out: &mut String, label: &Placed) -> Result<(), AllocError>
+        ensures { OnOk result (string_bytes out.new
+            ≡ string_bytes out.old ++ label_row (shown_of self.now.line.now) (told_of self.now.labels.now label.now)) }
+    {
+        if begins(self.line, label) {
+            self.push_begun(alloc, out, label)?;
+        } else if reaches(self.line, label) && ends_before(self.line, label) {
+            self.push_ending(alloc, out, label)?;
+        }
+        Ok(())
+    }
+
+    // The rows of labels under the line, in order, where it has the places of its text.
+    fn push_all(&self, alloc: Global, out: &mut String, placed: &[Placed]) -> Result<(), AllocError>
+        ensures { OnOk result (string_bytes out.new ≡ string_bytes out.old
+            ++ label_rows (shown_of self.now.line.now) (all_told self.now.labels.now placed.now)) }
+    {
+        for label in placed {
+            self.push_label(alloc, out, label)?;
+        }
+        Ok(())
+    }
+
+    // The rows of labels that end on the line, in order, where it has the places of its text.
+    fn push_ended(
+        &self,
+        alloc: Global,
+        out: &mut String,
+        ended: &[Ranked],
+    ) -> Result<(), AllocError>
+        ensures { OnOk result (string_bytes out.new ≡ string_bytes out.old
+            ++ label_rows (shown_of self.now.line.now) (all_told self.now.labels.now (labels_of ended.now))) }
+    {
+        for end in ended {
+            self.push_label(alloc, out, &end.label)?;
+        }
+        Ok(())
+    }
+
+    /// The rows of labels under the line, in order.
+    pub(crate) fn push_labels(
+        &self,
+        alloc: Global,
+        out: &mut String,
+        placed: &[Placed],
+    ) -> Result<(), AllocError>
+        ensures { OnOk result (string_bytes out.new ≡ string_bytes out.old
+            ++ label_rows (shown_of self.now.line.now) (all_told self.now.labels.now placed.now)) }
+    {
+        let (places, runs) = places_for(alloc, self.line.text, placed.len())?;
+        let line = self.line.with_places(&places, &runs);
+        let marked = LabelledLine {
+            line: &line,
+            labels: self.labels,
+        };
+        marked.push_all(alloc, out, placed)?;
+        Ok(())
+    }
+
+    /// The rows of labels that end on the line, and behind them those of labels that begin there, each in order.
+    pub(crate) fn push_ended_and_begun(
+        &self,
+        alloc: Global,
+        out: &mut String,
+        ended: &[Ranked],
+        begun: &[Placed],
+    ) -> Result<(), AllocError>
+        ensures { OnOk result (string_bytes out.new ≡ (string_bytes out.old
+            ++ label_rows (shown_of self.now.line.now) (all_told self.now.labels.now (labels_of ended.now)))
+            ++ label_rows (shown_of self.now.line.now) (all_told self.now.labels.now begun.now)) }
+    {
+        let (places, runs) = places_for(
+            alloc,
+            self.line.text,
+            ended.len().saturating_add(begun.len()),
+        )?;
+        let line = self.line.with_places(&places, &runs);
+        let marked = LabelledLine {
+            line: &line,
+            labels: self.labels,
+        };
+        marked.push_ended(alloc, out, ended)?;
+        marked.push_all(alloc, out, begun)?;
+        Ok(())
+    }
 }

@@ -1,9 +1,8 @@
 //! The rows of a snippet's lines.
 
-ghost use Rattle.std.specs.Prelude.{◌≡◌, false, ◌++◌, ◌+◌, ◌<◌, ◌≤◌, ◌^◌, map, length, OnOk, string_bytes};
-ghost use Rattle.std.specs.List.{All};
-ghost use Rattle.miette_lines.specs.views.TextLines.{line_of_text};
-ghost use Rattle.miette_lines.specs.views.Swept.{LiesIn};
+ghost use Rattle.std.specs.Prelude.{◌≡◌, false, ◌++◌, ◌+◌, ◌<◌, ◌≤◌, ◌^◌, length, OnOk, string_bytes};
+ghost use Rattle.miette_lines.specs.rules.Contexts.{lines_of_contents};
+ghost use Rattle.miette_newlines.specs.views.Walking.{line_of_text};
 ghost use Rattle.miette_narrated.specs.views.Made.{all_told, shown_of};
 ghost use Rattle.miette_narrated.specs.rules.Lines.{shown, line_row, rows_of_line, rows_of_lines};
 ghost use Rattle.miette_narrated.specs.steps.Ends.{IsOrder};
@@ -12,13 +11,12 @@ ghost use Rattle.miette_narrated.specs.steps.Sweeping.{IsAt, last_start};
 
 use crate::columns::push_decoded;
 use crate::label_order::{LabelOrder, begun_on, ended_on};
-use crate::label_rows::{push_ended_and_begun, push_labels};
+use crate::label_rows::LabelledLine;
 use crate::line_text::LineText;
 use crate::shown::ShownLine;
 use crate::sweeping::{Sweep, come_to};
 use crate::words::push_number;
-use miette_lines::line_sweep::SweptLine;
-use miette_lines::text_line::LineOfText;
+use miette_newlines::lines::{LineOfText, Lines};
 use miette_protocol::source::MietteSpanContents;
 use std::alloc::{AllocError, Global};
 
@@ -64,7 +62,11 @@ fn push_shown(
         return Ok(());
     }
     come_to(alloc, order.placed, it.line.start, last_start(it), sweep)?;
-    push_labels(alloc, out, it, order.labels, &sweep.running)?;
+    let row = LabelledLine {
+        line: it,
+        labels: order.labels,
+    };
+    row.push_labels(alloc, out, &sweep.running)?;
     Ok(())
 }
 
@@ -82,7 +84,11 @@ fn push_inner(
 {
     let ended = ended_on(alloc, order, &it.line)?;
     let begun = begun_on(order.placed, &it.line);
-    push_ended_and_begun(alloc, out, it, order.labels, &ended, begun)?;
+    let row = LabelledLine {
+        line: it,
+        labels: order.labels,
+    };
+    row.push_ended_and_begun(alloc, out, &ended, begun)?;
     Ok(())
 }
 
@@ -115,25 +121,25 @@ pub(crate) fn push_lines(
     alloc: Global,
     out: &mut String,
     lent: &MietteSpanContents<'_>,
-    lines: &[SweptLine],
     order: &LabelOrder<'_>,
     sweep: &mut Sweep,
 ) -> Result<(), AllocError>
-    requires inside { All (LiesIn lent.now.span.offset (length lent.now.bytes)) lines.now }
     requires small { lent.now.span.offset + length lent.now.bytes < 2 ^ 64 }
     requires order { IsOrder order.now }
     requires at { IsAt order.now.placed.now sweep.old.at sweep.old.next sweep.old.running.items }
     ensures rows { OnOk result (string_bytes out.new
         ≡ string_bytes out.old ++ rows_of_lines (all_told order.now.labels.now order.now.placed.now) lent.now
-        (lent.now.line + 1) (map (λ l. line_of_text l.line) lines.now)) }
+        (lent.now.line + 1) (lines_of_contents lent.now)) }
     ensures at { OnOk result (IsAt order.now.placed.now sweep.new.at sweep.new.next sweep.new.running.items) }
 {
+    let start = lent.span().offset();
+    let end = start + lent.data().len();
     let mut before = lent.line();
-    for (i, swept) in lines.iter().enumerate() {
+    for line in Lines::new(lent.data(), start) {
         let Some(number) = before.checked_add(1) else {
             return Err(AllocError);
         };
-        let it = shown_line(lent, swept.line, number, i + 1 == lines.len());
+        let it = shown_line(lent, line, number, line.end == end);
         push_shown(alloc, out, &it, order, sweep)?;
         before = number;
     }

@@ -14,7 +14,7 @@ use std::alloc::{AllocError, Global};
 
 /// Bytes of a text whose characters take no columns: the column behind each of them, and what the characters before it
 /// have each by itself, which is the column within it.
-#[derive(Clone, Copy)]
+#[derive(Clone, Copy, Drop)]
 pub(crate) struct Run {
     pub(crate) bytes: usize,
     pub(crate) until: usize,
@@ -88,8 +88,8 @@ fn push_parts(runs: &mut Vec<Run>, text: &[u8], whole: Run) -> Result<(), AllocE
 // Appends the runs behind a place, up to so many bytes, that are a good part of the bytes behind it.
 fn push_runs(
     alloc: Global,
-    runs: &mut Vec<Run>,
     text: &[u8],
+    runs: &mut Vec<Run>,
     from: Place,
     end: usize,
 ) -> Result<(), AllocError>
@@ -136,12 +136,12 @@ pub(crate) fn runs(alloc: Global, text: &[u8], places: &[Place]) -> Result<Vec<R
     let mut from = start(text);
     for place in places {
         if place.bytes.saturating_sub(from.bytes) >= FAR {
-            push_runs(alloc, &mut runs, text, from, place.bytes)?;
+            push_runs(alloc, text, &mut runs, from, place.bytes)?;
         }
         from = *place;
     }
     if text.len().saturating_sub(from.bytes) >= FAR {
-        push_runs(alloc, &mut runs, text, from, text.len())?;
+        push_runs(alloc, text, &mut runs, from, text.len())?;
     }
     Ok(runs)
 }

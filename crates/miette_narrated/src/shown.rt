@@ -9,7 +9,7 @@ ghost use Rattle.miette_narrated.specs.steps.Runs.{IsRun};
 use crate::line_text::LineText;
 use crate::places::Place;
 use crate::runs::Run;
-use miette_lines::text_line::LineOfText;
+use miette_newlines::lines::LineOfText;
 
 /// A line of a snippet: where it lies, its number, whether it is the snippet's last, where the snippet's data end,
 /// and its text.

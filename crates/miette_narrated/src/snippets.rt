@@ -1,17 +1,14 @@
 //! The rows of a diagnostic's snippets.
 
-ghost use Rattle.std.specs.Prelude.{◌≡◌, ◌++◌, ◌+◌, ◌<◌, ◌^◌, false, Some, map, length, decimal, IfOk, OnOk};
+ghost use Rattle.std.specs.Prelude.{◌≡◌, ◌++◌, ◌+◌, false, Some, map, decimal, OnOk};
 ghost use Rattle.std.specs.Prelude.{string_bytes, option_copied};
 ghost use Rattle.std.specs.List.{All};
-ghost use Rattle.miette_lines.specs.rules.Contexts.{lines_of_contents};
 ghost use Rattle.miette_lines.specs.rules.Groups.{in_order};
 ghost use Rattle.miette_lines.specs.views.Given.{label_at};
 ghost use Rattle.miette_lines.specs.views.Read.{IsRead};
-ghost use Rattle.miette_lines.specs.views.TextLines.{line_of_text};
-ghost use Rattle.miette_lines.specs.views.Swept.{LiesIn};
 ghost use Rattle.miette_narrated.specs.views.Made.{all_told};
-ghost use Rattle.miette_narrated.specs.rules.Snippets.{name_text, begin_rows, snippet};
 ghost use Rattle.miette_narrated.specs.rules.Answered.{AppendsSnippets, accepts};
+ghost use Rattle.miette_narrated.specs.rules.Snippets.{name_text, begin_rows, snippet};
 ghost use Rattle.miette_narrated.specs.steps.Ends.{IsOrder};
 ghost use Rattle.miette_narrated.specs.steps.Sweeping.{IsAt};
 
@@ -21,10 +18,8 @@ use crate::sweeping::Sweep;
 use crate::words::push_number;
 use miette_lines::drawn_labels::placed;
 use miette_lines::grouping::groups;
-use miette_lines::line_sweep::{SweptLine, swept_lines};
 use miette_lines::order::by_offset;
 use miette_lines::reading::{ReadLabel, ReadLabels, read_labels};
-use miette_lines::sweep::Sweep as LayoutSweep;
 use miette_protocol::error::RenderError;
 use miette_protocol::laws::data_reach_the_span;
 use miette_protocol::protocol::LabeledSpan;
@@ -64,19 +59,6 @@ fn push_begin(out: &mut String, lent: &MietteSpanContents<'_>) -> Result<(), All
     Ok(())
 }
 
-/// The lines of what a read lent.
-fn lines_of(alloc: Global, lent: &MietteSpanContents<'_>) -> Result<Vec<SweptLine>, AllocError>
-    ensures lines { IfOk result (λ lines. map (λ l. line_of_text l.line) lines.items ≡ lines_of_contents lent.now) }
-    ensures inside { IfOk result (λ lines. All (LiesIn lent.now.span.offset (length lent.now.bytes)) lines.items) }
-    ensures small { IfOk result (λ lines. lent.now.span.offset + length lent.now.bytes < 2 ^ 64) }
-{
-    let mut sweep = LayoutSweep {
-        running: Vec::new(alloc),
-        next: 0,
-    };
-    swept_lines(alloc, lent.data(), lent.span().offset(), &[], &mut sweep)
-}
-
 /// A snippet, from what its read lent.
 fn push_snippet(
     alloc: Global,
@@ -91,9 +73,12 @@ fn push_snippet(
         ≡ string_bytes out.old ++ snippet (all_told order.now.labels.now order.now.placed.now) lent.now) }
     ensures at { OnOk result (IsAt order.now.placed.now sweep.new.at sweep.new.next sweep.new.running.items) }
 {
+    let end = lent.span().offset().checked_add(lent.data().len());
+    if end.is_none() {
+        return Err(AllocError);
+    }
     push_begin(out, lent)?;
-    let lines = lines_of(alloc, lent)?;
-    push_lines(alloc, out, lent, &lines, order, sweep)?;
+    push_lines(alloc, out, lent, order, sweep)?;
     Ok(())
 }
 
@@ -114,7 +99,7 @@ fn push_read<'a, S: SourceCode>(
     ensures refused { (result ≡ Err RenderError.Refused) → accepts (Some (S.source source.now)) labels.now ≡ false }
 {
     data_reach_the_span();
-    let placed = placed(alloc, &[], labels, reads)?;
+    let placed = placed(alloc, &[], reads)?;
     let Some(groups) = groups(alloc, source, context, labels, reads)? else {
         return Err(RenderError::Refused);
     };

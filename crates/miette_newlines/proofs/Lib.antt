@@ -6,3 +6,4 @@ pub mod Halving
 pub mod Cuts
 pub mod Cutting
 pub mod Only
+pub mod Firsts

@@ -9,7 +9,7 @@ use Rattle.miette_newlines.specs.rules.Lines.{Line, LF, CR, ends_line, with_byte
 use Rattle.miette_newlines.specs.rules.Cutting.{IsTerminator, AreLines, BeginsWith}
 use Rattle.miette_newlines.proofs.Cutting.{lines_are}
 
-abbrev made : ℕ → ℕ → ℕ → Line
+abbrev pub made : ℕ → ℕ → ℕ → Line
 made at text_end end = record { start = at; text_end = text_end; end = end }
 
 cr_alone : (z : Bool) → z ≡ false → (false || (true && not z)) ≡ true
@@ -54,7 +54,7 @@ text_line b at te e ls h = ap (λ (x : Bool). made at (cond x at te) e ∷ ls) (
 rest_all : (b : ℕ) (bs : List ℕ) → All (λ c. is_text c ≡ true) (b ∷ bs) → All (λ c. is_text c ≡ true) bs
 rest_all b bs h k d lt = h (suc k) d (omega (arith, lt))
 
-abbrev LineFirst : ℕ → List ℕ → List ℕ → List ℕ → Type 0
+abbrev pub LineFirst : ℕ → List ℕ → List ℕ → List ℕ → Type 0
 LineFirst at text end rest =
     lines_from at (text ++ (end ++ rest)) ≡ made at (at + length text) (at + (length text + length end)) ∷ lines_from (at + (length text + length end)) rest
 
@@ -81,7 +81,7 @@ no_terminator rest (inr (inr (inl e))) = let f : [] ≡ CR ∷ [] = e.0 in absur
 no_terminator rest (inr (inr (inr e))) = e.1
 
 -- bytes that begin with a line
-first_line : (at : ℕ) (text end rest : List ℕ) → All (λ b. is_text b ≡ true) text → IsTerminator end rest → 0 < length text + length end → LineFirst at text end rest
+pub first_line : (at : ℕ) (text end rest : List ℕ) → All (λ b. is_text b ≡ true) text → IsTerminator end rest → 0 < length text + length end → LineFirst at text end rest
 first_line at [] end rest p t some =
     let z : at + 0 ≡ at = omega arith in
     let n : 0 + length end ≡ length end = omega arith in

@@ -7,4 +7,5 @@ pub mod find;
 pub mod indexed;
 pub mod laws;
 mod line_ends;
+pub mod lines;
 pub mod scan;

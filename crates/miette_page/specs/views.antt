@@ -1,4 +1,3 @@
 -- What the code's values stand for.
-pub mod PageParts
-pub mod Pages
+pub mod Printouts
 pub mod Told

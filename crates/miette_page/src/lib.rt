@@ -1,5 +1,4 @@
-//! Pages: rows of runs in the making, each run a style and a text.
+//! Pages: rows of runs, each run a style and a text, printed as they are made.
 #![tactic(auto)]
 
 pub mod page;
-mod page_marks;

@@ -3,3 +3,4 @@ pub mod Named
 pub mod Meaning
 pub mod ContextLines
 pub mod Diagnostic
+pub use Rattle.miette_newlines.specs.views.Walking

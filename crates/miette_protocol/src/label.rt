@@ -124,12 +124,9 @@ impl LabeledSpan {
         ensures primary { result.primary ≡ true }
         ensures context { result.context ≡ None }
     {
-        LabeledSpan {
-            label,
-            span: span.into(),
-            primary: true,
-            context_lines: None,
-        }
+        let mut it = LabeledSpan::new_with_span(label, span);
+        it.primary = true;
+        it
     }
 
     /// A label with a copy of a text, not primary.

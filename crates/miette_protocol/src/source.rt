@@ -13,6 +13,7 @@ pub use crate::named_traits::{
 };
 use crate::protocol::SourceSpan;
 pub use miette_newlines::indexed::IndexedSource;
+pub use miette_newlines::lines::{LineOfText, Lines};
 use miette_newlines::scan::Scan;
 
 /// A source of bytes. Its meaning is its bytes, its name and language, and whether it always reads.

@@ -4,43 +4,40 @@ use Rattle.std.specs.Prelude.{codes, find, nat_lt, position, take_while}
 use Rattle.std.specs.List.{flat_map}
 use Rattle.std.specs.Option.{option_and_then, option_map, option_map_or}
 use Rattle.std.proofs.lemmas.Bool.Decides.{nat_tests}
-use Rattle.std.proofs.lemmas.List.{drop_all, take_rest}
+use Rattle.std.proofs.lemmas.List.{length-drop, take_rest}
 use Rattle.std.proofs.lemmas.List.Folds.{length-prefix_len}
-use Rattle.miette_newlines.specs.rules.Lines.{Line}
+use Rattle.miette_newlines.specs.rules.Lines.{Line, lines_from}
+use Rattle.miette_newlines.specs.declared.lines.LineOfText.{LineOfText}
+use Rattle.miette_newlines.specs.views.Walking.{Rest, IsFirst, behind, line_of_text, lines_left}
 use Rattle.miette_protocol.specs.views.Meaning.{Label}
 use Rattle.miette_lines.specs.rules.Cells.{Cell}
-use Rattle.miette_lines.specs.declared.line_sweep.SweptLine.{SweptLine}
-use Rattle.miette_lines.specs.views.TextLines.{line_of_text}
-use Rattle.miette_lines.specs.views.Swept.{LiesIn}
 use Rattle.miette_report.specs.rules.Findings.{ending_blanks, finding, is_blank, misplaced_tab, overlong, tab_after_space, tab_behind, too_wide, trailing}
 
-pub item_lies : (start size : ℕ) (lines : List SweptLine) (i : ℕ) (it : SweptLine) → All (LiesIn start size) lines → i < length lines → it ≡ get_or lines i it → LiesIn start size it
-item_lies start size lines i it h lt is = subst (λ (l : SweptLine). LiesIn start size l) (sym is) (h i it lt)
+-- The lines that are left of so many bytes have what is left to be found.
+pub record AreLeft (f : Line → List Label) (size : ℕ) (rest : Rest) (found all : List Label) : Type 0 where
+  pub rows : found ++ flat_map f (lines_left rest) ≡ all
+  pub to : rest.start + length rest.bytes ≡ size
 
-drop_line : (ls : List SweptLine) (i : ℕ) (d : SweptLine) → i < length ls → drop i ls ≡ get_or ls i d ∷ drop (i + 1) ls
-drop_line [] i d lt = absurd (omega (arith, lt))
-drop_line (x ∷ xs) zero d lt = refl
-drop_line (x ∷ xs) (suc i) d lt = let e : suc i + 1 ≡ suc (i + 1) = omega arith in rw e (drop_line xs i d (omega (arith, lt)))
+-- all lines
+pub left_first : (f : Line → List Label) (rest : Rest) (bytes : List ℕ) (found : List Label) → rest ≡ record { start = 0; bytes = bytes } → found ≡ [] →
+    AreLeft f (length bytes) rest found (flat_map f (lines_from 0 bytes))
+left_first f rest bytes found is none =
+    subst (λ (r : Rest). AreLeft f (length bytes) r found (flat_map f (lines_from 0 bytes))) (sym is)
+    (record { rows = ap (λ ls. ls ++ flat_map f (lines_from 0 bytes)) none; to = omega arith })
 
--- what the lines from an index on have
-abbrev pub rest_of : (Line → List Label) → List SweptLine → ℕ → List Label
-rest_of f ls i = flat_map f (map (λ s. line_of_text s.line) (drop i ls))
+pub left_more : (f : Line → List Label) (size : ℕ) (rest after : Rest) (line : LineOfText) (found more all : List Label) → AreLeft f size rest found all → IsFirst rest line → after ≡ behind rest line
+    → more ≡ found ++ f (line_of_text line) → AreLeft f size after more all
+left_more f size rest after line found more all h first left step =
+    let later : List Label = flat_map f (lines_left (behind rest line)) in
+    let bytes : length (drop (line.end - rest.start) rest.bytes) ≡ length rest.bytes - (line.end - rest.start) = length-drop (line.end - rest.start) rest.bytes in
+    subst (λ (r : Rest). AreLeft f size r more all) (sym left)
+    (record {
+      rows = ap (λ m. m ++ later) step ∙ append_assoc found (f (line_of_text line)) later ∙ ap (λ ls. found ++ flat_map f ls) (sym first.lines) ∙ h.rows;
+      to = omega (arith, h.to, bytes, first.from, first.some, first.to);
+    })
 
-pub lines_more : (f : Line → List Label) (ls : List SweptLine) (i : ℕ) (x : SweptLine) (found more all : List Label) → i < length ls → x ≡ get_or ls i x → more ≡ found ++ f (line_of_text x.line)
-    → found ++ rest_of f ls i ≡ all → more ++ rest_of f ls (i + 1) ≡ all
-lines_more f ls i x found more all lt is step h =
-    ap (λ m. m ++ rest_of f ls (i + 1)) step
-    ∙ append_assoc found (f (line_of_text x.line)) (rest_of f ls (i + 1))
-    ∙ ap (λ (y : SweptLine). found ++ (f (line_of_text y.line) ++ rest_of f ls (i + 1))) is
-    ∙ ap (λ (d : List SweptLine). found ++ flat_map f (map (λ s. line_of_text s.line) d)) (sym (drop_line ls i x lt))
-    ∙ h
-
-pub lines_first : (f : Line → List Label) (ls : List SweptLine) (found : List Label) → found ++ rest_of f ls 0 ≡ found ++ flat_map f (map (λ s. line_of_text s.line) ls)
-lines_first f ls found = refl
-
-pub lines_all : (f : Line → List Label) (ls : List SweptLine) (i : ℕ) (found all : List Label) → length ls ≤ i → found ++ rest_of f ls i ≡ all → found ≡ all
-lines_all f ls i found all e h =
-    sym (append-nil found) ∙ ap (λ (d : List SweptLine). found ++ flat_map f (map (λ s. line_of_text s.line) d)) (sym (drop_all i ls e)) ∙ h
+pub left_none : (f : Line → List Label) (size : ℕ) (rest : Rest) (found all : List Label) → AreLeft f size rest found all → rest.bytes ≡ [] → found ≡ all
+left_none f size rest found all h none = sym (append-nil found) ∙ ap (λ bs. found ++ flat_map f (lines_from rest.start bs)) (sym none) ∙ h.rows
 
 -- the texts of a line
 

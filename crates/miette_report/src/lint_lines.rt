@@ -1,13 +1,11 @@
 //! What `lint` finds in the lines of a source.
 
-ghost use Rattle.std.specs.Prelude.{◌≡◌, ◌+◌, ◌++◌, ◌<◌, ◌≤◌, ◌^◌, ◌∷◌, [], nat_lt, length, map, decimal, flat_map};
+ghost use Rattle.std.specs.Prelude.{◌≡◌, ◌+◌, ◌++◌, ◌<◌, ◌≤◌, ◌^◌, ◌∷◌, [], nat_lt, length, decimal};
 ghost use Rattle.std.specs.Prelude.{position, ◌==◌, slice_range, take_while, find, IfOk, IfSome, OnOk, Some, None};
 ghost use Rattle.std.specs.Prelude.{None as Nothing, string_bytes};
-ghost use Rattle.std.specs.List.{All, last_or};
+ghost use Rattle.std.specs.List.{last_or};
 ghost use Rattle.std.specs.Option.{option_map};
-ghost use Rattle.miette_newlines.specs.rules.Lines.{lines_of};
-ghost use Rattle.miette_lines.specs.views.TextLines.{line_of_text};
-ghost use Rattle.miette_lines.specs.views.Swept.{LiesIn};
+ghost use Rattle.miette_newlines.specs.views.Walking.{line_of_text};
 ghost use Rattle.miette_lines.specs.views.Walking.{cell_of};
 ghost use Rattle.miette_report.specs.rules.Findings.{cells_of, ending_blanks, finding, findings_of, is_blank};
 ghost use Rattle.miette_report.specs.rules.Findings.{line_findings, misplaced_tab, overlong, tab_after_space};
@@ -15,9 +13,7 @@ ghost use Rattle.miette_report.specs.rules.Findings.{tab_behind, too_wide, trail
 
 use itoa::Buffer;
 use miette_lines::cells::{Cell, Walk};
-use miette_lines::line_sweep::{SweptLine, swept_lines};
-use miette_lines::sweep::Sweep;
-use miette_lines::text_line::LineOfText;
+use miette_newlines::lines::{LineOfText, Lines};
 use miette_protocol::protocol::LabeledSpan;
 use std::alloc::{AllocError, Global};
 use std::ops::Range;
@@ -243,36 +239,6 @@ fn push_line(
     push_unended(alloc, found, text, line)
 }
 
-// The lines of a source.
-fn lines_of(alloc: Global, source: &[u8]) -> Result<Vec<SweptLine>, AllocError>
-    ensures lines { IfOk result (λ lines. map (λ l. line_of_text l.line) lines.items ≡ lines_of source.now) }
-    ensures inside { IfOk result (λ lines. All (LiesIn 0 (length source.now)) lines.items) }
-{
-    let mut sweep = Sweep {
-        running: Vec::new(alloc),
-        next: 0,
-    };
-    swept_lines(alloc, source, 0, &[], &mut sweep)
-}
-
-// What is found in these lines of a source.
-fn push_lines(
-    alloc: Global,
-    found: &mut Vec<LabeledSpan>,
-    source: &[u8],
-    lines: &[SweptLine],
-    width: usize,
-) -> Result<(), AllocError>
-    requires inside { All (LiesIn 0 (length source.now)) lines.now }
-    ensures { OnOk result (found.new.items ≡ found.old.items
-        ++ flat_map (line_findings source.now width) (map (λ l. line_of_text l.line) lines.now)) }
-{
-    for swept in lines {
-        push_line(alloc, found, source, swept.line, width)?;
-    }
-    Ok(())
-}
-
 /// All that `lint` finds in a source, in order: a label for each finding.
 ///
 /// # Errors
@@ -280,8 +246,9 @@ fn push_lines(
 pub fn findings(alloc: Global, source: &[u8], width: usize) -> Result<Vec<LabeledSpan>, AllocError>
     ensures { IfOk result (λ found. found.items ≡ findings_of source.now width) }
 {
-    let lines = lines_of(alloc, source)?;
     let mut found = Vec::new(alloc);
-    push_lines(alloc, &mut found, source, &lines, width)?;
+    for line in Lines::new(source, 0) {
+        push_line(alloc, &mut found, source, line, width)?;
+    }
     Ok(found)
 }

@@ -3,3 +3,4 @@ pub mod Styles
 pub mod Themes
 pub mod Pieces
 pub mod Escapes
+pub mod Asked

@@ -1,7 +1,8 @@
 //! What styles the pieces of a source's line.
 
-ghost use Rattle.std.specs.Prelude.{◌≡◌, ℕ, Bool, true, false, IsTrue, IfOk, List, length, All};
+ghost use Rattle.std.specs.Prelude.{◌≡◌, ℕ, Bool, true, false, IsTrue, IfOk, List, [], ◌∷◌, length, All};
 ghost use Rattle.std.specs.Str.{IsCharBoundary};
+ghost use Rattle.miette_style.specs.rules.Asked.{AnsweredBy, Call, Leads, asked, listed, restarted};
 ghost use Rattle.miette_style.specs.rules.Pieces.{CutsLine, Piece, ends_from, plain_pieces, total_length};
 
 use crate::style::Style;
@@ -16,9 +17,14 @@ pub trait Highlighter: Drop {
     // Whether each line is one plain piece, whatever came before.
     ghost is_blank: { Self → Bool } = { λ _. false };
 
+    // Whether these calls, with these answers, may follow one another from here on. Nothing is ruled out where an
+    // implementation doesn't say it.
+    ghost may_follow: { Self → List Call → Type 0 } = { λ _ _. Unit {0} };
+
     /// Begins a new snippet.
     fn restart(&mut self, contents: &MietteSpanContents<'_>)
-        ensures { is_blank self.new ≡ is_blank self.old };
+        ensures follows { Leads (may_follow self.old) (restarted contents.now ∷ []) (may_follow self.new) }
+        ensures stays { is_blank self.new ≡ is_blank self.old };
 
     /// The pieces of the next line: a length in bytes and a style each. The lengths add up to the line's, and each
     /// piece ends at a character boundary. A piece of length 0 prints nothing.
@@ -32,6 +38,8 @@ pub trait Highlighter: Drop {
     ) -> Result<Vec<(usize, Style)>, AllocError>
         ensures cuts { IfOk result (λ pieces. CutsLine line.now pieces.items) }
         ensures blank { IsTrue (is_blank self.old) → IfOk result (λ pieces. pieces.items ≡ plain_pieces line.now) }
+        ensures follows { IfOk result (λ pieces.
+            Leads (may_follow self.old) (asked line.now (listed pieces.items) ∷ []) (may_follow self.new)) }
         ensures stays { is_blank self.new ≡ is_blank self.old };
 }
 
@@ -49,6 +57,8 @@ pub struct BlankHighlighter;
 impl Highlighter for BlankHighlighter {
     ghost is_blank = { λ _. true };
 
+    ghost may_follow = { λ _. AnsweredBy plain_pieces };
+
     fn restart(&mut self, _contents: &MietteSpanContents<'_>) {}
 
     fn highlight_line(
@@ -63,6 +73,8 @@ impl Highlighter for BlankHighlighter {
 /// A boxed highlighter is the one in the box.
 impl Highlighter for Box<dyn Highlighter> {
     ghost is_blank = { λ it. (Highlighter-box it).is_blank it.value };
+
+    ghost may_follow = { λ it. (Highlighter-box it).may_follow it.value };
 
     fn restart(&mut self, contents: &MietteSpanContents<'_>) {
         (**self).restart(contents);

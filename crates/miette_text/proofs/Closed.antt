@@ -2,10 +2,10 @@
 use Rattle.std.proofs.Common.{◌≡◌, ℕ, ◌+◌, Bool, true, false, ◌&&◌, ◌||◌, ◌==◌, nat_lt, min, List, [], ◌∷◌, ◌++◌, map, flat_map, refl, sym, ap, ap₂, ◌∙◌, subst, arith, eqb-true, append_assoc, append-nil, if◌then◌else◌, ◌⊎◌, inl, inr}
 use Rattle.std.proofs.lemmas.Bool.Decides.{nat_tests}
 use Rattle.std.proofs.lemmas.List.Concat.{flat_map-append}
-use Rattle.miette_text.specs.rules.Sequences.{Token, Character, Sequence, tokens, is_line_feed}
+use Rattle.miette_text.specs.rules.Sequences.{Token, Character, Sequence, is_line_feed}
 use Rattle.miette_style.specs.rules.Escapes.{is_escape}
 use Rattle.miette_text.specs.rules.Tame.{State, Free, Escaped, Opened, Waiting, Broken, step, state_behind, AreTame, IsTame, is_colour, is_link, is_nil}
-use Rattle.miette_text.specs.rules.Wrapping.{Cell, Piece, Word, Layout, on_first, with_mark, with_code, no_characters, pieces, cell_tokens, width, columns, is_space, with_letter, with_space, words, onto, is_alphanumeric, begins_alphanumeric, hyphen_parts, broken, with_spaces, first_room, further_room, hyphenated, narrowed, parts, piece_words, word_cells, rows_behind, rows, only_spaces, trimmed, row_tokens, with_rest, piece_rows, text_rows, line_feed, joined, filled, all_white, piece_tokens, indented, last_indented, whole_pieces, unwrapped, wrapped_tokens}
+use Rattle.miette_text.specs.rules.Wrapping.{Cell, Piece, Word, Cuts, Plan, on_first, with_mark, with_code, no_characters, pieces, cell_tokens, width, columns, is_space, with_letter, with_space, words, onto, is_alphanumeric, begins_alphanumeric, hyphen_parts, broken, with_spaces, first_room, further_room, cuts_of, hyphenated, narrowed, parts, cut_words, word_cells, rows_behind, rows, only_spaces, trimmed, row_tokens, with_rest, piece_rows, text_rows, line_feed, joined, filled, all_white, piece_tokens, indented, last_indented, whole_pieces, wrapped_tokens}
 use Rattle.miette_text.proofs.Parsing.{broken_stays}
 
 -- ---- states
@@ -345,33 +345,33 @@ with_spaces-flat spaces [] = append-nil spaces
 with_spaces-flat spaces (p ∷ []) = append-nil (p ++ spaces) ∙ ap (λ xs. xs ++ spaces) (sym (append-nil p))
 with_spaces-flat spaces (p ∷ q ∷ qs) = ap₂ (λ us vs. us ++ vs) (append-nil p) (with_spaces-flat spaces (q ∷ qs)) ∙ sym (append_assoc p (flat (q ∷ qs)) spaces)
 
-narrowed-flat : (l : Layout) (cs : List Cell) → flat (narrowed l cs) ≡ cs
-narrowed-flat l cs = elim l.breaks as (λ b. flat (if b then broken (min (first_room l) (further_room l)) 0 cs else cs ∷ []) ≡ cs) [
-  | true ↦ broken-flat (min (first_room l) (further_room l)) 0 cs
+narrowed-flat : (cuts : Cuts) (cs : List Cell) → flat (narrowed cuts cs) ≡ cs
+narrowed-flat cuts cs = elim cuts.breaks as (λ b. flat (if b then broken cuts.narrow 0 cs else cs ∷ []) ≡ cs) [
+  | true ↦ broken-flat cuts.narrow 0 cs
   | false ↦ append-nil cs
 ]
 
-hyphenated-flat : (l : Layout) (cs : List Cell) → flat (hyphenated l cs) ≡ cs
-hyphenated-flat l cs = elim l.hyphens as (λ b. flat (if b then hyphen_parts 0 cs else cs ∷ []) ≡ cs) [
+hyphenated-flat : (cuts : Cuts) (cs : List Cell) → flat (hyphenated cuts cs) ≡ cs
+hyphenated-flat cuts cs = elim cuts.hyphens as (λ b. flat (if b then hyphen_parts 0 cs else cs ∷ []) ≡ cs) [
   | true ↦ hyphen_parts-flat 0 cs
   | false ↦ append-nil cs
 ]
 
-flat-narrowed : (l : Layout) (ps : List (List Cell)) → flat (flat_map (narrowed l) ps) ≡ flat ps
-flat-narrowed l [] = refl
-flat-narrowed l (p ∷ ps) = flat-append (narrowed l p) (flat_map (narrowed l) ps) ∙ ap₂ (λ us vs. us ++ vs) (narrowed-flat l p) (flat-narrowed l ps)
+flat-narrowed : (cuts : Cuts) (ps : List (List Cell)) → flat (flat_map (narrowed cuts) ps) ≡ flat ps
+flat-narrowed cuts [] = refl
+flat-narrowed cuts (p ∷ ps) = flat-append (narrowed cuts p) (flat_map (narrowed cuts) ps) ∙ ap₂ (λ us vs. us ++ vs) (narrowed-flat cuts p) (flat-narrowed cuts ps)
 
-parts-flat : (l : Layout) (w : Word) → flat_map word_cells (parts l w) ≡ word_cells w
-parts-flat l w =
-    with_spaces-flat w.spaces (flat_map (narrowed l) (hyphenated l w.letters))
-    ∙ ap (λ xs. xs ++ w.spaces) (flat-narrowed l (hyphenated l w.letters) ∙ hyphenated-flat l w.letters)
+parts-flat : (cuts : Cuts) (w : Word) → flat_map word_cells (parts cuts w) ≡ word_cells w
+parts-flat cuts w =
+    with_spaces-flat w.spaces (flat_map (narrowed cuts) (hyphenated cuts w.letters))
+    ∙ ap (λ xs. xs ++ w.spaces) (flat-narrowed cuts (hyphenated cuts w.letters) ∙ hyphenated-flat cuts w.letters)
 
-all_parts-flat : (l : Layout) (ws : List Word) → flat_map word_cells (flat_map (parts l) ws) ≡ flat_map word_cells ws
-all_parts-flat l [] = refl
-all_parts-flat l (w ∷ ws) = flat_map-append word_cells (parts l w) (flat_map (parts l) ws) ∙ ap₂ (λ us vs. us ++ vs) (parts-flat l w) (all_parts-flat l ws)
+all_parts-flat : (cuts : Cuts) (ws : List Word) → flat_map word_cells (flat_map (parts cuts) ws) ≡ flat_map word_cells ws
+all_parts-flat cuts [] = refl
+all_parts-flat cuts (w ∷ ws) = flat_map-append word_cells (parts cuts w) (flat_map (parts cuts) ws) ∙ ap₂ (λ us vs. us ++ vs) (parts-flat cuts w) (all_parts-flat cuts ws)
 
-pub piece_words-flat : (l : Layout) (p : Piece) → flat_map word_cells (piece_words l p) ≡ p.cells
-piece_words-flat l p = all_parts-flat l (words p.cells) ∙ words-flat p.cells
+cut_words-flat : (cuts : Cuts) (cs : List Cell) → flat_map word_cells (cut_words cuts cs) ≡ cs
+cut_words-flat cuts cs = all_parts-flat cuts (words cs) ∙ words-flat cs
 
 rows_behind-flat : (used room further : ℕ) (ws : List Word) → flat (rows_behind used room further ws) ≡ ws
 rows_behind-flat used room further [] = refl
@@ -422,31 +422,28 @@ rows-ends s e rest (r ∷ q ∷ rs) n a h =
       | x ∷ xs ↦ λ f. (ap alive t ∙ b, inl (let P : State → Type 0 = λ u. Ends (λ t. t ≡ e) u (with_rest rest (map row_tokens (q ∷ x ∷ xs))) in subst P (sym t) f))
     ] f
 
-cells-raw : (l : Layout) (room : ℕ) (p : Piece) → raw (flat (rows room (further_room l) (piece_words l p))) ++ map Sequence p.rest ≡ piece_tokens p
-cells-raw l room p =
-    ap (λ ws. raw ws ++ map Sequence p.rest) (rows-flat room (further_room l) (piece_words l p))
-    ∙ ap (λ cs. flat_map cell_tokens cs ++ map Sequence p.rest) (piece_words-flat l p)
+cells-raw : (cuts : Cuts) (room further : ℕ) (p : Piece) → raw (flat (rows room further (cut_words cuts p.cells))) ++ map Sequence p.rest ≡ piece_tokens p
+cells-raw cuts room further p =
+    ap (λ ws. raw ws ++ map Sequence p.rest) (rows-flat room further (cut_words cuts p.cells))
+    ∙ ap (λ cs. flat_map cell_tokens cs ++ map Sequence p.rest) (cut_words-flat cuts p.cells)
 
-piece_rows-ends : (l : Layout) (room : ℕ) (s : State) (p : Piece) → alive (state_behind s (piece_tokens p)) ≡ true → Ends (λ t. t ≡ state_behind s (piece_tokens p)) s (piece_rows l room p)
-piece_rows-ends l room s p a = rows-ends s (state_behind s (piece_tokens p)) p.rest (rows room (further_room l) (piece_words l p)) (rows_some room (further_room l) (piece_words l p)) a (ap (state_behind s) (cells-raw l room p))
+piece_rows-ends : (cuts : Cuts) (room further : ℕ) (s : State) (p : Piece) → alive (state_behind s (piece_tokens p)) ≡ true → Ends (λ t. t ≡ state_behind s (piece_tokens p)) s (piece_rows cuts room further p)
+piece_rows-ends cuts room further s p a = rows-ends s (state_behind s (piece_tokens p)) p.rest (rows room further (cut_words cuts p.cells)) (rows_some room further (cut_words cuts p.cells)) a (ap (state_behind s) (cells-raw cuts room further p))
 
 -- the rows of a piece, and of those below it
-below-ends : (l : Layout) (room : ℕ) (s : State) (p : Piece) (ps : List Piece) → Passes s (p ∷ ps) → Ends IsFree s (piece_rows l room p ++ flat_map (piece_rows l (further_room l)) ps)
-below-ends l room s p [] h =
+text_rows-ends : (cuts : Cuts) (room further : ℕ) (s : State) (ps : List Piece) → Passes s ps → Ends IsFree s (text_rows cuts room further ps)
+text_rows-ends cuts room further s [] h = absurd h
+text_rows-ends cuts room further s (p ∷ []) h =
     let P : List (List Token) → Type 0 = Ends IsFree s in
-    let Q : State → Type 0 = λ e. Ends (λ t. t ≡ e) s (piece_rows l room p) in
-    subst P (sym (append-nil (piece_rows l room p))) (subst Q h (piece_rows-ends l room s p (alive_free (state_behind s (piece_tokens p)) h)))
-below-ends l room s p (q ∷ ps) h =
-    Ends-append s (state_behind s (piece_tokens p)) (piece_rows l room p) (piece_rows l (further_room l) q ++ flat_map (piece_rows l (further_room l)) ps) h.0
-    (piece_rows-ends l room s p h.0)
-    (below-ends l (further_room l) (step (state_behind s (piece_tokens p)) line_feed) q ps h.1)
+    let Q : State → Type 0 = λ e. Ends (λ t. t ≡ e) s (piece_rows cuts room further p) in
+    subst P (sym (append-nil (piece_rows cuts room further p))) (subst Q h (piece_rows-ends cuts room further s p (alive_free (state_behind s (piece_tokens p)) h)))
+text_rows-ends cuts room further s (p ∷ q ∷ ps) h =
+    Ends-append s (state_behind s (piece_tokens p)) (piece_rows cuts room further p) (piece_rows cuts further further q ++ text_rows cuts further further ps) h.0
+    (piece_rows-ends cuts room further s p h.0)
+    (text_rows-ends cuts further further (step (state_behind s (piece_tokens p)) line_feed) (q ∷ ps) h.1)
 
-text_rows-ends : (l : Layout) (ps : List Piece) → Passes Free ps → Ends IsFree Free (text_rows l ps)
-text_rows-ends l [] h = absurd h
-text_rows-ends l (p ∷ ps) h = below-ends l (first_room l) Free p ps h
-
-filled-tame : (l : Layout) (ts : List Token) → IsTame l.first → IsTame l.further → AreTame ts → AreTame (filled l ts)
-filled-tame l ts a b h = joined-run (tokens l.first) (tokens l.further) a b Free Free refl refl (text_rows l (pieces ts)) (text_rows-ends l (pieces ts) (pieces-pass Free ts h))
+filled-tame : (p : Plan (List Token)) (ts : List Token) → AreTame p.first → AreTame p.further → AreTame ts → AreTame (filled p ts)
+filled-tame p ts a b h = joined-run p.first p.further a b Free Free refl refl (text_rows (cuts_of p) (first_room p) (further_room p) (pieces ts)) (text_rows-ends (cuts_of p) (first_room p) (further_room p) Free (pieces ts) (pieces-pass Free ts h))
 
 -- ---- without wrapping
 
@@ -478,11 +475,11 @@ whole-run indent further a b w s c f (p ∷ q ∷ ps) h =
     run-append w (indented indent p) (line_feed ∷ whole_pieces further further (q ∷ ps))
     ∙ whole-run further further b b (step v line_feed) (step (state_behind s (piece_tokens p)) line_feed) (feed_settles v (alive_freer v (state_behind s (piece_tokens p)) g h.0)) (freer-step v (state_behind s (piece_tokens p)) line_feed g) (q ∷ ps) h.1
 
-unwrapped-tame : (l : Layout) (ts : List Token) → IsTame l.first → IsTame l.further → AreTame ts → AreTame (unwrapped l ts)
-unwrapped-tame l ts a b h = whole-run (tokens l.first) (tokens l.further) a b Free Free refl refl (pieces ts) (pieces-pass Free ts h)
+whole-tame : (p : Plan (List Token)) (ts : List Token) → AreTame p.first → AreTame p.further → AreTame ts → AreTame (whole_pieces p.first p.further (pieces ts))
+whole-tame p ts a b h = whole-run p.first p.further a b Free Free refl refl (pieces ts) (pieces-pass Free ts h)
 
-pub wrapped_tokens-tame : (l : Layout) (ts : List Token) → IsTame l.first → IsTame l.further → AreTame ts → AreTame (wrapped_tokens l ts)
-wrapped_tokens-tame l ts a b h = elim l.wraps as (λ w. AreTame (if w then filled l ts else unwrapped l ts)) [
-  | true ↦ filled-tame l ts a b h
-  | false ↦ unwrapped-tame l ts a b h
+pub wrapped_tokens-tame : (p : Plan (List Token)) (ts : List Token) → AreTame p.first → AreTame p.further → AreTame ts → AreTame (wrapped_tokens p ts)
+wrapped_tokens-tame p ts a b h = elim p.wraps as (λ w. AreTame (if w then filled p ts else whole_pieces p.first p.further (pieces ts))) [
+  | true ↦ filled-tame p ts a b h
+  | false ↦ whole-tame p ts a b h
 ]

@@ -3,9 +3,9 @@ use Rattle.std.proofs.Common.{◌≡◌, ℕ, ◌+◌, ◌-◌, Bool, true, fals
 use Rattle.std.specs.Char.{is_whitespace}
 use Rattle.std.proofs.lemmas.Bool.Decides.{nat_tests}
 use Rattle.std.proofs.lemmas.List.{map-append}
-use Rattle.miette_text.specs.rules.Sequences.{Token, Character, Sequence, tokens, is_line_feed}
+use Rattle.miette_text.specs.rules.Sequences.{Token, Character, Sequence, is_line_feed}
 use Rattle.miette_text.specs.rules.Tame.{is_colour}
-use Rattle.miette_text.specs.rules.Wrapping.{Cell, Piece, Word, Layout, on_first, with_mark, with_code, no_characters, pieces, cell_tokens, width, columns, token_width, columns_of, is_space, with_letter, with_space, words, onto, is_alphanumeric, begins_alphanumeric, hyphen_parts, broken, with_spaces, first_room, further_room, hyphenated, narrowed, parts, piece_words, word_cells, rows_behind, rows, only_spaces, trimmed, row_tokens, with_rest, piece_rows, text_rows, line_feed, joined, filled, all_white, piece_tokens, indented, last_indented, whole_pieces, unwrapped, wrapped_tokens}
+use Rattle.miette_text.specs.rules.Wrapping.{Cell, Piece, Word, Cuts, Plan, map_indents, on_first, with_mark, with_code, no_characters, pieces, cell_tokens, width, columns, token_width, columns_of, is_space, with_letter, with_space, words, onto, is_alphanumeric, begins_alphanumeric, hyphen_parts, broken, with_spaces, first_room, further_room, cuts_of, hyphenated, narrowed, parts, cut_words, word_cells, rows_behind, rows, only_spaces, trimmed, row_tokens, with_rest, piece_rows, text_rows, line_feed, joined, filled, all_white, piece_tokens, indented, last_indented, whole_pieces, wrapped_tokens}
 use Rattle.miette_text.proofs.Erased.{erased}
 
 abbrev pub kept : List (List ℕ) → List (List ℕ)
@@ -149,42 +149,30 @@ pub flat_map_along : {X Y A B : Type 0} (h : X → Y) (k : A → B) (f : X → L
 flat_map_along h k f g e [] = refl
 flat_map_along h k f g e (x ∷ xs) = ap₂ (λ us vs. us ++ vs) (e x) (flat_map_along h k f g e xs) ∙ sym (map-append k (f x) (flat_map f xs))
 
--- ---- rows, under the same rooms
+-- ---- rows
 
--- Layouts that differ in their indents alone, which are as wide.
-pub record AreAlike (k l : Layout) : Type 0 where
-  pub first : first_room k ≡ first_room l
-  pub further : further_room k ≡ further_room l
-  pub breaks : k.breaks ≡ l.breaks
-  pub hyphens : k.hyphens ≡ l.hyphens
+narrowed-strip : (cuts : Cuts) (cs : List Cell) → narrowed cuts (map strip cs) ≡ map (map strip) (narrowed cuts cs)
+narrowed-strip cuts cs = elim cuts.breaks as (λ b. (if b then broken cuts.narrow 0 (map strip cs) else map strip cs ∷ []) ≡ map (map strip) (if b then broken cuts.narrow 0 cs else cs ∷ [])) [
+  | true ↦ broken-strip cuts.narrow 0 cs
+  | false ↦ refl
+]
 
-narrowed-strip : (k l : Layout) → AreAlike k l → (cs : List Cell) → narrowed k (map strip cs) ≡ map (map strip) (narrowed l cs)
-narrowed-strip k l e cs =
-    ap (λ (b : Bool). if b then broken (min (first_room k) (further_room k)) 0 (map strip cs) else map strip cs ∷ []) e.breaks
-    ∙ ap₂ (λ m n. if l.breaks then broken (min m n) 0 (map strip cs) else map strip cs ∷ []) e.first e.further
-    ∙ elim l.breaks as (λ b. (if b then broken (min (first_room l) (further_room l)) 0 (map strip cs) else map strip cs ∷ []) ≡ map (map strip) (if b then broken (min (first_room l) (further_room l)) 0 cs else cs ∷ [])) [
-      | true ↦ broken-strip (min (first_room l) (further_room l)) 0 cs
-      | false ↦ refl
-    ]
+hyphenated-strip : (cuts : Cuts) (cs : List Cell) → hyphenated cuts (map strip cs) ≡ map (map strip) (hyphenated cuts cs)
+hyphenated-strip cuts cs = elim cuts.hyphens as (λ b. (if b then hyphen_parts 0 (map strip cs) else map strip cs ∷ []) ≡ map (map strip) (if b then hyphen_parts 0 cs else cs ∷ [])) [
+  | true ↦ hyphen_parts-strip 0 cs
+  | false ↦ refl
+]
 
-hyphenated-strip : (k l : Layout) → AreAlike k l → (cs : List Cell) → hyphenated k (map strip cs) ≡ map (map strip) (hyphenated l cs)
-hyphenated-strip k l e cs =
-    ap (λ (b : Bool). if b then hyphen_parts 0 (map strip cs) else map strip cs ∷ []) e.hyphens
-    ∙ elim l.hyphens as (λ b. (if b then hyphen_parts 0 (map strip cs) else map strip cs ∷ []) ≡ map (map strip) (if b then hyphen_parts 0 cs else cs ∷ [])) [
-      | true ↦ hyphen_parts-strip 0 cs
-      | false ↦ refl
-    ]
+parts-strip : (cuts : Cuts) (w : Word) → parts cuts (strip_word w) ≡ map strip_word (parts cuts w)
+parts-strip cuts w =
+    ap (λ ps. with_spaces (map strip w.spaces) (flat_map (narrowed cuts) ps)) (hyphenated-strip cuts w.letters)
+    ∙ ap (with_spaces (map strip w.spaces)) (flat_map_along (map strip) (map strip) (narrowed cuts) (narrowed cuts) (narrowed-strip cuts) (hyphenated cuts w.letters))
+    ∙ with_spaces-strip w.spaces (flat_map (narrowed cuts) (hyphenated cuts w.letters))
 
-parts-strip : (k l : Layout) → AreAlike k l → (w : Word) → parts k (strip_word w) ≡ map strip_word (parts l w)
-parts-strip k l e w =
-    ap (λ ps. with_spaces (map strip w.spaces) (flat_map (narrowed k) ps)) (hyphenated-strip k l e w.letters)
-    ∙ ap (with_spaces (map strip w.spaces)) (flat_map_along (map strip) (map strip) (narrowed l) (narrowed k) (narrowed-strip k l e) (hyphenated l w.letters))
-    ∙ with_spaces-strip w.spaces (flat_map (narrowed l) (hyphenated l w.letters))
-
-pub piece_words-strip : (k l : Layout) → AreAlike k l → (p : Piece) → piece_words k (strip_piece p) ≡ map strip_word (piece_words l p)
-piece_words-strip k l e p =
-    ap (flat_map (parts k)) (words-strip p.cells)
-    ∙ flat_map_along strip_word strip_word (parts l) (parts k) (parts-strip k l e) (words p.cells)
+cut_words-strip : (cuts : Cuts) (cs : List Cell) → cut_words cuts (map strip cs) ≡ map strip_word (cut_words cuts cs)
+cut_words-strip cuts cs =
+    ap (flat_map (parts cuts)) (words-strip cs)
+    ∙ flat_map_along strip_word strip_word (parts cuts) (parts cuts) (parts-strip cuts) (words cs)
 
 word_cells-strip : (w : Word) → word_cells (strip_word w) ≡ map strip (word_cells w)
 word_cells-strip w = sym (map-append strip w.letters w.spaces)
@@ -243,19 +231,18 @@ with_rest-erased rest [] = refl
 with_rest-erased rest (r ∷ []) = ap (λ us. us ∷ []) (ap (λ us. erased r ++ us) (sym (erased-marks rest)) ∙ sym (erased-append r (map Sequence rest)))
 with_rest-erased rest (r ∷ s ∷ rs) = ap (λ us. erased r ∷ us) (with_rest-erased rest (s ∷ rs))
 
-pub piece_rows-strip : (k l : Layout) → AreAlike k l → (room : ℕ) (p : Piece) → piece_rows k room (strip_piece p) ≡ map erased (piece_rows l room p)
-piece_rows-strip k l e room p =
-    ap₂ (λ n ws. with_rest (kept p.rest) (map row_tokens (rows room n ws))) e.further (piece_words-strip k l e p)
-    ∙ ap (λ rs. with_rest (kept p.rest) (map row_tokens rs)) (rows-strip room (further_room l) (piece_words l p))
-    ∙ ap (with_rest (kept p.rest)) (map_along (map strip_word) row_tokens row_tokens erased row_tokens-strip (rows room (further_room l) (piece_words l p)))
-    ∙ with_rest-erased p.rest (map row_tokens (rows room (further_room l) (piece_words l p)))
+piece_rows-strip : (cuts : Cuts) (room further : ℕ) (p : Piece) → piece_rows cuts room further (strip_piece p) ≡ map erased (piece_rows cuts room further p)
+piece_rows-strip cuts room further p =
+    ap (λ ws. with_rest (kept p.rest) (map row_tokens (rows room further ws))) (cut_words-strip cuts p.cells)
+    ∙ ap (λ rs. with_rest (kept p.rest) (map row_tokens rs)) (rows-strip room further (cut_words cuts p.cells))
+    ∙ ap (with_rest (kept p.rest)) (map_along (map strip_word) row_tokens row_tokens erased row_tokens-strip (rows room further (cut_words cuts p.cells)))
+    ∙ with_rest-erased p.rest (map row_tokens (rows room further (cut_words cuts p.cells)))
 
-pub text_rows-strip : (k l : Layout) → AreAlike k l → (ps : List Piece) → text_rows k (map strip_piece ps) ≡ map erased (text_rows l ps)
-text_rows-strip k l e [] = refl
-text_rows-strip k l e (p ∷ ps) =
-    ap₂ (λ m n. piece_rows k m (strip_piece p) ++ flat_map (piece_rows k n) (map strip_piece ps)) e.first e.further
-    ∙ ap₂ (λ us vs. us ++ vs) (piece_rows-strip k l e (first_room l) p) (flat_map_along strip_piece erased (piece_rows l (further_room l)) (piece_rows k (further_room l)) (piece_rows-strip k l e (further_room l)) ps)
-    ∙ sym (map-append erased (piece_rows l (first_room l) p) (flat_map (piece_rows l (further_room l)) ps))
+text_rows-strip : (cuts : Cuts) (room further : ℕ) (ps : List Piece) → text_rows cuts room further (map strip_piece ps) ≡ map erased (text_rows cuts room further ps)
+text_rows-strip cuts room further [] = refl
+text_rows-strip cuts room further (p ∷ ps) =
+    ap₂ (λ us vs. us ++ vs) (piece_rows-strip cuts room further p) (text_rows-strip cuts further further ps)
+    ∙ sym (map-append erased (piece_rows cuts room further p) (text_rows cuts further further ps))
 
 erased-append_feed : (us vs ws : List Token) → erased (us ++ vs ++ line_feed ∷ ws) ≡ erased us ++ erased vs ++ line_feed ∷ erased ws
 erased-append_feed us vs ws = erased-append (us ++ vs) (line_feed ∷ ws) ∙ ap (λ ts. ts ++ line_feed ∷ erased ws) (erased-append us vs)
@@ -299,40 +286,18 @@ whole_pieces-strip indent further (p ∷ q ∷ ps) =
 
 -- ---- all of it
 
--- The layout k has l's indents without their colours.
-pub record Bleaches (k l : Layout) : Type 0 where
-  pub first : tokens k.first ≡ erased (tokens l.first)
-  pub further : tokens k.further ≡ erased (tokens l.further)
-  pub room : k.room ≡ l.room
-  pub breaks : k.breaks ≡ l.breaks
-  pub wraps : k.wraps ≡ l.wraps
-  pub hyphens : k.hyphens ≡ l.hyphens
+filled-erased : (p : Plan (List Token)) (ts : List Token) → filled (map_indents erased p) (erased ts) ≡ erased (filled p ts)
+filled-erased p ts =
+    ap₂ (λ m n. joined (erased p.first) (erased p.further) (text_rows (record { hyphens = p.hyphens; breaks = p.breaks; narrow = min (p.room - m) (p.room - n) }) (p.room - m) (p.room - n) (pieces (erased ts)))) (columns_of-erased p.first) (columns_of-erased p.further)
+    ∙ ap (λ ps. joined (erased p.first) (erased p.further) (text_rows (cuts_of p) (first_room p) (further_room p) ps)) (pieces-erased ts)
+    ∙ ap (joined (erased p.first) (erased p.further)) (text_rows-strip (cuts_of p) (first_room p) (further_room p) (pieces ts))
+    ∙ joined-erased p.first p.further (text_rows (cuts_of p) (first_room p) (further_room p) (pieces ts))
 
-alike_of : (k l : Layout) → Bleaches k l → AreAlike k l
-alike_of k l e = record {
-  first = ap₂ (λ m ts. m - columns_of ts) e.room e.first ∙ ap (λ n. l.room - n) (columns_of-erased (tokens l.first));
-  further = ap₂ (λ m ts. m - columns_of ts) e.room e.further ∙ ap (λ n. l.room - n) (columns_of-erased (tokens l.further));
-  breaks = e.breaks;
-  hyphens = e.hyphens;
-}
+whole-erased : (p : Plan (List Token)) (ts : List Token) → whole_pieces (erased p.first) (erased p.further) (pieces (erased ts)) ≡ erased (whole_pieces p.first p.further (pieces ts))
+whole-erased p ts = ap (whole_pieces (erased p.first) (erased p.further)) (pieces-erased ts) ∙ whole_pieces-strip p.first p.further (pieces ts)
 
-filled-erased : (k l : Layout) → Bleaches k l → (ts : List Token) → filled k (erased ts) ≡ erased (filled l ts)
-filled-erased k l e ts =
-    ap (λ ps. joined (tokens k.first) (tokens k.further) (text_rows k ps)) (pieces-erased ts)
-    ∙ ap (joined (tokens k.first) (tokens k.further)) (text_rows-strip k l (alike_of k l e) (pieces ts))
-    ∙ ap₂ (λ us vs. joined us vs (map erased (text_rows l (pieces ts)))) e.first e.further
-    ∙ joined-erased (tokens l.first) (tokens l.further) (text_rows l (pieces ts))
-
-unwrapped-erased : (k l : Layout) → Bleaches k l → (ts : List Token) → unwrapped k (erased ts) ≡ erased (unwrapped l ts)
-unwrapped-erased k l e ts =
-    ap (whole_pieces (tokens k.first) (tokens k.further)) (pieces-erased ts)
-    ∙ ap₂ (λ us vs. whole_pieces us vs (map strip_piece (pieces ts))) e.first e.further
-    ∙ whole_pieces-strip (tokens l.first) (tokens l.further) (pieces ts)
-
-pub wrapped-erased : (k l : Layout) → Bleaches k l → (ts : List Token) → wrapped_tokens k (erased ts) ≡ erased (wrapped_tokens l ts)
-wrapped-erased k l e ts =
-    ap (λ (b : Bool). if b then filled k (erased ts) else unwrapped k (erased ts)) e.wraps
-    ∙ elim l.wraps as (λ b. (if b then filled k (erased ts) else unwrapped k (erased ts)) ≡ erased (if b then filled l ts else unwrapped l ts)) [
-      | true ↦ filled-erased k l e ts
-      | false ↦ unwrapped-erased k l e ts
-    ]
+pub wrapped-erased : (p : Plan (List Token)) (ts : List Token) → wrapped_tokens (map_indents erased p) (erased ts) ≡ erased (wrapped_tokens p ts)
+wrapped-erased p ts = elim p.wraps as (λ b. (if b then filled (map_indents erased p) (erased ts) else whole_pieces (erased p.first) (erased p.further) (pieces (erased ts))) ≡ erased (if b then filled p ts else whole_pieces p.first p.further (pieces ts))) [
+  | true ↦ filled-erased p ts
+  | false ↦ whole-erased p ts
+]

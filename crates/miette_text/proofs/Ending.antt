@@ -2,9 +2,9 @@
 use Rattle.std.proofs.Common.{◌≡◌, ℕ, suc, Bool, true, false, not, ◌&&◌, List, [], ◌∷◌, ◌++◌, length, take, drop, refl, sym, ap, ap₂, ◌∙◌, append_assoc, if◌then◌else◌}
 use Rattle.miette_text.specs.rules.Sequences.{flat}
 use Rattle.miette_text.specs.rules.Wrapping.{Cell, Word, words, with_space, with_letter, is_space}
-use Rattle.miette_text.specs.steps.Printing.{all_spaces, shown}
 use Rattle.miette_text.specs.steps.WholeText.{piece_text}
-use Rattle.miette_text.specs.steps.Ends.{bare_len, marks_text}
+use Rattle.miette_text.specs.steps.Ends.{all_spaces, bare_len, marks_text}
+use Rattle.miette_text.proofs.RowTexts.{shown}
 
 -- ---- the first word
 

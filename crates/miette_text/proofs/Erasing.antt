@@ -3,11 +3,13 @@ use Rattle.std.proofs.Common.{◌≡◌, ℕ, zero, suc, List, [], ◌∷◌, �
 use Rattle.std.proofs.lemmas.Bool.Decides.{nat_tests}
 use Rattle.miette_text.specs.rules.Sequences.{Token, Character, Sequence, tokens, tokens_behind, spell, spelling, erase, sequence_len}
 use Rattle.miette_text.specs.rules.Tame.{State, Free, Escaped, Opened, Waiting, Broken, step, state_behind, AreTame, IsTame, colourless, AllTame}
-use Rattle.miette_text.specs.rules.Wrapping.{Layout, wrapped_tokens, wrapped}
+use Rattle.miette_text.specs.rules.Wrapping.{Plan, map_indents, wrapped_tokens, wrapped}
 use Rattle.miette_text.proofs.Erased.{erased}
 use Rattle.miette_text.proofs.Parsing.{broken_stays, tokens-spell, erase-spell}
-use Rattle.miette_text.proofs.Commuting.{Bleaches, wrapped-erased, erased-append}
+use Rattle.miette_text.proofs.Commuting.{wrapped-erased, erased-append}
 use Rattle.miette_text.proofs.Closed.{wrapped_tokens-tame, run-append}
+use Rattle.miette_text.proofs.Joining.{spell-append}
+use Rattle.miette_text.proofs.Simple.{wrapped-read}
 
 -- ---- the tokens of a text spell it
 
@@ -46,10 +48,6 @@ tokens-erase text h = ap tokens (erase-tame text h) ∙ tokens-spell Free (erase
 
 -- ---- joining
 
-spell-append : (us vs : List Token) → spell (us ++ vs) ≡ spell us ++ spell vs
-spell-append [] vs = refl
-spell-append (u ∷ us) vs = ap (λ xs. spelling u ++ xs) (spell-append us vs) ∙ sym (append_assoc (spelling u) (spell us) (spell vs))
-
 tame-append : (us vs : List Token) → AreTame us → AreTame vs → AreTame (us ++ vs)
 tame-append us vs h k = run-append Free us vs ∙ ap (λ s. state_behind s vs) h ∙ k
 
@@ -73,26 +71,16 @@ erase-append x y h k =
 
 -- ---- wrapping
 
-tokens-wrapped : (l : Layout) (text : List ℕ) → AllTame l text → tokens (wrapped l text) ≡ wrapped_tokens l (tokens text)
-tokens-wrapped l text h = tokens-spell Free (wrapped_tokens l (tokens text)) (wrapped_tokens-tame l (tokens text) h.first h.further h.inner)
+read-tame : (p : Plan (List ℕ)) (text : List ℕ) → AllTame p text → AreTame (wrapped_tokens (map_indents tokens p) (tokens text))
+read-tame p text h = wrapped_tokens-tame (map_indents tokens p) (tokens text) h.first h.further h.inner
 
 -- What is wrapped from tame parts is tame.
-pub wrapped-tame : (l : Layout) (text : List ℕ) → AllTame l text → IsTame (wrapped l text)
-wrapped-tame l text h = ap (state_behind Free) (tokens-wrapped l text h) ∙ wrapped_tokens-tame l (tokens text) h.first h.further h.inner
-
-bleached : (l : Layout) (text : List ℕ) → AllTame l text → Bleaches (colourless l) l
-bleached l text h = record {
-  first = tokens-erase l.first h.first;
-  further = tokens-erase l.further h.further;
-  room = refl;
-  breaks = refl;
-  wraps = refl;
-  hyphens = refl;
-}
+pub wrapped-tame : (p : Plan (List ℕ)) (text : List ℕ) → AllTame p text → IsTame (wrapped p text)
+wrapped-tame p text h = ap (state_behind Free) (tokens-spell Free (wrapped_tokens (map_indents tokens p) (tokens text)) (read-tame p text h)) ∙ read-tame p text h
 
 -- Deleting colours commutes with wrapping.
-pub erase-wrapped : (l : Layout) (text : List ℕ) → AllTame l text → erase (wrapped l text) ≡ wrapped (colourless l) (erase text)
-erase-wrapped l text h =
-    erase-spell Free (wrapped_tokens l (tokens text)) (wrapped_tokens-tame l (tokens text) h.first h.further h.inner)
-    ∙ ap spell (sym (wrapped-erased (colourless l) l (bleached l text h) (tokens text)))
-    ∙ ap (λ ts. spell (wrapped_tokens (colourless l) ts)) (sym (tokens-erase text h.inner))
+pub erase-wrapped : (p : Plan (List ℕ)) (text : List ℕ) → AllTame p text → erase (wrapped p text) ≡ wrapped (colourless p) (erase text)
+erase-wrapped p text h =
+    erase-spell Free (wrapped_tokens (map_indents tokens p) (tokens text)) (read-tame p text h)
+    ∙ ap spell (sym (wrapped-erased (map_indents tokens p) (tokens text)))
+    ∙ wrapped-read (colourless p) (erased (tokens p.first)) (erased (tokens p.further)) (erased (tokens text)) (erase text) (sym (tokens-erase p.first h.first)) (sym (tokens-erase p.further h.further)) (sym (tokens-erase text h.inner))

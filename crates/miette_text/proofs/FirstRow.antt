@@ -5,9 +5,8 @@ use Rattle.std.proofs.lemmas.Bool.Decides.{nat_tests}
 use Rattle.std.proofs.lemmas.List.{take-map, length-map}
 use Rattle.std.proofs.lemmas.List.Sums.{sum_by-cons}
 use Rattle.unicode_width.specs.Width.{char_width}
-use Rattle.miette_text.specs.rules.Wrapping.{Cell, Word, width, columns, rows, is_space}
-use Rattle.miette_text.specs.steps.Printing.{row_cells}
-use Rattle.miette_text.specs.steps.Ends.{codes_of, code_columns, part_len, gap_len, code_behind, words_behind, rows_left}
+use Rattle.miette_text.specs.rules.Wrapping.{Cell, Cuts, Word, width, columns, rows, is_space}
+use Rattle.miette_text.specs.steps.Ends.{codes_of, row_cells, code_columns, part_len, gap_len, code_behind, words_behind, rows_left}
 use Rattle.miette_text.proofs.Packing.{pack, pack-rows}
 use Rattle.miette_text.proofs.Parting.{words-next, part-some, drop-codes}
 
@@ -42,12 +41,12 @@ left-codes cells codes end e = sym (drop-codes end cells) ∙ ap (drop end) e
 left-some : (cells : List Cell) (codes : List ℕ) (end : ℕ) → codes_of cells ≡ codes → end < length codes → 0 < length (drop end cells)
 left-some cells codes end e l = omega (arith, length-drop {A = Cell} end cells, length-map cells (λ (c : Cell). c.code), ap length e)
 
-next-word : (h b : Bool) (narrow before end n m : ℕ) (cells : List Cell) (codes : List ℕ) → codes_of cells ≡ codes → end < length codes → n ≡ part_len h b narrow before 0 (drop end codes) → m ≡ gap_len (drop n (drop end codes)) →
-    words_behind h b narrow before (drop end cells) ≡ word_of n m (drop end cells) ∷ words_behind h b narrow (code_behind before (n + m) (drop end codes)) (drop (end + (n + m)) cells)
-next-word h b narrow before end n m cells codes e l p q =
+next-word : (cuts : Cuts) (before end n m : ℕ) (cells : List Cell) (codes : List ℕ) → codes_of cells ≡ codes → end < length codes → n ≡ part_len cuts before 0 (drop end codes) → m ≡ gap_len (drop n (drop end codes)) →
+    words_behind cuts before (drop end cells) ≡ word_of n m (drop end cells) ∷ words_behind cuts (code_behind before (n + m) (drop end codes)) (drop (end + (n + m)) cells)
+next-word cuts before end n m cells codes e l p q =
     let x : codes_of (drop end cells) ≡ drop end codes = left-codes cells codes end e in
-    words-next h b narrow before n m (drop end cells) (left-some cells codes end e l) (p ∙ ap (part_len h b narrow before 0) (sym x)) (q ∙ ap (λ xs. gap_len (drop n xs)) (sym x))
-    ∙ ap₂ (λ xs ys. word_of n m (drop end cells) ∷ words_behind h b narrow (code_behind before (n + m) xs) ys) x (drop-drop (n + m) end cells)
+    words-next cuts before n m (drop end cells) (left-some cells codes end e l) (p ∙ ap (part_len cuts before 0) (sym x)) (q ∙ ap (λ xs. gap_len (drop n xs)) (sym x))
+    ∙ ap₂ (λ xs ys. word_of n m (drop end cells) ∷ words_behind cuts (code_behind before (n + m) xs) ys) x (drop-drop (n + m) end cells)
 
 letters-columns : (end n : ℕ) (cells : List Cell) (codes : List ℕ) → codes_of cells ≡ codes → columns (take n (drop end cells)) ≡ code_columns (take n (drop end codes))
 letters-columns end n cells codes e = columns-codes (take n (drop end cells)) ∙ ap code_columns (take-codes n (drop end cells) ∙ ap (take n) (left-codes cells codes end e))
@@ -60,71 +59,71 @@ spaces-columns end n m cells codes e q =
     ∙ gap-columns (drop n (drop end codes))
     ∙ sym q
 
-pub step-some : (h b : Bool) (narrow before end n m : ℕ) (codes : List ℕ) → end < length codes → n ≡ part_len h b narrow before 0 (drop end codes) → m ≡ gap_len (drop n (drop end codes)) → 0 < n + m
-step-some h b narrow before end n m codes l p q =
-    let s : 0 < part_len h b narrow before 0 (drop end codes) + gap_len (drop (part_len h b narrow before 0 (drop end codes)) (drop end codes)) = part-some h b narrow before (drop end codes) (omega (arith, length-drop {A = ℕ} end codes)) in
-    let k : m ≡ gap_len (drop (part_len h b narrow before 0 (drop end codes)) (drop end codes)) = q ∙ ap (λ n. gap_len (drop n (drop end codes))) p in
+pub step-some : (cuts : Cuts) (before end n m : ℕ) (codes : List ℕ) → end < length codes → n ≡ part_len cuts before 0 (drop end codes) → m ≡ gap_len (drop n (drop end codes)) → 0 < n + m
+step-some cuts before end n m codes l p q =
+    let s : 0 < part_len cuts before 0 (drop end codes) + gap_len (drop (part_len cuts before 0 (drop end codes)) (drop end codes)) = part-some cuts before (drop end codes) (omega (arith, length-drop {A = ℕ} end codes)) in
+    let k : m ≡ gap_len (drop (part_len cuts before 0 (drop end codes)) (drop end codes)) = q ∙ ap (λ n. gap_len (drop n (drop end codes))) p in
     omega arith
 
 -- ---- the steps
 
-abbrev packed : Bool → Bool → ℕ → ℕ → ℕ → ℕ → ℕ → ℕ → List Cell → List (List Cell)
-packed h b narrow room further before end used cells = pack (nat_lt 0 end) (take end cells) used room further (words_behind h b narrow before (drop end cells))
+abbrev packed : Cuts → ℕ → ℕ → ℕ → ℕ → ℕ → List Cell → List (List Cell)
+packed cuts room further before end used cells = pack (nat_lt 0 end) (take end cells) used room further (words_behind cuts before (drop end cells))
 
-pub row-starts : (h b : Bool) (narrow room further first end used before : ℕ) (cells : List Cell) → end ≡ 0 → used ≡ 0 → before ≡ first →
-    pack false [] 0 room further (words_behind h b narrow first cells) ≡ packed h b narrow room further before end used cells
-row-starts h b narrow room further first zero used before cells e u f = ap₂ (λ u f. pack false [] u room further (words_behind h b narrow f cells)) (sym u) (sym f)
-row-starts h b narrow room further first (suc end) used before cells e u f = absurd (omega arith)
+pub row-starts : (cuts : Cuts) (room further first end used before : ℕ) (cells : List Cell) → end ≡ 0 → used ≡ 0 → before ≡ first →
+    pack false [] 0 room further (words_behind cuts first cells) ≡ packed cuts room further before end used cells
+row-starts cuts room further first zero used before cells e u f = ap₂ (λ u f. pack false [] u room further (words_behind cuts f cells)) (sym u) (sym f)
+row-starts cuts room further first (suc end) used before cells e u f = absurd (omega arith)
 
-pub row-fits : (h b : Bool) (narrow room further before end n m used wide after sums : ℕ) (cells : List Cell) (codes : List ℕ) →
-    codes_of cells ≡ codes → end < length codes → n ≡ part_len h b narrow before 0 (drop end codes) → m ≡ gap_len (drop n (drop end codes)) →
+pub row-fits : (cuts : Cuts) (room further before end n m used wide after sums : ℕ) (cells : List Cell) (codes : List ℕ) →
+    codes_of cells ≡ codes → end < length codes → n ≡ part_len cuts before 0 (drop end codes) → m ≡ gap_len (drop n (drop end codes)) →
     wide ≡ used + code_columns (take n (drop end codes)) → (nat_lt 0 end && nat_lt room wide) ≡ false →
     after ≡ code_behind before (n + m) (drop end codes) → sums ≡ wide + m →
-    packed h b narrow room further before end used cells ≡ packed h b narrow room further after ((end + n) + m) sums cells
-row-fits h b narrow room further before end n m used wide after sums cells codes e l p q w t f g =
+    packed cuts room further before end used cells ≡ packed cuts room further after ((end + n) + m) sums cells
+row-fits cuts room further before end n m used wide after sums cells codes e l p q w t f g =
     let left = drop end cells in
-    let ws = words_behind h b narrow (code_behind before (n + m) (drop end codes)) (drop (end + (n + m)) cells) in
+    let ws = words_behind cuts (code_behind before (n + m) (drop end codes)) (drop (end + (n + m)) cells) in
     let lc : columns (take n left) ≡ code_columns (take n (drop end codes)) = letters-columns end n cells codes e in
     let sc : columns (take m (drop n left)) ≡ m = spaces-columns end n m cells codes e q in
     let wc : wide ≡ used + columns (take n left) = w ∙ ap (λ k. used + k) (sym lc) in
-    let some : 0 < n + m = step-some h b narrow before end n m codes l p q in
+    let some : 0 < n + m = step-some cuts before end n m codes l p q in
     let yes : nat_lt 0 ((end + n) + m) ≡ true = (let z : 0 < (end + n) + m = omega arith in grind (arith, nat_tests)) in
     let row : take end cells ++ take n left ++ take m (drop n left) ≡ take ((end + n) + m) cells =
     ap₂ (λ us vs. us ++ take m vs) (sym (take-add end n cells)) (drop-drop n end cells) ∙ sym (take-add (end + n) m cells) in
     let total : used + (columns (take n left) + columns (take m (drop n left))) ≡ wide + m = omega arith in
-    ap (pack (nat_lt 0 end) (take end cells) used room further) (next-word h b narrow before end n m cells codes e l p q)
+    ap (pack (nat_lt 0 end) (take end cells) used room further) (next-word cuts before end n m cells codes e l p q)
     ∙ ap (λ (v : Bool). if v then take end cells ∷ pack true (take n left ++ take m (drop n left)) (columns (take n left) + columns (take m (drop n left))) further further ws
     else pack true (take end cells ++ take n left ++ take m (drop n left)) (used + (columns (take n left) + columns (take m (drop n left)))) room further ws) (ap (λ k. nat_lt 0 end && nat_lt room k) (sym wc) ∙ t)
     ∙ ap₂ (λ us k. pack true us k room further ws) row total
-    ∙ ap₂ (λ v k. pack v (take ((end + n) + m) cells) (wide + m) room further (words_behind h b narrow (code_behind before (n + m) (drop end codes)) (drop k cells))) (sym yes) (omega arith)
-    ∙ ap₂ (λ a k. pack (nat_lt 0 ((end + n) + m)) (take ((end + n) + m) cells) k room further (words_behind h b narrow a (drop ((end + n) + m) cells))) (sym f) (sym g)
+    ∙ ap₂ (λ v k. pack v (take ((end + n) + m) cells) (wide + m) room further (words_behind cuts (code_behind before (n + m) (drop end codes)) (drop k cells))) (sym yes) (omega arith)
+    ∙ ap₂ (λ a k. pack (nat_lt 0 ((end + n) + m)) (take ((end + n) + m) cells) k room further (words_behind cuts a (drop ((end + n) + m) cells))) (sym f) (sym g)
 
-rows-begin : (h b : Bool) (narrow before further : ℕ) (cells : List Cell) (w : Word) (ws : List Word) → 0 < length cells → words_behind h b narrow before cells ≡ w ∷ ws →
-    pack true (w.letters ++ w.spaces) (columns w.letters + columns w.spaces) further further ws ≡ rows_left h b narrow before further cells
-rows-begin h b narrow before further [] w ws l e = absurd (omega arith)
-rows-begin h b narrow before further (c ∷ cs) w ws l e =
+rows-begin : (cuts : Cuts) (before further : ℕ) (cells : List Cell) (w : Word) (ws : List Word) → 0 < length cells → words_behind cuts before cells ≡ w ∷ ws →
+    pack true (w.letters ++ w.spaces) (columns w.letters + columns w.spaces) further further ws ≡ rows_left cuts before further cells
+rows-begin cuts before further [] w ws l e = absurd (omega arith)
+rows-begin cuts before further (c ∷ cs) w ws l e =
     ap (λ k. pack true (w.letters ++ w.spaces) k further further ws) (sym (zero-add (columns w.letters + columns w.spaces)))
     ∙ ap (pack false [] 0 further further) (sym e)
-    ∙ pack-rows further further (words_behind h b narrow before (c ∷ cs))
+    ∙ pack-rows further further (words_behind cuts before (c ∷ cs))
 
-pub row-ends : (h b : Bool) (narrow room further first before end n m used wide : ℕ) (cells : List Cell) (codes : List ℕ) →
-    codes_of cells ≡ codes → end < length codes → n ≡ part_len h b narrow before 0 (drop end codes) → m ≡ gap_len (drop n (drop end codes)) →
+pub row-ends : (cuts : Cuts) (room further first before end n m used wide : ℕ) (cells : List Cell) (codes : List ℕ) →
+    codes_of cells ≡ codes → end < length codes → n ≡ part_len cuts before 0 (drop end codes) → m ≡ gap_len (drop n (drop end codes)) →
     wide ≡ used + code_columns (take n (drop end codes)) → (nat_lt 0 end && nat_lt room wide) ≡ true → before ≡ code_behind first end codes →
-    pack false [] 0 room further (words_behind h b narrow first cells) ≡ packed h b narrow room further before end used cells →
-    map row_cells (rows room further (words_behind h b narrow first cells)) ≡ take end cells ∷ rows_left h b narrow (code_behind first end codes) further (drop end cells)
-row-ends h b narrow room further first before end n m used wide cells codes e l p q w t f i =
+    pack false [] 0 room further (words_behind cuts first cells) ≡ packed cuts room further before end used cells →
+    map row_cells (rows room further (words_behind cuts first cells)) ≡ take end cells ∷ rows_left cuts (code_behind first end codes) further (drop end cells)
+row-ends cuts room further first before end n m used wide cells codes e l p q w t f i =
     let left = drop end cells in
-    let ws = words_behind h b narrow (code_behind before (n + m) (drop end codes)) (drop (end + (n + m)) cells) in
+    let ws = words_behind cuts (code_behind before (n + m) (drop end codes)) (drop (end + (n + m)) cells) in
     let lc : columns (take n left) ≡ code_columns (take n (drop end codes)) = letters-columns end n cells codes e in
     let wc : wide ≡ used + columns (take n left) = w ∙ ap (λ k. used + k) (sym lc) in
-    let nw = next-word h b narrow before end n m cells codes e l p q in
-    sym (pack-rows room further (words_behind h b narrow first cells))
+    let nw = next-word cuts before end n m cells codes e l p q in
+    sym (pack-rows room further (words_behind cuts first cells))
     ∙ i
     ∙ ap (pack (nat_lt 0 end) (take end cells) used room further) nw
     ∙ ap (λ (v : Bool). if v then take end cells ∷ pack true (take n left ++ take m (drop n left)) (columns (take n left) + columns (take m (drop n left))) further further ws
     else pack true (take end cells ++ take n left ++ take m (drop n left)) (used + (columns (take n left) + columns (take m (drop n left)))) room further ws) (ap (λ k. nat_lt 0 end && nat_lt room k) (sym wc) ∙ t)
-    ∙ ap (λ us. take end cells ∷ us) (rows-begin h b narrow before further left (word_of n m left) ws (left-some cells codes end e l) nw)
-    ∙ ap (λ a. take end cells ∷ rows_left h b narrow a further left) f
+    ∙ ap (λ us. take end cells ∷ us) (rows-begin cuts before further left (word_of n m left) ws (left-some cells codes end e l) nw)
+    ∙ ap (λ a. take end cells ∷ rows_left cuts a further left) f
 
 none-left : (cells : List Cell) (end : ℕ) → length cells ≤ end → drop end cells ≡ []
 none-left [] zero h = refl
@@ -132,16 +131,16 @@ none-left [] (suc n) h = refl
 none-left (c ∷ cs) zero h = absurd (omega arith)
 none-left (c ∷ cs) (suc n) h = none-left cs n (omega arith)
 
-pub row-whole : (h b : Bool) (narrow room further first before end used : ℕ) (cells : List Cell) (codes : List ℕ) →
+pub row-whole : (cuts : Cuts) (room further first before end used : ℕ) (cells : List Cell) (codes : List ℕ) →
     codes_of cells ≡ codes → length codes ≤ end →
-    pack false [] 0 room further (words_behind h b narrow first cells) ≡ packed h b narrow room further before end used cells →
-    map row_cells (rows room further (words_behind h b narrow first cells)) ≡ take end cells ∷ rows_left h b narrow (code_behind first end codes) further (drop end cells)
-row-whole h b narrow room further first before end used cells codes e l i =
+    pack false [] 0 room further (words_behind cuts first cells) ≡ packed cuts room further before end used cells →
+    map row_cells (rows room further (words_behind cuts first cells)) ≡ take end cells ∷ rows_left cuts (code_behind first end codes) further (drop end cells)
+row-whole cuts room further first before end used cells codes e l i =
     let z : drop end cells ≡ [] = none-left cells end (omega (arith, length-map cells (λ (c : Cell). c.code), ap length e)) in
-    sym (pack-rows room further (words_behind h b narrow first cells))
+    sym (pack-rows room further (words_behind cuts first cells))
     ∙ i
-    ∙ ap (λ us. pack (nat_lt 0 end) (take end cells) used room further (words_behind h b narrow before us)) z
-    ∙ ap (λ us. take end cells ∷ rows_left h b narrow (code_behind first end codes) further us) (sym z)
+    ∙ ap (λ us. pack (nat_lt 0 end) (take end cells) used room further (words_behind cuts before us)) z
+    ∙ ap (λ us. take end cells ∷ rows_left cuts (code_behind first end codes) further us) (sym z)
 
 -- ---- the code behind
 

@@ -8,6 +8,7 @@ pub mod Cuts
 pub mod Coloured
 pub mod Counting
 pub mod Packing
+pub mod RowTexts
 pub mod Joining
 pub mod Simple
 pub mod Unique

@@ -1,12 +1,13 @@
 -- A text, line by line.
 use Rattle.std.proofs.Common.{◌≡◌, ℕ, suc, ◌+◌, ◌-◌, ◌<◌, ◌≤◌, min, Bool, true, false, List, [], ◌∷◌, ◌++◌, map, flat_map, length, take, drop, refl, sym, ap, ap₂, ◌∙◌, append_assoc, append-nil, if◌then◌else◌, arith, eqb-true}
+use Rattle.std.proofs.lemmas.List.{length-map}
 use Rattle.miette_text.specs.rules.Sequences.{Token, Character, Sequence, is_line_feed, flat, spell}
-use Rattle.miette_text.specs.rules.Wrapping.{Cell, Piece, Word, columns_of, on_first, with_mark, with_code, no_characters, pieces, onto, rows, rows_behind, columns, word_cells, words}
-use Rattle.miette_text.specs.views.Filling.{filled_under, lines_from, parts_with}
-use Rattle.miette_text.specs.steps.Printing.{behind, joined_lines, lines_of, row_cells, shown}
-use Rattle.miette_text.specs.steps.Ends.{line_len}
+use Rattle.miette_text.specs.rules.Wrapping.{Cell, Cuts, Piece, Plan, Word, columns_of, cut_words, filled, joined, line_feed, text_rows, on_first, with_mark, with_code, no_characters, pieces, onto, rows, rows_behind, columns, word_cells}
+use Rattle.miette_text.specs.steps.Ends.{line_len, row_cells}
 use Rattle.miette_text.specs.views.Woven.{beyond, cells_at, left_at, mark_text, mark_token, marks_spelled, upto, woven}
 use Rattle.miette_text.specs.declared.runs.sign.Mark.{Mark}
+use Rattle.miette_text.proofs.RowTexts.{behind, joined_lines, lines_of, shown}
+use Rattle.miette_text.proofs.Joining.{lines_from, piece_lines, spell-append, spell-text_rows}
 use Rattle.miette_text.proofs.WovenCells.{spelled-flat}
 
 -- ---- pieces
@@ -24,9 +25,6 @@ pieces-some (Character c ∷ ts) = elim (is_line_feed c) as (λ v. 0 < length (i
 ]
 
 -- ---- lines, joined
-
-abbrev piece_lines : Bool → Bool → ℕ → ℕ → ℕ → Piece → List (List ℕ)
-piece_lines h b narrow room further p = lines_of p.rest (map row_cells (rows room further (flat_map (parts_with h b narrow) (words p.cells))))
 
 lines_of-some : (rest : List (List ℕ)) (rs : List (List Cell)) → 0 < length rs → 0 < length (lines_of rest rs)
 lines_of-some rest [] h = h
@@ -52,10 +50,10 @@ append-some (x ∷ xs) ys h = omega arith
 pub rows-some : (room further : ℕ) (ws : List Word) → 0 < length (map row_cells (rows room further ws))
 rows-some room further ws = map-some (rows room further ws) (all-some room further ws)
 
-lines-some : (h b : Bool) (narrow room further : ℕ) (ps : List Piece) → 0 < length ps → 0 < length (lines_from h b narrow room further ps)
-lines-some h b narrow room further [] l = l
-lines-some h b narrow room further (p ∷ ps) l = append-some (piece_lines h b narrow room further p) (lines_from h b narrow further further ps)
-    (lines_of-some p.rest (map row_cells (rows room further (flat_map (parts_with h b narrow) (words p.cells)))) (rows-some room further (flat_map (parts_with h b narrow) (words p.cells))))
+lines-some : (cuts : Cuts) (room further : ℕ) (ps : List Piece) → 0 < length ps → 0 < length (lines_from cuts room further ps)
+lines-some cuts room further [] l = l
+lines-some cuts room further (p ∷ ps) l = append-some (piece_lines cuts room further p) (lines_from cuts further further ps)
+    (lines_of-some p.rest (map row_cells (rows room further (cut_words cuts p.cells))) (rows-some room further (cut_words cuts p.cells)))
 
 behind-append : (further : List ℕ) (xs ys : List (List ℕ)) → behind further (xs ++ ys) ≡ behind further xs ++ behind further ys
 behind-append further [] ys = refl
@@ -68,10 +66,6 @@ behind-append further (x ∷ xs) ys =
 abbrev pub bare_lines : List ℕ → List (List ℕ) → List ℕ
 bare_lines further ls = joined_lines [] further ls
 
-pub bare-first : (first further : List ℕ) (ls : List (List ℕ)) → 0 < length ls → joined_lines first further ls ≡ first ++ bare_lines further ls
-bare-first first further [] h = absurd (omega arith)
-bare-first first further (l ∷ ls) h = refl
-
 pub bare-append : (further : List ℕ) (xs ys : List (List ℕ)) → 0 < length xs → 0 < length ys → bare_lines further (xs ++ ys) ≡ bare_lines further xs ++ ((10 ∷ further) ++ bare_lines further ys)
 bare-append further [] ys h k = absurd (omega arith)
 bare-append further (x ∷ xs) [] h k = absurd (omega arith)
@@ -80,21 +74,27 @@ bare-append further (x ∷ xs) (y ∷ ys) h k =
     ∙ sym (append_assoc x (behind further xs) (behind further (y ∷ ys)))
 
 -- the text of all lines
-abbrev pub text_of : Bool → Bool → ℕ → List ℕ → ℕ → ℕ → List Token → List ℕ
-text_of h b narrow further room room' ts = bare_lines further (lines_from h b narrow room room' (pieces ts))
+abbrev pub text_of : Cuts → List ℕ → ℕ → ℕ → List Token → List ℕ
+text_of cuts further room room' ts = bare_lines further (lines_from cuts room room' (pieces ts))
 
-text-first : (h b : Bool) (narrow : ℕ) (first further : List ℕ) (room room' : ℕ) (ts : List Token) →
-    joined_lines first further (lines_from h b narrow room room' (pieces ts)) ≡ first ++ text_of h b narrow further room room' ts
-text-first h b narrow first further room room' ts = bare-first first further (lines_from h b narrow room room' (pieces ts)) (lines-some h b narrow room room' (pieces ts) (pieces-some ts))
+joined-first : (first further : List Token) (rs : List (List Token)) → 0 < length rs → joined first further rs ≡ first ++ joined [] further rs
+joined-first first further [] h = absurd (omega arith)
+joined-first first further (r ∷ []) h = refl
+joined-first first further (r ∷ s ∷ rs) h = append_assoc first r (line_feed ∷ joined further further (s ∷ rs))
 
-pub filled-text : (h b : Bool) (width narrow room room' : ℕ) (f f' t first further text : List Token) → f ≡ first → f' ≡ further → t ≡ text → room ≡ width - columns_of f → room' ≡ width - columns_of f' → narrow ≡ min room room' →
-    spell f ++ text_of h b narrow (spell f') room room' t ≡ filled_under h b width first further text
-filled-text h b width narrow room room' f f' t first further text i j k p q r =
-    sym (text-first h b narrow (spell f) (spell f') room room' t)
-    ∙ ap (λ n. joined_lines (spell f) (spell f') (lines_from h b n room room' (pieces t))) r
-    ∙ ap₂ (λ m n. joined_lines (spell f) (spell f') (lines_from h b (min m n) m n (pieces t))) p q
-    ∙ ap₂ (λ us vs. filled_under h b width us vs t) i j
-    ∙ ap (filled_under h b width first further) k
+rows-of-text : (cuts : Cuts) (room room' : ℕ) (ts : List Token) → 0 < length (text_rows cuts room room' (pieces ts))
+rows-of-text cuts room room' ts = omega (arith, lines-some cuts room room' (pieces ts) (pieces-some ts), ap length (spell-text_rows cuts room room' (pieces ts)), length-map (text_rows cuts room room' (pieces ts)) spell)
+
+-- behind the first indent
+pub filled-text : (p : Plan (List Token)) (text : List Token) (narrow room room' : ℕ) (f f' t : List Token) → f ≡ p.first → f' ≡ p.further → t ≡ text → room ≡ p.room - columns_of f → room' ≡ p.room - columns_of f' → narrow ≡ min room room' →
+    spell f ++ spell (joined [] f' (text_rows (record { hyphens = p.hyphens; breaks = p.breaks; narrow = narrow }) room room' (pieces t))) ≡ spell (filled p text)
+filled-text p text narrow room room' f f' t i j k q r e =
+    sym (spell-append f (joined [] f' (text_rows (record { hyphens = p.hyphens; breaks = p.breaks; narrow = narrow }) room room' (pieces t))))
+    ∙ ap spell (sym (joined-first f f' (text_rows (record { hyphens = p.hyphens; breaks = p.breaks; narrow = narrow }) room room' (pieces t)) (rows-of-text (record { hyphens = p.hyphens; breaks = p.breaks; narrow = narrow }) room room' t)))
+    ∙ ap (λ n. spell (joined f f' (text_rows (record { hyphens = p.hyphens; breaks = p.breaks; narrow = n }) room room' (pieces t)))) e
+    ∙ ap₂ (λ m n. spell (joined f f' (text_rows (record { hyphens = p.hyphens; breaks = p.breaks; narrow = min m n }) m n (pieces t)))) q r
+    ∙ ap₂ (λ us vs. spell (joined us vs (text_rows (record { hyphens = p.hyphens; breaks = p.breaks; narrow = min (p.room - columns_of us) (p.room - columns_of vs) }) (p.room - columns_of us) (p.room - columns_of vs) (pieces t)))) i j
+    ∙ ap (λ us. spell (filled p us)) k
 
 -- ---- what stands behind the rows of a piece
 
@@ -196,37 +196,37 @@ line-last at (c ∷ cs) ms h = elim (is_line_feed c) as (λ v. is_line_feed c �
 -- ---- what a line prints
 
 -- the rows of a line, and behind them nothing
-abbrev pub line_text : Bool → Bool → ℕ → List ℕ → ℕ → ℕ → ℕ → List ℕ → List Mark → List ℕ
-line_text h b narrow further room room' at line ms = bare_lines further (lines_of [] (map row_cells (rows room room' (flat_map (parts_with h b narrow) (words (cells_at at line ms))))))
+abbrev pub line_text : Cuts → List ℕ → ℕ → ℕ → ℕ → List ℕ → List Mark → List ℕ
+line_text cuts further room room' at line ms = bare_lines further (lines_of [] (map row_cells (rows room room' (cut_words cuts (cells_at at line ms)))))
 
-piece-text : (h b : Bool) (narrow room room' at : ℕ) (further line : List ℕ) (ms : List Mark) (rest : List (List ℕ)) →
-    bare_lines further (piece_lines h b narrow room room' (line_piece at line ms rest)) ≡ line_text h b narrow further room room' at line ms ++ flat rest
-piece-text h b narrow room room' at further line ms rest =
-    rest-behind further rest (map row_cells (rows room room' (flat_map (parts_with h b narrow) (words (cells_at at line ms))))) (rows-some room room' (flat_map (parts_with h b narrow) (words (cells_at at line ms))))
+piece-text : (cuts : Cuts) (room room' at : ℕ) (further line : List ℕ) (ms : List Mark) (rest : List (List ℕ)) →
+    bare_lines further (piece_lines cuts room room' (line_piece at line ms rest)) ≡ line_text cuts further room room' at line ms ++ flat rest
+piece-text cuts room room' at further line ms rest =
+    rest-behind further rest (map row_cells (rows room room' (cut_words cuts (cells_at at line ms)))) (rows-some room room' (cut_words cuts (cells_at at line ms)))
 
-piece-some : (h b : Bool) (narrow room room' : ℕ) (p : Piece) → 0 < length (piece_lines h b narrow room room' p)
-piece-some h b narrow room room' p = lines_of-some p.rest (map row_cells (rows room room' (flat_map (parts_with h b narrow) (words p.cells)))) (rows-some room room' (flat_map (parts_with h b narrow) (words p.cells)))
+piece-some : (cuts : Cuts) (room room' : ℕ) (p : Piece) → 0 < length (piece_lines cuts room room' p)
+piece-some cuts room room' p = lines_of-some p.rest (map row_cells (rows room room' (cut_words cuts p.cells))) (rows-some room room' (cut_words cuts p.cells))
 
-pub line-at : (h b : Bool) (narrow : ℕ) (further : List ℕ) (room room' n at : ℕ) (cs : List ℕ) (ms : List Mark) → n ≡ line_len cs → n < length cs →
-    text_of h b narrow further room room' (woven at cs ms)
-    ≡ (line_text h b narrow further room room' at (take n cs) ms ++ flat (map mark_text (upto (at + n) (left_at at (take n cs) ms))))
-    ++ ((10 ∷ further) ++ text_of h b narrow further room' room' (woven ((at + n) + 1) (drop (n + 1) cs) (beyond (at + n) (left_at at (take n cs) ms))))
-line-at h b narrow further room room' n at cs ms e l =
+pub line-at : (cuts : Cuts) (further : List ℕ) (room room' n at : ℕ) (cs : List ℕ) (ms : List Mark) → n ≡ line_len cs → n < length cs →
+    text_of cuts further room room' (woven at cs ms)
+    ≡ (line_text cuts further room room' at (take n cs) ms ++ flat (map mark_text (upto (at + n) (left_at at (take n cs) ms))))
+    ++ ((10 ∷ further) ++ text_of cuts further room' room' (woven ((at + n) + 1) (drop (n + 1) cs) (beyond (at + n) (left_at at (take n cs) ms))))
+line-at cuts further room room' n at cs ms e l =
     let p = line_piece at (take n cs) ms (rest_of n at cs ms) in
     let below = below_of n at cs ms in
     let split : pieces (woven at cs ms) ≡ p ∷ pieces below =
     line-first at cs ms (omega arith) ∙ ap (λ k. line_piece at (take k cs) ms (rest_of k at cs ms) ∷ pieces (below_of k at cs ms)) (sym e) in
     let next : suc n ≡ n + 1 = omega arith in
-    ap (λ ps. bare_lines further (lines_from h b narrow room room' ps)) split
-    ∙ bare-append further (piece_lines h b narrow room room' p) (lines_from h b narrow room' room' (pieces below)) (piece-some h b narrow room room' p) (lines-some h b narrow room' room' (pieces below) (pieces-some below))
-    ∙ ap (λ us. us ++ ((10 ∷ further) ++ text_of h b narrow further room' room' below)) (piece-text h b narrow room room' at further (take n cs) ms (rest_of n at cs ms))
-    ∙ ap (λ k. (line_text h b narrow further room room' at (take n cs) ms ++ flat (rest_of n at cs ms)) ++ ((10 ∷ further) ++ text_of h b narrow further room' room' (woven ((at + n) + 1) (drop k cs) (beyond (at + n) (left_at at (take n cs) ms))))) next
+    ap (λ ps. bare_lines further (lines_from cuts room room' ps)) split
+    ∙ bare-append further (piece_lines cuts room room' p) (lines_from cuts room' room' (pieces below)) (piece-some cuts room room' p) (lines-some cuts room' room' (pieces below) (pieces-some below))
+    ∙ ap (λ us. us ++ ((10 ∷ further) ++ text_of cuts further room' room' below)) (piece-text cuts room room' at further (take n cs) ms (rest_of n at cs ms))
+    ∙ ap (λ k. (line_text cuts further room room' at (take n cs) ms ++ flat (rest_of n at cs ms)) ++ ((10 ∷ further) ++ text_of cuts further room' room' (woven ((at + n) + 1) (drop k cs) (beyond (at + n) (left_at at (take n cs) ms))))) next
 
-pub last-line : (h b : Bool) (narrow : ℕ) (further : List ℕ) (room room' n at : ℕ) (cs : List ℕ) (ms : List Mark) → n ≡ line_len cs → length cs ≤ n →
-    text_of h b narrow further room room' (woven at cs ms) ≡ line_text h b narrow further room room' at cs ms ++ marks_spelled (left_at at cs ms)
-last-line h b narrow further room room' n at cs ms e l =
+pub last-line : (cuts : Cuts) (further : List ℕ) (room room' n at : ℕ) (cs : List ℕ) (ms : List Mark) → n ≡ line_len cs → length cs ≤ n →
+    text_of cuts further room room' (woven at cs ms) ≡ line_text cuts further room room' at cs ms ++ marks_spelled (left_at at cs ms)
+last-line cuts further room room' n at cs ms e l =
     let p = line_piece at cs ms (map mark_text (left_at at cs ms)) in
-    ap (λ ps. bare_lines further (lines_from h b narrow room room' ps)) (line-last at cs ms (omega arith))
-    ∙ ap (bare_lines further) (append-nil (piece_lines h b narrow room room' p))
-    ∙ piece-text h b narrow room room' at further cs ms (map mark_text (left_at at cs ms))
-    ∙ ap (λ us. line_text h b narrow further room room' at cs ms ++ us) (spelled-flat (left_at at cs ms))
+    ap (λ ps. bare_lines further (lines_from cuts room room' ps)) (line-last at cs ms (omega arith))
+    ∙ ap (bare_lines further) (append-nil (piece_lines cuts room room' p))
+    ∙ piece-text cuts room room' at further cs ms (map mark_text (left_at at cs ms))
+    ∙ ap (λ us. line_text cuts further room room' at cs ms ++ us) (spelled-flat (left_at at cs ms))

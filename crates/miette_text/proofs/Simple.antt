@@ -1,44 +1,16 @@
--- The code's lines are those of the rules.
-use Rattle.std.proofs.Common.{◌≡◌, ℕ, min, Bool, true, false, List, [], ◌∷◌, ◌++◌, map, flat_map, refl, sym, ap, ap₂, ◌∙◌, append_assoc, if◌then◌else◌}
-use Rattle.std.proofs.lemmas.List.{map-append}
+-- What is read and wrapped, and lines that are not wrapped.
+use Rattle.std.proofs.Common.{◌≡◌, ℕ, Bool, true, false, List, [], ◌∷◌, ◌++◌, map, flat_map, refl, sym, ap, ap₂, ◌∙◌, append_assoc, if◌then◌else◌}
 use Rattle.miette_text.specs.rules.Sequences.{Token, Character, Sequence, tokens, spell, flat}
-use Rattle.miette_text.specs.rules.Wrapping.{Layout, Cell, Piece, pieces, rows, piece_words, piece_rows, text_rows, first_room, further_room, filled, cell_tokens, piece_tokens, indented, last_indented, all_white, trimmed, wrapped}
-use Rattle.miette_text.specs.steps.Printing.{lines_of, row_cells, joined_lines}
-use Rattle.miette_text.specs.views.Filling.{laid_out, layout_with, lines_from}
+use Rattle.miette_text.specs.rules.Wrapping.{Plan, Cell, Piece, cell_tokens, piece_tokens, indented, last_indented, all_white, trimmed, map_indents, wrapped_tokens, wrapped}
 use Rattle.miette_text.specs.steps.WholeText.{piece_text, indent_text}
-use Rattle.miette_text.proofs.Joining.{spell-rows, spell-joined, spell-append, spell-marks}
+use Rattle.miette_text.proofs.Joining.{spell-append, spell-marks}
 
-piece_lines : (l : Layout) (n : ℕ) (p : Piece) → map spell (piece_rows l n p) ≡ lines_of p.rest (map row_cells (rows n (further_room l) (piece_words l p)))
-piece_lines l n p = spell-rows p.rest (rows n (further_room l) (piece_words l p))
-
-below_lines : (l : Layout) (ps : List Piece) → map spell (flat_map (piece_rows l (further_room l)) ps) ≡ lines_from l.hyphens l.breaks (min (first_room l) (further_room l)) (further_room l) (further_room l) ps
-below_lines l [] = refl
-below_lines l (p ∷ ps) =
-    map-append spell (piece_rows l (further_room l) p) (flat_map (piece_rows l (further_room l)) ps)
-    ∙ ap₂ (λ us vs. us ++ vs) (piece_lines l (further_room l) p) (below_lines l ps)
-
-text_lines : (l : Layout) (ps : List Piece) → map spell (text_rows l ps) ≡ lines_from l.hyphens l.breaks (min (first_room l) (further_room l)) (first_room l) (further_room l) ps
-text_lines l [] = refl
-text_lines l (p ∷ ps) =
-    map-append spell (piece_rows l (first_room l) p) (flat_map (piece_rows l (further_room l)) ps)
-    ∙ ap₂ (λ us vs. us ++ vs) (piece_lines l (first_room l) p) (below_lines l ps)
-
-filled-lines : (l : Layout) (ts : List Token) →
-    joined_lines (spell (tokens l.first)) (spell (tokens l.further)) (lines_from l.hyphens l.breaks (min (first_room l) (further_room l)) (first_room l) (further_room l) (pieces ts)) ≡ spell (filled l ts)
-filled-lines l ts =
-    sym (spell-joined (tokens l.first) (tokens l.further) (text_rows l (pieces ts))
-    ∙ ap (joined_lines (spell (tokens l.first)) (spell (tokens l.further))) (text_lines l (pieces ts)))
-
-laid-wrapped : (wraps h b : Bool) (width : ℕ) (first further text : List ℕ) → laid_out wraps h b width (tokens first) (tokens further) (tokens text) ≡ wrapped (layout_with wraps h b width first further) text
-laid-wrapped true h b width first further text = filled-lines (layout_with true h b width first further) (tokens text)
-laid-wrapped false h b width first further text = refl
-
-pub laid-read : (wraps h b : Bool) (width : ℕ) (f f' t : List Token) (first further text : List ℕ) → f ≡ tokens first → f' ≡ tokens further → t ≡ tokens text →
-    laid_out wraps h b width f f' t ≡ wrapped (layout_with wraps h b width first further) text
-laid-read wraps h b width f f' t first further text i j k =
-    ap₂ (λ us vs. laid_out wraps h b width us vs t) i j
-    ∙ ap (laid_out wraps h b width (tokens first) (tokens further)) k
-    ∙ laid-wrapped wraps h b width first further text
+-- What is wrapped under indents that are read is what is wrapped under their texts.
+pub wrapped-read : (p : Plan (List ℕ)) (first further ts : List Token) (text : List ℕ) → first ≡ tokens p.first → further ≡ tokens p.further → ts ≡ tokens text →
+    spell (wrapped_tokens (record { room = p.room; first = first; further = further; breaks = p.breaks; wraps = p.wraps; hyphens = p.hyphens }) ts) ≡ wrapped p text
+wrapped-read p first further ts text e f g =
+    ap₂ (λ us vs. spell (wrapped_tokens (record { room = p.room; first = us; further = vs; breaks = p.breaks; wraps = p.wraps; hyphens = p.hyphens }) ts)) e f
+    ∙ ap (λ us. spell (wrapped_tokens (map_indents tokens p) us)) g
 
 -- ---- without wrapping
 

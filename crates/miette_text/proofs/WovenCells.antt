@@ -4,11 +4,11 @@ use Rattle.std.proofs.lemmas.Bool.Decides.{nat_tests}
 use Rattle.std.proofs.lemmas.List.{map_more, length-map}
 use Rattle.miette_text.specs.rules.Sequences.{flat}
 use Rattle.miette_text.specs.rules.Wrapping.{Cell, is_space}
-use Rattle.miette_text.specs.steps.Printing.{all_spaces, shown}
 use Rattle.miette_text.specs.steps.WholeText.{piece_text}
-use Rattle.miette_text.specs.steps.Ends.{bare_len, codes_of, marks_text, plain_cell, plain_cells}
+use Rattle.miette_text.specs.steps.Ends.{all_spaces, bare_len, codes_of, marks_text, plain_cell, plain_cells}
 use Rattle.miette_text.specs.views.Woven.{beyond, cells_at, left_at, mark_text, marks_spelled, upto}
 use Rattle.miette_text.specs.declared.runs.sign.Mark.{Mark}
+use Rattle.miette_text.proofs.RowTexts.{shown}
 use Rattle.miette_text.proofs.Ending.{shown-bare, bare-space, bare-letter}
 
 -- ---- a beginning and the rest

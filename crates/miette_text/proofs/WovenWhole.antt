@@ -6,8 +6,7 @@ use Rattle.std.specs.Char.{is_whitespace}
 use Rattle.miette_text.specs.rules.Sequences.{Token, Character, spell}
 use Rattle.miette_text.specs.rules.Tame.{is_nil}
 use Rattle.miette_text.specs.rules.Wrapping.{Piece, all_white, indented, is_space, line_feed, only_spaces, pieces, trimmed, whole_pieces}
-use Rattle.miette_text.specs.steps.Printing.{all_spaces}
-use Rattle.miette_text.specs.steps.Ends.{bare_len, line_len, plain_cells}
+use Rattle.miette_text.specs.steps.Ends.{all_spaces, bare_len, line_len, plain_cells}
 use Rattle.miette_text.specs.steps.WholeText.{indent_text, piece_text}
 use Rattle.miette_text.specs.views.Woven.{beyond, cells_at, left_at, mark_text, mark_token, marks_spelled, upto, woven}
 use Rattle.miette_text.specs.declared.runs.sign.Mark.{Mark}

@@ -1,5 +1,5 @@
 -- What the code's values stand for.
-pub mod Filling
+pub mod Plans
 pub mod Sinks
 pub mod Woven
 pub mod Outputs

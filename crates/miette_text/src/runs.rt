@@ -68,6 +68,14 @@ impl Runs {
         }
     }
 
+    // Takes room for so many characters more.
+    pub(crate) fn reserve(&mut self, many: usize) -> Result<(), AllocError>
+        ensures { OnOk result (self.new ≡ self.old) }
+    {
+        self.codes.reserve(many)?;
+        Ok(())
+    }
+
     /// Appends a character.
     ///
     /// # Errors

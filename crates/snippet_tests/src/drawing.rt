@@ -1,7 +1,7 @@
 //! Snippets as the tests draw them, with the sources and the highlighter that they take.
 
-use miette_layout::options::LayoutOptions;
-use miette_layout::page::{Page, Part};
+use miette_layout::options::{LayoutOptions, Look};
+use miette_layout::page::Page;
 use miette_layout::snippets::snippets;
 use miette_protocol::error::{MietteError, RenderError};
 use miette_protocol::protocol::{LabeledSpan, SourceSpan};
@@ -9,6 +9,7 @@ use miette_protocol::source::{MietteSpanContents, SourceCode};
 use miette_style::highlight::{BlankHighlighter, Highlighter};
 use miette_style::style::Style;
 use miette_style::theme::GraphicalTheme;
+use miette_text::runs::output::Output;
 use std::alloc::{AllocError, Global};
 use std::io::{self, ErrorKind};
 use std::process::Abort;
@@ -42,21 +43,6 @@ pub(crate) fn labels_of(
     Ok(labels)
 }
 
-/// The text of a page, with an LF behind each row.
-pub(crate) fn text_of(alloc: Global, page: &Page) -> Result<String, AllocError> {
-    let mut text = String::new(alloc);
-    let mut parts = page.parts();
-    for _turn in 0..1000 {
-        match parts.next() {
-            None => return Ok(text),
-            Some(Part::Run(_, run)) => text.push_str(run)?,
-            Some(Part::Loose(loose)) => text.push_str(loose)?,
-            Some(Part::RowEnd) => text.push('\n')?,
-        }
-    }
-    Ok(text)
-}
-
 /// The source's snippets by a highlighter, as text; what went wrong with them otherwise.
 fn drawn_by<S: SourceCode, H: Highlighter>(
     alloc: Global,
@@ -66,8 +52,14 @@ fn drawn_by<S: SourceCode, H: Highlighter>(
     labels: &[LabeledSpan],
 ) -> Result<Result<String, RenderError>, AllocError> {
     let theme = GraphicalTheme::unicode_nocolor(alloc)?;
-    match snippets(alloc, highlighter, &theme, options, source, labels) {
-        Ok(page) => Ok(Ok(text_of(alloc, &page)?)),
+    let look = Look {
+        alloc,
+        theme: &theme,
+        options: *options,
+    };
+    let page = Page::over(Output::printed(alloc));
+    match snippets(highlighter, &look, source, labels, page) {
+        Ok(page) => Ok(Ok(page.into_output()?.into_text(alloc)?)),
         Err(error) => Ok(Err(error)),
     }
 }

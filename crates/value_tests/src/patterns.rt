@@ -35,11 +35,8 @@ impl Highlighter for Digits {
 fn letter(style: Style) -> &'static str {
     match style.fg {
         Some(Color::Green) => "g",
-        Some(Color::Yellow) => "y",
-        Some(Color::Magenta) => "m",
         Some(Color::Cyan) => "c",
         Some(_) => "?",
-        None if style.dimmed => "d",
         None => "",
     }
 }
@@ -123,72 +120,4 @@ fn the_first_rule_decides(rt: HostRuntime) -> Result<(), Fail> {
             ("", "|"),
         ],
     )
-}
-
-#[test]
-fn words_and_texts(rt: HostRuntime) -> Result<(), Fail> {
-    let alloc = rt.alloc();
-    let rules = vec![in alloc;
-        Rule {
-            pattern: Pattern::words(alloc, &["let", "in"])?,
-            style: Style::new().color(Color::Magenta),
-        },
-        Rule {
-            pattern: Pattern::Between(Marks::new(alloc, "\"", "\"")?),
-            style: Style::new().color(Color::Green),
-        },
-    ]?;
-    let mut highlighter = PatternHighlighter::new(rules);
-    paints(
-        &rt,
-        alloc,
-        &mut highlighter,
-        &[("let letter = \"in\"", "[let]m letter = [\"in\"]g|")],
-    )
-}
-
-#[test]
-fn json_and_toml(rt: HostRuntime) -> Result<(), Fail> {
-    let alloc = rt.alloc();
-    let mut json = PatternHighlighter::json(alloc)?;
-    paints(
-        &rt,
-        alloc,
-        &mut json,
-        &[(
-            "{\"a\\\"b\": [1.5, true, nul, \"ä]",
-            "{[\"a\\\"b\"]g: [[1]c.[5]c, [true]y, nul, [\"ä]]g|",
-        )],
-    )?;
-    let mut toml = PatternHighlighter::toml(alloc)?;
-    paints(
-        &rt,
-        alloc,
-        &mut toml,
-        &[
-            ("key = 'a\\' # \"x", "key = ['a\\']g [# \"x]d|"),
-            ("k1 = \"\"\"a \"b\" c", "k1 = [\"\"\"a \"b\" c]g|"),
-            ("", "|"),
-            ("\\\"\"\"\" # inf", "[\\\"\"\"\"]g [# inf]d|"),
-        ],
-    )
-}
-
-#[test]
-fn rust_over_lines(rt: HostRuntime) -> Result<(), Fail> {
-    let alloc = rt.alloc();
-    let mut it = PatternHighlighter::rust(alloc)?;
-    let lines = [
-        ("/* a", "[/* a]d|"),
-        (
-            "fn */ let x: &'a str = \"é\";",
-            "[fn */]d [let]m x: &'a str = [\"é\"]g;|",
-        ),
-        ("\"a // b", "[\"a // b]g|"),
-        ("b\" fnord('\"', 0xff)", "[b\"]g fnord(['\"']g, [0xff]c)|"),
-        ("r#\"\"a\"# // \"", "[r#\"\"a\"#]g [// \"]d|"),
-        ("/* open", "[/* open]d|"),
-    ];
-    paints(&rt, alloc, &mut it, lines.as_slice())?;
-    paints(&rt, alloc, &mut it, &[("fn", "[fn]m|")])
 }

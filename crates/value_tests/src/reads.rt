@@ -5,8 +5,8 @@ use miette_protocol::error::{MietteError, RenderError, render_error_law};
 use miette_protocol::laws;
 use miette_protocol::protocol::{SourceOffset, SourceSpan, comparison_laws, location_law};
 use miette_protocol::source::{
-    IndexedSource, MietteSpanContents, NamedSource, SourceCode, contents_clone_law,
-    named_source_equality_law, named_source_hash_law, named_source_order_law,
+    IndexedSource, LineOfText, Lines, MietteSpanContents, NamedSource, SourceCode,
+    contents_clone_law, named_source_equality_law, named_source_hash_law, named_source_order_law,
 };
 use std::alloc::{AllocError, Global};
 use std::io;
@@ -265,6 +265,20 @@ fn no_look_at_an_index_without_ends(rt: HostRuntime) -> Result<(), Fail> {
     let none = IndexedSource::new(rt.alloc(), b"abc".to_vec(rt.alloc())?)?;
     assert_eq!(rt; none.line_of(2), (0, 0));
     Ok(())
+}
+
+#[test]
+fn lines_one_after_another(rt: HostRuntime) {
+    let mut lines = Lines::new(b"a\r\nb\rc".as_slice(), 4);
+    for (start, text_end, end) in [(4, 5, 7), (7, 8, 9), (9, 10, 10)] {
+        let line = LineOfText {
+            start,
+            text_end,
+            end,
+        };
+        assert_eq!(rt; lines.next(), Some(line));
+    }
+    assert_eq!(rt; lines.next(), None);
 }
 
 /// The source of a number below 200, each another one: up to five bytes of `a`, CR and LF, and behind odd ones an `a`.

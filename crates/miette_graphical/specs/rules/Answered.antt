@@ -17,11 +17,13 @@ use Rattle.miette_tree.specs.rules.Parts.{given_labels}
 use Rattle.miette_layout.specs.rules.Frames as frames
 use Rattle.miette_lines.specs.rules.Around.{group_context}
 use Rattle.miette_lines.specs.rules.Groups.{in_order, groups_of}
-use Rattle.miette_layout.specs.rules.Highlighted.{SnippetsHavePieces}
+use Rattle.miette_style.specs.rules.Asked.{Call}
+use Rattle.miette_layout.specs.rules.Highlighted.{SnippetsHavePieces, snippet_calls}
 use Rattle.miette_layout.specs.rules.Layout.{snippet_rows}
 use Rattle.miette_tree.specs.views.Handler.{AppendsOne}
 use Rattle.miette_graphical.specs.rules.Printed.{always_reads}
 use Rattle.miette_graphical.specs.rules.Snippets.{drawn_rows, layout_settings}
+use Rattle.miette_graphical.specs.rules.Calls.{own_calls, cause_calls, related_calls, report_calls}
 use Rattle.miette_graphical.specs.rules.Text.{ends_there, body, inner_text, causes_text, related_text, report_text}
 use Rattle.miette_tree.specs.rules.Tree.{effective}
 
@@ -73,86 +75,114 @@ AreAnswers s blank (tree m own c r) a =
     × (s.chain ≡ true → AreCauseAnswers (layout_settings s) blank own c (cause_answers a))
     × AreRelatedAnswers (layout_settings s) blank own r (related_answers a)
 
--- ---- texts under some answers
+-- ---- Texts under some answers, which a highlighter gave by calls that happen.
 
 -- the text of the rows of a diagnostic's snippets
-abbrev pub IsDrawn : SnippetRows → Settings → Bool → Option Source → Meaning → List ℕ → Type 0
-IsDrawn rows s blank source m text = (a : Answer) × IsAnswer (layout_settings s) blank source m a
+abbrev pub IsDrawn : SnippetRows → Settings → Bool → (List Call → Type 0) → Option Source → Meaning → List ℕ → Type 0
+IsDrawn rows s blank happen source m text =
+    (a : Answer) × IsAnswer (layout_settings s) blank source m a × happen (own_calls s.context source m a)
     × (text ≡ rows_text (rows s source (given_labels m.labels) a))
 
 -- the text of the rows of some labels' snippets over a source
-abbrev pub AreDrawn : Settings → Bool → Source → List Label → List ℕ → Type 0
-AreDrawn s blank source labels text =
+abbrev pub AreDrawn : Settings → Bool → (List Call → Type 0) → Source → List Label → List ℕ → Type 0
+AreDrawn s blank happen source labels text =
     (a : Answer) × IsAnswerOf (layout_settings s) blank (Some source) labels source.always_reads a
+    × happen (snippet_calls s.context source labels a)
     × (text ≡ rows_text (drawn_rows s (Some source) labels a))
 
 -- the causes of a report
-abbrev pub AreCauses : SnippetRows → Settings → Bool → Option Severity → Option Source → Cause → List ℕ → Type 0
-AreCauses rows s blank outer inherited c text =
+abbrev pub AreCauses : SnippetRows → Settings → Bool → (List Call → Type 0) → Option Severity → Option Source → Cause →
+    List ℕ → Type 0
+AreCauses rows s blank happen outer inherited c text =
     (a : Answers) × AreCauseAnswers (layout_settings s) blank inherited c a
+    × happen (cause_calls s.context s.nested inherited c a)
     × (text ≡ causes_text rows s outer inherited c a)
 
 -- its related reports
-abbrev pub AreRelated : SnippetRows → Settings → Bool → Option Severity → Option Source → Trees → List ℕ → Type 0
-AreRelated rows s blank outer inherited ts text =
+abbrev pub AreRelated : SnippetRows → Settings → Bool → (List Call → Type 0) → Option Severity → Option Source →
+    Trees → List ℕ → Type 0
+AreRelated rows s blank happen outer inherited ts text =
     (more : RelatedAnswers) × AreRelatedAnswers (layout_settings s) blank inherited ts more
+    × happen (related_calls s.context s.nested inherited ts more)
     × (text ≡ related_text rows s outer inherited ts more)
 
 -- what stands below a tree's causes, over its effective source: the rows of its snippets, its help, and its related
 -- reports
-abbrev pub IsBelow : SnippetRows → Settings → Bool → Option Source → Tree → List ℕ → Type 0
-IsBelow rows s blank source t text =
-    (drawn : List ℕ) × (related : List ℕ) × IsDrawn rows s blank source (head t) drawn
-    × AreRelated rows s blank (head t).severity source (related_of t) related
-    × (text ≡ drawn ++ help_text s (head t).help ++ related)
+abbrev pub IsBelow : SnippetRows → Settings → Bool → (List Call → Type 0) → Option Source → Tree → List ℕ → Type 0
+IsBelow rows s blank happen source t text =
+    (a : Answer) × (more : RelatedAnswers) × IsAnswer (layout_settings s) blank source (head t) a
+    × AreRelatedAnswers (layout_settings s) blank source (related_of t) more
+    × happen (own_calls s.context source (head t) a ++ related_calls s.context s.nested source (related_of t) more)
+    × (text ≡ rows_text (rows s source (given_labels (head t).labels) a) ++ help_text s (head t).help
+    ++ related_text rows s (head t).severity source (related_of t) more)
 
 -- a tree as an inner report, over its effective source
-abbrev pub IsInner : SnippetRows → Settings → Bool → Option Source → Tree → List ℕ → Type 0
-IsInner rows s blank source (tree m own c r) text =
+abbrev pub IsInner : SnippetRows → Settings → Bool → (List Call → Type 0) → Option Source → Tree → List ℕ → Type 0
+IsInner rows s blank happen source (tree m own c r) text =
     (a : Answer) × (more : RelatedAnswers) × IsAnswer (layout_settings s) blank source m a
     × AreRelatedAnswers (layout_settings s) blank source r more
+    × happen (own_calls s.context source m a ++ related_calls s.context s.nested source r more)
     × (text ≡ inner_text rows s m source a (related_text rows s m.severity source r more))
 
 -- a related tree as a sibling
-abbrev pub IsSibling : SnippetRows → Settings → Bool → Option Source → Tree → List ℕ → Type 0
-IsSibling rows s blank source (tree m own c r) text =
+abbrev pub IsSibling : SnippetRows → Settings → Bool → (List Call → Type 0) → Option Source → Tree → List ℕ → Type 0
+IsSibling rows s blank happen source (tree m own c r) text =
     (a : Answer) × (below : Answers) × (more : RelatedAnswers) × IsAnswer (layout_settings s) blank source m a
     × AreCauseAnswers (layout_settings s) blank source c below
     × AreRelatedAnswers (layout_settings s) blank source r more
+    × happen (cause_calls s.context s.nested source c below
+    ++ (own_calls s.context source m a ++ related_calls s.context s.nested source r more))
     × (text ≡ title_text s m ++ body rows s m source a (causes_text rows s m.severity source c below)
     (related_text rows s m.severity source r more))
 
 -- a diagnostic cause under its arrow
-abbrev pub IsOneCause : SnippetRows → Settings → Bool → Option Severity → Option Source → Tree → List ℕ → Type 0
-IsOneCause rows s blank outer inherited t text =
-    (inner : List ℕ) × IsInner rows (narrowed s outer (ends_there (cause_of t))) blank
+abbrev pub IsOneCause : SnippetRows → Settings → Bool → (List Call → Type 0) → Option Severity → Option Source → Tree →
+    List ℕ → Type 0
+IsOneCause rows s blank happen outer inherited t text =
+    (inner : List ℕ) × IsInner rows (narrowed s outer (ends_there (cause_of t))) blank happen
     (effective (source_of t) inherited) t inner
     × (text ≡ under_arrow s outer (ends_there (cause_of t)) inner)
 
 -- one of several related trees, over its effective source
-abbrev pub IsNested : SnippetRows → Settings → Bool → Option Severity → Option Source → Bool → Tree → List ℕ → Type 0
-IsNested rows s blank outer source is_last t text =
-    (inner : List ℕ) × IsInner rows (narrowed s outer is_last) blank source t inner
+abbrev pub IsNested : SnippetRows → Settings → Bool → (List Call → Type 0) → Option Severity → Option Source → Bool →
+    Tree → List ℕ → Type 0
+IsNested rows s blank happen outer source is_last t text =
+    (inner : List ℕ) × IsInner rows (narrowed s outer is_last) blank happen source t inner
     × (text ≡ under_arrow s outer is_last (without_trailing inner))
 
-abbrev pub IsOneRelated : SnippetRows → Settings → Bool → Option Severity → Option Source → Bool → Tree → List ℕ →
-    Type 0
-IsOneRelated rows s blank outer source is_last t text =
-    MatchBool s.nested (IsNested rows s blank outer source is_last t text) (IsSibling rows s blank source t text)
+abbrev pub IsOneRelated : SnippetRows → Settings → Bool → (List Call → Type 0) → Option Severity → Option Source →
+    Bool → Tree → List ℕ → Type 0
+IsOneRelated rows s blank happen outer source is_last t text =
+    MatchBool s.nested (IsNested rows s blank happen outer source is_last t text)
+    (IsSibling rows s blank happen source t text)
 
 -- the causes of the outermost report
-abbrev pub AreRootCauses : SnippetRows → Settings → Bool → Tree → List ℕ → Type 0
-AreRootCauses rows s blank (tree m own c r) text =
-    MatchBool s.chain (AreCauses rows s blank m.severity own c text) (text ≡ [])
+abbrev pub AreRootCauses : SnippetRows → Settings → Bool → (List Call → Type 0) → Tree → List ℕ → Type 0
+AreRootCauses rows s blank happen (tree m own c r) text =
+    MatchBool s.chain (AreCauses rows s blank happen m.severity own c text) (happen [] × (text ≡ []))
 
--- a whole report
+-- ---- a whole report
+
+-- under answers that a highlighter gave by calls that happen
+abbrev pub IsAskedReport : SnippetRows → Settings → Bool → (List Call → Type 0) → Tree → List ℕ → Type 0
+IsAskedReport rows s blank happen t text =
+    (a : Answers) × AreAnswers s blank t a × happen (report_calls s t a) × (text ≡ report_text rows s t a)
+
 abbrev pub IsReport : SnippetRows → Settings → Bool → Tree → List ℕ → Type 0
 IsReport rows s blank t text = (a : Answers) × AreAnswers s blank t a × (text ≡ report_text rows s t a)
 
 -- the bytes of a whole report
+abbrev pub IsAskedText : SnippetRows → Settings → Bool → (List Call → Type 0) → Tree → List ℕ → Type 0
+IsAskedText rows s blank happen t bytes =
+    (text : List ℕ) × IsAskedReport rows s blank happen t text × (bytes ≡ encode_utf8_all text)
+
 abbrev pub IsTextOf : SnippetRows → Settings → Bool → Tree → List ℕ → Type 0
 IsTextOf rows s blank t bytes = (text : List ℕ) × IsReport rows s blank t text × (bytes ≡ encode_utf8_all text)
 
 -- a whole report is appended
 abbrev pub Appends : SnippetRows → Settings → Bool → Tree → List ℕ → List ℕ → Type 0
 Appends rows s blank t old new = AppendsOne (IsTextOf rows s blank t) old new
+
+-- a whole report is appended, by calls that happen
+abbrev pub AppendsAsked : SnippetRows → Settings → Bool → (List Call → Type 0) → Tree → List ℕ → List ℕ → Type 0
+AppendsAsked rows s blank happen t old new = AppendsOne (IsAskedText rows s blank happen t) old new

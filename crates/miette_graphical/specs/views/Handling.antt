@@ -1,6 +1,7 @@
 -- A graphical handler.
-use Rattle.std.specs.Prelude.{Bool, Option, None}
-use Rattle.miette_layout.specs.rules.Highlighted.{leaves_plain}
+use Rattle.std.specs.Prelude.{Bool, List, Option, None}
+use Rattle.miette_style.specs.rules.Asked.{Call}
+use Rattle.miette_layout.specs.rules.Highlighted.{AreCallsOn, follows, leaves_plain}
 use Rattle.miette_graphical.specs.rules.Settings.{Settings}
 
 -- how it prints, and what styles the lines of sources, if anything does
@@ -14,3 +15,10 @@ without_highlighter s = record { settings = s; highlighter = None }
 -- whether it leaves the lines of sources plain
 abbrev pub draws_plain : {H : Type 0} → (H → Bool) → Handling H → Bool
 draws_plain is_blank it = leaves_plain is_blank it.highlighter
+
+-- what may follow for its highlighter, and calls that bring it from one state to another
+abbrev pub follows_of : {H : Type 0} → (H → List Call → Type 0) → Handling H → List Call → Type 0
+follows_of may_follow it = follows may_follow it.highlighter
+
+abbrev pub AreCallsOf : {H : Type 0} → (H → List Call → Type 0) → Handling H → Handling H → List Call → Type 0
+AreCallsOf may_follow old new = AreCallsOn may_follow old.highlighter new.highlighter

@@ -1,7 +1,7 @@
 -- What the modes of the code stand for.
 use Rattle.std.specs.Prelude.{Bool}
 use Rattle.miette_text.specs.declared.wrap.WordSplitter.{WordSplitter}
-use Rattle.miette_text.specs.views.Filling.{cuts_hyphens}
+use Rattle.miette_text.specs.views.Plans.{cuts_hyphens}
 use Rattle.miette_graphical.specs.rules.Settings as values
 use Rattle.miette_graphical.specs.declared.settings.UrlMode.{UrlMode}
 use Rattle.miette_graphical.specs.declared.settings.UrlMode.TheVariants.{Links, Text, Hidden}

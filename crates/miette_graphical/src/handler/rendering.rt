@@ -1,21 +1,24 @@
 //! The picture of a report, by a handler's settings.
 
-ghost use Rattle.std.specs.Prelude.{◌≡◌, ◌++◌, ℕ, List, OnErr, OnOk, false, true, chars, string_bytes, encode_utf8_all};
+ghost use Rattle.std.specs.Prelude.{◌≡◌, ◌++◌, ℕ, List, [], OnErr, OnOk, false, true, chars, string_bytes, encode_utf8_all};
 ghost use Rattle.std.specs.Prelude.{option_map};
 ghost use Rattle.std.specs.List.{AllByRecursion};
-ghost use Rattle.miette_graphical.specs.rules.Answered.{Appends, IsTextOf};
+ghost use Rattle.miette_graphical.specs.rules.Answered.{Appends, AppendsAsked, IsTextOf};
 ghost use Rattle.miette_graphical.specs.rules.Answers.{unlisted};
+ghost use Rattle.miette_graphical.specs.rules.ByLine.{answers_by};
 ghost use Rattle.miette_graphical.specs.laws.Clean.{AreCleanSettings, IsCleanTree};
 ghost use Rattle.miette_graphical.specs.laws.Colourless.{IsColouredText, IsRestyledText, colourless};
 ghost use Rattle.miette_tree.specs.views.Handler.{AppendsOne};
-ghost use Rattle.miette_graphical.specs.views.Handling.{draws_plain};
+ghost use Rattle.miette_graphical.specs.views.Handling.{AreCallsOf, draws_plain, follows_of};
 ghost use Rattle.miette_graphical.specs.laws.Headline.{LinesAreShown, MarksAreApart, TextsHang};
 ghost use Rattle.miette_graphical.specs.rules.Printed.{all_read, printed};
 ghost use Rattle.miette_graphical.specs.rules.Snippets.{drawn_rows};
 ghost use Rattle.miette_graphical.specs.rules.Text.{report_text};
 ghost use Rattle.miette_graphical.specs.views.SettingsView.{settings_of};
+ghost use Rattle.miette_style.specs.rules.Asked.{AnsweredBy, Call};
+ghost use Rattle.miette_style.specs.rules.Pieces.{Piece};
 ghost use Rattle.miette_text.specs.rules.Sequences.{erase};
-ghost use Rattle.miette_text.specs.views.Filling.{AppendsErasing};
+ghost use Rattle.miette_text.specs.rules.Tame.{AppendsErasing};
 ghost use Rattle.miette_tree.specs.views.Report.{tree_of};
 
 use crate::handler::GraphicalReportHandler;
@@ -70,6 +73,32 @@ impl<H: Highlighter> GraphicalReportHandler<H> {
         }
     }
 
+    // Appends the picture of a report, and tells the calls on the highlighter.
+    fn draw<D: Diagnostic, S: SourceCode>(
+        &mut self,
+        report: &Report<D, S>,
+        out: &mut String,
+    ) -> Result<(), RenderError>
+        ensures settings { self.new.settings ≡ self.old.settings }
+        ensures blank { draws_plain H.is_blank self.new ≡ draws_plain H.is_blank self.old }
+        ensures calls { OnOk result (AppendsAsked drawn_rows self.old.settings (draws_plain H.is_blank self.old)
+            (AreCallsOf H.may_follow self.old self.new) (tree_of D.meaning S.source report.now) (string_bytes out.old)
+            (string_bytes out.new)) }
+        ensures refused { (result ≡ Err RenderError.Refused) →
+            all_read (printed self.old.settings (tree_of D.meaning S.source report.now)) ≡ false }
+        ensures err { OnErr result (string_bytes out.new ≡ string_bytes out.old) }
+    {
+        let alloc = *out.allocator();
+        let mut pen = Pen {
+            alloc,
+            highlighter: self.highlighter.take(),
+        };
+        let drawn = report_output(&mut pen, self.layout(), report);
+        self.highlighter = pen.highlighter;
+        append_printed(alloc, drawn?, out)?;
+        Ok(())
+    }
+
     /// Appends the picture of a report. The highlighter is restarted before each snippet with the contents of the
     /// snippet's read, and is then given the text of each line in order. After an error `out` is as before: `Memory`
     /// where memory was refused, to the highlighter too; `Refused` where a printed diagnostic has labels over a
@@ -83,6 +112,20 @@ impl<H: Highlighter> GraphicalReportHandler<H> {
             ⟦<Box<dyn SourceCode> as SourceCode>⟧.source report.now in
             OnOk result (Appends drawn_rows self.old.settings (draws_plain H.is_blank self.old) tree
             (string_bytes out.old) (string_bytes out.new)) }
+        // The highlighter gave that text's answers by these calls: restarted once for each snippet with the contents of
+        // its read, then asked once for each line of it, in order.
+        ensures calls { let tree = tree_of ⟦<Box<dyn Diagnostic> as Diagnostic>⟧.meaning
+            ⟦<Box<dyn SourceCode> as SourceCode>⟧.source report.now in
+            OnOk result (AppendsAsked drawn_rows self.old.settings (draws_plain H.is_blank self.old)
+            (AreCallsOf H.may_follow self.old self.new) tree (string_bytes out.old) (string_bytes out.new)) }
+        // Where every source always reads, and a line's pieces are a function of its text, there is one such text.
+        ensures stateless { let tree = tree_of ⟦<Box<dyn Diagnostic> as Diagnostic>⟧.meaning
+            ⟦<Box<dyn SourceCode> as SourceCode>⟧.source report.now in
+            OnOk result ((answer : List ℕ → List Piece) →
+            ((calls : List Call) → follows_of H.may_follow self.old calls → AnsweredBy answer calls) →
+            follows_of H.may_follow self.new [] → all_read (printed self.old.settings tree) ≡ true →
+            string_bytes out.new ≡ string_bytes out.old ++ encode_utf8_all (report_text drawn_rows self.old.settings
+            tree (answers_by answer self.old.settings.context tree))) }
         // where every source always reads, and no highlighter or a blank one is set, there is one such text
         ensures only { let tree = tree_of ⟦<Box<dyn Diagnostic> as Diagnostic>⟧.meaning
             ⟦<Box<dyn SourceCode> as SourceCode>⟧.source report.now in
@@ -129,7 +172,7 @@ impl<H: Highlighter> GraphicalReportHandler<H> {
     {
         snippets_law();
         erasing_law();
-        self.debug(report, out)
+        self.draw(report, out)
     }
 }
 
@@ -146,14 +189,6 @@ impl<H: Highlighter> ReportHandler for GraphicalReportHandler<H> {
         report: &Report<D, S>,
         out: &mut String,
     ) -> Result<(), RenderError> {
-        let alloc = *out.allocator();
-        let mut pen = Pen {
-            alloc,
-            highlighter: self.highlighter.take(),
-        };
-        let drawn = report_output(&mut pen, self.layout(), report);
-        self.highlighter = pen.highlighter;
-        append_printed(alloc, drawn?, out)?;
-        Ok(())
+        self.draw::<D, S>(report, out)
     }
 }

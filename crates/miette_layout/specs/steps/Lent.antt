@@ -4,6 +4,7 @@ use Rattle.std.specs.Prelude.{slice_range, Option, false}
 use Rattle.std.specs.Option.{option_map}
 use Rattle.miette_newlines.specs.rules.Lines.{Line}
 use Rattle.miette_protocol.specs.rules.Reading.{Contents}
+use Rattle.miette_style.specs.rules.Asked.{Call}
 use Rattle.miette_page.specs.rules.Rows.{Row}
 use Rattle.miette_lines.specs.rules.Answers.{Highlight, first_of, later_of}
 use Rattle.miette_lines.specs.rules.Cells.{Cell, characters, cells_from}
@@ -14,10 +15,11 @@ use Rattle.miette_layout.specs.views.ThemeSettings.{settings_of}
 use Rattle.miette_lines.specs.views.Given.{drawn_of}
 use Rattle.miette_layout.specs.rules.Frames.{Settings, Place, top_row, bottom_row, number_width}
 use Rattle.miette_layout.specs.rules.Gutters.{gutter_columns}
-use Rattle.miette_layout.specs.rules.Highlighted.{decoded_text, EachHasPieces}
+use Rattle.miette_layout.specs.rules.Highlighted.{decoded_text, EachHasPieces, line_calls}
 use Rattle.miette_lines.specs.rules.Labels.{DrawnLabel}
 use Rattle.miette_layout.specs.rules.Layout.{line_rows}
-use Rattle.miette_page.specs.views.Told.{Token, told_rows}
+use Rattle.miette_page.specs.views.Printouts.{Printout, ◌⊕◌}
+use Rattle.miette_page.specs.views.Told.{told_rows}
 
 -- the bytes of a line's text, in bytes that begin at an offset
 abbrev pub text_in : ℕ → List ℕ → Line → List ℕ
@@ -55,16 +57,18 @@ width_of_count before many = if many == 0 then 1 else length (decimal (before + 
 abbrev pub gutter_of : ℕ → ℕ
 gutter_of most = if most == 0 then 0 else most + 3
 
--- A page has got rows with some pieces, which a highlighter may have answered for these texts.
-pub record PutsRows (blank : Bool) (texts : List (List ℕ)) (rows : List (List Highlight) → List Row)
-    (before after : List Token) : Type 0 where
+-- A page has got rows with some pieces, which a highlighter answered for these texts by calls that happen.
+pub record PutsRows (blank : Bool) (happen : List Call → Type 0) (texts : List (List ℕ))
+    (rows : List (List Highlight) → List Row) (before after : Printout) : Type 0 where
   pub pieces : List (List Highlight)
   pub are : EachHasPieces blank texts pieces
-  pub is : after ≡ before ++ told_rows (rows pieces)
+  pub calls : happen (line_calls texts pieces)
+  pub is : after ≡ before ⊕ told_rows (rows pieces)
 
 -- The same of a snippet: its frame points to this line and column, and a highlighter is given the texts of its lines.
-abbrev pub PutsSnippet : Bool → Drawing → Contents → Option (ℕ × ℕ) → List Token → List Token → Type 0
-PutsSnippet blank drawing lent place before after =
-    PutsRows blank (texts_in lent.span.offset lent.bytes (lines_of_contents lent))
+abbrev pub PutsSnippet : Bool → (List Call → Type 0) → Drawing → Contents → Option (ℕ × ℕ) → Printout → Printout →
+    Type 0
+PutsSnippet blank happen drawing lent place before after =
+    PutsRows blank happen (texts_in lent.span.offset lent.bytes (lines_of_contents lent))
     (lent_snippet (settings_of drawing.theme.now drawing.options)
     (map (drawn_of drawing.labels.now) drawing.placed.now) lent (option_map place_at place)) before after

@@ -12,8 +12,8 @@ use Rattle.miette_layout.specs.rules.Gutters.{number_gutter, other_gutter, open_
 use Rattle.miette_layout.specs.rules.Frames.{Settings, number_start, other_start}
 use Rattle.miette_layout.specs.rules.PrintedCells.{line_runs}
 use Rattle.miette_lines.specs.rules.Cells.{Cell, cells_from, characters}
-use Rattle.miette_layout.specs.steps.TellingCells.{highlight_of}
-use Rattle.miette_lines.specs.views.TextLines.{line_of_text}
+use Rattle.miette_layout.specs.rules.Highlighted.{highlight_of}
+use Rattle.miette_newlines.specs.views.Walking.{line_of_text}
 
 abbrev pub settings : Sheet → Settings
 settings sheet = settings_of sheet.theme.now sheet.options

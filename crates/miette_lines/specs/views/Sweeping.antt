@@ -1,5 +1,5 @@
 -- What a sweep over labels by offset knows at a place between two lines.
-use Rattle.std.specs.Prelude.{ℕ, ◌<◌, ◌≤◌, ◌≡◌, List, [], ◌∷◌, length, take, Bool, false, if◌then◌else◌, nat_lt}
+use Rattle.std.specs.Prelude.{ℕ, ◌<◌, ◌≤◌, ◌≡◌, List, [], ◌∷◌, length, take, Bool, nat_lt}
 use Rattle.std.specs.Prelude.{slice_index_or}
 use Rattle.std.specs.List.{filter}
 use Rattle.miette_lines.specs.declared.sweep.Placed.{Placed}
@@ -8,9 +8,9 @@ use Rattle.miette_style.specs.rules.Styles.{plain}
 use Rattle.miette_newlines.specs.rules.Lines.{Line}
 use Rattle.miette_lines.specs.rules.Labels.{DrawnLabel, reach, is_one_line, is_multi_line}
 
--- a label of this place; of its text only matters whether it is there
+-- a label of this place; its text decides nothing
 abbrev pub label_of : Placed → DrawnLabel
-label_of p = record { start = p.start; after = p.after; style = p.style; parts = if p.has_text then [] ∷ [] else [] }
+label_of p = record { start = p.start; after = p.after; style = p.style; parts = [] }
 
 -- a line from here to there; where its text ends decides nothing
 abbrev pub line_of_bounds : Bounds → Line
@@ -27,7 +27,7 @@ abbrev pub is_multi : Line → Placed → Bool
 is_multi line p = is_multi_line line (label_of p)
 
 abbrev pub nothing : Placed
-nothing = record { start = 0; after = 0; style = plain; has_text = false; index = 0 }
+nothing = record { start = 0; after = 0; style = plain; index = 0 }
 
 -- the k-th label's start
 abbrev pub start_at : List Placed → ℕ → ℕ

@@ -74,13 +74,15 @@ whole_row it d = row (codes "    label at line "
     ++ (decimal it.number ++ (columns_text (first_number it d.start) (last_number it d.start d.after)
     ++ text_behind d.text)))
 
+abbrev pub column_row : List ℕ → Shown → ℕ → Told → List ℕ
+column_row words it column d = row (words
+    ++ (decimal it.number ++ (codes ", column " ++ (decimal column ++ text_behind d.text))))
+
 abbrev pub start_row : Shown → Told → List ℕ
-start_row it d = row (codes "    label starting at line "
-    ++ (decimal it.number ++ (codes ", column " ++ (decimal (first_number it d.start) ++ text_behind d.text))))
+start_row it d = column_row (codes "    label starting at line ") it (first_number it d.start) d
 
 abbrev pub end_row : Shown → Told → List ℕ
-end_row it d = row (codes "    label ending at line "
-    ++ (decimal it.number ++ (codes ", column " ++ (decimal (last_number it d.start d.after) ++ text_behind d.text))))
+end_row it d = column_row (codes "    label ending at line ") it (last_number it d.start d.after) d
 
 -- which of them a label has under a line, if it has one there
 abbrev pub begun_row : Shown → Told → List ℕ

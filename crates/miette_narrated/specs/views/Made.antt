@@ -4,7 +4,7 @@ use Rattle.miette_protocol.specs.views.Meaning.{Label}
 use Rattle.miette_lines.specs.declared.sweep.Placed.{Placed}
 use Rattle.miette_lines.specs.rules.Cells.{characters}
 use Rattle.miette_lines.specs.views.Given.{text_at}
-use Rattle.miette_lines.specs.views.TextLines.{line_of_text}
+use Rattle.miette_newlines.specs.views.Walking.{line_of_text}
 use Rattle.miette_narrated.specs.declared.shown.ShownLine.{ShownLine}
 use Rattle.miette_narrated.specs.rules.Labels.{Told, Shown}
 

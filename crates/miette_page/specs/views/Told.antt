@@ -1,21 +1,17 @@
--- Rows as a program makes them: where each run begins, in which style, its bytes, and where each row ends.
+-- Rows as a program makes them: where each run begins, in which style, its characters, and where each row ends.
 -- How many columns a character takes isn't kept.
-use Rattle.std.specs.Prelude.{ℕ, List, [], ◌∷◌, ◌++◌, map, encode_utf8_all}
+use Rattle.std.specs.Prelude.{ℕ, List, [], ◌∷◌, ◌++◌, map}
 use Rattle.miette_style.specs.declared.style.Style.{Style}
 use Rattle.miette_page.specs.rules.Rows.{Run, Row}
 
 pub data Token : Type 0 where
   begins : Style → Token
-  byte : ℕ → Token
+  character : ℕ → Token
   row_end : Token
 
--- the bytes of a text, as tokens
-abbrev pub bytes_told : List ℕ → List Token
-bytes_told bytes = map (λ b. byte b) bytes
-
--- the bytes of some characters, as tokens
+-- characters, as tokens
 abbrev pub text_told : List ℕ → List Token
-text_told codes = bytes_told (encode_utf8_all codes)
+text_told codes = map (λ code. character code) codes
 
 abbrev pub told_run : Run → List Token
 told_run run = begins run.style ∷ text_told (map (λ p. p.code) run.pieces)

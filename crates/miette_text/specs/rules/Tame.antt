@@ -1,10 +1,10 @@
 -- Texts from which colours can be deleted before or after wrapping.
-use Rattle.std.specs.Prelude.{◌≡◌, ℕ, Bool, true, false, ◌&&◌, ◌||◌, not, ◌==◌, if◌then◌else◌, List, [], ◌∷◌}
+use Rattle.std.specs.Prelude.{◌≡◌, ℕ, Bool, true, false, ◌&&◌, ◌||◌, not, ◌==◌, if◌then◌else◌, List, [], ◌∷◌, ◌++◌}
 use Rattle.miette_style.specs.rules.Escapes.{no_escape}
 use Rattle.miette_text.specs.rules.Sequences.{Token, Character, Sequence, tokens, erase, is_bell, is_line_feed}
 use Rattle.miette_text.specs.rules.Sequences.{is_parameter}
 use Rattle.miette_style.specs.rules.Escapes.{is_escape}
-use Rattle.miette_text.specs.rules.Wrapping.{Layout, is_space}
+use Rattle.miette_text.specs.rules.Wrapping.{Plan, is_space, map_indents}
 
 abbrev pub is_nil : {A : Type 0} → List A → Bool
 is_nil [] = true
@@ -80,15 +80,23 @@ AreTame ts = state_behind Free ts ≡ Free
 abbrev pub IsTame : List ℕ → Type 0
 IsTame text = AreTame (tokens text)
 
-abbrev pub colourless : Layout → Layout
-colourless l = record l { first = erase l.first; further = erase l.further }
+abbrev pub colourless : Plan (List ℕ) → Plan (List ℕ)
+colourless = map_indents erase
 
 -- Every escape belongs to a colour: none is left without them.
 abbrev pub IsColoured : List ℕ → Type 0
 IsColoured text = no_escape (erase text) ≡ true
 
+-- Every escape of a text and its indents belongs to a colour.
+abbrev pub AreColoured : Plan (List ℕ) → List ℕ → Type 0
+AreColoured p text = IsColoured p.first × IsColoured p.further × IsColoured text
+
+-- what is appended, without its colours, is that
+abbrev pub AppendsErasing : List ℕ → List ℕ → List ℕ → Type 0
+AppendsErasing old new bare = (added : List ℕ) × (new ≡ old ++ added) × (erase added ≡ bare)
+
 -- what is wrapped, and what it is wrapped under
-pub record AllTame (l : Layout) (text : List ℕ) : Type 0 where
-  pub first : IsTame l.first
-  pub further : IsTame l.further
+pub record AllTame (p : Plan (List ℕ)) (text : List ℕ) : Type 0 where
+  pub first : IsTame p.first
+  pub further : IsTame p.further
   pub inner : IsTame text

@@ -119,35 +119,25 @@ with_spaces spaces (p ∷ ps) = elim ps [
   | q ∷ qs ↦ record { letters = p; spaces = [] } ∷ with_spaces spaces ps
 ]
 
--- ---- rows
-
--- How a text is to be wrapped.
-pub record Layout : Type 0 where
-  pub room : ℕ
-  pub first : List ℕ
-  pub further : List ℕ
-  pub breaks : Bool
-  pub wraps : Bool
+-- How words are cut: behind hyphens, and where they are wider than so many columns.
+pub record Cuts : Type 0 where
   pub hyphens : Bool
+  pub breaks : Bool
+  pub narrow : ℕ
 
--- the columns that an indent leaves
-abbrev pub first_room : Layout → ℕ
-first_room l = l.room - columns_of (tokens l.first)
+abbrev pub hyphenated : Cuts → List Cell → List (List Cell)
+hyphenated c letters = if c.hyphens then hyphen_parts 0 letters else letters ∷ []
 
-abbrev pub further_room : Layout → ℕ
-further_room l = l.room - columns_of (tokens l.further)
+abbrev pub narrowed : Cuts → List Cell → List (List Cell)
+narrowed c letters = if c.breaks then broken c.narrow 0 letters else letters ∷ []
 
-abbrev pub hyphenated : Layout → List Cell → List (List Cell)
-hyphenated l letters = if l.hyphens then hyphen_parts 0 letters else letters ∷ []
+abbrev pub parts : Cuts → Word → List Word
+parts c w = with_spaces w.spaces (flat_map (narrowed c) (hyphenated c w.letters))
 
-abbrev pub narrowed : Layout → List Cell → List (List Cell)
-narrowed l letters = if l.breaks then broken (min (first_room l) (further_room l)) 0 letters else letters ∷ []
+abbrev pub cut_words : Cuts → List Cell → List Word
+cut_words c cells = flat_map (parts c) (words cells)
 
-abbrev pub parts : Layout → Word → List Word
-parts l w = with_spaces w.spaces (flat_map (narrowed l) (hyphenated l w.letters))
-
-abbrev pub piece_words : Layout → Piece → List Word
-piece_words l p = flat_map (parts l) (words p.cells)
+-- ---- rows
 
 abbrev pub word_cells : Word → List Cell
 word_cells w = w.letters ++ w.spaces
@@ -187,12 +177,13 @@ abbrev pub with_rest : List (List ℕ) → List (List Token) → List (List Toke
 with_rest rest [] = []
 with_rest rest (r ∷ rs) = elim rs [ [] ↦ (r ++ map Sequence rest) ∷ [] | s ∷ ss ↦ r ∷ with_rest rest rs ]
 
-abbrev pub piece_rows : Layout → ℕ → Piece → List (List Token)
-piece_rows l room p = with_rest p.rest (map row_tokens (rows room (further_room l) (piece_words l p)))
+abbrev pub piece_rows : Cuts → ℕ → ℕ → Piece → List (List Token)
+piece_rows c room further p = with_rest p.rest (map row_tokens (rows room further (cut_words c p.cells)))
 
-abbrev pub text_rows : Layout → List Piece → List (List Token)
-text_rows l [] = []
-text_rows l (p ∷ ps) = piece_rows l (first_room l) p ++ flat_map (piece_rows l (further_room l)) ps
+-- The first row has a room of its own.
+abbrev pub text_rows : Cuts → ℕ → ℕ → List Piece → List (List Token)
+text_rows c room further [] = []
+text_rows c room further (p ∷ ps) = piece_rows c room further p ++ text_rows c further further ps
 
 abbrev pub line_feed : Token
 line_feed = Character 10
@@ -205,9 +196,6 @@ joined indent further (r ∷ rs) = elim rs [
   | s ∷ ss ↦ indent ++ r ++ line_feed
       ∷ joined further further rs
 ]
-
-abbrev pub filled : Layout → List Token → List Token
-filled l ts = joined (tokens l.first) (tokens l.further) (text_rows l (pieces ts))
 
 -- ---- without wrapping
 
@@ -230,13 +218,43 @@ whole_pieces indent further [] = []
 whole_pieces indent further (p ∷ ps) = elim ps
     [ [] ↦ last_indented indent p | q ∷ qs ↦ indented indent p ++ line_feed ∷ whole_pieces further further ps ]
 
-abbrev pub unwrapped : Layout → List Token → List Token
-unwrapped l ts = whole_pieces (tokens l.first) (tokens l.further) (pieces ts)
-
 -- ---- all of it
 
-abbrev pub wrapped_tokens : Layout → List Token → List Token
-wrapped_tokens l ts = if l.wraps then filled l ts else unwrapped l ts
+-- How a text is to be wrapped. Its indents are texts, or what texts are read as.
+pub record Plan (Indent : Type 0) : Type 0 where
+  pub room : ℕ
+  pub first : Indent
+  pub further : Indent
+  pub breaks : Bool
+  pub wraps : Bool
+  pub hyphens : Bool
 
-abbrev pub wrapped : Layout → List ℕ → List ℕ
-wrapped l text = spell (wrapped_tokens l (tokens text))
+abbrev pub map_indents : {A B : Type 0} → (A → B) → Plan A → Plan B
+map_indents f p = record {
+  room = p.room;
+  first = f p.first;
+  further = f p.further;
+  breaks = p.breaks;
+  wraps = p.wraps;
+  hyphens = p.hyphens;
+}
+
+-- the columns that an indent leaves
+abbrev pub first_room : Plan (List Token) → ℕ
+first_room p = p.room - columns_of p.first
+
+abbrev pub further_room : Plan (List Token) → ℕ
+further_room p = p.room - columns_of p.further
+
+-- No part of a word is wider than the narrower row.
+abbrev pub cuts_of : Plan (List Token) → Cuts
+cuts_of p = record { hyphens = p.hyphens; breaks = p.breaks; narrow = min (first_room p) (further_room p) }
+
+abbrev pub filled : Plan (List Token) → List Token → List Token
+filled p ts = joined p.first p.further (text_rows (cuts_of p) (first_room p) (further_room p) (pieces ts))
+
+abbrev pub wrapped_tokens : Plan (List Token) → List Token → List Token
+wrapped_tokens p ts = if p.wraps then filled p ts else whole_pieces p.first p.further (pieces ts)
+
+abbrev pub wrapped : Plan (List ℕ) → List ℕ → List ℕ
+wrapped p text = spell (wrapped_tokens (map_indents tokens p) (tokens text))

@@ -1,11 +1,13 @@
 -- Where the first part of a word, the first row, and a row without its last spaces end.
-use Rattle.std.specs.Prelude.{◌≡◌, ℕ, zero, suc, ◌+◌, Bool, false, ◌&&◌, ◌==◌, nat_lt, List, [], ◌∷◌, ◌++◌}
+use Rattle.std.specs.Prelude.{◌≡◌, ℕ, zero, suc, ◌+◌, Bool, true, false, ◌&&◌, ◌==◌, nat_lt, List, [], ◌∷◌, ◌++◌}
 use Rattle.std.specs.Prelude.{if◌then◌else◌, map, flat_map, take, drop, sum_by}
-use Rattle.miette_text.specs.views.Filling.{maybe_broken, parts_with}
-use Rattle.miette_text.specs.steps.Printing.{all_spaces, row_cells}
 use Rattle.miette_text.specs.rules.Sequences.{flat, is_line_feed}
-use Rattle.miette_text.specs.rules.Wrapping.{Cell, Word, width, is_space, is_alphanumeric, hyphen_parts, rows}
-use Rattle.miette_text.specs.rules.Wrapping.{with_spaces, words}
+use Rattle.miette_text.specs.rules.Wrapping.{Cell, Cuts, Word, width, is_space, is_alphanumeric, hyphen_parts, narrowed}
+use Rattle.miette_text.specs.rules.Wrapping.{parts, rows, with_spaces, word_cells, words}
+
+abbrev pub all_spaces : List Cell → Bool
+all_spaces [] = true
+all_spaces (c ∷ cs) = is_space c.code && all_spaces cs
 
 -- without the last spaces
 abbrev pub bare_len : List Cell → ℕ
@@ -30,13 +32,13 @@ begins_word (c ∷ cs) = is_alphanumeric c
 
 -- The first part of what is left of a word, behind a code and with so many columns in use: it ends before a space,
 -- before what makes it too wide, and behind a hyphen.
-abbrev pub part_len : Bool → Bool → ℕ → ℕ → ℕ → List ℕ → ℕ
-part_len hyphens breaks narrow before used [] = 0
-part_len hyphens breaks narrow before used (c ∷ cs) =
+abbrev pub part_len : Cuts → ℕ → ℕ → List ℕ → ℕ
+part_len cuts before used [] = 0
+part_len cuts before used (c ∷ cs) =
     if is_space c then 0
-    else if breaks && (nat_lt 0 used && nat_lt narrow (used + width c)) then 0
-    else if hyphens && ((c == 45) && is_alphanumeric before && begins_word cs) then 1
-    else suc (part_len hyphens breaks narrow c (used + width c) cs)
+    else if cuts.breaks && (nat_lt 0 used && nat_lt cuts.narrow (used + width c)) then 0
+    else if cuts.hyphens && ((c == 45) && is_alphanumeric before && begins_word cs) then 1
+    else suc (part_len cuts c (used + width c) cs)
 
 abbrev pub gap_len : List ℕ → ℕ
 gap_len [] = 0
@@ -48,29 +50,31 @@ code_behind before zero cs = before
 code_behind before (suc n) [] = before
 code_behind before (suc n) (c ∷ cs) = code_behind c n cs
 
-abbrev pub hyphenated_behind : Bool → ℕ → List Cell → List (List Cell)
-hyphenated_behind hyphens before letters = if hyphens then hyphen_parts before letters else letters ∷ []
+abbrev pub hyphenated_behind : Cuts → ℕ → List Cell → List (List Cell)
+hyphenated_behind cuts before letters = if cuts.hyphens then hyphen_parts before letters else letters ∷ []
 
 -- the parts of the words of what stands behind a code
-abbrev pub words_behind : Bool → Bool → ℕ → ℕ → List Cell → List Word
-words_behind hyphens breaks narrow before cells = elim (words cells) [
+abbrev pub words_behind : Cuts → ℕ → List Cell → List Word
+words_behind cuts before cells = elim (words cells) [
   | [] ↦ []
-  | w ∷ ws ↦ with_spaces w.spaces (flat_map (maybe_broken breaks narrow) (hyphenated_behind hyphens before w.letters))
-      ++ flat_map (parts_with hyphens breaks narrow) ws
+  | w ∷ ws ↦ with_spaces w.spaces (flat_map (narrowed cuts) (hyphenated_behind cuts before w.letters))
+      ++ flat_map (parts cuts) ws
 ]
 
+abbrev pub row_cells : List Word → List Cell
+row_cells = flat_map word_cells
+
 -- the rows of what stands behind a code; none where nothing is left
-abbrev pub rows_left : Bool → Bool → ℕ → ℕ → ℕ → List Cell → List (List Cell)
-rows_left hyphens breaks narrow before room [] = []
-rows_left hyphens breaks narrow before room (c ∷ cs) =
-    map row_cells (rows room room (words_behind hyphens breaks narrow before (c ∷ cs)))
+abbrev pub rows_left : Cuts → ℕ → ℕ → List Cell → List (List Cell)
+rows_left cuts before room [] = []
+rows_left cuts before room (c ∷ cs) = map row_cells (rows room room (words_behind cuts before (c ∷ cs)))
 
 -- So many codes are in the first row.
-abbrev pub IsFirstRow : Bool → Bool → ℕ → ℕ → ℕ → List ℕ → ℕ → Type 0
-IsFirstRow hyphens breaks narrow before room codes n =
+abbrev pub IsFirstRow : Cuts → ℕ → ℕ → List ℕ → ℕ → Type 0
+IsFirstRow cuts before room codes n =
     (cells : List Cell) (further : ℕ) → codes_of cells ≡ codes →
-    map row_cells (rows room further (words_behind hyphens breaks narrow before cells))
-    ≡ take n cells ∷ rows_left hyphens breaks narrow (code_behind before n codes) further (drop n cells)
+    map row_cells (rows room further (words_behind cuts before cells))
+    ≡ take n cells ∷ rows_left cuts (code_behind before n codes) further (drop n cells)
 
 -- ---- lines, and characters alone
 

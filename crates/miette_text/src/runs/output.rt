@@ -103,6 +103,23 @@ impl Output {
         Ok(())
     }
 
+    /// Takes room for so many copies of a character at once. What was appended stays.
+    ///
+    /// # Errors
+    /// `AllocError` where memory is refused, or the copies have more bytes than a `usize` counts.
+    pub fn reserve(&mut self, c: char, many: usize) -> Result<(), AllocError>
+        ensures { OnOk result (self.new ≡ self.old) }
+    {
+        let Some(room) = many.checked_mul(c.len_utf8()) else {
+            return Err(AllocError);
+        };
+        match &mut self.target {
+            Target::Printed(text) => text.reserve(room)?,
+            Target::Collected(runs) => runs.reserve(many)?,
+        }
+        Ok(())
+    }
+
     /// Appends characters.
     ///
     /// # Errors

@@ -13,12 +13,6 @@ use crate::runs::sign::{Mark, Sign};
 use crate::runs::{Parts, Runs, is_whole};
 use std::alloc::{AllocError, Global};
 
-fn decoded(alloc: Global, text: &str) -> Result<Vec<char>, AllocError>
-    ensures { IfOk result (λ v. v.items ≡ chars text.now) }
-{
-    text.chars().collect(alloc)
-}
-
 // A character for each byte.
 fn byte_codes(alloc: Global, bytes: &[u8]) -> Result<Vec<char>, AllocError>
     ensures { IfOk result (λ v. v.items ≡ bytes.now) }
@@ -38,7 +32,7 @@ fn codes_of(alloc: Global, text: &str) -> Result<Vec<char>, AllocError>
         let codes = byte_codes(alloc, text.as_bytes())?;
         return Ok(codes);
     }
-    decoded(alloc, text)
+    text.chars().collect(alloc)
 }
 
 fn has_no_escape(codes: &[char]) -> bool

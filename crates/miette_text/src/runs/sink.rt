@@ -1,11 +1,9 @@
-//! What runs are appended to: a text, which prints them, or runs again.
+//! What runs are appended to: a text, which prints them, or an output.
 
 ghost use Rattle.std.specs.Prelude.{◌≡◌, ◌++◌, ℕ, List, [], OnOk, encode_utf8_all, refl, string_bytes};
-ghost use Rattle.miette_text.specs.rules.Sequences.{spell};
 ghost use Rattle.miette_text.specs.views.Sinks.{encode-joins};
 ghost use Rattle.miette_text.specs.views.Woven.{sign_text};
 
-use crate::runs::Runs;
 use crate::runs::colours::push_style;
 use crate::runs::sign::Sign;
 use std::alloc::AllocError;
@@ -55,23 +53,5 @@ impl Sink for String {
             Sign::End => self.push_str("\u{1B}[0m"),
             Sign::Sequence(codes) => self.push_codes(codes),
         }
-    }
-}
-
-impl Sink for Runs {
-    ghost holds = { spell };
-
-    ghost spells = { λ codes. codes };
-
-    ghost nothing = { refl };
-
-    ghost joins = { λ a b. refl };
-
-    fn push_codes(&mut self, codes: &[char]) -> Result<(), AllocError> {
-        self.push_chars(codes)
-    }
-
-    fn push_sign(&mut self, sign: &Rc<Sign>) -> Result<(), AllocError> {
-        Runs::push_sign(self, sign)
     }
 }

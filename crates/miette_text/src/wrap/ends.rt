@@ -6,6 +6,7 @@ ghost use Rattle.miette_text.specs.rules.Wrapping.{is_alphanumeric};
 
 use crate::runs::columns::{char_columns, sum};
 use std::alloc::AllocError;
+use std::marker::Model;
 
 /// How words are cut: behind hyphens, and where they are wider than the narrower of the rows.
 #[derive(Clone, Copy)]
@@ -13,6 +14,16 @@ pub(crate) struct Cuts {
     pub(crate) hyphens: bool,
     pub(crate) breaks: bool,
     pub(crate) narrow: usize,
+}
+
+impl Model for Cuts {
+    ghost use Rattle.miette_text.specs.rules.Wrapping as rules;
+
+    ghost Value = { rules.Cuts };
+
+    ghost view = { λ it. record { hyphens = it.hyphens; breaks = it.breaks; narrow = it.narrow } };
+
+    ghost inverse = { λ cuts. record { hyphens = cuts.hyphens; breaks = cuts.breaks; narrow = cuts.narrow } };
 }
 
 /// The first part of a word: how many letters it has, and how many columns they take.
@@ -28,28 +39,29 @@ fn is_alphanumeric(c: char) -> bool
     ('0' <= c && c <= '9') || ('A' <= c && c <= 'Z') || ('a' <= c && c <= 'z')
 }
 
-fn begins_word(codes: &[char]) -> bool
-    ensures { result ≡ begins_word codes.now }
+// Whether a word is cut behind a code, with another code before it and others behind it.
+fn is_cut(hyphens: bool, before: char, code: char, codes: &[char]) -> bool
+    ensures { result ≡ (hyphens && ((code == 45) && is_alphanumeric before && begins_word codes.now)) }
 {
     match codes {
         [] => false,
-        [c, ..] => is_alphanumeric(*c),
+        [next, ..] => {
+            hyphens && code == '-' && is_alphanumeric(before) && is_alphanumeric(*next)
+        }
     }
-}
-
-// Whether a word is cut behind a code, with another code before it.
-fn is_cut(cuts: Cuts, before: char, code: char, codes: &[char]) -> bool
-    ensures { result ≡ (cuts.hyphens && ((code == 45) && is_alphanumeric before && begins_word codes.now)) }
-{
-    cuts.hyphens && code == '-' && is_alphanumeric(before) && begins_word(codes)
 }
 
 // The part at the front.
 fn first_part(cuts: Cuts, first: char, codes: &[char]) -> Result<Part, AllocError>
-    ensures len { IfOk result (λ p. p.len ≡ part_len cuts.hyphens cuts.breaks cuts.narrow first 0 codes.now) }
+    ensures len { IfOk result (λ p. p.len ≡ part_len cuts first 0 codes.now) }
     ensures columns { IfOk result (λ p. p.columns ≡ code_columns (take p.len codes.now)) }
     ensures within { IfOk result (λ p. p.len ≤ length codes.now) }
 {
+    let Cuts {
+        hyphens,
+        breaks,
+        narrow,
+    } = cuts;
     let mut used = 0;
     let mut before = first;
     for (i, code) in codes.iter().enumerate() {
@@ -61,14 +73,14 @@ fn first_part(cuts: Cuts, first: char, codes: &[char]) -> Result<Part, AllocErro
             });
         }
         let both = sum(used, char_columns(code))?;
-        if cuts.breaks && 0 < used && cuts.narrow < both {
+        if breaks && 0 < used && narrow < both {
             return Ok(Part {
                 len: i,
                 columns: used,
             });
         }
         used = both;
-        if is_cut(cuts, before, code, &codes[i + 1..]) {
+        if is_cut(hyphens, before, code, &codes[i + 1..]) {
             return Ok(Part {
                 len: i + 1,
                 columns: used,
@@ -102,7 +114,7 @@ pub(crate) fn row_len(
     first: char,
     codes: &[char],
 ) -> Result<usize, AllocError>
-    ensures value { IfOk result (λ n. IsFirstRow cuts.hyphens cuts.breaks cuts.narrow first room codes.now n) }
+    ensures value { IfOk result (λ n. IsFirstRow cuts first room codes.now n) }
     ensures some { IfOk result (λ n. 0 < length codes.now → 0 < n) }
     ensures within { IfOk result (λ n. n ≤ length codes.now) }
 {

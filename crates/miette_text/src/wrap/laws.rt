@@ -5,15 +5,15 @@ ghost use Rattle.std.specs.Prelude.{◌≡◌, ℕ, List, ◌++◌, map, encode_
 ghost use Rattle.miette_text.specs.rules.Cutting.{without_leading, without_trailing};
 ghost use Rattle.miette_text.specs.rules.Runs.{HaveNoEscape, Run, plain_run, print};
 ghost use Rattle.miette_text.specs.rules.Sequences.{Token, erase, tokens};
-ghost use Rattle.miette_text.specs.rules.Tame.{AllTame, IsColoured, IsTame, colourless};
+ghost use Rattle.miette_text.specs.rules.Tame.{AllTame, AreColoured, IsTame, colourless};
 ghost use Rattle.miette_text.specs.rules.Filled.{IsFilled, IsTrimmed, all_words};
-ghost use Rattle.miette_text.specs.rules.Wrapping.{Layout, Word, columns_of, rows, trimmed, wrapped};
+ghost use Rattle.miette_text.specs.rules.Wrapping.{Plan, Word, columns_of, rows, trimmed, wrapped};
 
 /// Wrapping tame parts gives a tame text, and colours can be deleted before or after.
 pub fn wrapping_law()
-    ensures tame { (l : Layout) (text : List ℕ) → AllTame l text → IsTame (wrapped l text) }
-    ensures erase { (l : Layout) (text : List ℕ) → AllTame l text →
-        erase (wrapped l text) ≡ wrapped (colourless l) (erase text) }
+    ensures tame { (p : Plan (List ℕ)) (text : List ℕ) → AllTame p text → IsTame (wrapped p text) }
+    ensures erase { (p : Plan (List ℕ)) (text : List ℕ) → AllTame p text →
+        erase (wrapped p text) ≡ wrapped (colourless p) (erase text) }
 {}
 
 /// The same of joining.
@@ -48,8 +48,8 @@ pub fn columns_law()
 
 /// Where every escape belongs to a colour, colours can be deleted before or after wrapping.
 pub fn colours_law()
-    ensures { (l : Layout) (text : List ℕ) → IsColoured l.first → IsColoured l.further → IsColoured text →
-        erase (wrapped l text) ≡ wrapped (colourless l) (erase text) }
+    ensures { (p : Plan (List ℕ)) (text : List ℕ) → AreColoured p text →
+        erase (wrapped p text) ≡ wrapped (colourless p) (erase text) }
 {}
 
 /// The rows that words fill, by what holds of them: they hold the words in order, and each word begins a row exactly

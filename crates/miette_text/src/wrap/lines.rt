@@ -1,12 +1,10 @@
 //! Lines, wrapped and printed row by row.
 
-ghost use Rattle.std.specs.Prelude.{◌≡◌, ◌≤◌, ◌++◌, ◌∷◌, [], IfOk, OnOk, drop, flat_map, length, map};
+ghost use Rattle.std.specs.Prelude.{◌≡◌, ◌≤◌, ◌++◌, ◌∷◌, [], IfOk, OnOk, drop, flat_map, length};
 ghost use Rattle.miette_text.specs.steps.Ends.{bare_len, line_len, plain_cells};
-ghost use Rattle.miette_text.specs.views.Filling.{lines_from, parts_with};
-ghost use Rattle.miette_text.specs.steps.Printing.{joined_lines, lines_of, row_cells, shown};
 ghost use Rattle.miette_text.specs.rules.Sequences.{spell};
 ghost use Rattle.miette_text.specs.views.Woven.{cells_at, left_at, woven};
-ghost use Rattle.miette_text.specs.rules.Wrapping.{pieces, rows, words};
+ghost use Rattle.miette_text.specs.rules.Wrapping.{cell_tokens, joined, piece_rows, pieces, text_rows, trimmed};
 
 use crate::runs::Parts;
 use crate::runs::cells::{push_all, push_cells, push_marks, push_signs};
@@ -52,8 +50,8 @@ fn push_break<S: Sink>(out: &mut S, further: Parts<'_>) -> Result<(), AllocError
 // A row, from a place in the text up to the end of what is given, without its last spaces. How many marks are used.
 fn push_row<S: Sink>(out: &mut S, start: usize, row: Parts<'_>) -> Result<usize, AllocError>
     requires { start ≤ length row.codes.now }
-    ensures text { OnOk result (S.holds out.new
-        ≡ S.holds out.old ++ S.spells (shown (cells_at start (drop start row.entry.codes.now) row.entry.marks.now))) }
+    ensures text { OnOk result (S.holds out.new ≡ S.holds out.old ++ S.spells (spell (trimmed
+        (flat_map cell_tokens (cells_at start (drop start row.entry.codes.now) row.entry.marks.now))))) }
     ensures left { IfOk result (λ n. drop n row.entry.marks.now
         ≡ left_at start (drop start row.entry.codes.now) row.entry.marks.now) }
     ensures within { IfOk result (λ n. n ≤ length row.entry.marks.now) }
@@ -74,12 +72,10 @@ fn push_rows<S: Sink>(
     line: Parts<'_>,
 ) -> Result<usize, AllocError>
     requires { first ≤ length line.codes.now }
-    ensures text { OnOk result (S.holds out.new
-        ≡ S.holds out.old ++ S.spells (joined_lines []
-        (spell (woven 0 under.entry.further.codes.now under.entry.further.marks.now))
-        (lines_of [] (map row_cells (rows under.entry.room under.entry.further_room
-        (flat_map (parts_with cuts.hyphens cuts.breaks cuts.narrow)
-        (words (cells_at first (drop first line.entry.codes.now) line.entry.marks.now)))))))) }
+    ensures text { OnOk result (S.holds out.new ≡ S.holds out.old ++ S.spells (spell (joined []
+        (woven 0 under.entry.further.codes.now under.entry.further.marks.now)
+        (piece_rows cuts under.entry.room under.entry.further_room
+        (record { cells = cells_at first (drop first line.entry.codes.now) line.entry.marks.now; rest = [] }))))) }
     ensures left { IfOk result (λ n. drop n line.entry.marks.now
         ≡ left_at first (drop first line.entry.codes.now) line.entry.marks.now) }
     ensures within { IfOk result (λ n. n ≤ length line.entry.marks.now) }
@@ -129,10 +125,10 @@ pub(crate) fn push_filled<S: Sink>(
     under: Under<'_>,
     text: Parts<'_>,
 ) -> Result<(), AllocError>
-    ensures { OnOk result (S.holds out.new ≡ S.holds out.old
-        ++ S.spells (joined_lines [] (spell (woven 0 under.entry.further.codes.now under.entry.further.marks.now))
-        (lines_from cuts.hyphens cuts.breaks cuts.narrow under.entry.room under.entry.further_room
-        (pieces (woven 0 text.entry.codes.now text.entry.marks.now))))) }
+    ensures { OnOk result (S.holds out.new ≡ S.holds out.old ++ S.spells (spell (joined []
+        (woven 0 under.entry.further.codes.now under.entry.further.marks.now)
+        (text_rows cuts under.entry.room under.entry.further_room
+        (pieces (woven 0 text.entry.codes.now text.entry.marks.now)))))) }
 {
     let mut start: usize = 0;
     let mut used: usize = 0;

@@ -1,9 +1,10 @@
-use Rattle.std.proofs.Common.{◌≡◌, ◌≤◌, ◌<◌, suc, sym, ◌++◌, ◌-◌, length, take, drop, get_or, ap, ◌∙◌, subst, map, option_map, false, refl, string_bytes, arith, rules}
+use Rattle.std.proofs.Common.{◌≡◌, ◌≤◌, ◌<◌, suc, sym, ◌++◌, ◌-◌, length, take, drop, get_or, ap, ◌∙◌, subst, map, option_map, false, refl, string_bytes, arith, rules, List}
 use Rattle.miette_text.specs.rules.Cutting.{without_leading, without_trailing}
 use Rattle.miette_text.specs.rules.Sequences.{spell}
 use Rattle.miette_tree.specs.rules.Tree.{effective, head, texts, trees, cause_of, related_of, source_of}
 use Rattle.miette_tree.specs.views.Report.{tree_of}
-use Rattle.miette_layout.specs.rules.Highlighted.{leaves_plain}
+use Rattle.miette_style.specs.rules.Asked.{Call, Leads}
+use Rattle.miette_layout.specs.rules.Highlighted.{AreCallsOn, follows, leaves_plain}
 use Rattle.miette_tree.specs.views.Owned.{shown_source}
 use Rattle.miette_graphical.specs.rules.Answered.{IsBelow, AreCauses, AreRelated, IsInner, IsOneCause, IsOneRelated}
 use Rattle.miette_tree.specs.views.Handler.{AppendsOne}
@@ -13,13 +14,13 @@ use Rattle.miette_graphical.specs.rules.Indents.{narrowed}
 use Rattle.miette_graphical.specs.rules.Parts.{help_text, under_arrow}
 use Rattle.miette_graphical.specs.rules.Text.{are_last, ends_there}
 use Rattle.miette_graphical.specs.views.SettingsView.{settings_of}
-use Rattle.miette_graphical.proofs.Remaining.{CausesRemain, RelatedRemain, all_remain, cause_printed, related_printed, first_falls, texts_shown}
+use Rattle.miette_graphical.proofs.Remaining.{CausesRemain, RelatedRemain, all_remain, cause_printed, causes_appended, related_printed, related_appended, first_falls, texts_shown}
 use Rattle.miette_graphical.proofs.Sizes.{tree_size, cause_size, trees_size, related_falls}
 use Rattle.miette_graphical.proofs.Steps.{cause_texts_behind, no_related_behind, below_behind, inner_whole, sibling_behind, first_and_more, one_cause_fails, inner_rows_fail, inner_related_fail, sibling_causes_fail, sibling_below_fails, one_related_fails}
 use Rattle.miette_graphical.proofs.report.+report.Goals as goal
 
 pub push_causes-loop-next-init : goal.push_causes-loop-next-init
-push_causes-loop-next-init g t c = (all_remain _ _ _ _ _, refl)
+push_causes-loop-next-init g t c = (all_remain _ _ _ _ _ _ _ _, refl)
 
 pub push_causes-push_one_cause-requires : goal.push_causes-push_one_cause-requires
 push_causes-push_one_cause-requires g t c =
@@ -35,6 +36,9 @@ push_causes-push_one_cause-requires g t c =
 pub push_causes-loop-next-preserved : goal.push_causes-loop-next-preserved
 push_causes-loop-next-preserved g t c =
     let blank = leaves_plain g.H.Highlighter.is_blank c.args.pen.now.highlighter in
+    let begun : List Call → Type 0 = follows g.H.Highlighter.may_follow c.args.pen.now.highlighter in
+    let was : List Call → Type 0 = follows g.H.Highlighter.may_follow c.loop-next.pen.highlighter in
+    let next : List Call → Type 0 = follows g.H.Highlighter.may_follow c.push_one_cause.new.pen.highlighter in
     let s = settings_of c.args.layout in
     let outer = c.args.outer in
     let inherited = option_map (shown_source g.S.SourceCode.source) c.args.inherited in
@@ -44,9 +48,9 @@ push_causes-loop-next-preserved g t c =
     let old = c.args.out.now in
     let now = c.loop-next.out in
     let new = c.push_one_cause.new.out in
-    let remain = subst (λ x. CausesRemain drawn_rows s blank outer inherited all x old now) (sym c.in-Diagnostic.ensures.value) c.loop-next.invariant.0 in
-    let one = subst (λ b. AppendsOne (IsOneCause drawn_rows s b outer inherited cause) now new) c.loop-next.invariant.1 c.in_ok-push_one_cause.ensures.ok in
-    (cause_printed drawn_rows s blank outer inherited all cause old now new remain one, c.push_one_cause.ensures.stays ∙ c.loop-next.invariant.1)
+    let remain = subst (λ x. CausesRemain drawn_rows s blank begun was outer inherited all x old now) (sym c.in-Diagnostic.ensures.value) c.loop-next.invariant.0 in
+    let one = subst (λ b. AppendsOne (IsOneCause drawn_rows s b (λ calls. Leads was calls next) outer inherited cause) now new) c.loop-next.invariant.1 c.in_ok-push_one_cause.ensures.ok in
+    (cause_printed drawn_rows s blank begun was next outer inherited all cause old now new remain one, c.push_one_cause.ensures.stays ∙ c.loop-next.invariant.1)
 
 pub push_causes-returns-in_err-push_one_cause-clause-refused : goal.push_causes-returns-in_err-push_one_cause-clause-refused
 push_causes-returns-in_err-push_one_cause-clause-refused g t c = λ h.
@@ -59,17 +63,20 @@ push_causes-returns-in_err-push_one_cause-clause-refused g t c = λ h.
 pub push_causes-returns-clause-ok : goal.push_causes-returns-clause-ok
 push_causes-returns-clause-ok g t c =
     let blank = leaves_plain g.H.Highlighter.is_blank c.args.pen.now.highlighter in
+    let begun : List Call → Type 0 = follows g.H.Highlighter.may_follow c.args.pen.now.highlighter in
+    let was : List Call → Type 0 = follows g.H.Highlighter.may_follow c.loop-next.pen.highlighter in
     let s = settings_of c.args.layout in
     let outer = c.args.outer in
     let inherited = option_map (shown_source g.S.SourceCode.source) c.args.inherited in
+    let all = cause_of (tree_of g.D.Diagnostic.meaning g.S.SourceCode.source c.args.report.now) in
     let left = cause_of (tree_of g.D.Diagnostic.meaning g.S.SourceCode.source c.loop-next.at.now) in
     let ts = map string_bytes c.cause_texts.result.now in
     let now = c.loop-next.out in
     let new = c.push_cause_texts.new.out in
     let last : texts ts ≡ left =
     ap texts c.cause_texts.ensures ∙ texts_shown g.D.Diagnostic.meaning g.S.SourceCode.source c.cause.result left c.cause.ensures.value c.in_default.not-Diagnostic in
-    c.loop-next.invariant.0.appends new
-    (subst (λ x. AppendsOne (AreCauses drawn_rows s blank outer inherited x) now new) last (cause_texts_behind drawn_rows s blank outer inherited ts now new c.in_ok-push_cause_texts.ensures))
+    causes_appended drawn_rows s blank begun was was outer inherited all left c.args.out.now now new c.loop-next.invariant.0
+    (subst (λ x. AppendsOne (AreCauses drawn_rows s blank (λ calls. Leads was calls was) outer inherited x) now new) last (cause_texts_behind drawn_rows s blank was outer inherited ts now new c.in_ok-push_cause_texts.ensures))
 
 pub push_one_cause-returns-clause-ok : goal.push_one_cause-returns-clause-ok
 push_one_cause-returns-clause-ok g t c =
@@ -79,12 +86,13 @@ push_one_cause-returns-clause-ok g t c =
     let value = tree_of g.D.Diagnostic.meaning g.S.SourceCode.source c.args.cause.now in
     let own = option_map (shown_source g.S.SourceCode.source) c.own_or.result in
     let inner = spell c.in_ok-inner.inner in
+    let happen = AreCallsOn g.H.Highlighter.may_follow c.args.pen.now.highlighter c.inner_text.new.pen.highlighter in
     let narrow : settings_of c.in_ok-narrow.narrow ≡ narrowed s outer (ends_there (cause_of value)) = c.in_ok-narrow.ensures ∙ ap (narrowed s outer) c.ends_there.ensures in record {
       text = under_arrow s outer (ends_there (cause_of value)) inner;
       is_given = (
         inner,
-        subst (λ o. IsInner drawn_rows (narrowed s outer (ends_there (cause_of value))) blank o value inner) c.own_or.ensures
-            (subst (λ n. IsInner drawn_rows n blank own value inner) narrow c.in_ok-inner.ensures.ok),
+        subst (λ o. IsInner drawn_rows (narrowed s outer (ends_there (cause_of value))) blank happen o value inner) c.own_or.ensures
+            (subst (λ n. IsInner drawn_rows n blank happen own value inner) narrow c.in_ok-inner.ensures.ok),
         refl,
       );
       appended = c.in_ok-push_under_arrow.ensures ∙ ap (λ b. c.args.out.now ++ under_arrow s outer b inner) c.ends_there.ensures;
@@ -96,7 +104,7 @@ inner_text-returns-clause-ok g t c =
     let s = settings_of c.args.layout in
     let source = option_map (shown_source g.S.SourceCode.source) c.args.source in
     let value = tree_of g.D.Diagnostic.meaning g.S.SourceCode.source c.args.report.now in
-    inner_whole drawn_rows s blank source value c.collected-text.result c.push_header_of.new.out c.push_message_of.new.out c.push_below.new.out (spell c.in_ok-without_leading.field-0)
+    inner_whole drawn_rows s blank (AreCallsOn g.H.Highlighter.may_follow c.args.pen.now.highlighter c.push_below.new.pen.highlighter) source value c.collected-text.result c.push_header_of.new.out c.push_message_of.new.out c.push_below.new.out (spell c.in_ok-without_leading.field-0)
     c.collected-text.ensures c.in_ok-push_header_of.ensures.text c.in_ok-push_message_of.ensures c.in_ok-push_below.ensures.ok (c.in_ok-without_leading.ensures ∙ ap without_leading c.in_ok-runs.ensures)
 
 pub push_below-returns-in_err-push_rows-clause-refused : goal.push_below-returns-in_err-push_rows-clause-refused
@@ -114,6 +122,9 @@ push_below-returns-in_err-push_related-clause-refused g t c = λ h.
 pub push_below-returns-clause-ok : goal.push_below-returns-clause-ok
 push_below-returns-clause-ok g t c =
     let blank = leaves_plain g.H.Highlighter.is_blank c.args.pen.now.highlighter in
+    let begun : List Call → Type 0 = follows g.H.Highlighter.may_follow c.args.pen.now.highlighter in
+    let mid : List Call → Type 0 = follows g.H.Highlighter.may_follow c.push_rows.new.pen.highlighter in
+    let now : List Call → Type 0 = follows g.H.Highlighter.may_follow c.push_related.new.pen.highlighter in
     let s = settings_of c.args.layout in
     let source = option_map (shown_source g.S.SourceCode.source) c.args.source in
     let value = tree_of g.D.Diagnostic.meaning g.S.SourceCode.source c.args.report.now in
@@ -122,11 +133,11 @@ push_below-returns-clause-ok g t c =
     let new = c.push_related.new.out in
     let given = trees (map (tree_of g.D.Diagnostic.meaning g.S.SourceCode.source) c.related-related.result.now) in
     let help : helped ≡ drawn ++ help_text s (head value).help = c.in_ok-push_help.ensures ∙ ap (λ o. drawn ++ help_text s o) c.help.ensures in
-    let related : AppendsOne (AreRelated drawn_rows s blank (head value).severity source (related_of value)) helped new =
-    subst (λ v. AppendsOne (AreRelated drawn_rows s blank v source (related_of value)) helped new) c.severity.ensures
-    (subst (λ r. AppendsOne (AreRelated drawn_rows s blank c.severity.result source r) helped new) c.related-related.ensures
-    (subst (λ b. AppendsOne (AreRelated drawn_rows s b c.severity.result source given) helped new) c.push_rows.ensures.stays c.in_ok-push_related.ensures.ok)) in
-    below_behind drawn_rows s blank source value c.args.out.now drawn helped new c.in_ok-push_rows.ensures.ok help related
+    let related : AppendsOne (AreRelated drawn_rows s blank (λ calls. Leads mid calls now) (head value).severity source (related_of value)) helped new =
+    subst (λ v. AppendsOne (AreRelated drawn_rows s blank (λ calls. Leads mid calls now) v source (related_of value)) helped new) c.severity.ensures
+    (subst (λ r. AppendsOne (AreRelated drawn_rows s blank (λ calls. Leads mid calls now) c.severity.result source r) helped new) c.related-related.ensures
+    (subst (λ b. AppendsOne (AreRelated drawn_rows s b (λ calls. Leads mid calls now) c.severity.result source given) helped new) c.push_rows.ensures.stays c.in_ok-push_related.ensures.ok)) in
+    below_behind drawn_rows s blank begun mid now source value c.args.out.now drawn helped new c.in_ok-push_rows.ensures.ok help related
 
 pub push_sibling-returns-in_err-push_causes-clause-refused : goal.push_sibling-returns-in_err-push_causes-clause-refused
 push_sibling-returns-in_err-push_causes-clause-refused g t c = λ h.
@@ -141,6 +152,9 @@ push_sibling-returns-in_err-push_below-clause-refused g t c = λ h.
 pub push_sibling-returns-clause-ok : goal.push_sibling-returns-clause-ok
 push_sibling-returns-clause-ok g t c =
     let blank = leaves_plain g.H.Highlighter.is_blank c.args.pen.now.highlighter in
+    let begun : List Call → Type 0 = follows g.H.Highlighter.may_follow c.args.pen.now.highlighter in
+    let mid : List Call → Type 0 = follows g.H.Highlighter.may_follow c.push_causes.new.pen.highlighter in
+    let now : List Call → Type 0 = follows g.H.Highlighter.may_follow c.push_below.new.pen.highlighter in
     let s = settings_of c.args.layout in
     let source = option_map (shown_source g.S.SourceCode.source) c.args.source in
     let value = tree_of g.D.Diagnostic.meaning g.S.SourceCode.source c.args.report.now in
@@ -148,11 +162,11 @@ push_sibling-returns-clause-ok g t c =
     let told = c.push_message_of.new.out in
     let caused = c.push_causes.new.out in
     let new = c.push_below.new.out in
-    let causes : AppendsOne (AreCauses drawn_rows s blank (head value).severity source (cause_of value)) told caused =
-    subst (λ v. AppendsOne (AreCauses drawn_rows s blank v source (cause_of value)) told caused) c.severity.ensures c.in_ok-push_causes.ensures.ok in
-    let below : AppendsOne (IsBelow drawn_rows s blank source value) caused new =
-    subst (λ b. AppendsOne (IsBelow drawn_rows s b source value) caused new) c.push_causes.ensures.stays c.in_ok-push_below.ensures.ok in
-    sibling_behind drawn_rows s blank source value c.args.out.now titled told caused new c.in_ok-push_title.ensures c.in_ok-push_message_of.ensures causes below
+    let causes : AppendsOne (AreCauses drawn_rows s blank (λ calls. Leads begun calls mid) (head value).severity source (cause_of value)) told caused =
+    subst (λ v. AppendsOne (AreCauses drawn_rows s blank (λ calls. Leads begun calls mid) v source (cause_of value)) told caused) c.severity.ensures c.in_ok-push_causes.ensures.ok in
+    let below : AppendsOne (IsBelow drawn_rows s blank (λ calls. Leads mid calls now) source value) caused new =
+    subst (λ b. AppendsOne (IsBelow drawn_rows s b (λ calls. Leads mid calls now) source value) caused new) c.push_causes.ensures.stays c.in_ok-push_below.ensures.ok in
+    sibling_behind drawn_rows s blank begun mid now source value c.args.out.now titled told caused new c.in_ok-push_title.ensures c.in_ok-push_message_of.ensures causes below
 
 pub push_nested-returns-clause-ok : goal.push_nested-returns-clause-ok
 push_nested-returns-clause-ok g t c =
@@ -162,14 +176,15 @@ push_nested-returns-clause-ok g t c =
     let last = c.args.branch.is_last in
     let source = option_map (shown_source g.S.SourceCode.source) c.args.source in
     let value = tree_of g.D.Diagnostic.meaning g.S.SourceCode.source c.args.report.now in
+    let happen = AreCallsOn g.H.Highlighter.may_follow c.args.pen.now.highlighter c.inner_text.new.pen.highlighter in
     let inner = spell c.in_ok-inner.inner in record {
       text = under_arrow s outer last (without_trailing inner);
-      is_given = (inner, subst (λ n. IsInner drawn_rows n blank source value inner) c.in_ok-narrow.ensures c.in_ok-inner.ensures.ok, refl);
+      is_given = (inner, subst (λ n. IsInner drawn_rows n blank happen source value inner) c.in_ok-narrow.ensures c.in_ok-inner.ensures.ok, refl);
       appended = c.in_ok-push_under_arrow.ensures ∙ ap (λ x. c.args.out.now ++ under_arrow s outer last x) c.in_ok-cut.ensures;
     }
 
 pub push_related-loop-rest-init : goal.push_related-loop-rest-init
-push_related-loop-rest-init g t c = (all_remain _ _ _ _ _, refl)
+push_related-loop-rest-init g t c = (all_remain _ _ _ _ _ _ _ _, refl)
 
 pub push_related-push_one_related-requires : goal.push_related-push_one_related-requires
 push_related-push_one_related-requires g t c =
@@ -184,6 +199,9 @@ push_related-push_one_related-requires g t c =
 pub push_related-loop-rest-preserved : goal.push_related-loop-rest-preserved
 push_related-loop-rest-preserved g t c =
     let blank = leaves_plain g.H.Highlighter.is_blank c.args.pen.now.highlighter in
+    let begun : List Call → Type 0 = follows g.H.Highlighter.may_follow c.args.pen.now.highlighter in
+    let was : List Call → Type 0 = follows g.H.Highlighter.may_follow c.loop-rest.pen.highlighter in
+    let next : List Call → Type 0 = follows g.H.Highlighter.may_follow c.push_one_related.new.pen.highlighter in
     let s = settings_of c.args.layout in
     let outer = c.args.outer in
     let inherited = option_map (shown_source g.S.SourceCode.source) c.args.inherited in
@@ -196,13 +214,13 @@ push_related-loop-rest-preserved g t c =
     let old = c.args.out.now in
     let now = c.loop-rest.out in
     let new = c.push_one_related.new.out in
-    let remain = subst (λ ts. RelatedRemain drawn_rows s blank outer inherited all ts old now) (sym (first_and_more value rs item c.in-len1-up.len_at_least)) c.loop-rest.invariant.0 in
-    let one : AppendsOne (IsOneRelated drawn_rows s blank outer (effective (source_of (value first)) inherited) (are_last (trees (map value more))) (value first)) now new =
-    subst (λ b. AppendsOne (IsOneRelated drawn_rows s blank outer (effective (source_of (value first)) inherited) b (value first)) now new) c.are_last.ensures
-    (subst (λ r. AppendsOne (IsOneRelated drawn_rows s blank outer (effective (source_of (value r)) inherited) c.are_last.result (value r)) now new) c.report-item.is
-    (subst (λ o. AppendsOne (IsOneRelated drawn_rows s blank outer o c.are_last.result (value item)) now new) c.own_or-source.ensures
-    (subst (λ b. AppendsOne (IsOneRelated drawn_rows s b outer (option_map (shown_source g.S.SourceCode.source) c.own_or-source.result) c.are_last.result (value item)) now new) c.loop-rest.invariant.1 c.in_ok-push_one_related.ensures.ok))) in
-    (related_printed drawn_rows s blank outer inherited all (value first) (trees (map value more)) old now new remain one, c.push_one_related.ensures.stays ∙ c.loop-rest.invariant.1)
+    let remain = subst (λ ts. RelatedRemain drawn_rows s blank begun was outer inherited all ts old now) (sym (first_and_more value rs item c.in-len1-up.len_at_least)) c.loop-rest.invariant.0 in
+    let one : AppendsOne (IsOneRelated drawn_rows s blank (λ calls. Leads was calls next) outer (effective (source_of (value first)) inherited) (are_last (trees (map value more))) (value first)) now new =
+    subst (λ b. AppendsOne (IsOneRelated drawn_rows s blank (λ calls. Leads was calls next) outer (effective (source_of (value first)) inherited) b (value first)) now new) c.are_last.ensures
+    (subst (λ r. AppendsOne (IsOneRelated drawn_rows s blank (λ calls. Leads was calls next) outer (effective (source_of (value r)) inherited) c.are_last.result (value r)) now new) c.report-item.is
+    (subst (λ o. AppendsOne (IsOneRelated drawn_rows s blank (λ calls. Leads was calls next) outer o c.are_last.result (value item)) now new) c.own_or-source.ensures
+    (subst (λ b. AppendsOne (IsOneRelated drawn_rows s b (λ calls. Leads was calls next) outer (option_map (shown_source g.S.SourceCode.source) c.own_or-source.result) c.are_last.result (value item)) now new) c.loop-rest.invariant.1 c.in_ok-push_one_related.ensures.ok))) in
+    (related_printed drawn_rows s blank begun was next outer inherited all (value first) (trees (map value more)) old now new remain one, c.push_one_related.ensures.stays ∙ c.loop-rest.invariant.1)
 
 pub push_related-returns-in_err-push_one_related-clause-refused : goal.push_related-returns-in_err-push_one_related-clause-refused
 push_related-returns-in_err-push_one_related-clause-refused g t c = λ h.
@@ -221,8 +239,11 @@ push_related-returns-in_err-push_one_related-clause-refused g t c = λ h.
 pub push_related-returns-clause-ok : goal.push_related-returns-clause-ok
 push_related-returns-clause-ok g t c =
     let blank = leaves_plain g.H.Highlighter.is_blank c.args.pen.now.highlighter in
+    let begun : List Call → Type 0 = follows g.H.Highlighter.may_follow c.args.pen.now.highlighter in
+    let was : List Call → Type 0 = follows g.H.Highlighter.may_follow c.loop-rest.pen.highlighter in
     let s = settings_of c.args.layout in
     let now = c.loop-rest.out in
-    c.loop-rest.invariant.0.appends now
-    (no_related_behind drawn_rows s blank c.args.outer (option_map (shown_source g.S.SourceCode.source) c.args.inherited)
-    (tree_of g.D.Diagnostic.meaning g.S.SourceCode.source) c.loop-rest.rest.now now c.in_default.len_below)
+    let inherited = option_map (shown_source g.S.SourceCode.source) c.args.inherited in
+    let value = tree_of g.D.Diagnostic.meaning g.S.SourceCode.source in
+    related_appended drawn_rows s blank begun was was c.args.outer inherited (trees (map value c.args.reports.now)) (trees (map value c.loop-rest.rest.now)) c.args.out.now now now c.loop-rest.invariant.0
+    (no_related_behind drawn_rows s blank was c.args.outer inherited value c.loop-rest.rest.now now c.in_default.len_below)

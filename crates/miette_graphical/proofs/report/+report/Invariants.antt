@@ -1,5 +1,5 @@
 use Rattle.std.proofs.Common.{◌≡◌, length, map, option_map, suc}
-use Rattle.miette_layout.specs.rules.Highlighted.{leaves_plain}
+use Rattle.miette_layout.specs.rules.Highlighted.{follows, leaves_plain}
 use Rattle.miette_tree.specs.views.Owned.{shown_source}
 use Rattle.miette_tree.specs.rules.Tree.{trees, cause_of, related_of}
 use Rattle.miette_tree.specs.views.Report.{tree_of}
@@ -40,7 +40,9 @@ abbrev pub invariant-push_causes-loop-next : goal.invariant-push_causes-loop-nex
 invariant-push_causes-loop-next g l =
     let value = tree_of g.D.Diagnostic.meaning g.S.SourceCode.source in
     let blank = leaves_plain g.H.Highlighter.is_blank l.fn.pen.highlighter in
-    CausesRemain drawn_rows (settings_of l.layout) blank l.outer (option_map (shown_source g.S.SourceCode.source) l.inherited) (cause_of (value l.report)) (cause_of (value l.at)) l.fn.out l.out
+    let begun = follows g.H.Highlighter.may_follow l.fn.pen.highlighter in
+    let state = follows g.H.Highlighter.may_follow l.pen.highlighter in
+    CausesRemain drawn_rows (settings_of l.layout) blank begun state l.outer (option_map (shown_source g.S.SourceCode.source) l.inherited) (cause_of (value l.report)) (cause_of (value l.at)) l.fn.out l.out
     × (leaves_plain g.H.Highlighter.is_blank l.pen.highlighter ≡ blank)
 
 abbrev pub decreases-push_related-loop-rest : goal.decreases-push_related-loop-rest
@@ -50,5 +52,7 @@ abbrev pub invariant-push_related-loop-rest : goal.invariant-push_related-loop-r
 invariant-push_related-loop-rest g l =
     let value = tree_of g.D.Diagnostic.meaning g.S.SourceCode.source in
     let blank = leaves_plain g.H.Highlighter.is_blank l.fn.pen.highlighter in
-    RelatedRemain drawn_rows (settings_of l.layout) blank l.outer (option_map (shown_source g.S.SourceCode.source) l.inherited) (trees (map value l.reports)) (trees (map value l.rest)) l.fn.out l.out
+    let begun = follows g.H.Highlighter.may_follow l.fn.pen.highlighter in
+    let state = follows g.H.Highlighter.may_follow l.pen.highlighter in
+    RelatedRemain drawn_rows (settings_of l.layout) blank begun state l.outer (option_map (shown_source g.S.SourceCode.source) l.inherited) (trees (map value l.reports)) (trees (map value l.rest)) l.fn.out l.out
     × (leaves_plain g.H.Highlighter.is_blank l.pen.highlighter ≡ blank)

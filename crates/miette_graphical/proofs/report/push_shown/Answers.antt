@@ -1,5 +1,6 @@
-use Rattle.std.proofs.Common.{◌≡◌, [], Some, refl, sym, ◌∙◌}
-use Rattle.miette_layout.specs.rules.Highlighted.{leaves_plain}
+use Rattle.std.proofs.Common.{◌≡◌, [], List, Some, refl, sym, ◌∙◌}
+use Rattle.miette_style.specs.rules.Asked.{Call, Leads}
+use Rattle.miette_layout.specs.rules.Highlighted.{follows, leaves_plain}
 use Rattle.miette_tree.specs.views.Owned.{shown_source}
 use Rattle.miette_tree.specs.views.Report.{tree_of}
 use Rattle.miette_tree.specs.rules.Tree.{head}
@@ -16,6 +17,7 @@ returns-in-empty-clause-ok g c =
     let m = head (tree_of g.D.Diagnostic.meaning g.S.SourceCode.source c.args.report.now) in
     let s = settings_of c.args.layout in
     let blank = leaves_plain g.H.Highlighter.is_blank c.args.pen.now.highlighter in
+    let now : List Call → Type 0 = follows g.H.Highlighter.may_follow c.args.pen.now.highlighter in
     let source = shown_source g.S.SourceCode.source c.args.source in
     let none : given_labels m.labels ≡ [] = sym c.labels_of-labels.ensures ∙ empty_list c.labels_of-labels.result.now c.in-empty.len_below in
-    nothing_behind (IsDrawn drawn_rows s blank (Some source) m) c.args.out.now (drawn_unlabelled s blank source m [] none refl)
+    nothing_behind (IsDrawn drawn_rows s blank (λ calls. Leads now calls now) (Some source) m) c.args.out.now (drawn_unlabelled s blank now source m [] none refl)

@@ -1,7 +1,8 @@
-use Rattle.std.proofs.Common.{◌≡◌, subst, option_map, false, rules}
+use Rattle.std.proofs.Common.{◌≡◌, subst, option_map, false, rules, List}
 use Rattle.miette_tree.specs.rules.Tree.{source_of}
 use Rattle.miette_tree.specs.views.Report.{tree_of}
-use Rattle.miette_layout.specs.rules.Highlighted.{leaves_plain}
+use Rattle.miette_style.specs.rules.Asked.{Call, Leads}
+use Rattle.miette_layout.specs.rules.Highlighted.{follows, leaves_plain}
 use Rattle.miette_tree.specs.views.Owned.{shown_source}
 use Rattle.miette_graphical.specs.rules.Answered.{IsBelow}
 use Rattle.miette_tree.specs.views.Handler.{AppendsOne}
@@ -24,13 +25,16 @@ returns-in_err-push_below-clause-refused g c = λ h.
 pub returns-clause-ok : goal.returns-clause-ok
 returns-clause-ok g c =
     let blank = leaves_plain g.H.Highlighter.is_blank c.args.pen.now.highlighter in
+    let begun : List Call → Type 0 = follows g.H.Highlighter.may_follow c.args.pen.now.highlighter in
+    let mid : List Call → Type 0 = follows g.H.Highlighter.may_follow c.push_root_causes.new.pen.highlighter in
+    let now : List Call → Type 0 = follows g.H.Highlighter.may_follow c.push_below.new.pen.highlighter in
     let s = settings_of c.args.layout in
     let value = tree_of g.D.Diagnostic.meaning g.S.SourceCode.source c.args.report.now in
     let source = option_map (shown_source g.S.SourceCode.source) c.source_code.result in
     let caused = c.push_root_causes.new.out in
     let drawn = c.push_below.new.out in
-    let below : AppendsOne (IsBelow drawn_rows s blank (source_of value) value) caused drawn =
-    subst (λ o. AppendsOne (IsBelow drawn_rows s blank o value) caused drawn) c.source_code.ensures
-    (subst (λ b. AppendsOne (IsBelow drawn_rows s b source value) caused drawn) c.push_root_causes.ensures.stays c.in_ok-push_below.ensures.ok) in
-    report_whole drawn_rows s blank value c.printed-text.result c.push_header_of.new.out c.push_message_of.new.out caused drawn c.push_footer.new.out
+    let below : AppendsOne (IsBelow drawn_rows s blank (λ calls. Leads mid calls now) (source_of value) value) caused drawn =
+    subst (λ o. AppendsOne (IsBelow drawn_rows s blank (λ calls. Leads mid calls now) o value) caused drawn) c.source_code.ensures
+    (subst (λ b. AppendsOne (IsBelow drawn_rows s b (λ calls. Leads mid calls now) source value) caused drawn) c.push_root_causes.ensures.stays c.in_ok-push_below.ensures.ok) in
+    report_whole drawn_rows s blank begun mid now value c.printed-text.result c.push_header_of.new.out c.push_message_of.new.out caused drawn c.push_footer.new.out
     c.printed-text.ensures c.in_ok-push_header_of.ensures.text c.in_ok-push_message_of.ensures c.in_ok-push_root_causes.ensures.ok below c.in_ok-push_footer.ensures

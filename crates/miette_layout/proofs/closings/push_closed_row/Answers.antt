@@ -3,7 +3,7 @@ use Rattle.miette_layout.specs.rules.Frames.{other_start}
 use Rattle.miette_layout.specs.rules.Gutters.{other_gutter}
 use Rattle.miette_lines.specs.views.Given.{drawn_of, width_of}
 use Rattle.miette_layout.specs.steps.Sheets.{settings, multi_labels}
-use Rattle.miette_lines.specs.views.TextLines.{line_of_text}
+use Rattle.miette_newlines.specs.views.Walking.{line_of_text}
 use Rattle.miette_layout.proofs.Closing.{closed_put}
 use Rattle.miette_layout.proofs.closings.push_closed_row.Goals as goal
 use Rattle.miette_style.specs.rules.Themes.{characters_of}

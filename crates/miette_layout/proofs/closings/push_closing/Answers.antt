@@ -4,7 +4,7 @@ use Rattle.miette_lines.specs.rules.Labels.{parts_of}
 use Rattle.miette_layout.specs.rules.Frames.{other_start}
 use Rattle.miette_lines.specs.views.Given.{drawn_of, width_of}
 use Rattle.miette_layout.specs.steps.Sheets.{settings, multi_labels}
-use Rattle.miette_lines.specs.views.TextLines.{line_of_text}
+use Rattle.miette_newlines.specs.views.Walking.{line_of_text}
 use Rattle.miette_layout.proofs.Closing.{several_closing}
 use Rattle.miette_layout.proofs.closings.push_closing.Goals as goal
 use Rattle.miette_style.specs.rules.Themes.{characters_of}

@@ -1,3 +1,4 @@
+use Rattle.miette_page.specs.views.Printouts.{◌⊕◌}
 use Rattle.std.proofs.Common.{[], ◌∷◌, ◌++◌, ◌≡◌, ◌∙◌, cond, true, ap, sym, replicate, rules}
 use Rattle.std.specs.Prelude.{codes, ◌&&◌}
 use Rattle.miette_page.specs.rules.Rows.{styled}
@@ -14,4 +15,4 @@ returns-then-frame c =
     let shown : (c.args.several && c.args.frame.now.options.primary_start) ≡ true = search rules in
     bare_put width_of (place_text (place_at c.args.place)) c.args.page.now c.push_line.new.self c.push_place.new.page c.push.new.self
     c.in_ok-push_line.ensures c.in_ok-push_place.ensures c.in_ok-push.ensures
-    ∙ ap (λ b. c.args.page.now ++ told (cond b (styled width_of plain (codes "[" ++ place_text (place_at c.args.place) ++ codes "]") ∷ []) (styled width_of plain (replicate 3 c.args.frame.now.theme.now.characters.hbar) ∷ []))) (sym shown)
+    ∙ ap (λ b. c.args.page.now ⊕ told (cond b (styled width_of plain (codes "[" ++ place_text (place_at c.args.place) ++ codes "]") ∷ []) (styled width_of plain (replicate 3 c.args.frame.now.theme.now.characters.hbar) ∷ []))) (sym shown)

@@ -1,3 +1,4 @@
+use Rattle.miette_page.specs.views.Printouts.{◌⊕◌}
 use Rattle.std.proofs.Common.{[], ◌∷◌, ◌++◌, ◌∙◌, ap}
 use Rattle.std.specs.Prelude.{codes, chars, decimal}
 use Rattle.miette_page.specs.rules.Rows.{Row, styled}
@@ -22,10 +23,10 @@ returns c =
     row_done (refused_front (settings_of c.args.frame.now.theme.now c.args.frame.now.options) c.args.label.now ++ offset) c.args.page.now c.push_ascii-3.new.page c.end_row.new.self
     (parts_then (refused_front (settings_of c.args.frame.now.theme.now c.args.frame.now.options) c.args.label.now) offset c.args.page.now c.push_refused_text.new.page c.push_ascii-3.new.page c.in_ok-push_refused_text.ensures
     (run_then width_of link (decimal c.args.label.now.span.offset) length c.push_refused_text.new.page c.push_count.new.page c.push_ascii-3.new.page
-    (c.in_ok-push_count.ensures ∙ ap (λ n. c.push_refused_text.new.page ++ run_told link (decimal n)) c.offset.ensures)
+    (c.in_ok-push_count.ensures ∙ ap (λ n. c.push_refused_text.new.page ⊕ run_told link (decimal n)) c.offset.ensures)
     (run_then width_of plain (codes ", length: ") many c.push_count.new.page c.push_ascii.new.page c.push_ascii-3.new.page c.in_ok-push_ascii.ensures
     (run_then width_of link (decimal c.args.label.now.span.len) close c.push_ascii.new.page c.push_count-2.new.page c.push_ascii-3.new.page
-    (c.in_ok-push_count-2.ensures ∙ ap (λ n. c.push_ascii.new.page ++ run_told link (decimal n)) c.len.ensures)
+    (c.in_ok-push_count-2.ensures ∙ ap (λ n. c.push_ascii.new.page ⊕ run_told link (decimal n)) c.len.ensures)
     (run_then width_of plain (codes "): ") name c.push_count-2.new.page c.push_ascii-2.new.page c.push_ascii-3.new.page c.in_ok-push_ascii-2.ensures
     (run_then width_of c.args.frame.now.theme.now.styles.warning (chars c.args.name.now) last c.push_ascii-2.new.page c.push_styled.new.page c.push_ascii-3.new.page c.in_ok-push_styled.ensures
     (run_last width_of plain (codes "]") c.push_styled.new.page c.push_ascii-3.new.page c.in_ok-push_ascii-3.ensures)))))))

@@ -1,7 +1,7 @@
 use Rattle.std.proofs.Common.{◌∙◌, map, drop, get_or, ◌+◌, sym}
 use Rattle.miette_lines.specs.views.Sweeping.{nothing}
 use Rattle.miette_lines.specs.views.Given.{drawn_of, width_of}
-use Rattle.miette_lines.specs.views.TextLines.{line_of_text}
+use Rattle.miette_newlines.specs.views.Walking.{line_of_text}
 use Rattle.miette_layout.specs.rules.Gutters.{number_gutter}
 use Rattle.miette_layout.proofs.Telling.{blank_row}
 use Rattle.miette_layout.proofs.Guttering.{at_end, at_last, number_starts, number_ends}

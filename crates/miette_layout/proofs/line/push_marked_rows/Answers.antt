@@ -1,3 +1,4 @@
+use Rattle.miette_page.specs.views.Printouts.{◌⊕◌}
 use Rattle.std.proofs.Common.{◌∙◌, ◌++◌, ◌<◌, ap, map, [], length, rules}
 use Rattle.miette_layout.specs.rules.Drawing.{mark_runs, rows_below}
 use Rattle.miette_page.specs.views.Told.{told_rows}
@@ -16,4 +17,4 @@ returns c =
     (rows_below width_of (characters_of c.args.sheet.now.theme.now.characters) [] (map (mark_of c.args.sheet.now.labels.now) c.args.marks.now))
     c.args.page.now c.push_before_marks.new.page c.push_marks.new.page c.end_row.new.self c.push_texts.new.page
     c.in_ok-push_before_marks.ensures c.in_ok-push_marks.ensures c.in_ok-end_row.ensures c.in_ok-push_texts.ensures
-    ∙ ap (λ rows. c.args.page.now ++ told_rows (before_each (before_marks c.args.sheet.now) rows)) (marked_some width_of (characters_of c.args.sheet.now.theme.now.characters) (mark_of c.args.sheet.now.labels.now) c.args.marks.now some)
+    ∙ ap (λ rows. c.args.page.now ⊕ told_rows (before_each (before_marks c.args.sheet.now) rows)) (marked_some width_of (characters_of c.args.sheet.now.theme.now.characters) (mark_of c.args.sheet.now.labels.now) c.args.marks.now some)

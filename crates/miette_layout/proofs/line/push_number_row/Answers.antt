@@ -3,9 +3,9 @@ use Rattle.miette_layout.specs.rules.PrintedCells.{line_runs}
 use Rattle.miette_layout.specs.rules.Frames.{number_start}
 use Rattle.miette_layout.specs.rules.Gutters.{number_gutter}
 use Rattle.miette_lines.specs.views.Given.{width_of}
-use Rattle.miette_layout.specs.steps.TellingCells.{highlight_of}
+use Rattle.miette_layout.specs.rules.Highlighted.{highlight_of}
 use Rattle.miette_layout.specs.steps.Sheets.{settings, multi_labels, shown_cells}
-use Rattle.miette_lines.specs.views.TextLines.{line_of_text}
+use Rattle.miette_newlines.specs.views.Walking.{line_of_text}
 use Rattle.miette_layout.proofs.Lining.{number_row_put}
 use Rattle.miette_layout.proofs.line.push_number_row.Goals as goal
 use Rattle.miette_style.specs.rules.Themes.{characters_of}

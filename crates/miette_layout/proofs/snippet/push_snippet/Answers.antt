@@ -1,11 +1,13 @@
-use Rattle.std.proofs.Common.{ℕ, ◌≡◌, ◌+◌, ap, ◌∙◌, sym, subst, length, map}
+use Rattle.std.proofs.Common.{ℕ, ◌≡◌, ◌+◌, List, ◌∷◌, ap, ◌∙◌, sym, subst, length, map}
 use Rattle.std.specs.Option.{option_map}
 use Rattle.miette_layout.specs.steps.Framed.{place_at}
 use Rattle.miette_layout.specs.views.ThemeSettings.{settings_of}
 use Rattle.miette_lines.specs.views.Given.{drawn_of}
 use Rattle.miette_layout.specs.steps.Lent.{PutsRows, lent_snippet}
 use Rattle.miette_lines.specs.views.Sweeping.{IsAt}
-use Rattle.miette_layout.proofs.Lending.{lent_texts}
+use Rattle.miette_style.specs.rules.Asked.{Call, Leads, restarted}
+use Rattle.miette_layout.specs.rules.Highlighted.{follows, leaves_plain}
+use Rattle.miette_layout.proofs.Lending.{lent_texts, restarted_first}
 use Rattle.miette_layout.proofs.snippet.push_snippet.Goals as goal
 
 pub push_framed-requires-clause-at : goal.push_framed-requires-clause-at
@@ -16,8 +18,12 @@ pub returns-clause-rows : goal.returns-clause-rows
 returns-clause-rows g c =
     let lent = c.args.lent.now in
     let drawing = c.args.drawing.now in
-    subst (λ b. PutsRows b (lent_texts lent) (lent_snippet (settings_of drawing.theme.now drawing.options) (map (drawn_of drawing.labels.now) drawing.placed.now) lent (option_map place_at c.args.place)) c.args.page.now c.push_framed.new.page)
-    c.restart.ensures c.in_ok-push_framed.ensures.rows
+    let had : List Call → Type 0 = follows g.H.Highlighter.may_follow c.args.highlighter.now in
+    let begun : List Call → Type 0 = follows g.H.Highlighter.may_follow c.restart.new.highlighter in
+    let now : List Call → Type 0 = follows g.H.Highlighter.may_follow c.push_framed.new.highlighter in
+    let rows = c.in_ok-push_framed.ensures.rows in
+    subst (λ b. PutsRows b (λ calls. Leads had (restarted lent ∷ calls) now) (lent_texts lent) (lent_snippet (settings_of drawing.theme.now drawing.options) (map (drawn_of drawing.labels.now) drawing.placed.now) lent (option_map place_at c.args.place)) c.args.page.now c.push_framed.new.page)
+    c.restart.ensures.stays (restarted_first (leaves_plain g.H.Highlighter.is_blank c.restart.new.highlighter) had begun now (lent_texts lent) (lent_snippet (settings_of drawing.theme.now drawing.options) (map (drawn_of drawing.labels.now) drawing.placed.now) lent (option_map place_at c.args.place)) lent c.args.page.now c.push_framed.new.page c.restart.ensures.calls rows)
 
 pub returns-clause-at : goal.returns-clause-at
 returns-clause-at g c =

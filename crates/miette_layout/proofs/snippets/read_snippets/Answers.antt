@@ -1,4 +1,4 @@
-use Rattle.std.proofs.Common.{rules, refl, ap, sym, ◌∙◌, map, List, Option, subst}
+use Rattle.std.proofs.Common.{rules, refl, ap, sym, ◌∙◌, ◌∷◌, map, List, Option, subst}
 use Rattle.std.specs.Option.{option_map}
 use Rattle.miette_lines.specs.declared.sweep.Placed.{Placed}
 use Rattle.miette_protocol.specs.rules.Reading.{Span}
@@ -8,13 +8,14 @@ use Rattle.miette_lines.specs.rules.Groups.{in_order}
 use Rattle.miette_layout.specs.rules.Layout.{settings_around}
 use Rattle.miette_layout.specs.views.ThemeSettings.{settings_of}
 use Rattle.miette_lines.specs.views.Given.{drawn_of}
-use Rattle.miette_layout.specs.rules.Highlighted.{leaves_plain}
+use Rattle.miette_layout.specs.rules.Highlighted.{leaves_plain, follows}
 use Rattle.miette_layout.specs.steps.Lent.{PutsRows, lent_snippet}
 use Rattle.miette_lines.specs.views.Placing.{placed_from}
 use Rattle.miette_lines.specs.views.Primary.{PointsTo}
 use Rattle.miette_lines.specs.views.Read.{AreGroups}
 use Rattle.miette_lines.specs.views.Sweeping.{AreSorted}
 use Rattle.miette_layout.proofs.Lending.{placed_sorted, lent_texts}
+use Rattle.miette_style.specs.rules.Asked.{Call, Leads, restarted}
 use Rattle.miette_layout.proofs.Nearing.{reads_rise}
 use Rattle.miette_layout.proofs.Progressing.{none_drawn, drawn_more, all_drawn, gives_rows, gives_none, drawn_is, place_ordered, groups_lent, puts_around, are_grouped, none_grouped, gives_unread}
 use Rattle.miette_layout.proofs.snippets.read_snippets.Goals as goal
@@ -26,12 +27,12 @@ pub returns-then-is_unread-clause-gives : goal.returns-then-is_unread-clause-giv
 returns-then-is_unread-clause-gives g c =
     let grouped : AreGroups c.args.look.now.options.context_lines (g.S.SourceCode.source c.args.source.now) (in_order c.args.labels.now) c.deref-group-items.result.now =
     are_grouped c.args.look.now.options.context_lines (g.S.SourceCode.source c.args.source.now) (in_order c.args.labels.now) _ c.in-Some.groups.items c.deref-group-items.result.now c.in_ok-groups.ensures (ap (option_map (λ v. v.items)) c.in-Some.is) c.deref-group-items.ensures.value in
-    gives_none (settings_of c.args.look.now.theme.now c.args.look.now.options) (g.S.SourceCode.source c.args.source.now) c.args.labels.now (leaves_plain g.H.Highlighter.is_blank c.args.highlighter.now) c.some_own-own.result c.args.reads.now c.deref-group-items.result.now c.loop-group.group-index c.group-item.result.span c.in_ok-place.place
+    gives_none (settings_of c.args.look.now.theme.now c.args.look.now.options) (g.S.SourceCode.source c.args.source.now) c.args.labels.now (leaves_plain g.H.Highlighter.is_blank c.args.highlighter.now) _ c.some_own-own.result c.args.reads.now c.deref-group-items.result.now c.loop-group.group-index c.group-item.result.span c.in_ok-place.place c.args.page
     c.requires.order c.requires.each grouped c.loop-group-test.true (subst (λ (o : Option Span). PointsTo (g.S.SourceCode.source c.args.source.now) o c.in_ok-place.place) c.in_ok-near.ensures c.in_ok-place.ensures) (sym c.is_unread.ensures ∙ c.if-is_unread.true)
 
 pub returns-in_default-clause-gives : goal.returns-in_default-clause-gives
 returns-in_default-clause-gives g c =
-    gives_unread (settings_of c.args.look.now.theme.now c.args.look.now.options) (g.S.SourceCode.source c.args.source.now) c.args.labels.now (leaves_plain g.H.Highlighter.is_blank c.args.highlighter.now) c.args.reads.now c.requires.order c.requires.each
+    gives_unread (settings_of c.args.look.now.theme.now c.args.look.now.options) (g.S.SourceCode.source c.args.source.now) c.args.labels.now (leaves_plain g.H.Highlighter.is_blank c.args.highlighter.now) _ c.args.reads.now c.args.page c.requires.order c.requires.each
     (none_grouped c.args.look.now.options.context_lines (g.S.SourceCode.source c.args.source.now) (in_order c.args.labels.now) _ c.in_ok-groups.ensures (ap (option_map (λ v. v.items)) c.in_default.is))
 
 pub push_snippet-requires-clause-sorted : goal.push_snippet-requires-clause-sorted
@@ -41,7 +42,7 @@ push_snippet-requires-clause-sorted g c =
 
 pub loop-group-init : goal.loop-group-init
 loop-group-init g c = record {
-  drawn = none_drawn (settings_around (settings_of c.args.look.now.theme.now c.args.look.now.options) (in_order c.args.labels.now)) (g.S.SourceCode.source c.args.source.now) c.args.labels.now (leaves_plain g.H.Highlighter.is_blank c.args.highlighter.now) c.deref-group-items.result.now c.in_ok-page.page c.in_ok-page.ensures;
+  drawn = none_drawn (settings_around (settings_of c.args.look.now.theme.now c.args.look.now.options) (in_order c.args.labels.now)) (g.S.SourceCode.source c.args.source.now) c.args.labels.now (leaves_plain g.H.Highlighter.is_blank c.args.highlighter.now) (follows g.H.Highlighter.may_follow c.args.highlighter.now) c.deref-group-items.result.now c.args.page;
   state = search rules;
   stays = refl;
 }
@@ -51,16 +52,19 @@ loop-group-preserved g c =
     let grouped : AreGroups c.args.look.now.options.context_lines (g.S.SourceCode.source c.args.source.now) (in_order c.args.labels.now) c.deref-group-items.result.now =
     are_grouped c.args.look.now.options.context_lines (g.S.SourceCode.source c.args.source.now) (in_order c.args.labels.now) _ c.in-Some.groups.items c.deref-group-items.result.now c.in_ok-groups.ensures (ap (option_map (λ v. v.items)) c.in-Some.is) c.deref-group-items.ensures.value in
     let blank = leaves_plain g.H.Highlighter.is_blank c.args.highlighter.now in
-    let rows = subst (λ b. PutsRows b (lent_texts c.group-item.result.contents) (lent_snippet (settings_of c.args.look.now.theme.now c.args.look.now.options) (map (drawn_of c.args.labels.now) c.deref-2.result.now) c.group-item.result.contents (option_map place_at c.begins.result)) c.loop-group.page c.push_snippet.new.page)
+    let was : List Call → Type 0 = follows g.H.Highlighter.may_follow c.loop-group.highlighter in
+    let now : List Call → Type 0 = follows g.H.Highlighter.may_follow c.push_snippet.new.highlighter in
+    let happen : List Call → Type 0 = λ calls. Leads was (restarted c.group-item.result.contents ∷ calls) now in
+    let rows = subst (λ b. PutsRows b happen (lent_texts c.group-item.result.contents) (lent_snippet (settings_of c.args.look.now.theme.now c.args.look.now.options) (map (drawn_of c.args.labels.now) c.deref-2.result.now) c.group-item.result.contents (option_map place_at c.begins.result)) c.loop-group.page c.push_snippet.new.page)
     c.loop-group.invariant.stays c.in_ok-push_snippet.ensures.rows in
-    let around = puts_around (settings_of c.args.look.now.theme.now c.args.look.now.options) (group_context c.args.look.now.options.context_lines (in_order c.args.labels.now)) blank (lent_texts c.group-item.result.contents)
+    let around = puts_around (settings_of c.args.look.now.theme.now c.args.look.now.options) (group_context c.args.look.now.options.context_lines (in_order c.args.labels.now)) blank happen (lent_texts c.group-item.result.contents)
     (map (drawn_of c.args.labels.now) c.deref-2.result.now) c.group-item.result.contents (option_map place_at c.begins.result) c.loop-group.page c.push_snippet.new.page rows in
     record {
-      drawn = drawn_more (settings_around (settings_of c.args.look.now.theme.now c.args.look.now.options) (in_order c.args.labels.now)) (g.S.SourceCode.source c.args.source.now) c.args.labels.now blank c.deref-group-items.result.now c.loop-group.group-index c.group-item.result c.loop-group.page c.push_snippet.new.page
+      drawn = drawn_more (settings_around (settings_of c.args.look.now.theme.now c.args.look.now.options) (in_order c.args.labels.now)) (g.S.SourceCode.source c.args.source.now) c.args.labels.now blank (follows g.H.Highlighter.may_follow c.args.highlighter.now) was now c.deref-group-items.result.now c.loop-group.group-index c.group-item.result c.args.page c.loop-group.page c.push_snippet.new.page
           (map (drawn_of c.args.labels.now) c.deref-2.result.now) (option_map place_at c.begins.result)
           c.loop-group.invariant.drawn c.loop-group-test.true c.group-item.is (groups_lent c.args.look.now.options.context_lines (g.S.SourceCode.source c.args.source.now) (in_order c.args.labels.now) c.deref-group-items.result.now c.loop-group.group-index c.group-item.result grouped c.loop-group-test.true c.group-item.is)
           (drawn_is c.args.look.now.theme.now.styles.highlights.items c.args.look.now.options.context_lines (g.S.SourceCode.source c.args.source.now) c.args.labels.now c.args.reads.now c.deref-2.result.now c.requires.order c.requires.each
-          (c.deref-2.ensures.value ∙ c.in_ok-placed.ensures ∙ ap (λ styles. placed_from styles c.args.labels.now 0 c.args.reads.now) c.deref.ensures.value))
+          (c.deref-2.ensures.value ∙ c.in_ok-placed.ensures ∙ ap (λ styles. placed_from styles 0 c.args.reads.now) c.deref.ensures.value))
           (ap (option_map place_at) c.begins.ensures ∙ place_ordered c.args.look.now.options.context_lines (g.S.SourceCode.source c.args.source.now) c.args.labels.now c.some_own-own.result c.group-item.result.span c.args.reads.now c.in_ok-place.place c.some_own-own.ensures c.requires.order c.requires.each (subst (λ (o : Option Span). PointsTo (g.S.SourceCode.source c.args.source.now) o c.in_ok-place.place) c.in_ok-near.ensures c.in_ok-place.ensures)
           (sym c.is_unread.ensures ∙ c.if-is_unread.false))
           around;
@@ -72,5 +76,5 @@ pub returns-clause-gives : goal.returns-clause-gives
 returns-clause-gives g c =
     let grouped : AreGroups c.args.look.now.options.context_lines (g.S.SourceCode.source c.args.source.now) (in_order c.args.labels.now) c.deref-group-items.result.now =
     are_grouped c.args.look.now.options.context_lines (g.S.SourceCode.source c.args.source.now) (in_order c.args.labels.now) _ c.in-Some.groups.items c.deref-group-items.result.now c.in_ok-groups.ensures (ap (option_map (λ v. v.items)) c.in-Some.is) c.deref-group-items.ensures.value in
-    gives_rows (settings_of c.args.look.now.theme.now c.args.look.now.options) (g.S.SourceCode.source c.args.source.now) c.args.labels.now (leaves_plain g.H.Highlighter.is_blank c.args.highlighter.now) c.args.reads.now c.deref-group-items.result.now c.loop-group.page c.requires.order c.requires.each grouped
-    (all_drawn (settings_around (settings_of c.args.look.now.theme.now c.args.look.now.options) (in_order c.args.labels.now)) (g.S.SourceCode.source c.args.source.now) c.args.labels.now (leaves_plain g.H.Highlighter.is_blank c.args.highlighter.now) c.deref-group-items.result.now c.loop-group.group-index c.loop-group.page c.loop-group.invariant.drawn c.loop-group-test.false)
+    gives_rows (settings_of c.args.look.now.theme.now c.args.look.now.options) (g.S.SourceCode.source c.args.source.now) c.args.labels.now (leaves_plain g.H.Highlighter.is_blank c.args.highlighter.now) (λ calls. Leads (follows g.H.Highlighter.may_follow c.args.highlighter.now) calls (follows g.H.Highlighter.may_follow c.loop-group.highlighter)) c.args.reads.now c.deref-group-items.result.now c.args.page c.loop-group.page c.requires.order c.requires.each grouped
+    (all_drawn (settings_around (settings_of c.args.look.now.theme.now c.args.look.now.options) (in_order c.args.labels.now)) (g.S.SourceCode.source c.args.source.now) c.args.labels.now (leaves_plain g.H.Highlighter.is_blank c.args.highlighter.now) (follows g.H.Highlighter.may_follow c.args.highlighter.now) (follows g.H.Highlighter.may_follow c.loop-group.highlighter) c.deref-group-items.result.now c.loop-group.group-index c.args.page c.loop-group.page c.loop-group.invariant.drawn c.loop-group-test.false)

@@ -1,19 +1,42 @@
-use Rattle.std.proofs.Common.{◌≡◌, ◌+◌, ◌++◌, drop, subst, sym, string_bytes, rules}
-use Rattle.miette_narrated.specs.rules.Lines.{rows_of_lines}
+use Rattle.std.proofs.Common.{◌≡◌, ◌+◌, ◌++◌, Option, Some, None, length, refl, ap, subst, string_bytes, rules, eqb, arith}
+use Rattle.miette_newlines.specs.declared.lines.LineOfText.{LineOfText}
+use Rattle.miette_newlines.specs.views.Walking.{GivesLine}
 use Rattle.miette_narrated.specs.views.Made.{all_told, shown_of}
-use Rattle.miette_narrated.proofs.Lining.{lines_more, lines_of_swept}
+use Rattle.miette_narrated.proofs.Lining.{left_first, left_more, left_none}
 use Rattle.miette_narrated.proofs.lines.push_lines.Goals as goal
 
-pub loop-i-preserved : goal.loop-i-preserved
-loop-i-preserved c =
-    let l = c.loop-i in
-    let lent = c.args.lent.now in
-    let lines = c.args.lines.now in
-    let told = all_told c.args.order.now.labels.now c.args.order.now.placed.now in
-    let number : c.in-Some.number ≡ l.before + 1 = search rules in
-    let rows = subst (λ k. string_bytes l.out ++ rows_of_lines told lent k (lines_of_swept (drop l.i lines)) ≡ string_bytes c.args.out.now ++ rows_of_lines told lent (lent.line + 1) (lines_of_swept lines)) (sym number) l.invariant.rows in
+pub loop-line-init : goal.loop-line-init
+loop-line-init c = record {
+  left = left_first (all_told c.args.order.now.labels.now c.args.order.now.placed.now) c.args.lent.now _ _ (string_bytes c.args.out.now) (search rules) (search rules);
+  at = c.requires.at;
+}
+
+pub shown_line-it-requires : goal.shown_line-it-requires
+shown_line-it-requires c =
+    let l = c.loop-line in
+    let given = subst (λ (r : Option LineOfText). GivesLine l.line-iterator r c.next.new.self) c.in-Some.is c.next.ensures.steps in
     record {
-      rows = lines_more told lent c.in-Some.number lines l.i c.index-lines-i.result (shown_of c.shown_line-it.result) (string_bytes l.out) (string_bytes c.push_shown.new.out) _ c.loop-i-test.true c.index-lines-i.is
-          c.shown_line-it.ensures c.in_ok-push_shown.ensures.rows rows;
+      from = omega (arith, given.0.from, l.invariant.left.from);
+      text = given.0.text;
+      to = omega (arith, given.0.ending, given.0.to, l.invariant.left.to);
+      small = c.requires.small;
+    }
+
+pub loop-line-preserved : goal.loop-line-preserved
+loop-line-preserved c =
+    let l = c.loop-line in
+    let lent = c.args.lent.now in
+    let told = all_told c.args.order.now.labels.now c.args.order.now.placed.now in
+    let given = subst (λ (r : Option LineOfText). GivesLine l.line-iterator r c.next.new.self) c.in-Some.is c.next.ensures.steps in
+    record {
+      left = left_more told lent l.before c.in-Some-checked_add.number l.line-iterator c.next.new.self c.in-Some.line _ (shown_of c.shown_line-it.result) (string_bytes l.out) (string_bytes c.push_shown.new.out) _ l.invariant.left
+          given.0 given.1 (search rules) (search rules) c.shown_line-it.ensures c.in_ok-push_shown.ensures.rows;
       at = c.in_ok-push_shown.ensures.at;
     }
+
+pub returns-clause-rows : goal.returns-clause-rows
+returns-clause-rows c =
+    let l = c.loop-line in
+    let told = all_told c.args.order.now.labels.now c.args.order.now.placed.now in
+    let given = subst (λ (r : Option LineOfText). GivesLine l.line-iterator r c.next.new.self) c.in-None.is c.next.ensures.steps in
+    left_none told c.args.lent.now l.before l.line-iterator (string_bytes l.out) _ l.invariant.left given.0

@@ -1,25 +1,26 @@
-use Rattle.std.proofs.Common.{◌≡◌, ◌∙◌, ◌-◌, ◌++◌, ap, min}
+use Rattle.std.proofs.Common.{◌≡◌, ◌∙◌, [], ◌-◌, ◌++◌, ap, min}
 use Rattle.miette_text.specs.rules.Sequences.{spell}
+use Rattle.miette_text.specs.rules.Wrapping.{columns_of, joined, pieces, text_rows}
+use Rattle.miette_text.specs.views.Plans.{runs_plan}
 use Rattle.miette_text.specs.views.Woven.{woven}
-use Rattle.miette_text.specs.rules.Wrapping.{columns_of}
-use Rattle.miette_text.proofs.LineWise.{filled-text, text_of}
+use Rattle.miette_text.proofs.LineWise.{filled-text}
 use Rattle.miette_text.proofs.Appending.{appended}
 use Rattle.miette_text.proofs.wrap.push_filled_under.Goals as goal
 
 pub returns : goal.returns
 returns g c =
-    let p = c.args.plan in
+    let p = runs_plan c.args.plan in
     let first = woven 0 c.parts-first.result.codes.now c.parts-first.result.marks.now in
     let further = woven 0 c.parts-further.result.codes.now c.parts-further.result.marks.now in
     let text = woven 0 c.parts.result.codes.now c.parts.result.marks.now in
     let old = g.S.Sink.holds c.args.out.now in
-    let r1 : c.saturating_sub-room.result ≡ p.width - columns_of first = c.saturating_sub-room.ensures ∙ ap (λ n. p.width - n) c.in_ok-first_columns.ensures in
-    let r2 : c.saturating_sub-further_room.result ≡ p.width - columns_of further = c.saturating_sub-further_room.ensures ∙ ap (λ n. p.width - n) c.in_ok-further_columns.ensures in
+    let r1 : c.saturating_sub-room.result ≡ p.room - columns_of first = c.saturating_sub-room.ensures ∙ ap (λ n. p.room - n) c.in_ok-first_columns.ensures in
+    let r2 : c.saturating_sub-further_room.result ≡ p.room - columns_of further = c.saturating_sub-further_room.ensures ∙ ap (λ n. p.room - n) c.in_ok-further_columns.ensures in
     let m : c.min-narrow.result ≡ min c.saturating_sub-room.result c.saturating_sub-further_room.result = c.min-narrow.ensures in
-    let rows = text_of p.hyphens p.breaks c.min-narrow.result (spell further) c.saturating_sub-room.result c.saturating_sub-further_room.result text in
+    let rows = spell (joined [] further (text_rows (record { hyphens = p.hyphens; breaks = p.breaks; narrow = c.min-narrow.result }) c.saturating_sub-room.result c.saturating_sub-further_room.result (pieces text))) in
     let e : g.S.Sink.holds c.push_all.new.out ≡ old ++ g.S.Sink.spells (spell first) = c.in_ok-push_all.ensures in
     let f : g.S.Sink.holds c.push_filled.new.out ≡ g.S.Sink.holds c.push_all.new.out ++ g.S.Sink.spells rows = c.in_ok-push_filled.ensures in
     f
     ∙ ap (λ us. us ++ g.S.Sink.spells rows) e
     ∙ appended g.S.Sink.spells g.met.S.Sink.joins old (spell first) rows
-    ∙ ap (λ us. old ++ g.S.Sink.spells us) (filled-text p.hyphens p.breaks p.width c.min-narrow.result c.saturating_sub-room.result c.saturating_sub-further_room.result first further text p.first.now p.further.now c.args.text.now c.parts-first.ensures c.parts-further.ensures c.parts.ensures r1 r2 m)
+    ∙ ap (λ us. old ++ g.S.Sink.spells us) (filled-text p c.args.text.now c.min-narrow.result c.saturating_sub-room.result c.saturating_sub-further_room.result first further text c.parts-first.ensures c.parts-further.ensures c.parts.ensures r1 r2 m)

@@ -1,25 +1,24 @@
 use Rattle.std.proofs.Common.{◌≡◌, ◌∙◌, ◌++◌, ap, sym}
-use Rattle.miette_text.specs.views.Filling.{laid_out}
 use Rattle.miette_text.specs.rules.Sequences.{spell}
-use Rattle.miette_text.proofs.Simple.{laid-read}
+use Rattle.miette_text.specs.rules.Wrapping.{wrapped_tokens}
+use Rattle.miette_text.specs.views.Plans.{printed_plan, runs_plan}
+use Rattle.miette_text.proofs.Simple.{wrapped-read}
 use Rattle.miette_text.proofs.wrap.wrap.Goals as goal
 
 pub returns-then-are_settled : goal.returns-then-are_settled
 returns-then-are_settled c =
     let p = c.args.plan in
-    let first = p.first.now in
-    let further = p.further.now in
     let text = c.args.text.now in
-    let e : c.push_wrapped.new.out ≡ c.args.out.now ++ laid_out p.wraps p.hyphens p.breaks p.width first further text = c.in_ok-push_wrapped.ensures in
+    let e : c.push_wrapped.new.out ≡ c.args.out.now ++ spell (wrapped_tokens (runs_plan p) text) = c.in_ok-push_wrapped.ensures in
     let is = c.are_settled.ensures in
     let t = c.if-are_settled.true in
-    e ∙ ap (λ us. c.args.out.now ++ us) (laid-read p.wraps p.hyphens p.breaks p.width first further text (spell first) (spell further) (spell text) (sym (is.first t)) (sym (is.further t)) (sym (is.text t)))
+    e ∙ ap (λ us. c.args.out.now ++ us) (wrapped-read (printed_plan p) p.first.now p.further.now text (spell text) (sym (is.first t)) (sym (is.further t)) (sym (is.text t)))
 
 pub returns : goal.returns
 returns c =
-    let p = c.args.plan in
+    let p = runs_plan c.args.plan in
     let first = c.in_ok-first.first in
     let further = c.in_ok-further.further in
     let text = c.in_ok-text.text in
-    let e : c.push_wrapped-2.new.out ≡ c.args.out.now ++ laid_out p.wraps p.hyphens p.breaks p.width first further text = c.in_ok-push_wrapped-2.ensures in
-    e ∙ ap (λ us. c.args.out.now ++ us) (laid-read p.wraps p.hyphens p.breaks p.width first further text (spell p.first.now) (spell p.further.now) (spell c.args.text.now) c.in_ok-first.ensures c.in_ok-further.ensures c.in_ok-text.ensures)
+    let e : c.push_wrapped-2.new.out ≡ c.args.out.now ++ spell (wrapped_tokens (record { room = p.room; first = first; further = further; breaks = p.breaks; wraps = p.wraps; hyphens = p.hyphens }) text) = c.in_ok-push_wrapped-2.ensures in
+    e ∙ ap (λ us. c.args.out.now ++ us) (wrapped-read (printed_plan c.args.plan) first further text (spell c.args.text.now) c.in_ok-first.ensures c.in_ok-further.ensures c.in_ok-text.ensures)

@@ -1,5 +1,12 @@
-use Rattle.miette_page.proofs.Paging.{chars_step}
+use Rattle.std.proofs.Common.{◌∙◌, ap, sym, length}
+use Rattle.miette_page.specs.views.Printouts.{◌⊕◌}
+use Rattle.miette_page.specs.views.Told.{text_told}
+use Rattle.miette_page.proofs.Paging.{nonzero, page_put}
 use Rattle.miette_page.proofs.page.Page.push_chars.Goals as goal
 
-pub loop-character-preserved : goal.loop-character-preserved
-loop-character-preserved c = chars_step c.loop-character.character-index c.character-item.result c.args.characters.now c.args.self.now c.loop-character.self c.push.new.self c.loop-character-test.true c.character-item.is c.loop-character.invariant c.in_ok-push.ensures
+pub returns : goal.returns
+returns c =
+    page_put _ c.start_run.new.out c.push_chars.new.self c.args.characters.now
+    (nonzero (length c.args.characters.now) (sym c.is_empty.ensures ∙ c.if-is_empty.false))
+    c.in_ok-start_run.ensures c.in_ok-push_chars.ensures
+    ∙ ap (λ p. p ⊕ text_told c.args.characters.now) c.self.view_is

@@ -1,5 +1,14 @@
-use Rattle.miette_page.proofs.Paging.{copies_step}
+use Rattle.std.proofs.Common.{rules, ◌∙◌, ◌<◌, ap, sym, subst, replicate, length}
+use Rattle.std.proofs.lemmas.List.{length-replicate}
+use Rattle.miette_page.specs.views.Printouts.{◌⊕◌}
+use Rattle.miette_page.specs.views.Told.{text_told}
+use Rattle.miette_page.proofs.Paging.{page_put}
 use Rattle.miette_page.proofs.page.Page.push_copies.Goals as goal
 
-pub loop-i-preserved : goal.loop-i-preserved
-loop-i-preserved c = copies_step c.loop-i.i c.args.character c.args.self.now c.loop-i.self c.push.new.self c.loop-i.invariant c.in_ok-push.ensures
+pub returns : goal.returns
+returns c =
+    let some : 0 < c.args.many = search rules in
+    page_put _ c.start_run.new.out c.push_each.new.out (replicate c.args.many c.args.character)
+    (subst (λ n. 0 < n) (sym (length-replicate c.args.many c.args.character)) some)
+    c.in_ok-start_run.ensures c.in_ok-push_each.ensures
+    ∙ ap (λ p. p ⊕ text_told (replicate c.args.many c.args.character)) c.self.view_is

@@ -1,10 +1,10 @@
-use Rattle.std.proofs.Common.{◌∙◌, ◌++◌, ap, sym, subst, decimal}
-use Rattle.std.specs.Str.{IsAscii}
-use Rattle.std.proofs.lemmas.Str.{encodes-IsAscii}
-use Rattle.miette_page.specs.views.Told.{bytes_told}
+use Rattle.std.proofs.Common.{◌∙◌, ap}
+use Rattle.std.proofs.lemmas.Str.{chars-IsAscii}
+use Rattle.miette_page.specs.views.Printouts.{◌⊕◌}
+use Rattle.miette_page.specs.views.Told.{text_told}
 use Rattle.miette_page.proofs.page.Page.push_number.Goals as goal
 
 pub returns : goal.returns
 returns c =
-    c.in_ok-push_str.ensures.bytes
-    ∙ ap (λ bs. c.args.self.now ++ bytes_told bs) (c.format.ensures.text ∙ sym (encodes-IsAscii (decimal c.args.number) (subst (λ bs. IsAscii bs) c.format.ensures.text c.format.ensures.ascii)))
+    c.in_ok-push_str.ensures
+    ∙ ap (λ codes. c.args.self.now ⊕ text_told codes) (chars-IsAscii c.format.result.now c.format.ensures.ascii ∙ c.format.ensures.text)

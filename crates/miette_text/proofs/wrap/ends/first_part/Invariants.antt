@@ -1,9 +1,11 @@
 use Rattle.std.proofs.Common.{◌≡◌, ◌+◌, drop, take}
+use Rattle.miette_text.specs.rules.Wrapping.{Cuts}
 use Rattle.miette_text.specs.steps.Ends.{part_len, code_columns}
 use Rattle.miette_text.proofs.wrap.ends.first_part.Given as goal
 
 abbrev pub invariant-loop-i : goal.invariant-loop-i
-invariant-loop-i l = record {
-  len : part_len l.cuts.hyphens l.cuts.breaks l.cuts.narrow l.fn.first 0 l.codes ≡ l.i + part_len l.cuts.hyphens l.cuts.breaks l.cuts.narrow l.before l.used (drop l.i l.codes);
-  columns : l.used ≡ code_columns (take l.i l.codes);
-}
+invariant-loop-i l =
+    let cuts : Cuts = record { hyphens = l.hyphens; breaks = l.breaks; narrow = l.narrow } in record {
+      len : part_len cuts l.fn.first 0 l.codes ≡ l.i + part_len cuts l.before l.used (drop l.i l.codes);
+      columns : l.used ≡ code_columns (take l.i l.codes);
+    }

@@ -9,7 +9,7 @@ use Rattle.miette_text.proofs.wrap.ends.row_len.Goals.{else-end-gt0-via-then-end
 
 pub rest-init : goal.rest-init
 rest-init c = record {
-  packed = λ cells further e. row-starts c.args.cuts.hyphens c.args.cuts.breaks c.args.cuts.narrow c.args.room further c.args.first 0 0 c.args.first cells (omega arith) (omega arith) cc;
+  packed = λ cells further e. row-starts c.args.cuts c.args.room further c.args.first 0 0 c.args.first cells (omega arith) (omega arith) cc;
   behind = cc;
   within = omega arith;
 }
@@ -21,11 +21,11 @@ returns-then-room-wide-clause-value c = λ cells further e.
     let n = c.in_ok-part.part.len in
     let m = c.gap_len-spaces.result in
     let u = c.args.cuts in
-    let p : n ≡ part_len u.hyphens u.breaks u.narrow c.rest.before 0 (drop s cs) = c.in_ok-part.ensures.len ∙ ap (part_len u.hyphens u.breaks u.narrow c.rest.before 0) (take_rest cs s) in
+    let p : n ≡ part_len u c.rest.before 0 (drop s cs) = c.in_ok-part.ensures.len ∙ ap (part_len u c.rest.before 0) (take_rest cs s) in
     let q : m ≡ gap_len (drop n (drop s cs)) = c.gap_len-spaces.ensures.value ∙ ap gap_len (take_rest cs (s + n) ∙ sym (drop-drop n s cs)) in
     let w : c.in_ok-wide.wide ≡ c.rest.used + code_columns (take n (drop s cs)) = c.in_ok-wide.ensures ∙ ap (λ k. c.rest.used + k) (c.in_ok-part.ensures.columns ∙ ap (λ xs. code_columns (take n xs)) (take_rest cs s)) in
     let t : (nat_lt 0 s && nat_lt c.args.room c.in_ok-wide.wide) ≡ true = grind (arith, nat_tests) in
-    row-ends u.hyphens u.breaks u.narrow c.args.room further c.args.first c.rest.before s n m c.rest.used c.in_ok-wide.wide cells cs e c.rest-test.true p q w t c.rest.invariant.behind (c.rest.invariant.packed cells further e)
+    row-ends u c.args.room further c.args.first c.rest.before s n m c.rest.used c.in_ok-wide.wide cells cs e c.rest-test.true p q w t c.rest.invariant.behind (c.rest.invariant.packed cells further e)
 
 pub overflow_sub-before : goal.overflow_sub-before
 overflow_sub-before c =
@@ -33,9 +33,9 @@ overflow_sub-before c =
     let s = c.rest.end in
     let n = c.in_ok-part.part.len in
     let u = c.args.cuts in
-    let p : n ≡ part_len u.hyphens u.breaks u.narrow c.rest.before 0 (drop s cs) = c.in_ok-part.ensures.len ∙ ap (part_len u.hyphens u.breaks u.narrow c.rest.before 0) (take_rest cs s) in
+    let p : n ≡ part_len u c.rest.before 0 (drop s cs) = c.in_ok-part.ensures.len ∙ ap (part_len u c.rest.before 0) (take_rest cs s) in
     let q : c.gap_len-spaces.result ≡ gap_len (drop n (drop s cs)) = c.gap_len-spaces.ensures.value ∙ ap gap_len (take_rest cs (s + n) ∙ sym (drop-drop n s cs)) in
-    omega (arith, step-some u.hyphens u.breaks u.narrow c.rest.before s n c.gap_len-spaces.result cs c.rest-test.true p q)
+    omega (arith, step-some u c.rest.before s n c.gap_len-spaces.result cs c.rest-test.true p q)
 
 pub rest-smaller : goal.rest-smaller
 rest-smaller c =
@@ -43,9 +43,9 @@ rest-smaller c =
     let s = c.rest.end in
     let n = c.in_ok-part.part.len in
     let u = c.args.cuts in
-    let p : n ≡ part_len u.hyphens u.breaks u.narrow c.rest.before 0 (drop s cs) = c.in_ok-part.ensures.len ∙ ap (part_len u.hyphens u.breaks u.narrow c.rest.before 0) (take_rest cs s) in
+    let p : n ≡ part_len u c.rest.before 0 (drop s cs) = c.in_ok-part.ensures.len ∙ ap (part_len u c.rest.before 0) (take_rest cs s) in
     let q : c.gap_len-spaces.result ≡ gap_len (drop n (drop s cs)) = c.gap_len-spaces.ensures.value ∙ ap gap_len (take_rest cs (s + n) ∙ sym (drop-drop n s cs)) in
-    let some : 0 < n + c.gap_len-spaces.result = step-some u.hyphens u.breaks u.narrow c.rest.before s n c.gap_len-spaces.result cs c.rest-test.true p q in
+    let some : 0 < n + c.gap_len-spaces.result = step-some u c.rest.before s n c.gap_len-spaces.result cs c.rest-test.true p q in
     let lt : s < length cs = c.rest-test.true in
     omega arith
 
@@ -56,12 +56,12 @@ rest-preserved c =
     let n = c.in_ok-part.part.len in
     let m = c.gap_len-spaces.result in
     let u = c.args.cuts in
-    let p : n ≡ part_len u.hyphens u.breaks u.narrow c.rest.before 0 (drop s cs) = c.in_ok-part.ensures.len ∙ ap (part_len u.hyphens u.breaks u.narrow c.rest.before 0) (take_rest cs s) in
+    let p : n ≡ part_len u c.rest.before 0 (drop s cs) = c.in_ok-part.ensures.len ∙ ap (part_len u c.rest.before 0) (take_rest cs s) in
     let q : m ≡ gap_len (drop n (drop s cs)) = c.gap_len-spaces.ensures.value ∙ ap gap_len (take_rest cs (s + n) ∙ sym (drop-drop n s cs)) in
     let w : c.in_ok-wide.wide ≡ c.rest.used + code_columns (take n (drop s cs)) = c.in_ok-wide.ensures ∙ ap (λ k. c.rest.used + k) (c.in_ok-part.ensures.columns ∙ ap (λ xs. code_columns (take n xs)) (take_rest cs s)) in
     let t : (nat_lt 0 s && nat_lt c.args.room c.in_ok-wide.wide) ≡ false =
     elim c.else-end-gt0.branch [ else-end-gt0-via-then-end-gt0+else-room-wide w ↦ (let a = w.if-room-wide.false in grind (arith, nat_tests)) | else-end-gt0-via-else-end-gt0 w ↦ (let a = w.if-end-gt0.false in grind (arith, nat_tests)) ] in
-    let some : 0 < n + m = step-some u.hyphens u.breaks u.narrow c.rest.before s n m cs c.rest-test.true p q in
+    let some : 0 < n + m = step-some u c.rest.before s n m cs c.rest-test.true p q in
     let inside : (s + n) + m ≤ length cs = omega (arith, c.gap_len-spaces.ensures.within, ap length (take_rest cs (s + n)), length-drop (s + n) cs, c.in_ok-part.ensures.within, ap length (take_rest cs s), length-drop s cs) in
     let b1 : c.index-codes-end.result ≡ code_behind c.args.first ((s + n) + m) cs = c.index-codes-end.is ∙ behind-last c.args.first ((s + n) + m) c.index-codes-end.result cs (omega arith) inside in
     let b2 : code_behind c.rest.before (n + m) (drop s cs) ≡ code_behind c.args.first ((s + n) + m) cs =
@@ -69,14 +69,14 @@ rest-preserved c =
     record {
       packed = λ cells further e.
           c.rest.invariant.packed cells further e
-          ∙ row-fits u.hyphens u.breaks u.narrow c.args.room further c.rest.before s n m c.rest.used c.in_ok-wide.wide c.index-codes-end.result c.in_ok-used.used cells cs e c.rest-test.true p q w t (b1 ∙ sym b2) c.in_ok-used.ensures;
+          ∙ row-fits u c.args.room further c.rest.before s n m c.rest.used c.in_ok-wide.wide c.index-codes-end.result c.in_ok-used.used cells cs e c.rest-test.true p q w t (b1 ∙ sym b2) c.in_ok-used.ensures;
       behind = b1;
       within = inside;
     }
 
 pub returns : goal.returns
 returns c = record {
-  value = λ cells further e. row-whole c.args.cuts.hyphens c.args.cuts.breaks c.args.cuts.narrow c.args.room further c.args.first c.rest.before c.rest.end c.rest.used cells c.args.codes.now e c.rest-test.false (c.rest.invariant.packed cells further e);
+  value = λ cells further e. row-whole c.args.cuts c.args.room further c.args.first c.rest.before c.rest.end c.rest.used cells c.args.codes.now e c.rest-test.false (c.rest.invariant.packed cells further e);
   some = λ h. omega arith;
   within = c.rest.invariant.within;
 }

@@ -1,10 +1,11 @@
 use Rattle.std.proofs.Common.{◌≡◌, ◌∙◌, ◌+◌, ◌-◌, ◌++◌, ap, ap₂, drop, drop-drop, length, sym, take}
 use Rattle.std.proofs.lemmas.List.{take_rest}
 use Rattle.miette_text.specs.steps.Ends.{bare_len, marks_text, plain_cells}
-use Rattle.miette_text.specs.steps.Printing.{shown}
 use Rattle.miette_text.specs.steps.WholeText.{piece_text}
 use Rattle.miette_text.specs.views.Woven.{cells_at, left_at}
 use Rattle.miette_text.proofs.WovenCells.{cells-shown, left-parts}
+use Rattle.miette_text.proofs.RowTexts.{shown}
+use Rattle.miette_text.proofs.Joining.{spell-trimmed}
 use Rattle.miette_text.proofs.Appending.{appended}
 use Rattle.miette_text.proofs.wrap.lines.push_row.Goals as goal
 
@@ -31,6 +32,7 @@ returns-clause-text g c =
     ∙ appended g.S.Sink.spells g.met.S.Sink.joins old front (marks_text (cells_at (s + n) (drop n codes) (left_at s (take n codes) ms)))
     ∙ ap (λ us. old ++ g.S.Sink.spells us) (sym (cells-shown s n codes ms e))
     ∙ ap (λ us. old ++ g.S.Sink.spells (shown (cells_at s us ms))) q
+    ∙ ap (λ us. old ++ g.S.Sink.spells us) (sym (spell-trimmed (cells_at s (drop s cs) ms)))
 
 pub returns-clause-left : goal.returns-clause-left
 returns-clause-left g c =

@@ -1,0 +1,43 @@
+-- The answers of a highlighter without a state, which answers each line by itself, where no read fails.
+use Rattle.std.specs.Prelude.{ℕ, List, [], Option, Some, None}
+use Rattle.miette_protocol.specs.views.Meaning.{Meaning, Label}
+use Rattle.miette_protocol.specs.rules.Reading.{Source}
+use Rattle.miette_style.specs.rules.Pieces.{Piece}
+use Rattle.miette_lines.specs.rules.Around.{group_context}
+use Rattle.miette_lines.specs.rules.Groups.{groups_of, in_order}
+use Rattle.miette_layout.specs.rules.Highlighted.{pieces_by}
+use Rattle.miette_tree.specs.rules.Parts.{given_labels}
+use Rattle.miette_tree.specs.rules.Tree.{effective, Tree, tree, Cause, diagnostic, texts, Trees, no_trees, more_trees}
+use Rattle.miette_graphical.specs.rules.Answers.{Answer, Answers, RelatedAnswers, nothing_listed, pieces_listed}
+use Rattle.miette_graphical.specs.rules.Answers.{unlisted, listed, no_more, and_more}
+
+-- for the snippets of some labels, sorted by offset, over a source, with so many lines of context
+abbrev pub labels_by : (List ℕ → List Piece) → ℕ → Source → List Label → Answer
+labels_by answer context source labels =
+    pieces_listed (pieces_by answer (group_context context labels) source (groups_of context source [] labels))
+
+-- for a diagnostic's own snippets
+abbrev pub own_by : (List ℕ → List Piece) → ℕ → Option Source → Meaning → Answer
+own_by answer context None m = nothing_listed
+own_by answer context (Some source) m = labels_by answer context source (in_order (given_labels m.labels))
+
+abbrev mutual
+  -- for the causes of a report
+  pub causes_by : (List ℕ → List Piece) → ℕ → Option Source → Cause → Answers
+  causes_by answer context inherited (texts ts) = unlisted
+  causes_by answer context inherited (diagnostic (tree m own c r)) =
+      listed (own_by answer context (effective own inherited) m) (causes_by answer context inherited c)
+      (related_by answer context (effective own inherited) r)
+
+  -- for its related reports
+  pub related_by : (List ℕ → List Piece) → ℕ → Option Source → Trees → RelatedAnswers
+  related_by answer context inherited no_trees = no_more
+  related_by answer context inherited (more_trees (tree m own c r) ts) =
+      and_more (listed (own_by answer context (effective own inherited) m)
+      (causes_by answer context (effective own inherited) c) (related_by answer context (effective own inherited) r))
+      (related_by answer context inherited ts)
+
+-- for a whole report
+abbrev pub answers_by : (List ℕ → List Piece) → ℕ → Tree → Answers
+answers_by answer context (tree m own c r) =
+    listed (own_by answer context own m) (causes_by answer context own c) (related_by answer context own r)

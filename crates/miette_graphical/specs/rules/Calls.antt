@@ -1,0 +1,43 @@
+-- The calls on a highlighter for a report, in the order of drawing: for each diagnostic with labels over a source it is
+-- restarted and asked as its snippets want (`snippet_calls`), with so many lines of context. A report's causes come
+-- before its own snippets, its related reports behind them.
+use Rattle.std.specs.Prelude.{ℕ, Bool, if◌then◌else◌, List, [], ◌++◌, Option, Some, None}
+use Rattle.miette_protocol.specs.views.Meaning.{Meaning}
+use Rattle.miette_protocol.specs.rules.Reading.{Source}
+use Rattle.miette_style.specs.rules.Asked.{Call}
+use Rattle.miette_layout.specs.rules.Highlighted.{snippet_calls}
+use Rattle.miette_tree.specs.rules.Parts.{given_labels}
+use Rattle.miette_tree.specs.rules.Tree.{effective, Tree, tree, Cause, diagnostic, texts, Trees, no_trees, more_trees}
+use Rattle.miette_graphical.specs.rules.Settings.{Settings}
+use Rattle.miette_graphical.specs.rules.Answers.{Answer, Answers, RelatedAnswers, own_answer, cause_answers}
+use Rattle.miette_graphical.specs.rules.Answers.{related_answers, first_answers, later_answers}
+
+-- for a diagnostic's own snippets
+abbrev pub own_calls : ℕ → Option Source → Meaning → Answer → List Call
+own_calls context None m a = []
+own_calls context (Some source) m a = snippet_calls context source (given_labels m.labels) a
+
+abbrev mutual
+  -- for the causes of a report, each with its related reports
+  pub cause_calls : ℕ → Bool → Option Source → Cause → Answers → List Call
+  cause_calls context nested inherited (texts ts) a = []
+  cause_calls context nested inherited (diagnostic (tree m own c r)) a =
+      own_calls context (effective own inherited) m (own_answer a)
+      ++ related_calls context nested (effective own inherited) r (related_answers a)
+      ++ cause_calls context nested inherited c (cause_answers a)
+
+  -- for its related reports, each with its causes where it isn't nested
+  pub related_calls : ℕ → Bool → Option Source → Trees → RelatedAnswers → List Call
+  related_calls context nested inherited no_trees more = []
+  related_calls context nested inherited (more_trees (tree m own c r) ts) more =
+      (if nested then [] else cause_calls context nested (effective own inherited) c
+      (cause_answers (first_answers more)))
+      ++ (own_calls context (effective own inherited) m (own_answer (first_answers more))
+      ++ related_calls context nested (effective own inherited) r (related_answers (first_answers more)))
+      ++ related_calls context nested inherited ts (later_answers more)
+
+-- for a whole report
+abbrev pub report_calls : Settings → Tree → Answers → List Call
+report_calls s (tree m own c r) a =
+    (if s.chain then cause_calls s.context s.nested own c (cause_answers a) else [])
+    ++ (own_calls s.context own m (own_answer a) ++ related_calls s.context s.nested own r (related_answers a))

@@ -1,0 +1,5 @@
+use Rattle.std.proofs.Common.{◌≡◌, ◌++◌, replicate}
+use Rattle.miette_page.proofs.page.push_each.Given as goal
+
+abbrev pub invariant-loop-i : goal.invariant-loop-i
+invariant-loop-i l = l.out ≡ l.fn.out ++ replicate l.i l.character

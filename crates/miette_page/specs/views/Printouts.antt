@@ -1,0 +1,43 @@
+-- What is printed of rows in the making.
+use Rattle.std.specs.Prelude.{ℕ, Bool, true, false, if◌then◌else◌, List, [], ◌∷◌, ◌++◌}
+use Rattle.miette_style.specs.declared.style.Style.{Style}
+use Rattle.miette_style.specs.rules.Styles.{plain}
+use Rattle.miette_text.specs.rules.Runs.{colour_start, colour_stop, style_codes}
+use Rattle.miette_page.specs.views.Told.{Token, begins, character, row_end}
+
+-- all characters so far, the style of the run at their end, and whether the run has a character yet
+pub record Printout : Type 0 where
+  pub text : List ℕ
+  pub style : Style
+  pub begun : Bool
+
+-- what stands before and behind the characters of a run: nothing where its style is plain
+abbrev pub start_of : Style → List ℕ
+start_of style = elim (style_codes style) [ [] ↦ [] | code ∷ codes ↦ colour_start style ]
+
+abbrev pub stop_of : Style → List ℕ
+stop_of style = elim (style_codes style) [ [] ↦ [] | code ∷ codes ↦ colour_stop ]
+
+-- characters behind which a plain run stands
+abbrev pub printout_of : List ℕ → Printout
+printout_of text = record { text = text; style = plain; begun = false }
+
+-- the characters, once the run is ended
+abbrev pub ended : Printout → List ℕ
+ended p = if p.begun then p.text ++ stop_of p.style else p.text
+
+-- the characters, once the run has a start
+abbrev pub started : Printout → List ℕ
+started p = if p.begun then p.text else p.text ++ start_of p.style
+
+-- with one token more
+abbrev pub put : Printout → Token → Printout
+put p (begins style) = record { text = ended p; style = style; begun = false }
+put p (character code) = record { text = started p ++ code ∷ []; style = p.style; begun = true }
+put p row_end = printout_of (ended p ++ 10 ∷ [])
+
+infixr 5 ◌⊕◌
+-- with so many tokens more
+abbrev pub ◌⊕◌ : Printout → List Token → Printout
+p ⊕ [] = p
+p ⊕ (token ∷ tokens) = put p token ⊕ tokens
