@@ -308,6 +308,7 @@ ROWS = {
     "Runs::append": pushed(f"\x1b[32mb{END}c"),
     "Output::printed": [printed("")],
     "Output::collected": [collected("")],
+    "Output::reserve": put(""),
     "Output::push": put("x"),
     "Output::push_chars": put("xy"),
     "Output::push_str": put("xyz"),

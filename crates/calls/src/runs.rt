@@ -9,7 +9,7 @@ use std::alloc::{AllocError, Global};
 use std::io::Write;
 
 /// The calls of this module.
-pub const NAMES: [&str; 23] = [
+pub const NAMES: [&str; 24] = [
     "Runs::new",
     "Runs::push",
     "Runs::push_chars",
@@ -23,6 +23,7 @@ pub const NAMES: [&str; 23] = [
     "Runs::append",
     "Output::printed",
     "Output::collected",
+    "Output::reserve",
     "Output::push",
     "Output::push_chars",
     "Output::push_str",
@@ -84,6 +85,7 @@ fn pushed<W: Write>(alloc: Global, name: &str, out: &mut W) -> Done {
 fn put<W: Write>(name: &str, out: &mut W, output: Output) -> Done {
     let mut output = output;
     let answer = match name {
+        "Output::reserve" => output.reserve('x', 3),
         "Output::push" => output.push('x'),
         "Output::push_chars" => output.push_chars(&['x', 'y']),
         "Output::push_str" => output.push_str("xyz"),
