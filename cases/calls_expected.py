@@ -49,7 +49,7 @@ def style(colour=None, *switches):
 
 def runs(text):
     """The runs that print this text."""
-    codes, marks, at = [], [], 0
+    codes, tags, at = [], [], 0
     for found in SEQUENCE.finditer(text):
         codes += text[at : found.start()]
         at = found.end()
@@ -60,9 +60,9 @@ def runs(text):
             sign = "End"
         else:
             sign = f"Begin({style(COLOURS[signs[0]], *({'1': 'bold', '2': 'dimmed'}[it] for it in signs[1:]))})"
-        marks.append(struct("Mark", at=len(codes), sign=sign))
+        tags.append(struct("Tag", at=len(codes), sign=sign))
     codes += text[at:]
-    return struct("Runs", codes=listed(quoted(it, "'") for it in codes), marks=listed(marks))
+    return struct("Runs", codes=listed(quoted(it, "'") for it in codes), tags=listed(tags))
 
 
 def printed(text):
@@ -306,8 +306,8 @@ ROWS = {
     "Runs::push_link": pushed("\x1b]8;;http://x\x1b\\"),
     "Runs::push_link_end": pushed(LINK_END),
     "Runs::append": pushed(f"\x1b[32mb{END}c"),
-    "Output::printed": [printed("")],
-    "Output::collected": [collected("")],
+    "Output::for_text": [printed("")],
+    "Output::for_runs": [collected("")],
     "Output::reserve": put(""),
     "Output::push": put("x"),
     "Output::push_chars": put("xy"),

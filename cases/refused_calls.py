@@ -40,8 +40,8 @@ HANDING = (
 # these meet no refusal of their own: what they make holds nothing yet, or what they are given here has room for it
 NO_GROWTH = (
     "Runs::new",
-    "Output::printed",
-    "Output::collected",
+    "Output::for_text",
+    "Output::for_runs",
     "without_leading",
     "without_trailing",
     "columns_of",

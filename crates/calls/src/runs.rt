@@ -21,8 +21,8 @@ pub const NAMES: [&str; 24] = [
     "Runs::push_link",
     "Runs::push_link_end",
     "Runs::append",
-    "Output::printed",
-    "Output::collected",
+    "Output::for_text",
+    "Output::for_runs",
     "Output::reserve",
     "Output::push",
     "Output::push_chars",
@@ -43,16 +43,16 @@ pub const NAMES: [&str; 24] = [
 pub fn make<W: Write>(alloc: Global, name: &str, out: &mut W) -> Done {
     match name {
         "Runs::new" => given(out, &Runs::new(alloc)),
-        "Output::printed" => given(out, &Output::printed(alloc)),
-        "Output::collected" => given(out, &Output::collected(alloc)),
+        "Output::for_text" => given(out, &Output::for_text(alloc)),
+        "Output::for_runs" => given(out, &Output::for_runs(alloc)),
         "Output::into_text" => ended(alloc, out, true),
         "Output::into_runs" => ended(alloc, out, false),
         _ => {
             if name.starts_with("Runs::") {
                 pushed(alloc, name, out)
             } else {
-                put(name, out, Output::printed(alloc))?;
-                put(name, out, Output::collected(alloc))
+                put(name, out, Output::for_text(alloc))?;
+                put(name, out, Output::for_runs(alloc))
             }
         }
     }
@@ -102,9 +102,9 @@ fn put<W: Write>(name: &str, out: &mut W, output: Output) -> Done {
 /// An output with a red text, which prints or collects.
 fn filled(alloc: Global, prints: bool) -> Result<Output, AllocError> {
     let mut output = if prints {
-        Output::printed(alloc)
+        Output::for_text(alloc)
     } else {
-        Output::collected(alloc)
+        Output::for_runs(alloc)
     };
     output.push_run(red(), "xyz")?;
     Ok(output)

@@ -89,7 +89,7 @@ fn wrapped<W: Write>(alloc: Global, out: &mut W) -> Done {
         first: &first,
         further: &further,
     };
-    let mut output = Output::collected(alloc);
+    let mut output = Output::for_runs(alloc);
     given(out, &output)?;
     let answer = wrap(alloc, plan, &text, &mut output);
     changed(out, answer, &output)

@@ -18,7 +18,7 @@ use miette_protocol::protocol::{LabeledSpan, Severity};
 use miette_tree::report::OwnedSource;
 use std::alloc::{AllocError, Global};
 
-fn copied(alloc: Global, text: Option<&str>) -> Result<Option<String>, AllocError>
+fn copy_of(alloc: Global, text: Option<&str>) -> Result<Option<String>, AllocError>
     ensures { IfOk result (λ o. option_map string_bytes o ≡ option_copied text.entry) }
 {
     match text {
@@ -33,7 +33,7 @@ fn label_from(alloc: Global, value: &Value<'_>) -> Result<LabeledSpan, BuildErro
 {
     let offset = whole_at(value, "offset").ok_or(BuildError::Description)?;
     let length = whole_at(value, "length").ok_or(BuildError::Description)?;
-    let text = copied(
+    let text = copy_of(
         alloc,
         text_at(value, "label").ok_or(BuildError::Description)?,
     )?;
@@ -179,10 +179,10 @@ pub(crate) fn diagnostic_from(
     let labels = labels_at(alloc, value, "labels")?;
     Ok(MietteDiagnostic {
         message: String::from_str(alloc, message)?,
-        code: copied(alloc, code)?,
+        code: copy_of(alloc, code)?,
         severity,
-        help: copied(alloc, help)?,
-        url: copied(alloc, url)?,
+        help: copy_of(alloc, help)?,
+        url: copy_of(alloc, url)?,
         labels,
     })
 }

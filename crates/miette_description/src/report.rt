@@ -115,7 +115,7 @@ struct Causes<D: Diagnostic, S: SourceCode> {
 }
 
 /// The report with its cause: one of its own or texts, and not both.
-fn caused<D: Diagnostic, S: SourceCode>(
+fn report_with_cause<D: Diagnostic, S: SourceCode>(
     alloc: Global,
     report: Report<D, S>,
     causes: Causes<D, S>,
@@ -148,7 +148,7 @@ fn caused<D: Diagnostic, S: SourceCode>(
 }
 
 /// The report with each text put in front, in order.
-fn wrapped<D: Diagnostic, S: SourceCode>(
+fn report_under<D: Diagnostic, S: SourceCode>(
     alloc: Global,
     report: Report<D, S>,
     contexts: Option<Vec<String>>,
@@ -172,7 +172,7 @@ fn wrapped<D: Diagnostic, S: SourceCode>(
 }
 
 /// The report with its source, where there is one.
-fn sourced<D: Diagnostic, S: SourceCode>(
+fn report_with_source<D: Diagnostic, S: SourceCode>(
     report: Report<D, S>,
     source: Option<OwnedSource>,
 ) -> Report<D, S>
@@ -186,7 +186,7 @@ fn sourced<D: Diagnostic, S: SourceCode>(
 }
 
 /// The report with its related reports, where there are any.
-fn related<D: Diagnostic, S: SourceCode>(
+fn report_with_related<D: Diagnostic, S: SourceCode>(
     report: Report<D, S>,
     list: Option<Vec<Report<D, S>>>,
 ) -> Report<D, S>
@@ -201,7 +201,7 @@ fn related<D: Diagnostic, S: SourceCode>(
 }
 
 /// The report of all parts.
-fn assembled<D: Diagnostic, S: SourceCode>(
+fn report_of_parts<D: Diagnostic, S: SourceCode>(
     alloc: Global,
     diagnostic: MietteDiagnostic,
     source: Option<OwnedSource>,
@@ -222,9 +222,9 @@ fn assembled<D: Diagnostic, S: SourceCode>(
         (option_map (λ v. trees (map (tree_of D.meaning S.source) v.items)) list)
         (option_map (λ v. map string_bytes v.items) contexts) ≡ None }
 {
-    let report = sourced(Report::built(diagnostic), source);
-    let report = caused(alloc, report, causes)?;
-    wrapped(alloc, related(report, list), contexts)
+    let report = report_with_source(Report::built(diagnostic), source);
+    let report = report_with_cause(alloc, report, causes)?;
+    report_under(alloc, report_with_related(report, list), contexts)
 }
 
 /// A report in a place of its own, out of the stack.
@@ -263,7 +263,7 @@ fn report_with<D: Diagnostic, S: SourceCode>(
     let several = texts_at(alloc, value, "causes")?;
     let contexts = texts_at(alloc, value, "contexts")?;
     let causes = Causes { one, several };
-    let report = assembled(alloc, diagnostic, source, causes, list, contexts)?;
+    let report = report_of_parts(alloc, diagnostic, source, causes, list, contexts)?;
     boxed(alloc, report)
 }
 

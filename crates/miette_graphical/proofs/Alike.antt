@@ -5,11 +5,11 @@ use Rattle.miette_text.specs.rules.Cutting.{without_trailing}
 use Rattle.miette_protocol.specs.views.Meaning.{Meaning}
 use Rattle.miette_protocol.specs.rules.Reading.{Source}
 use Rattle.miette_protocol.specs.declared.protocol.Severity.{Severity}
-use Rattle.miette_tree.specs.rules.Parts.{given_labels}
+use Rattle.miette_tree.specs.rules.DiagnosticParts.{given_labels}
 use Rattle.miette_tree.specs.rules.Tree.{effective, Tree, tree, Cause, diagnostic, texts, Trees, no_trees, more_trees}
 use Rattle.miette_graphical.specs.rules.Answers.{Answer, Answers, RelatedAnswers, own_answer, cause_answers, related_answers, first_answers, later_answers}
 use Rattle.miette_graphical.specs.rules.Indents.{narrowed}
-use Rattle.miette_graphical.specs.rules.Parts.{SnippetRows, rows_text, under_arrow, title_text}
+use Rattle.miette_graphical.specs.rules.DiagnosticText.{SnippetRows, rows_text, under_arrow, title_text}
 use Rattle.miette_graphical.specs.rules.Printed.{Printed, over}
 use Rattle.miette_graphical.specs.rules.Settings.{Settings}
 use Rattle.miette_graphical.specs.rules.Text.{are_last, body_over, causes_text, ends_there, inner_over, only_if, related_text, report_text}

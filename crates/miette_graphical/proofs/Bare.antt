@@ -12,8 +12,8 @@ use Rattle.miette_graphical.specs.rules.Settings.{Settings}
 use Rattle.miette_graphical.specs.rules.Answers.{Answers, unlisted, listed, RelatedAnswers, no_more, and_more, nothing_listed, own_answer, cause_answers, related_answers, first_answers, later_answers}
 use Rattle.miette_graphical.specs.laws.Colourless.{colourless, unhighlighted_answer, unhighlighted, unhighlighted_related}
 use Rattle.miette_graphical.specs.rules.Indents.{narrowed}
-use Rattle.miette_graphical.specs.rules.Parts.{SnippetRows, rows_text, under_arrow, title_text}
-use Rattle.miette_tree.specs.rules.Parts.{given_labels}
+use Rattle.miette_graphical.specs.rules.DiagnosticText.{SnippetRows, rows_text, under_arrow, title_text}
+use Rattle.miette_tree.specs.rules.DiagnosticParts.{given_labels}
 use Rattle.miette_graphical.specs.rules.Printed.{always_reads, all_read, printed, printed_causes, printed_related, printed_inner, printed_sibling}
 use Rattle.miette_graphical.specs.rules.Snippets.{layout_settings}
 use Rattle.miette_graphical.specs.rules.Text.{ends_there, are_last, only_if, body, inner_text, causes_text, related_text, report_text}
@@ -44,7 +44,7 @@ later-bare no_more = refl
 later-bare (and_more first more) = refl
 
 -- where every read succeeds, such an answer says nothing
-own-nothing : (l : frames.Settings) (blank : Bool) (source : Option Source) (m : Meaning) (a : Answers) → IsAnswer l blank source m (own_answer a) → always_reads source m ≡ true →
+own-nothing : (l : frames.SnippetSettings) (blank : Bool) (source : Option Source) (m : Meaning) (a : Answers) → IsAnswer l blank source m (own_answer a) → always_reads source m ≡ true →
     own_answer (unhighlighted a) ≡ nothing_listed
 own-nothing l blank source m a h e = sym (own-bare a) ∙ ap unhighlighted_answer (h.read e)
 
@@ -55,7 +55,7 @@ if_same true x u y v p q = p refl
 if_same false x u y v p q = q refl
 
 mutual
-  bare-causes : (l : frames.Settings) (blank : Bool) (rows : SnippetRows) (s : Settings) (outer : Option Severity) (inherited : Option Source) (c : Cause) (a : Answers) (nested : Bool) → s.nested ≡ nested →
+  bare-causes : (l : frames.SnippetSettings) (blank : Bool) (rows : SnippetRows) (s : Settings) (outer : Option Severity) (inherited : Option Source) (c : Cause) (a : Answers) (nested : Bool) → s.nested ≡ nested →
       AreCauseAnswers l blank inherited c a → all_read (printed_causes nested inherited c) ≡ true →
       causes_text rows s outer inherited c (unhighlighted a) ≡ causes_text rows s outer inherited c unlisted
   bare-causes l blank rows s outer inherited (texts ts) a nested w h e = refl
@@ -70,7 +70,7 @@ mutual
       (ap (related_text rows n m.severity source r) (sym (related-bare a)) ∙ bare-related l blank rows n m.severity source r (related_answers a) nested w h.1 q.1)))
       (ap (causes_text rows s outer inherited c) (sym (cause-bare a)) ∙ bare-causes l blank rows s outer inherited c (cause_answers a) nested w h.2 p.1)
 
-  bare-related : (l : frames.Settings) (blank : Bool) (rows : SnippetRows) (s : Settings) (outer : Option Severity) (inherited : Option Source) (ts : Trees) (more : RelatedAnswers) (nested : Bool) → s.nested ≡ nested →
+  bare-related : (l : frames.SnippetSettings) (blank : Bool) (rows : SnippetRows) (s : Settings) (outer : Option Severity) (inherited : Option Source) (ts : Trees) (more : RelatedAnswers) (nested : Bool) → s.nested ≡ nested →
       AreRelatedAnswers l blank inherited ts more → all_read (printed_related nested inherited ts) ≡ true →
       related_text rows s outer inherited ts (unhighlighted_related more) ≡ related_text rows s outer inherited ts no_more
   bare-related l blank rows s outer inherited no_trees more nested w h e = refl
@@ -101,7 +101,7 @@ mutual
       (ap (related_text rows s m.severity source r) (sym (related-bare a)) ∙ bare-related l blank rows s m.severity source r (related_answers a) false w h.2 o.1)))
       (bare-related l blank rows s outer inherited ts later false w h.3 p.1)
 
-bare-root : (l : frames.Settings) (blank : Bool) (rows : SnippetRows) (s : Settings) (m : Meaning) (own : Option Source) (c : Cause) (a : Answers) (chain nested : Bool) → s.nested ≡ nested →
+bare-root : (l : frames.SnippetSettings) (blank : Bool) (rows : SnippetRows) (s : Settings) (m : Meaning) (own : Option Source) (c : Cause) (a : Answers) (chain nested : Bool) → s.nested ≡ nested →
     (chain ≡ true → AreCauseAnswers l blank own c a) → all_read (if chain then printed_causes nested own c else []) ≡ true →
     only_if chain (causes_text rows s m.severity own c (unhighlighted a)) ≡ only_if chain (causes_text rows s m.severity own c unlisted)
 bare-root l blank rows s m own c a true nested w h e = bare-causes l blank rows s m.severity own c a nested w (h refl) e

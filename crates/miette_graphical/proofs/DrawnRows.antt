@@ -12,7 +12,7 @@ use Rattle.miette_layout.specs.rules.Frames.{refused_row}
 use Rattle.miette_lines.specs.rules.Around.{has_own, group_context}
 use Rattle.miette_lines.specs.rules.Groups.{refusal, joins_before, joined, groups_from, groups_answered, own_groups, groups_of, some_fails, groups_fail, in_order, spans_of}
 use Rattle.miette_layout.specs.rules.Highlighted.{EachHasPieces, SnippetsHavePieces, texts_of, group_calls, snippet_calls}
-use Rattle.miette_layout.specs.rules.Layout.{snippet_rows, rows_unless, rows_of_groups, settings_around, all_snippets}
+use Rattle.miette_layout.specs.rules.SnippetLayout.{snippet_rows, rows_unless, rows_of_groups, settings_around, all_snippets}
 use Rattle.miette_page.specs.rules.Rows.{Row}
 use Rattle.miette_page.specs.views.Told.{told_rows}
 use Rattle.miette_page.specs.views.Printouts.{Printout, printout_of, ended, ◌⊕◌}
@@ -20,8 +20,8 @@ use Rattle.miette_tree.specs.views.Handler.{AppendsOne}
 use Rattle.miette_graphical.specs.rules.Answers.{Answer, nothing_listed, pieces_listed}
 use Rattle.miette_graphical.specs.rules.Answered.{HasRows, HasPieces, IsAnswerOf, AreDrawn, IsDrawn}
 use Rattle.miette_graphical.specs.rules.Printed.{always_reads}
-use Rattle.miette_graphical.specs.rules.Parts.{rows_text}
-use Rattle.miette_tree.specs.rules.Parts.{given_labels}
+use Rattle.miette_graphical.specs.rules.DiagnosticText.{rows_text}
+use Rattle.miette_tree.specs.rules.DiagnosticParts.{given_labels}
 use Rattle.miette_graphical.specs.rules.Settings.{Settings}
 use Rattle.miette_graphical.specs.rules.Snippets.{layout_settings, shown_rows, drawn_rows}
 use Rattle.miette_graphical.proofs.Printed.{rows_printed}
@@ -74,7 +74,7 @@ unread_none : (context : ℕ) (source : Source) (fails : List Bool) (labels : Li
 unread_none context source fails labels h = and_none (has_own labels) (some_fails fails (groups_of context source fails labels)) (places_none fails (groups_of context source fails labels) h)
 
 -- the rows of groups where nothing fails
-pub groups_given : (s : frames.Settings) (source : Source) (labels : List Label) (a : Answer) → AlwaysReads a →
+pub groups_given : (s : frames.SnippetSettings) (source : Source) (labels : List Label) (a : Answer) → AlwaysReads a →
     rows_of_groups s source labels a (groups_of s.context source a.join_fails labels)
     ≡ Some (all_snippets (settings_around s labels) source labels a.pieces (groups_of s.context source [] labels))
 groups_given s source labels a h =
@@ -85,31 +85,31 @@ groups_given s source labels a h =
 pub none_listed : (pieces : List (List (List Highlight))) → AlwaysReads (pieces_listed pieces)
 none_listed pieces = record { labels = tt; joins = tt; places = tt }
 
-unless_same : (s : frames.Settings) (source : Source) (labels : List Label) (a : Answer) (refused : Option Row) → AlwaysReads a →
+unless_same : (s : frames.SnippetSettings) (source : Source) (labels : List Label) (a : Answer) (refused : Option Row) → AlwaysReads a →
     rows_unless s source labels a refused ≡ rows_unless s source labels (pieces_listed a.pieces) refused
 unless_same s source labels a (Some row) h = refl
 unless_same s source labels a None h = groups_given s source labels a h ∙ sym (groups_given s source labels (pieces_listed a.pieces) (none_listed a.pieces))
 
-pub rows_same : (s : frames.Settings) (source : Source) (labels : List Label) (a : Answer) → AlwaysReads a →
+pub rows_same : (s : frames.SnippetSettings) (source : Source) (labels : List Label) (a : Answer) → AlwaysReads a →
     snippet_rows s source labels a ≡ snippet_rows s source labels (pieces_listed a.pieces)
 rows_same s source labels a h =
     ap (λ r. rows_unless s source (in_order labels) a (option_map (refused_row s) r)) (refusal_none source.bytes a.label_fails (in_order labels) h.labels)
     ∙ unless_same s source (in_order labels) a (option_map (refused_row s) (refusal source.bytes [] (in_order labels))) h
 
-some_unless : (s : frames.Settings) (source : Source) (labels : List Label) (pieces : List (List (List Highlight))) (refused : Option Row) → is_some (rows_unless s source labels (pieces_listed pieces) refused) ≡ true
+some_unless : (s : frames.SnippetSettings) (source : Source) (labels : List Label) (pieces : List (List (List Highlight))) (refused : Option Row) → is_some (rows_unless s source labels (pieces_listed pieces) refused) ≡ true
 some_unless s source labels pieces (Some row) = refl
 some_unless s source labels pieces None = ap is_some (groups_given s source labels (pieces_listed pieces) (none_listed pieces))
 
 -- where no read failed there are rows
-pub always_rows : (s : frames.Settings) (source : Option Source) (labels : List Label) (pieces : List (List (List Highlight))) → HasRows s source labels (pieces_listed pieces)
+pub always_rows : (s : frames.SnippetSettings) (source : Option Source) (labels : List Label) (pieces : List (List (List Highlight))) → HasRows s source labels (pieces_listed pieces)
 always_rows s None labels pieces = tt
 always_rows s (Some source) labels pieces = some_unless s source (in_order labels) pieces (option_map (refused_row s) (refusal source.bytes [] (in_order labels)))
 
-never_none : (s : frames.Settings) (source : Source) (labels : List Label) (pieces : List (List (List Highlight))) (refused : Option Row) → rows_unless s source labels (pieces_listed pieces) refused ≢ None
+never_none : (s : frames.SnippetSettings) (source : Source) (labels : List Label) (pieces : List (List (List Highlight))) (refused : Option Row) → rows_unless s source labels (pieces_listed pieces) refused ≢ None
 never_none s source labels pieces (Some row) e = absurd (cc)
 never_none s source labels pieces None e = let k = sym (groups_given s source labels (pieces_listed pieces) (none_listed pieces)) ∙ e in absurd (cc)
 
-no_rows_fail : (s : frames.Settings) (source : Source) (labels : List Label) (a : Answer) → AlwaysReads a → snippet_rows s source labels a ≡ None → ⊥
+no_rows_fail : (s : frames.SnippetSettings) (source : Source) (labels : List Label) (a : Answer) → AlwaysReads a → snippet_rows s source labels a ≡ None → ⊥
 no_rows_fail s source labels a h n =
     never_none s source (in_order labels) a.pieces (option_map (refused_row s) (refusal source.bytes [] (in_order labels))) (sym (rows_same s source labels a h) ∙ n)
 
@@ -124,12 +124,12 @@ none_have context blank source [] = tt
 none_have context blank source (group ∷ groups) =
     (none_each blank (texts_of source.bytes (lines_of_contents (contents context source group))), none_have context blank source groups)
 
-no_pieces : (s : frames.Settings) (blank : Bool) (source : Option Source) (labels : List Label) → HasPieces s blank source labels nothing_listed
+no_pieces : (s : frames.SnippetSettings) (blank : Bool) (source : Option Source) (labels : List Label) → HasPieces s blank source labels nothing_listed
 no_pieces s blank None labels = tt
 no_pieces s blank (Some source) labels = none_have (group_context s.context (in_order labels)) blank source (groups_of s.context source [] (in_order labels))
 
 -- where nothing is listed, nothing failed
-pub unlisted_is : (s : frames.Settings) (blank : Bool) (source : Option Source) (labels : List Label) (reads : Bool) → IsAnswerOf s blank source labels reads nothing_listed
+pub unlisted_is : (s : frames.SnippetSettings) (blank : Bool) (source : Option Source) (labels : List Label) (reads : Bool) → IsAnswerOf s blank source labels reads nothing_listed
 unlisted_is s blank source labels reads = record { read = λ h. refl; plain = λ b. refl; pieces = no_pieces s blank source labels; rows = always_rows s source labels [] }
 
 decide : (b : Bool) → (b ≡ true) ⊎ (b ≡ false)

@@ -2,7 +2,7 @@
 use Rattle.std.proofs.Common.{◌≡◌, ℕ, ◌-◌, Bool, true, false, List, [], ◌∷◌, ◌++◌, map, refl, sym, ap, ap₂, ◌∙◌, if◌then◌else◌}
 use Rattle.miette_text.specs.rules.Sequences.{tokens, erase}
 use Rattle.miette_text.specs.rules.Tame.{IsTame, AllTame}
-use Rattle.miette_text.specs.rules.Runs.{Run, HaveNoEscape, plain_run, print}
+use Rattle.miette_text.specs.rules.Runs.{Fragment, HaveNoEscape, plain_run, print}
 use Rattle.miette_text.specs.rules.Cutting.{without_leading, without_trailing}
 use Rattle.miette_text.specs.rules.Wrapping.{Plan, columns_of, wrapped}
 use Rattle.miette_graphical.proofs.TextLaws.{TextLaws, plain-tame, plain-erase}
@@ -11,7 +11,7 @@ use Rattle.miette_layout.specs.laws.Clean.{IsClean}
 use Rattle.miette_graphical.specs.laws.Clean.{HaveNoEscapes}
 use Rattle.miette_graphical.specs.laws.Colourless.{colourless}
 use Rattle.miette_graphical.specs.rules.Indents.{wrapped_under}
-use Rattle.miette_graphical.specs.rules.Parts.{rows_text, line_feed}
+use Rattle.miette_graphical.specs.rules.DiagnosticText.{rows_text, line_feed}
 use Rattle.miette_graphical.specs.rules.Text.{only_if}
 
 -- The first text is tame, and the second is what it is without its colours.
@@ -20,7 +20,7 @@ pub record Fades (x y : List ℕ) : Type 0 where
   pub same : erase x ≡ y
 
 -- The first runs hold no escape, and the second are the same in plain styles.
-pub record Pales (xs ys : List Run) : Type 0 where
+pub record Pales (xs ys : List Fragment) : Type 0 where
   pub clean : HaveNoEscape xs
   pub same : map plain_run xs ≡ ys
 
@@ -34,7 +34,7 @@ module _ (laws : TextLaws) where
   pub fades-clean : (x : List ℕ) → IsClean x → Fades x x
   fades-clean x h = record { tame = plain-tame laws x h; same = plain-erase laws x h }
 
-  pub fades-print : (xs ys : List Run) → Pales xs ys → Fades (print xs) (print ys)
+  pub fades-print : (xs ys : List Fragment) → Pales xs ys → Fades (print xs) (print ys)
   fades-print xs ys h = record { tame = laws.print-tame xs h.clean; same = laws.print-erase xs h.clean ∙ ap print h.same }
 
   pub fades-leading : (x y : List ℕ) → Fades x y → Fades (without_leading x) (without_leading y)
@@ -54,7 +54,7 @@ module _ (laws : TextLaws) where
   abbrev plan : Settings → List ℕ → List ℕ → Plan (List ℕ)
   plan s first further = record { room = s.width - 2; first = first; further = further; breaks = s.breaks; wraps = s.wraps; hyphens = s.hyphens }
 
-  pub fades-under : (s : Settings) (f f2 g g2 : List Run) (x y : List ℕ) → Pales f f2 → Pales g g2 → Fades x y →
+  pub fades-under : (s : Settings) (f f2 g g2 : List Fragment) (x y : List ℕ) → Pales f f2 → Pales g g2 → Fades x y →
       Fades (wrapped_under s f g x) (wrapped_under (colourless s) f2 g2 y)
   fades-under s f f2 g g2 x y a b h =
       let p = fades-print f f2 a in
@@ -70,7 +70,7 @@ module _ (laws : TextLaws) where
       }
 
   -- Colours have no columns.
-  pub columns-pale : (xs ys : List Run) → Pales xs ys → columns_of (tokens (print ys)) ≡ columns_of (tokens (print xs))
+  pub columns-pale : (xs ys : List Fragment) → Pales xs ys → columns_of (tokens (print ys)) ≡ columns_of (tokens (print xs))
   columns-pale xs ys h =
       let p = fades-print xs ys h in
       ap (λ t. columns_of (tokens t)) (sym p.same) ∙ laws.erase-columns (print xs) p.tame
@@ -78,7 +78,7 @@ module _ (laws : TextLaws) where
   pub fades-feed : Fades line_feed line_feed
   fades-feed = fades-clean line_feed refl
 
-  pub fades-rows : (rs : List (List Run)) → HaveNoEscapes rs → Fades (rows_text rs) (rows_text (map (map plain_run) rs))
+  pub fades-rows : (rs : List (List Fragment)) → HaveNoEscapes rs → Fades (rows_text rs) (rows_text (map (map plain_run) rs))
   fades-rows [] h = fades-clean [] refl
   fades-rows (r ∷ rs) h =
       fades-append (print r ++ line_feed) (print (map plain_run r) ++ line_feed) (rows_text rs) (rows_text (map (map plain_run) rs))

@@ -10,8 +10,8 @@ use Rattle.miette_layout.specs.rules.Frames as frames
 use Rattle.miette_graphical.specs.rules.Settings.{Settings}
 use Rattle.miette_graphical.specs.rules.Answers.{Answer, pieces_listed, Answers, unlisted, RelatedAnswers, no_more, nothing_listed, cause_answers, related_answers, first_answers, later_answers}
 use Rattle.miette_graphical.specs.rules.Indents.{narrowed}
-use Rattle.miette_graphical.specs.rules.Parts.{SnippetRows, rows_text, under_arrow, title_text}
-use Rattle.miette_tree.specs.rules.Parts.{given_labels}
+use Rattle.miette_graphical.specs.rules.DiagnosticText.{SnippetRows, rows_text, under_arrow, title_text}
+use Rattle.miette_tree.specs.rules.DiagnosticParts.{given_labels}
 use Rattle.miette_graphical.specs.rules.Printed.{always_reads, all_read, printed, printed_causes, printed_related, printed_inner, printed_sibling}
 use Rattle.miette_graphical.specs.rules.Snippets.{layout_settings}
 use Rattle.miette_graphical.specs.rules.Text.{ends_there, are_last, only_if, body, inner_text, causes_text, related_text, report_text}
@@ -19,7 +19,7 @@ use Rattle.miette_graphical.specs.rules.Answered.{IsAnswerOf, AreCauseAnswers, A
 use Rattle.miette_graphical.proofs.Lists.{both_read}
 use Rattle.miette_graphical.proofs.Outermost.{report_over}
 
-unlisted_here : {l : frames.Settings} {source : Option Source} {labels : List Label} {reads : Bool} {a : Answer} → IsAnswerOf l true source labels reads a → reads ≡ true → a ≡ nothing_listed
+unlisted_here : {l : frames.SnippetSettings} {source : Option Source} {labels : List Label} {reads : Bool} {a : Answer} → IsAnswerOf l true source labels reads a → reads ≡ true → a ≡ nothing_listed
 unlisted_here h e = h.read e ∙ ap pieces_listed (h.plain refl)
 
 if_same : (nested : Bool) (x u y v : List ℕ) → (nested ≡ true → x ≡ u) → (nested ≡ false → y ≡ v) → (if nested then x else y) ≡ (if nested then u else v)
@@ -27,7 +27,7 @@ if_same true x u y v p q = p refl
 if_same false x u y v p q = q refl
 
 mutual
-  same-causes : (l : frames.Settings) (rows : SnippetRows) (s : Settings) (outer : Option Severity) (inherited : Option Source) (c : Cause) (a : Answers) (nested : Bool) → s.nested ≡ nested →
+  same-causes : (l : frames.SnippetSettings) (rows : SnippetRows) (s : Settings) (outer : Option Severity) (inherited : Option Source) (c : Cause) (a : Answers) (nested : Bool) → s.nested ≡ nested →
       AreCauseAnswers l true inherited c a → all_read (printed_causes nested inherited c) ≡ true →
       causes_text rows s outer inherited c a ≡ causes_text rows s outer inherited c unlisted
   same-causes l rows s outer inherited (texts ts) a nested w h e = refl
@@ -41,7 +41,7 @@ mutual
       (ap₂ (inner_text rows n m source) (unlisted_here h.0 q.0) (same-related l rows n m.severity source r (related_answers a) nested w h.1 q.1)))
       (same-causes l rows s outer inherited c (cause_answers a) nested w h.2 p.1)
 
-  same-related : (l : frames.Settings) (rows : SnippetRows) (s : Settings) (outer : Option Severity) (inherited : Option Source) (ts : Trees) (more : RelatedAnswers) (nested : Bool) → s.nested ≡ nested →
+  same-related : (l : frames.SnippetSettings) (rows : SnippetRows) (s : Settings) (outer : Option Severity) (inherited : Option Source) (ts : Trees) (more : RelatedAnswers) (nested : Bool) → s.nested ≡ nested →
       AreRelatedAnswers l true inherited ts more → all_read (printed_related nested inherited ts) ≡ true →
       related_text rows s outer inherited ts more ≡ related_text rows s outer inherited ts no_more
   same-related l rows s outer inherited no_trees more nested w h e = refl
@@ -72,7 +72,7 @@ mutual
       (same-related l rows s m.severity source r (related_answers a) false w h.2 o.1)))
       (same-related l rows s outer inherited ts (later_answers more) false w h.3 p.1)
 
-same-root : (l : frames.Settings) (rows : SnippetRows) (s : Settings) (m : Meaning) (own : Option Source) (c : Cause) (a : Answers) (chain : Bool) →
+same-root : (l : frames.SnippetSettings) (rows : SnippetRows) (s : Settings) (m : Meaning) (own : Option Source) (c : Cause) (a : Answers) (chain : Bool) →
     (chain ≡ true → AreCauseAnswers l true own c a) → all_read (if chain then printed_causes s.nested own c else []) ≡ true →
     only_if chain (causes_text rows s m.severity own c a) ≡ only_if chain (causes_text rows s m.severity own c unlisted)
 same-root l rows s m own c a true h e = same-causes l rows s m.severity own c a s.nested refl (h refl) e

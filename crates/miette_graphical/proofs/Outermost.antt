@@ -3,7 +3,7 @@ use Rattle.std.specs.Prelude.{ℕ, List, ◌++◌}
 use Rattle.miette_text.specs.rules.Runs.{print}
 use Rattle.miette_protocol.specs.views.Meaning.{Meaning}
 use Rattle.miette_graphical.specs.rules.Settings.{Settings}
-use Rattle.miette_graphical.specs.rules.Parts.{header, footer_text}
+use Rattle.miette_graphical.specs.rules.DiagnosticText.{header, footer_text}
 use Rattle.miette_graphical.specs.rules.Text.{body_over}
 
 -- header, body, footer

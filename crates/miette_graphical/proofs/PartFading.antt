@@ -4,7 +4,7 @@ use Rattle.std.proofs.lemmas.Bool.{and_parts}
 use Rattle.miette_style.specs.rules.Escapes.{is_escape}
 use Rattle.miette_text.specs.rules.Tame.{is_nil}
 use Rattle.miette_style.specs.rules.Escapes.{no_escape}
-use Rattle.miette_text.specs.rules.Runs.{Run, Styled, print}
+use Rattle.miette_text.specs.rules.Runs.{Fragment, Styled, print}
 use Rattle.miette_style.specs.rules.Styles.{plain}
 use Rattle.miette_protocol.specs.views.Meaning.{Meaning, Label}
 use Rattle.miette_protocol.specs.rules.Reading.{Source}
@@ -15,8 +15,8 @@ use Rattle.miette_style.specs.rules.Themes.{Characters, Styles}
 use Rattle.miette_graphical.proofs.TextLaws.{TextLaws}
 use Rattle.miette_graphical.specs.rules.Answers.{Answer}
 use Rattle.miette_graphical.specs.rules.Indents.{bare, spaces, wrapped_under, icon_indent, bar_indent, arrow_text, stem_text, arrow_indent, stem_indent, help_indent, further_help_indent, footer_indent, narrowed}
-use Rattle.miette_graphical.specs.rules.Parts.{footer_of, line_feed, header, header_by, message_text, help_text, footer_text, under_arrow, severity_title, header_or_end, title_text, SnippetRows, rows_text}
-use Rattle.miette_tree.specs.rules.Parts.{given_labels}
+use Rattle.miette_graphical.specs.rules.DiagnosticText.{footer_of, line_feed, header, header_by, message_text, help_text, footer_text, under_arrow, severity_title, header_or_end, title_text, SnippetRows, rows_text}
+use Rattle.miette_tree.specs.rules.DiagnosticParts.{given_labels}
 use Rattle.miette_graphical.specs.rules.Text.{cause_texts, body, inner_text}
 use Rattle.miette_tree.specs.rules.Tree.{effective}
 use Rattle.std.specs.List.{AllByRecursion}
@@ -120,7 +120,7 @@ module _ (laws : TextLaws) where
       let p = pale-header_by s.urls s m.severity m.url m.code h k.url k.code in
       record { clean = p.clean; same = p.same ∙ ap (λ st. header_by s.urls (colourless s) st m.url m.code) (style-faded s.styles m.severity) }
 
-  pale-or_end : (xs ys : List Run) → Pales xs ys → Pales (header_or_end xs) (header_or_end ys)
+  pale-or_end : (xs ys : List Fragment) → Pales xs ys → Pales (header_or_end xs) (header_or_end ys)
   pale-or_end [] ys h = record { clean = (refl, tt); same = ap header_or_end h.same }
   pale-or_end (x ∷ xs) ys h = record { clean = h.clean; same = ap header_or_end h.same }
 

@@ -2,14 +2,14 @@
 use Rattle.std.proofs.Common.{◌≡◌, Bool, true, List, Option, Some, None, is_some, map, option_map, refl, ap, subst}
 use Rattle.miette_protocol.specs.views.Meaning.{Label, Meaning}
 use Rattle.miette_protocol.specs.rules.Reading.{Source}
-use Rattle.miette_tree.specs.rules.Parts.{given_labels}
+use Rattle.miette_tree.specs.rules.DiagnosticParts.{given_labels}
 use Rattle.miette_tree.specs.rules.Tree.{effective, Tree, tree, Cause, diagnostic, texts, Trees, no_trees, more_trees}
 use Rattle.miette_lines.specs.rules.Answers as layout
 use Rattle.miette_lines.specs.rules.Around.{group_context}
 use Rattle.miette_lines.specs.rules.Groups.{groups_of, in_order}
 use Rattle.miette_layout.specs.laws.Fading as fading
 use Rattle.miette_layout.specs.rules.Frames as frames
-use Rattle.miette_layout.specs.rules.Layout.{snippet_rows}
+use Rattle.miette_layout.specs.rules.SnippetLayout.{snippet_rows}
 use Rattle.miette_page.specs.rules.Rows.{Row, pieces_of}
 use Rattle.miette_graphical.specs.rules.Settings.{Settings}
 use Rattle.miette_graphical.specs.rules.Snippets.{layout_settings}
@@ -22,7 +22,7 @@ use Rattle.miette_graphical.proofs.DrawnRows.{none_have}
 
 -- in plain styles the rows have the same characters, which the layer of snippets promises
 abbrev pub AreRowsKept : Type 0
-AreRowsKept = (s : frames.Settings) (source : Source) (labels : List Label) (answers : layout.Answers) →
+AreRowsKept = (s : frames.SnippetSettings) (source : Source) (labels : List Label) (answers : layout.Answers) →
     option_map (map pieces_of) (snippet_rows (fading.colourless s) source labels (fading.unhighlighted answers)) ≡ option_map (map pieces_of) (snippet_rows s source labels answers)
 
 some_kept : (plain rows : Option (List Row)) → option_map (map pieces_of) plain ≡ option_map (map pieces_of) rows → is_some rows ≡ true → is_some plain ≡ true
@@ -31,15 +31,15 @@ some_kept None (Some rows) e h = absurd (cc)
 some_kept (Some plain) rows e h = refl
 
 module _ (kept : AreRowsKept) where
-  rows_kept : (l : frames.Settings) (source : Option Source) (labels : List Label) (a : Answer) → HasRows l source labels a → HasRows (fading.colourless l) source labels (unhighlighted_answer a)
+  rows_kept : (l : frames.SnippetSettings) (source : Option Source) (labels : List Label) (a : Answer) → HasRows l source labels a → HasRows (fading.colourless l) source labels (unhighlighted_answer a)
   rows_kept l None labels a h = tt
   rows_kept l (Some source) labels a h = some_kept _ _ (kept l source labels a) h
 
-  no_pieces : (l : frames.Settings) (source : Option Source) (labels : List Label) (a : Answer) → HasPieces (fading.colourless l) true source labels (unhighlighted_answer a)
+  no_pieces : (l : frames.SnippetSettings) (source : Option Source) (labels : List Label) (a : Answer) → HasPieces (fading.colourless l) true source labels (unhighlighted_answer a)
   no_pieces l None labels a = tt
   no_pieces l (Some source) labels a = none_have (group_context l.context (in_order labels)) true source (groups_of l.context source a.join_fails (in_order labels))
 
-  answer_possible : (l : frames.Settings) (blank : Bool) (source : Option Source) (labels : List Label) (reads : Bool) (a : Answer) → IsAnswerOf l blank source labels reads a →
+  answer_possible : (l : frames.SnippetSettings) (blank : Bool) (source : Option Source) (labels : List Label) (reads : Bool) (a : Answer) → IsAnswerOf l blank source labels reads a →
       IsAnswerOf (fading.colourless l) true source labels reads (unhighlighted_answer a)
   answer_possible l blank source labels reads a h = record {
     read = λ e. ap unhighlighted_answer (h.read e);
@@ -48,13 +48,13 @@ module _ (kept : AreRowsKept) where
     rows = rows_kept l source labels a h.rows;
   }
 
-  own_possible : (l : frames.Settings) (blank : Bool) (source : Option Source) (m : Meaning) (a : Answers) → IsAnswer l blank source m (own_answer a) →
+  own_possible : (l : frames.SnippetSettings) (blank : Bool) (source : Option Source) (m : Meaning) (a : Answers) → IsAnswer l blank source m (own_answer a) →
       IsAnswer (fading.colourless l) true source m (own_answer (unhighlighted a))
   own_possible l blank source m a h =
       subst (IsAnswer (fading.colourless l) true source m) (own-bare a) (answer_possible l blank source (given_labels m.labels) (always_reads source m) (own_answer a) h)
 
   mutual
-    causes_possible : (l : frames.Settings) (blank : Bool) (inherited : Option Source) (c : Cause) (a : Answers) → AreCauseAnswers l blank inherited c a →
+    causes_possible : (l : frames.SnippetSettings) (blank : Bool) (inherited : Option Source) (c : Cause) (a : Answers) → AreCauseAnswers l blank inherited c a →
         AreCauseAnswers (fading.colourless l) true inherited c (unhighlighted a)
     causes_possible l blank inherited (texts ts) a h = tt
     causes_possible l blank inherited (diagnostic (tree m own c r)) a h =
@@ -64,7 +64,7 @@ module _ (kept : AreRowsKept) where
           subst (AreCauseAnswers (fading.colourless l) true inherited c) (cause-bare a) (causes_possible l blank inherited c (cause_answers a) h.2),
         )
 
-    related_possible : (l : frames.Settings) (blank : Bool) (inherited : Option Source) (ts : Trees) (more : RelatedAnswers) → AreRelatedAnswers l blank inherited ts more →
+    related_possible : (l : frames.SnippetSettings) (blank : Bool) (inherited : Option Source) (ts : Trees) (more : RelatedAnswers) → AreRelatedAnswers l blank inherited ts more →
         AreRelatedAnswers (fading.colourless l) true inherited ts (unhighlighted_related more)
     related_possible l blank inherited no_trees more h = tt
     related_possible l blank inherited (more_trees (tree m own c r) ts) no_more h =

@@ -6,7 +6,7 @@ use Rattle.miette_page.specs.rules.Rows.{Row, Run}
 use Rattle.miette_page.specs.views.Printouts.{Printout, printout_of, start_of, stop_of, ended, put, ◌⊕◌}
 use Rattle.miette_page.specs.views.Told.{Token, begins, row_end, told, told_run, told_rows, run_told, text_told}
 use Rattle.miette_page.proofs.Paging.{put_append, text_put}
-use Rattle.miette_graphical.specs.rules.Parts.{rows_text}
+use Rattle.miette_graphical.specs.rules.DiagnosticText.{rows_text}
 use Rattle.miette_graphical.proofs.SnippetsFading.{run_codes}
 use Rattle.miette_graphical.specs.rules.Snippets.{run_text, runs_of_row}
 

@@ -14,7 +14,7 @@ use Rattle.miette_graphical.specs.rules.Answered.{AreCauseAnswers, AreRelatedAns
 use Rattle.miette_graphical.specs.rules.Calls.{cause_calls, related_calls}
 use Rattle.miette_tree.specs.views.Handler.{AppendsOne}
 use Rattle.miette_tree.specs.rules.Chain.{texts_below}
-use Rattle.miette_graphical.specs.rules.Parts.{SnippetRows}
+use Rattle.miette_graphical.specs.rules.DiagnosticText.{SnippetRows}
 use Rattle.miette_graphical.specs.rules.Printed.{Printed, all_read, printed_causes, printed_related}
 use Rattle.miette_graphical.specs.rules.Settings.{Settings}
 use Rattle.miette_graphical.specs.rules.Snippets.{layout_settings}

@@ -10,7 +10,7 @@ use Rattle.miette_graphical.proofs.TextLaws.{TextLaws}
 use Rattle.miette_graphical.specs.rules.Settings.{Settings}
 use Rattle.miette_graphical.specs.rules.Answers.{Answer, Answers, RelatedAnswers, own_answer, cause_answers, related_answers, first_answers, later_answers}
 use Rattle.miette_graphical.specs.rules.Indents.{narrowed}
-use Rattle.miette_graphical.specs.rules.Parts.{SnippetRows, header, footer_text, under_arrow, title_text}
+use Rattle.miette_graphical.specs.rules.DiagnosticText.{SnippetRows, header, footer_text, under_arrow, title_text}
 use Rattle.miette_graphical.specs.rules.Text.{ends_there, are_last, only_if, body, inner_text, causes_text, related_text, report_text}
 use Rattle.miette_tree.specs.rules.Tree.{effective}
 use Rattle.miette_layout.specs.laws.Clean.{IsCleanSource}

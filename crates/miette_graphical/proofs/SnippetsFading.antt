@@ -16,22 +16,22 @@ use Rattle.miette_layout.specs.laws.Clean.{IsCleanLabel, IsCleanRow, IsCleanSour
 use Rattle.miette_layout.specs.laws.Fading as fading
 use Rattle.miette_layout.specs.laws.Fading.{IsPlainRow}
 use Rattle.miette_layout.specs.rules.Frames as frames
-use Rattle.miette_layout.specs.rules.Layout.{snippet_rows}
+use Rattle.miette_layout.specs.rules.SnippetLayout.{snippet_rows}
 use Rattle.miette_page.specs.rules.Rows.{Piece, Row, Run, pieces_of}
 use Rattle.miette_graphical.specs.rules.Answers.{Answer}
 use Rattle.miette_graphical.specs.laws.Clean.{AreCleanSettings, HaveNoEscapes}
 use Rattle.miette_graphical.specs.laws.Colourless.{AreSnippets, colourless, unhighlighted_answer}
-use Rattle.miette_graphical.specs.rules.Parts.{line_feed, rows_text}
+use Rattle.miette_graphical.specs.rules.DiagnosticText.{line_feed, rows_text}
 use Rattle.miette_graphical.specs.rules.Settings.{Settings}
 use Rattle.miette_graphical.specs.rules.Snippets.{drawn_rows, layout_settings, run_text, runs_of_row, shown_rows}
 
 -- the clauses of the laws of that layer
 pub record LayoutLaws : Type 0 where
-  pub same : (s : frames.Settings) (source : Source) (labels : List Label) (answers : layout.Answers) →
+  pub same : (s : frames.SnippetSettings) (source : Source) (labels : List Label) (answers : layout.Answers) →
       option_map (map pieces_of) (snippet_rows (fading.colourless s) source labels (fading.unhighlighted answers)) ≡ option_map (map pieces_of) (snippet_rows s source labels answers)
-  pub plain : (s : frames.Settings) (source : Source) (labels : List Label) (answers : layout.Answers) →
+  pub plain : (s : frames.SnippetSettings) (source : Source) (labels : List Label) (answers : layout.Answers) →
       IfSome (snippet_rows (fading.colourless s) source labels (fading.unhighlighted answers)) (AllByRecursion IsPlainRow)
-  pub clean : (s : frames.Settings) (source : Source) (labels : List Label) (answers : layout.Answers) →
+  pub clean : (s : frames.SnippetSettings) (source : Source) (labels : List Label) (answers : layout.Answers) →
       AreCleanDrawings s.characters → IsCleanSource source → AllByRecursion IsCleanLabel labels → IfSome (snippet_rows s source labels answers) (AllByRecursion IsCleanRow)
 
 -- ---- the bytes of any codes read as these codes

@@ -17,8 +17,8 @@ use Rattle.miette_layout.specs.rules.Frames as frames
 use Rattle.miette_layout.specs.rules.Frames.{refused_row, top_row, bottom_row, number_width}
 use Rattle.miette_layout.specs.rules.Gutters.{gutter_columns}
 use Rattle.miette_layout.specs.rules.Highlighted.{group_calls, highlight_of, line_calls, piece_of, pieces_by, texts_of}
-use Rattle.miette_layout.specs.rules.Layout.{all_snippets, cells_of, line_rows, place_of, rows_of_lines, rows_unless, settings_around, snippet_rows}
-use Rattle.miette_tree.specs.rules.Parts.{given_labels}
+use Rattle.miette_layout.specs.rules.SnippetLayout.{all_snippets, cells_of, line_rows, place_of, rows_of_lines, rows_unless, settings_around, snippet_rows}
+use Rattle.miette_tree.specs.rules.DiagnosticParts.{given_labels}
 use Rattle.miette_tree.specs.rules.Tree.{Tree, tree, Cause, diagnostic, texts, Trees, no_trees, more_trees, effective}
 use Rattle.miette_tree.specs.views.Handler.{AppendsOne}
 use Rattle.miette_graphical.specs.rules.Answered.{AppendsAsked, AreAnswers, AreCauseAnswers, AreRelatedAnswers}
@@ -26,7 +26,7 @@ use Rattle.miette_graphical.specs.rules.Answers.{Answer, Answers, RelatedAnswers
 use Rattle.miette_graphical.specs.rules.ByLine.{answers_by, causes_by, labels_by, own_by, related_by}
 use Rattle.miette_graphical.specs.rules.Calls.{cause_calls, own_calls, related_calls, report_calls}
 use Rattle.miette_graphical.specs.rules.Indents.{narrowed}
-use Rattle.miette_graphical.specs.rules.Parts.{rows_text, title_text, under_arrow}
+use Rattle.miette_graphical.specs.rules.DiagnosticText.{rows_text, title_text, under_arrow}
 use Rattle.miette_graphical.specs.rules.Printed.{all_read, always_reads, printed, printed_causes, printed_inner, printed_related, printed_sibling}
 use Rattle.miette_graphical.specs.rules.Settings.{Settings}
 use Rattle.miette_graphical.specs.rules.Snippets.{drawn_rows, layout_settings, shown_rows}
@@ -48,14 +48,14 @@ same_highlights : (hs : List Highlight) → map highlight_of (map piece_of hs) �
 same_highlights [] = refl
 same_highlights (h ∷ hs) = ap (λ r. h ∷ r) (same_highlights hs)
 
-lines_by : (f : List ℕ → List Piece) (s : frames.Settings) (w columns : ℕ) (labels : List DrawnLabel) (source : List ℕ) (number : ℕ) (pieces : List (List Highlight)) (ls : List Line) → AnsweredBy f (line_calls (texts_of source ls) pieces) →
+lines_by : (f : List ℕ → List Piece) (s : frames.SnippetSettings) (w columns : ℕ) (labels : List DrawnLabel) (source : List ℕ) (number : ℕ) (pieces : List (List Highlight)) (ls : List Line) → AnsweredBy f (line_calls (texts_of source ls) pieces) →
     rows_of_lines s w columns labels source number pieces ls ≡ rows_of_lines s w columns labels source number (map (λ text. map highlight_of (counted (f text))) (texts_of source ls)) ls
 lines_by f s w columns labels source number pieces [] h = refl
 lines_by f s w columns labels source number pieces (l ∷ ls) h =
     ap₂ (λ p r. line_rows s w columns labels l number (cells_of s source l) p ++ r) (sym (same_highlights (first_of pieces)) ∙ ap (map highlight_of) h.0)
     (lines_by f s w columns labels source (number + 1) (later_of pieces) ls h.1)
 
-snippets_by : (f : List ℕ → List Piece) (s : frames.Settings) (source : Source) (labels : List Label) (pieces : List (List (List Highlight))) (groups : List Span) → AnsweredBy f (group_calls s.context source groups pieces) →
+snippets_by : (f : List ℕ → List Piece) (s : frames.SnippetSettings) (source : Source) (labels : List Label) (pieces : List (List (List Highlight))) (groups : List Span) → AnsweredBy f (group_calls s.context source groups pieces) →
     all_snippets s source labels pieces groups ≡ all_snippets s source labels (pieces_by f s.context source groups) groups
 snippets_by f s source labels pieces [] h = refl
 snippets_by f s source labels pieces (group ∷ groups) h =
@@ -66,7 +66,7 @@ snippets_by f s source labels pieces (group ∷ groups) h =
     (lines_by f s (number_width lent) (gutter_columns drawn (lines_of_contents lent)) drawn source.bytes (lent.line + 1) (first_of pieces) (lines_of_contents lent) k.0)
     (snippets_by f s source labels (later_of pieces) groups k.1)
 
-unless_by : (f : List ℕ → List Piece) (l : frames.Settings) (source : Source) (labels : List Label) (pieces : List (List (List Highlight))) (refused : Option Refusal) →
+unless_by : (f : List ℕ → List Piece) (l : frames.SnippetSettings) (source : Source) (labels : List Label) (pieces : List (List (List Highlight))) (refused : Option Refusal) →
     AnsweredBy f (if is_some refused then [] else group_calls (group_context l.context labels) source (groups_of l.context source [] labels) pieces) →
     rows_unless l source labels (pieces_listed pieces) (option_map (refused_row l) refused) ≡ rows_unless l source labels (labels_by f l.context source labels) (option_map (refused_row l) refused)
 unless_by f l source labels pieces (Some r) h = refl
@@ -94,7 +94,7 @@ if_same true x u y v p q = p refl
 if_same false x u y v p q = q refl
 
 mutual
-  cause_text_by : (f : List ℕ → List Piece) (l : frames.Settings) (blank : Bool) (s : Settings) (outer : Option Severity) (inherited : Option Source) (c : Cause) (a : Answers) (nested : Bool) → s.nested ≡ nested →
+  cause_text_by : (f : List ℕ → List Piece) (l : frames.SnippetSettings) (blank : Bool) (s : Settings) (outer : Option Severity) (inherited : Option Source) (c : Cause) (a : Answers) (nested : Bool) → s.nested ≡ nested →
       AreCauseAnswers l blank inherited c a → all_read (printed_causes nested inherited c) ≡ true → AnsweredBy f (cause_calls s.context nested inherited c a) →
       causes_text drawn_rows s outer inherited c a ≡ causes_text drawn_rows s outer inherited c (causes_by f s.context inherited c)
   cause_text_by f l blank s outer inherited (texts ts) a nested w h e b = refl
@@ -111,7 +111,7 @@ mutual
       (ap₂ (inner_over n m) (rows_by f n source m (own_answer a) (h.0.read q.0) j.0) (related_text_by f l blank n m.severity source r (related_answers a) nested w h.1 q.1 j.1)))
       (cause_text_by f l blank s outer inherited c (cause_answers a) nested w h.2 p.1 k.1)
 
-  related_text_by : (f : List ℕ → List Piece) (l : frames.Settings) (blank : Bool) (s : Settings) (outer : Option Severity) (inherited : Option Source) (ts : Trees) (more : RelatedAnswers) (nested : Bool) → s.nested ≡ nested →
+  related_text_by : (f : List ℕ → List Piece) (l : frames.SnippetSettings) (blank : Bool) (s : Settings) (outer : Option Severity) (inherited : Option Source) (ts : Trees) (more : RelatedAnswers) (nested : Bool) → s.nested ≡ nested →
       AreRelatedAnswers l blank inherited ts more → all_read (printed_related nested inherited ts) ≡ true → AnsweredBy f (related_calls s.context nested inherited ts more) →
       related_text drawn_rows s outer inherited ts more ≡ related_text drawn_rows s outer inherited ts (related_by f s.context inherited ts)
   related_text_by f l blank s outer inherited no_trees more nested w h e b = refl
@@ -152,7 +152,7 @@ mutual
       (related_text_by f l blank s m.severity source r (related_answers a) false w h.2 o.1 j.1)))
       (related_text_by f l blank s outer inherited ts (later_answers more) false w h.3 p.1 k.1)
 
-root_text_by : (f : List ℕ → List Piece) (l : frames.Settings) (blank : Bool) (s : Settings) (m : Meaning) (own : Option Source) (c : Cause) (a : Answers) (chain : Bool) →
+root_text_by : (f : List ℕ → List Piece) (l : frames.SnippetSettings) (blank : Bool) (s : Settings) (m : Meaning) (own : Option Source) (c : Cause) (a : Answers) (chain : Bool) →
     (chain ≡ true → AreCauseAnswers l blank own c a) → all_read (if chain then printed_causes s.nested own c else []) ≡ true → AnsweredBy f (if chain then cause_calls s.context s.nested own c a else []) →
     only_if chain (causes_text drawn_rows s m.severity own c a) ≡ only_if chain (causes_text drawn_rows s m.severity own c (causes_by f s.context own c))
 root_text_by f l blank s m own c a true h e b = cause_text_by f l blank s m.severity own c a s.nested refl (h refl) e b

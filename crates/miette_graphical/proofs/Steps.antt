@@ -10,8 +10,8 @@ use Rattle.miette_protocol.specs.declared.protocol.Severity.{Severity}
 use Rattle.miette_graphical.specs.rules.Settings.{Settings}
 use Rattle.miette_graphical.specs.rules.Answers.{Answers, unlisted, listed, no_more, and_more, own_answer, cause_answers, related_answers}
 use Rattle.miette_graphical.specs.rules.Indents.{narrowed}
-use Rattle.miette_graphical.specs.rules.Parts.{SnippetRows, rows_text, under_arrow, header, message_text, help_text, footer_text, title_text}
-use Rattle.miette_tree.specs.rules.Parts.{given_labels}
+use Rattle.miette_graphical.specs.rules.DiagnosticText.{SnippetRows, rows_text, under_arrow, header, message_text, help_text, footer_text, title_text}
+use Rattle.miette_tree.specs.rules.DiagnosticParts.{given_labels}
 use Rattle.miette_graphical.specs.rules.Text.{cause_texts, ends_there, are_last, body, body_over, inner_over, inner_text, causes_text, related_text, only_if}
 use Rattle.miette_tree.specs.rules.Tree.{effective}
 use Rattle.miette_layout.specs.rules.Frames as frames
@@ -37,7 +37,7 @@ first_and_more value (r ∷ rs) d h = ap (λ t. more_trees (value r) (trees (map
 -- ---- where nothing is listed, nothing failed
 
 mutual
-  causes-unlisted : (l : frames.Settings) (blank : Bool) (inherited : Option Source) (c : Cause) → AreCauseAnswers l blank inherited c unlisted
+  causes-unlisted : (l : frames.SnippetSettings) (blank : Bool) (inherited : Option Source) (c : Cause) → AreCauseAnswers l blank inherited c unlisted
   causes-unlisted l blank inherited (texts ts) = tt
   causes-unlisted l blank inherited (diagnostic (tree m own c r)) = (
     unlisted_is l blank (effective own inherited) (given_labels m.labels) (always_reads (effective own inherited) m),
@@ -45,7 +45,7 @@ mutual
     causes-unlisted l blank inherited c,
   )
 
-  related-unlisted : (l : frames.Settings) (blank : Bool) (inherited : Option Source) (ts : Trees) → AreRelatedAnswers l blank inherited ts no_more
+  related-unlisted : (l : frames.SnippetSettings) (blank : Bool) (inherited : Option Source) (ts : Trees) → AreRelatedAnswers l blank inherited ts no_more
   related-unlisted l blank inherited no_trees = tt
   related-unlisted l blank inherited (more_trees (tree m own c r) ts) = (
     unlisted_is l blank (effective own inherited) (given_labels m.labels) (always_reads (effective own inherited) m),

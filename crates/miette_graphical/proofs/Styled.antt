@@ -1,12 +1,12 @@
 -- A text in a style, and a header or the end of its row.
 use Rattle.std.proofs.Common.{◌≡◌, ◌≢◌, ℕ, Bool, true, false, not, List, [], ◌∷◌, ◌++◌, Option, Some, None, codes, refl, sym}
 use Rattle.std.specs.Str.{chars}
-use Rattle.miette_text.specs.rules.Runs.{Run, colour_start, colour_stop, flag, foreground_codes, printed_run, style_codes}
+use Rattle.miette_text.specs.rules.Runs.{Fragment, colour_start, colour_stop, flag, foreground_codes, printed_run, style_codes}
 use Rattle.miette_style.specs.rules.Styles.{plain}
 use Rattle.miette_text.specs.rules.Tame.{is_nil}
 use Rattle.miette_style.specs.declared.style.Color.{Color}
 use Rattle.miette_style.specs.declared.style.Style.{Style}
-use Rattle.miette_graphical.specs.rules.Parts.{header_or_end}
+use Rattle.miette_graphical.specs.rules.DiagnosticText.{header_or_end}
 
 -- a style in which something is set has codes
 some_codes : (fg : Option Color) (bold dimmed italic underline : Bool) →
@@ -29,11 +29,11 @@ in_style s [] last h = in_codes (colour_start s) (last ∷ []) (style_codes s) (
 in_style s (c ∷ cs) last h = in_codes (colour_start s) (c ∷ cs ++ last ∷ []) (style_codes s) (λ e. h (sym (some_codes s.fg s.bold s.dimmed s.italic s.underline e)))
 
 -- a header that is there, and one that isn't
-pub headed : (list : List Run) → true ≡ not (is_nil list) → header_or_end list ≡ list
+pub headed : (list : List Fragment) → true ≡ not (is_nil list) → header_or_end list ≡ list
 headed [] h = absurd (cc)
 headed (x ∷ xs) h = refl
 
-pub unheaded : (list : List Run) → false ≡ not (is_nil list) → list ≡ []
+pub unheaded : (list : List Fragment) → false ≡ not (is_nil list) → list ≡ []
 unheaded [] h = refl
 unheaded (x ∷ xs) h = absurd (cc)
 

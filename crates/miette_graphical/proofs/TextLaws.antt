@@ -4,7 +4,7 @@ use Rattle.miette_text.specs.rules.Sequences.{tokens, erase}
 use Rattle.miette_text.specs.rules.Tame.{IsTame, AllTame}
 use Rattle.miette_style.specs.rules.Escapes.{no_escape}
 use Rattle.miette_text.specs.rules.Tame as tame
-use Rattle.miette_text.specs.rules.Runs.{Run, Styled, HaveNoEscape, plain_run, print}
+use Rattle.miette_text.specs.rules.Runs.{Fragment, Styled, HaveNoEscape, plain_run, print}
 use Rattle.miette_style.specs.rules.Styles.{plain}
 use Rattle.miette_text.specs.rules.Cutting.{without_leading, without_trailing}
 use Rattle.miette_text.specs.rules.Wrapping.{Plan, columns_of, wrapped}
@@ -18,8 +18,8 @@ pub record TextLaws : Type 0 where
   pub leading-erase : (text : List ℕ) → IsTame text → erase (without_leading text) ≡ without_leading (erase text)
   pub trailing-tame : (text : List ℕ) → IsTame text → IsTame (without_trailing text)
   pub trailing-erase : (text : List ℕ) → IsTame text → erase (without_trailing text) ≡ without_trailing (erase text)
-  pub print-tame : (runs : List Run) → HaveNoEscape runs → IsTame (print runs)
-  pub print-erase : (runs : List Run) → HaveNoEscape runs → erase (print runs) ≡ print (map plain_run runs)
+  pub print-tame : (runs : List Fragment) → HaveNoEscape runs → IsTame (print runs)
+  pub print-erase : (runs : List Fragment) → HaveNoEscape runs → erase (print runs) ≡ print (map plain_run runs)
   pub erase-columns : (text : List ℕ) → IsTame text → columns_of (tokens (erase text)) ≡ columns_of (tokens text)
 
 -- a text that holds no escape is that of one plain run

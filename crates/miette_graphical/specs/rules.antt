@@ -2,7 +2,7 @@
 pub mod Settings
 pub mod Answers
 pub mod Indents
-pub mod Parts
+pub mod DiagnosticText
 pub mod Text
 pub mod Printed
 pub mod Answered

@@ -1,7 +1,7 @@
 //! The texts of one diagnostic: its header, its message, what a sibling begins with, and causes that are texts.
 
 ghost use Rattle.std.specs.Prelude.{◌≡◌, ◌++◌, IfOk, OnOk, map, not, string_bytes};
-ghost use Rattle.miette_graphical.specs.rules.Parts as parts;
+ghost use Rattle.miette_graphical.specs.rules.DiagnosticText as parts;
 ghost use Rattle.miette_graphical.specs.rules.Text as texts;
 ghost use Rattle.miette_graphical.specs.views.SettingsView.{settings_of};
 ghost use Rattle.miette_tree.specs.views.Report.{tree_of};

@@ -4,7 +4,7 @@ ghost use Rattle.std.specs.Prelude.{◌≡◌, ◌++◌, ◌-◌, IfOk, OnOk, ch
 ghost use Rattle.miette_graphical.specs.views.Modes.{splits};
 ghost use Rattle.miette_graphical.specs.views.SettingsView.{settings_of};
 ghost use Rattle.miette_graphical.specs.rules.Indents as indents;
-ghost use Rattle.miette_graphical.specs.rules.Parts as parts;
+ghost use Rattle.miette_graphical.specs.rules.DiagnosticText as parts;
 ghost use Rattle.miette_text.specs.views.Plans.{printed_plan};
 ghost use Rattle.miette_text.specs.rules.Runs.{print};
 ghost use Rattle.miette_text.specs.rules.Sequences.{spell};
@@ -123,7 +123,7 @@ fn stem_indent(alloc: Global, layout: Layout<'_>, branch: Branch) -> Result<Runs
 }
 
 /// The layout of what stands under an arrow.
-pub fn narrowed<'a>(
+pub fn layout_under<'a>(
     alloc: Global,
     layout: Layout<'a>,
     branch: Branch,

@@ -10,7 +10,7 @@ ghost use Rattle.miette_graphical.specs.laws.Colourless.{AreSnippets, IsColoured
 ghost use Rattle.miette_graphical.specs.laws.Colourless.{colourless, unhighlighted};
 ghost use Rattle.std.specs.List.{AllByRecursion, Contains};
 ghost use Rattle.miette_graphical.specs.laws.Headline.{LinesAreShown, MarksAreApart, TextsHang};
-ghost use Rattle.miette_graphical.specs.rules.Parts.{SnippetRows};
+ghost use Rattle.miette_graphical.specs.rules.DiagnosticText.{SnippetRows};
 ghost use Rattle.miette_graphical.specs.laws.Paths.{HasPath, Step, printed_at};
 ghost use Rattle.miette_graphical.specs.laws.Shipped.{AreNarrow, AreShipped};
 ghost use Rattle.miette_graphical.specs.rules.Printed.{Printed, all_read, printed};

@@ -17,7 +17,7 @@ ghost use Rattle.miette_tree.specs.rules.Tree.{cause_of, effective, head, source
 ghost use Rattle.miette_text.specs.rules.Sequences.{spell};
 
 use crate::diagnostic::{is_nil, push_cause_texts, push_header_of, push_message_of, push_title};
-use crate::indents::{Branch, narrowed, push_help, push_under_arrow};
+use crate::indents::{Branch, layout_under, push_help, push_under_arrow};
 use crate::pen::Pen;
 use crate::settings::Layout;
 use miette_layout::options::{LayoutOptions, Look};
@@ -107,7 +107,7 @@ fn push_drawn<S: SourceCode, H: Highlighter>(
             primary_start: layout.primary_start,
         },
     };
-    let page = Page::over(mem::replace(out, Output::printed(pen.alloc)));
+    let page = Page::over(mem::replace(out, Output::for_text(pen.alloc)));
     let page = match snippets(&mut pen.highlighter, &look, &source, labels, page) {
         Ok(page) => page,
         Err(RenderError::Refused) => return Err(RenderError::Refused),
@@ -190,7 +190,7 @@ fn push_one_cause<D: Diagnostic, S: SourceCode, H: Highlighter>(
         outer,
         is_last: ends_there(cause),
     };
-    let narrow = narrowed(pen.alloc, layout, branch)?;
+    let narrow = layout_under(pen.alloc, layout, branch)?;
     let inner = inner_text(pen, narrow, own_or(cause, inherited), cause)?;
     push_under_arrow(pen.alloc, layout, branch, &inner, out)?;
     Ok(())
@@ -214,7 +214,7 @@ fn inner_text<D: Diagnostic, S: SourceCode, H: Highlighter>(
         (tree_of D.meaning S.source report.now)) ≡ false }
     ensures stays { leaves_plain H.is_blank pen.new.highlighter ≡ leaves_plain H.is_blank pen.old.highlighter }
 {
-    let mut text = Output::collected(pen.alloc);
+    let mut text = Output::for_runs(pen.alloc);
     push_header_of(layout, report, &mut text)?;
     push_message_of(pen.alloc, layout, report, &mut text)?;
     push_below(pen, layout, source, report, &mut text)?;
@@ -295,7 +295,7 @@ fn push_nested<D: Diagnostic, S: SourceCode, H: Highlighter>(
         (tree_of D.meaning S.source report.now)) ≡ false }
     ensures stays { leaves_plain H.is_blank pen.new.highlighter ≡ leaves_plain H.is_blank pen.old.highlighter }
 {
-    let narrow = narrowed(pen.alloc, layout, branch)?;
+    let narrow = layout_under(pen.alloc, layout, branch)?;
     let inner = inner_text(pen, narrow, source, report)?;
     let cut = without_trailing(pen.alloc, inner)?;
     push_under_arrow(pen.alloc, layout, branch, &cut, out)?;

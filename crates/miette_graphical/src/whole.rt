@@ -57,7 +57,7 @@ pub fn report_output<D: Diagnostic, S: SourceCode, H: Highlighter>(
         all_read (printed (settings_of layout.entry) (tree_of D.meaning S.source report.now)) ≡ false }
     ensures stays { leaves_plain H.is_blank pen.new.highlighter ≡ leaves_plain H.is_blank pen.old.highlighter }
 {
-    let mut text = Output::printed(pen.alloc);
+    let mut text = Output::for_text(pen.alloc);
     push_header_of(layout, report, &mut text)?;
     push_message_of(pen.alloc, layout, report, &mut text)?;
     push_root_causes(pen, layout, report, &mut text)?;

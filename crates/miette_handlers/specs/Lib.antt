@@ -4,7 +4,7 @@ pub use Rattle.miette_graphical.specs.rules.Settings
 pub use Rattle.miette_graphical.specs.views.Modes
 pub use Rattle.miette_graphical.specs.rules.Answers
 pub use Rattle.miette_graphical.specs.rules.Indents
-pub use Rattle.miette_graphical.specs.rules.Parts
+pub use Rattle.miette_graphical.specs.rules.DiagnosticText
 pub use Rattle.miette_graphical.specs.rules.Text
 pub use Rattle.miette_graphical.specs.laws.Clean
 pub use Rattle.miette_graphical.specs.laws.Colourless

@@ -5,7 +5,7 @@ use Rattle.miette_json.specs.rules.Json.{Json, string, array, object, Items, ite
 use Rattle.miette_protocol.specs.rules.Reading.{Source}
 use Rattle.miette_tree.specs.rules.Tree.{Tree, tree, head, source_of, cause_of, causes_of, related_of, effective}
 use Rattle.miette_json.specs.rules.JsonReport.{NameAnswers, own_fault, related_answers, maybe, strings, labels_json, file_name, report_json, reports_json}
-use Rattle.miette_tree.specs.rules.Parts.{severity_text, given_labels}
+use Rattle.miette_tree.specs.rules.DiagnosticParts.{severity_text, given_labels}
 use Rattle.miette_json.specs.rules.JsonText.{key_text, maybe_text, rest_text, start_text, head_text, reasons_text, places_text}
 
 -- what is left to write grows shorter

@@ -14,8 +14,8 @@ use Rattle.miette_lines.specs.rules.Labels.{DrawnLabel, starts_on, ends_on, one_
 use Rattle.miette_layout.specs.rules.Marks.{Mark, AreApart}
 use Rattle.miette_layout.specs.rules.Drawing.{IsNarrow, blank, mark_runs, rows_below, marked_rows}
 use Rattle.miette_layout.specs.rules.Gutters.{most_labels, gutter_columns, number_gutter, other_gutter, closing_rows, ending_corner, arrow}
-use Rattle.miette_layout.specs.rules.Frames.{Settings, other_start, number_start}
-use Rattle.miette_layout.specs.rules.Layout.{line_rows, before_each, text_of_cells}
+use Rattle.miette_layout.specs.rules.Frames.{SnippetSettings, other_start, number_start}
+use Rattle.miette_layout.specs.rules.SnippetLayout.{line_rows, before_each, text_of_cells}
 use Rattle.miette_layout.specs.laws.Pictures.{mark_at, marks_end, Hangs, AreMarked, ShowMarks, marks_of_line, text_start, HasText}
 use Rattle.miette_lines.proofs.Numbers.{by_cases}
 use Rattle.miette_layout.proofs.Apart.{marks_apart}
@@ -54,12 +54,12 @@ other_gutter-columns width t n line left (label ∷ labels) h =
     (λ f. rw f (front (styled width label.style (t.vbar ∷ [])) (other_gutter width t line (left - 1) labels)
     ∙ omega (arith, n.vbar, h, other_gutter-columns width t n line (left - 1) labels (omega (arith, h)))))
 
-pub other_start-columns : (s : Settings) (w : ℕ) → IsNarrow s.width s.characters → columns_of (pieces_of (other_start s w)) ≡ w + 4
+pub other_start-columns : (s : SnippetSettings) (w : ℕ) → IsNarrow s.width s.characters → columns_of (pieces_of (other_start s w)) ≡ w + 4
 other_start-columns s w n =
     columns_of-append (replicate (w + 2) (drawn s.width 32)) (drawn s.width s.characters.vbar_break ∷ drawn s.width 32 ∷ [])
     ∙ omega (arith, n.space, n.vbar_break, columns_of-blank s.width (w + 2) n.space)
 
-pub other-columns : (s : Settings) (w columns : ℕ) (labels : List DrawnLabel) (line : Line) → IsNarrow s.width s.characters → HasRoom labels line columns →
+pub other-columns : (s : SnippetSettings) (w columns : ℕ) (labels : List DrawnLabel) (line : Line) → IsNarrow s.width s.characters → HasRoom labels line columns →
     columns_of (pieces_of (other_start s w ++ other_gutter s.width s.characters line columns (multi_line line labels))) ≡ text_start w columns
 other-columns s w columns labels line n room =
     let gutter : Row = other_gutter s.width s.characters line columns (multi_line line labels) in
@@ -73,7 +73,7 @@ behind prefix (row ∷ rows) =
     ap (λ r. r ∷ map pieces_of (before_each prefix rows)) (pieces_of-append prefix row) ∙ ap (λ r. (pieces_of prefix ++ pieces_of row) ∷ r) (behind prefix rows)
 
 -- marks and texts behind a prefix, with more rows below
-marked : (s : Settings) (n : IsNarrow s.width s.characters) (prefix : Row) (more : List Row) (ms : List Mark) → AreApart 0 ms →
+marked : (s : SnippetSettings) (n : IsNarrow s.width s.characters) (prefix : Row) (more : List Row) (ms : List Mark) → AreApart 0 ms →
     AreMarked s (columns_of (pieces_of prefix)) ms ((prefix ++ mark_runs s.width s.characters 0 ms) ∷ (before_each prefix (rows_below s.width s.characters [] ms) ++ more))
 marked s n prefix more ms apart =
     let width : ℕ → ℕ = s.width in
@@ -91,13 +91,13 @@ marked s n prefix more ms apart =
           (all_more width t start below (map pieces_of more) ms (all_beside width t (pieces_of prefix) (plain_below width t [] ms) ms (plain_hang width t ms n apart))),
     )
 
-shown : (s : Settings) (n : IsNarrow s.width s.characters) (prefix : Row) (number : Row) (more : List Row) (ms : List Mark) → AreApart 0 ms →
+shown : (s : SnippetSettings) (n : IsNarrow s.width s.characters) (prefix : Row) (number : Row) (more : List Row) (ms : List Mark) → AreApart 0 ms →
     ShowMarks s (columns_of (pieces_of prefix)) ms (number ∷ before_each prefix (marked_rows s.width s.characters ms) ++ more)
 shown s n prefix number more [] apart = tt
 shown s n prefix number more (m ∷ ms) apart = marked s n prefix more (m ∷ ms) apart
 
 -- each text of the labels that lie on a line alone hangs in the line's rows
-pub line_shows : (s : Settings) (w columns : ℕ) (labels : List DrawnLabel) (line : Line) (number : ℕ) (cells : List Cell) (pieces : List Highlight) → IsNarrow s.width s.characters → HasRoom labels line columns →
+pub line_shows : (s : SnippetSettings) (w columns : ℕ) (labels : List DrawnLabel) (line : Line) (number : ℕ) (cells : List Cell) (pieces : List Highlight) → IsNarrow s.width s.characters → HasRoom labels line columns →
     ShowMarks s (text_start w columns) (marks_of_line labels line cells) (line_rows s w columns labels line number cells pieces)
 line_shows s w columns labels line number cells pieces n room =
     subst (λ (start : ℕ). ShowMarks s start (marks_of_line labels line cells) (line_rows s w columns labels line number cells pieces)) (other-columns s w columns labels line n room)
@@ -141,7 +141,7 @@ padded width t n many text =
     ap columns_of (map-append (drawn width) (replicate many 32) text) ∙ columns_of-append (map (drawn width) (replicate many 32)) (map (drawn width) text)
     ∙ omega (arith, columns_of-copies width 32 many n.space)
 
-number_start-columns : (s : Settings) (w number : ℕ) → IsNarrow s.width s.characters → length (decimal number) ≤ w → columns_of (pieces_of (number_start s w number)) ≡ w + 4
+number_start-columns : (s : SnippetSettings) (w number : ℕ) → IsNarrow s.width s.characters → length (decimal number) ≤ w → columns_of (pieces_of (number_start s w number)) ≡ w + 4
 number_start-columns s w number n fits =
     let width : ℕ → ℕ = s.width in
     let num : Run = styled width s.styles.linum (replicate (w - length (decimal number)) 32 ++ decimal number) in
@@ -180,7 +180,7 @@ number_gutter-columns width t n line left (label ∷ labels) h =
     ∙ omega (arith, n.vbar, h, number_gutter-columns width t n line (left - 1) labels (omega (arith, h))))))
 
 -- the text of a number row begins where the marks' columns do
-pub line_begins : (s : Settings) (w columns : ℕ) (labels : List DrawnLabel) (line : Line) (number : ℕ) (cells : List Cell) (pieces : List Highlight) → IsNarrow s.width s.characters → HasRoom labels line columns →
+pub line_begins : (s : SnippetSettings) (w columns : ℕ) (labels : List DrawnLabel) (line : Line) (number : ℕ) (cells : List Cell) (pieces : List Highlight) → IsNarrow s.width s.characters → HasRoom labels line columns →
     length (decimal number) ≤ w → HasText (text_start w columns) (line_runs pieces cells) (line_rows s w columns labels line number cells pieces)
 line_begins s w columns labels line number cells pieces n room fits =
     let start : Row = number_start s w number in

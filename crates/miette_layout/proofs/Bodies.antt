@@ -18,8 +18,8 @@ use Rattle.miette_lines.specs.rules.Groups.{joins_before, joined, groups_from, g
 use Rattle.miette_layout.specs.rules.Snippets as N
 use Rattle.miette_lines.specs.rules.Labels.{DrawnLabel, drawn_from}
 use Rattle.miette_layout.specs.rules.Gutters.{gutter_columns}
-use Rattle.miette_layout.specs.rules.Frames.{Settings, width_of_lines}
-use Rattle.miette_layout.specs.rules.Layout.{rows_of_lines, body_rows, line_rows, cells_of, snippet, all_snippets}
+use Rattle.miette_layout.specs.rules.Frames.{SnippetSettings, width_of_lines}
+use Rattle.miette_layout.specs.rules.SnippetLayout.{rows_of_lines, body_rows, line_rows, cells_of, snippet, all_snippets}
 use Rattle.miette_layout.specs.rules.Shown.{line_at, numbered_rows, run_width, run_rows, rows_of_runs, bodies, framed}
 use Rattle.miette_lines.proofs.Sources.{lines, start_of, end_of, first_line, last_line, read, lines_in}
 use Rattle.miette_layout.proofs.Joining as J
@@ -47,7 +47,7 @@ width_is f low (suc many) =
     omega (arith, length-map-range_with_len f low (suc many), last_of-range low many) in
     ap (λ n. length (decimal n)) last
 
-rows_are : (s : Settings) (w columns : ℕ) (labels : List DrawnLabel) (source : List ℕ) (low many : ℕ) (pieces : List (List Highlight)) →
+rows_are : (s : SnippetSettings) (w columns : ℕ) (labels : List DrawnLabel) (source : List ℕ) (low many : ℕ) (pieces : List (List Highlight)) →
     rows_of_lines s w columns labels source (low + 1) pieces (map (line_at (lines_of source)) (range_with_len low many)) ≡ numbered_rows s w columns labels source pieces (range_with_len low many)
 rows_are s w columns labels source low zero pieces = refl
 rows_are s w columns labels source low (suc many) pieces =
@@ -104,7 +104,7 @@ pub lines_are : (c : ℕ) (source : Source) (span : Span) → 1 ≤ c →
     lines_of_contents (contents c source span) ≡ map (line_at (lines_of source.bytes)) (range_with_len (first_line c source.bytes span) (many_of c source.bytes span))
 lines_are c source span one = lines_by c source span one (none_or_some (length source.bytes))
 
-pub body_from : (s : Settings) (labels : List DrawnLabel) (source : List ℕ) (pieces : List (List Highlight)) (low many : ℕ) (ls : List Line) → ls ≡ map (line_at (lines_of source)) (range_with_len low many) →
+pub body_from : (s : SnippetSettings) (labels : List DrawnLabel) (source : List ℕ) (pieces : List (List Highlight)) (low many : ℕ) (ls : List Line) → ls ≡ map (line_at (lines_of source)) (range_with_len low many) →
     rows_of_lines s (width_of_lines low ls) (gutter_columns labels ls) labels source (low + 1) pieces ls ≡ run_rows s labels source pieces (range_with_len low many)
 body_from s labels source pieces low many ls e =
     let mapped : List Line = map (line_at (lines_of source)) (range_with_len low many) in
@@ -112,7 +112,7 @@ body_from s labels source pieces low many ls e =
     ∙ ap (λ w. rows_of_lines s w (gutter_columns labels mapped) labels source (low + 1) pieces mapped) (width_is (line_at (lines_of source)) low many)
     ∙ rows_are s (run_width (range_with_len low many)) (gutter_columns labels mapped) labels source low many pieces
 
-pub body_is : (s : Settings) (labels : List DrawnLabel) (source : Source) (c : ℕ) (span : Span) (pieces : List (List Highlight)) → 1 ≤ c →
+pub body_is : (s : SnippetSettings) (labels : List DrawnLabel) (source : Source) (c : ℕ) (span : Span) (pieces : List (List Highlight)) → 1 ≤ c →
     body_rows s labels source.bytes (contents c source span) pieces ≡ run_rows s labels source.bytes pieces (lines_in source.bytes (read c source.bytes span))
 body_is s labels source c span pieces one =
     let ls : List Line = lines_of_contents (contents c source span) in
@@ -120,7 +120,7 @@ body_is s labels source c span pieces one =
     ∙ body_from s labels source.bytes pieces (first_line c source.bytes span) (many_of c source.bytes span) ls (lines_are c source span one)
     ∙ ap (run_rows s labels source.bytes pieces) (sym (run_of c source.bytes span one))
 
-bodies_are : (s : Settings) (labels : List DrawnLabel) (source : Source) (pieces : List (List (List Highlight))) (spans : List Span) → 1 ≤ s.context →
+bodies_are : (s : SnippetSettings) (labels : List DrawnLabel) (source : Source) (pieces : List (List (List Highlight))) (spans : List Span) → 1 ≤ s.context →
     bodies s labels source pieces spans ≡ rows_of_runs s labels source.bytes pieces (lines_of_groups s.context source.bytes spans)
 bodies_are s labels source pieces [] one = refl
 bodies_are s labels source pieces (span ∷ spans) one =
@@ -216,7 +216,7 @@ joined_runs c source fails labels one none =
     groups_same c source (groups_answered c source fails (spans_of (in_order labels))) one ∙ runs_answered c source fails labels one none
 
 -- the rows between the frames' rows are those of the maximal runs of shown lines, each with its number and its own cells
-pub joined_bodies : (s : Settings) (source : Source) (labels : List Label) (drawn : List DrawnLabel) (fails : List Bool) (pieces : List (List (List Highlight))) → 1 ≤ s.context → NoneFails fails →
+pub joined_bodies : (s : SnippetSettings) (source : Source) (labels : List Label) (drawn : List DrawnLabel) (fails : List Bool) (pieces : List (List (List Highlight))) → 1 ≤ s.context → NoneFails fails →
     bodies s drawn source pieces (groups_answered s.context source fails (spans_of (in_order labels))) ≡ rows_of_runs s drawn source.bytes pieces (J.snippets s.context source.bytes (map (λ l. l.span) labels))
 joined_bodies s source labels drawn fails pieces one none =
     bodies_are s drawn source pieces (groups_answered s.context source fails (spans_of (in_order labels))) one
@@ -224,7 +224,7 @@ joined_bodies s source labels drawn fails pieces one none =
 
 -- whole snippets
 
-pub all_framed : (s : Settings) (source : Source) (labels : List Label) (pieces : List (List (List Highlight))) (groups : List Span) →
+pub all_framed : (s : SnippetSettings) (source : Source) (labels : List Label) (pieces : List (List (List Highlight))) (groups : List Span) →
     all_snippets s source labels pieces groups ≡ framed s source labels groups (bodies s (drawn_from s.styles.highlights (length source.bytes) 0 labels) source pieces groups)
 all_framed s source labels pieces [] = refl
 all_framed s source labels pieces (group ∷ groups) =

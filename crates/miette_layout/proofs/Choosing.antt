@@ -11,7 +11,7 @@ use Rattle.miette_lines.specs.rules.Around.{has_own}
 use Rattle.miette_lines.specs.rules.Contexts.{contents}
 use Rattle.miette_layout.specs.rules.Frames.{Place}
 use Rattle.miette_lines.specs.views.Given.{label_at}
-use Rattle.miette_layout.specs.rules.Layout.{is_within, first_marked, primary_of, begins_at, place_of}
+use Rattle.miette_layout.specs.rules.SnippetLayout.{is_within, first_marked, primary_of, begins_at, place_of}
 use Rattle.miette_lines.specs.views.Primary.{lies_within, or_else, chosen, PointsTo, begins_of, is_unread}
 use Rattle.miette_lines.specs.views.Read.{IsRead}
 use Rattle.miette_lines.proofs.Numbers.{by_cases}

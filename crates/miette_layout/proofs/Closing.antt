@@ -10,7 +10,7 @@ use Rattle.miette_lines.specs.declared.sweep.Placed.{Placed}
 use Rattle.miette_page.specs.rules.Rows.{Row}
 use Rattle.miette_lines.specs.rules.Labels.{DrawnLabel, starts_on, ends_on, cut_at_lf, closing}
 use Rattle.miette_layout.specs.rules.Gutters.{other_gutter, open_gutter, part_run, closing_parts, closing_rows}
-use Rattle.miette_layout.specs.rules.Layout.{before_each}
+use Rattle.miette_layout.specs.rules.SnippetLayout.{before_each}
 use Rattle.miette_lines.specs.views.Given.{drawn_of}
 use Rattle.miette_lines.specs.views.Sweeping.{nothing}
 use Rattle.miette_page.specs.views.Told.{Token, row_end, told, told_rows, run_told, text_told}

@@ -10,11 +10,11 @@ use Rattle.miette_protocol.specs.rules.Reading.{Span, Source}
 use Rattle.miette_lines.specs.rules.Answers.{Answers, Highlight, first_of, NoneFails, AlwaysReads}
 use Rattle.miette_lines.specs.rules.Around.{has_own, lines_around, HaveContext, group_context}
 use Rattle.miette_lines.specs.rules.Contexts.{contents}
-use Rattle.miette_layout.specs.rules.Frames.{Settings, refused_row}
+use Rattle.miette_layout.specs.rules.Frames.{SnippetSettings, refused_row}
 use Rattle.miette_lines.specs.rules.Groups as G
 use Rattle.miette_lines.specs.rules.Groups.{in_order, spans_of, groups_answered, own_groups, groups_of, AreAccepted}
 use Rattle.miette_lines.specs.rules.Labels.{DrawnLabel, drawn_from}
-use Rattle.miette_layout.specs.rules.Layout.{body_rows, all_snippets, settings_around, rows_unless, snippet_rows}
+use Rattle.miette_layout.specs.rules.SnippetLayout.{body_rows, all_snippets, settings_around, rows_unless, snippet_rows}
 use Rattle.miette_layout.specs.rules.Numbers.{runs}
 use Rattle.miette_layout.specs.rules.Shown.{rows_of_runs, bodies, framed, framed_runs}
 use Rattle.miette_layout.specs.rules.Snippets as N
@@ -97,7 +97,7 @@ groups_runs context source fails labels h none =
 
 -- ---- the rows between the frames' rows
 
-own_bodies : (s : Settings) (context : ℕ) (source : Source) (labels : List Label) (drawn : List DrawnLabel) (pieces : List (List (List Highlight))) → s.context ≡ 0 → has_own (in_order labels) ≡ true → HaveContext context labels →
+own_bodies : (s : SnippetSettings) (context : ℕ) (source : Source) (labels : List Label) (drawn : List DrawnLabel) (pieces : List (List (List Highlight))) → s.context ≡ 0 → has_own (in_order labels) ≡ true → HaveContext context labels →
     (length source.bytes ≡ 0) ⊎ (0 < length source.bytes) →
     bodies s drawn source pieces (own_groups context source (in_order labels)) ≡ rows_of_runs s drawn source.bytes pieces (N.snippets context source.bytes labels)
 own_bodies s context source labels drawn pieces bare own h (inl none) =
@@ -110,7 +110,7 @@ own_bodies s context source labels drawn pieces bare own h (inr some) =
     ∙ block_bodies s drawn source pieces (group_blocks context source.bytes (in_order labels)) bare some (groups_there context source.bytes (in_order labels) (around_ordered context labels h) some)
     ∙ ap (rows_of_runs s drawn source.bytes pieces) (runs_same context source.bytes labels h some)
 
-joined_rows : (s : Settings) (context : ℕ) (source : Source) (labels : List Label) (drawn : List DrawnLabel) (fails : List Bool) (pieces : List (List (List Highlight))) → s.context ≡ context → has_own labels ≡ false →
+joined_rows : (s : SnippetSettings) (context : ℕ) (source : Source) (labels : List Label) (drawn : List DrawnLabel) (fails : List Bool) (pieces : List (List (List Highlight))) → s.context ≡ context → has_own labels ≡ false →
     HaveContext context labels → NoneFails fails →
     bodies s drawn source pieces (groups_answered context source fails (spans_of (in_order labels))) ≡ rows_of_runs s drawn source.bytes pieces (N.snippets context source.bytes labels)
 joined_rows s context source [] drawn fails pieces same own h none = ap (rows_of_runs s drawn source.bytes pieces) (sym (no_labels context source.bytes))
@@ -121,12 +121,12 @@ joined_rows s context source (label ∷ labels) drawn fails pieces same own h no
     ∙ ap (λ c. rows_of_runs s drawn source.bytes pieces (J.snippets c source.bytes (map (λ l. l.span) (label ∷ labels)))) same
     ∙ ap (rows_of_runs s drawn source.bytes pieces) (sym (snippets_same context source.bytes (label ∷ labels) own))
 
-bodies_are_runs : (s : Settings) (source : Source) (labels : List Label) (drawn : List DrawnLabel) (fails : List Bool) (pieces : List (List (List Highlight))) → HaveContext s.context labels → NoneFails fails →
+bodies_are_runs : (s : SnippetSettings) (source : Source) (labels : List Label) (drawn : List DrawnLabel) (fails : List Bool) (pieces : List (List (List Highlight))) → HaveContext s.context labels → NoneFails fails →
     bodies (settings_around s (in_order labels)) drawn source pieces (groups_of s.context source fails (in_order labels))
     ≡ rows_of_runs (settings_around s (in_order labels)) drawn source.bytes pieces (N.snippets s.context source.bytes labels)
 bodies_are_runs s source labels drawn fails pieces h none =
     let ls : List Label = in_order labels in
-    let s' : Settings = settings_around s ls in
+    let s' : SnippetSettings = settings_around s ls in
     let either : (own : Bool) → has_own ls ≡ own → bodies s' drawn source pieces (groups_of s.context source fails ls)
     ≡ bodies s' drawn source pieces (cond own (own_groups s.context source ls) (groups_answered s.context source fails (spans_of ls))) =
     λ own e. ap (λ b. bodies s' drawn source pieces (cond b (own_groups s.context source ls) (groups_answered s.context source fails (spans_of ls)))) e in
@@ -134,11 +134,11 @@ bodies_are_runs s source labels drawn fails pieces h none =
     (λ t. either true t ∙ own_bodies s' s.context source labels drawn pieces (ap (λ b. cond b 0 s.context) t) t h (none_or_some (length source.bytes)))
     (λ f. either false f ∙ joined_rows s' s.context source labels drawn fails pieces (ap (λ b. cond b 0 s.context) f) (sym (own_ordered labels) ∙ f) h none)
 
-pub snippets_are_runs : (s : Settings) (source : Source) (labels : List Label) (answers : Answers) → HaveContext s.context labels → AreAccepted source.bytes labels → AlwaysReads answers →
+pub snippets_are_runs : (s : SnippetSettings) (source : Source) (labels : List Label) (answers : Answers) → HaveContext s.context labels → AreAccepted source.bytes labels → AlwaysReads answers →
     snippet_rows s source labels answers ≡ Some (framed_runs s source labels answers)
 snippets_are_runs s source labels answers h accepted always =
     let ls : List Label = in_order labels in
-    let s' : Settings = settings_around s ls in
+    let s' : SnippetSettings = settings_around s ls in
     let gs : List Span = groups_of s.context source answers.join_fails ls in
     let drawn : List DrawnLabel = drawn_from s.styles.highlights (length source.bytes) 0 ls in
     ap (λ r. rows_unless s source ls answers (option_map (refused_row s) r)) (none_refused source.bytes answers.label_fails ls always.labels (ordered_accepted source.bytes labels accepted))

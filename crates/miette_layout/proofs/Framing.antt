@@ -11,7 +11,7 @@ use Rattle.miette_style.specs.declared.style.Style.{Style}
 use Rattle.miette_page.specs.rules.Rows.{Row, styled}
 use Rattle.miette_style.specs.rules.Styles.{plain}
 use Rattle.miette_layout.specs.rules.Drawing.{blank}
-use Rattle.miette_layout.specs.rules.Frames.{Settings, Place, place_text}
+use Rattle.miette_layout.specs.rules.Frames.{SnippetSettings, Place, place_text}
 use Rattle.miette_layout.specs.steps.Framed.{corner_row}
 use Rattle.miette_page.specs.views.Told.{Token, begins, told, run_told, text_told}
 use Rattle.miette_page.proofs.Paging.{told_append}
@@ -34,7 +34,7 @@ run_then w style text rest p q r hq hr =
 pub run_last : (w : ℕ → ℕ) (style : Style) (text : List ℕ) (p q : Printout) → q ≡ p ⊕ run_told style text → q ≡ p ⊕ told (styled w style text ∷ [])
 run_last w style text p q h = h ∙ ap (λ x. p ⊕ x) (sym (styled_row w style text))
 
-pub corner_put : (s : Settings) (columns w corner many : ℕ) (p q r : Printout) → columns ≡ w + 2 → q ≡ p ⊕ run_told plain (replicate columns 32) → r ≡ q ⊕ run_told plain (corner ∷ replicate many s.characters.hbar) → r ≡ p ⊕ told (corner_row s w corner many)
+pub corner_put : (s : SnippetSettings) (columns w corner many : ℕ) (p q r : Printout) → columns ≡ w + 2 → q ≡ p ⊕ run_told plain (replicate columns 32) → r ≡ q ⊕ run_told plain (corner ∷ replicate many s.characters.hbar) → r ≡ p ⊕ told (corner_row s w corner many)
 corner_put s columns w corner many p q r e hq hr =
     parts_then (blank s.width (w + 2) ∷ []) (styled s.width plain (corner ∷ replicate many s.characters.hbar) ∷ []) p q r
     (hq ∙ ap (λ k. p ⊕ run_told plain (replicate k 32)) e ∙ ap (λ x. p ⊕ x) (sym (blank_row s.width (w + 2))))

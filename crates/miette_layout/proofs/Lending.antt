@@ -20,12 +20,12 @@ use Rattle.miette_lines.specs.rules.Answers.{Highlight, first_of, later_of}
 use Rattle.miette_page.specs.rules.Rows.{Row}
 use Rattle.miette_lines.specs.rules.Cells.{Cell, characters, cells_from}
 use Rattle.miette_lines.specs.rules.Contexts.{contents, lines_of_contents}
-use Rattle.miette_layout.specs.rules.Frames.{Settings, Place, top_row, top_row_of, bottom_row, number_width, width_of_lines}
+use Rattle.miette_layout.specs.rules.Frames.{SnippetSettings, Place, top_row, top_row_of, bottom_row, number_width, width_of_lines}
 use Rattle.miette_lines.specs.views.Given.{drawn_of, label_at}
 use Rattle.miette_lines.specs.rules.Groups.{in_order, spans_of}
 use Rattle.miette_layout.specs.rules.Gutters.{gutter_columns, most_labels}
 use Rattle.miette_lines.specs.rules.Labels.{DrawnLabel, is_one_line, is_multi_line, one_line, multi_line}
-use Rattle.miette_layout.specs.rules.Layout.{cells_of, line_rows, line_rows_of, rows_of_lines, body_rows}
+use Rattle.miette_layout.specs.rules.SnippetLayout.{cells_of, line_rows, line_rows_of, rows_of_lines, body_rows}
 use Rattle.miette_layout.specs.rules.Highlighted.{EachHasPieces, ArePieces, decoded_text, texts_of, line_calls, piece_of}
 use Rattle.miette_layout.specs.steps.Lent.{cells_in, text_in, texts_in, lent_rows, lent_snippet, width_of_count, gutter_of, PutsRows}
 use Rattle.miette_lines.specs.views.Placing.{placed_from}
@@ -72,7 +72,7 @@ cut_inside low at n high [] h le top = tt
 cut_inside low at n high (l ∷ ls) h le top =
     ((omega (arith, h.0), omega (arith, h.0, h.1), omega (arith, h.2, top, cut-le l.end n ls h.5)), cut_inside low l.end n high ls h.5 (omega (arith, h.3)) top)
 
-lent_from : (s : Settings) (w columns : ℕ) (drawn : List DrawnLabel) (bytes : List ℕ) (from to number : ℕ) (pieces : List (List Highlight)) (ls : List Line) → AllByRecursion (Inside from (from + (to - from))) ls →
+lent_from : (s : SnippetSettings) (w columns : ℕ) (drawn : List DrawnLabel) (bytes : List ℕ) (from to number : ℕ) (pieces : List (List Highlight)) (ls : List Line) → AllByRecursion (Inside from (from + (to - from))) ls →
     lent_rows s w columns drawn from (slice_range bytes from to) number pieces ls ≡ rows_of_lines s w columns drawn bytes number pieces ls
 lent_from s w columns drawn bytes from to number pieces [] h = refl
 lent_from s w columns drawn bytes from to number pieces (l ∷ ls) h =
@@ -93,10 +93,10 @@ lines_inside bytes from to =
     (cut_inside from from (from + length bits) (from + (to - from)) (lines_from from bits) (cut_lines from (from + length bits) bits refl) (omega arith) (omega (arith, length-take (to - from) (drop from bytes))))
 
 -- a snippet from what its read lent
-abbrev pub lent_lines : Settings → List DrawnLabel → Contents → List (List Highlight) → List Row
+abbrev pub lent_lines : SnippetSettings → List DrawnLabel → Contents → List (List Highlight) → List Row
 lent_lines s drawn lent pieces = lent_rows s (number_width lent) (gutter_columns drawn (lines_of_contents lent)) drawn lent.span.offset lent.bytes (lent.line + 1) pieces (lines_of_contents lent)
 
-pub lent_body : (s : Settings) (drawn : List DrawnLabel) (context : ℕ) (source : Source) (span : Span) (pieces : List (List Highlight)) →
+pub lent_body : (s : SnippetSettings) (drawn : List DrawnLabel) (context : ℕ) (source : Source) (span : Span) (pieces : List (List Highlight)) →
     lent_lines s drawn (contents context source span) pieces ≡ body_rows s drawn source.bytes (contents context source span) pieces
 lent_body s drawn context source span pieces =
     let lent : Contents = contents context source span in
@@ -209,20 +209,20 @@ text_fits start bytes line from text ending to small =
 
 -- the lines before a place are drawn: whatever pieces the others have, there are pieces for all, and calls that bring a
 -- highlighter from its first state over the state now
-abbrev pub AreLined : Settings → ℕ → ℕ → List DrawnLabel → ℕ → List ℕ → ℕ → Bool → (List Call → Type 0) → (List Call → Type 0) → ℕ → ℕ → Printout → Printout → Type 0
+abbrev pub AreLined : SnippetSettings → ℕ → ℕ → List DrawnLabel → ℕ → List ℕ → ℕ → Bool → (List Call → Type 0) → (List Call → Type 0) → ℕ → ℕ → Printout → Printout → Type 0
 AreLined s w columns drawn start bytes first blank begun now at number before page =
     (more : List (List Highlight)) → EachHasPieces blank (texts_in start bytes (P.lines_from (start + at) (drop at bytes))) more →
     (all : List (List Highlight)) × EachHasPieces blank (texts_in start bytes (P.lines_from start bytes)) all
     × ((later : List Call) → now (line_calls (texts_in start bytes (P.lines_from (start + at) (drop at bytes))) more ++ later) → begun (line_calls (texts_in start bytes (P.lines_from start bytes)) all ++ later))
     × (page ⊕ told_rows (lent_rows s w columns drawn start bytes number more (P.lines_from (start + at) (drop at bytes))) ≡ before ⊕ told_rows (lent_rows s w columns drawn start bytes first all (P.lines_from start bytes)))
 
-pub lines_first : (s : Settings) (w columns : ℕ) (drawn : List DrawnLabel) (start : ℕ) (bytes : List ℕ) (first : ℕ) (blank : Bool) (begun : List Call → Type 0) (page : Printout) → AreLined s w columns drawn start bytes first blank begun begun 0 first page page
+pub lines_first : (s : SnippetSettings) (w columns : ℕ) (drawn : List DrawnLabel) (start : ℕ) (bytes : List ℕ) (first : ℕ) (blank : Bool) (begun : List Call → Type 0) (page : Printout) → AreLined s w columns drawn start bytes first blank begun begun 0 first page page
 lines_first s w columns drawn start bytes first blank begun page = λ more h.
     let e : start + 0 ≡ start = omega arith in
     (more, subst (λ (n : ℕ). EachHasPieces blank (texts_in start bytes (P.lines_from n bytes)) more) e h, (λ later k. subst (λ (n : ℕ). begun (line_calls (texts_in start bytes (P.lines_from n bytes)) more ++ later)) e k), ap (λ n. page ⊕ told_rows (lent_rows s w columns drawn start bytes first more (P.lines_from n bytes))) e)
 
 -- the rows of one line more
-lines_more_of : (s : Settings) (w columns : ℕ) (drawn : List DrawnLabel) (start : ℕ) (bytes : List ℕ) (first : ℕ) (blank : Bool) (begun was now : List Call → Type 0) (at number : ℕ) (line : LineOfText) (pieces : List Highlight) (before page more : Printout) →
+lines_more_of : (s : SnippetSettings) (w columns : ℕ) (drawn : List DrawnLabel) (start : ℕ) (bytes : List ℕ) (first : ℕ) (blank : Bool) (begun was now : List Call → Type 0) (at number : ℕ) (line : LineOfText) (pieces : List Highlight) (before page more : Printout) →
     AreLined s w columns drawn start bytes first blank begun was at number before page →
     P.lines_from (start + at) (drop at bytes) ≡ line_of_text line ∷ P.lines_from line.end (drop (line.end - start) bytes) → start ≤ line.end →
     ArePieces blank (decoded_text (text_in start bytes (line_of_text line))) pieces →
@@ -248,7 +248,7 @@ lines_more_of s w columns drawn start bytes first blank begun was now at number 
           ∙ rest.3,
     )
 
-pub lines_more : (s : Settings) (w columns : ℕ) (labels : List Label) (placed : List Placed) (start : ℕ) (bytes : List ℕ) (first : ℕ) (blank : Bool) (begun was now : List Call → Type 0) (at number : ℕ) (line : LineOfText) (one multi : List Placed) (pieces : List Highlight) (before page more : Printout) →
+pub lines_more : (s : SnippetSettings) (w columns : ℕ) (labels : List Label) (placed : List Placed) (start : ℕ) (bytes : List ℕ) (first : ℕ) (blank : Bool) (begun was now : List Call → Type 0) (at number : ℕ) (line : LineOfText) (one multi : List Placed) (pieces : List Highlight) (before page more : Printout) →
     AreLined s w columns (map (drawn_of labels) placed) start bytes first blank begun was at number before page →
     P.lines_from (start + at) (drop at bytes) ≡ line_of_text line ∷ P.lines_from line.end (drop (line.end - start) bytes) → start ≤ line.end →
     one ≡ filter (is_one (line_of_text line)) placed → multi ≡ filter (is_multi (line_of_text line)) placed →
@@ -264,7 +264,7 @@ lines_more s w columns labels placed start bytes first blank begun was now at nu
     ∙ ap (λ x. page ⊕ told_rows (line_rows_of s w columns (one_line (line_of_text line) drawn) x (line_of_text line) number cells pieces)) (ap (map (drawn_of labels)) b ∙ multi_same labels placed (line_of_text line)))
 
 -- all lines are drawn
-pub lines_all : (s : Settings) (w columns : ℕ) (drawn : List DrawnLabel) (start : ℕ) (bytes : List ℕ) (first : ℕ) (blank : Bool) (begun now : List Call → Type 0) (at number : ℕ) (before page : Printout) →
+pub lines_all : (s : SnippetSettings) (w columns : ℕ) (drawn : List DrawnLabel) (start : ℕ) (bytes : List ℕ) (first : ℕ) (blank : Bool) (begun now : List Call → Type 0) (at number : ℕ) (before page : Printout) →
     AreLined s w columns drawn start bytes first blank begun now at number before page → length bytes ≤ at →
     PutsRows blank (λ calls. Leads begun calls now) (texts_in start bytes (P.lines_from start bytes)) (λ pieces. lent_rows s w columns drawn start bytes first pieces (P.lines_from start bytes)) before page
 lines_all s w columns drawn start bytes first blank begun now at number before page h le =
@@ -278,7 +278,7 @@ lines_all s w columns drawn start bytes first blank begun now at number before p
     }
 
 -- the rows of a snippet whose lines are counted
-told_counted : (s : Settings) (labels : List Label) (placed : List Placed) (lent : Contents) (place : Option Place) (pieces : List (List Highlight)) (w columns lines most : ℕ) (p0 p1 p2 p3 : Printout) →
+told_counted : (s : SnippetSettings) (labels : List Label) (placed : List Placed) (lent : Contents) (place : Option Place) (pieces : List (List Highlight)) (w columns lines most : ℕ) (p0 p1 p2 p3 : Printout) →
     lines ≡ length (lines_of_contents lent) → most ≡ most_multi placed (lines_of_contents lent) → w ≡ width_of_count lent.line lines → columns ≡ gutter_of most →
     p1 ≡ p0 ⊕ told_rows (top_row_of s w lent.name (ltb 1 lines) place ∷ []) →
     p2 ≡ p1 ⊕ told_rows (lent_rows s w columns (map (drawn_of labels) placed) lent.span.offset lent.bytes (lent.line + 1) pieces (lines_of_contents lent)) →
@@ -294,7 +294,7 @@ told_counted s labels placed lent place pieces w columns lines most p0 p1 p2 p3 
     ∙ ap (λ n. p0 ⊕ told_rows (top_row s lent place ∷ lent_rows s (number_width lent) n drawn lent.span.offset lent.bytes (lent.line + 1) pieces real ++ bottom_row s (number_width lent) ∷ [])) room
 
 -- what the getters of a read gave stands for its parts
-pub told_lent : (s : Settings) (labels : List Label) (placed : List Placed) (lent : Contents) (place : Option Place) (blank : Bool) (happen : List Call → Type 0) (w columns lines most line start : ℕ) (name : Option (List ℕ)) (bytes : List ℕ) (p0 p1 p2 p3 : Printout) →
+pub told_lent : (s : SnippetSettings) (labels : List Label) (placed : List Placed) (lent : Contents) (place : Option Place) (blank : Bool) (happen : List Call → Type 0) (w columns lines most line start : ℕ) (name : Option (List ℕ)) (bytes : List ℕ) (p0 p1 p2 p3 : Printout) →
     line ≡ lent.line → start ≡ lent.span.offset → name ≡ lent.name → bytes ≡ lent.bytes →
     lines ≡ length (P.lines_from start bytes) → most ≡ most_multi placed (P.lines_from start bytes) → w ≡ width_of_count line lines → columns ≡ gutter_of most →
     p1 ≡ p0 ⊕ told_rows (top_row_of s w name (ltb 1 lines) place ∷ []) →

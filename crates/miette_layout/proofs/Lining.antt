@@ -13,8 +13,8 @@ use Rattle.miette_lines.specs.rules.Cells.{Cell}
 use Rattle.miette_layout.specs.declared.marks.Mark.{Mark as MadeMark}
 use Rattle.miette_layout.specs.rules.Marks.{Mark}
 use Rattle.miette_layout.specs.rules.Drawing.{blank, mark_runs, rows_below, marked_rows}
-use Rattle.miette_layout.specs.rules.Frames.{Settings, number_start}
-use Rattle.miette_layout.specs.rules.Layout.{before_each}
+use Rattle.miette_layout.specs.rules.Frames.{SnippetSettings, number_start}
+use Rattle.miette_layout.specs.rules.SnippetLayout.{before_each}
 use Rattle.miette_page.specs.views.Told.{Token, begins, row_end, told, told_rows, run_told, text_told}
 use Rattle.miette_layout.specs.steps.TellingCells.{cells_told}
 use Rattle.miette_layout.specs.rules.Highlighted.{highlight_of}
@@ -23,7 +23,7 @@ use Rattle.miette_layout.proofs.Telling.{then, told_as, run_one, blank_told, sty
 use Rattle.miette_layout.proofs.Texting.{row_done, rows_then, parts_then}
 use Rattle.miette_style.specs.rules.Themes.{Characters}
 
-pub number_put : (s : Settings) (w number : ℕ) (p b l d v n : Printout) → b ≡ p ⊕ run_told plain (replicate 1 32) → l ≡ b ⊕ begins s.styles.linum ∷ [] → d ≡ l ⊕ text_told (replicate (w - length (decimal number)) 32 ++ decimal number) →
+pub number_put : (s : SnippetSettings) (w number : ℕ) (p b l d v n : Printout) → b ≡ p ⊕ run_told plain (replicate 1 32) → l ≡ b ⊕ begins s.styles.linum ∷ [] → d ≡ l ⊕ text_told (replicate (w - length (decimal number)) 32 ++ decimal number) →
     v ≡ d ⊕ run_told plain (32 ∷ s.characters.vbar ∷ []) → n ≡ v ⊕ text_told (32 ∷ []) → n ≡ p ⊕ told (number_start s w number)
 number_put s w number p b l d v n hb hl hd hv hn =
     let digits : List ℕ = replicate (w - length (decimal number)) 32 ++ decimal number in

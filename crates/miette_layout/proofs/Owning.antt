@@ -12,12 +12,12 @@ use Rattle.miette_lines.specs.rules.Answers.{Highlight, first_of, later_of}
 use Rattle.miette_lines.specs.rules.Around.{has_own, lines_around}
 use Rattle.miette_lines.specs.rules.Contexts as C
 use Rattle.miette_lines.specs.rules.Contexts.{contents, lines_of_contents}
-use Rattle.miette_layout.specs.rules.Frames.{Settings, width_of_lines}
+use Rattle.miette_layout.specs.rules.Frames.{SnippetSettings, width_of_lines}
 use Rattle.miette_lines.specs.rules.Groups as G
 use Rattle.miette_lines.specs.rules.Groups.{in_order, put_label, stretch, put_stretch, by_begin, stretches_from, joined_stretches, own_groups}
 use Rattle.miette_layout.specs.rules.Gutters.{gutter_columns}
 use Rattle.miette_lines.specs.rules.Labels.{DrawnLabel}
-use Rattle.miette_layout.specs.rules.Layout.{rows_of_lines, body_rows}
+use Rattle.miette_layout.specs.rules.SnippetLayout.{rows_of_lines, body_rows}
 use Rattle.miette_layout.specs.rules.Numbers.{runs}
 use Rattle.miette_layout.specs.rules.Shown.{run_rows, rows_of_runs, bodies}
 use Rattle.miette_layout.specs.rules.Snippets as N
@@ -132,7 +132,7 @@ lines_are source (b ∷ bs) some h = ap₂ (λ x xs. x ∷ xs) (block_numbers so
 
 -- ---- their rows
 
-block_body : (s : Settings) (labels : List DrawnLabel) (source : Source) (b : Block) (pieces : List (List Highlight)) → 0 < length source.bytes → IsBlock (length (lines source.bytes)) b →
+block_body : (s : SnippetSettings) (labels : List DrawnLabel) (source : Source) (b : Block) (pieces : List (List Highlight)) → 0 < length source.bytes → IsBlock (length (lines source.bytes)) b →
     body_rows s labels source.bytes (contents 0 source (span_of source.bytes b)) pieces ≡ run_rows s labels source.bytes pieces (numbers_of (length (lines source.bytes)) b)
 block_body s labels source b pieces some h =
     let bytes : List ℕ = source.bytes in
@@ -140,7 +140,7 @@ block_body s labels source b pieces some h =
     ap (λ n. rows_of_lines s (width_of_lines n ls) (gutter_columns labels ls) labels bytes (n + 1) pieces ls) (block_line source b h)
     ∙ body_from s labels bytes pieces b.low (min (b.high + 1) (length (lines bytes)) - b.low) ls (block_lines source b some h)
 
-pub block_bodies : (s : Settings) (labels : List DrawnLabel) (source : Source) (pieces : List (List (List Highlight))) (bs : List Block) → s.context ≡ 0 → 0 < length source.bytes → AreBlocks (length (lines source.bytes)) bs →
+pub block_bodies : (s : SnippetSettings) (labels : List DrawnLabel) (source : Source) (pieces : List (List (List Highlight))) (bs : List Block) → s.context ≡ 0 → 0 < length source.bytes → AreBlocks (length (lines source.bytes)) bs →
     bodies s labels source pieces (map (span_of source.bytes) bs) ≡ rows_of_runs s labels source.bytes pieces (map (numbers_of (length (lines source.bytes))) bs)
 block_bodies s labels source pieces [] e some h = refl
 block_bodies s labels source pieces (b ∷ bs) e some h =
@@ -210,7 +210,7 @@ snippets_nowhere context bytes [] some none = absurd (omega (arith, some))
 snippets_nowhere context [] (label ∷ labels) some none = refl
 snippets_nowhere context (byte ∷ bytes) (label ∷ labels) some none = absurd (omega (arith, none))
 
-pub body_nowhere : (s : Settings) (labels : List DrawnLabel) (source : Source) (pieces : List (List Highlight)) → length source.bytes ≡ 0 →
+pub body_nowhere : (s : SnippetSettings) (labels : List DrawnLabel) (source : Source) (pieces : List (List Highlight)) → length source.bytes ≡ 0 →
     body_rows s labels source.bytes (contents 0 source nowhere) pieces ≡ []
 body_nowhere s labels source pieces none =
     let read : Contents = contents 0 source nowhere in

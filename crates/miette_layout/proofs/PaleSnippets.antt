@@ -12,11 +12,11 @@ use Rattle.miette_layout.specs.laws.Clean.{IsClean, IsCleanText, IsCleanRow, IsC
 use Rattle.miette_lines.specs.rules.Contexts.{contents, lines_of_contents, is_accepted}
 use Rattle.miette_layout.specs.rules.Drawing.{marked_rows}
 use Rattle.miette_layout.specs.laws.Fading.{colourless, unhighlighted, IsPlainRow}
-use Rattle.miette_layout.specs.rules.Frames.{Settings, Place, text_or_none, refused_row, number_start, other_start, place_text, location, location_of, top_row_of, bottom_row, number_width}
+use Rattle.miette_layout.specs.rules.Frames.{SnippetSettings, Place, text_or_none, refused_row, number_start, other_start, place_text, location, location_of, top_row_of, bottom_row, number_width}
 use Rattle.miette_lines.specs.rules.Groups.{Refusal, refusal, in_order, groups_of, some_fails, groups_fail}
 use Rattle.miette_layout.specs.rules.Gutters.{number_gutter, other_gutter, closing_rows, gutter_columns}
 use Rattle.miette_lines.specs.rules.Labels.{DrawnLabel, drawn_from, one_line, multi_line, closing, is_one_line, is_multi_line, ends_on, starts_on}
-use Rattle.miette_layout.specs.rules.Layout.{text_of_cells, cells_of, before_each, line_rows_of, line_rows, rows_of_lines, body_rows, place_of, snippet, all_snippets, settings_around, rows_unless, snippet_rows}
+use Rattle.miette_layout.specs.rules.SnippetLayout.{text_of_cells, cells_of, before_each, line_rows_of, line_rows, rows_of_lines, body_rows, place_of, snippet, all_snippets, settings_around, rows_unless, snippet_rows}
 use Rattle.miette_layout.specs.rules.Marks.{marks}
 use Rattle.miette_page.specs.rules.Rows.{Run, Row, pieces_of, unstyled}
 use Rattle.miette_style.specs.rules.Styles.{plain}
@@ -43,7 +43,7 @@ pub record PaleGiven (P : Type 0) (x y : Option (List Row)) : Type 0 where
   pub plain : IfSome x (AllByRecursion IsPlainRow)
   pub clean : P → IfSome y (AllByRecursion IsCleanRow)
 
-module _ (P : Type 0) (s : Settings) (clean : P → AreCleanDrawings s.characters) where
+module _ (P : Type 0) (s : SnippetSettings) (clean : P → AreCleanDrawings s.characters) where
   pale_unstyled : (text : List ℕ) → (P → IsClean text) → PaleRow P (unstyled s.width text ∷ []) (unstyled s.width text ∷ [])
   pale_unstyled text h = pale_cons P (pale_styled P s.width plain text h) (pale_nil P)
 
@@ -224,7 +224,7 @@ module _ (P : Type 0) (s : Settings) (clean : P → AreCleanDrawings s.character
   given_unless false h = given h
 
 -- the rows of groups, with the lines of context with which they are read
-module _ (P : Type 0) (s : Settings) (clean : P → AreCleanDrawings s.characters) where
+module _ (P : Type 0) (s : SnippetSettings) (clean : P → AreCleanDrawings s.characters) where
   pale_unless : (source : Source) (labels : List Label) (answers : Answers) (refused : Option Refusal) →
       (P → IsCleanSource source) → (P → AllByRecursion IsCleanLabel labels) → (P → IfSome refused IsCleanRefusal) →
       PaleGiven P (rows_unless (colourless s) source labels (unhighlighted answers) (option_map (refused_row (colourless s)) refused)) (rows_unless s source labels answers (option_map (refused_row s) refused))

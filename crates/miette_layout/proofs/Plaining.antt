@@ -16,7 +16,7 @@ use Rattle.miette_style.specs.declared.style.Style.{Style}
 use Rattle.std.proofs.lemmas.List.{nil_from_length}
 use Rattle.miette_layout.specs.steps.TellingCells.{cells_told}
 use Rattle.miette_layout.specs.rules.Highlighted.{highlight_of}
-use Rattle.miette_layout.specs.rules.Layout.{text_of_cells}
+use Rattle.miette_layout.specs.rules.SnippetLayout.{text_of_cells}
 use Rattle.miette_layout.specs.rules.Marks.{Text}
 use Rattle.miette_lines.specs.views.Printable.{is_printable, plain_cells}
 use Rattle.miette_page.specs.rules.Rows.{Piece}

@@ -24,13 +24,13 @@ use Rattle.miette_lines.specs.rules.Answers.{Answers, Highlight, first_of, later
 use Rattle.miette_lines.specs.rules.Around.{has_own, group_context}
 use Rattle.miette_lines.specs.rules.Contexts.{contents, lines_of_contents}
 use Rattle.miette_layout.specs.views.Drawn.{MayGive}
-use Rattle.miette_layout.specs.rules.Frames.{Settings, Place, refused_row, top_row, bottom_row, number_width}
+use Rattle.miette_layout.specs.rules.Frames.{SnippetSettings, Place, refused_row, top_row, bottom_row, number_width}
 use Rattle.miette_lines.specs.views.Given.{drawn_of, label_at}
 use Rattle.miette_layout.specs.rules.Gutters.{gutter_columns}
 use Rattle.miette_lines.specs.rules.Groups.{in_order, refusal, groups_of, some_fails, AreAccepted}
 use Rattle.miette_layout.specs.rules.Highlighted.{EachHasPieces, SnippetsHavePieces, texts_of, line_calls, group_calls, snippet_calls}
 use Rattle.miette_lines.specs.rules.Labels.{DrawnLabel, drawn_from}
-use Rattle.miette_layout.specs.rules.Layout.{snippet, all_snippets, line_rows, settings_around, rows_unless, place_of, body_rows}
+use Rattle.miette_layout.specs.rules.SnippetLayout.{snippet, all_snippets, line_rows, settings_around, rows_unless, place_of, body_rows}
 use Rattle.miette_layout.specs.steps.Lent.{cells_in, lent_rows, lent_snippet, PutsRows}
 use Rattle.miette_lines.specs.views.Placing.{placed_from}
 use Rattle.miette_lines.specs.views.Primary.{chosen, PointsTo, is_unread}
@@ -51,17 +51,17 @@ abbrev pub spans_grouped : List Group → List Span
 spans_grouped groups = map (λ group. group.span) groups
 
 -- so many groups are drawn: whatever pieces the others have, there are pieces for all
-abbrev pub AreDrawn : Settings → Source → List Label → Bool → (List Call → Type 0) → (List Call → Type 0) → List Group → ℕ → Printout → Printout → Type 0
+abbrev pub AreDrawn : SnippetSettings → Source → List Label → Bool → (List Call → Type 0) → (List Call → Type 0) → List Group → ℕ → Printout → Printout → Type 0
 AreDrawn s source labels blank begun now groups i before page =
     (more : List (List (List Highlight))) → SnippetsHavePieces s.context blank source (spans_grouped (drop i groups)) more →
     (all : List (List (List Highlight))) × SnippetsHavePieces s.context blank source (spans_grouped groups) all
     × ((later : List Call) → now (group_calls s.context source (spans_grouped (drop i groups)) more ++ later) → begun (group_calls s.context source (spans_grouped groups) all ++ later))
     × (page ⊕ told_rows (all_snippets s source (in_order labels) more (spans_grouped (drop i groups))) ≡ before ⊕ told_rows (all_snippets s source (in_order labels) all (spans_grouped groups)))
 
-pub none_drawn : (s : Settings) (source : Source) (labels : List Label) (blank : Bool) (begun : List Call → Type 0) (groups : List Group) (page : Printout) → AreDrawn s source labels blank begun begun groups 0 page page
+pub none_drawn : (s : SnippetSettings) (source : Source) (labels : List Label) (blank : Bool) (begun : List Call → Type 0) (groups : List Group) (page : Printout) → AreDrawn s source labels blank begun begun groups 0 page page
 none_drawn s source labels blank begun groups page = λ more h. (more, h, (λ later k. k), refl)
 
-snippet_same : (s : Settings) (source : Source) (labels : List Label) (span : Span) (drawn : List DrawnLabel) (lent : Contents) (place : Option Place) (pieces : List (List Highlight)) →
+snippet_same : (s : SnippetSettings) (source : Source) (labels : List Label) (span : Span) (drawn : List DrawnLabel) (lent : Contents) (place : Option Place) (pieces : List (List Highlight)) →
     drawn ≡ drawn_from s.styles.highlights (length source.bytes) 0 labels → lent ≡ contents s.context source span → place ≡ place_of source span labels →
     lent_snippet s drawn lent place pieces ≡ snippet s source labels span pieces
 snippet_same s source labels span drawn lent place pieces d l p =
@@ -71,18 +71,18 @@ snippet_same s source labels span drawn lent place pieces d l p =
     ∙ ap (λ c. top_row s (contents s.context source span) (place_of source span labels) ∷ body_rows s c source.bytes (contents s.context source span) pieces ++ bottom_row s (number_width (contents s.context source span)) ∷ []) d
 
 -- the lines of context don't matter to rows of what was lent
-rows_around : (s : Settings) (c w columns : ℕ) (drawn : List DrawnLabel) (start : ℕ) (bytes : List ℕ) (number : ℕ) (pieces : List (List Highlight)) (lines : List Line) →
+rows_around : (s : SnippetSettings) (c w columns : ℕ) (drawn : List DrawnLabel) (start : ℕ) (bytes : List ℕ) (number : ℕ) (pieces : List (List Highlight)) (lines : List Line) →
     lent_rows (record s { context = c }) w columns drawn start bytes number pieces lines ≡ lent_rows s w columns drawn start bytes number pieces lines
 rows_around s c w columns drawn start bytes number pieces [] = refl
 rows_around s c w columns drawn start bytes number pieces (line ∷ lines) =
     ap (λ r. line_rows s w columns drawn line number (cells_in s start bytes line) (first_of pieces) ++ r) (rows_around s c w columns drawn start bytes (number + 1) (later_of pieces) lines)
 
-snippet_around : (s : Settings) (c : ℕ) (drawn : List DrawnLabel) (lent : Contents) (place : Option Place) (pieces : List (List Highlight)) → lent_snippet (record s { context = c }) drawn lent place pieces ≡ lent_snippet s drawn lent place pieces
+snippet_around : (s : SnippetSettings) (c : ℕ) (drawn : List DrawnLabel) (lent : Contents) (place : Option Place) (pieces : List (List Highlight)) → lent_snippet (record s { context = c }) drawn lent place pieces ≡ lent_snippet s drawn lent place pieces
 snippet_around s c drawn lent place pieces =
     ap (λ rows. top_row s lent place ∷ rows ++ bottom_row s (number_width lent) ∷ [])
     (rows_around s c (number_width lent) (gutter_columns drawn (lines_of_contents lent)) drawn lent.span.offset lent.bytes (lent.line + 1) pieces (lines_of_contents lent))
 
-pub puts_around : (s : Settings) (c : ℕ) (blank : Bool) (happen : List Call → Type 0) (texts : List (List ℕ)) (drawn : List DrawnLabel) (lent : Contents) (place : Option Place) (page more : Printout) →
+pub puts_around : (s : SnippetSettings) (c : ℕ) (blank : Bool) (happen : List Call → Type 0) (texts : List (List ℕ)) (drawn : List DrawnLabel) (lent : Contents) (place : Option Place) (page more : Printout) →
     PutsRows blank happen texts (lent_snippet s drawn lent place) page more → PutsRows blank happen texts (lent_snippet (record s { context = c }) drawn lent place) page more
 puts_around s c blank happen texts drawn lent place page more h = record {
   pieces = h.pieces;
@@ -97,7 +97,7 @@ drop_at (x ∷ xs) zero d lt = refl
 drop_at (x ∷ xs) (suc i) d lt = let e : suc i + 1 ≡ suc (i + 1) = omega arith in rw e (drop_at xs i d (omega (arith, lt)))
 
 -- the rows of one group more
-group_step : (s : Settings) (source : Source) (labels : List Label) (groups : List Group) (i : ℕ) (group : Group) (pieces : List (List Highlight)) (later : List (List (List Highlight))) (page more : Printout) (drawn : List DrawnLabel) (place : Option Place) →
+group_step : (s : SnippetSettings) (source : Source) (labels : List Label) (groups : List Group) (i : ℕ) (group : Group) (pieces : List (List Highlight)) (later : List (List (List Highlight))) (page more : Printout) (drawn : List DrawnLabel) (place : Option Place) →
     spans_grouped (drop i groups) ≡ group.span ∷ spans_grouped (drop (i + 1) groups) → IsLent s.context source group.span group.contents →
     drawn ≡ drawn_from s.styles.highlights (length source.bytes) 0 (in_order labels) → place ≡ place_of source group.span (in_order labels) →
     more ≡ page ⊕ told_rows (lent_snippet s drawn group.contents place pieces) →
@@ -112,7 +112,7 @@ group_step s source labels groups i group pieces later page more drawn place fro
     ∙ ap (λ t. page ⊕ t) (sym (told_rows-append own rest))
     ∙ ap (λ ss. page ⊕ told_rows (all_snippets s source ls (pieces ∷ later) ss)) (sym front)
 
-pub drawn_more : (s : Settings) (source : Source) (labels : List Label) (blank : Bool) (begun was now : List Call → Type 0) (groups : List Group) (i : ℕ) (group : Group) (before page more : Printout) (drawn : List DrawnLabel) (place : Option Place) →
+pub drawn_more : (s : SnippetSettings) (source : Source) (labels : List Label) (blank : Bool) (begun was now : List Call → Type 0) (groups : List Group) (i : ℕ) (group : Group) (before page more : Printout) (drawn : List DrawnLabel) (place : Option Place) →
     AreDrawn s source labels blank begun was groups i before page → i < length groups → group ≡ get_or groups i group → IsLent s.context source group.span group.contents →
     drawn ≡ drawn_from s.styles.highlights (length source.bytes) 0 (in_order labels) → place ≡ place_of source group.span (in_order labels) →
     PutsRows blank (λ calls. Leads was (restarted group.contents ∷ calls) now) (lent_texts group.contents) (lent_snippet s drawn group.contents place) page more → AreDrawn s source labels blank begun now groups (i + 1) before more
@@ -135,7 +135,7 @@ drawn_more s source labels blank begun was now groups i group before page more d
     )
 
 -- all groups are drawn
-pub record IsWhole (s : Settings) (source : Source) (labels : List Label) (blank : Bool) (happen : List Call → Type 0) (groups : List Group) (before page : Printout) : Type 0 where
+pub record IsWhole (s : SnippetSettings) (source : Source) (labels : List Label) (blank : Bool) (happen : List Call → Type 0) (groups : List Group) (before page : Printout) : Type 0 where
   pub pieces : List (List (List Highlight))
   pub have : SnippetsHavePieces s.context blank source (spans_grouped groups) pieces
   pub plain : blank ≡ true → pieces ≡ []
@@ -143,7 +143,7 @@ pub record IsWhole (s : Settings) (source : Source) (labels : List Label) (blank
   pub is : page ≡ before ⊕ told_rows (all_snippets s source (in_order labels) pieces (spans_grouped groups))
 
 -- where lines are left plain there are no pieces
-unless_plain : (s : Settings) (source : Source) (labels : List Label) (blank : Bool) (happen : List Call → Type 0) (groups : List Group) (before page : Printout) (pieces : List (List (List Highlight))) →
+unless_plain : (s : SnippetSettings) (source : Source) (labels : List Label) (blank : Bool) (happen : List Call → Type 0) (groups : List Group) (before page : Printout) (pieces : List (List (List Highlight))) →
     SnippetsHavePieces s.context blank source (spans_grouped groups) pieces → happen (group_calls s.context source (spans_grouped groups) pieces) → page ≡ before ⊕ told_rows (all_snippets s source (in_order labels) pieces (spans_grouped groups)) → IsWhole s source labels blank happen groups before page
 unless_plain s source labels true happen groups before page pieces h c e = record {
   pieces = [];
@@ -154,7 +154,7 @@ unless_plain s source labels true happen groups before page pieces h c e = recor
 }
 unless_plain s source labels false happen groups before page pieces h c e = record { pieces = pieces; have = h; plain = λ b. absurd (cc); calls = c; is = e }
 
-pub all_drawn : (s : Settings) (source : Source) (labels : List Label) (blank : Bool) (begun now : List Call → Type 0) (groups : List Group) (i : ℕ) (before page : Printout) → AreDrawn s source labels blank begun now groups i before page → length groups ≤ i →
+pub all_drawn : (s : SnippetSettings) (source : Source) (labels : List Label) (blank : Bool) (begun now : List Call → Type 0) (groups : List Group) (i : ℕ) (before page : Printout) → AreDrawn s source labels blank begun now groups i before page → length groups ≤ i →
     IsWhole s source labels blank (λ calls. Leads begun calls now) groups before page
 all_drawn s source labels blank begun now groups i before page h le =
     let none : drop i groups ≡ [] = drop_all i groups le in
@@ -171,12 +171,12 @@ none_refused_here context source labels reads order h =
     none_refused source.bytes [] (in_order labels) tt (subst (λ (ls : List Label). AreAccepted source.bytes ls) order (all_accepted context source labels reads h))
 
 -- all snippets were drawn
-pub gives_rows : (s : Settings) (source : Source) (labels : List Label) (blank : Bool) (happen : List Call → Type 0) (reads : List ReadLabel) (groups : List Group) (before page : Printout) → map (read_of labels) reads ≡ in_order labels →
+pub gives_rows : (s : SnippetSettings) (source : Source) (labels : List Label) (blank : Bool) (happen : List Call → Type 0) (reads : List ReadLabel) (groups : List Group) (before page : Printout) → map (read_of labels) reads ≡ in_order labels →
     All (IsRead s.context source labels) reads → AreGroups s.context source (in_order labels) groups → IsWhole (settings_around s (in_order labels)) source labels blank happen groups before page →
     MayGive s source labels blank happen before (Some page)
 gives_rows s source labels blank happen reads groups before page order h g e =
     let ls : List Label = in_order labels in
-    let s' : Settings = settings_around s ls in
+    let s' : SnippetSettings = settings_around s ls in
     let answers : Answers = record { label_fails = []; join_fails = g.fails; place_fails = []; pieces = e.pieces } in
     let spans : List Span = groups_of s.context source g.fails ls in
     record {
@@ -202,12 +202,12 @@ one_fails zero (g ∷ gs) lt = refl
 one_fails (suc i) (g ∷ gs) lt = one_fails i gs (omega (arith, lt))
 
 -- a place can't be read
-pub gives_none : (s : Settings) (source : Source) (labels : List Label) (blank : Bool) (happen : List Call → Type 0) (own : Bool) (reads : List ReadLabel) (groups : List Group) (i : ℕ) (span : Span) (found : Found) (before : Printout) → map (read_of labels) reads ≡ in_order labels →
+pub gives_none : (s : SnippetSettings) (source : Source) (labels : List Label) (blank : Bool) (happen : List Call → Type 0) (own : Bool) (reads : List ReadLabel) (groups : List Group) (i : ℕ) (span : Span) (found : Found) (before : Printout) → map (read_of labels) reads ≡ in_order labels →
     All (IsRead s.context source labels) reads → AreGroups s.context source (in_order labels) groups → i < length groups →
     PointsTo source (chosen own span None reads) found → is_unread found ≡ true → MayGive s source labels blank happen before None
 gives_none s source labels blank happen own reads groups i span found before order h g lt p u =
     let ls : List Label = in_order labels in
-    let s' : Settings = settings_around s ls in
+    let s' : SnippetSettings = settings_around s ls in
     let answers : Answers = record { label_fails = []; join_fails = g.fails; place_fails = fails_at i; pieces = [] } in
     let spans : List Span = groups_of s.context source g.fails ls in
     let failed : source.always_reads ≡ false = unread_fails s.context source labels own span reads found h p u in
@@ -223,11 +223,11 @@ gives_none s source labels blank happen own reads groups i span found before ord
     }
 
 -- the read of a group failed
-pub gives_unread : (s : Settings) (source : Source) (labels : List Label) (blank : Bool) (happen : List Call → Type 0) (reads : List ReadLabel) (before : Printout) → map (read_of labels) reads ≡ in_order labels → All (IsRead s.context source labels) reads →
+pub gives_unread : (s : SnippetSettings) (source : Source) (labels : List Label) (blank : Bool) (happen : List Call → Type 0) (reads : List ReadLabel) (before : Printout) → map (read_of labels) reads ≡ in_order labels → All (IsRead s.context source labels) reads →
     IsUnread s.context source (in_order labels) → MayGive s source labels blank happen before None
 gives_unread s source labels blank happen reads before order h g =
     let ls : List Label = in_order labels in
-    let s' : Settings = settings_around s ls in
+    let s' : SnippetSettings = settings_around s ls in
     let answers : Answers = record { label_fails = []; join_fails = g.fails; place_fails = []; pieces = [] } in
     let spans : List Span = groups_of s.context source g.fails ls in
     record {
@@ -258,7 +258,7 @@ named reasons.IoError = refl
 named reasons.OutOfBounds = refl
 
 -- a label is refused
-pub gives_refused : (s : Settings) (source : Source) (labels order : List Label) (blank : Bool) (happen : List Call → Type 0) (read : ReadLabels) (index : ℕ) (reason : Refusal) (label : Label) (text : List ℕ) (before page : Printout) →
+pub gives_refused : (s : SnippetSettings) (source : Source) (labels order : List Label) (blank : Bool) (happen : List Call → Type 0) (read : ReadLabels) (index : ℕ) (reason : Refusal) (label : Label) (text : List ℕ) (before page : Printout) →
     AreRead s.context source labels order read → read ≡ reads.Refused index reason → order ≡ in_order labels → label ≡ get_or labels index label → text ≡ name_of reason →
     page ≡ before ⊕ told_rows (refused_row s (record { label = label; name = chars text }) ∷ []) → happen [] → MayGive s source labels blank happen before (Some page)
 gives_refused s source labels order blank happen read index reason label text before page h is same at called e nothing =

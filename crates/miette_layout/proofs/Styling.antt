@@ -12,11 +12,11 @@ use Rattle.miette_style.specs.rules.Styles.{plain}
 use Rattle.miette_style.specs.declared.style.Style.{Style}
 use Rattle.miette_lines.specs.rules.Answers.{Highlight, first_of, later_of}
 use Rattle.miette_lines.specs.rules.Contexts.{contents, lines_of_contents}
-use Rattle.miette_layout.specs.rules.Frames.{Settings, top_row, bottom_row, number_width}
+use Rattle.miette_layout.specs.rules.Frames.{SnippetSettings, top_row, bottom_row, number_width}
 use Rattle.miette_layout.specs.rules.Gutters.{gutter_columns}
 use Rattle.miette_layout.specs.rules.Highlighted.{ArePieces, EachHasPieces, SnippetsHavePieces, highlight_of, piece_of, texts_of, follows, line_calls, group_calls}
 use Rattle.miette_lines.specs.rules.Labels.{DrawnLabel, drawn_from}
-use Rattle.miette_layout.specs.rules.Layout.{line_rows, rows_of_lines, cells_of, all_snippets, place_of}
+use Rattle.miette_layout.specs.rules.SnippetLayout.{line_rows, rows_of_lines, cells_of, all_snippets, place_of}
 
 pub same_pieces : (ps : List Piece) → map piece_of (map highlight_of ps) ≡ ps
 same_pieces [] = refl
@@ -43,13 +43,13 @@ none_have context blank source (group ∷ groups) =
     (none_each blank (texts_of source.bytes (lines_of_contents (contents context source group))), none_have context blank source groups)
 
 -- rows of lines that are left plain
-rows_plain : (s : Settings) (w columns : ℕ) (labels : List DrawnLabel) (source : List ℕ) (number : ℕ) (pieces : List (List Highlight)) (ls : List Line) → EachHasPieces true (texts_of source ls) pieces →
+rows_plain : (s : SnippetSettings) (w columns : ℕ) (labels : List DrawnLabel) (source : List ℕ) (number : ℕ) (pieces : List (List Highlight)) (ls : List Line) → EachHasPieces true (texts_of source ls) pieces →
     rows_of_lines s w columns labels source number pieces ls ≡ rows_of_lines s w columns labels source number [] ls
 rows_plain s w columns labels source number pieces [] h = refl
 rows_plain s w columns labels source number pieces (l ∷ ls) h =
     ap₂ (λ p r. line_rows s w columns labels l number (cells_of s source l) p ++ r) (h.0.none refl) (rows_plain s w columns labels source (number + 1) (later_of pieces) ls h.1)
 
-pub snippets_plain : (s : Settings) (source : Source) (labels : List Label) (pieces : List (List (List Highlight))) (groups : List Span) → SnippetsHavePieces s.context true source groups pieces →
+pub snippets_plain : (s : SnippetSettings) (source : Source) (labels : List Label) (pieces : List (List (List Highlight))) (groups : List Span) → SnippetsHavePieces s.context true source groups pieces →
     all_snippets s source labels pieces groups ≡ all_snippets s source labels [] groups
 snippets_plain s source labels pieces [] h = refl
 snippets_plain s source labels pieces (group ∷ groups) h =

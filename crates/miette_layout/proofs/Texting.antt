@@ -12,7 +12,7 @@ use Rattle.miette_style.specs.rules.Styles.{plain}
 use Rattle.miette_lines.specs.rules.Labels.{cut_at_lf}
 use Rattle.miette_layout.specs.rules.Marks.{Mark, anchor}
 use Rattle.miette_layout.specs.rules.Drawing.{blank, lead_runs, text_row, beside, corner, corner_of_several, rows_of_parts, rows_below}
-use Rattle.miette_layout.specs.rules.Layout.{before_each}
+use Rattle.miette_layout.specs.rules.SnippetLayout.{before_each}
 use Rattle.miette_layout.specs.steps.Made.{mark_of}
 use Rattle.miette_page.specs.views.Told.{Token, row_end, told, told_run, told_rows, run_told, text_told}
 use Rattle.miette_layout.proofs.Telling.{then, told_as, run_one, run_more, blank_told, blank_row, styled_told, styled_row, told-append, told_rows-append}

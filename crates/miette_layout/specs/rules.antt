@@ -4,7 +4,7 @@ pub mod Drawing
 pub mod Frames
 pub mod Gutters
 pub mod Highlighted
-pub mod Layout
+pub mod SnippetLayout
 pub mod Marks
 pub mod Numbers
 pub mod Shown

@@ -6,7 +6,7 @@ ghost use Rattle.miette_page.specs.views.Told.{row_end, told_rows, run_told};
 ghost use Rattle.miette_lines.specs.rules.Labels.{starts_on, ends_on, cut_at_lf, closing};
 ghost use Rattle.miette_layout.specs.rules.Gutters.{closing_parts, closing_rows};
 ghost use Rattle.miette_layout.specs.rules.Frames.{other_start};
-ghost use Rattle.miette_layout.specs.rules.Layout.{before_each};
+ghost use Rattle.miette_layout.specs.rules.SnippetLayout.{before_each};
 ghost use Rattle.miette_lines.specs.views.Sweeping.{label_of};
 ghost use Rattle.miette_lines.specs.views.Given.{drawn_of};
 ghost use Rattle.miette_layout.specs.steps.Sheets.{settings, multi_labels, closed_line, open_line};

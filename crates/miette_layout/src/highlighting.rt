@@ -25,7 +25,7 @@ pub(crate) fn restart<H: Highlighter>(highlighter: &mut Option<H>, lent: &Miette
 }
 
 // A highlighter's pieces for the bytes of a line's text, which it is given decoded.
-fn answered<H: Highlighter>(
+fn line_pieces<H: Highlighter>(
     alloc: Global,
     highlighter: &mut H,
     text: &[u8],
@@ -69,7 +69,7 @@ pub(crate) fn pieces_of<H: Highlighter>(
 {
     match highlighter {
         Some(highlighter) => {
-            let pieces = answered(alloc, highlighter, text)?;
+            let pieces = line_pieces(alloc, highlighter, text)?;
             if is_plain(&pieces) {
                 return Ok(Vec::new(alloc));
             }

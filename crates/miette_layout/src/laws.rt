@@ -17,8 +17,8 @@ ghost use Rattle.miette_layout.specs.rules.Snippets.{snippets};
 ghost use Rattle.miette_lines.specs.rules.Labels.{DrawnLabel};
 ghost use Rattle.miette_layout.specs.rules.Marks.{Text, marks, anchor, marks_at, AreApart};
 ghost use Rattle.miette_layout.specs.rules.Drawing.{IsNarrow};
-ghost use Rattle.miette_layout.specs.rules.Frames.{Settings};
-ghost use Rattle.miette_layout.specs.rules.Layout.{snippet_rows};
+ghost use Rattle.miette_layout.specs.rules.Frames.{SnippetSettings};
+ghost use Rattle.miette_layout.specs.rules.SnippetLayout.{snippet_rows};
 ghost use Rattle.miette_layout.specs.laws.Pictures.{BodyShows};
 ghost use Rattle.miette_layout.specs.rules.Shown.{framed_runs};
 
@@ -46,7 +46,7 @@ pub fn labels_have_one_group()
 /// the rows of the snippets are those of the maximal runs of the shown lines: each line once, with its number and its
 /// own cells, each run in a frame.
 pub fn snippets_draw_runs()
-    ensures { (s : Settings) (source : Source) (labels : List Label) (answers : Answers) →
+    ensures { (s : SnippetSettings) (source : Source) (labels : List Label) (answers : Answers) →
         HaveContext s.context labels → AreAccepted source.bytes labels → AlwaysReads answers →
         snippet_rows s source labels answers ≡ Some (framed_runs s source labels answers) }
 {}
@@ -62,7 +62,7 @@ pub fn marks_are_apart()
 /// In the rows of each line of a snippet the text begins at one column, the mark row has the marks in their columns
 /// counted from there, and each text hangs from its own mark's anchor.
 pub fn texts_hang()
-    ensures { (s : Settings) (labels : List DrawnLabel) (source : List ℕ) (read : Contents)
+    ensures { (s : SnippetSettings) (labels : List DrawnLabel) (source : List ℕ) (read : Contents)
         (pieces : List (List Highlight)) →
         IsNarrow s.width s.characters → BodyShows s labels source read pieces }
 {}
@@ -70,17 +70,17 @@ pub fn texts_hang()
 /// In plain styles and without a highlighter's pieces the snippets have the same rows of the same characters in the
 /// same columns, and all of them are plain.
 pub fn rows_fade()
-    ensures same { (s : Settings) (source : Source) (labels : List Label) (answers : Answers) →
+    ensures same { (s : SnippetSettings) (source : Source) (labels : List Label) (answers : Answers) →
         option_map (map pieces_of) (snippet_rows (colourless s) source labels (unhighlighted answers))
         ≡ option_map (map pieces_of) (snippet_rows s source labels answers) }
-    ensures plain { (s : Settings) (source : Source) (labels : List Label) (answers : Answers) →
+    ensures plain { (s : SnippetSettings) (source : Source) (labels : List Label) (answers : Answers) →
         IfSome (snippet_rows (colourless s) source labels (unhighlighted answers)) (AllByRecursion IsPlainRow) }
 {}
 
 /// Where the characters that are drawn, the source's name and bytes, and the labels' texts hold no escape, the rows
 /// of the snippets hold none, whatever the reads and a highlighter answer.
 pub fn rows_hold_no_escape()
-    ensures { (s : Settings) (source : Source) (labels : List Label) (answers : Answers) →
+    ensures { (s : SnippetSettings) (source : Source) (labels : List Label) (answers : Answers) →
         AreCleanDrawings s.characters → IsCleanSource source → AllByRecursion IsCleanLabel labels →
         IfSome (snippet_rows s source labels answers) (AllByRecursion IsCleanRow) }
 {}

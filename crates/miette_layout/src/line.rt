@@ -6,7 +6,7 @@ ghost use Rattle.miette_layout.specs.rules.PrintedCells.{printed, cells_within, 
 ghost use Rattle.miette_layout.specs.rules.Marks.{marks};
 ghost use Rattle.miette_layout.specs.rules.Drawing.{marked_rows};
 ghost use Rattle.miette_layout.specs.rules.Frames.{number_start};
-ghost use Rattle.miette_layout.specs.rules.Layout.{before_each, line_rows_of, text_of_cells};
+ghost use Rattle.miette_layout.specs.rules.SnippetLayout.{before_each, line_rows_of, text_of_cells};
 ghost use Rattle.miette_page.specs.views.Printouts.{◌⊕◌};
 ghost use Rattle.miette_page.specs.views.Told.{told, told_rows, text_told};
 ghost use Rattle.miette_layout.specs.steps.TellingCells.{cells_told};

@@ -7,7 +7,7 @@ ghost use Rattle.miette_layout.specs.rules.PrintedCells.{cells_width, first_colu
 ghost use Rattle.miette_layout.specs.rules.PrintedCells.{last_column as last_of_cells};
 ghost use Rattle.miette_lines.specs.rules.Cells.{cells_from, characters};
 ghost use Rattle.miette_layout.specs.rules.Marks.{mark_from, mark_until, marks};
-ghost use Rattle.miette_layout.specs.rules.Layout.{text_of_cells};
+ghost use Rattle.miette_layout.specs.rules.SnippetLayout.{text_of_cells};
 ghost use Rattle.miette_lines.specs.views.Sweeping.{label_of};
 ghost use Rattle.miette_lines.specs.views.Given.{drawn_of, width_of};
 ghost use Rattle.miette_layout.specs.steps.Made.{mark_of, ComeFrom, IsStop};
@@ -101,10 +101,10 @@ fn walk_to<'a>(whole: &Walk<'a>, stops: &[Stop<'a>], offset: usize) -> Walk<'a>
     if passed > 0 && passed <= stops.len() {
         let stop = &stops[passed - 1];
         if stop.offset <= offset {
-            return stop.walk.copied();
+            return stop.walk.copy();
         }
     }
-    whole.copied()
+    whole.copy()
 }
 
 // The stops of a line's text, whose cells are given, and its columns.
@@ -125,7 +125,7 @@ fn stops_of<'a>(alloc: Global, walk: Walk<'a>) -> Result<(Vec<Stop<'a>>, usize),
         if left == 0 {
             stops.push(Stop {
                 offset: reached,
-                walk: walk.copied(),
+                walk: walk.copy(),
             })?;
             left = BETWEEN_STOPS;
         }
@@ -157,7 +157,7 @@ impl<'a> Columns<'a> {
             });
         }
         let whole = Walk::new(text, line.start, tab);
-        let (stops, width) = stops_of(alloc, whole.copied())?;
+        let (stops, width) = stops_of(alloc, whole.copy())?;
         Ok(Columns {
             plain: &[],
             start: line.start,

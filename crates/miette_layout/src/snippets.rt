@@ -12,7 +12,7 @@ ghost use Rattle.miette_lines.specs.views.Read.{IsRead, name_of as name_of_reaso
 use crate::frame::{Frame, push_refused_row};
 use crate::options::Look;
 use crate::snippet::{Drawing, Passage, push_snippet};
-use miette_lines::drawn_labels::placed;
+use miette_lines::drawn_labels::placed_labels;
 use miette_lines::grouping::groups;
 use miette_lines::order::by_offset;
 use miette_lines::primary::{near, place_of};
@@ -52,7 +52,7 @@ fn read_snippets<'a, 'b, S: SourceCode, H: Highlighter>(
     ensures stays { leaves_plain H.is_blank highlighter.new ≡ leaves_plain H.is_blank highlighter.old }
 {
     let alloc = look.alloc;
-    let placed = placed(alloc, &look.theme.styles.highlights, reads)?;
+    let placed = placed_labels(alloc, &look.theme.styles.highlights, reads)?;
     let Some(groups) = groups(alloc, source, look.options.context_lines, labels, reads)? else {
         return Ok(None);
     };

@@ -7,7 +7,7 @@ ghost use Rattle.miette_page.specs.views.Told.{told, told_rows};
 ghost use Rattle.miette_lines.specs.rules.Labels.{cut_at_lf};
 ghost use Rattle.miette_layout.specs.rules.Drawing.{lead_runs, beside, rows_of_parts, rows_below};
 ghost use Rattle.miette_layout.specs.rules.Frames.{other_start};
-ghost use Rattle.miette_layout.specs.rules.Layout.{before_each};
+ghost use Rattle.miette_layout.specs.rules.SnippetLayout.{before_each};
 ghost use Rattle.miette_lines.specs.views.Given.{drawn_of};
 ghost use Rattle.miette_layout.specs.steps.Made.{mark_of};
 ghost use Rattle.miette_layout.specs.steps.Sheets.{settings, before_marks, text_line};

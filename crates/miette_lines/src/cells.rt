@@ -108,7 +108,7 @@ impl<'a> Walk<'a> {
     }
 
     /// A walk over the same cells.
-    pub fn copied(&self) -> Self
+    pub fn copy(&self) -> Self
         ensures { result ≡ self.now }
     {
         Walk {

@@ -34,7 +34,7 @@ fn drawn_end(read: &ReadLabel<'_>) -> Result<usize, AllocError>
 
 /// The labels that were read, in the same order, as they are drawn: each with its style by its place in that order.
 /// `AllocError` where memory is refused, or the span of a label or of its read ends past the largest `usize`.
-pub fn placed(
+pub fn placed_labels(
     alloc: Global,
     styles: &[Style],
     reads: &[ReadLabel<'_>],

@@ -33,7 +33,7 @@ fn touches(before: &MietteSpanContents<'_>, label: &MietteSpanContents<'_>) -> b
 }
 
 // The group with a label, where it joins and the joined span is read.
-fn extended<'a, S: SourceCode>(
+fn larger_group<'a, S: SourceCode>(
     source: &'a S,
     context: usize,
     before: &Group<'a>,
@@ -76,7 +76,7 @@ fn joined_groups<'a, S: SourceCode>(
     };
     let mut before = own_group(first)?;
     for label in rest {
-        match extended(source, context, &before, label)? {
+        match larger_group(source, context, &before, label)? {
             Some(group) => before = group,
             None => done.push(mem::replace(&mut before, own_group(label)?))?,
         }
@@ -136,7 +136,7 @@ fn own_groups<'a, S: SourceCode>(
         × All (λ group. IsLent 0 (S.source source.now) group.span group.contents) groups.items)) }
 {
     let spans = stretches::stretches_by_begin(alloc, reads)?;
-    let spans = stretches::joined(alloc, &spans)?;
+    let spans = stretches::union_of(alloc, &spans)?;
     read_all(alloc, source, &spans)
 }
 

@@ -49,7 +49,7 @@ pub fn extent_of(
     ensures lines { IfOk result (λ extent. extent.lines ≡ length (lines_from start bytes.now)) }
     ensures most { IfOk result (λ extent. extent.most ≡ most_multi labels.now (lines_from start bytes.now)) }
 {
-    let mut ahead = sweep.copied(alloc)?;
+    let mut ahead = sweep.copy(alloc)?;
     let mut one = Vec::new(alloc);
     let mut lines: usize = 0;
     let mut most = 0;

@@ -33,7 +33,7 @@ pub(crate) fn stretches_by_begin(
 }
 
 /// Places that come by where they begin, each joined to those before it where it begins at or before their end.
-pub(crate) fn joined(alloc: Global, spans: &[SourceSpan]) -> Result<Vec<SourceSpan>, AllocError>
+pub(crate) fn union_of(alloc: Global, spans: &[SourceSpan]) -> Result<Vec<SourceSpan>, AllocError>
     ensures { IfOk result (λ v. v.items ≡ joined_stretches spans.now) }
 {
     let mut done = Vec::new(alloc);

@@ -72,12 +72,12 @@ impl Sweep {
     }
 
     /// A sweep at the same place. `AllocError` where memory is refused.
-    pub fn copied(&self, alloc: Global) -> Result<Sweep, AllocError>
+    pub fn copy(&self, alloc: Global) -> Result<Sweep, AllocError>
         ensures next { IfOk result (λ copy. copy.next ≡ self.now.next) }
         ensures running { IfOk result (λ copy. copy.running.items ≡ self.now.running.items) }
     {
         Ok(Sweep {
-            running: copied(alloc, &self.running)?,
+            running: copy_of(alloc, &self.running)?,
             next: self.next,
         })
     }
@@ -120,7 +120,7 @@ impl Sweep {
     }
 }
 
-fn copied(alloc: Global, labels: &[Placed]) -> Result<Vec<Placed>, AllocError>
+fn copy_of(alloc: Global, labels: &[Placed]) -> Result<Vec<Placed>, AllocError>
     ensures { IfOk result (λ copy. copy.items ≡ labels.now) }
 {
     let mut copy = Vec::with_capacity(alloc, labels.len())?;
@@ -147,7 +147,7 @@ pub fn advance(
 {
     let mut one = Vec::new(alloc);
     sweep.enter(labels, line, &mut one)?;
-    let multi = copied(alloc, &sweep.running)?;
+    let multi = copy_of(alloc, &sweep.running)?;
     sweep.leave(line.after);
     Ok(OnLine { one, multi })
 }

@@ -18,7 +18,7 @@ use Rattle.unicode_width.specs.Width.{before, plain, of_kind, single, alone, joi
 use Rattle.unicode_width.proofs.KindLemmas.{kind_stepped, is_text_presentation_base_stepped}
 use Rattle.unicode_width.proofs.Computing.{unicode_width}
 use Rattle.miette_lines.specs.views.Given.{width_of}
-use Rattle.miette_narrated.specs.steps.Runs.{is_faint}
+use Rattle.miette_narrated.specs.steps.Trails.{is_faint}
 use Rattle.miette_narrated.proofs.Lone.{read_append, from_not}
 use Rattle.miette_narrated.proofs.Parted.{width_high}
 use Rattle.miette_narrated.proofs.Sweeps.{by_cases}

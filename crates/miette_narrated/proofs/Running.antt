@@ -1,4 +1,4 @@
--- Runs of characters that take no columns in a line's text, and the columns in them.
+-- Trails of characters that take no columns in a line's text, and the columns in them.
 use Rattle.std.proofs.Common.{ℕ, zero, suc, ◌+◌, ◌-◌, ◌<◌, ◌≤◌, ◌≡◌, ◌⊎◌, Bool, true, false, cond, ◌&&◌, inl, inr, List, [], ◌∷◌, ◌++◌, length, take, drop, refl, sym, ap, ap₂, subst, ◌∙◌, append_assoc, arith, length-drop}
 use Rattle.std.specs.Prelude.{chars, if◌then◌else◌}
 use Rattle.std.specs.List.{list_all}
@@ -8,10 +8,10 @@ use Rattle.unicode_width.specs.Width.{str_width}
 use Rattle.miette_lines.specs.rules.Cells.{Character, characters}
 use Rattle.miette_lines.proofs.Stepping.{IsFirst, made, characters_step}
 use Rattle.miette_narrated.specs.declared.places.Place.{Place}
-use Rattle.miette_narrated.specs.declared.runs.Run.{Run}
+use Rattle.miette_narrated.specs.declared.trails.Trail.{Trail}
 use Rattle.miette_narrated.specs.rules.Columns.{begun, is_boundary, widths, column}
 use Rattle.miette_narrated.specs.steps.Places.{held, IsPlace}
-use Rattle.miette_narrated.specs.steps.Runs.{is_faint, AreFaint, IsRun, first_size}
+use Rattle.miette_narrated.specs.steps.Trails.{is_faint, AreFaint, IsTrail, first_size}
 use Rattle.miette_narrated.proofs.Columning.{begun_more, begun_zero, boundary_more, boundary_inside, boundary_zero, behind_boundary, behind_other, twice_boundary, twice_other}
 use Rattle.miette_narrated.proofs.Faint.{faint_behind, faint_width}
 use Rattle.miette_narrated.proofs.Settled.{EndsIn}
@@ -114,38 +114,38 @@ all_faint text from bytes h =
       ),
     )
 
--- ---- a run behind its first character
+-- ---- a trail behind its first character
 
-pub first_run : (text : List ℕ) (from : Place) (over : List ℕ) (last : ℕ) (run : Run) → IsPlace text from → IsSince text from over run.widths run.bytes → EndsIn over (last ∷ []) → is_faint last ≡ true →
-    AreFaint text run.bytes run.until → run.column ≡ (from.column + str_width false (chars over)) - from.twice → IsRun text run
-first_run text from over last run is h ends faint all c = (
+pub first_trail : (text : List ℕ) (from : Place) (over : List ℕ) (last : ℕ) (trail : Trail) → IsPlace text from → IsSince text from over trail.widths trail.bytes → EndsIn over (last ∷ []) → is_faint last ≡ true →
+    AreFaint text trail.bytes trail.until → trail.column ≡ (from.column + str_width false (chars over)) - from.twice → IsTrail text trail
+first_trail text from over last trail is h ends faint all c = (
   all,
   λ more le.
       let start = drop from.bytes text in
-      let cs = characters (drop run.bytes text) in
-      let k = (run.bytes - from.bytes) + more in
+      let cs = characters (drop trail.bytes text) in
+      let k = (trail.bytes - from.bytes) + more in
       let it = h.each more in
-      let at : run.bytes + more ≡ from.bytes + k = omega (arith, h.behind) in
+      let at : trail.bytes + more ≡ from.bytes + k = omega (arith, h.behind) in
       let same = ap (λ n. column n (characters text)) at in
       let told = is.1.1 k in
-      let few : list_all is_faint (begun more cs) ≡ true = all_fewer (run.until - run.bytes) more cs (omega (arith, le)) all.1.1.1 in
-      by_cases {C = column (run.bytes + more) (characters text) ≡ cond (is_boundary more cs) run.column run.widths} (is_boundary more cs)
+      let few : list_all is_faint (begun more cs) ≡ true = all_fewer (trail.until - trail.bytes) more cs (omega (arith, le)) all.1.1.1 in
+      by_cases {C = column (trail.bytes + more) (characters text) ≡ cond (is_boundary more cs) trail.column trail.widths} (is_boundary more cs)
       (λ y.
       let here : is_boundary k (characters start) ≡ true = sym it.boundary ∙ y in
       let wide = ap (str_width false) it.all in
       let only = ends_behind over last (begun more cs) ends faint few in
       let behind = behind_boundary from start k here in
       let twice = twice_boundary from start k here in
-      let value : column (run.bytes + more) (characters text) ≡ run.column = omega (arith, same, told, wide, only, behind, twice, c) in
-      value ∙ sym (cond-true (is_boundary more cs) run.column run.widths y))
+      let value : column (trail.bytes + more) (characters text) ≡ trail.column = omega (arith, same, told, wide, only, behind, twice, c) in
+      value ∙ sym (cond-true (is_boundary more cs) trail.column trail.widths y))
       (λ n.
       let here : is_boundary k (characters start) ≡ false = sym it.boundary ∙ n in
       let behind = behind_other from start k here in
       let none = twice_other from start k here in
       let sums = it.width in
       let no_more = no_widths (begun more cs) few in
-      let value : column (run.bytes + more) (characters text) ≡ run.widths = omega (arith, same, told, behind, none, sums, no_more) in
-      value ∙ sym (cond-false (is_boundary more cs) run.column run.widths n)),
+      let value : column (trail.bytes + more) (characters text) ≡ trail.widths = omega (arith, same, told, behind, none, sums, no_more) in
+      value ∙ sym (cond-false (is_boundary more cs) trail.column trail.widths n)),
 )
 
 fits : (n code size : ℕ) (cs : List Character) → 0 < n → is_boundary n (made code size ∷ cs) ≡ true → size ≤ n
@@ -178,42 +178,42 @@ faint_tail text bytes later until code size h some is to =
       ),
     )
 
-pub next_run : (text : List ℕ) (run next : Run) (code size : ℕ) → IsRun text run → run.bytes < run.until → IsFirst (drop run.bytes text) (drop size (drop run.bytes text)) code size → 0 < size →
-    next.bytes ≡ run.bytes + size → next.until ≡ run.until → next.column ≡ run.column → next.widths ≡ run.widths → IsRun text next
-next_run text run next code size h some is pos b u c w =
-    let cs = characters (drop size (drop run.bytes text)) in
-    let step = characters_step (drop run.bytes text) (drop size (drop run.bytes text)) code size is in
-    let rest : drop size (drop run.bytes text) ≡ drop next.bytes text = drop-drop size run.bytes text ∙ ap (λ k. drop k text) (omega (arith, b)) in (
-      subst (λ k. AreFaint text next.bytes k) (sym u) (faint_tail text run.bytes next.bytes run.until code size h.0 some is b),
+pub next_trail : (text : List ℕ) (trail next : Trail) (code size : ℕ) → IsTrail text trail → trail.bytes < trail.until → IsFirst (drop trail.bytes text) (drop size (drop trail.bytes text)) code size → 0 < size →
+    next.bytes ≡ trail.bytes + size → next.until ≡ trail.until → next.column ≡ trail.column → next.widths ≡ trail.widths → IsTrail text next
+next_trail text trail next code size h some is pos b u c w =
+    let cs = characters (drop size (drop trail.bytes text)) in
+    let step = characters_step (drop trail.bytes text) (drop size (drop trail.bytes text)) code size is in
+    let rest : drop size (drop trail.bytes text) ≡ drop next.bytes text = drop-drop size trail.bytes text ∙ ap (λ k. drop k text) (omega (arith, b)) in (
+      subst (λ k. AreFaint text next.bytes k) (sym u) (faint_tail text trail.bytes next.bytes trail.until code size h.0 some is b),
       λ more le.
-          let at : next.bytes + more ≡ run.bytes + (size + more) = omega (arith, b) in
+          let at : next.bytes + more ≡ trail.bytes + (size + more) = omega (arith, b) in
           let left : (size + more) - size ≡ more = omega arith in
           let told = h.1 (size + more) (omega (arith, b, u, le)) in
-          let edge : is_boundary (size + more) (characters (drop run.bytes text)) ≡ is_boundary more (characters (drop next.bytes text)) =
+          let edge : is_boundary (size + more) (characters (drop trail.bytes text)) ≡ is_boundary more (characters (drop next.bytes text)) =
           ap (is_boundary (size + more)) step ∙ boundary_more (size + more) code size cs (omega (arith, pos)) (omega arith) ∙ ap (λ k. is_boundary k cs) left ∙ ap (λ r. is_boundary more (characters r)) rest in
           let there = is_boundary more (characters (drop next.bytes text)) in
-          ap (λ k. column k (characters text)) at ∙ told ∙ ap (λ y. cond y run.column run.widths) edge ∙ ap (λ k. cond there k run.widths) (sym c) ∙ ap (λ k. cond there next.column k) (sym w),
+          ap (λ k. column k (characters text)) at ∙ told ∙ ap (λ y. cond y trail.column trail.widths) edge ∙ ap (λ k. cond there k trail.widths) (sym c) ∙ ap (λ k. cond there next.column k) (sym w),
     )
 
--- ---- the columns in a run
+-- ---- the columns in a trail
 
-pub run_here : (text : List ℕ) (run : Run) (bytes : ℕ) → IsRun text run → run.bytes ≡ bytes → bytes ≤ run.until → run.column ≡ column bytes (characters text)
-run_here text run bytes h e le =
-    let cs = characters (drop run.bytes text) in
-    let at : run.bytes + 0 ≡ bytes = omega (arith, e) in
+pub trail_here : (text : List ℕ) (trail : Trail) (bytes : ℕ) → IsTrail text trail → trail.bytes ≡ bytes → bytes ≤ trail.until → trail.column ≡ column bytes (characters text)
+trail_here text trail bytes h e le =
+    let cs = characters (drop trail.bytes text) in
+    let at : trail.bytes + 0 ≡ bytes = omega (arith, e) in
     let told = h.1 0 (omega (arith, e, le)) in
-    sym (cond-true (is_boundary 0 cs) run.column run.widths (boundary_zero cs)) ∙ sym told ∙ ap (λ k. column k (characters text)) at
+    sym (cond-true (is_boundary 0 cs) trail.column trail.widths (boundary_zero cs)) ∙ sym told ∙ ap (λ k. column k (characters text)) at
 
 inside_first : (k : ℕ) (cs : List Character) → 0 < k → k < first_size cs → is_boundary k cs ≡ false
 inside_first k [] some inside = absurd (omega (arith, inside))
 inside_first k (c ∷ cs) some inside = rw (ne_eqb k 0 (λ e. omega (arith, e, some)), lt-ltb k c.bytes inside) refl
 
-pub run_within : (text : List ℕ) (run : Run) (bytes : ℕ) → IsRun text run → run.bytes < bytes → bytes ≤ run.until → bytes < run.bytes + first_size (characters (drop run.bytes text)) →
-    run.widths ≡ column bytes (characters text)
-run_within text run bytes h more le inside =
-    let k = bytes - run.bytes in
-    let cs = characters (drop run.bytes text) in
-    let at : run.bytes + k ≡ bytes = omega (arith, more) in
+pub trail_within : (text : List ℕ) (trail : Trail) (bytes : ℕ) → IsTrail text trail → trail.bytes < bytes → bytes ≤ trail.until → bytes < trail.bytes + first_size (characters (drop trail.bytes text)) →
+    trail.widths ≡ column bytes (characters text)
+trail_within text trail bytes h more le inside =
+    let k = bytes - trail.bytes in
+    let cs = characters (drop trail.bytes text) in
+    let at : trail.bytes + k ≡ bytes = omega (arith, more) in
     let told = h.1 k (omega (arith, at, le)) in
     let edge : is_boundary k cs ≡ false = inside_first k cs (omega (arith, more)) (omega (arith, more, inside)) in
-    sym (cond-false (is_boundary k cs) run.column run.widths edge) ∙ sym told ∙ ap (λ n. column n (characters text)) at
+    sym (cond-false (is_boundary k cs) trail.column trail.widths edge) ∙ sym told ∙ ap (λ n. column n (characters text)) at

@@ -10,8 +10,8 @@ use Rattle.miette_lines.specs.rules.Around.{has_own, group_context}
 use Rattle.miette_lines.specs.rules.Groups.{groups_from, groups_answered, own_groups, groups_of, joins_before, joined, in_order, spans_of}
 use Rattle.miette_narrated.specs.rules.Labels.{told}
 use Rattle.miette_narrated.specs.rules.Snippets.{snippets_of}
-use Rattle.miette_narrated.specs.rules.Report.{Settings, Answers, unlisted, listed, RelatedAnswers, no_more, and_more, own_answer, related_answers, first_answers, later_answers, head_rows, titled_rows, cause_rows, causes_if, advice_rows, row_if, snippet_rows, blank_before, related_report, related_reports, narrated}
-use Rattle.miette_tree.specs.rules.Parts.{given_labels}
+use Rattle.miette_narrated.specs.rules.Report.{NarrationSettings, Answers, unlisted, listed, RelatedAnswers, no_more, and_more, own_answer, related_answers, first_answers, later_answers, head_rows, titled_rows, cause_rows, causes_if, advice_rows, row_if, snippet_rows, blank_before, related_report, related_reports, narrated}
+use Rattle.miette_tree.specs.rules.DiagnosticParts.{given_labels}
 use Rattle.miette_narrated.specs.rules.Answered.{holds_of, holds_of_all, always_reads, accepts, report_reads, IsAnswered, AreAnswers, AllAnswers, AppendsSnippets, AppendsReport, AppendsRelated, IsNarrated, Appends}
 use Rattle.miette_narrated.proofs.Sweeps.{by_cases}
 use Rattle.std.proofs.lemmas.List.{drop_all}
@@ -82,7 +82,7 @@ whole_joined : (start a b p q r new hd ca sn ad re ft : List ℕ) → start ≡ 
 whole_joined start a b p q r new hd ca sn ad re ft s e f g h i j =
     j ∙ ap (λ y. y ++ ft) (i ∙ ap (λ y. y ++ re) (h ∙ ap (λ y. y ++ ad) (g ∙ ap (λ y. y ++ sn) (f ∙ ap (λ y. y ++ ca) (e ∙ ap (λ y. y ++ hd) s))))) ∙ simp append_assoc
 
-pub whole_told : (s : Settings) (t : Tree) (source : Option Source) (labels : List Label) (related : Trees) (start a b p q r new : List ℕ)
+pub whole_told : (s : NarrationSettings) (t : Tree) (source : Option Source) (labels : List Label) (related : Trees) (start a b p q r new : List ℕ)
     → source ≡ effective (source_of t) None → labels ≡ given_labels (head t).labels → related ≡ related_of t → start ≡ []
     → a ≡ start ++ head_rows (head t) → b ≡ a ++ causes_if s.chain (causes_of (cause_of t)) → AppendsSnippets s.context source labels b p
     → q ≡ p ++ advice_rows (head t) → AppendsRelated s.context source related q r → new ≡ r ++ row_if [] s.footer → IsNarrated s t new
@@ -164,7 +164,7 @@ mutual
       let p = and_parts (holds_of always_reads inherited t) (holds_of_all always_reads inherited ts) e in
       ap₂ (λ x y. x ++ y) (same_report context inherited (first_answers more) t h.0 p.0) (same_reports context inherited (later_answers more) ts h.1 p.1)
 
-same_whole : (s : Settings) (t : Tree) (a : Answers) → AreAnswers None a t → report_reads t ≡ true → narrated s t a ≡ narrated s t unlisted
+same_whole : (s : NarrationSettings) (t : Tree) (a : Answers) → AreAnswers None a t → report_reads t ≡ true → narrated s t a ≡ narrated s t unlisted
 same_whole s (tree m own c r) a h e =
     let p = and_parts (always_reads (effective own None) (given_labels m.labels)) (holds_of_all always_reads (effective own None) r) e in
     let f = λ (x y : List ℕ). head_rows m ++ (causes_if s.chain (causes_of c) ++ ((x ++ advice_rows m) ++ ((blank_before r ++ y) ++ row_if [] s.footer))) in
@@ -173,8 +173,8 @@ same_whole s (tree m own c r) a h e =
     (ap (λ o. snippet_rows s.context o (own_answer a) (given_labels m.labels)) (sym e0) ∙ same_snippets s.context (effective own None) (own_answer a) (given_labels m.labels) h.0 p.0 ∙ ap (λ o. snippet_rows s.context o [] (given_labels m.labels)) e0)
     (ap (λ o. related_reports s.context o (related_answers a) r) (sym e0) ∙ same_reports s.context (effective own None) (related_answers a) r h.1 p.1 ∙ ap (λ o. related_reports s.context o no_more r) e0)
 
-pub appended_text : (s : Settings) (t : Tree) (text old new : List ℕ) → IsNarrated s t text → new ≡ old ++ text → Appends s t old new
+pub appended_text : (s : NarrationSettings) (t : Tree) (text old new : List ℕ) → IsNarrated s t text → new ≡ old ++ text → Appends s t old new
 appended_text s t text old new h e = record { text = text; is_narrated = h; appended = e }
 
-pub appended_only : (s : Settings) (t : Tree) (text old new : List ℕ) → IsNarrated s t text → new ≡ old ++ text → report_reads t ≡ true → new ≡ old ++ narrated s t unlisted
+pub appended_only : (s : NarrationSettings) (t : Tree) (text old new : List ℕ) → IsNarrated s t text → new ≡ old ++ text → report_reads t ≡ true → new ≡ old ++ narrated s t unlisted
 appended_only s t text old new h e r = e ∙ ap (λ x. old ++ x) (h.is ∙ same_whole s t h.answers h.possible r)

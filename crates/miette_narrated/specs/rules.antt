@@ -5,4 +5,4 @@ pub mod Lines
 pub mod Snippets
 pub mod Report
 pub mod Answered
-pub mod Settings
+pub mod NarrationSettings

@@ -1,6 +1,6 @@
 -- The code's own steps, which no rule names.
 pub mod Parting
 pub mod Places
-pub mod Runs
+pub mod Trails
 pub mod Sweeping
 pub mod Ends

@@ -8,7 +8,7 @@ ghost use Rattle.miette_narrated.specs.steps.Places.{IsPlace};
 
 use crate::line_text::LineText;
 use crate::places::{Place, column_after, held_text, place_before};
-use crate::runs::{column_in, run_at};
+use crate::trails::{column_in, trail_at};
 use miette_lines::cells::{columns_of, first_character};
 use std::alloc::{AllocError, Global};
 
@@ -38,7 +38,8 @@ fn push_replaced(out: &mut String, bytes: &[u8]) -> Result<(), AllocError>
 
 /// The column behind so many bytes of a line's text; past the largest `usize` it is refused as want of memory.
 ///
-/// In a text of printable ASCII characters each byte is a column, and no walk is made; nor is one back from a run. Else
+/// In a text of printable ASCII characters each byte is a column, and no walk is made; nor is one back from a trail.
+/// Else
 /// the walk begins at the last place of the text before.
 pub(crate) fn column(
     alloc: Global,
@@ -50,8 +51,8 @@ pub(crate) fn column(
     if text.is_plain {
         return Ok(bytes.min(text.bytes.len()));
     }
-    if let Some(run) = run_at(text.bytes, text.runs, bytes) {
-        return Ok(column_in(text.bytes, run, bytes));
+    if let Some(trail) = trail_at(text.bytes, text.trails, bytes) {
+        return Ok(column_in(text.bytes, trail, bytes));
     }
     let from = place_before(text.bytes, text.places, bytes);
     walked_column(alloc, text.bytes, from, bytes)

@@ -4,10 +4,10 @@ ghost use Rattle.std.specs.Prelude.{◌≡◌, ◌++◌, true, false, Some, OnOk
 ghost use Rattle.miette_tree.specs.views.Report.{tree_of};
 ghost use Rattle.miette_narrated.specs.rules.Report.{default_settings, narrated as narrated_text, unlisted};
 ghost use Rattle.miette_narrated.specs.rules.Answered.{Appends, report_reads, report_accepted};
-ghost use Rattle.miette_narrated.specs.rules.Settings.{settings_of};
+ghost use Rattle.miette_narrated.specs.rules.NarrationSettings.{settings_of};
 
-use crate::report::narrated;
-use crate::settings::Settings;
+use crate::report::narration_of;
+use crate::settings::NarrationSettings;
 use miette_protocol::error::RenderError;
 use miette_protocol::protocol::Diagnostic;
 use miette_protocol::source::SourceCode;
@@ -27,9 +27,9 @@ pub struct NarratableReportHandler {
 
 impl Model for NarratableReportHandler {
     ghost use Rattle.std.specs.Prelude.{option_map, string_bytes};
-    ghost use Rattle.miette_narrated.specs.rules.Report.{Settings};
+    ghost use Rattle.miette_narrated.specs.rules.Report.{NarrationSettings};
 
-    ghost Value = { Settings };
+    ghost Value = { NarrationSettings };
 
     ghost view = { λ it. record {
       chain = it.cause_chain;
@@ -120,10 +120,10 @@ impl NarratableReportHandler {
         }
     }
 
-    fn settings(&self) -> Settings<'_>
+    fn settings(&self) -> NarrationSettings<'_>
         ensures { settings_of result ≡ self.now }
     {
-        Settings {
+        NarrationSettings {
             cause_chain: self.cause_chain,
             context_lines: self.context_lines,
             footer: self.footer_text(),
@@ -177,7 +177,7 @@ impl NarratableReportHandler {
             report_accepted (tree_of D.meaning S.source report.now) ≡ false }
         ensures err { OnErr result (string_bytes out.new ≡ string_bytes out.old) }
     {
-        let text = narrated(*out.allocator(), self.settings(), report)?;
+        let text = narration_of(*out.allocator(), self.settings(), report)?;
         out.push_str(text.as_str())?;
         Ok(())
     }

@@ -9,13 +9,13 @@ ghost use Rattle.std.specs.List.{All};
 ghost use Rattle.miette_narrated.specs.steps.Ends.{labels_of};
 ghost use Rattle.miette_narrated.specs.views.Made.{told_of, all_told, shown_of};
 ghost use Rattle.miette_narrated.specs.steps.Places.{IsPlace};
-ghost use Rattle.miette_narrated.specs.steps.Runs.{IsRun};
+ghost use Rattle.miette_narrated.specs.steps.Trails.{IsTrail};
 
 use crate::columns::column;
 use crate::label_order::Ranked;
 use crate::line_text::LineText;
 use crate::places::{Place, places};
-use crate::runs::{Run, runs};
+use crate::trails::{Trail, trails};
 use crate::shown::ShownLine;
 use crate::words::push_number;
 use miette_lines::drawn_labels::text_of;
@@ -100,22 +100,22 @@ fn push_columns(out: &mut String, first: usize, last: usize) -> Result<(), Alloc
     Ok(())
 }
 
-// Places and runs in a line's text for the columns of so many labels: none where each byte is a column, and none for
+// Places and trails in a line's text for the columns of so many labels: none where each byte is a column, and none for
 // one label.
 fn places_for(
     alloc: Global,
     text: LineText<'_, '_>,
     labels: usize,
-) -> Result<(Vec<Place>, Vec<Run>), AllocError>
+) -> Result<(Vec<Place>, Vec<Trail>), AllocError>
     ensures places { IfOk result (λ made. All (IsPlace text.entry.bytes.now) made.0.items) }
-    ensures runs { IfOk result (λ made. All (IsRun text.entry.bytes.now) made.1.items) }
+    ensures trails { IfOk result (λ made. All (IsTrail text.entry.bytes.now) made.1.items) }
 {
     if text.is_plain || labels < 2 {
         return Ok((Vec::new(alloc), Vec::new(alloc)));
     }
     let places = places(alloc, text.bytes)?;
-    let runs = runs(alloc, text.bytes, &places)?;
-    Ok((places, runs))
+    let trails = trails(alloc, text.bytes, &places)?;
+    Ok((places, trails))
 }
 
 /// A line of a snippet, and the labels of its diagnostic.
@@ -239,8 +239,8 @@ impl LabelledLine<'_, '_, '_> {
         ensures { OnOk result (string_bytes out.new ≡ string_bytes out.old
             ++ label_rows (shown_of self.now.line.now) (all_told self.now.labels.now placed.now)) }
     {
-        let (places, runs) = places_for(alloc, self.line.text, placed.len())?;
-        let line = self.line.with_places(&places, &runs);
+        let (places, trails) = places_for(alloc, self.line.text, placed.len())?;
+        let line = self.line.with_places(&places, &trails);
         let marked = LabelledLine {
             line: &line,
             labels: self.labels,
@@ -261,12 +261,12 @@ impl LabelledLine<'_, '_, '_> {
             ++ label_rows (shown_of self.now.line.now) (all_told self.now.labels.now (labels_of ended.now)))
             ++ label_rows (shown_of self.now.line.now) (all_told self.now.labels.now begun.now)) }
     {
-        let (places, runs) = places_for(
+        let (places, trails) = places_for(
             alloc,
             self.line.text,
             ended.len().saturating_add(begun.len()),
         )?;
-        let line = self.line.with_places(&places, &runs);
+        let line = self.line.with_places(&places, &trails);
         let marked = LabelledLine {
             line: &line,
             labels: self.labels,

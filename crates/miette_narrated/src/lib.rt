@@ -11,7 +11,7 @@ mod lines;
 mod parting;
 mod places;
 mod report;
-mod runs;
+mod trails;
 mod settings;
 mod shown;
 mod snippets;

@@ -4,23 +4,23 @@ ghost use Rattle.std.specs.Prelude.{◌≡◌};
 ghost use Rattle.std.specs.List.{All, list_all};
 ghost use Rattle.miette_lines.specs.views.Printable.{is_printable};
 ghost use Rattle.miette_narrated.specs.steps.Places.{IsPlace};
-ghost use Rattle.miette_narrated.specs.steps.Runs.{IsRun};
+ghost use Rattle.miette_narrated.specs.steps.Trails.{IsTrail};
 
 use crate::places::Place;
-use crate::runs::Run;
+use crate::trails::Trail;
 use miette_lines::plain::all_printable;
 
 /// The bytes of a line's text, whether each is a printable ASCII character, places from which a walk over its
-/// characters may go on, and runs in which no walk is needed.
+/// characters may go on, and trails in which no walk is needed.
 #[derive(Clone, Copy)]
 pub(crate) struct LineText<'a, 'p> {
     pub(crate) bytes: &'a [u8],
     pub(crate) is_plain: bool,
     pub(crate) places: &'p [Place],
-    pub(crate) runs: &'p [Run],
+    pub(crate) trails: &'p [Trail],
     ghost plain: { is_plain ≡ list_all is_printable bytes.now },
     ghost placed: { All (IsPlace bytes.now) places.now },
-    ghost run: { All (IsRun bytes.now) runs.now },
+    ghost trail: { All (IsTrail bytes.now) trails.now },
 }
 
 impl<'a, 'p> LineText<'a, 'p> {
@@ -31,21 +31,21 @@ impl<'a, 'p> LineText<'a, 'p> {
             bytes,
             is_plain: all_printable(bytes),
             places: &[],
-            runs: &[],
+            trails: &[],
         }
     }
 
-    /// The same text with these places and runs.
-    pub(crate) fn with_places<'q>(self, places: &'q [Place], runs: &'q [Run]) -> LineText<'a, 'q>
+    /// The same text with these places and trails.
+    pub(crate) fn with_places<'q>(self, places: &'q [Place], trails: &'q [Trail]) -> LineText<'a, 'q>
         requires places { All (IsPlace self.bytes.now) places.now }
-        requires runs { All (IsRun self.bytes.now) runs.now }
+        requires trails { All (IsTrail self.bytes.now) trails.now }
         ensures { result.bytes.now ≡ self.entry.bytes.now }
     {
         LineText {
             bytes: self.bytes,
             is_plain: self.is_plain,
             places,
-            runs,
+            trails,
         }
     }
 }

@@ -9,9 +9,9 @@ ghost use Rattle.miette_narrated.specs.rules.Report.{title, severity_row, head_r
 ghost use Rattle.miette_narrated.specs.rules.Report.{causes_if, advice_rows, url_rows, blank_before};
 ghost use Rattle.miette_narrated.specs.rules.Answered.{AppendsSnippets, AppendsReport, AppendsRelated, IsNarrated};
 ghost use Rattle.miette_narrated.specs.rules.Answered.{accepts, holds_of, holds_of_all, report_accepted};
-ghost use Rattle.miette_narrated.specs.rules.Settings.{settings_of};
+ghost use Rattle.miette_narrated.specs.rules.NarrationSettings.{settings_of};
 
-use crate::settings::Settings;
+use crate::settings::NarrationSettings;
 use crate::snippets::push_snippets;
 use crate::words::{push_row, push_row_if};
 use miette_protocol::error::RenderError;
@@ -207,9 +207,9 @@ fn push_related<'a, D: Diagnostic, S: SourceCode>(
 }
 
 /// The narrated text of a report.
-pub(crate) fn narrated<D: Diagnostic, S: SourceCode>(
+pub(crate) fn narration_of<D: Diagnostic, S: SourceCode>(
     alloc: Global,
-    settings: Settings<'_>,
+    settings: NarrationSettings<'_>,
     report: &Report<D, S>,
 ) -> Result<String, RenderError>
     ensures text { IfOk result (λ text. IsNarrated (settings_of settings.entry) (tree_of D.meaning S.source report.now)

@@ -4,11 +4,11 @@ ghost use Rattle.std.specs.Prelude.{◌≡◌};
 ghost use Rattle.std.specs.List.{All};
 ghost use Rattle.miette_narrated.specs.views.Made.{shown_of};
 ghost use Rattle.miette_narrated.specs.steps.Places.{IsPlace};
-ghost use Rattle.miette_narrated.specs.steps.Runs.{IsRun};
+ghost use Rattle.miette_narrated.specs.steps.Trails.{IsTrail};
 
 use crate::line_text::LineText;
 use crate::places::Place;
-use crate::runs::Run;
+use crate::trails::Trail;
 use miette_newlines::lines::LineOfText;
 
 /// A line of a snippet: where it lies, its number, whether it is the snippet's last, where the snippet's data end,
@@ -23,10 +23,10 @@ pub(crate) struct ShownLine<'a, 'p> {
 }
 
 impl<'a, 'p> ShownLine<'a, 'p> {
-    /// The same line, with places of its text from which a walk over its characters may go on, and runs.
-    pub(crate) fn with_places<'q>(&self, places: &'q [Place], runs: &'q [Run]) -> ShownLine<'a, 'q>
+    /// The same line, with places of its text from which a walk over its characters may go on, and trails.
+    pub(crate) fn with_places<'q>(&self, places: &'q [Place], trails: &'q [Trail]) -> ShownLine<'a, 'q>
         requires places { All (IsPlace self.now.text.bytes.now) places.now }
-        requires runs { All (IsRun self.now.text.bytes.now) runs.now }
+        requires trails { All (IsTrail self.now.text.bytes.now) trails.now }
         ensures { shown_of result ≡ shown_of self.now }
     {
         ShownLine {
@@ -34,7 +34,7 @@ impl<'a, 'p> ShownLine<'a, 'p> {
             number: self.number,
             is_last: self.is_last,
             data_end: self.data_end,
-            text: self.text.with_places(places, runs),
+            text: self.text.with_places(places, trails),
         }
     }
 }

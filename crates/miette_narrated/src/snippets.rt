@@ -16,7 +16,7 @@ use crate::label_order::{LabelOrder, by_end};
 use crate::lines::push_lines;
 use crate::sweeping::Sweep;
 use crate::words::push_number;
-use miette_lines::drawn_labels::placed;
+use miette_lines::drawn_labels::placed_labels;
 use miette_lines::grouping::groups;
 use miette_lines::order::by_offset;
 use miette_lines::reading::{ReadLabel, ReadLabels, read_labels};
@@ -99,7 +99,7 @@ fn push_read<'a, S: SourceCode>(
     ensures refused { (result ≡ Err RenderError.Refused) → accepts (Some (S.source source.now)) labels.now ≡ false }
 {
     data_reach_the_span();
-    let placed = placed(alloc, &[], reads)?;
+    let placed = placed_labels(alloc, &[], reads)?;
     let Some(groups) = groups(alloc, source, context, labels, reads)? else {
         return Err(RenderError::Refused);
     };

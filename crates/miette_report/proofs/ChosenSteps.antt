@@ -64,7 +64,7 @@ graphical-given is_blank h it t old new (Ok x) is reads ok =
 pub graphical-accepts : {H : Type 0} (h : Chosen H) (it : Handling H) (t : Tree) → AlwaysReads t → all_read (printed it.settings t) ≡ false → MayRefuse h t
 graphical-accepts h it t reads refused = let no : true ≡ false = sym (printed-reads it.settings t reads) ∙ refused in cc
 
-pub narrated-given : {A E H : Type 0} (is_blank : H → Bool) (h : Chosen H) (s : narrated.Settings) (t : Tree) (old new : List ℕ) (r : Result A E) → h ≡ chosen.Built (handler.Narrated s) → AlwaysReads t
+pub narrated-given : {A E H : Type 0} (is_blank : H → Bool) (h : Chosen H) (s : narrated.NarrationSettings) (t : Tree) (old new : List ℕ) (r : Result A E) → h ≡ chosen.Built (handler.Narrated s) → AlwaysReads t
     → OnOk r (Appends s t old new) → OnOk r (report_reads t ≡ true → new ≡ old ++ narrated.narrated s t narrated.unlisted) → OnOk r (AppendsOne (IsGiven is_blank h t) old new)
 narrated-given is_blank h s t old new (Err e) is reads text only = tt
 narrated-given is_blank h s t old new (Ok x) is reads text only =

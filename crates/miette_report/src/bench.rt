@@ -9,8 +9,8 @@ ghost use Rattle.miette_report.specs.rules.Faults.{status_of};
 use crate::device::Device;
 use crate::fault::{Fault, Program};
 use crate::option_words::Choice;
-use crate::run::rendered_length;
-use crate::settings::Settings;
+use crate::pipeline::rendered_length;
+use crate::arguments::Arguments;
 use crate::whole::{read_whole, write_whole};
 use crate::words::number;
 use std::alloc::Global;
@@ -65,7 +65,7 @@ fn run<R: Read + Drop, W: Write + Drop>(
 }
 
 /// How often to render, and by which settings.
-fn read_words(alloc: Global, words: &[String]) -> Result<(usize, Settings), Fault>
+fn read_words(alloc: Global, words: &[String]) -> Result<(usize, Arguments), Fault>
     ensures choice { IfOk result (λ it. it.1.choice ≡ choice_in Choice.Build (map string_bytes (drop 1 words.now))) }
     ensures others { OnErr result ((result ≡ Err Fault.Usage) ⊎ (result ≡ Err Fault.Memory)) }
 {
@@ -75,7 +75,7 @@ fn read_words(alloc: Global, words: &[String]) -> Result<(usize, Settings), Faul
     let Some(times) = number(times.as_str()) else {
         return Err(Fault::Usage);
     };
-    Ok((times, Settings::read(alloc, options)?))
+    Ok((times, Arguments::read(alloc, options)?))
 }
 
 /// Reads all, renders so many times, and writes the length of one rendering.
@@ -84,7 +84,7 @@ fn measure<R: Read + Drop, W: Write + Drop>(
     reader: R,
     writer: W,
     times: usize,
-    settings: Settings,
+    settings: Arguments,
 ) -> Result<(), Fault>
     ensures described { OnOk result (IfSome (R.remaining reader) IsDescription) }
     ensures description { (result ≡ Err Fault.Description) →

@@ -8,7 +8,7 @@ ghost use Rattle.miette_report.specs.rules.Chosen.{IsAsked, IsGiven, MayRefuse, 
 use crate::fault::Fault;
 use crate::language::LanguageHighlighter;
 use crate::option_words::Choice;
-use crate::settings::Settings;
+use crate::arguments::Arguments;
 use miette::error::RenderError;
 use miette::handlers::{DebugReportHandler, JSONReportHandler, ReportHandler};
 use miette::highlight::Highlighter;
@@ -28,10 +28,10 @@ pub(crate) enum Chosen<H> {
 
 impl Chosen<LanguageHighlighter> {
     /// The handler that the settings ask for.
-    pub(crate) fn new(alloc: Global, settings: Settings) -> Result<Self, AllocError>
+    pub(crate) fn new(alloc: Global, settings: Arguments) -> Result<Self, AllocError>
         ensures { IfOk result (IsAsked settings.choice settings.options settings.terminal) }
     {
-        let Settings {
+        let Arguments {
             choice,
             options,
             terminal,

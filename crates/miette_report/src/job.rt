@@ -10,8 +10,8 @@ use crate::device::Device;
 use crate::fault::Program;
 pub use crate::fault::{Fault, Fault as JobError, Fault as WordsFault};
 pub use crate::option_words::Choice;
-pub use crate::run::run;
-pub use crate::settings::Settings;
+pub use crate::pipeline::run;
+pub use crate::arguments::Arguments;
 use std::alloc::Global;
 use std::io::{Read, Write};
 
@@ -60,7 +60,7 @@ fn run_asked<R: Read + Drop, W: Write + Drop>(
     ensures narrated { (result ≡ Err Fault.Refused) →
         choice_in Choice.Build (map string_bytes words.now) ≡ Choice.Build }
 {
-    let settings = Settings::read(alloc, words)?;
+    let settings = Arguments::read(alloc, words)?;
     let mut reader = Device::new(reader);
     let mut writer = Device::new(writer);
     run(alloc, &mut reader, &mut writer, settings)?;

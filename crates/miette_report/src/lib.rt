@@ -12,8 +12,8 @@ pub mod lint;
 mod lint_lines;
 mod option_words;
 mod picture;
-mod run;
-mod settings;
+mod pipeline;
+mod arguments;
 pub mod whole;
 pub mod words;
 

@@ -5,7 +5,7 @@ use Rattle.std.proofs.lemmas.List.Concat.{flat_map-append}
 use Rattle.miette_text.specs.rules.Sequences.{Token, Character, Sequence, is_line_feed}
 use Rattle.miette_style.specs.rules.Escapes.{is_escape}
 use Rattle.miette_text.specs.rules.Tame.{State, Free, Escaped, Opened, Waiting, Broken, step, state_behind, AreTame, IsTame, is_colour, is_link, is_nil}
-use Rattle.miette_text.specs.rules.Wrapping.{Cell, Piece, Word, Cuts, Plan, on_first, with_mark, with_code, no_characters, pieces, cell_tokens, width, columns, is_space, with_letter, with_space, words, onto, is_alphanumeric, begins_alphanumeric, hyphen_parts, broken, with_spaces, first_room, further_room, cuts_of, hyphenated, narrowed, parts, cut_words, word_cells, rows_behind, rows, only_spaces, trimmed, row_tokens, with_rest, piece_rows, text_rows, line_feed, joined, filled, all_white, piece_tokens, indented, last_indented, whole_pieces, wrapped_tokens}
+use Rattle.miette_text.specs.rules.Wrapping.{Cell, Piece, Word, Cuts, Plan, on_first, with_tag, with_code, no_characters, pieces, cell_tokens, width, columns, is_space, with_letter, with_space, words, onto, is_alphanumeric, begins_alphanumeric, hyphen_parts, broken, with_spaces, first_room, further_room, cuts_of, hyphenated, narrowed, parts, cut_words, word_cells, rows_behind, rows, only_spaces, trimmed, row_tokens, with_rest, piece_rows, text_rows, line_feed, joined, filled, all_white, piece_tokens, indented, last_indented, whole_pieces, wrapped_tokens}
 use Rattle.miette_text.proofs.Parsing.{broken_stays}
 
 -- ---- states
@@ -260,8 +260,8 @@ Passes s (p ∷ ps) = elim ps [
   | q ∷ qs ↦ (alive (state_behind s (piece_tokens p)) ≡ true) × Passes (step (state_behind s (piece_tokens p)) line_feed) ps
 ]
 
-piece_tokens-mark : (q : List ℕ) (p : Piece) → piece_tokens (with_mark q p) ≡ Sequence q ∷ piece_tokens p
-piece_tokens-mark q p = elim p.cells as (λ cs. piece_tokens (with_mark q (record { cells = cs; rest = p.rest })) ≡ Sequence q ∷ piece_tokens (record { cells = cs; rest = p.rest })) [
+piece_tokens-tag : (q : List ℕ) (p : Piece) → piece_tokens (with_tag q p) ≡ Sequence q ∷ piece_tokens p
+piece_tokens-tag q p = elim p.cells as (λ cs. piece_tokens (with_tag q (record { cells = cs; rest = p.rest })) ≡ Sequence q ∷ piece_tokens (record { cells = cs; rest = p.rest })) [
   | [] ↦ refl
   | c ∷ cs ↦ refl
 ]
@@ -278,7 +278,7 @@ Passes-feed s (p ∷ ps) a h = (a, h)
 
 pub pieces-pass : (s : State) (ts : List Token) → state_behind s ts ≡ Free → Passes s (pieces ts)
 pieces-pass s [] h = h
-pieces-pass s (Sequence q ∷ ts) h = Passes-first s (Sequence q) (with_mark q) (piece_tokens-mark q) (pieces ts) (pieces-pass (step s (Sequence q)) ts h)
+pieces-pass s (Sequence q ∷ ts) h = Passes-first s (Sequence q) (with_tag q) (piece_tokens-tag q) (pieces ts) (pieces-pass (step s (Sequence q)) ts h)
 pieces-pass s (Character c ∷ ts) h =
     elim (is_line_feed c) as (λ b. is_line_feed c ≡ b → Passes s (if b then no_characters ∷ pieces ts else on_first (with_code c) (pieces ts))) [
       | true ↦ λ e.

@@ -5,7 +5,7 @@ use Rattle.std.proofs.lemmas.Bool.Decides.{nat_tests}
 use Rattle.std.proofs.lemmas.List.{map-append}
 use Rattle.miette_text.specs.rules.Sequences.{Token, Character, Sequence, is_line_feed}
 use Rattle.miette_text.specs.rules.Tame.{is_colour}
-use Rattle.miette_text.specs.rules.Wrapping.{Cell, Piece, Word, Cuts, Plan, map_indents, on_first, with_mark, with_code, no_characters, pieces, cell_tokens, width, columns, token_width, columns_of, is_space, with_letter, with_space, words, onto, is_alphanumeric, begins_alphanumeric, hyphen_parts, broken, with_spaces, first_room, further_room, cuts_of, hyphenated, narrowed, parts, cut_words, word_cells, rows_behind, rows, only_spaces, trimmed, row_tokens, with_rest, piece_rows, text_rows, line_feed, joined, filled, all_white, piece_tokens, indented, last_indented, whole_pieces, wrapped_tokens}
+use Rattle.miette_text.specs.rules.Wrapping.{Cell, Piece, Word, Cuts, Plan, map_indents, on_first, with_tag, with_code, no_characters, pieces, cell_tokens, width, columns, token_width, columns_of, is_space, with_letter, with_space, words, onto, is_alphanumeric, begins_alphanumeric, hyphen_parts, broken, with_spaces, first_room, further_room, cuts_of, hyphenated, narrowed, parts, cut_words, word_cells, rows_behind, rows, only_spaces, trimmed, row_tokens, with_rest, piece_rows, text_rows, line_feed, joined, filled, all_white, piece_tokens, indented, last_indented, whole_pieces, wrapped_tokens}
 use Rattle.miette_text.proofs.Erased.{erased}
 
 abbrev pub kept : List (List ℕ) → List (List ℕ)
@@ -13,7 +13,7 @@ kept [] = []
 kept (m ∷ ms) = if is_colour m then kept ms else m ∷ kept ms
 
 abbrev pub strip : Cell → Cell
-strip c = record { marks = kept c.marks; code = c.code }
+strip c = record { tags = kept c.tags; code = c.code }
 
 abbrev pub strip_piece : Piece → Piece
 strip_piece p = record { cells = map strip p.cells; rest = kept p.rest }
@@ -28,12 +28,12 @@ erased-append [] bs = refl
 erased-append (Character c ∷ us) bs = ap (λ ts. Character c ∷ ts) (erased-append us bs)
 erased-append (Sequence s ∷ us) bs = grind (arith, nat_tests, erased-append us bs)
 
-pub erased-marks : (ms : List (List ℕ)) → erased (map Sequence ms) ≡ map Sequence (kept ms)
-erased-marks [] = refl
-erased-marks (m ∷ ms) = grind (arith, nat_tests, erased-marks ms)
+pub erased-tags : (ms : List (List ℕ)) → erased (map Sequence ms) ≡ map Sequence (kept ms)
+erased-tags [] = refl
+erased-tags (m ∷ ms) = grind (arith, nat_tests, erased-tags ms)
 
 pub erased-cell : (c : Cell) → erased (cell_tokens c) ≡ cell_tokens (strip c)
-erased-cell c = erased-append (map Sequence c.marks) (Character c.code ∷ []) ∙ ap (λ ts. ts ++ Character c.code ∷ []) (erased-marks c.marks)
+erased-cell c = erased-append (map Sequence c.tags) (Character c.code ∷ []) ∙ ap (λ ts. ts ++ Character c.code ∷ []) (erased-tags c.tags)
 
 pub erased-cells : (cs : List Cell) → erased (flat_map cell_tokens cs) ≡ flat_map cell_tokens (map strip cs)
 erased-cells [] = refl
@@ -64,16 +64,16 @@ map-on_first : {A : Type 0} (f g h : A → A) → ((x : A) → f (g x) ≡ h (f 
 map-on_first f g h e [] = refl
 map-on_first f g h e (x ∷ xs) = ap (λ y. y ∷ map f xs) (e x)
 
-strip-mark : (s : List ℕ) → is_colour s ≡ false → (p : Piece) → strip_piece (with_mark s p) ≡ with_mark s (strip_piece p)
-strip-mark s h p = elim p.cells as (λ cs. strip_piece (with_mark s (record { cells = cs; rest = p.rest })) ≡ with_mark s (strip_piece (record { cells = cs; rest = p.rest }))) [
+strip-tag : (s : List ℕ) → is_colour s ≡ false → (p : Piece) → strip_piece (with_tag s p) ≡ with_tag s (strip_piece p)
+strip-tag s h p = elim p.cells as (λ cs. strip_piece (with_tag s (record { cells = cs; rest = p.rest })) ≡ with_tag s (strip_piece (record { cells = cs; rest = p.rest }))) [
   | [] ↦ ap (λ (b : Bool). record { cells = []; rest = if b then kept p.rest else s ∷ kept p.rest }) h
-  | c ∷ cs ↦ ap (λ (b : Bool). record { cells = record { marks = (if b then kept c.marks else s ∷ kept c.marks); code = c.code } ∷ map strip cs; rest = kept p.rest }) h
+  | c ∷ cs ↦ ap (λ (b : Bool). record { cells = record { tags = (if b then kept c.tags else s ∷ kept c.tags); code = c.code } ∷ map strip cs; rest = kept p.rest }) h
 ]
 
-strip-colour : (s : List ℕ) → is_colour s ≡ true → (p : Piece) → strip_piece (with_mark s p) ≡ strip_piece p
-strip-colour s h p = elim p.cells as (λ cs. strip_piece (with_mark s (record { cells = cs; rest = p.rest })) ≡ strip_piece (record { cells = cs; rest = p.rest })) [
+strip-colour : (s : List ℕ) → is_colour s ≡ true → (p : Piece) → strip_piece (with_tag s p) ≡ strip_piece p
+strip-colour s h p = elim p.cells as (λ cs. strip_piece (with_tag s (record { cells = cs; rest = p.rest })) ≡ strip_piece (record { cells = cs; rest = p.rest })) [
   | [] ↦ ap (λ (b : Bool). record { cells = []; rest = if b then kept p.rest else s ∷ kept p.rest }) h
-  | c ∷ cs ↦ ap (λ (b : Bool). record { cells = record { marks = (if b then kept c.marks else s ∷ kept c.marks); code = c.code } ∷ map strip cs; rest = kept p.rest }) h
+  | c ∷ cs ↦ ap (λ (b : Bool). record { cells = record { tags = (if b then kept c.tags else s ∷ kept c.tags); code = c.code } ∷ map strip cs; rest = kept p.rest }) h
 ]
 
 on_first_same : {A B : Type 0} (f : A → B) (g : A → A) → ((x : A) → f (g x) ≡ f x) → (xs : List A) → map f (on_first g xs) ≡ map f xs
@@ -88,9 +88,9 @@ pieces-erased (Character c ∷ ts) =
       | false ↦ ap (on_first (with_code c)) (pieces-erased ts) ∙ sym (map-on_first strip_piece (with_code c) (with_code c) (λ p. refl) (pieces ts))
     ]
 pieces-erased (Sequence s ∷ ts) =
-    elim (is_colour s) as (λ b. is_colour s ≡ b → pieces (if b then erased ts else Sequence s ∷ erased ts) ≡ map strip_piece (on_first (with_mark s) (pieces ts))) [
-      | true ↦ λ h. pieces-erased ts ∙ sym (on_first_same strip_piece (with_mark s) (strip-colour s h) (pieces ts))
-      | false ↦ λ h. ap (on_first (with_mark s)) (pieces-erased ts) ∙ sym (map-on_first strip_piece (with_mark s) (with_mark s) (strip-mark s h) (pieces ts))
+    elim (is_colour s) as (λ b. is_colour s ≡ b → pieces (if b then erased ts else Sequence s ∷ erased ts) ≡ map strip_piece (on_first (with_tag s) (pieces ts))) [
+      | true ↦ λ h. pieces-erased ts ∙ sym (on_first_same strip_piece (with_tag s) (strip-colour s h) (pieces ts))
+      | false ↦ λ h. ap (on_first (with_tag s)) (pieces-erased ts) ∙ sym (map-on_first strip_piece (with_tag s) (with_tag s) (strip-tag s h) (pieces ts))
     ] refl
 
 -- ---- words
@@ -228,7 +228,7 @@ map_along h f g k e (x ∷ xs) = ap₂ (λ y ys. y ∷ ys) (e x) (map_along h f 
 
 with_rest-erased : (rest : List (List ℕ)) (rs : List (List Token)) → with_rest (kept rest) (map erased rs) ≡ map erased (with_rest rest rs)
 with_rest-erased rest [] = refl
-with_rest-erased rest (r ∷ []) = ap (λ us. us ∷ []) (ap (λ us. erased r ++ us) (sym (erased-marks rest)) ∙ sym (erased-append r (map Sequence rest)))
+with_rest-erased rest (r ∷ []) = ap (λ us. us ∷ []) (ap (λ us. erased r ++ us) (sym (erased-tags rest)) ∙ sym (erased-append r (map Sequence rest)))
 with_rest-erased rest (r ∷ s ∷ rs) = ap (λ us. erased r ∷ us) (with_rest-erased rest (s ∷ rs))
 
 piece_rows-strip : (cuts : Cuts) (room further : ℕ) (p : Piece) → piece_rows cuts room further (strip_piece p) ≡ map erased (piece_rows cuts room further p)
@@ -261,7 +261,7 @@ all_white-strip [] = refl
 all_white-strip (c ∷ cs) = ap (λ b. is_whitespace c.code && b) (all_white-strip cs)
 
 piece_tokens-strip : (p : Piece) → piece_tokens (strip_piece p) ≡ erased (piece_tokens p)
-piece_tokens-strip p = ap₂ (λ us vs. us ++ vs) (sym (erased-cells p.cells)) (sym (erased-marks p.rest)) ∙ sym (erased-append (flat_map cell_tokens p.cells) (map Sequence p.rest))
+piece_tokens-strip p = ap₂ (λ us vs. us ++ vs) (sym (erased-cells p.cells)) (sym (erased-tags p.rest)) ∙ sym (erased-append (flat_map cell_tokens p.cells) (map Sequence p.rest))
 
 indented-strip : (indent : List Token) (p : Piece) → indented (erased indent) (strip_piece p) ≡ erased (indented indent p)
 indented-strip indent p =
@@ -273,7 +273,7 @@ indented-strip indent p =
 
 last_indented-strip : (indent : List Token) (p : Piece) → last_indented (erased indent) (strip_piece p) ≡ erased (last_indented indent p)
 last_indented-strip indent p = elim p.cells as (λ cs. last_indented (erased indent) (strip_piece (record { cells = cs; rest = p.rest })) ≡ erased (last_indented indent (record { cells = cs; rest = p.rest }))) [
-  | [] ↦ sym (erased-marks p.rest)
+  | [] ↦ sym (erased-tags p.rest)
   | c ∷ cs ↦ indented-strip indent (record { cells = c ∷ cs; rest = p.rest })
 ]
 

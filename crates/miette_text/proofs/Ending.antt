@@ -3,7 +3,7 @@ use Rattle.std.proofs.Common.{◌≡◌, ℕ, suc, Bool, true, false, not, ◌&&
 use Rattle.miette_text.specs.rules.Sequences.{flat}
 use Rattle.miette_text.specs.rules.Wrapping.{Cell, Word, words, with_space, with_letter, is_space}
 use Rattle.miette_text.specs.steps.WholeText.{piece_text}
-use Rattle.miette_text.specs.steps.Ends.{all_spaces, bare_len, marks_text}
+use Rattle.miette_text.specs.steps.Ends.{all_spaces, bare_len, tags_text}
 use Rattle.miette_text.proofs.RowTexts.{shown}
 
 -- ---- the first word
@@ -56,21 +56,21 @@ and-right true b e = e
 and-right false true e = refl
 and-right false false e = e
 
-shown-spaces : (cs : List Cell) → all_spaces cs ≡ true → shown cs ≡ marks_text cs
+shown-spaces : (cs : List Cell) → all_spaces cs ≡ true → shown cs ≡ tags_text cs
 shown-spaces [] e = refl
 shown-spaces (c ∷ cs) e =
-    ap (λ (b : Bool). flat c.marks ++ ((if not b then c.code ∷ [] else []) ++ shown cs)) e
-    ∙ ap (λ (xs : List ℕ). flat c.marks ++ xs) (shown-spaces cs (and-right (is_space c.code) (all_spaces cs) e))
+    ap (λ (b : Bool). flat c.tags ++ ((if not b then c.code ∷ [] else []) ++ shown cs)) e
+    ∙ ap (λ (xs : List ℕ). flat c.tags ++ xs) (shown-spaces cs (and-right (is_space c.code) (all_spaces cs) e))
 
-pub shown-bare : (cs : List Cell) → shown cs ≡ piece_text (take (bare_len cs) cs) ++ marks_text (drop (bare_len cs) cs)
+pub shown-bare : (cs : List Cell) → shown cs ≡ piece_text (take (bare_len cs) cs) ++ tags_text (drop (bare_len cs) cs)
 shown-bare [] = refl
 shown-bare (c ∷ cs) =
-    elim (is_space c.code && all_spaces cs) as (λ b. (is_space c.code && all_spaces cs) ≡ b → flat c.marks ++ ((if not b then c.code ∷ [] else []) ++ shown cs) ≡ piece_text (take (if b then 0 else suc (bare_len cs)) (c ∷ cs)) ++ marks_text (drop (if b then 0 else suc (bare_len cs)) (c ∷ cs))) [
-      | true ↦ λ e. ap (λ (xs : List ℕ). flat c.marks ++ xs) (shown-spaces cs (and-right (is_space c.code) (all_spaces cs) e))
+    elim (is_space c.code && all_spaces cs) as (λ b. (is_space c.code && all_spaces cs) ≡ b → flat c.tags ++ ((if not b then c.code ∷ [] else []) ++ shown cs) ≡ piece_text (take (if b then 0 else suc (bare_len cs)) (c ∷ cs)) ++ tags_text (drop (if b then 0 else suc (bare_len cs)) (c ∷ cs))) [
+      | true ↦ λ e. ap (λ (xs : List ℕ). flat c.tags ++ xs) (shown-spaces cs (and-right (is_space c.code) (all_spaces cs) e))
       | false ↦ λ e.
-          sym (append_assoc (flat c.marks) (c.code ∷ []) (shown cs))
-          ∙ ap (λ (xs : List ℕ). (flat c.marks ++ c.code ∷ []) ++ xs) (shown-bare cs)
-          ∙ sym (append_assoc (flat c.marks ++ c.code ∷ []) (piece_text (take (bare_len cs) cs)) (marks_text (drop (bare_len cs) cs)))
+          sym (append_assoc (flat c.tags) (c.code ∷ []) (shown cs))
+          ∙ ap (λ (xs : List ℕ). (flat c.tags ++ c.code ∷ []) ++ xs) (shown-bare cs)
+          ∙ sym (append_assoc (flat c.tags ++ c.code ∷ []) (piece_text (take (bare_len cs) cs)) (tags_text (drop (bare_len cs) cs)))
     ] refl
 
 spaces-snoc : (cs : List Cell) (c : Cell) → all_spaces (cs ++ c ∷ []) ≡ (all_spaces cs && is_space c.code)

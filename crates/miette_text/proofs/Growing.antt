@@ -1,67 +1,67 @@
--- Runs with one character or one mark more.
+-- Runs with one character or one tag more.
 use Rattle.std.proofs.Common.{◌≡◌, ℕ, suc, ◌+◌, ◌<◌, ◌≤◌, true, false, nat_le, if◌then◌else◌, List, [], ◌∷◌, ◌++◌, map, length, refl, sym, ap, ap₂, ◌∙◌, arith, append_assoc, append-nil}
 use Rattle.std.proofs.lemmas.Bool.Decides.{nat_tests}
 use Rattle.std.proofs.lemmas.List.{map-append}
 use Rattle.std.proofs.lemmas.List.Elements.{All-head, All-tail, All-weaker}
 use Rattle.miette_text.specs.rules.Sequences.{Token, Character, Sequence, spell}
-use Rattle.miette_text.specs.views.Woven.{mark_token, upto, beyond, woven, AreWithin}
-use Rattle.miette_text.specs.declared.runs.sign.Mark.{Mark}
+use Rattle.miette_text.specs.views.Woven.{tag_token, upto, beyond, woven, AreWithin}
+use Rattle.miette_text.specs.declared.runs.sign.Tag.{Tag}
 use Rattle.miette_text.proofs.Joining.{spell-append}
 use Rattle.miette_text.proofs.Weaving.{woven-none}
 
-pub within-more : (n k : ℕ) (ms : List Mark) → n ≤ k → AreWithin n ms → AreWithin k ms
-within-more n k ms h w = All-weaker (λ (m : Mark). m.at ≤ n) (λ (m : Mark). m.at ≤ k) (λ m g. omega arith) ms w
+pub within-more : (n k : ℕ) (ms : List Tag) → n ≤ k → AreWithin n ms → AreWithin k ms
+within-more n k ms h w = All-weaker (λ (m : Tag). m.at ≤ n) (λ (m : Tag). m.at ≤ k) (λ m g. omega arith) ms w
 
-upto-all : (p : ℕ) (ms : List Mark) → AreWithin p ms → upto p ms ≡ ms
+upto-all : (p : ℕ) (ms : List Tag) → AreWithin p ms → upto p ms ≡ ms
 upto-all p [] w = refl
 upto-all p (m ∷ ms) w =
-    let h : m.at ≤ p = All-head (λ (m : Mark). m.at ≤ p) m ms w in
-    let rest : upto p ms ≡ ms = upto-all p ms (All-tail (λ (m : Mark). m.at ≤ p) m ms w) in
+    let h : m.at ≤ p = All-head (λ (m : Tag). m.at ≤ p) m ms w in
+    let rest : upto p ms ≡ ms = upto-all p ms (All-tail (λ (m : Tag). m.at ≤ p) m ms w) in
     grind (arith, nat_tests, rest)
 
-beyond-all : (p : ℕ) (ms : List Mark) → AreWithin p ms → beyond p ms ≡ []
+beyond-all : (p : ℕ) (ms : List Tag) → AreWithin p ms → beyond p ms ≡ []
 beyond-all p [] w = refl
 beyond-all p (m ∷ ms) w =
-    let h : m.at ≤ p = All-head (λ (m : Mark). m.at ≤ p) m ms w in
-    let rest : beyond p ms ≡ [] = beyond-all p ms (All-tail (λ (m : Mark). m.at ≤ p) m ms w) in
+    let h : m.at ≤ p = All-head (λ (m : Tag). m.at ≤ p) m ms w in
+    let rest : beyond p ms ≡ [] = beyond-all p ms (All-tail (λ (m : Tag). m.at ≤ p) m ms w) in
     grind (arith, nat_tests, rest)
 
-beyond-within : (n p : ℕ) (ms : List Mark) → AreWithin n ms → AreWithin n (beyond p ms)
+beyond-within : (n p : ℕ) (ms : List Tag) → AreWithin n ms → AreWithin n (beyond p ms)
 beyond-within n p [] w = w
 beyond-within n p (m ∷ ms) w =
     elim (nat_le m.at p) as (λ b. AreWithin n (if b then beyond p ms else m ∷ ms)) [
-      | true ↦ beyond-within n p ms (All-tail (λ (m : Mark). m.at ≤ n) m ms w)
+      | true ↦ beyond-within n p ms (All-tail (λ (m : Tag). m.at ≤ n) m ms w)
       | false ↦ w
     ]
 
 -- characters more
-pub woven-more : (p : ℕ) (cs ds : List ℕ) (ms : List Mark) → AreWithin (p + length cs) ms → woven p (cs ++ ds) ms ≡ woven p cs ms ++ map Character ds
-woven-more p [] [] ms w = sym (append-nil (map mark_token ms))
+pub woven-more : (p : ℕ) (cs ds : List ℕ) (ms : List Tag) → AreWithin (p + length cs) ms → woven p (cs ++ ds) ms ≡ woven p cs ms ++ map Character ds
+woven-more p [] [] ms w = sym (append-nil (map tag_token ms))
 woven-more p [] (d ∷ ds) ms w =
     let v : AreWithin p ms = within-more (p + 0) p ms (omega arith) w in
-    ap₂ (λ us vs. map mark_token us ++ Character d ∷ woven (suc p) ds vs) (upto-all p ms v) (beyond-all p ms v)
-    ∙ ap (λ ts. map mark_token ms ++ Character d ∷ ts) (woven-none (suc p) ds)
+    ap₂ (λ us vs. map tag_token us ++ Character d ∷ woven (suc p) ds vs) (upto-all p ms v) (beyond-all p ms v)
+    ∙ ap (λ ts. map tag_token ms ++ Character d ∷ ts) (woven-none (suc p) ds)
 woven-more p (c ∷ cs) ds ms w =
     let v : AreWithin (suc p + length cs) (beyond p ms) = within-more (p + length (c ∷ cs)) (suc p + length cs) (beyond p ms) (omega arith) (beyond-within (p + length (c ∷ cs)) p ms w) in
-    ap (λ ts. map mark_token (upto p ms) ++ Character c ∷ ts) (woven-more (suc p) cs ds (beyond p ms) v)
-    ∙ sym (append_assoc (map mark_token (upto p ms)) (Character c ∷ woven (suc p) cs (beyond p ms)) (map Character ds))
+    ap (λ ts. map tag_token (upto p ms) ++ Character c ∷ ts) (woven-more (suc p) cs ds (beyond p ms) v)
+    ∙ sym (append_assoc (map tag_token (upto p ms)) (Character c ∷ woven (suc p) cs (beyond p ms)) (map Character ds))
 
-upto-mark : (p : ℕ) (ms : List Mark) (m : Mark) → p < m.at → upto p (ms ++ m ∷ []) ≡ upto p ms
-upto-mark p [] m h = grind (arith, nat_tests)
-upto-mark p (n ∷ ms) m h = grind (arith, nat_tests, upto-mark p ms m h)
+upto-tag : (p : ℕ) (ms : List Tag) (m : Tag) → p < m.at → upto p (ms ++ m ∷ []) ≡ upto p ms
+upto-tag p [] m h = grind (arith, nat_tests)
+upto-tag p (n ∷ ms) m h = grind (arith, nat_tests, upto-tag p ms m h)
 
-beyond-mark : (p : ℕ) (ms : List Mark) (m : Mark) → p < m.at → beyond p (ms ++ m ∷ []) ≡ beyond p ms ++ m ∷ []
-beyond-mark p [] m h = grind (arith, nat_tests)
-beyond-mark p (n ∷ ms) m h = grind (arith, nat_tests, beyond-mark p ms m h)
+beyond-tag : (p : ℕ) (ms : List Tag) (m : Tag) → p < m.at → beyond p (ms ++ m ∷ []) ≡ beyond p ms ++ m ∷ []
+beyond-tag p [] m h = grind (arith, nat_tests)
+beyond-tag p (n ∷ ms) m h = grind (arith, nat_tests, beyond-tag p ms m h)
 
--- a mark more
-pub woven-mark : (p : ℕ) (cs : List ℕ) (ms : List Mark) (m : Mark) → p + length cs ≤ m.at → woven p cs (ms ++ m ∷ []) ≡ woven p cs ms ++ mark_token m ∷ []
-woven-mark p [] ms m h = map-append mark_token ms (m ∷ [])
-woven-mark p (c ∷ cs) ms m h =
+-- a tag more
+pub woven-tag : (p : ℕ) (cs : List ℕ) (ms : List Tag) (m : Tag) → p + length cs ≤ m.at → woven p cs (ms ++ m ∷ []) ≡ woven p cs ms ++ tag_token m ∷ []
+woven-tag p [] ms m h = map-append tag_token ms (m ∷ [])
+woven-tag p (c ∷ cs) ms m h =
     let far : p < m.at = omega arith in
-    ap₂ (λ us vs. map mark_token us ++ Character c ∷ woven (suc p) cs vs) (upto-mark p ms m far) (beyond-mark p ms m far)
-    ∙ ap (λ ts. map mark_token (upto p ms) ++ Character c ∷ ts) (woven-mark (suc p) cs (beyond p ms) m (omega arith))
-    ∙ sym (append_assoc (map mark_token (upto p ms)) (Character c ∷ woven (suc p) cs (beyond p ms)) (mark_token m ∷ []))
+    ap₂ (λ us vs. map tag_token us ++ Character c ∷ woven (suc p) cs vs) (upto-tag p ms m far) (beyond-tag p ms m far)
+    ∙ ap (λ ts. map tag_token (upto p ms) ++ Character c ∷ ts) (woven-tag (suc p) cs (beyond p ms) m (omega arith))
+    ∙ sym (append_assoc (map tag_token (upto p ms)) (Character c ∷ woven (suc p) cs (beyond p ms)) (tag_token m ∷ []))
 
 pub spell-characters : (cs : List ℕ) → spell (map Character cs) ≡ cs
 spell-characters [] = refl

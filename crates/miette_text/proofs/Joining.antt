@@ -12,29 +12,29 @@ pub spell-append : (us vs : List Token) → spell (us ++ vs) ≡ spell us ++ spe
 spell-append [] vs = refl
 spell-append (u ∷ us) vs = ap (λ xs. spelling u ++ xs) (spell-append us vs) ∙ sym (append_assoc (spelling u) (spell us) (spell vs))
 
-pub spell-marks : (ms : List (List ℕ)) → spell (map Sequence ms) ≡ flat ms
-spell-marks [] = refl
-spell-marks (m ∷ ms) = ap (λ xs. m ++ xs) (spell-marks ms)
+pub spell-tags : (ms : List (List ℕ)) → spell (map Sequence ms) ≡ flat ms
+spell-tags [] = refl
+spell-tags (m ∷ ms) = ap (λ xs. m ++ xs) (spell-tags ms)
 
-only-marks : (ms : List (List ℕ)) (ts : List Token) → only_spaces (map Sequence ms ++ ts) ≡ only_spaces ts
-only-marks [] ts = refl
-only-marks (m ∷ ms) ts = only-marks ms ts
+only-tags : (ms : List (List ℕ)) (ts : List Token) → only_spaces (map Sequence ms ++ ts) ≡ only_spaces ts
+only-tags [] ts = refl
+only-tags (m ∷ ms) ts = only-tags ms ts
 
-trimmed-marks : (ms : List (List ℕ)) (ts : List Token) → trimmed (map Sequence ms ++ ts) ≡ map Sequence ms ++ trimmed ts
-trimmed-marks [] ts = refl
-trimmed-marks (m ∷ ms) ts = ap (λ xs. Sequence m ∷ xs) (trimmed-marks ms ts)
+trimmed-tags : (ms : List (List ℕ)) (ts : List Token) → trimmed (map Sequence ms ++ ts) ≡ map Sequence ms ++ trimmed ts
+trimmed-tags [] ts = refl
+trimmed-tags (m ∷ ms) ts = ap (λ xs. Sequence m ∷ xs) (trimmed-tags ms ts)
 
 only-cells : (cs : List Cell) → only_spaces (flat_map cell_tokens cs) ≡ all_spaces cs
 only-cells [] = refl
-only-cells (c ∷ cs) = ap only_spaces (append_assoc (map Sequence c.marks) (Character c.code ∷ []) (flat_map cell_tokens cs)) ∙ only-marks c.marks (Character c.code ∷ flat_map cell_tokens cs) ∙ ap (λ b. is_space c.code && b) (only-cells cs)
+only-cells (c ∷ cs) = ap only_spaces (append_assoc (map Sequence c.tags) (Character c.code ∷ []) (flat_map cell_tokens cs)) ∙ only-tags c.tags (Character c.code ∷ flat_map cell_tokens cs) ∙ ap (λ b. is_space c.code && b) (only-cells cs)
 
 pub spell-trimmed : (cs : List Cell) → spell (trimmed (flat_map cell_tokens cs)) ≡ shown cs
 spell-trimmed [] = refl
 spell-trimmed (c ∷ cs) =
-    ap (λ ts. spell (trimmed ts)) (append_assoc (map Sequence c.marks) (Character c.code ∷ []) (flat_map cell_tokens cs))
-    ∙ ap spell (trimmed-marks c.marks (Character c.code ∷ flat_map cell_tokens cs))
-    ∙ spell-append (map Sequence c.marks) (trimmed (Character c.code ∷ flat_map cell_tokens cs))
-    ∙ ap₂ (λ us vs. us ++ vs) (spell-marks c.marks)
+    ap (λ ts. spell (trimmed ts)) (append_assoc (map Sequence c.tags) (Character c.code ∷ []) (flat_map cell_tokens cs))
+    ∙ ap spell (trimmed-tags c.tags (Character c.code ∷ flat_map cell_tokens cs))
+    ∙ spell-append (map Sequence c.tags) (trimmed (Character c.code ∷ flat_map cell_tokens cs))
+    ∙ ap₂ (λ us vs. us ++ vs) (spell-tags c.tags)
     (ap (λ b. spell (if is_space c.code && b then trimmed (flat_map cell_tokens cs) else Character c.code ∷ trimmed (flat_map cell_tokens cs))) (only-cells cs)
     ∙ elim (is_space c.code && all_spaces cs) as (λ b. spell (if b then trimmed (flat_map cell_tokens cs) else Character c.code ∷ trimmed (flat_map cell_tokens cs)) ≡ (if not b then c.code ∷ [] else []) ++ shown cs) [
       | true ↦ spell-trimmed cs
@@ -43,7 +43,7 @@ spell-trimmed (c ∷ cs) =
 
 pub spell-rows : (rest : List (List ℕ)) (rs : List (List Word)) → map spell (with_rest rest (map row_tokens rs)) ≡ lines_of rest (map row_cells rs)
 spell-rows rest [] = refl
-spell-rows rest (r ∷ []) = ap (λ x. x ∷ []) (spell-append (row_tokens r) (map Sequence rest) ∙ ap₂ (λ us vs. us ++ vs) (spell-trimmed (row_cells r)) (spell-marks rest))
+spell-rows rest (r ∷ []) = ap (λ x. x ∷ []) (spell-append (row_tokens r) (map Sequence rest) ∙ ap₂ (λ us vs. us ++ vs) (spell-trimmed (row_cells r)) (spell-tags rest))
 spell-rows rest (r ∷ s ∷ rs) = ap₂ (λ x xs. x ∷ xs) (spell-trimmed (row_cells r)) (spell-rows rest (s ∷ rs))
 
 spell-behind : (further : List Token) (r : List Token) (rs : List (List Token)) → 10 ∷ spell (joined further further (r ∷ rs)) ≡ behind (spell further) (map spell (r ∷ rs))

@@ -2,10 +2,10 @@
 use Rattle.std.proofs.Common.{◌≡◌, ℕ, suc, ◌+◌, ◌-◌, ◌<◌, ◌≤◌, min, Bool, true, false, List, [], ◌∷◌, ◌++◌, map, flat_map, length, take, drop, refl, sym, ap, ap₂, ◌∙◌, append_assoc, append-nil, if◌then◌else◌, arith, eqb-true}
 use Rattle.std.proofs.lemmas.List.{length-map}
 use Rattle.miette_text.specs.rules.Sequences.{Token, Character, Sequence, is_line_feed, flat, spell}
-use Rattle.miette_text.specs.rules.Wrapping.{Cell, Cuts, Piece, Plan, Word, columns_of, cut_words, filled, joined, line_feed, text_rows, on_first, with_mark, with_code, no_characters, pieces, onto, rows, rows_behind, columns, word_cells}
+use Rattle.miette_text.specs.rules.Wrapping.{Cell, Cuts, Piece, Plan, Word, columns_of, cut_words, filled, joined, line_feed, text_rows, on_first, with_tag, with_code, no_characters, pieces, onto, rows, rows_behind, columns, word_cells}
 use Rattle.miette_text.specs.steps.Ends.{line_len, row_cells}
-use Rattle.miette_text.specs.views.Woven.{beyond, cells_at, left_at, mark_text, mark_token, marks_spelled, upto, woven}
-use Rattle.miette_text.specs.declared.runs.sign.Mark.{Mark}
+use Rattle.miette_text.specs.views.Woven.{beyond, cells_at, left_at, tag_text, tag_token, tags_spelled, upto, woven}
+use Rattle.miette_text.specs.declared.runs.sign.Tag.{Tag}
 use Rattle.miette_text.proofs.RowTexts.{behind, joined_lines, lines_of, shown}
 use Rattle.miette_text.proofs.Joining.{lines_from, piece_lines, spell-append, spell-text_rows}
 use Rattle.miette_text.proofs.WovenCells.{spelled-flat}
@@ -18,7 +18,7 @@ on-some f (p ∷ ps) h = omega arith
 
 pub pieces-some : (ts : List Token) → 0 < length (pieces ts)
 pieces-some [] = omega arith
-pieces-some (Sequence s ∷ ts) = on-some (with_mark s) (pieces ts) (pieces-some ts)
+pieces-some (Sequence s ∷ ts) = on-some (with_tag s) (pieces ts) (pieces-some ts)
 pieces-some (Character c ∷ ts) = elim (is_line_feed c) as (λ v. 0 < length (if v then no_characters ∷ pieces ts else on_first (with_code c) (pieces ts))) [
   | true ↦ omega arith
   | false ↦ on-some (with_code c) (pieces ts) (pieces-some ts)
@@ -115,61 +115,61 @@ rest-behind further rest (r ∷ s ∷ ss) h =
 
 -- ---- the pieces of what is woven
 
-abbrev with_marks : List (List ℕ) → Piece → Piece
-with_marks [] p = p
-with_marks (m ∷ ms) p = with_mark m (with_marks ms p)
+abbrev with_tags : List (List ℕ) → Piece → Piece
+with_tags [] p = p
+with_tags (m ∷ ms) p = with_tag m (with_tags ms p)
 
-on-marks : (m : List ℕ) (ms : List (List ℕ)) (ps : List Piece) → on_first (with_mark m) (on_first (with_marks ms) ps) ≡ on_first (with_marks (m ∷ ms)) ps
-on-marks m ms [] = refl
-on-marks m ms (p ∷ ps) = refl
+on-tags : (m : List ℕ) (ms : List (List ℕ)) (ps : List Piece) → on_first (with_tag m) (on_first (with_tags ms) ps) ≡ on_first (with_tags (m ∷ ms)) ps
+on-tags m ms [] = refl
+on-tags m ms (p ∷ ps) = refl
 
-on-nothing : (ps : List Piece) → ps ≡ on_first (with_marks []) ps
+on-nothing : (ps : List Piece) → ps ≡ on_first (with_tags []) ps
 on-nothing [] = refl
 on-nothing (p ∷ ps) = refl
 
-marks-pieces : (ms : List Mark) (ts : List Token) → pieces (map mark_token ms ++ ts) ≡ on_first (with_marks (map mark_text ms)) (pieces ts)
-marks-pieces [] ts = on-nothing (pieces ts)
-marks-pieces (m ∷ ms) ts = ap (on_first (with_mark (mark_text m))) (marks-pieces ms ts) ∙ on-marks (mark_text m) (map mark_text ms) (pieces ts)
+tags-pieces : (ms : List Tag) (ts : List Token) → pieces (map tag_token ms ++ ts) ≡ on_first (with_tags (map tag_text ms)) (pieces ts)
+tags-pieces [] ts = on-nothing (pieces ts)
+tags-pieces (m ∷ ms) ts = ap (on_first (with_tag (tag_text m))) (tags-pieces ms ts) ∙ on-tags (tag_text m) (map tag_text ms) (pieces ts)
 
-marks-code : (c : ℕ) (ms : List (List ℕ)) (p : Piece) → with_marks ms (with_code c p) ≡ record { cells = record { marks = ms; code = c } ∷ p.cells; rest = p.rest }
-marks-code c [] p = refl
-marks-code c (m ∷ ms) p = ap (with_mark m) (marks-code c ms p)
+tags-code : (c : ℕ) (ms : List (List ℕ)) (p : Piece) → with_tags ms (with_code c p) ≡ record { cells = record { tags = ms; code = c } ∷ p.cells; rest = p.rest }
+tags-code c [] p = refl
+tags-code c (m ∷ ms) p = ap (with_tag m) (tags-code c ms p)
 
-marks-nothing : (ms : List (List ℕ)) → with_marks ms no_characters ≡ record { cells = []; rest = ms }
-marks-nothing [] = refl
-marks-nothing (m ∷ ms) = ap (with_mark m) (marks-nothing ms)
+tags-nothing : (ms : List (List ℕ)) → with_tags ms no_characters ≡ record { cells = []; rest = ms }
+tags-nothing [] = refl
+tags-nothing (m ∷ ms) = ap (with_tag m) (tags-nothing ms)
 
 -- the piece of a line
-abbrev line_piece : ℕ → List ℕ → List Mark → List (List ℕ) → Piece
+abbrev line_piece : ℕ → List ℕ → List Tag → List (List ℕ) → Piece
 line_piece at line ms rest = record { cells = cells_at at line ms; rest = rest }
 
 -- a character in front of a line
-woven-more : (at c : ℕ) (ms : List Mark) (p : Piece) (ps : List Piece) (ts : List Token) → is_line_feed c ≡ false → pieces ts ≡ p ∷ ps →
-    pieces (map mark_token (upto at ms) ++ Character c ∷ ts) ≡ record { cells = record { marks = map mark_text (upto at ms); code = c } ∷ p.cells; rest = p.rest } ∷ ps
+woven-more : (at c : ℕ) (ms : List Tag) (p : Piece) (ps : List Piece) (ts : List Token) → is_line_feed c ≡ false → pieces ts ≡ p ∷ ps →
+    pieces (map tag_token (upto at ms) ++ Character c ∷ ts) ≡ record { cells = record { tags = map tag_text (upto at ms); code = c } ∷ p.cells; rest = p.rest } ∷ ps
 woven-more at c ms p ps ts f e =
-    marks-pieces (upto at ms) (Character c ∷ ts)
-    ∙ ap (on_first (with_marks (map mark_text (upto at ms)))) (ap₂ (λ (v : Bool) us. if v then no_characters ∷ us else on_first (with_code c) us) f e)
-    ∙ ap (λ q. q ∷ ps) (marks-code c (map mark_text (upto at ms)) p)
+    tags-pieces (upto at ms) (Character c ∷ ts)
+    ∙ ap (on_first (with_tags (map tag_text (upto at ms)))) (ap₂ (λ (v : Bool) us. if v then no_characters ∷ us else on_first (with_code c) us) f e)
+    ∙ ap (λ q. q ∷ ps) (tags-code c (map tag_text (upto at ms)) p)
 
 -- at a line's end
-woven-feed : (at : ℕ) (cs : List ℕ) (ms : List Mark) → pieces (woven at (10 ∷ cs) ms) ≡ line_piece at [] ms (map mark_text (upto at ms)) ∷ pieces (woven (suc at) cs (beyond at ms))
+woven-feed : (at : ℕ) (cs : List ℕ) (ms : List Tag) → pieces (woven at (10 ∷ cs) ms) ≡ line_piece at [] ms (map tag_text (upto at ms)) ∷ pieces (woven (suc at) cs (beyond at ms))
 woven-feed at cs ms =
-    marks-pieces (upto at ms) (Character 10 ∷ woven (suc at) cs (beyond at ms))
-    ∙ ap (λ p. p ∷ pieces (woven (suc at) cs (beyond at ms))) (marks-nothing (map mark_text (upto at ms)))
+    tags-pieces (upto at ms) (Character 10 ∷ woven (suc at) cs (beyond at ms))
+    ∙ ap (λ p. p ∷ pieces (woven (suc at) cs (beyond at ms))) (tags-nothing (map tag_text (upto at ms)))
 
 -- at the text's end
-marks-end : (ms : List Mark) → pieces (map mark_token ms) ≡ record { cells = []; rest = map mark_text ms } ∷ []
-marks-end [] = refl
-marks-end (m ∷ ms) = ap (on_first (with_mark (mark_text m))) (marks-end ms)
+tags-end : (ms : List Tag) → pieces (map tag_token ms) ≡ record { cells = []; rest = map tag_text ms } ∷ []
+tags-end [] = refl
+tags-end (m ∷ ms) = ap (on_first (with_tag (tag_text m))) (tags-end ms)
 
 -- what is behind a line that ends at a line feed
-abbrev rest_of : ℕ → ℕ → List ℕ → List Mark → List (List ℕ)
-rest_of n at cs ms = map mark_text (upto (at + n) (left_at at (take n cs) ms))
+abbrev rest_of : ℕ → ℕ → List ℕ → List Tag → List (List ℕ)
+rest_of n at cs ms = map tag_text (upto (at + n) (left_at at (take n cs) ms))
 
-abbrev below_of : ℕ → ℕ → List ℕ → List Mark → List Token
+abbrev below_of : ℕ → ℕ → List ℕ → List Tag → List Token
 below_of n at cs ms = woven ((at + n) + 1) (drop (suc n) cs) (beyond (at + n) (left_at at (take n cs) ms))
 
-pub line-first : (at : ℕ) (cs : List ℕ) (ms : List Mark) → line_len cs < length cs →
+pub line-first : (at : ℕ) (cs : List ℕ) (ms : List Tag) → line_len cs < length cs →
     pieces (woven at cs ms) ≡ line_piece at (take (line_len cs) cs) ms (rest_of (line_len cs) at cs ms) ∷ pieces (below_of (line_len cs) at cs ms)
 line-first at [] ms h = absurd (omega arith)
 line-first at (c ∷ cs) ms h = elim (is_line_feed c) as (λ v. is_line_feed c ≡ v → (if v then 0 else suc (line_len cs)) < suc (length cs) →
@@ -177,29 +177,29 @@ line-first at (c ∷ cs) ms h = elim (is_line_feed c) as (λ v. is_line_feed c �
       | true ↦ λ e l.
           ap (λ k. pieces (woven at (k ∷ cs) ms)) (eqb-true c 10 e)
           ∙ woven-feed at cs ms
-          ∙ ap₂ (λ (i j : ℕ). line_piece at [] ms (map mark_text (upto i ms)) ∷ pieces (woven j cs (beyond i ms))) (omega arith) (omega arith)
+          ∙ ap₂ (λ (i j : ℕ). line_piece at [] ms (map tag_text (upto i ms)) ∷ pieces (woven j cs (beyond i ms))) (omega arith) (omega arith)
       | false ↦ λ e l.
           (let n = line_len cs in
           let ms' = beyond at ms in
           woven-more at c ms (line_piece (suc at) (take n cs) ms' (rest_of n (suc at) cs ms')) (pieces (below_of n (suc at) cs ms')) (woven (suc at) cs ms') e (line-first (suc at) cs ms' (omega arith))
-          ∙ ap₂ (λ (i j : ℕ). line_piece at (c ∷ take n cs) ms (map mark_text (upto i (left_at (suc at) (take n cs) ms'))) ∷ pieces (woven j (drop (suc n) cs) (beyond i (left_at (suc at) (take n cs) ms')))) (omega arith) (omega arith))
+          ∙ ap₂ (λ (i j : ℕ). line_piece at (c ∷ take n cs) ms (map tag_text (upto i (left_at (suc at) (take n cs) ms'))) ∷ pieces (woven j (drop (suc n) cs) (beyond i (left_at (suc at) (take n cs) ms')))) (omega arith) (omega arith))
     ] refl h
 
-pub line-last : (at : ℕ) (cs : List ℕ) (ms : List Mark) → length cs ≤ line_len cs → pieces (woven at cs ms) ≡ line_piece at cs ms (map mark_text (left_at at cs ms)) ∷ []
-line-last at [] ms h = marks-end ms
+pub line-last : (at : ℕ) (cs : List ℕ) (ms : List Tag) → length cs ≤ line_len cs → pieces (woven at cs ms) ≡ line_piece at cs ms (map tag_text (left_at at cs ms)) ∷ []
+line-last at [] ms h = tags-end ms
 line-last at (c ∷ cs) ms h = elim (is_line_feed c) as (λ v. is_line_feed c ≡ v → suc (length cs) ≤ (if v then 0 else suc (line_len cs)) →
-    pieces (woven at (c ∷ cs) ms) ≡ line_piece at (c ∷ cs) ms (map mark_text (left_at at (c ∷ cs) ms)) ∷ []) [
+    pieces (woven at (c ∷ cs) ms) ≡ line_piece at (c ∷ cs) ms (map tag_text (left_at at (c ∷ cs) ms)) ∷ []) [
       | true ↦ λ e l. absurd (omega arith)
-      | false ↦ λ e l. woven-more at c ms (line_piece (suc at) cs (beyond at ms) (map mark_text (left_at (suc at) cs (beyond at ms)))) [] (woven (suc at) cs (beyond at ms)) e (line-last (suc at) cs (beyond at ms) (omega arith))
+      | false ↦ λ e l. woven-more at c ms (line_piece (suc at) cs (beyond at ms) (map tag_text (left_at (suc at) cs (beyond at ms)))) [] (woven (suc at) cs (beyond at ms)) e (line-last (suc at) cs (beyond at ms) (omega arith))
     ] refl h
 
 -- ---- what a line prints
 
 -- the rows of a line, and behind them nothing
-abbrev pub line_text : Cuts → List ℕ → ℕ → ℕ → ℕ → List ℕ → List Mark → List ℕ
+abbrev pub line_text : Cuts → List ℕ → ℕ → ℕ → ℕ → List ℕ → List Tag → List ℕ
 line_text cuts further room room' at line ms = bare_lines further (lines_of [] (map row_cells (rows room room' (cut_words cuts (cells_at at line ms)))))
 
-piece-text : (cuts : Cuts) (room room' at : ℕ) (further line : List ℕ) (ms : List Mark) (rest : List (List ℕ)) →
+piece-text : (cuts : Cuts) (room room' at : ℕ) (further line : List ℕ) (ms : List Tag) (rest : List (List ℕ)) →
     bare_lines further (piece_lines cuts room room' (line_piece at line ms rest)) ≡ line_text cuts further room room' at line ms ++ flat rest
 piece-text cuts room room' at further line ms rest =
     rest-behind further rest (map row_cells (rows room room' (cut_words cuts (cells_at at line ms)))) (rows-some room room' (cut_words cuts (cells_at at line ms)))
@@ -207,9 +207,9 @@ piece-text cuts room room' at further line ms rest =
 piece-some : (cuts : Cuts) (room room' : ℕ) (p : Piece) → 0 < length (piece_lines cuts room room' p)
 piece-some cuts room room' p = lines_of-some p.rest (map row_cells (rows room room' (cut_words cuts p.cells))) (rows-some room room' (cut_words cuts p.cells))
 
-pub line-at : (cuts : Cuts) (further : List ℕ) (room room' n at : ℕ) (cs : List ℕ) (ms : List Mark) → n ≡ line_len cs → n < length cs →
+pub line-at : (cuts : Cuts) (further : List ℕ) (room room' n at : ℕ) (cs : List ℕ) (ms : List Tag) → n ≡ line_len cs → n < length cs →
     text_of cuts further room room' (woven at cs ms)
-    ≡ (line_text cuts further room room' at (take n cs) ms ++ flat (map mark_text (upto (at + n) (left_at at (take n cs) ms))))
+    ≡ (line_text cuts further room room' at (take n cs) ms ++ flat (map tag_text (upto (at + n) (left_at at (take n cs) ms))))
     ++ ((10 ∷ further) ++ text_of cuts further room' room' (woven ((at + n) + 1) (drop (n + 1) cs) (beyond (at + n) (left_at at (take n cs) ms))))
 line-at cuts further room room' n at cs ms e l =
     let p = line_piece at (take n cs) ms (rest_of n at cs ms) in
@@ -222,11 +222,11 @@ line-at cuts further room room' n at cs ms e l =
     ∙ ap (λ us. us ++ ((10 ∷ further) ++ text_of cuts further room' room' below)) (piece-text cuts room room' at further (take n cs) ms (rest_of n at cs ms))
     ∙ ap (λ k. (line_text cuts further room room' at (take n cs) ms ++ flat (rest_of n at cs ms)) ++ ((10 ∷ further) ++ text_of cuts further room' room' (woven ((at + n) + 1) (drop k cs) (beyond (at + n) (left_at at (take n cs) ms))))) next
 
-pub last-line : (cuts : Cuts) (further : List ℕ) (room room' n at : ℕ) (cs : List ℕ) (ms : List Mark) → n ≡ line_len cs → length cs ≤ n →
-    text_of cuts further room room' (woven at cs ms) ≡ line_text cuts further room room' at cs ms ++ marks_spelled (left_at at cs ms)
+pub last-line : (cuts : Cuts) (further : List ℕ) (room room' n at : ℕ) (cs : List ℕ) (ms : List Tag) → n ≡ line_len cs → length cs ≤ n →
+    text_of cuts further room room' (woven at cs ms) ≡ line_text cuts further room room' at cs ms ++ tags_spelled (left_at at cs ms)
 last-line cuts further room room' n at cs ms e l =
-    let p = line_piece at cs ms (map mark_text (left_at at cs ms)) in
+    let p = line_piece at cs ms (map tag_text (left_at at cs ms)) in
     ap (λ ps. bare_lines further (lines_from cuts room room' ps)) (line-last at cs ms (omega arith))
     ∙ ap (bare_lines further) (append-nil (piece_lines cuts room room' p))
-    ∙ piece-text cuts room room' at further cs ms (map mark_text (left_at at cs ms))
+    ∙ piece-text cuts room room' at further cs ms (map tag_text (left_at at cs ms))
     ∙ ap (λ us. line_text cuts further room room' at cs ms ++ us) (spelled-flat (left_at at cs ms))

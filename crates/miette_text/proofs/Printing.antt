@@ -10,7 +10,7 @@ use Rattle.miette_style.specs.rules.Styles.{plain}
 use Rattle.miette_style.specs.declared.style.Color.{Color}
 use Rattle.miette_style.specs.declared.style.Color.TheVariants.{Red, Green, Yellow, Blue, Magenta, Cyan, Rgb}
 use Rattle.miette_style.specs.declared.style.Style.{Style}
-use Rattle.miette_text.specs.rules.Runs.{foreground, foreground_codes, flag, style_codes, separated, colour_start, colour_stop, Run, Styled, LinkTo, LinkEnd, printed_run, link_start, printed, print, HaveNoEscape, plain_run, HasNoEscape, behind_separators}
+use Rattle.miette_text.specs.rules.Runs.{foreground, foreground_codes, flag, style_codes, separated, colour_start, colour_stop, Fragment, Styled, LinkTo, LinkEnd, printed_run, link_start, printed, print, HaveNoEscape, plain_run, HasNoEscape, behind_separators}
 use Rattle.std.specs.Fmt.{digit_glyph, digits, digits_onto}
 use Rattle.miette_text.proofs.Erased.{erased}
 use Rattle.miette_text.proofs.Parsing.{tokens-spell, erase-spell}
@@ -265,23 +265,23 @@ styled-erase s (c ∷ cs) k = elim (style_codes s) as (λ xs. erase (elim xs as 
   | y ∷ ys ↦ coloured-erase s (c ∷ cs) k
 ]
 
-pub run-tame : (s : Run) → HasNoEscape s → IsTame (printed s)
+pub run-tame : (s : Fragment) → HasNoEscape s → IsTame (printed s)
 run-tame (Styled s text) h = styled-tame s text h
 run-tame (LinkTo url) h = link-tame url h
 run-tame LinkEnd h = link-tame [] refl
 
-pub run-erase : (s : Run) → HasNoEscape s → erase (printed s) ≡ printed (plain_run s)
+pub run-erase : (s : Fragment) → HasNoEscape s → erase (printed s) ≡ printed (plain_run s)
 run-erase (Styled s text) h = styled-erase s text h
 run-erase (LinkTo url) h = link-erase url h
 run-erase LinkEnd h = link-erase [] refl
 
 -- What runs print is tame.
-pub print-tame : (ss : List Run) → HaveNoEscape ss → IsTame (print ss)
+pub print-tame : (ss : List Fragment) → HaveNoEscape ss → IsTame (print ss)
 print-tame [] h = refl
 print-tame (s ∷ ss) h = append-tame (printed s) (print ss) (run-tame s h.0) (print-tame ss h.1)
 
 -- Without colours it is what they print in plain styles.
-pub print-erase : (ss : List Run) → HaveNoEscape ss → erase (print ss) ≡ print (map plain_run ss)
+pub print-erase : (ss : List Fragment) → HaveNoEscape ss → erase (print ss) ≡ print (map plain_run ss)
 print-erase [] h = refl
 print-erase (s ∷ ss) h =
     erase-append (printed s) (print ss) (run-tame s h.0) (print-tame ss h.1)

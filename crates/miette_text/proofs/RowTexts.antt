@@ -7,7 +7,7 @@ use Rattle.miette_text.specs.steps.Ends.{all_spaces}
 -- a row without its last spaces
 abbrev pub shown : List Cell → List ℕ
 shown [] = []
-shown (c ∷ cs) = flat c.marks ++ ((if not (is_space c.code && all_spaces cs) then c.code ∷ [] else []) ++ shown cs)
+shown (c ∷ cs) = flat c.tags ++ ((if not (is_space c.code && all_spaces cs) then c.code ∷ [] else []) ++ shown cs)
 
 abbrev pub lines_of : List (List ℕ) → List (List Cell) → List (List ℕ)
 lines_of rest [] = []

@@ -7,8 +7,8 @@ use Rattle.miette_text.specs.rules.Sequences.{Token, Character, Sequence, tokens
 use Rattle.miette_style.specs.rules.Escapes.{is_escape}
 use Rattle.miette_text.specs.rules.Tame.{is_colour}
 use Rattle.miette_style.specs.rules.Escapes.{no_escape}
-use Rattle.miette_text.specs.views.Woven.{mark_text, mark_token, upto, beyond, woven, is_whole, are_whole}
-use Rattle.miette_text.specs.declared.runs.sign.Mark.{Mark}
+use Rattle.miette_text.specs.views.Woven.{tag_text, tag_token, upto, beyond, woven, is_whole, are_whole}
+use Rattle.miette_text.specs.declared.runs.sign.Tag.{Tag}
 use Rattle.miette_style.specs.declared.style.Style.{Style}
 use Rattle.miette_text.proofs.Growing.{spell-characters}
 use Rattle.miette_text.proofs.Parsing.{colour-sequence, tokens_character, tokens_sequence}
@@ -78,36 +78,36 @@ settled-characters (c ∷ cs) h =
 pub tokens-plain : (cs : List ℕ) → no_escape cs ≡ true → tokens cs ≡ map Character cs
 tokens-plain cs h = ap tokens (sym (spell-characters cs)) ∙ settled-tokens (map Character cs) (settled-characters cs h)
 
--- ---- characters and marks
+-- ---- characters and tags
 
-upto-whole : (p : ℕ) (ms : List Mark) → are_whole ms ≡ true → are_whole (upto p ms) ≡ true
+upto-whole : (p : ℕ) (ms : List Tag) → are_whole ms ≡ true → are_whole (upto p ms) ≡ true
 upto-whole p [] h = refl
 upto-whole p (m ∷ ms) h = grind (arith, nat_tests, upto-whole p ms)
 
-beyond-whole : (p : ℕ) (ms : List Mark) → are_whole ms ≡ true → are_whole (beyond p ms) ≡ true
+beyond-whole : (p : ℕ) (ms : List Tag) → are_whole ms ≡ true → are_whole (beyond p ms) ≡ true
 beyond-whole p [] h = refl
 beyond-whole p (m ∷ ms) h = grind (arith, nat_tests, beyond-whole p ms)
 
-settled-marks : (ms : List Mark) (ts : List Token) → are_whole ms ≡ true → AreSettled ts → AreSettled (map mark_token ms ++ ts)
-settled-marks [] ts h k = k
-settled-marks (m ∷ ms) ts h k =
-    let p = and_parts (is_whole (mark_text m)) (are_whole ms) h in
-    (p.0, settled-marks ms ts p.1 k)
+settled-tags : (ms : List Tag) (ts : List Token) → are_whole ms ≡ true → AreSettled ts → AreSettled (map tag_token ms ++ ts)
+settled-tags [] ts h k = k
+settled-tags (m ∷ ms) ts h k =
+    let p = and_parts (is_whole (tag_text m)) (are_whole ms) h in
+    (p.0, settled-tags ms ts p.1 k)
 
-settled-left : (ms : List Mark) → are_whole ms ≡ true → AreSettled (map mark_token ms)
+settled-left : (ms : List Tag) → are_whole ms ≡ true → AreSettled (map tag_token ms)
 settled-left [] h = tt
 settled-left (m ∷ ms) h =
-    let p = and_parts (is_whole (mark_text m)) (are_whole ms) h in
+    let p = and_parts (is_whole (tag_text m)) (are_whole ms) h in
     (p.0, settled-left ms p.1)
 
-settled-woven : (p : ℕ) (cs : List ℕ) (ms : List Mark) → no_escape cs ≡ true → are_whole ms ≡ true → AreSettled (woven p cs ms)
+settled-woven : (p : ℕ) (cs : List ℕ) (ms : List Tag) → no_escape cs ≡ true → are_whole ms ≡ true → AreSettled (woven p cs ms)
 settled-woven p [] ms h k = settled-left ms k
 settled-woven p (c ∷ cs) ms h k =
     let q = and_parts (not (is_escape c)) (no_escape cs) h in
     let first : is_escape c ≡ false = grind (arith, nat_tests) in
-    settled-marks (upto p ms) (Character c ∷ woven (suc p) cs (beyond p ms)) (upto-whole p ms k) (first, settled-woven (suc p) cs (beyond p ms) q.1 (beyond-whole p ms k))
+    settled-tags (upto p ms) (Character c ∷ woven (suc p) cs (beyond p ms)) (upto-whole p ms k) (first, settled-woven (suc p) cs (beyond p ms) q.1 (beyond-whole p ms k))
 
-pub woven-settled : (cs : List ℕ) (ms : List Mark) → no_escape cs ≡ true → are_whole ms ≡ true → tokens (spell (woven 0 cs ms)) ≡ woven 0 cs ms
+pub woven-settled : (cs : List ℕ) (ms : List Tag) → no_escape cs ≡ true → are_whole ms ≡ true → tokens (spell (woven 0 cs ms)) ≡ woven 0 cs ms
 woven-settled cs ms h k = settled-tokens (woven 0 cs ms) (settled-woven 0 cs ms h k)
 
 colour-some : (s : List ℕ) → is_colour s ≡ true → nat_lt 0 (length s) ≡ true

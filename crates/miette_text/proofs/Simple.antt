@@ -3,7 +3,7 @@ use Rattle.std.proofs.Common.{◌≡◌, ℕ, Bool, true, false, List, [], ◌�
 use Rattle.miette_text.specs.rules.Sequences.{Token, Character, Sequence, tokens, spell, flat}
 use Rattle.miette_text.specs.rules.Wrapping.{Plan, Cell, Piece, cell_tokens, piece_tokens, indented, last_indented, all_white, trimmed, map_indents, wrapped_tokens, wrapped}
 use Rattle.miette_text.specs.steps.WholeText.{piece_text, indent_text}
-use Rattle.miette_text.proofs.Joining.{spell-append, spell-marks}
+use Rattle.miette_text.proofs.Joining.{spell-append, spell-tags}
 
 -- What is wrapped under indents that are read is what is wrapped under their texts.
 pub wrapped-read : (p : Plan (List ℕ)) (first further ts : List Token) (text : List ℕ) → first ≡ tokens p.first → further ≡ tokens p.further → ts ≡ tokens text →
@@ -14,15 +14,15 @@ wrapped-read p first further ts text e f g =
 
 -- ---- without wrapping
 
-spell-cell : (c : Cell) → spell (cell_tokens c) ≡ flat c.marks ++ c.code ∷ []
-spell-cell c = spell-append (map Sequence c.marks) (Character c.code ∷ []) ∙ ap (λ us. us ++ c.code ∷ []) (spell-marks c.marks)
+spell-cell : (c : Cell) → spell (cell_tokens c) ≡ flat c.tags ++ c.code ∷ []
+spell-cell c = spell-append (map Sequence c.tags) (Character c.code ∷ []) ∙ ap (λ us. us ++ c.code ∷ []) (spell-tags c.tags)
 
 spell-cells : (cs : List Cell) → spell (flat_map cell_tokens cs) ≡ piece_text cs
 spell-cells [] = refl
 spell-cells (c ∷ cs) = spell-append (cell_tokens c) (flat_map cell_tokens cs) ∙ ap₂ (λ us vs. us ++ vs) (spell-cell c) (spell-cells cs)
 
 spell-piece : (p : Piece) → spell (piece_tokens p) ≡ piece_text p.cells ++ flat p.rest
-spell-piece p = spell-append (flat_map cell_tokens p.cells) (map Sequence p.rest) ∙ ap₂ (λ us vs. us ++ vs) (spell-cells p.cells) (spell-marks p.rest)
+spell-piece p = spell-append (flat_map cell_tokens p.cells) (map Sequence p.rest) ∙ ap₂ (λ us vs. us ++ vs) (spell-cells p.cells) (spell-tags p.rest)
 
 spell-if : (b : Bool) (indent : List Token) → spell (if b then trimmed indent else indent) ≡ (if b then spell (trimmed indent) else spell indent)
 spell-if true indent = refl
@@ -36,6 +36,6 @@ spell-indented indent p =
 
 pub spell-last : (indent : List Token) (p : Piece) → spell (last_indented indent p) ≡ (indent_text true (spell indent) (spell (trimmed indent)) p.cells ++ piece_text p.cells) ++ flat p.rest
 spell-last indent p = elim p.cells as (λ cs. spell (last_indented indent (record { cells = cs; rest = p.rest })) ≡ (indent_text true (spell indent) (spell (trimmed indent)) cs ++ piece_text cs) ++ flat p.rest) [
-  | [] ↦ spell-marks p.rest
+  | [] ↦ spell-tags p.rest
   | c ∷ cs ↦ spell-indented indent (record { cells = c ∷ cs; rest = p.rest })
 ]

@@ -10,7 +10,7 @@ pub(crate) mod cells;
 mod colours;
 pub(crate) mod columns;
 mod cut;
-pub(crate) mod marks;
+pub(crate) mod tags;
 pub mod output;
 pub mod reading;
 mod sequences;
@@ -19,7 +19,7 @@ pub(crate) mod sink;
 
 use crate::runs::colours::{begun_style, is_plain};
 use crate::runs::sequences::sequence_at;
-use crate::runs::sign::{Mark, Sign, shared};
+use crate::runs::sign::{Tag, Sign, shared};
 use miette_style::style::Style;
 use std::alloc::{AllocError, Global};
 use std::marker::Model;
@@ -32,7 +32,7 @@ use std::rc::Rc;
 #[derive(Debug, Drop)]
 pub struct Runs {
     codes: Vec<char>,
-    marks: Vec<Mark>,
+    tags: Vec<Tag>,
 }
 
 impl Model for Runs {
@@ -42,9 +42,9 @@ impl Model for Runs {
 
     ghost Value = { List Token };
 
-    ghost view = { λ r. woven 0 r.codes.items r.marks.items };
+    ghost view = { λ r. woven 0 r.codes.items r.tags.items };
 
-    ghost invariant = { λ r. AreWithin (length r.codes.items) r.marks.items };
+    ghost invariant = { λ r. AreWithin (length r.codes.items) r.tags.items };
 }
 
 impl Runs {
@@ -54,7 +54,7 @@ impl Runs {
     {
         Runs {
             codes: Vec::new(alloc),
-            marks: Vec::new(alloc),
+            tags: Vec::new(alloc),
         }
     }
 
@@ -64,7 +64,7 @@ impl Runs {
     {
         Runs {
             codes,
-            marks: Vec::new(alloc),
+            tags: Vec::new(alloc),
         }
     }
 
@@ -115,12 +115,12 @@ impl Runs {
     }
 
     // A sign behind the last character.
-    fn push_mark(&mut self, sign: Rc<Sign>) -> Result<(), AllocError>
+    fn push_tag(&mut self, sign: Rc<Sign>) -> Result<(), AllocError>
         ensures tokens { OnOk result (self.new ≡ self.old ++ Sequence (sign_text sign.value) ∷ []) }
         ensures text { OnOk result (spell self.new ≡ spell self.old ++ sign_text sign.value) }
     {
         let at = self.codes.len();
-        self.marks.push(Mark { at, sign })?;
+        self.tags.push(Tag { at, sign })?;
         Ok(())
     }
 
@@ -129,8 +129,8 @@ impl Runs {
         ensures tokens { OnOk result (self.new ≡ self.old ++ Sequence (sign_text sign) ∷ []) }
         ensures text { OnOk result (spell self.new ≡ spell self.old ++ sign_text sign) }
     {
-        let shared = shared(*self.codes.allocator(), &self.marks, sign)?;
-        self.push_mark(shared)
+        let shared = shared(*self.codes.allocator(), &self.tags, sign)?;
+        self.push_tag(shared)
     }
 
     /// Appends a sign of other runs, which these share then.
@@ -139,7 +139,7 @@ impl Runs {
         ensures text { OnOk result (spell self.new ≡ spell self.old ++ sign_text sign.now.value) }
     {
         let shared = sign.clone()?;
-        self.push_mark(shared)
+        self.push_tag(shared)
     }
 
     /// Appends codes as one sign.
@@ -255,11 +255,11 @@ impl Runs {
     {
         let parts = more.parts();
         let mut start: usize = 0;
-        for mark in parts.marks {
+        for tag in parts.tags {
             let rest = &parts.codes[start..];
-            let gap = mark.at.saturating_sub(start).min(rest.len());
+            let gap = tag.at.saturating_sub(start).min(rest.len());
             self.push_chars(&rest[..gap])?;
-            self.push_sign(&mark.sign)?;
+            self.push_sign(&tag.sign)?;
             start += gap;
         }
         self.push_chars(&parts.codes[start..])?;
@@ -267,12 +267,12 @@ impl Runs {
     }
 
     /// The characters, and the signs between them.
-    pub(crate) fn parts(&self) -> Parts<'_>
-        ensures { woven 0 result.codes.now result.marks.now ≡ self.now }
+    pub(crate) fn parts(&self) -> RunsSlice<'_>
+        ensures { woven 0 result.codes.now result.tags.now ≡ self.now }
     {
-        Parts {
+        RunsSlice {
             codes: self.codes.as_slice(),
-            marks: self.marks.as_slice(),
+            tags: self.tags.as_slice(),
         }
     }
 }
@@ -308,7 +308,7 @@ pub(crate) fn is_whole(codes: &[char]) -> bool
 
 /// The characters of runs, and the signs between them.
 #[derive(Clone, Copy)]
-pub(crate) struct Parts<'a> {
+pub(crate) struct RunsSlice<'a> {
     pub(crate) codes: &'a [char],
-    pub(crate) marks: &'a [Mark],
+    pub(crate) tags: &'a [Tag],
 }

@@ -4,5 +4,5 @@ pub mod Answers
 pub mod CauseTexts
 pub mod Chain
 pub mod WrapErr
-pub mod Parts
+pub mod DiagnosticParts
 pub mod Displayed

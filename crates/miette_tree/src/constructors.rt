@@ -68,7 +68,7 @@ where
     pub fn from_err<E: Display + Drop>(alloc: Global, error: E) -> Result<Report<D, S>, AllocError>
         ensures { IfOk result (Prints D.meaning S.source (E.output error)) }
     {
-        Report::printed(alloc, error)
+        Report::of_display(alloc, error)
     }
 }
 

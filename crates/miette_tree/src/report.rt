@@ -129,7 +129,7 @@ impl<D: Diagnostic, S: SourceCode> Report<D, S> {
     }
 
     /// The report of an error's printed text.
-    pub(crate) fn printed<E: Display + Drop>(
+    pub(crate) fn of_display<E: Display + Drop>(
         alloc: Global,
         error: E,
     ) -> Result<Report<D, S>, AllocError>

@@ -69,7 +69,7 @@ pub trait WrapErr<T, D: Diagnostic, S: SourceCode>: Sized {
 }
 
 /// The report of a text, or of refused memory.
-fn told<D: Diagnostic, S: SourceCode>(made: Result<String, AllocError>) -> Report<D, S>
+fn report_of<D: Diagnostic, S: SourceCode>(made: Result<String, AllocError>) -> Report<D, S>
     ensures { TellsMade D.meaning S.source made None result }
 {
     match made {
@@ -79,7 +79,7 @@ fn told<D: Diagnostic, S: SourceCode>(made: Result<String, AllocError>) -> Repor
 }
 
 /// A report under a text, or the report of refused memory.
-fn told_over<D: Diagnostic, S: SourceCode>(
+fn report_under<D: Diagnostic, S: SourceCode>(
     alloc: Global,
     report: Report<D, S>,
     made: Result<String, AllocError>,
@@ -96,17 +96,17 @@ fn told_over<D: Diagnostic, S: SourceCode>(
 }
 
 /// The report of a text that is made now, or of refused memory.
-fn told_by<D: Diagnostic, S: SourceCode, F: FnOnce() -> Result<String, AllocError>>(
+fn report_by<D: Diagnostic, S: SourceCode, F: FnOnce() -> Result<String, AllocError>>(
     make: F,
 ) -> Report<D, S>
     requires { F.IsAlwaysCallable make }
     ensures { (made : _) × F.post make made × TellsMade D.meaning S.source made None result }
 {
-    told(make())
+    report_of(make())
 }
 
 /// The report of an error under a text that is made now, or of refused memory.
-fn told_over_by<
+fn report_under_by<
     D: Diagnostic,
     S: SourceCode,
     E: Into<Report<D, S>>,
@@ -116,7 +116,7 @@ fn told_over_by<
     ensures { (below : _) × E.converts error below
         × ((made : _) × F.post make made × TellsMade D.meaning S.source made (Some below) result) }
 {
-    told_over(alloc, error.into(), make())
+    report_under(alloc, error.into(), make())
 }
 
 impl<T, D: Diagnostic, S: SourceCode> WrapErr<T, D, S> for Option<T> {
@@ -130,7 +130,7 @@ impl<T, D: Diagnostic, S: SourceCode> WrapErr<T, D, S> for Option<T> {
     {
         match self {
             Some(value) => Ok(value),
-            None => Err(told(String::from_str(alloc, text))),
+            None => Err(report_of(String::from_str(alloc, text))),
         }
     }
 
@@ -152,7 +152,7 @@ impl<T, D: Diagnostic, S: SourceCode> WrapErr<T, D, S> for Option<T> {
     {
         match self {
             Some(given) => Ok(given),
-            None => Err(told_by(make)),
+            None => Err(report_by(make)),
         }
     }
 
@@ -181,7 +181,7 @@ impl<T, D: Diagnostic, S: SourceCode, E: Into<Report<D, S>>> WrapErr<T, D, S> fo
     {
         match self {
             Ok(value) => Ok(value),
-            Err(error) => Err(told_over(alloc, error.into(), String::from_str(alloc, message))),
+            Err(error) => Err(report_under(alloc, error.into(), String::from_str(alloc, message))),
         }
     }
 
@@ -203,7 +203,7 @@ impl<T, D: Diagnostic, S: SourceCode, E: Into<Report<D, S>>> WrapErr<T, D, S> fo
     {
         match self {
             Ok(given) => Ok(given),
-            Err(error) => Err(told_over_by(alloc, error, make_message)),
+            Err(error) => Err(report_under_by(alloc, error, make_message)),
         }
     }
 
@@ -249,7 +249,7 @@ impl<T, D: Diagnostic, S: SourceCode, E: Display + Drop> IntoDiagnostic<T, D, S>
     {
         match self {
             Ok(kept) => Ok(kept),
-            Err(error) => match Report::printed(alloc, error) {
+            Err(error) => match Report::of_display(alloc, error) {
                 Ok(report) => Err(report),
                 Err(refused) => Err(Report::from(refused)),
             },

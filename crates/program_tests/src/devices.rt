@@ -3,7 +3,7 @@ ghost use Rattle.std.specs.Prelude.{Some};
 
 use miette_report::device::Device;
 use miette_report::fault::Fault;
-use miette_report::job::{JobError, Settings, job_with, run};
+use miette_report::job::{JobError, Arguments, job_with, run};
 use miette_report::whole::{read_whole, write_whole};
 use std::alloc::{AllocError, Global};
 use std::io;
@@ -246,9 +246,9 @@ fn a_job_over_a_reader_that_fails(rt: HostRuntime) -> Result<(), Fail> {
     Ok(())
 }
 
-fn json(alloc: Global) -> Result<Settings, Fail> {
+fn json(alloc: Global) -> Result<Arguments, Fail> {
     let words = words_of(alloc, &["--json"])?;
-    match Settings::read(alloc, words.as_slice()) {
+    match Arguments::read(alloc, words.as_slice()) {
         Ok(settings) => Ok(settings),
         Err(_) => Err(Fail::new("no settings")),
     }

@@ -57,7 +57,7 @@ fn drawn_by<S: SourceCode, H: Highlighter>(
         theme: &theme,
         options: *options,
     };
-    let page = Page::over(Output::printed(alloc));
+    let page = Page::over(Output::for_text(alloc));
     match snippets(highlighter, &look, source, labels, page) {
         Ok(page) => Ok(Ok(page.into_output()?.into_text(alloc)?)),
         Err(error) => Ok(Err(error)),

@@ -19,7 +19,7 @@ fn wrapped(alloc: Global, text: &str, width: usize) -> Result<String, AllocError
         first: &none,
         further: &none,
     };
-    let mut out = Output::printed(alloc);
+    let mut out = Output::for_text(alloc);
     wrap(alloc, plan, &read, &mut out)?;
     out.into_text(alloc)
 }

@@ -71,7 +71,7 @@ drawn o t =
     }
 
 -- how reports are narrated: what isn't set stays as it is
-abbrev pub told : {H : Type 0} → Options H → narrated.Settings
+abbrev pub told : {H : Type 0} → Options H → narrated.NarrationSettings
 told o =
     let default = narrated.default_settings in
     record {

@@ -1,11 +1,11 @@
 -- Rows that are the same for a printed diagnostic, and answers that are the same where a diagnostic is printed.
 use Rattle.std.specs.Prelude.{◌≡◌, ℕ, zero, suc, List, [], ◌∷◌, Some}
-use Rattle.miette_tree.specs.rules.Parts.{given_labels}
+use Rattle.miette_tree.specs.rules.DiagnosticParts.{given_labels}
 use Rattle.miette_tree.specs.rules.Tree.{Tree}
 use Rattle.miette_graphical.specs.rules.Settings.{Settings}
 use Rattle.miette_graphical.specs.rules.Answers.{Answer, Answers, RelatedAnswers, own_answer, cause_answers}
 use Rattle.miette_graphical.specs.rules.Answers.{related_answers, first_answers, later_answers}
-use Rattle.miette_graphical.specs.rules.Parts.{SnippetRows}
+use Rattle.miette_graphical.specs.rules.DiagnosticText.{SnippetRows}
 use Rattle.miette_graphical.specs.rules.Printed.{Printed}
 use Rattle.miette_graphical.specs.laws.Paths.{Step, to_cause, to_related, printed_at}
 

@@ -1,7 +1,7 @@
 -- Trees and settings that hold no escape.
 use Rattle.std.specs.Prelude.{List, Option, IfSome}
 use Rattle.std.specs.List.{AllByRecursion}
-use Rattle.miette_text.specs.rules.Runs.{Run, HaveNoEscape}
+use Rattle.miette_text.specs.rules.Runs.{Fragment, HaveNoEscape}
 use Rattle.miette_style.specs.rules.Themes.{Characters}
 use Rattle.miette_protocol.specs.views.Meaning.{Meaning, Label}
 use Rattle.miette_layout.specs.laws.Clean.{IsClean, IsCleanText, IsCleanLabel, IsCleanSource, AreCleanDrawings}
@@ -48,5 +48,5 @@ abbrev mutual
 
 -- ---- snippets
 
-abbrev pub HaveNoEscapes : List (List Run) → Type 0
+abbrev pub HaveNoEscapes : List (List Fragment) → Type 0
 HaveNoEscapes = AllByRecursion HaveNoEscape

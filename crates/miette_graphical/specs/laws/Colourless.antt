@@ -9,7 +9,7 @@ use Rattle.miette_graphical.specs.rules.Settings.{Settings}
 use Rattle.miette_style.specs.rules.Themes.{Styles}
 use Rattle.miette_graphical.specs.rules.Answers.{Answer, Answers, unlisted, listed, RelatedAnswers, no_more, and_more}
 use Rattle.miette_graphical.specs.rules.Answered.{AreAnswers, IsTextOf}
-use Rattle.miette_graphical.specs.rules.Parts.{SnippetRows, rows_text}
+use Rattle.miette_graphical.specs.rules.DiagnosticText.{SnippetRows, rows_text}
 use Rattle.miette_graphical.specs.rules.Text.{report_text}
 use Rattle.miette_tree.specs.rules.Tree.{Tree}
 use Rattle.std.specs.List.{AllByRecursion}

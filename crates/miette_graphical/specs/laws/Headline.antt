@@ -11,14 +11,14 @@ use Rattle.miette_layout.specs.rules.Frames as frames
 use Rattle.miette_lines.specs.rules.Groups as grouping
 use Rattle.miette_lines.specs.rules.Groups.{AreAccepted, in_order, lines_of_groups}
 use Rattle.miette_lines.specs.rules.Labels.{DrawnLabel, drawn_from}
-use Rattle.miette_layout.specs.rules.Layout.{cells_of, settings_around}
+use Rattle.miette_layout.specs.rules.SnippetLayout.{cells_of, settings_around}
 use Rattle.miette_layout.specs.rules.Marks.{Mark, anchor, marks_at, AreApart}
 use Rattle.miette_layout.specs.rules.Numbers.{runs, IsRun, AreParted}
 use Rattle.miette_layout.specs.laws.Pictures.{BodyShows, marks_of_line}
 use Rattle.miette_layout.specs.rules.Shown.{framed_runs, line_at}
 use Rattle.miette_layout.specs.rules.Snippets.{shown, snippets}
 use Rattle.miette_graphical.specs.rules.Answers.{pieces_listed}
-use Rattle.miette_tree.specs.rules.Parts.{given_labels}
+use Rattle.miette_tree.specs.rules.DiagnosticParts.{given_labels}
 use Rattle.miette_graphical.specs.rules.Printed.{Printed}
 use Rattle.miette_graphical.specs.rules.Settings.{Settings}
 use Rattle.miette_graphical.specs.laws.Shipped.{AreNarrow}
@@ -35,7 +35,7 @@ abbrev pub groups_of : Settings → Source → List Label → List Span
 groups_of s source labels = grouping.groups_of s.context source [] (in_order labels)
 
 -- the settings of the layout, with the lines of context with which these groups are read
-abbrev pub group_settings : Settings → List Label → frames.Settings
+abbrev pub group_settings : Settings → List Label → frames.SnippetSettings
 group_settings s labels = settings_around (layout_settings s) (in_order labels)
 
 -- The snippets show the lines in the context of some label, once and in order, each with its number: the rows are

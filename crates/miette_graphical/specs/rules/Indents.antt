@@ -1,6 +1,6 @@
 -- What stands in front of rows, in runs, and text that is wrapped under it.
 use Rattle.std.specs.Prelude.{ℕ, ◌-◌, Bool, true, false, List, [], ◌∷◌, ◌++◌, codes, replicate, Option}
-use Rattle.miette_text.specs.rules.Runs.{Run, Styled, print}
+use Rattle.miette_text.specs.rules.Runs.{Fragment, Styled, print}
 use Rattle.miette_style.specs.rules.Styles.{plain}
 use Rattle.miette_text.specs.rules.Sequences.{tokens}
 use Rattle.miette_text.specs.rules.Wrapping.{columns_of, wrapped}
@@ -8,7 +8,7 @@ use Rattle.miette_protocol.specs.declared.protocol.Severity.{Severity}
 use Rattle.miette_graphical.specs.rules.Settings.{Settings, icon, severity_style}
 
 -- a text in no style
-abbrev pub bare : List ℕ → Run
+abbrev pub bare : List ℕ → Fragment
 bare text = Styled plain text
 
 abbrev pub spaces : ℕ → List ℕ
@@ -26,14 +26,14 @@ wrapped_behind s first further text =
       hyphens = s.hyphens;
     }) text
 
-abbrev pub wrapped_under : Settings → List Run → List Run → List ℕ → List ℕ
+abbrev pub wrapped_under : Settings → List Fragment → List Fragment → List ℕ → List ℕ
 wrapped_under s first further text = wrapped_behind s (print first) (print further) text
 
 -- in front of a message: its icon, and a bar
-abbrev pub icon_indent : Settings → Option Severity → List Run
+abbrev pub icon_indent : Settings → Option Severity → List Fragment
 icon_indent s severity = bare (spaces 2) ∷ Styled (severity_style s severity) (icon s severity) ∷ bare (spaces 1) ∷ []
 
-abbrev pub bar_indent : Settings → Option Severity → List Run
+abbrev pub bar_indent : Settings → Option Severity → List Fragment
 bar_indent s severity = bare (spaces 2) ∷ Styled (severity_style s severity) (s.characters.vbar ∷ []) ∷ bare (spaces 1)
     ∷ []
 
@@ -47,20 +47,20 @@ abbrev pub stem_text : Settings → Bool → List ℕ
 stem_text s true = spaces 6
 stem_text s false = spaces 2 ++ s.characters.vbar ∷ spaces 3
 
-abbrev pub arrow_indent : Settings → Option Severity → Bool → List Run
+abbrev pub arrow_indent : Settings → Option Severity → Bool → List Fragment
 arrow_indent s outer is_last = Styled (severity_style s outer) (arrow_text s is_last) ∷ []
 
-abbrev pub stem_indent : Settings → Option Severity → Bool → List Run
+abbrev pub stem_indent : Settings → Option Severity → Bool → List Fragment
 stem_indent s outer is_last = Styled (severity_style s outer) (stem_text s is_last) ∷ []
 
 -- in front of a help text
-abbrev pub help_indent : Settings → List Run
+abbrev pub help_indent : Settings → List Fragment
 help_indent s = Styled s.styles.help (codes "  help: ") ∷ []
 
-abbrev pub further_help_indent : List Run
+abbrev pub further_help_indent : List Fragment
 further_help_indent = bare (spaces 8) ∷ []
 
-abbrev pub footer_indent : List Run
+abbrev pub footer_indent : List Fragment
 footer_indent = bare (spaces 2) ∷ []
 
 -- For what stands under an arrow: the width less the columns of the further indent.

@@ -1,15 +1,15 @@
 -- The rows of a diagnostic's snippets, as runs.
 use Rattle.std.specs.Prelude.{ℕ, List, [], map, chars, encode_utf8_all, Option, Some, None, unwrap_or}
-use Rattle.miette_text.specs.rules.Runs.{Run, Styled}
+use Rattle.miette_text.specs.rules.Runs.{Fragment, Styled}
 use Rattle.miette_page.specs.rules.Rows as layout
 use Rattle.miette_layout.specs.rules.Frames as frames
 use Rattle.miette_lines.specs.views.Given.{width_of}
-use Rattle.miette_layout.specs.rules.Layout.{snippet_rows}
+use Rattle.miette_layout.specs.rules.SnippetLayout.{snippet_rows}
 use Rattle.miette_graphical.specs.rules.Settings.{Settings}
-use Rattle.miette_graphical.specs.rules.Parts.{SnippetRows}
+use Rattle.miette_graphical.specs.rules.DiagnosticText.{SnippetRows}
 
 -- the settings of the layout
-abbrev pub layout_settings : Settings → frames.Settings
+abbrev pub layout_settings : Settings → frames.SnippetSettings
 layout_settings s = record {
   characters = s.characters;
   styles = record {
@@ -26,16 +26,16 @@ layout_settings s = record {
 }
 
 -- a run's characters, as their bytes read
-abbrev pub run_text : layout.Run → List ℕ
+abbrev pub run_text : layout.Fragment → List ℕ
 run_text run = chars (encode_utf8_all (map (λ p. p.code) run.pieces))
 
-abbrev pub run_of_row : layout.Run → Run
+abbrev pub run_of_row : layout.Fragment → Fragment
 run_of_row run = Styled run.style (run_text run)
 
-abbrev pub runs_of_row : layout.Row → List Run
+abbrev pub runs_of_row : layout.Row → List Fragment
 runs_of_row row = map run_of_row row
 
-abbrev pub shown_rows : Option (List layout.Row) → List (List Run)
+abbrev pub shown_rows : Option (List layout.Row) → List (List Fragment)
 shown_rows rows = map runs_of_row (unwrap_or rows [])
 
 -- no rows without a source; else the frames, lines and marks of its snippets, or the row of a refused label

@@ -11,9 +11,10 @@ use Rattle.miette_graphical.specs.rules.Settings.{Settings}
 use Rattle.miette_graphical.specs.rules.Answers.{Answer, Answers, RelatedAnswers, own_answer, cause_answers}
 use Rattle.miette_graphical.specs.rules.Answers.{related_answers, first_answers, later_answers}
 use Rattle.miette_graphical.specs.rules.Indents.{narrowed}
-use Rattle.miette_graphical.specs.rules.Parts.{SnippetRows, header, message_text, help_text, footer_text, under_arrow}
-use Rattle.miette_graphical.specs.rules.Parts.{title_text, rows_text}
-use Rattle.miette_tree.specs.rules.Parts.{given_labels}
+use Rattle.miette_graphical.specs.rules.DiagnosticText.{SnippetRows, header, message_text, help_text, footer_text}
+use Rattle.miette_graphical.specs.rules.DiagnosticText.{under_arrow}
+use Rattle.miette_graphical.specs.rules.DiagnosticText.{title_text, rows_text}
+use Rattle.miette_tree.specs.rules.DiagnosticParts.{given_labels}
 
 abbrev pub ends_there : Cause → Bool
 ends_there (diagnostic t) = false

@@ -5,7 +5,7 @@ use Rattle.miette_protocol.specs.views.Meaning.{Label}
 use Rattle.miette_protocol.specs.declared.protocol.Severity.{Severity}
 use Rattle.miette_protocol.specs.declared.protocol.Severity.TheVariants.{Advice, Warning, Error}
 use Rattle.miette_tree.specs.rules.Tree.{Tree, head, cause_of, causes_of}
-use Rattle.miette_tree.specs.rules.Parts.{given_labels}
+use Rattle.miette_tree.specs.rules.DiagnosticParts.{given_labels}
 
 -- A text in quotes, with its escapes, as `{:?}` writes it. Of a text that is not all ASCII nothing is said.
 abbrev pub IsQuoted : List ℕ → List ℕ → Type 0

@@ -9,7 +9,7 @@ pub use Rattle.miette_tree.specs.rules.Answers.{unlisted, listed, no_more, and_m
 pub use Rattle.miette_tree.specs.rules.Answers.{first_answers, later_answers}
 use Rattle.miette_json.specs.rules.Json.{Json, number, string, array, object, Items, no_items, item, Members}
 use Rattle.miette_json.specs.rules.Json.{no_members, member}
-use Rattle.miette_tree.specs.rules.Parts.{given_labels, severity_text}
+use Rattle.miette_tree.specs.rules.DiagnosticParts.{given_labels, severity_text}
 
 -- ---- answers
 

@@ -9,7 +9,7 @@ use Rattle.miette_json.specs.rules.Reads.{NamesAlwaysRead}
 use Rattle.miette_json.specs.rules.JsonReport.{NameAnswers, RelatedNameAnswers, ArePossible, AllPossible, MayFail}
 use Rattle.miette_json.specs.rules.JsonReport.{IsValueOf, value_of, strings, labels_json, file_name, report_json}
 use Rattle.miette_json.specs.rules.JsonReport.{reports_json}
-use Rattle.miette_tree.specs.rules.Parts.{severity_text}
+use Rattle.miette_tree.specs.rules.DiagnosticParts.{severity_text}
 
 -- the text of a report whose file names are read from sources that always read
 abbrev pub value_text : Tree → List ℕ

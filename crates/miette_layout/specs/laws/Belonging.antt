@@ -5,7 +5,7 @@ use Rattle.miette_protocol.specs.views.Meaning.{Label}
 use Rattle.miette_protocol.specs.rules.Reading.{Span, Source}
 use Rattle.miette_lines.specs.rules.Contexts.{end_of_span}
 use Rattle.miette_lines.specs.rules.Groups.{own_groups, stretch}
-use Rattle.miette_layout.specs.rules.Layout.{is_within}
+use Rattle.miette_layout.specs.rules.SnippetLayout.{is_within}
 
 -- whether a group's bytes hold some data
 abbrev pub holds : Span → Span → Bool

@@ -1,8 +1,8 @@
--- Settings and answers without colours, and rows that are plain.
+-- SnippetSettings and answers without colours, and rows that are plain.
 use Rattle.std.specs.Prelude.{◌≡◌, []}
 use Rattle.std.specs.List.{AllByRecursion}
 use Rattle.miette_lines.specs.rules.Answers.{Answers}
-use Rattle.miette_layout.specs.rules.Frames.{Styles, Settings}
+use Rattle.miette_layout.specs.rules.Frames.{Styles, SnippetSettings}
 use Rattle.miette_page.specs.rules.Rows.{Row}
 use Rattle.miette_style.specs.rules.Styles.{plain}
 
@@ -16,7 +16,7 @@ faded s = record {
 }
 
 -- the same settings with every style plain
-abbrev pub colourless : Settings → Settings
+abbrev pub colourless : SnippetSettings → SnippetSettings
 colourless s = record s { styles = faded s.styles }
 
 -- the same reads without a highlighter

@@ -8,12 +8,12 @@ use Rattle.miette_lines.specs.rules.Cells.{Cell}
 use Rattle.miette_lines.specs.rules.Labels.{DrawnLabel, one_line}
 use Rattle.miette_layout.specs.rules.Marks.{Mark, marks, anchor}
 use Rattle.miette_layout.specs.rules.Drawing.{mark_code}
-use Rattle.miette_layout.specs.rules.Frames.{Settings, number_width}
+use Rattle.miette_layout.specs.rules.Frames.{SnippetSettings, number_width}
 use Rattle.miette_protocol.specs.rules.Reading.{Contents}
 use Rattle.miette_lines.specs.rules.Answers.{Highlight, first_of, later_of}
 use Rattle.miette_lines.specs.rules.Contexts.{lines_of_contents}
 use Rattle.miette_layout.specs.rules.Gutters.{gutter_columns}
-use Rattle.miette_layout.specs.rules.Layout.{line_rows, text_of_cells, cells_of}
+use Rattle.miette_layout.specs.rules.SnippetLayout.{line_rows, text_of_cells, cells_of}
 use Rattle.miette_style.specs.rules.Themes.{Characters}
 
 -- what stands at a column of the mark row
@@ -59,14 +59,14 @@ Below P (row ∷ rows) = P rows
 
 -- The rows of a line with marks, under its number row: the mark row has each mark in its columns, and each text hangs
 -- in the rows under that.
-abbrev pub AreMarked : Settings → ℕ → List Mark → List Row → Type 0
+abbrev pub AreMarked : SnippetSettings → ℕ → List Mark → List Row → Type 0
 AreMarked s start marks [] = ⊥
 AreMarked s start marks (row ∷ rows) =
     ((column : ℕ) → column < marks_end 0 marks →
     code_at (pieces_of row) (start + column) ≡ Some (mark_at s.width s.characters marks column).code)
     × AllByRecursion (Hangs s.width s.characters (map pieces_of rows) start) marks
 
-abbrev pub ShowMarks : Settings → ℕ → List Mark → List Row → Type 0
+abbrev pub ShowMarks : SnippetSettings → ℕ → List Mark → List Row → Type 0
 ShowMarks s start [] rows = Unit {0}
 ShowMarks s start (mark ∷ marks) rows = Below (AreMarked s start (mark ∷ marks)) rows
 
@@ -77,7 +77,8 @@ HasText start text (row ∷ rows) = Begins (pieces_of row) start (pieces_of text
 
 -- The rows of lines, numbered from here on: in each line's rows the text begins at one column, and the texts of the
 -- labels that lie on it alone hang from their marks.
-abbrev pub LinesShow : Settings → ℕ → ℕ → List DrawnLabel → List ℕ → ℕ → List (List Highlight) → List Line → Type 0
+abbrev pub LinesShow : SnippetSettings → ℕ → ℕ → List DrawnLabel → List ℕ → ℕ → List (List Highlight) → List Line →
+    Type 0
 LinesShow s w columns labels source number pieces [] = Unit {0}
 LinesShow s w columns labels source number pieces (line ∷ lines) =
     HasText (text_start w columns) (line_runs (first_of pieces) (cells_of s source line))
@@ -87,7 +88,7 @@ LinesShow s w columns labels source number pieces (line ∷ lines) =
     × LinesShow s w columns labels source (number + 1) (later_of pieces) lines
 
 -- that of a snippet's read
-abbrev pub BodyShows : Settings → List DrawnLabel → List ℕ → Contents → List (List Highlight) → Type 0
+abbrev pub BodyShows : SnippetSettings → List DrawnLabel → List ℕ → Contents → List (List Highlight) → Type 0
 BodyShows s labels source read pieces =
     LinesShow s (number_width read) (gutter_columns labels (lines_of_contents read)) labels source (read.line + 1)
     pieces (lines_of_contents read)

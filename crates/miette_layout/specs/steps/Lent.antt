@@ -13,11 +13,11 @@ use Rattle.miette_layout.specs.declared.snippet.Drawing.{Drawing}
 use Rattle.miette_layout.specs.steps.Framed.{place_at}
 use Rattle.miette_layout.specs.views.ThemeSettings.{settings_of}
 use Rattle.miette_lines.specs.views.Given.{drawn_of}
-use Rattle.miette_layout.specs.rules.Frames.{Settings, Place, top_row, bottom_row, number_width}
+use Rattle.miette_layout.specs.rules.Frames.{SnippetSettings, Place, top_row, bottom_row, number_width}
 use Rattle.miette_layout.specs.rules.Gutters.{gutter_columns}
 use Rattle.miette_layout.specs.rules.Highlighted.{decoded_text, EachHasPieces, line_calls}
 use Rattle.miette_lines.specs.rules.Labels.{DrawnLabel}
-use Rattle.miette_layout.specs.rules.Layout.{line_rows}
+use Rattle.miette_layout.specs.rules.SnippetLayout.{line_rows}
 use Rattle.miette_page.specs.views.Printouts.{Printout, ◌⊕◌}
 use Rattle.miette_page.specs.views.Told.{told_rows}
 
@@ -26,7 +26,7 @@ abbrev pub text_in : ℕ → List ℕ → Line → List ℕ
 text_in start bytes line = slice_range bytes (line.start - start) (line.text_end - start)
 
 -- its cells
-abbrev pub cells_in : Settings → ℕ → List ℕ → Line → List Cell
+abbrev pub cells_in : SnippetSettings → ℕ → List ℕ → Line → List Cell
 cells_in s start bytes line = cells_from s.width s.tab false line.start 0 (characters (text_in start bytes line))
 
 -- the lines' texts as a highlighter is given them
@@ -34,7 +34,7 @@ abbrev pub texts_in : ℕ → List ℕ → List Line → List (List ℕ)
 texts_in start bytes lines = map (λ line. decoded_text (text_in start bytes line)) lines
 
 -- the rows of lines, with numbers from this one on, in bytes that begin at an offset
-abbrev pub lent_rows : Settings → ℕ → ℕ → List DrawnLabel → ℕ → List ℕ → ℕ → List (List Highlight) → List Line →
+abbrev pub lent_rows : SnippetSettings → ℕ → ℕ → List DrawnLabel → ℕ → List ℕ → ℕ → List (List Highlight) → List Line →
     List Row
 lent_rows s w columns drawn start bytes number pieces [] = []
 lent_rows s w columns drawn start bytes number pieces (line ∷ lines) =
@@ -42,7 +42,7 @@ lent_rows s w columns drawn start bytes number pieces (line ∷ lines) =
     ++ lent_rows s w columns drawn start bytes (number + 1) (later_of pieces) lines
 
 -- the rows of a snippet, with its frame
-abbrev pub lent_snippet : Settings → List DrawnLabel → Contents → Option Place → List (List Highlight) → List Row
+abbrev pub lent_snippet : SnippetSettings → List DrawnLabel → Contents → Option Place → List (List Highlight) → List Row
 lent_snippet s drawn lent place pieces =
     top_row s lent place
     ∷ lent_rows s (number_width lent) (gutter_columns drawn (lines_of_contents lent)) drawn lent.span.offset lent.bytes

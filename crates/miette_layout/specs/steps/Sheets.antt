@@ -9,13 +9,13 @@ use Rattle.miette_lines.specs.rules.Labels.{DrawnLabel}
 use Rattle.miette_layout.specs.views.ThemeSettings.{settings_of}
 use Rattle.miette_lines.specs.views.Given.{drawn_of, width_of}
 use Rattle.miette_layout.specs.rules.Gutters.{number_gutter, other_gutter, open_gutter, part_run}
-use Rattle.miette_layout.specs.rules.Frames.{Settings, number_start, other_start}
+use Rattle.miette_layout.specs.rules.Frames.{SnippetSettings, number_start, other_start}
 use Rattle.miette_layout.specs.rules.PrintedCells.{line_runs}
 use Rattle.miette_lines.specs.rules.Cells.{Cell, cells_from, characters}
 use Rattle.miette_layout.specs.rules.Highlighted.{highlight_of}
 use Rattle.miette_newlines.specs.views.Walking.{line_of_text}
 
-abbrev pub settings : Sheet → Settings
+abbrev pub settings : Sheet → SnippetSettings
 settings sheet = settings_of sheet.theme.now sheet.options
 
 -- the labels of several lines, with their texts

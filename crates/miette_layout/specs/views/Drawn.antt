@@ -8,17 +8,17 @@ use Rattle.miette_protocol.specs.declared.error.RenderError.{RenderError}
 use Rattle.miette_protocol.specs.declared.error.RenderError.TheVariants as errors
 use Rattle.miette_lines.specs.rules.Answers.{Answers, AlwaysReads}
 use Rattle.miette_lines.specs.rules.Around.{group_context}
-use Rattle.miette_layout.specs.rules.Frames.{Settings}
+use Rattle.miette_layout.specs.rules.Frames.{SnippetSettings}
 use Rattle.miette_lines.specs.rules.Groups.{in_order, groups_of}
 use Rattle.miette_layout.specs.rules.Highlighted.{SnippetsHavePieces, snippet_calls}
-use Rattle.miette_layout.specs.rules.Layout.{snippet_rows}
+use Rattle.miette_layout.specs.rules.SnippetLayout.{snippet_rows}
 use Rattle.miette_page.specs.views.Printouts.{Printout, ◌⊕◌}
 use Rattle.miette_page.specs.views.Told.{told_rows}
 
 -- What is printed behind what was there, or that nothing is: the rows under some answers of the source and the
 -- highlighter. Of a source that always reads nothing fails, and where lines are left plain there are no pieces; so
 -- there is but one where both hold. The calls with which the highlighter gave the answers are such as happen.
-pub record MayGive (s : Settings) (source : Source) (labels : List Label) (blank : Bool)
+pub record MayGive (s : SnippetSettings) (source : Source) (labels : List Label) (blank : Bool)
     (happen : List Call → Type 0) (before : Printout) (page : Option Printout) : Type 0 where
   pub answers : Answers
   pub always : source.always_reads ≡ true → AlwaysReads answers
@@ -29,7 +29,7 @@ pub record MayGive (s : Settings) (source : Source) (labels : List Label) (blank
   pub is : page ≡ option_map (λ rows. before ⊕ told_rows rows) (snippet_rows s source labels answers)
 
 -- a refusal comes where there are no rows; memory may be refused anywhere
-abbrev pub RefusesWith : Settings → Source → List Label → Bool → (List Call → Type 0) → Printout → RenderError →
+abbrev pub RefusesWith : SnippetSettings → Source → List Label → Bool → (List Call → Type 0) → Printout → RenderError →
     Type 0
 RefusesWith s source labels blank happen before errors.Refused = MayGive s source labels blank happen before None
 RefusesWith s source labels blank happen before errors.Memory = Unit {0}

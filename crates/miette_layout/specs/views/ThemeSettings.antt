@@ -2,7 +2,7 @@
 use Rattle.miette_style.specs.declared.theme.ThemeStyles.{ThemeStyles}
 use Rattle.miette_style.specs.declared.theme.GraphicalTheme.{GraphicalTheme}
 use Rattle.miette_layout.specs.declared.options.LayoutOptions.{LayoutOptions}
-use Rattle.miette_layout.specs.rules.Frames.{Styles, Settings}
+use Rattle.miette_layout.specs.rules.Frames.{Styles, SnippetSettings}
 use Rattle.miette_lines.specs.views.Given.{width_of}
 use Rattle.miette_style.specs.rules.Themes.{characters_of}
 
@@ -16,7 +16,7 @@ styles_of it = record {
 }
 
 -- the settings of a theme and options
-abbrev pub settings_of : GraphicalTheme → LayoutOptions → Settings
+abbrev pub settings_of : GraphicalTheme → LayoutOptions → SnippetSettings
 settings_of theme options = record {
   characters = characters_of theme.characters;
   styles = styles_of theme.styles;

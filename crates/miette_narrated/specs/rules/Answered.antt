@@ -8,10 +8,10 @@ use Rattle.miette_tree.specs.rules.Tree.{Tree, tree, Trees, no_trees, more_trees
 use Rattle.miette_lines.specs.rules.Answers.{NoneFails}
 use Rattle.miette_lines.specs.rules.Contexts.{is_accepted}
 use Rattle.miette_lines.specs.rules.Groups.{in_order, AreAccepted}
-use Rattle.miette_narrated.specs.rules.Report.{Settings, Answers, RelatedAnswers, own_answer, related_answers}
+use Rattle.miette_narrated.specs.rules.Report.{NarrationSettings, Answers, RelatedAnswers, own_answer, related_answers}
 use Rattle.miette_narrated.specs.rules.Report.{first_answers, later_answers, snippet_rows, related_report}
 use Rattle.miette_narrated.specs.rules.Report.{related_reports, blank_before, narrated}
-use Rattle.miette_tree.specs.rules.Parts.{given_labels}
+use Rattle.miette_tree.specs.rules.DiagnosticParts.{given_labels}
 
 -- ---- where reads are determined, and where nothing is refused
 
@@ -91,13 +91,13 @@ pub record AppendsRelated (context : ℕ) (inherited : Option Source) (ts : Tree
   pub appended : new ≡ old ++ (blank_before ts ++ related_reports context inherited answers ts)
 
 -- a narrated text of a report: for answers that its sources can have given
-pub record IsNarrated (s : Settings) (t : Tree) (text : List ℕ) : Type 0 where
+pub record IsNarrated (s : NarrationSettings) (t : Tree) (text : List ℕ) : Type 0 where
   pub answers : Answers
   pub possible : AreAnswers None answers t
   pub is : text ≡ narrated s t answers
 
 -- new is old and then a narrated text of a report
-pub record Appends (s : Settings) (t : Tree) (old new : List ℕ) : Type 0 where
+pub record Appends (s : NarrationSettings) (t : Tree) (old new : List ℕ) : Type 0 where
   pub text : List ℕ
   pub is_narrated : IsNarrated s t text
   pub appended : new ≡ old ++ text

@@ -10,15 +10,15 @@ pub use Rattle.miette_tree.specs.rules.Answers.{unlisted, listed, no_more, and_m
 pub use Rattle.miette_tree.specs.rules.Answers.{first_answers, later_answers}
 use Rattle.miette_narrated.specs.rules.Labels.{row}
 use Rattle.miette_narrated.specs.rules.Snippets.{snippets}
-use Rattle.miette_tree.specs.rules.Parts.{given_labels, severity_text}
+use Rattle.miette_tree.specs.rules.DiagnosticParts.{given_labels, severity_text}
 
 -- what a handler is set to: whether the causes of the report are told, the lines of context, and the last row
-pub record Settings : Type 0 where
+pub record NarrationSettings : Type 0 where
   pub chain : Bool
   pub context : ℕ
   pub footer : Option (List ℕ)
 
-abbrev pub default_settings : Settings
+abbrev pub default_settings : NarrationSettings
 default_settings = record { chain = true; context = 1; footer = None }
 
 -- ---- answers
@@ -108,7 +108,7 @@ abbrev mutual
 
 -- the outermost report: message, severity, causes where they are told, snippets, help, code, url, related reports,
 -- and the last row
-abbrev pub narrated : Settings → Tree → Answers → List ℕ
+abbrev pub narrated : NarrationSettings → Tree → Answers → List ℕ
 narrated s (tree m own c r) a =
     head_rows m ++ (causes_if s.chain (causes_of c)
     ++ (rows_below s.context own (own_answer a) m

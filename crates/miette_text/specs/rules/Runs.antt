@@ -48,10 +48,10 @@ abbrev pub colour_stop : List ℕ
 colour_stop = escape ∷ 91 ∷ 48 ∷ 109 ∷ []
 
 -- A text in a style, or the start or the end of a link.
-pub data Run : Type 0 where
-  Styled : Style → List ℕ → Run
-  LinkTo : List ℕ → Run
-  LinkEnd : Run
+pub data Fragment : Type 0 where
+  Styled : Style → List ℕ → Fragment
+  LinkTo : List ℕ → Fragment
+  LinkEnd : Fragment
 
 abbrev pub printed_run : Style → List ℕ → List ℕ
 printed_run s [] = []
@@ -60,27 +60,27 @@ printed_run s (c ∷ cs) = elim (style_codes s) [ [] ↦ c ∷ cs | x ∷ xs ↦
 abbrev pub link_start : List ℕ → List ℕ
 link_start url = escape ∷ 93 ∷ 56 ∷ 59 ∷ 59 ∷ url ++ escape ∷ 92 ∷ []
 
-abbrev pub printed : Run → List ℕ
+abbrev pub printed : Fragment → List ℕ
 printed (Styled s text) = printed_run s text
 printed (LinkTo url) = link_start url
 printed LinkEnd = link_start []
 
-abbrev pub print : List Run → List ℕ
+abbrev pub print : List Fragment → List ℕ
 print [] = []
 print (s ∷ ss) = printed s ++ print ss
 
 -- The same in a plain style.
-abbrev pub plain_run : Run → Run
+abbrev pub plain_run : Fragment → Fragment
 plain_run (Styled s text) = Styled plain text
 plain_run (LinkTo url) = LinkTo url
 plain_run LinkEnd = LinkEnd
 
 -- texts and urls that hold no escape
-abbrev pub HasNoEscape : Run → Type 0
+abbrev pub HasNoEscape : Fragment → Type 0
 HasNoEscape (Styled s text) = no_escape text ≡ true
 HasNoEscape (LinkTo url) = no_escape url ≡ true
 HasNoEscape LinkEnd = Unit {0}
 
-abbrev pub HaveNoEscape : List Run → Type 0
+abbrev pub HaveNoEscape : List Fragment → Type 0
 HaveNoEscape [] = Unit {0}
 HaveNoEscape (s ∷ ss) = HasNoEscape s × HaveNoEscape ss

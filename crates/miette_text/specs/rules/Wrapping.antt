@@ -9,7 +9,7 @@ use Rattle.miette_text.specs.rules.Sequences.{Token, Character, Sequence, tokens
 
 -- A character, with the sequences that stand before it: they go where it goes.
 pub record Cell : Type 0 where
-  pub marks : List (List ℕ)
+  pub tags : List (List ℕ)
   pub code : ℕ
 
 -- What stands between two line feeds: its characters, and the sequences behind the last of them.
@@ -21,14 +21,14 @@ abbrev pub on_first : {A : Type 0} → (A → A) → List A → List A
 on_first f [] = []
 on_first f (x ∷ xs) = f x ∷ xs
 
-abbrev pub with_mark : List ℕ → Piece → Piece
-with_mark mark p = elim p.cells [
-  | [] ↦ record { cells = []; rest = mark ∷ p.rest }
-  | cell ∷ cells ↦ record { cells = record { marks = mark ∷ cell.marks; code = cell.code } ∷ cells; rest = p.rest }
+abbrev pub with_tag : List ℕ → Piece → Piece
+with_tag tag p = elim p.cells [
+  | [] ↦ record { cells = []; rest = tag ∷ p.rest }
+  | cell ∷ cells ↦ record { cells = record { tags = tag ∷ cell.tags; code = cell.code } ∷ cells; rest = p.rest }
 ]
 
 abbrev pub with_code : ℕ → Piece → Piece
-with_code c p = record { cells = record { marks = []; code = c } ∷ p.cells; rest = p.rest }
+with_code c p = record { cells = record { tags = []; code = c } ∷ p.cells; rest = p.rest }
 
 abbrev pub no_characters : Piece
 no_characters = record { cells = []; rest = [] }
@@ -36,11 +36,11 @@ no_characters = record { cells = []; rest = [] }
 -- The text is cut at each line feed.
 abbrev pub pieces : List Token → List Piece
 pieces [] = no_characters ∷ []
-pieces (Sequence s ∷ ts) = on_first (with_mark s) (pieces ts)
+pieces (Sequence s ∷ ts) = on_first (with_tag s) (pieces ts)
 pieces (Character c ∷ ts) = if is_line_feed c then no_characters ∷ pieces ts else on_first (with_code c) (pieces ts)
 
 abbrev pub cell_tokens : Cell → List Token
-cell_tokens c = map Sequence c.marks ++ Character c.code ∷ []
+cell_tokens c = map Sequence c.tags ++ Character c.code ∷ []
 
 -- ---- widths
 

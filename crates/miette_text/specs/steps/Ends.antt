@@ -14,9 +14,9 @@ abbrev pub bare_len : List Cell → ℕ
 bare_len [] = 0
 bare_len (c ∷ cs) = if is_space c.code && all_spaces cs then 0 else suc (bare_len cs)
 
-abbrev pub marks_text : List Cell → List ℕ
-marks_text [] = []
-marks_text (c ∷ cs) = flat c.marks ++ marks_text cs
+abbrev pub tags_text : List Cell → List ℕ
+tags_text [] = []
+tags_text (c ∷ cs) = flat c.tags ++ tags_text cs
 
 -- ---- of codes alone, whatever sequences stand between them
 
@@ -83,7 +83,7 @@ line_len [] = 0
 line_len (c ∷ cs) = if is_line_feed c then 0 else suc (line_len cs)
 
 abbrev pub plain_cell : ℕ → Cell
-plain_cell c = record { marks = []; code = c }
+plain_cell c = record { tags = []; code = c }
 
 abbrev pub plain_cells : List ℕ → List Cell
 plain_cells = map plain_cell

@@ -6,7 +6,7 @@ use Rattle.miette_text.specs.rules.Tame.{is_nil}
 
 abbrev pub piece_text : List Cell → List ℕ
 piece_text [] = []
-piece_text (c ∷ cs) = (flat c.marks ++ c.code ∷ []) ++ piece_text cs
+piece_text (c ∷ cs) = (flat c.tags ++ c.code ∷ []) ++ piece_text cs
 
 -- nothing before what stands behind the last line feed where it has no character
 abbrev pub indent_text : Bool → List ℕ → List ℕ → List Cell → List ℕ

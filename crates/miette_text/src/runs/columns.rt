@@ -4,7 +4,7 @@ ghost use Rattle.std.specs.Prelude.{◌≡◌, ◌+◌, IfOk};
 ghost use Rattle.miette_text.specs.rules.Wrapping.{columns_of, width};
 ghost use Rattle.miette_text.specs.views.Woven.{woven};
 
-use crate::runs::Parts;
+use crate::runs::RunsSlice;
 use std::alloc::AllocError;
 use unicode_width::UnicodeWidthChar;
 
@@ -28,8 +28,8 @@ pub(crate) fn char_columns(c: char) -> usize
 }
 
 /// How many columns runs take.
-pub(crate) fn token_columns(runs: Parts<'_>) -> Result<usize, AllocError>
-    ensures { IfOk result (λ n. n ≡ columns_of (woven 0 runs.entry.codes.now runs.entry.marks.now)) }
+pub(crate) fn token_columns(runs: RunsSlice<'_>) -> Result<usize, AllocError>
+    ensures { IfOk result (λ n. n ≡ columns_of (woven 0 runs.entry.codes.now runs.entry.tags.now)) }
 {
     let mut total = 0;
     for code in runs.codes {

@@ -5,15 +5,15 @@ ghost use Rattle.miette_text.specs.rules.Cutting.{cut_end, cut_front};
 ghost use Rattle.miette_text.specs.steps.Feeds.{capped, feeds_len, kept_len, lowered};
 
 use crate::runs::Runs;
-use crate::runs::marks::{are_colours, upto_len};
-use crate::runs::sign::Mark;
+use crate::runs::tags::{are_colours, upto_len};
+use crate::runs::sign::Tag;
 
 // How many line feeds at the front have only colours before and between them.
-fn feeds_len(codes: &[char], marks: &[Mark]) -> usize
-    ensures value { result ≡ feeds_len 0 codes.now marks.now }
+fn feeds_len(codes: &[char], tags: &[Tag]) -> usize
+    ensures value { result ≡ feeds_len 0 codes.now tags.now }
     ensures within { result ≤ length codes.now }
 {
-    let mut left = marks;
+    let mut left = tags;
     for (i, code) in codes.iter().enumerate() {
         let (before, behind) = left.split_at(upto_len(i, left));
         if *code != '\n' || !are_colours(before) {
@@ -25,11 +25,11 @@ fn feeds_len(codes: &[char], marks: &[Mark]) -> usize
 }
 
 // How many characters are before the line feeds and colours at the end.
-fn kept_len(codes: &[char], marks: &[Mark]) -> usize
-    ensures value { result ≡ kept_len 0 codes.now marks.now }
+fn kept_len(codes: &[char], tags: &[Tag]) -> usize
+    ensures value { result ≡ kept_len 0 codes.now tags.now }
     ensures within { result ≤ length codes.now }
 {
-    let mut left = marks;
+    let mut left = tags;
     let mut kept: usize = 0;
     for (i, code) in codes.iter().enumerate() {
         let (before, behind) = left.split_at(upto_len(i, left));
@@ -43,23 +43,23 @@ fn kept_len(codes: &[char], marks: &[Mark]) -> usize
     if are_colours(left) { kept } else { codes.len() }
 }
 
-// So many characters less are before each mark.
-fn lower(marks: &mut [Mark], by: usize)
-    ensures { marks.new ≡ map (lowered by) marks.old }
+// So many characters less are before each tag.
+fn lower(tags: &mut [Tag], by: usize)
+    ensures { tags.new ≡ map (lowered by) tags.old }
 {
-    for i in 0..marks.len() {
-        let mark = &mut marks[i];
-        mark.at = mark.at.saturating_sub(by);
+    for i in 0..tags.len() {
+        let tag = &mut tags[i];
+        tag.at = tag.at.saturating_sub(by);
     }
 }
 
-// No more than so many characters are before each mark.
-fn cap(marks: &mut [Mark], at: usize)
-    ensures { marks.new ≡ map (capped at) marks.old }
+// No more than so many characters are before each tag.
+fn cap(tags: &mut [Tag], at: usize)
+    ensures { tags.new ≡ map (capped at) tags.old }
 {
-    for i in 0..marks.len() {
-        let mark = &mut marks[i];
-        mark.at = mark.at.min(at);
+    for i in 0..tags.len() {
+        let tag = &mut tags[i];
+        tag.at = tag.at.min(at);
     }
 }
 
@@ -68,10 +68,10 @@ impl Runs {
     pub(crate) fn cut_front(&mut self)
         ensures { self.new ≡ cut_front self.old }
     {
-        let n = feeds_len(&self.codes, &self.marks);
+        let n = feeds_len(&self.codes, &self.tags);
         if 0 < n {
             self.codes.drain(..n);
-            lower(&mut self.marks, n);
+            lower(&mut self.tags, n);
         }
     }
 
@@ -79,10 +79,10 @@ impl Runs {
     pub(crate) fn cut_end(&mut self)
         ensures { self.new ≡ cut_end self.old }
     {
-        let n = kept_len(&self.codes, &self.marks);
+        let n = kept_len(&self.codes, &self.tags);
         if n < self.codes.len() {
             self.codes.truncate(n);
-            cap(&mut self.marks, n);
+            cap(&mut self.tags, n);
         }
     }
 }

@@ -72,7 +72,7 @@ fn print_link(out: &mut String, url: &str) -> Result<(), AllocError>
 
 impl Output {
     /// A text, in which what is appended is printed.
-    pub fn printed(alloc: Global) -> Self
+    pub fn for_text(alloc: Global) -> Self
         ensures { result ≡ [] }
     {
         Output {
@@ -81,7 +81,7 @@ impl Output {
     }
 
     /// Runs, which can be wrapped.
-    pub fn collected(alloc: Global) -> Self
+    pub fn for_runs(alloc: Global) -> Self
         ensures { result ≡ [] }
     {
         Output {

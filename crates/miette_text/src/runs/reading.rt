@@ -9,8 +9,8 @@ ghost use Rattle.miette_text.specs.rules.Wrapping.{columns_of};
 use crate::runs::cells::push_all;
 use crate::runs::columns::token_columns;
 use crate::runs::sequences::{sequence_at, stays_open};
-use crate::runs::sign::{Mark, Sign};
-use crate::runs::{Parts, Runs, is_whole};
+use crate::runs::sign::{Tag, Sign};
+use crate::runs::{RunsSlice, Runs, is_whole};
 use std::alloc::{AllocError, Global};
 
 // A character for each byte.
@@ -105,11 +105,11 @@ fn is_whole_sign(sign: &Sign) -> bool
     }
 }
 
-fn are_whole(marks: &[Mark]) -> bool
-    ensures { result ≡ are_whole marks.now }
+fn are_whole(tags: &[Tag]) -> bool
+    ensures { result ≡ are_whole tags.now }
 {
-    for mark in marks {
-        if !is_whole_sign(&mark.sign) {
+    for tag in tags {
+        if !is_whole_sign(&tag.sign) {
             return false;
         }
     }
@@ -117,11 +117,11 @@ fn are_whole(marks: &[Mark]) -> bool
 }
 
 /// Whether what runs print surely reads as these runs again.
-pub(crate) fn is_settled(runs: Parts<'_>) -> bool
-    ensures { result ≡ true → tokens (spell (woven 0 runs.entry.codes.now runs.entry.marks.now))
-        ≡ woven 0 runs.entry.codes.now runs.entry.marks.now }
+pub(crate) fn is_settled(runs: RunsSlice<'_>) -> bool
+    ensures { result ≡ true → tokens (spell (woven 0 runs.entry.codes.now runs.entry.tags.now))
+        ≡ woven 0 runs.entry.codes.now runs.entry.tags.now }
 {
-    has_no_escape(runs.codes) && are_whole(runs.marks)
+    has_no_escape(runs.codes) && are_whole(runs.tags)
 }
 
 /// The runs that what runs print reads as.

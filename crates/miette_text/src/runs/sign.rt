@@ -8,7 +8,7 @@ use miette_style::style::Style;
 use std::alloc::{AllocError, Global};
 use std::rc::Rc;
 
-// How many marks are looked at for a sign that prints the same.
+// How many tags are looked at for a sign that prints the same.
 const RECENT: usize = 16;
 
 /// Where a style begins or ends, or another whole sequence for the terminal. A sign has no columns.
@@ -22,9 +22,9 @@ pub(crate) enum Sign {
     Sequence(Vec<char>),
 }
 
-/// A sign, which other marks may share, and how many characters are before it.
+/// A sign, which other tags may share, and how many characters are before it.
 #[derive(Debug, Drop)]
-pub(crate) struct Mark {
+pub(crate) struct Tag {
     pub(crate) at: usize,
     pub(crate) sign: Rc<Sign>,
 }
@@ -42,13 +42,13 @@ fn are_alike(one: &Sign, other: &Sign) -> bool
     }
 }
 
-/// A sign to be shared: that of one of the last marks, where it prints the same.
-pub(crate) fn shared(alloc: Global, marks: &[Mark], sign: Sign) -> Result<Rc<Sign>, AllocError>
+/// A sign to be shared: that of one of the last tags, where it prints the same.
+pub(crate) fn shared(alloc: Global, tags: &[Tag], sign: Sign) -> Result<Rc<Sign>, AllocError>
     ensures { IfOk result (λ s. sign_text s.value ≡ sign_text sign) }
 {
-    for mark in &marks[marks.len().saturating_sub(RECENT)..] {
-        if are_alike(&mark.sign, &sign) {
-            let copy = mark.sign.clone()?;
+    for tag in &tags[tags.len().saturating_sub(RECENT)..] {
+        if are_alike(&tag.sign, &sign) {
+            let copy = tag.sign.clone()?;
             return Ok(copy);
         }
     }

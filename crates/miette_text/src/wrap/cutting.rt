@@ -9,7 +9,7 @@ use crate::runs::reading::{is_settled, reread};
 use std::alloc::{AllocError, Global};
 
 // The runs that their text is read as: mostly they themselves.
-fn settled(alloc: Global, runs: Runs) -> Result<Runs, AllocError>
+fn settle(alloc: Global, runs: Runs) -> Result<Runs, AllocError>
     ensures { IfOk result (λ r. r ≡ tokens (spell runs)) }
 {
     if is_settled(runs.parts()) {
@@ -26,7 +26,7 @@ fn settled(alloc: Global, runs: Runs) -> Result<Runs, AllocError>
 pub fn without_leading(alloc: Global, runs: Runs) -> Result<Runs, AllocError>
     ensures { IfOk result (λ r. spell r ≡ without_leading (spell runs)) }
 {
-    let mut found = settled(alloc, runs)?;
+    let mut found = settle(alloc, runs)?;
     found.cut_front();
     Ok(found)
 }
@@ -38,7 +38,7 @@ pub fn without_leading(alloc: Global, runs: Runs) -> Result<Runs, AllocError>
 pub fn without_trailing(alloc: Global, runs: Runs) -> Result<Runs, AllocError>
     ensures { IfOk result (λ r. spell r ≡ without_trailing (spell runs)) }
 {
-    let mut found = settled(alloc, runs)?;
+    let mut found = settle(alloc, runs)?;
     found.cut_end();
     Ok(found)
 }

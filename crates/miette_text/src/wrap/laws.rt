@@ -3,7 +3,7 @@
 
 ghost use Rattle.std.specs.Prelude.{◌≡◌, ℕ, List, ◌++◌, map, encode_utf8_all};
 ghost use Rattle.miette_text.specs.rules.Cutting.{without_leading, without_trailing};
-ghost use Rattle.miette_text.specs.rules.Runs.{HaveNoEscape, Run, plain_run, print};
+ghost use Rattle.miette_text.specs.rules.Runs.{HaveNoEscape, Fragment, plain_run, print};
 ghost use Rattle.miette_text.specs.rules.Sequences.{Token, erase, tokens};
 ghost use Rattle.miette_text.specs.rules.Tame.{AllTame, AreColoured, IsTame, colourless};
 ghost use Rattle.miette_text.specs.rules.Filled.{IsFilled, IsTrimmed, all_words};
@@ -32,8 +32,8 @@ pub fn cutting_law()
 
 /// The same of runs and links, whatever the urls hold but escapes.
 pub fn printing_law()
-    ensures tame { (runs : List Run) → HaveNoEscape runs → IsTame (print runs) }
-    ensures erase { (runs : List Run) → HaveNoEscape runs → erase (print runs) ≡ print (map plain_run runs) }
+    ensures tame { (runs : List Fragment) → HaveNoEscape runs → IsTame (print runs) }
+    ensures erase { (runs : List Fragment) → HaveNoEscape runs → erase (print runs) ≡ print (map plain_run runs) }
 {}
 
 /// Colours can be deleted from a text's bytes as from its characters.

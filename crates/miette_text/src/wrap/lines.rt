@@ -6,8 +6,8 @@ ghost use Rattle.miette_text.specs.rules.Sequences.{spell};
 ghost use Rattle.miette_text.specs.views.Woven.{cells_at, left_at, woven};
 ghost use Rattle.miette_text.specs.rules.Wrapping.{cell_tokens, joined, piece_rows, pieces, text_rows, trimmed};
 
-use crate::runs::Parts;
-use crate::runs::cells::{push_all, push_cells, push_marks, push_signs};
+use crate::runs::RunsSlice;
+use crate::runs::cells::{push_all, push_cells, push_tags, push_signs};
 use crate::runs::sink::Sink;
 use crate::wrap::ends::{Cuts, row_len};
 use std::alloc::AllocError;
@@ -16,7 +16,7 @@ use std::alloc::AllocError;
 #[derive(Clone, Copy)]
 pub(crate) struct Under<'a> {
     pub(crate) room: usize,
-    pub(crate) further: Parts<'a>,
+    pub(crate) further: RunsSlice<'a>,
     pub(crate) further_room: usize,
 }
 
@@ -38,47 +38,47 @@ pub(crate) fn bare_len(row: &[char]) -> usize
 }
 
 // A line feed and the indent below it.
-fn push_break<S: Sink>(out: &mut S, further: Parts<'_>) -> Result<(), AllocError>
+fn push_break<S: Sink>(out: &mut S, further: RunsSlice<'_>) -> Result<(), AllocError>
     ensures { OnOk result (S.holds out.new ≡ S.holds out.old
-        ++ S.spells (10 ∷ spell (woven 0 further.entry.codes.now further.entry.marks.now))) }
+        ++ S.spells (10 ∷ spell (woven 0 further.entry.codes.now further.entry.tags.now))) }
 {
     out.push_codes(&['\n'])?;
     push_all(out, further)?;
     Ok(())
 }
 
-// A row, from a place in the text up to the end of what is given, without its last spaces. How many marks are used.
-fn push_row<S: Sink>(out: &mut S, start: usize, row: Parts<'_>) -> Result<usize, AllocError>
+// A row, from a place in the text up to the end of what is given, without its last spaces. How many tags are used.
+fn push_row<S: Sink>(out: &mut S, start: usize, row: RunsSlice<'_>) -> Result<usize, AllocError>
     requires { start ≤ length row.codes.now }
     ensures text { OnOk result (S.holds out.new ≡ S.holds out.old ++ S.spells (spell (trimmed
-        (flat_map cell_tokens (cells_at start (drop start row.entry.codes.now) row.entry.marks.now))))) }
-    ensures left { IfOk result (λ n. drop n row.entry.marks.now
-        ≡ left_at start (drop start row.entry.codes.now) row.entry.marks.now) }
-    ensures within { IfOk result (λ n. n ≤ length row.entry.marks.now) }
+        (flat_map cell_tokens (cells_at start (drop start row.entry.codes.now) row.entry.tags.now))))) }
+    ensures left { IfOk result (λ n. drop n row.entry.tags.now
+        ≡ left_at start (drop start row.entry.codes.now) row.entry.tags.now) }
+    ensures within { IfOk result (λ n. n ≤ length row.entry.tags.now) }
 {
     let codes = &row.codes[start..];
     let bare = bare_len(codes);
-    let used = push_cells(out, start, &codes[..bare], row.marks)?;
-    let dropped = push_signs(out, start + bare, &codes[bare..], &row.marks[used..])?;
+    let used = push_cells(out, start, &codes[..bare], row.tags)?;
+    let dropped = push_signs(out, start + bare, &codes[bare..], &row.tags[used..])?;
     Ok(used + dropped)
 }
 
-// The rows of a line, from a place in the text up to the end of what is given. How many marks are used.
+// The rows of a line, from a place in the text up to the end of what is given. How many tags are used.
 fn push_rows<S: Sink>(
     out: &mut S,
     cuts: Cuts,
     under: Under<'_>,
     first: usize,
-    line: Parts<'_>,
+    line: RunsSlice<'_>,
 ) -> Result<usize, AllocError>
     requires { first ≤ length line.codes.now }
     ensures text { OnOk result (S.holds out.new ≡ S.holds out.old ++ S.spells (spell (joined []
-        (woven 0 under.entry.further.codes.now under.entry.further.marks.now)
+        (woven 0 under.entry.further.codes.now under.entry.further.tags.now)
         (piece_rows cuts under.entry.room under.entry.further_room
-        (record { cells = cells_at first (drop first line.entry.codes.now) line.entry.marks.now; rest = [] }))))) }
-    ensures left { IfOk result (λ n. drop n line.entry.marks.now
-        ≡ left_at first (drop first line.entry.codes.now) line.entry.marks.now) }
-    ensures within { IfOk result (λ n. n ≤ length line.entry.marks.now) }
+        (record { cells = cells_at first (drop first line.entry.codes.now) line.entry.tags.now; rest = [] }))))) }
+    ensures left { IfOk result (λ n. drop n line.entry.tags.now
+        ≡ left_at first (drop first line.entry.codes.now) line.entry.tags.now) }
+    ensures within { IfOk result (λ n. n ≤ length line.entry.tags.now) }
 {
     let mut start = first;
     let mut used: usize = 0;
@@ -87,9 +87,9 @@ fn push_rows<S: Sink>(
     'rest: loop {
         let n = row_len(cuts, room, before, &line.codes[start..])?;
         let end = start + n;
-        let row = Parts {
+        let row = RunsSlice {
             codes: &line.codes[..end],
-            marks: &line.marks[used..],
+            tags: &line.tags[used..],
         };
         let more = push_row(out, start, row)?;
         used += more;
@@ -123,12 +123,12 @@ pub(crate) fn push_filled<S: Sink>(
     out: &mut S,
     cuts: Cuts,
     under: Under<'_>,
-    text: Parts<'_>,
+    text: RunsSlice<'_>,
 ) -> Result<(), AllocError>
     ensures { OnOk result (S.holds out.new ≡ S.holds out.old ++ S.spells (spell (joined []
-        (woven 0 under.entry.further.codes.now under.entry.further.marks.now)
+        (woven 0 under.entry.further.codes.now under.entry.further.tags.now)
         (text_rows cuts under.entry.room under.entry.further_room
-        (pieces (woven 0 text.entry.codes.now text.entry.marks.now)))))) }
+        (pieces (woven 0 text.entry.codes.now text.entry.tags.now)))))) }
 {
     let mut start: usize = 0;
     let mut used: usize = 0;
@@ -137,17 +137,17 @@ pub(crate) fn push_filled<S: Sink>(
         let n = line_len(&text.codes[start..]);
         let end = start + n;
         let place = Under { room, ..under };
-        let line = Parts {
+        let line = RunsSlice {
             codes: &text.codes[..end],
-            marks: &text.marks[used..],
+            tags: &text.tags[used..],
         };
         let inside = push_rows(out, cuts, place, start, line)?;
         used += inside;
         if end == text.codes.len() {
-            push_marks(out, &text.marks[used..])?;
+            push_tags(out, &text.tags[used..])?;
             return Ok(());
         }
-        let behind = push_signs(out, end, &['\n'], &text.marks[used..])?;
+        let behind = push_signs(out, end, &['\n'], &text.tags[used..])?;
         used += behind;
         push_break(out, under.further)?;
         start = end + 1;

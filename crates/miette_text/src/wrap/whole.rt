@@ -7,22 +7,22 @@ ghost use Rattle.miette_text.specs.steps.WholeText.{indent_text};
 ghost use Rattle.miette_text.specs.views.Woven.{woven};
 ghost use Rattle.miette_text.specs.rules.Wrapping.{all_white, pieces, trimmed, whole_pieces};
 
-use crate::runs::Parts;
-use crate::runs::cells::{push_all, push_cells, push_marks};
-use crate::runs::marks::upto_len;
+use crate::runs::RunsSlice;
+use crate::runs::cells::{push_all, push_cells, push_tags};
+use crate::runs::tags::upto_len;
 use crate::runs::sink::Sink;
 use crate::wrap::lines::{bare_len, line_len};
 use std::alloc::AllocError;
 
 // An indent without its last spaces; its signs stay.
-fn trimmed(indent: Parts<'_>) -> Parts<'_>
-    ensures { woven 0 result.codes.now result.marks.now
-        ≡ trimmed (woven 0 indent.entry.codes.now indent.entry.marks.now) }
+fn trim_end(indent: RunsSlice<'_>) -> RunsSlice<'_>
+    ensures { woven 0 result.codes.now result.tags.now
+        ≡ trimmed (woven 0 indent.entry.codes.now indent.entry.tags.now) }
 {
     let bare = bare_len(indent.codes);
-    Parts {
+    RunsSlice {
         codes: &indent.codes[..bare],
-        marks: indent.marks,
+        tags: indent.tags,
     }
 }
 
@@ -41,13 +41,13 @@ fn all_white(line: &[char]) -> bool
 fn push_indent<S: Sink>(
     out: &mut S,
     last: bool,
-    indent: Parts<'_>,
-    short: Parts<'_>,
+    indent: RunsSlice<'_>,
+    short: RunsSlice<'_>,
     line: &[char],
 ) -> Result<(), AllocError>
     ensures { OnOk result (S.holds out.new ≡ S.holds out.old
-        ++ S.spells (indent_text last (spell (woven 0 indent.entry.codes.now indent.entry.marks.now))
-        (spell (woven 0 short.entry.codes.now short.entry.marks.now)) (plain_cells line.now))) }
+        ++ S.spells (indent_text last (spell (woven 0 indent.entry.codes.now indent.entry.tags.now))
+        (spell (woven 0 short.entry.codes.now short.entry.tags.now)) (plain_cells line.now))) }
 {
     if last && line.is_empty() {
         return Ok(());
@@ -63,35 +63,35 @@ fn push_indent<S: Sink>(
 /// is before what stands behind the last line feed where that has no character.
 pub(crate) fn push_whole<S: Sink>(
     out: &mut S,
-    first: Parts<'_>,
-    further: Parts<'_>,
-    text: Parts<'_>,
+    first: RunsSlice<'_>,
+    further: RunsSlice<'_>,
+    text: RunsSlice<'_>,
 ) -> Result<(), AllocError>
     ensures { OnOk result (S.holds out.new ≡ S.holds out.old
-        ++ S.spells (spell (whole_pieces (woven 0 first.entry.codes.now first.entry.marks.now)
-        (woven 0 further.entry.codes.now further.entry.marks.now)
-        (pieces (woven 0 text.entry.codes.now text.entry.marks.now))))) }
+        ++ S.spells (spell (whole_pieces (woven 0 first.entry.codes.now first.entry.tags.now)
+        (woven 0 further.entry.codes.now further.entry.tags.now)
+        (pieces (woven 0 text.entry.codes.now text.entry.tags.now))))) }
 {
-    let further_short = trimmed(further);
+    let further_short = trim_end(further);
     let mut indent = first;
-    let mut short = trimmed(first);
+    let mut short = trim_end(first);
     let mut start: usize = 0;
-    let mut marks = text.marks;
+    let mut tags = text.tags;
     'rest: loop {
         let end = start + line_len(&text.codes[start..]);
         let last = end == text.codes.len();
         let line = &text.codes[start..end];
         push_indent(out, last, indent, short, line)?;
-        let used = push_cells(out, start, line, marks)?;
-        let (_, left) = marks.split_at(used);
+        let used = push_cells(out, start, line, tags)?;
+        let (_, left) = tags.split_at(used);
         if last {
-            push_marks(out, left)?;
+            push_tags(out, left)?;
             return Ok(());
         }
         let (before, behind) = left.split_at(upto_len(end, left));
-        push_marks(out, before)?;
+        push_tags(out, before)?;
         out.push_codes(&['\n'])?;
-        marks = behind;
+        tags = behind;
         start = end + 1;
         indent = further;
         short = further_short;

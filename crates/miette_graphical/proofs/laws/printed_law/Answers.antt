@@ -1,5 +1,5 @@
 use Rattle.std.proofs.Common.{ap}
-use Rattle.miette_tree.specs.rules.Parts.{given_labels}
+use Rattle.miette_tree.specs.rules.DiagnosticParts.{given_labels}
 use Rattle.miette_graphical.specs.laws.Alike.{AreDrawnAlike}
 use Rattle.miette_graphical.specs.rules.Printed.{printed}
 use Rattle.miette_graphical.proofs.Paths.{printed_there}

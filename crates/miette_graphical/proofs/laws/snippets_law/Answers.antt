@@ -3,7 +3,7 @@ use Rattle.std.specs.List.{AllByRecursion}
 use Rattle.miette_lines.specs.rules.Contexts.{contents}
 use Rattle.miette_graphical.specs.rules.Answers.{pieces_listed}
 use Rattle.miette_graphical.specs.laws.Headline.{LinesAreShown, MarksAreApart, TextsHang, SnippetHangs, drawn_labels, groups_of, group_settings, shown_lines}
-use Rattle.miette_tree.specs.rules.Parts.{given_labels}
+use Rattle.miette_tree.specs.rules.DiagnosticParts.{given_labels}
 use Rattle.miette_graphical.specs.rules.Printed.{printed}
 use Rattle.miette_graphical.specs.rules.Snippets.{layout_settings, shown_rows}
 use Rattle.miette_graphical.proofs.DrawnRows.{none_listed}

@@ -11,7 +11,7 @@ use Rattle.miette_tree.specs.views.Handler.{AppendsOne}
 use Rattle.miette_graphical.specs.rules.Printed.{all_read, printed_causes, printed_inner, printed_one, printed_related}
 use Rattle.miette_graphical.specs.rules.Snippets.{drawn_rows}
 use Rattle.miette_graphical.specs.rules.Indents.{narrowed}
-use Rattle.miette_graphical.specs.rules.Parts.{help_text, under_arrow}
+use Rattle.miette_graphical.specs.rules.DiagnosticText.{help_text, under_arrow}
 use Rattle.miette_graphical.specs.rules.Text.{are_last, ends_there}
 use Rattle.miette_graphical.specs.views.SettingsView.{settings_of}
 use Rattle.miette_graphical.proofs.Remaining.{CausesRemain, RelatedRemain, all_remain, cause_printed, causes_appended, related_printed, related_appended, first_falls, texts_shown}
@@ -104,8 +104,8 @@ inner_text-returns-clause-ok g t c =
     let s = settings_of c.args.layout in
     let source = option_map (shown_source g.S.SourceCode.source) c.args.source in
     let value = tree_of g.D.Diagnostic.meaning g.S.SourceCode.source c.args.report.now in
-    inner_whole drawn_rows s blank (AreCallsOn g.H.Highlighter.may_follow c.args.pen.now.highlighter c.push_below.new.pen.highlighter) source value c.collected-text.result c.push_header_of.new.out c.push_message_of.new.out c.push_below.new.out (spell c.in_ok-without_leading.field-0)
-    c.collected-text.ensures c.in_ok-push_header_of.ensures.text c.in_ok-push_message_of.ensures c.in_ok-push_below.ensures.ok (c.in_ok-without_leading.ensures ∙ ap without_leading c.in_ok-runs.ensures)
+    inner_whole drawn_rows s blank (AreCallsOn g.H.Highlighter.may_follow c.args.pen.now.highlighter c.push_below.new.pen.highlighter) source value c.for_runs-text.result c.push_header_of.new.out c.push_message_of.new.out c.push_below.new.out (spell c.in_ok-without_leading.field-0)
+    c.for_runs-text.ensures c.in_ok-push_header_of.ensures.text c.in_ok-push_message_of.ensures c.in_ok-push_below.ensures.ok (c.in_ok-without_leading.ensures ∙ ap without_leading c.in_ok-runs.ensures)
 
 pub push_below-returns-in_err-push_rows-clause-refused : goal.push_below-returns-in_err-push_rows-clause-refused
 push_below-returns-in_err-push_rows-clause-refused g t c = λ h.

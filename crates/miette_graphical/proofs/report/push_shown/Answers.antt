@@ -5,7 +5,7 @@ use Rattle.miette_tree.specs.views.Owned.{shown_source}
 use Rattle.miette_tree.specs.views.Report.{tree_of}
 use Rattle.miette_tree.specs.rules.Tree.{head}
 use Rattle.miette_graphical.specs.rules.Answered.{IsDrawn}
-use Rattle.miette_tree.specs.rules.Parts.{given_labels}
+use Rattle.miette_tree.specs.rules.DiagnosticParts.{given_labels}
 use Rattle.miette_graphical.specs.rules.Snippets.{drawn_rows}
 use Rattle.miette_graphical.specs.views.SettingsView.{settings_of}
 use Rattle.miette_graphical.proofs.DrawnRows.{drawn_unlabelled, empty_list}

@@ -7,7 +7,7 @@ use Rattle.miette_layout.specs.rules.Marks.{Mark, marks}
 use Rattle.miette_layout.specs.rules.Drawing.{marked_rows}
 use Rattle.miette_layout.specs.rules.Gutters.{closing_rows}
 use Rattle.miette_layout.specs.rules.Frames.{other_start}
-use Rattle.miette_layout.specs.rules.Layout.{before_each, text_of_cells}
+use Rattle.miette_layout.specs.rules.SnippetLayout.{before_each, text_of_cells}
 use Rattle.miette_lines.specs.views.Given.{width_of}
 use Rattle.miette_layout.specs.steps.Made.{mark_of}
 use Rattle.miette_layout.specs.steps.Sheets.{settings, multi_labels, before_marks, number_row, shown_cells, labels_alone}

@@ -2,7 +2,7 @@ use Rattle.miette_page.specs.views.Printouts.{◌⊕◌}
 use Rattle.std.proofs.Common.{◌∙◌, ◌++◌, ◌<◌, ap, map, [], length, rules}
 use Rattle.miette_layout.specs.rules.Drawing.{mark_runs, rows_below}
 use Rattle.miette_page.specs.views.Told.{told_rows}
-use Rattle.miette_layout.specs.rules.Layout.{before_each}
+use Rattle.miette_layout.specs.rules.SnippetLayout.{before_each}
 use Rattle.miette_lines.specs.views.Given.{width_of}
 use Rattle.miette_layout.specs.steps.Made.{mark_of}
 use Rattle.miette_layout.specs.steps.Sheets.{before_marks}

@@ -18,9 +18,9 @@ loop-stops-preserved-then-left-eq0 c =
       first_passed (cell_of c.in-Some.cell) c.loop-stops.walk c.next.new.self e w o step le ∙ (c.loop-stops.invariant.here e w o (omega (arith, left.0, left.1, le))).0,
       last_passed (cell_of c.in-Some.cell) c.loop-stops.walk c.next.new.self e w o step (omega (arith, left.1, le)) ∙ (c.loop-stops.invariant.here e w o (omega (arith, left.0, left.1, le))).1,
     ) in
-    let stop : Stop = record { offset = c.in-Some.cell.after; walk = c.copied.result } in
+    let stop : Stop = record { offset = c.in-Some.cell.after; walk = c.copy.result } in
     let is : IsStop c.args.walk stop =
-    λ e w o le. subst (λ (cs : List Cell). (first_column cs e w o ≡ first_column c.args.walk e w o) × (last_column cs e w o ≡ last_column c.args.walk e w o)) (sym c.copied.ensures) (here e w o le) in
+    λ e w o le. subst (λ (cs : List Cell). (first_column cs e w o ≡ first_column c.args.walk e w o) × (last_column cs e w o ≡ last_column c.args.walk e w o)) (sym c.copy.ensures) (here e w o le) in
     record {
       stops = subst (λ (ss : List Stop). All (IsStop c.args.walk) ss) (sym c.in_ok-push.ensures.items) (All-push (IsStop c.args.walk) c.loop-stops.stops.items stop c.loop-stops.invariant.stops is);
       here = here;

@@ -5,7 +5,7 @@ use Rattle.miette_protocol.specs.rules.Reading.{Span}
 use Rattle.miette_layout.specs.steps.Framed.{place_at}
 use Rattle.miette_lines.specs.rules.Around.{group_context}
 use Rattle.miette_lines.specs.rules.Groups.{in_order}
-use Rattle.miette_layout.specs.rules.Layout.{settings_around}
+use Rattle.miette_layout.specs.rules.SnippetLayout.{settings_around}
 use Rattle.miette_layout.specs.views.ThemeSettings.{settings_of}
 use Rattle.miette_lines.specs.views.Given.{drawn_of}
 use Rattle.miette_layout.specs.rules.Highlighted.{leaves_plain, follows}

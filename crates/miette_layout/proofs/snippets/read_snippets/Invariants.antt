@@ -1,5 +1,5 @@
 use Rattle.miette_lines.specs.rules.Groups.{in_order}
-use Rattle.miette_layout.specs.rules.Layout.{settings_around}
+use Rattle.miette_layout.specs.rules.SnippetLayout.{settings_around}
 use Rattle.miette_layout.specs.views.ThemeSettings.{settings_of}
 use Rattle.std.proofs.Common.{◌≡◌}
 use Rattle.miette_layout.specs.rules.Highlighted.{leaves_plain, follows}

@@ -2,7 +2,7 @@ use Rattle.miette_page.specs.views.Printouts.{◌⊕◌}
 use Rattle.std.proofs.Common.{◌≡◌, ◌≤◌, ◌++◌, map, take, drop, length}
 use Rattle.miette_page.specs.views.Told.{told_rows}
 use Rattle.miette_layout.specs.rules.Drawing.{rows_below}
-use Rattle.miette_layout.specs.rules.Layout.{before_each}
+use Rattle.miette_layout.specs.rules.SnippetLayout.{before_each}
 use Rattle.miette_layout.specs.steps.Made.{mark_of}
 use Rattle.miette_layout.specs.steps.Sheets.{settings, before_marks}
 use Rattle.miette_layout.proofs.texts.push_texts.Given as goal

@@ -12,8 +12,8 @@ loop-label-init g c =
     loop_first c.args.context (g.S.SourceCode.source c.args.source.now) c.args.labels.now c.in-Some.rest.now c.in-Some.first.now c.new-done.result.items _
     c.in-Some.ensures.cases.0 c.requires c.new-done.ensures.items c.in_ok-before.ensures.span c.in_ok-before.ensures.contents
 
-pub extended-requires-clause-label : goal.extended-requires-clause-label
-extended-requires-clause-label g c =
+pub larger_group-requires-clause-label : goal.larger_group-requires-clause-label
+larger_group-requires-clause-label g c =
     item_lent c.args.context (g.S.SourceCode.source c.args.source.now) c.args.labels.now c.in-Some.rest.now c.in-Some.first.now c.label-item.result c.loop-label.label-index
     c.requires c.in-Some.ensures.cases.0 c.loop-label-test.true c.label-item.is
 

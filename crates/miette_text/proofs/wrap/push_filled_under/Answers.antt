@@ -10,9 +10,9 @@ use Rattle.miette_text.proofs.wrap.push_filled_under.Goals as goal
 pub returns : goal.returns
 returns g c =
     let p = runs_plan c.args.plan in
-    let first = woven 0 c.parts-first.result.codes.now c.parts-first.result.marks.now in
-    let further = woven 0 c.parts-further.result.codes.now c.parts-further.result.marks.now in
-    let text = woven 0 c.parts.result.codes.now c.parts.result.marks.now in
+    let first = woven 0 c.parts-first.result.codes.now c.parts-first.result.tags.now in
+    let further = woven 0 c.parts-further.result.codes.now c.parts-further.result.tags.now in
+    let text = woven 0 c.parts.result.codes.now c.parts.result.tags.now in
     let old = g.S.Sink.holds c.args.out.now in
     let r1 : c.saturating_sub-room.result ≡ p.room - columns_of first = c.saturating_sub-room.ensures ∙ ap (λ n. p.room - n) c.in_ok-first_columns.ensures in
     let r2 : c.saturating_sub-further_room.result ≡ p.room - columns_of further = c.saturating_sub-further_room.ensures ∙ ap (λ n. p.room - n) c.in_ok-further_columns.ensures in

@@ -20,9 +20,9 @@ returns-in_ok-push_whole g c =
     let text = c.args.text.now in
     let old = g.S.Sink.holds c.args.out.now in
     let f : p.wraps ≡ false = cc in
-    let first = woven 0 c.parts.result.codes.now c.parts.result.marks.now in
-    let further = woven 0 c.parts-else-plan.result.codes.now c.parts-else-plan.result.marks.now in
-    let read = woven 0 c.parts-else-plan-2.result.codes.now c.parts-else-plan-2.result.marks.now in
+    let first = woven 0 c.parts.result.codes.now c.parts.result.tags.now in
+    let further = woven 0 c.parts-else-plan.result.codes.now c.parts-else-plan.result.tags.now in
+    let read = woven 0 c.parts-else-plan-2.result.codes.now c.parts-else-plan-2.result.tags.now in
     let e : g.S.Sink.holds c.push_whole.new.out ≡ old ++ g.S.Sink.spells (spell (whole_pieces first further (pieces read))) = c.in_ok-push_whole.ensures in
     e
     ∙ ap₂ (λ us vs. old ++ g.S.Sink.spells (spell (whole_pieces us vs (pieces read)))) c.parts.ensures c.parts-else-plan.ensures

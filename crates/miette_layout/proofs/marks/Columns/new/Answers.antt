@@ -17,4 +17,4 @@ returns-then-all_printable c =
 
 pub stops_of-requires : goal.stops_of-requires
 stops_of-requires c =
-    subst (λ (cs : List Cell). ComeFrom 0 cs) (sym (c.copied.ensures ∙ c.new-whole.ensures)) (cells_come width_of c.args.tab false c.args.line.now.start 0 c.args.text.now)
+    subst (λ (cs : List Cell). ComeFrom 0 cs) (sym (c.copy.ensures ∙ c.new-whole.ensures)) (cells_come width_of c.args.tab false c.args.line.now.start 0 c.args.text.now)

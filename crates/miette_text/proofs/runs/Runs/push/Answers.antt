@@ -7,7 +7,7 @@ use Rattle.miette_text.proofs.runs.Runs.push.Goals as goal
 pub returns-clause-tokens : goal.returns-clause-tokens
 returns-clause-tokens c =
     let cs = c.self.inside.codes.items in
-    let ms = c.self.inside.marks.items in
+    let ms = c.self.inside.tags.items in
     ap (λ xs. woven 0 xs ms) c.in_ok-push.ensures.items
     ∙ woven-more 0 cs (c.args.c ∷ []) ms (within-more (length cs) (0 + length cs) ms (omega arith) c.self.invariant)
     ∙ ap (λ ts. ts ++ Character c.args.c ∷ []) c.self.view_is

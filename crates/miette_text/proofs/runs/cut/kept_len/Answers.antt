@@ -11,7 +11,7 @@ no-feed : (c : ℕ) → (c ≡ 10 → ⊥) → is_line_feed c ≡ false
 no-feed c h = grind (arith, nat_tests)
 
 pub loop-i-init : goal.loop-i-init
-loop-i-init c = record { counted = kept-all c.args.codes.now c.args.marks.now; within = omega arith }
+loop-i-init c = record { counted = kept-all c.args.codes.now c.args.tags.now; within = omega arith }
 
 pub loop-i-preserved : goal.loop-i-preserved
 loop-i-preserved c =

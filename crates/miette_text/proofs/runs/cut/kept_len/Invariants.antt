@@ -5,6 +5,6 @@ use Rattle.miette_text.proofs.runs.cut.kept_len.Given as goal
 
 abbrev pub invariant-loop-i : goal.invariant-loop-i
 invariant-loop-i l = record {
-  counted : kept_from l.kept l.i (drop l.i l.codes) l.left ≡ kept_len 0 l.codes l.marks;
+  counted : kept_from l.kept l.i (drop l.i l.codes) l.left ≡ kept_len 0 l.codes l.tags;
   within : l.kept ≤ l.i;
 }

@@ -6,10 +6,10 @@ use Rattle.miette_text.proofs.wrap.lines.push_filled.Given as goal
 
 abbrev pub invariant-rest : goal.invariant-rest
 invariant-rest g l = record {
-  printed : g.S.Sink.holds l.out ++ g.S.Sink.spells (text_of l.cuts (spell (woven 0 l.under.further.codes.now l.under.further.marks.now)) l.room l.under.further_room (woven l.start (drop l.start l.text.codes.now) (drop l.used l.text.marks.now)))
-      ≡ g.S.Sink.holds l.fn.out ++ g.S.Sink.spells (text_of l.cuts (spell (woven 0 l.under.further.codes.now l.under.further.marks.now)) l.under.room l.under.further_room (woven 0 l.text.codes.now l.text.marks.now));
+  printed : g.S.Sink.holds l.out ++ g.S.Sink.spells (text_of l.cuts (spell (woven 0 l.under.further.codes.now l.under.further.tags.now)) l.room l.under.further_room (woven l.start (drop l.start l.text.codes.now) (drop l.used l.text.tags.now)))
+      ≡ g.S.Sink.holds l.fn.out ++ g.S.Sink.spells (text_of l.cuts (spell (woven 0 l.under.further.codes.now l.under.further.tags.now)) l.under.room l.under.further_room (woven 0 l.text.codes.now l.text.tags.now));
   within : l.start ≤ length l.text.codes.now;
-  marked : l.used ≤ length l.text.marks.now;
+  marked : l.used ≤ length l.text.tags.now;
 }
 
 abbrev pub decreases-rest : goal.decreases-rest

@@ -1,6 +1,6 @@
 use Rattle.std.proofs.Common.{◌≡◌, ◌∙◌, ◌+◌, ◌-◌, ◌++◌, ap, ap₂, drop, drop-drop, length, sym, take}
 use Rattle.std.proofs.lemmas.List.{take_rest}
-use Rattle.miette_text.specs.steps.Ends.{bare_len, marks_text, plain_cells}
+use Rattle.miette_text.specs.steps.Ends.{bare_len, tags_text, plain_cells}
 use Rattle.miette_text.specs.steps.WholeText.{piece_text}
 use Rattle.miette_text.specs.views.Woven.{cells_at, left_at}
 use Rattle.miette_text.proofs.WovenCells.{cells-shown, left-parts}
@@ -12,7 +12,7 @@ use Rattle.miette_text.proofs.wrap.lines.push_row.Goals as goal
 pub returns-clause-text : goal.returns-clause-text
 returns-clause-text g c =
     let cs = c.args.row.codes.now in
-    let ms = c.args.row.marks.now in
+    let ms = c.args.row.tags.now in
     let s = c.args.start in
     let codes = take (length cs - s) (drop s cs) in
     let q : codes ≡ drop s cs = take_rest cs s in
@@ -22,14 +22,14 @@ returns-clause-text g c =
     let k = c.in_ok-used.used in
     let front = piece_text (cells_at s (take n codes) ms) in
     let behind = take (length codes - n) (drop n codes) in
-    let marks = take (length ms - k) (drop k ms) in
+    let tags = take (length ms - k) (drop k ms) in
     let f : g.S.Sink.holds c.push_cells.new.out ≡ old ++ g.S.Sink.spells front = c.in_ok-used.ensures.text in
-    let b : g.S.Sink.holds c.push_signs.new.out ≡ g.S.Sink.holds c.push_cells.new.out ++ g.S.Sink.spells (marks_text (cells_at (s + n) behind marks)) = c.in_ok-dropped.ensures.text in
-    let left : marks ≡ left_at s (take n codes) ms = take_rest ms k ∙ c.in_ok-used.ensures.left in
+    let b : g.S.Sink.holds c.push_signs.new.out ≡ g.S.Sink.holds c.push_cells.new.out ++ g.S.Sink.spells (tags_text (cells_at (s + n) behind tags)) = c.in_ok-dropped.ensures.text in
+    let left : tags ≡ left_at s (take n codes) ms = take_rest ms k ∙ c.in_ok-used.ensures.left in
     b
-    ∙ ap₂ (λ us vs. us ++ g.S.Sink.spells (marks_text (cells_at (s + n) behind vs))) f left
-    ∙ ap (λ us. (old ++ g.S.Sink.spells front) ++ g.S.Sink.spells (marks_text (cells_at (s + n) us (left_at s (take n codes) ms)))) (take_rest codes n)
-    ∙ appended g.S.Sink.spells g.met.S.Sink.joins old front (marks_text (cells_at (s + n) (drop n codes) (left_at s (take n codes) ms)))
+    ∙ ap₂ (λ us vs. us ++ g.S.Sink.spells (tags_text (cells_at (s + n) behind vs))) f left
+    ∙ ap (λ us. (old ++ g.S.Sink.spells front) ++ g.S.Sink.spells (tags_text (cells_at (s + n) us (left_at s (take n codes) ms)))) (take_rest codes n)
+    ∙ appended g.S.Sink.spells g.met.S.Sink.joins old front (tags_text (cells_at (s + n) (drop n codes) (left_at s (take n codes) ms)))
     ∙ ap (λ us. old ++ g.S.Sink.spells us) (sym (cells-shown s n codes ms e))
     ∙ ap (λ us. old ++ g.S.Sink.spells (shown (cells_at s us ms))) q
     ∙ ap (λ us. old ++ g.S.Sink.spells us) (sym (spell-trimmed (cells_at s (drop s cs) ms)))
@@ -37,7 +37,7 @@ returns-clause-text g c =
 pub returns-clause-left : goal.returns-clause-left
 returns-clause-left g c =
     let cs = c.args.row.codes.now in
-    let ms = c.args.row.marks.now in
+    let ms = c.args.row.tags.now in
     let s = c.args.start in
     let codes = take (length cs - s) (drop s cs) in
     let q : codes ≡ drop s cs = take_rest cs s in
@@ -45,9 +45,9 @@ returns-clause-left g c =
     let k = c.in_ok-used.used in
     let m = c.in_ok-dropped.dropped in
     let behind = take (length codes - n) (drop n codes) in
-    let marks = take (length ms - k) (drop k ms) in
-    let first : marks ≡ left_at s (take n codes) ms = take_rest ms k ∙ c.in_ok-used.ensures.left in
-    let second : drop m marks ≡ left_at (s + n) behind marks = c.in_ok-dropped.ensures.left in
+    let tags = take (length ms - k) (drop k ms) in
+    let first : tags ≡ left_at s (take n codes) ms = take_rest ms k ∙ c.in_ok-used.ensures.left in
+    let second : drop m tags ≡ left_at (s + n) behind tags = c.in_ok-dropped.ensures.left in
     sym (drop-drop m k ms)
     ∙ ap (drop m) (sym (take_rest ms k))
     ∙ second

@@ -17,9 +17,9 @@ pub returns-then-end-line-clause-text : goal.returns-then-end-line-clause-text
 returns-then-end-line-clause-text g c =
     let u = c.args.cuts in
     let under = c.args.under in
-    let further = spell (woven 0 under.further.codes.now under.further.marks.now) in
+    let further = spell (woven 0 under.further.codes.now under.further.tags.now) in
     let cs = c.args.line.codes.now in
-    let all = c.args.line.marks.now in
+    let all = c.args.line.tags.now in
     let s = c.rest.start in
     let n = c.in_ok-n.n in
     let k = c.rest.used in
@@ -37,16 +37,16 @@ returns-then-end-line-clause-text g c =
     ∙ ap (λ us. o ++ g.S.Sink.spells (rows_text u further c.rest.before c.rest.room under.further_room s us (drop k all))) q
     ∙ c.rest.invariant.printed
     ∙ ap (λ ws. g.S.Sink.holds c.args.out.now ++ g.S.Sink.spells (joined_lines [] further (lines_of [] (map row_cells (rows under.room under.further_room ws))))) (words-alone u (cells_at c.args.first (drop c.args.first cs) all))
-    ∙ ap (λ us. g.S.Sink.holds c.args.out.now ++ g.S.Sink.spells us) (sym (piece-printed u under.room under.further_room (woven 0 under.further.codes.now under.further.marks.now) (record { cells = cells_at c.args.first (drop c.args.first cs) all; rest = [] })))
+    ∙ ap (λ us. g.S.Sink.holds c.args.out.now ++ g.S.Sink.spells us) (sym (piece-printed u under.room under.further_room (woven 0 under.further.codes.now under.further.tags.now) (record { cells = cells_at c.args.first (drop c.args.first cs) all; rest = [] })))
 
 pub rest-preserved : goal.rest-preserved
 rest-preserved g c =
     let u = c.args.cuts in
     let under = c.args.under in
-    let further = spell (woven 0 under.further.codes.now under.further.marks.now) in
+    let further = spell (woven 0 under.further.codes.now under.further.tags.now) in
     let room = under.further_room in
     let cs = c.args.line.codes.now in
-    let all = c.args.line.marks.now in
+    let all = c.args.line.tags.now in
     let s = c.rest.start in
     let n = c.in_ok-n.n in
     let k = c.rest.used in

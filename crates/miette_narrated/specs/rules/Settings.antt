@@ -1,7 +1,0 @@
--- What a program's settings stand for.
-use Rattle.std.specs.Option.{option_copied}
-use Rattle.miette_narrated.specs.declared.settings.Settings.{Settings as GivenSettings}
-use Rattle.miette_narrated.specs.rules.Report.{Settings}
-
-abbrev pub settings_of : GivenSettings → Settings
-settings_of s = record { chain = s.cause_chain; context = s.context_lines; footer = option_copied s.footer }

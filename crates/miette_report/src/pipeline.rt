@@ -1,0 +1,123 @@
+//! A job: read all, build, render, write all.
+
+ghost use Rattle.std.specs.Prelude.{◌≡◌, ◌<◌, ◌↔◌, length, ◌⊎◌, false, string_bytes, IsTrue, IsUtf8, IfOk, OnOk, OnErr};
+ghost use Rattle.std.specs.Prelude.{IfSome, Some, None};
+ghost use Rattle.std.specs.Io.KnownBytes.{Appends};
+ghost use Rattle.miette_report.specs.views.Device.{TakesBeginning};
+ghost use Rattle.miette_tree.specs.views.Report.{tree_of};
+ghost use Rattle.miette_json.specs.rules.Reads.{AlwaysReads};
+ghost use Rattle.miette_description.specs.rules.Description.{tree_for};
+ghost use Rattle.miette_report.specs.rules.Job.{IsDescription, IsNarrating, IsRefused, Writes};
+
+use crate::chosen::Chosen;
+use crate::device::Device;
+use crate::fault::Fault;
+use crate::language::LanguageHighlighter;
+use crate::arguments::Arguments;
+use crate::whole::{read_whole, write_whole};
+use miette::highlight::Highlighter;
+use miette_description::error::BuildError;
+use miette_protocol::protocol::Diagnostic;
+use miette_protocol::source::SourceCode;
+use miette_tree::report::Report;
+use std::alloc::Global;
+use std::io::{Read, Write};
+
+/// The report that the bytes describe.
+fn report_of(alloc: Global, bytes: &[u8]) -> Result<Report, Fault>
+    ensures ok { IfOk result (λ r. IsUtf8 bytes.now
+        × (tree_for bytes.now ≡ Some (tree_of ⟦<Box<dyn Diagnostic> as Diagnostic>⟧.meaning
+        ⟦<Box<dyn SourceCode> as SourceCode>⟧.source r))) }
+    ensures sources { IfOk result (λ r. AlwaysReads
+        (tree_of ⟦<Box<dyn Diagnostic> as Diagnostic>⟧.meaning ⟦<Box<dyn SourceCode> as SourceCode>⟧.source r)) }
+    ensures description { (result ≡ Err Fault.Description) → IsUtf8 bytes.now → tree_for bytes.now ≡ None }
+    ensures others { OnErr result ((result ≡ Err Fault.Description) ⊎ (result ≡ Err Fault.Memory)) }
+{
+    match miette_description::report::report_of(alloc, bytes) {
+        Ok(report) => Ok(report),
+        Err(BuildError::Memory) => Err(Fault::Memory),
+        Err(BuildError::Description) => Err(Fault::Description),
+    }
+}
+
+/// The text for a description.
+fn text_of(alloc: Global, bytes: &[u8], settings: Arguments) -> Result<String, Fault>
+    ensures ok { IfOk result (λ text. Writes ⟦<LanguageHighlighter as Highlighter>⟧.is_blank settings.choice
+        settings.options settings.terminal bytes.now (λ given. string_bytes text ≡ given)) }
+    ensures description { (result ≡ Err Fault.Description) → IsUtf8 bytes.now → tree_for bytes.now ≡ None }
+    ensures refused { (result ≡ Err Fault.Refused) →
+        IsNarrating settings.choice settings.options settings.terminal × IsRefused bytes.now }
+    ensures others { OnErr result ((result ≡ Err Fault.Description) ⊎ (result ≡ Err Fault.Refused)
+        ⊎ (result ≡ Err Fault.Memory)) }
+{
+    let report = report_of(alloc, bytes)?;
+    let mut handler = Chosen::new(alloc, settings)?;
+    handler.render(alloc, &report)
+}
+
+/// The number of bytes of the text for a description, which is rendered so many times; 0 where that is not at all.
+pub(crate) fn rendered_length(
+    alloc: Global,
+    bytes: &[u8],
+    times: usize,
+    settings: Arguments,
+) -> Result<usize, Fault>
+    ensures ok { IfOk result (λ n. 0 < times →
+        Writes ⟦<LanguageHighlighter as Highlighter>⟧.is_blank settings.choice settings.options settings.terminal
+        bytes.now (λ text. n ≡ length text)) }
+    ensures described { OnOk result (IsDescription bytes.now) }
+    ensures description { (result ≡ Err Fault.Description) → IsUtf8 bytes.now → tree_for bytes.now ≡ None }
+    ensures refused { (result ≡ Err Fault.Refused) →
+        IsNarrating settings.choice settings.options settings.terminal × IsRefused bytes.now }
+    ensures others { OnErr result ((result ≡ Err Fault.Description) ⊎ (result ≡ Err Fault.Refused)
+        ⊎ (result ≡ Err Fault.Memory)) }
+{
+    let report = report_of(alloc, bytes)?;
+    let mut handler = Chosen::new(alloc, settings)?;
+    if times == 0 {
+        return Ok(0);
+    }
+    let last = handler.render_times(alloc, &report, times)?;
+    Ok(last.len())
+}
+
+/// Reads all, and writes the text that the settings ask for and nothing else.
+///
+/// # Errors
+/// `Read` exactly where a call of the reader failed. `Write` exactly where one of the writer failed, or took nothing:
+/// it has then taken a beginning of the text. `Description` where what was read describes no report. `Refused` only
+/// of a narrated report, where a label that it tells isn't accepted. `Memory` where memory is refused. After all but
+/// `Write` nothing was written.
+pub fn run<R: Read, W: Write>(
+    alloc: Global,
+    reader: &mut Device<R>,
+    writer: &mut Device<W>,
+    settings: Arguments,
+) -> Result<(), Fault>
+    requires reader_unmarked { reader.old.failed ≡ false }
+    requires writer_unmarked { writer.old.failed ≡ false }
+    // All that the reader had left is a description, and the writer took its text and nothing else.
+    ensures ok { OnOk result (IfSome (R.remaining reader.old.inner) (λ bytes.
+        Writes ⟦<LanguageHighlighter as Highlighter>⟧.is_blank settings.choice settings.options settings.terminal bytes
+        (Appends (W.contents writer.old.inner) (W.contents writer.new.inner)))) }
+    ensures description { (result ≡ Err Fault.Description) → IfSome (R.remaining reader.old.inner) (λ bytes.
+        IsUtf8 bytes → tree_for bytes ≡ None) }
+    ensures read_mark { IsTrue reader.new.failed ↔ (result ≡ Err Fault.Read) }
+    ensures write_mark { IsTrue writer.new.failed ↔ (result ≡ Err Fault.Write) }
+    // Only a narrated report is refused, and only where a label that it tells isn't accepted.
+    ensures refused { (result ≡ Err Fault.Refused) →
+        IsNarrating settings.choice settings.options settings.terminal
+        × IfSome (R.remaining reader.old.inner) IsRefused }
+    // After a write fault a beginning of the text was taken.
+    ensures beginning { (result ≡ Err Fault.Write) → IfSome (R.remaining reader.old.inner) (λ bytes.
+        Writes ⟦<LanguageHighlighter as Highlighter>⟧.is_blank settings.choice settings.options settings.terminal bytes
+        (TakesBeginning (W.contents writer.old.inner) (W.contents writer.new.inner))) }
+    ensures called { ¬ (result ≡ Err Fault.Usage) }
+    // After any other error nothing was written.
+    ensures untouched { OnErr result ((result ≡ Err Fault.Write) ⊎ (writer.new ≡ writer.old)) }
+{
+    let bytes = read_whole(alloc, reader)?;
+    let text = text_of(alloc, bytes.as_slice(), settings)?;
+    write_whole(writer, text.as_bytes())?;
+    Ok(())
+}
