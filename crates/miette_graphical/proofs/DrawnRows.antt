@@ -2,7 +2,7 @@
 use Rattle.std.proofs.Common.{◌≡◌, ◌≢◌, ℕ, Bool, true, false, ◌&&◌, ◌||◌, if◌then◌else◌, ◌⊎◌, inl, inr, List, [], ◌∷◌, refl, sym, ap, ap₂, ◌∙◌, subst, Option, Some, None, is_some, option_map, codes, length, ◌<◌, ◌≤◌, arith, ◌++◌}
 use Rattle.miette_protocol.specs.views.Meaning.{Label, Meaning}
 use Rattle.miette_protocol.specs.rules.Reading.{Source, Span}
-use Rattle.miette_text.specs.rules.Tame.{is_nil}
+use Rattle.miette_style.specs.rules.Codes.{is_nil}
 use Rattle.miette_lines.specs.rules.Answers.{Highlight, NoneFails, AlwaysReads, next_answer, later_answers}
 use Rattle.miette_lines.specs.rules.Contexts.{is_accepted, contents, lines_of_contents}
 use Rattle.miette_style.specs.rules.Asked.{Call, Leads}

@@ -2,7 +2,7 @@
 use Rattle.std.proofs.Common.{◌≡◌, ℕ, ◌-◌, Bool, true, false, not, ◌&&◌, List, [], ◌∷◌, ◌++◌, refl, sym, ap, ap₂, ◌∙◌, chars, Option, Some, None, IfSome}
 use Rattle.std.proofs.lemmas.Bool.{and_parts}
 use Rattle.miette_style.specs.rules.Escapes.{is_escape}
-use Rattle.miette_text.specs.rules.Tame.{is_nil}
+use Rattle.miette_style.specs.rules.Codes.{is_nil}
 use Rattle.miette_style.specs.rules.Escapes.{no_escape}
 use Rattle.miette_text.specs.rules.Runs.{Fragment, Styled, print}
 use Rattle.miette_style.specs.rules.Styles.{plain}

@@ -1,9 +1,10 @@
 -- A text in a style, and a header or the end of its row.
 use Rattle.std.proofs.Common.{◌≡◌, ◌≢◌, ℕ, Bool, true, false, not, List, [], ◌∷◌, ◌++◌, Option, Some, None, codes, refl, sym}
 use Rattle.std.specs.Str.{chars}
-use Rattle.miette_text.specs.rules.Runs.{Fragment, colour_start, colour_stop, flag, foreground_codes, printed_run, style_codes}
+use Rattle.miette_text.specs.rules.Runs.{Fragment, printed_run}
+use Rattle.miette_style.specs.rules.Codes.{colour_start, colour_stop, flag, foreground_codes, style_codes}
 use Rattle.miette_style.specs.rules.Styles.{plain}
-use Rattle.miette_text.specs.rules.Tame.{is_nil}
+use Rattle.miette_style.specs.rules.Codes.{is_nil}
 use Rattle.miette_style.specs.declared.style.Color.{Color}
 use Rattle.miette_style.specs.declared.style.Style.{Style}
 use Rattle.miette_graphical.specs.rules.DiagnosticText.{header_or_end}

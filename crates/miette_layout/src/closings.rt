@@ -20,6 +20,7 @@ use miette_lines::drawn_labels::text_of;
 use miette_lines::sweep::Placed;
 use miette_newlines::lines::LineOfText;
 use miette_page::page::Page;
+use miette_page::styled::WriteStyled;
 use miette_style::style::Style;
 use std::alloc::AllocError;
 
@@ -32,7 +33,12 @@ fn closes(line: &LineOfText, label: &Placed) -> bool
 }
 
 // The end of a row: `─ a label's text`.
-fn push_part(page: &mut Page, style: Style, bar: char, part: &str) -> Result<(), AllocError>
+fn push_part<O: WriteStyled>(
+    page: &mut Page<O>,
+    style: Style,
+    bar: char,
+    part: &str,
+) -> Result<(), AllocError>
     ensures { OnOk result (page.new ≡ page.old ⊕ (run_told style (bar ∷ 32 ∷ chars part.now) ++ row_end ∷ [])) }
 {
     page.push_line(style, bar, ' ', 1)?;
@@ -42,8 +48,8 @@ fn push_part(page: &mut Page, style: Style, bar: char, part: &str) -> Result<(),
 }
 
 // A row of a text behind the corner of the gutter: `   · │╰─── a label's text`.
-fn push_closed_row(
-    page: &mut Page,
+fn push_closed_row<O: WriteStyled>(
+    page: &mut Page<O>,
     sheet: &Sheet,
     columns: usize,
     label: &Placed,
@@ -61,8 +67,8 @@ fn push_closed_row(
 }
 
 // A row of a text behind the gutter's bars: `   · │   │ a label's text`.
-fn push_open_row(
-    page: &mut Page,
+fn push_open_row<O: WriteStyled>(
+    page: &mut Page<O>,
     sheet: &Sheet,
     columns: usize,
     label: &Placed,
@@ -78,8 +84,8 @@ fn push_open_row(
 }
 
 // The rows of a text's parts after the first.
-fn push_open_rows(
-    page: &mut Page,
+fn push_open_rows<O: WriteStyled>(
+    page: &mut Page<O>,
     sheet: &Sheet,
     columns: usize,
     label: &Placed,
@@ -99,7 +105,11 @@ fn push_open_rows(
 }
 
 // The rows of a label's text: `╰──── text`, or `╰───┤ text` and a row for each further part.
-fn push_closing(page: &mut Page, sheet: &Sheet, label: &Placed) -> Result<(), AllocError>
+fn push_closing<O: WriteStyled>(
+    page: &mut Page<O>,
+    sheet: &Sheet,
+    label: &Placed,
+) -> Result<(), AllocError>
     ensures { OnOk result (page.new ≡ page.old
         ⊕ told_rows (before_each (other_start (settings sheet.now) sheet.now.number_width)
         (closing_parts (settings sheet.now).width (settings sheet.now).characters (line_of_text sheet.now.line)
@@ -123,7 +133,10 @@ fn push_closing(page: &mut Page, sheet: &Sheet, label: &Placed) -> Result<(), Al
 
 /// The rows of the texts of the labels of several lines that end on the sheet's line, in order. `AllocError` where
 /// memory is refused, or `number_width + 2` is past the largest `usize`.
-pub(crate) fn push_closings(page: &mut Page, sheet: &Sheet) -> Result<(), AllocError>
+pub(crate) fn push_closings<O: WriteStyled>(
+    page: &mut Page<O>,
+    sheet: &Sheet,
+) -> Result<(), AllocError>
     ensures { OnOk result (page.new ≡ page.old
         ⊕ told_rows (before_each (other_start (settings sheet.now) sheet.now.number_width)
         (closing_rows (settings sheet.now).width (settings sheet.now).characters (line_of_text sheet.now.line)

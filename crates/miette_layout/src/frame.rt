@@ -13,6 +13,7 @@ ghost use Rattle.miette_layout.specs.steps.Framed.{corner_row, place_at, refused
 
 use crate::options::LayoutOptions;
 use miette_page::page::{PLAIN, Page};
+use miette_page::styled::WriteStyled;
 use miette_protocol::protocol::LabeledSpan;
 use miette_style::style::Style;
 use miette_style::theme::GraphicalTheme;
@@ -30,7 +31,11 @@ pub(crate) struct Frame<'a> {
 }
 
 // A run of ASCII characters.
-fn push_ascii(page: &mut Page, style: Style, text: &str) -> Result<(), AllocError>
+fn push_ascii<O: WriteStyled>(
+    page: &mut Page<O>,
+    style: Style,
+    text: &str,
+) -> Result<(), AllocError>
     requires { IsTrue (list_all (λ b. nat_lt b 128) text.now) }
     ensures { OnOk result (page.new ≡ page.old ⊕ run_told style text.now) }
 {
@@ -40,7 +45,11 @@ fn push_ascii(page: &mut Page, style: Style, text: &str) -> Result<(), AllocErro
 }
 
 // A run of a text.
-fn push_styled(page: &mut Page, style: Style, text: &str) -> Result<(), AllocError>
+fn push_styled<O: WriteStyled>(
+    page: &mut Page<O>,
+    style: Style,
+    text: &str,
+) -> Result<(), AllocError>
     ensures { OnOk result (page.new ≡ page.old ⊕ run_told style (chars text.now)) }
 {
     page.begin(style)?;
@@ -49,7 +58,11 @@ fn push_styled(page: &mut Page, style: Style, text: &str) -> Result<(), AllocErr
 }
 
 // A run of a number.
-fn push_count(page: &mut Page, style: Style, number: usize) -> Result<(), AllocError>
+fn push_count<O: WriteStyled>(
+    page: &mut Page<O>,
+    style: Style,
+    number: usize,
+) -> Result<(), AllocError>
     ensures { OnOk result (page.new ≡ page.old ⊕ run_told style (decimal number)) }
 {
     page.begin(style)?;
@@ -58,7 +71,12 @@ fn push_count(page: &mut Page, style: Style, number: usize) -> Result<(), AllocE
 }
 
 // The spaces before a corner, the corner, and what follows it: `   ╭─`.
-fn push_corner(page: &mut Page, frame: &Frame, corner: char, many: usize) -> Result<(), AllocError>
+fn push_corner<O: WriteStyled>(
+    page: &mut Page<O>,
+    frame: &Frame,
+    corner: char,
+    many: usize,
+) -> Result<(), AllocError>
     ensures { OnOk result (page.new ≡ page.old
         ⊕ told (corner_row (settings_of frame.now.theme.now frame.now.options) frame.now.number_width corner many)) }
 {
@@ -71,7 +89,7 @@ fn push_corner(page: &mut Page, frame: &Frame, corner: char, many: usize) -> Res
 }
 
 // A line's and a column's number, counted from 1 where they are given from 0: `2:3`.
-fn push_place(page: &mut Page, place: (usize, usize)) -> Result<(), AllocError>
+fn push_place<O: WriteStyled>(page: &mut Page<O>, place: (usize, usize)) -> Result<(), AllocError>
     ensures { OnOk result (page.new ≡ page.old ⊕ text_told (place_text (place_at place))) }
 {
     let Some(line) = place.0.checked_add(1) else {
@@ -87,8 +105,8 @@ fn push_place(page: &mut Page, place: (usize, usize)) -> Result<(), AllocError>
 }
 
 // What a place is called in a source with a name: `name:2:3`, or `name`.
-fn push_link(
-    page: &mut Page,
+fn push_link<O: WriteStyled>(
+    page: &mut Page<O>,
     frame: &Frame,
     name: &str,
     place: (usize, usize),
@@ -107,8 +125,8 @@ fn push_link(
 }
 
 // A place in a source with a name: `[name:2:3]`, or `[name]` where the place isn't asked for.
-fn push_named_place(
-    page: &mut Page,
+fn push_named_place<O: WriteStyled>(
+    page: &mut Page<O>,
     frame: &Frame,
     name: &str,
     place: (usize, usize),
@@ -123,8 +141,8 @@ fn push_named_place(
 }
 
 // A place in a source without a name: `[2:3]`, or `───` in a snippet of one line or where the place isn't asked for.
-fn push_bare_place(
-    page: &mut Page,
+fn push_bare_place<O: WriteStyled>(
+    page: &mut Page<O>,
     frame: &Frame,
     several: bool,
     place: (usize, usize),
@@ -144,8 +162,8 @@ fn push_bare_place(
 }
 
 // Where a snippet's primary label begins, if it has one.
-fn push_location(
-    page: &mut Page,
+fn push_location<O: WriteStyled>(
+    page: &mut Page<O>,
     frame: &Frame,
     name: Option<&str>,
     several: bool,
@@ -175,8 +193,8 @@ fn push_location(
 /// `several` says whether the snippet has more than one line; `place` is where its primary label begins, line and
 /// column counted from 0. `AllocError` where memory is refused, or `number_width + 2` or a number counted from 1 is
 /// past the largest `usize`.
-pub(crate) fn push_top_row(
-    page: &mut Page,
+pub(crate) fn push_top_row<O: WriteStyled>(
+    page: &mut Page<O>,
     frame: &Frame,
     name: Option<&str>,
     several: bool,
@@ -194,7 +212,10 @@ pub(crate) fn push_top_row(
 
 /// The row under a snippet's lines: `   ╰────`. `AllocError` where memory is refused, or `number_width + 2` is past
 /// the largest `usize`.
-pub(crate) fn push_bottom_row(page: &mut Page, frame: &Frame) -> Result<(), AllocError>
+pub(crate) fn push_bottom_row<O: WriteStyled>(
+    page: &mut Page<O>,
+    frame: &Frame,
+) -> Result<(), AllocError>
     ensures { OnOk result (page.new ≡ page.old
         ⊕ told_rows (bottom_row (settings_of frame.now.theme.now frame.now.options) frame.now.number_width ∷ [])) }
 {
@@ -204,7 +225,11 @@ pub(crate) fn push_bottom_row(page: &mut Page, frame: &Frame) -> Result<(), Allo
 }
 
 // A label's text, or that it has none.
-fn push_label_text(page: &mut Page, style: Style, label: &LabeledSpan) -> Result<(), AllocError>
+fn push_label_text<O: WriteStyled>(
+    page: &mut Page<O>,
+    style: Style,
+    label: &LabeledSpan,
+) -> Result<(), AllocError>
     ensures { OnOk result (page.new ≡ page.old ⊕ run_told style (text_or_none label.now.text)) }
 {
     match label.label() {
@@ -220,7 +245,11 @@ fn push_label_text(page: &mut Page, style: Style, label: &LabeledSpan) -> Result
 }
 
 // What stands before a refused label's offset: "  [Failed to read contents for label `TEXT` (offset: ".
-fn push_refused_text(page: &mut Page, frame: &Frame, label: &LabeledSpan) -> Result<(), AllocError>
+fn push_refused_text<O: WriteStyled>(
+    page: &mut Page<O>,
+    frame: &Frame,
+    label: &LabeledSpan,
+) -> Result<(), AllocError>
     ensures { OnOk result (page.new ≡ page.old
         ⊕ told (refused_front (settings_of frame.now.theme.now frame.now.options) label.now)) }
 {
@@ -235,8 +264,8 @@ fn push_refused_text(page: &mut Page, frame: &Frame, label: &LabeledSpan) -> Res
 
 /// The row in place of snippets where a label is refused, with the refusal's name: "  [Failed to read contents for
 /// label `TEXT` (offset: O, length: N): NAME]". `AllocError` where memory is refused.
-pub(crate) fn push_refused_row(
-    page: &mut Page,
+pub(crate) fn push_refused_row<O: WriteStyled>(
+    page: &mut Page<O>,
     frame: &Frame,
     label: &LabeledSpan,
     name: &str,

@@ -15,6 +15,7 @@ use miette_lines::drawn_labels::text_of;
 use miette_lines::sweep::Placed;
 use miette_newlines::lines::LineOfText;
 use miette_page::page::{PLAIN, Page};
+use miette_page::styled::WriteStyled;
 use miette_style::style::Style;
 use std::alloc::AllocError;
 
@@ -48,8 +49,8 @@ fn corner_at_end(sheet: &Sheet, label: &Placed) -> char
 
 /// The gutter of a row that isn't the number row, in so many columns: a bar for each label that goes on,
 /// then a corner for the first one that ends on the line: `│╰───`. `AllocError` where memory is refused.
-pub(crate) fn push_other_gutter(
-    page: &mut Page,
+pub(crate) fn push_other_gutter<O: WriteStyled>(
+    page: &mut Page<O>,
     sheet: &Sheet,
     columns: usize,
 ) -> Result<(), AllocError>
@@ -77,8 +78,8 @@ pub(crate) fn push_other_gutter(
 }
 
 /// The same with spaces in place of the corner: `│    `. `AllocError` where memory is refused.
-pub(crate) fn push_open_gutter(
-    page: &mut Page,
+pub(crate) fn push_open_gutter<O: WriteStyled>(
+    page: &mut Page<O>,
     sheet: &Sheet,
     columns: usize,
 ) -> Result<(), AllocError>
@@ -101,8 +102,8 @@ pub(crate) fn push_open_gutter(
 }
 
 // An arrow from a corner, and a space: `╭──▶ `.
-fn push_arrow(
-    page: &mut Page,
+fn push_arrow<O: WriteStyled>(
+    page: &mut Page<O>,
     sheet: &Sheet,
     style: Style,
     corner: char,
@@ -121,7 +122,10 @@ fn push_arrow(
 
 /// The gutter of the number row: a bar for each label that runs through, an arrow for the first one that starts or
 /// ends on the line: `│╭─▶ `. `AllocError` where memory is refused.
-pub(crate) fn push_number_gutter(page: &mut Page, sheet: &Sheet) -> Result<(), AllocError>
+pub(crate) fn push_number_gutter<O: WriteStyled>(
+    page: &mut Page<O>,
+    sheet: &Sheet,
+) -> Result<(), AllocError>
     ensures { OnOk result (page.new ≡ page.old
         ⊕ told (number_gutter (settings sheet.now).width (settings sheet.now).characters (line_of_text sheet.now.line)
         sheet.now.gutter (multi_labels sheet.now))) }

@@ -26,11 +26,16 @@ use crate::texts::{push_before_marks, push_texts};
 use miette_lines::cells::{Cell, Walk};
 use miette_lines::plain::printable;
 use miette_page::page::{PLAIN, Page};
+use miette_page::styled::WriteStyled;
 use miette_style::style::Style;
 use std::alloc::{AllocError, Global};
 
 // The number of a line: ` 12 │ `.
-fn push_number_start(page: &mut Page, sheet: &Sheet, number: usize) -> Result<(), AllocError>
+fn push_number_start<O: WriteStyled>(
+    page: &mut Page<O>,
+    sheet: &Sheet,
+    number: usize,
+) -> Result<(), AllocError>
     ensures { OnOk result (page.new ≡ page.old
         ⊕ told (number_start (settings sheet.now) sheet.now.number_width number)) }
 {
@@ -43,7 +48,7 @@ fn push_number_start(page: &mut Page, sheet: &Sheet, number: usize) -> Result<()
 }
 
 // A character as it prints, a tab as spaces.
-fn push_cell(page: &mut Page, cell: &Cell) -> Result<(), AllocError>
+fn push_cell<O: WriteStyled>(page: &mut Page<O>, cell: &Cell) -> Result<(), AllocError>
     ensures { OnOk result (page.new ≡ page.old ⊕ text_told (map (λ p. p.code) (printed (cell_of cell.now)))) }
 {
     if cell.code == '\t' {
@@ -55,7 +60,11 @@ fn push_cell(page: &mut Page, cell: &Cell) -> Result<(), AllocError>
 }
 
 // The characters that fill so many bytes.
-fn push_cells_within(page: &mut Page, walk: &mut Walk, bytes: usize) -> Result<(), AllocError>
+fn push_cells_within<O: WriteStyled>(
+    page: &mut Page<O>,
+    walk: &mut Walk,
+    bytes: usize,
+) -> Result<(), AllocError>
     ensures within { OnOk result (page.new ≡ page.old ⊕ cells_told (cells_within bytes walk.old)) }
     ensures beyond { OnOk result (walk.new ≡ cells_beyond bytes walk.old) }
 {
@@ -71,7 +80,7 @@ fn push_cells_within(page: &mut Page, walk: &mut Walk, bytes: usize) -> Result<(
 }
 
 // All characters that are left.
-fn push_cells(page: &mut Page, walk: &mut Walk) -> Result<(), AllocError>
+fn push_cells<O: WriteStyled>(page: &mut Page<O>, walk: &mut Walk) -> Result<(), AllocError>
     ensures { OnOk result (page.new ≡ page.old ⊕ cells_told walk.old) }
 {
     while let Some(cell) = walk.next()? {
@@ -81,8 +90,8 @@ fn push_cells(page: &mut Page, walk: &mut Walk) -> Result<(), AllocError>
 }
 
 // The line's text in a highlighter's pieces, each a length in bytes and a style, and plain behind them.
-fn push_line_text(
-    page: &mut Page,
+fn push_line_text<O: WriteStyled>(
+    page: &mut Page<O>,
     walk: &mut Walk,
     pieces: &[(usize, Style)],
 ) -> Result<(), AllocError>
@@ -98,7 +107,11 @@ fn push_line_text(
 }
 
 // The line's text: as it is where it's printable ASCII and in no highlighter's pieces, else character by character.
-fn push_text(page: &mut Page, sheet: &Sheet, shown: &ShownLine) -> Result<(), AllocError>
+fn push_text<O: WriteStyled>(
+    page: &mut Page<O>,
+    sheet: &Sheet,
+    shown: &ShownLine,
+) -> Result<(), AllocError>
     requires { sheet.now.line.start + length shown.now.text.now < 2 ^ 64 }
     ensures { OnOk result (page.new ≡ page.old
         ⊕ told (line_runs (map highlight_of shown.now.pieces.now) (shown_cells sheet.now shown.now))) }
@@ -116,7 +129,11 @@ fn push_text(page: &mut Page, sheet: &Sheet, shown: &ShownLine) -> Result<(), Al
 }
 
 // The number row: ` 12 │ ╭─▶ the line's text`.
-fn push_number_row(page: &mut Page, sheet: &Sheet, shown: &ShownLine) -> Result<(), AllocError>
+fn push_number_row<O: WriteStyled>(
+    page: &mut Page<O>,
+    sheet: &Sheet,
+    shown: &ShownLine,
+) -> Result<(), AllocError>
     requires { sheet.now.line.start + length shown.now.text.now < 2 ^ 64 }
     ensures { OnOk result (page.new ≡ page.old ⊕ told_rows (number_row sheet.now shown.now ∷ [])) }
 {
@@ -128,7 +145,11 @@ fn push_number_row(page: &mut Page, sheet: &Sheet, shown: &ShownLine) -> Result<
 }
 
 // The mark row and the rows of texts under it, where there is a mark.
-fn push_marked_rows(page: &mut Page, sheet: &Sheet, marks: &[Mark]) -> Result<(), AllocError>
+fn push_marked_rows<O: WriteStyled>(
+    page: &mut Page<O>,
+    sheet: &Sheet,
+    marks: &[Mark],
+) -> Result<(), AllocError>
     requires { All (λ mark. mark.from < mark.until) marks.now }
     ensures { OnOk result (page.new ≡ page.old ⊕ told_rows (before_each (before_marks sheet.now)
         (marked_rows (settings sheet.now).width (settings sheet.now).characters
@@ -167,9 +188,9 @@ fn marks_alone(alloc: Global, sheet: &Sheet, shown: &ShownLine) -> Result<Vec<Ma
 /// The rows of the sheet's line: the number row, the marks and texts of the labels that lie on it alone, and the texts
 /// of the labels of several lines that end there. `AllocError` where memory is refused, or a column is past the
 /// largest `usize`.
-pub(crate) fn push_line_rows(
+pub(crate) fn push_line_rows<O: WriteStyled>(
     alloc: Global,
-    page: &mut Page,
+    page: &mut Page<O>,
     sheet: &Sheet,
     shown: &ShownLine,
 ) -> Result<(), AllocError>

@@ -37,6 +37,7 @@ use itoa::Buffer;
 use miette_lines::line_sweep::{extent_of, line_at};
 use miette_lines::sweep::{Bounds, Placed, Sweep, advance};
 use miette_page::page::Page;
+use miette_page::styled::WriteStyled;
 use miette_protocol::protocol::LabeledSpan;
 use miette_protocol::source::MietteSpanContents;
 use miette_style::highlight::Highlighter;
@@ -139,11 +140,11 @@ fn seek(
 }
 
 // The rows of a snippet's lines, in the highlighter's pieces.
-fn push_lines<'a, H: Highlighter>(
+fn push_lines<'a, H: Highlighter, O: WriteStyled>(
     drawing: &Drawing<'a>,
     body: &Body<'a>,
     highlighter: &mut Option<H>,
-    page: &mut Page,
+    page: &mut Page<O>,
     sweep: &mut Sweep,
 ) -> Result<(), AllocError>
     requires sorted { AreSorted drawing.now.placed.now }
@@ -200,10 +201,10 @@ fn push_lines<'a, H: Highlighter>(
 }
 
 // The rows of a snippet, where the sweep has come to what its read lent.
-fn push_framed<'a, H: Highlighter>(
+fn push_framed<'a, H: Highlighter, O: WriteStyled>(
     drawing: &Drawing<'a>,
     highlighter: &mut Option<H>,
-    page: &mut Page,
+    page: &mut Page<O>,
     sweep: &mut Sweep,
     lent: &MietteSpanContents<'_>,
     place: Option<(usize, usize)>,
@@ -244,10 +245,10 @@ fn push_framed<'a, H: Highlighter>(
 /// the pieces of the highlighter, which is restarted. The sweep over the labels comes to where the lent bytes end.
 /// `AllocError` where memory is refused, to the highlighter too, or an offset, a line's number or a column is past
 /// the largest `usize`.
-pub(crate) fn push_snippet<'a, H: Highlighter>(
+pub(crate) fn push_snippet<'a, H: Highlighter, O: WriteStyled>(
     drawing: &Drawing<'a>,
     highlighter: &mut Option<H>,
-    page: &mut Page,
+    page: &mut Page<O>,
     passage: &mut Passage,
     lent: &MietteSpanContents<'_>,
     place: Option<(usize, usize)>,

@@ -19,6 +19,7 @@ use miette_lines::primary::{near, place_of};
 use miette_lines::reading::{ReadLabel, ReadLabels, Refusal, read_labels, some_own};
 use miette_lines::sweep::Sweep;
 use miette_page::page::Page;
+use miette_page::styled::WriteStyled;
 use miette_protocol::error::RenderError;
 use miette_protocol::protocol::LabeledSpan;
 use miette_protocol::source::SourceCode;
@@ -36,14 +37,14 @@ fn name_of(refusal: Refusal) -> &'static str
 }
 
 // The snippets of labels that were read, or none where the read of a group or of some place failed.
-fn read_snippets<'a, 'b, S: SourceCode, H: Highlighter>(
+fn read_snippets<'a, 'b, S: SourceCode, H: Highlighter, O: WriteStyled + Drop>(
     highlighter: &mut Option<H>,
     look: &Look<'b>,
     source: &'a S,
     labels: &'b [LabeledSpan],
     reads: &[ReadLabel<'a>],
-    page: Page,
-) -> Result<Option<Page>, AllocError>
+    page: Page<O>,
+) -> Result<Option<Page<O>>, AllocError>
     requires order { map (λ read. label_at labels.now read.index) reads.now ≡ in_order labels.now }
     requires each { All (IsRead look.now.options.context_lines (S.source source.now) labels.now) reads.now }
     ensures gives { IfOk result (λ given. MayGive (settings_of look.now.theme.now look.now.options)
@@ -88,13 +89,13 @@ fn read_snippets<'a, 'b, S: SourceCode, H: Highlighter>(
 }
 
 // All snippets, or the one row of a label that is refused; none where the read of a group or of some place failed.
-fn all_snippets<'b, S: SourceCode, H: Highlighter>(
+fn all_snippets<'b, S: SourceCode, H: Highlighter, O: WriteStyled + Drop>(
     highlighter: &mut Option<H>,
     look: &Look<'b>,
     source: &S,
     labels: &'b [LabeledSpan],
-    page: Page,
-) -> Result<Option<Page>, AllocError>
+    page: Page<O>,
+) -> Result<Option<Page<O>>, AllocError>
     ensures gives { IfOk result (λ given. MayGive (settings_of look.now.theme.now look.now.options)
         (S.source source.now) labels.now (leaves_plain H.is_blank highlighter.old)
         (AreCallsOn H.may_follow highlighter.old highlighter.new) page given) }
@@ -128,13 +129,13 @@ fn all_snippets<'b, S: SourceCode, H: Highlighter>(
 /// given the text of each line in order, decoded. Fails with `Refused` where a group of labels with their own numbers
 /// of context lines or a label's place can't be read, which a source that always reads never does, and with `Memory`
 /// where memory is refused, to the highlighter too.
-pub fn snippets<'b, S: SourceCode, H: Highlighter>(
+pub fn snippets<'b, S: SourceCode, H: Highlighter, O: WriteStyled + Drop>(
     highlighter: &mut Option<H>,
     look: &Look<'b>,
     source: &S,
     labels: &'b [LabeledSpan],
-    page: Page,
-) -> Result<Page, RenderError>
+    page: Page<O>,
+) -> Result<Page<O>, RenderError>
     ensures gives { MatchResult result
         (λ given. MayGive (settings_of look.now.theme.now look.now.options) (S.source source.now) labels.now
         (leaves_plain H.is_blank highlighter.old)

@@ -19,11 +19,15 @@ use crate::sheet::Sheet;
 use crate::strokes::anchor_of;
 use miette_lines::drawn_labels::text_of;
 use miette_page::page::{PLAIN, Page};
+use miette_page::styled::WriteStyled;
 use std::alloc::AllocError;
 
 /// What stands before the gutter of a row that isn't the number row: `   · `. `AllocError` where memory is refused, or
 /// `number_width + 2` is past the largest `usize`.
-pub(crate) fn push_other_start(page: &mut Page, sheet: &Sheet) -> Result<(), AllocError>
+pub(crate) fn push_other_start<O: WriteStyled>(
+    page: &mut Page<O>,
+    sheet: &Sheet,
+) -> Result<(), AllocError>
     ensures { OnOk result (page.new ≡ page.old ⊕ told (other_start (settings sheet.now) sheet.now.number_width)) }
 {
     let Some(columns) = sheet.number_width.checked_add(2) else {
@@ -35,7 +39,10 @@ pub(crate) fn push_other_start(page: &mut Page, sheet: &Sheet) -> Result<(), All
 }
 
 /// What stands before the marks and the texts under a line: `   · │╰──`. It fails as `push_other_start` does.
-pub(crate) fn push_before_marks(page: &mut Page, sheet: &Sheet) -> Result<(), AllocError>
+pub(crate) fn push_before_marks<O: WriteStyled>(
+    page: &mut Page<O>,
+    sheet: &Sheet,
+) -> Result<(), AllocError>
     ensures { OnOk result (page.new ≡ page.old ⊕ told (before_marks sheet.now)) }
 {
     push_other_start(page, sheet)?;
@@ -44,8 +51,8 @@ pub(crate) fn push_before_marks(page: &mut Page, sheet: &Sheet) -> Result<(), Al
 }
 
 // What stands before a text's corner, which is to stand in this column: a bar at the anchor of each earlier mark.
-fn push_leads(
-    page: &mut Page,
+fn push_leads<O: WriteStyled>(
+    page: &mut Page<O>,
     sheet: &Sheet,
     earlier: &[Mark],
     column: usize,
@@ -72,8 +79,8 @@ fn push_leads(
 struct Front(char, char, char);
 
 // A row of a text: `   ·   │ ╰── a label's text`.
-fn push_text_row(
-    page: &mut Page,
+fn push_text_row<O: WriteStyled>(
+    page: &mut Page<O>,
     sheet: &Sheet,
     earlier: &[Mark],
     mark: &Mark,
@@ -98,8 +105,8 @@ fn push_text_row(
 }
 
 // The rows of a text's parts after the first: `   ·   │   │ a label's text`.
-fn push_more_parts(
-    page: &mut Page,
+fn push_more_parts<O: WriteStyled>(
+    page: &mut Page<O>,
     sheet: &Sheet,
     earlier: &[Mark],
     mark: &Mark,
@@ -124,8 +131,8 @@ fn push_more_parts(
 
 // The rows of a mark's text, where these marks stand before it: `╰── text`, or `╰─┤ text` and a row for each further
 // part.
-fn push_text(
-    page: &mut Page,
+fn push_text<O: WriteStyled>(
+    page: &mut Page<O>,
     sheet: &Sheet,
     earlier: &[Mark],
     mark: &Mark,
@@ -154,7 +161,11 @@ fn push_text(
 }
 
 /// The rows of the texts of all marks, the last one's first. It fails as `push_other_start` does.
-pub(crate) fn push_texts(page: &mut Page, sheet: &Sheet, marks: &[Mark]) -> Result<(), AllocError>
+pub(crate) fn push_texts<O: WriteStyled>(
+    page: &mut Page<O>,
+    sheet: &Sheet,
+    marks: &[Mark],
+) -> Result<(), AllocError>
     requires { All (λ mark. mark.from < mark.until) marks.now }
     ensures { OnOk result (page.new ≡ page.old ⊕ told_rows (before_each (before_marks sheet.now)
         (rows_below (settings sheet.now).width (settings sheet.now).characters []

@@ -1,7 +1,7 @@
 -- How a page grows.
-use Rattle.std.proofs.Common.{ℕ, zero, suc, ◌-◌, ◌<◌, ◌≡◌, ◌==◌, true, false, List, [], ◌∷◌, ◌++◌, length, replicate, decimal, chars, refl, sym, ap, ◌∙◌, append_assoc, arith}
-use Rattle.std.specs.Str.{IsAscii}
-use Rattle.std.proofs.lemmas.Str.{chars-IsAscii, chars-nil}
+use Rattle.std.proofs.Common.{ℕ, zero, suc, ◌-◌, ◌<◌, ◌≡◌, ◌==◌, true, false, List, [], ◌∷◌, ◌++◌, length, replicate, decimal, chars, encode_utf8_all, refl, sym, ap, ◌∙◌, append_assoc, arith}
+use Rattle.std.specs.Str.{IsAscii, IsUtf8}
+use Rattle.std.proofs.lemmas.Str.{chars-IsAscii, chars-nil, encodes-chars}
 use Rattle.std.proofs.lemmas.List.{map-append}
 use Rattle.miette_page.specs.views.Printouts.{Printout, put, started, ◌⊕◌}
 use Rattle.miette_page.specs.views.Told.{Token, text_told}
@@ -58,3 +58,11 @@ right_put number columns gap digits p q r e z a hq hr =
 pub none_bytes : (p : Printout) (bytes : List ℕ) → length bytes ≡ 0 → p ≡ p ⊕ text_told (chars bytes)
 none_bytes p [] e = ap (λ codes. p ⊕ text_told codes) (sym chars-nil)
 none_bytes p (b ∷ bs) e = absurd (omega (arith, e))
+
+some-codes : (cs bs : List ℕ) → encode_utf8_all cs ≡ bs → 0 < length bs → 0 < length cs
+some-codes [] bs e l = absurd (omega (arith, ap length e))
+some-codes (c ∷ cs) bs e l = omega arith
+
+-- a text of some bytes has some characters
+pub some-chars : (bs : List ℕ) → IsUtf8 bs → 0 < length bs → 0 < length (chars bs)
+some-chars bs u l = some-codes (chars bs) bs (encodes-chars bs u) l

@@ -3,12 +3,10 @@
 ghost use Rattle.std.specs.Prelude.{◌≡◌, ◌-◌, ◌∷◌, ◌++◌, [], chars, decimal, length, replicate, IfOk, OnOk};
 ghost use Rattle.miette_page.specs.views.Printouts.{◌⊕◌, ended, printout_of, started};
 ghost use Rattle.miette_page.specs.views.Told.{begins, row_end, run_told, text_told};
-ghost use Rattle.miette_text.specs.rules.Runs.{style_codes};
-ghost use Rattle.miette_text.specs.rules.Tame.{is_nil};
 
+use crate::styled::WriteStyled;
 use itoa::Buffer;
 use miette_style::style::Style;
-use miette_text::runs::output::Output;
 use std::alloc::AllocError;
 use std::marker::Model;
 
@@ -26,50 +24,43 @@ pub const PLAIN: Style = Style {
 /// A run is begun with its style and then gets its text; a row is ended behind its last run. A run without a
 /// character prints nothing. Where memory is wanting, what the page holds is open: it's to be dropped.
 #[derive(Debug, Drop)]
-pub struct Page {
-    out: Output,
+pub struct Page<O: WriteStyled> {
+    out: O,
     style: Style,
     begun: bool,
 }
 
-impl Model for Page {
+impl<O: WriteStyled> Model for Page<O> {
     ghost use Rattle.miette_page.specs.views.Printouts.{Printout};
 
     ghost Value = { Printout };
 
-    ghost view = { λ p. record { text = p.out; style = p.style; begun = p.begun } };
-}
-
-// Whether nothing is set in a style.
-fn is_plain(style: Style) -> bool
-    ensures { result ≡ is_nil (style_codes style) }
-{
-    style.fg.is_none() && !style.bold && !style.dimmed && !style.italic && !style.underline
+    ghost view = { λ p. record { text = O.written p.out; style = p.style; begun = p.begun } };
 }
 
 // What stands before the first character of a run.
-fn start_run(out: &mut Output, style: Style, begun: bool) -> Result<(), AllocError>
-    ensures { OnOk result (out.new ≡ started (record { text = out.old; style = style; begun = begun })) }
+fn start_run<O: WriteStyled>(out: &mut O, style: Style, begun: bool) -> Result<(), AllocError>
+    ensures { OnOk result (O.written out.new ≡ started (record { text = O.written out.old; style = style; begun = begun })) }
 {
-    if begun || is_plain(style) {
+    if begun || style.is_plain() {
         return Ok(());
     }
     out.begin(style)
 }
 
 // What stands behind the last character of a run.
-fn end_run(out: &mut Output, style: Style, begun: bool) -> Result<(), AllocError>
-    ensures { OnOk result (out.new ≡ ended (record { text = out.old; style = style; begun = begun })) }
+fn end_run<O: WriteStyled>(out: &mut O, style: Style, begun: bool) -> Result<(), AllocError>
+    ensures { OnOk result (O.written out.new ≡ ended (record { text = O.written out.old; style = style; begun = begun })) }
 {
-    if !begun || is_plain(style) {
+    if !begun || style.is_plain() {
         return Ok(());
     }
     out.end()
 }
 
 // Copies of a character, whose room is taken at once.
-fn push_each(out: &mut Output, character: char, many: usize) -> Result<(), AllocError>
-    ensures { OnOk result (out.new ≡ out.old ++ replicate many character) }
+fn push_each<O: WriteStyled>(out: &mut O, character: char, many: usize) -> Result<(), AllocError>
+    ensures { OnOk result (O.written out.new ≡ O.written out.old ++ replicate many character) }
 {
     out.reserve(character, many)?;
     for i in 0..many {
@@ -79,21 +70,10 @@ fn push_each(out: &mut Output, character: char, many: usize) -> Result<(), Alloc
     Ok(())
 }
 
-impl Page {
-    /// A page that prints behind what the output holds.
-    pub fn over(out: Output) -> Self
-        ensures { result ≡ printout_of out }
-    {
-        Page {
-            out,
-            style: PLAIN,
-            begun: false,
-        }
-    }
-
+impl<O: WriteStyled + Drop> Page<O> {
     /// The output, with what was printed. `AllocError` where memory is refused.
-    pub fn into_output(self) -> Result<Output, AllocError>
-        ensures { IfOk result (λ out. out ≡ ended self) }
+    pub fn into_output(self) -> Result<O, AllocError>
+        ensures { IfOk result (λ out. O.written out ≡ ended self) }
     {
         let Page {
             mut out,
@@ -102,6 +82,19 @@ impl Page {
         } = self;
         end_run(&mut out, style, begun)?;
         Ok(out)
+    }
+}
+
+impl<O: WriteStyled> Page<O> {
+    /// A page that prints behind what the output holds.
+    pub fn over(out: O) -> Self
+        ensures { result ≡ printout_of (O.written out) }
+    {
+        Page {
+            out,
+            style: PLAIN,
+            begun: false,
+        }
     }
 
     /// Begins a run in a style. `AllocError` where memory is refused.

@@ -1,6 +1,7 @@
 //! Colours and styles of a text.
 
 ghost use Rattle.std.specs.Prelude.{◌≡◌, Some, true};
+ghost use Rattle.miette_style.specs.rules.Codes.{is_nil, style_codes};
 
 /// A colour of the foreground: one of the terminal's own, or its red, green and blue parts. Codes stand between `ESC
 /// [` and `m`.
@@ -51,6 +52,13 @@ impl Style {
             italic: false,
             underline: false,
         }
+    }
+
+    /// Whether nothing is set, so that a text in this style is printed as it is.
+    pub fn is_plain(self) -> bool
+        ensures { result ≡ is_nil (style_codes self) }
+    {
+        self.fg.is_none() && !self.bold && !self.dimmed && !self.italic && !self.underline
     }
 
     /// This style in a colour, in place of the one that it had.

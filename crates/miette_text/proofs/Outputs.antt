@@ -2,8 +2,9 @@
 use Rattle.std.proofs.Common.{◌≡◌, ℕ, ◌<◌, false, length, List, [], ◌∷◌, ◌++◌, chars, encode_utf8, encode_utf8_all, String, string_bytes, sym, ap, ap₂, ◌∙◌, append-nil, append_assoc}
 use Rattle.std.proofs.lemmas.Str.{IsUtf8-string_bytes, encodes-append, encodes-chars, encodes_same}
 use Rattle.std.specs.Str.{IsUtf8}
-use Rattle.miette_text.specs.rules.Runs.{colour_start, colour_stop, link_start, printed_run, style_codes}
-use Rattle.miette_text.specs.rules.Tame.{is_nil}
+use Rattle.miette_text.specs.rules.Runs.{link_start, printed_run}
+use Rattle.miette_style.specs.rules.Codes.{colour_start, colour_stop, style_codes}
+use Rattle.miette_style.specs.rules.Codes.{is_nil}
 use Rattle.miette_style.specs.declared.style.Style.{Style}
 use Rattle.miette_text.proofs.Painting.{run-styled, style-bytes}
 

@@ -2,11 +2,13 @@
 use Rattle.std.proofs.Common.{◌≡◌, ℕ, ◌<◌, Bool, true, false, ◌&&◌, ◌||◌, ◌==◌, length, List, [], ◌∷◌, ◌++◌, codes, refl, sym, ap, ap₂, ◌∙◌, arith, append_assoc, append-nil, eqb-true, encode_utf8_all, Option, Some, None, is_some}
 use Rattle.std.proofs.lemmas.Bool.{and_parts}
 use Rattle.std.proofs.lemmas.Bool.Decides.{nat_tests}
-use Rattle.std.proofs.lemmas.Str.{encode_ascii, encodes-chars}
-use Rattle.std.specs.Str.{IsUtf8, chars}
-use Rattle.miette_text.specs.rules.Runs.{behind_separators, colour_start, colour_stop, flag, foreground, foreground_codes, printed_run, separated, style_codes}
+use Rattle.std.proofs.lemmas.Str.{encode_ascii}
+use Rattle.std.specs.Str.{chars}
+use Rattle.miette_text.specs.rules.Runs.{printed_run}
+use Rattle.miette_style.specs.rules.Codes.{behind_separators, colour_start, colour_stop, flag, foreground, foreground_codes, separated, style_codes}
 use Rattle.miette_style.specs.rules.Escapes.{is_escape}
-use Rattle.miette_text.specs.rules.Tame.{is_colour, is_colour_end, is_nil}
+use Rattle.miette_text.specs.rules.Tame.{is_colour, is_colour_end}
+use Rattle.miette_style.specs.rules.Codes.{is_nil}
 use Rattle.miette_text.specs.views.Woven.{further_codes}
 use Rattle.miette_style.specs.declared.style.Color.{Color}
 use Rattle.miette_style.specs.declared.style.Style.{Style}
@@ -125,14 +127,6 @@ run-pushed s text o o1 o2 o3 l h e f g =
     ∙ append_assoc (o ++ colour_start s) text colour_stop
     ∙ append_assoc o (colour_start s) (text ++ colour_stop)
     ∙ ap (λ x. o ++ x) (sym (append_assoc (colour_start s) text colour_stop) ∙ sym (run-styled s text l h))
-
-some-codes : (cs bs : List ℕ) → encode_utf8_all cs ≡ bs → 0 < length bs → 0 < length cs
-some-codes [] bs e l = absurd (omega (arith, ap length e))
-some-codes (c ∷ cs) bs e l = omega arith
-
--- a text of some bytes has some characters
-pub some-chars : (bs : List ℕ) → IsUtf8 bs → 0 < length bs → 0 < length (chars bs)
-some-chars bs u l = some-codes (chars bs) bs (encodes-chars bs u) l
 
 pub chars-none : chars [] ≡ []
 unfolding chars

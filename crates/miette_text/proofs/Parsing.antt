@@ -4,7 +4,8 @@ use Rattle.std.proofs.lemmas.Bool.{and_parts, or_cases}
 use Rattle.std.proofs.lemmas.Bool.Decides.{nat_tests}
 use Rattle.miette_text.specs.rules.Sequences.{Token, Character, Sequence, tokens, tokens_behind, spell, erase, erase_behind, one_more, control_len, command_len, colour_end_len, sequence_len, after_escape_len, colour_len, after_colour_escape_len}
 use Rattle.miette_style.specs.rules.Escapes.{is_escape}
-use Rattle.miette_text.specs.rules.Tame.{State, Free, Escaped, Opened, Waiting, Broken, step, state_behind, is_colour, is_colour_end, is_link, is_link_behind, is_link_end, is_backslash, is_nil}
+use Rattle.miette_text.specs.rules.Tame.{State, Free, Escaped, Opened, Waiting, Broken, step, state_behind, is_colour, is_colour_end, is_link, is_link_behind, is_link_end, is_backslash}
+use Rattle.miette_style.specs.rules.Codes.{is_nil}
 use Rattle.miette_text.proofs.Erased.{erased}
 
 one_more_pos : (n : ℕ) → 0 < n → one_more n ≡ suc n

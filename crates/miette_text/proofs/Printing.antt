@@ -10,7 +10,8 @@ use Rattle.miette_style.specs.rules.Styles.{plain}
 use Rattle.miette_style.specs.declared.style.Color.{Color}
 use Rattle.miette_style.specs.declared.style.Color.TheVariants.{Red, Green, Yellow, Blue, Magenta, Cyan, Rgb}
 use Rattle.miette_style.specs.declared.style.Style.{Style}
-use Rattle.miette_text.specs.rules.Runs.{foreground, foreground_codes, flag, style_codes, separated, colour_start, colour_stop, Fragment, Styled, LinkTo, LinkEnd, printed_run, link_start, printed, print, HaveNoEscape, plain_run, HasNoEscape, behind_separators}
+use Rattle.miette_text.specs.rules.Runs.{Fragment, Styled, LinkTo, LinkEnd, printed_run, link_start, printed, print, HaveNoEscape, plain_run, HasNoEscape}
+use Rattle.miette_style.specs.rules.Codes.{foreground, foreground_codes, flag, style_codes, separated, colour_start, colour_stop, behind_separators}
 use Rattle.std.specs.Fmt.{digit_glyph, digits, digits_onto}
 use Rattle.miette_text.proofs.Erased.{erased}
 use Rattle.miette_text.proofs.Parsing.{tokens-spell, erase-spell}

@@ -2,7 +2,7 @@
 use Rattle.std.proofs.Common.{◌≡◌, ℕ, zero, suc, ◌<◌, Bool, true, false, not, ◌&&◌, ◌==◌, nat_lt, List, [], ◌∷◌, ◌++◌, map, length, refl, sym, ap, ap₂, ◌∙◌, arith, append-nil, eqb-true, ltb-true, if◌then◌else◌}
 use Rattle.std.proofs.lemmas.Bool.{and_parts}
 use Rattle.std.proofs.lemmas.Bool.Decides.{nat_tests}
-use Rattle.miette_text.specs.rules.Runs.{colour_start}
+use Rattle.miette_style.specs.rules.Codes.{colour_start}
 use Rattle.miette_text.specs.rules.Sequences.{Token, Character, Sequence, tokens, spell, is_line_feed, is_bell, one_more, begins_terminator, control_len, command_len, after_escape_len, sequence_len}
 use Rattle.miette_style.specs.rules.Escapes.{is_escape}
 use Rattle.miette_text.specs.rules.Tame.{is_colour}

@@ -4,7 +4,7 @@ use Rattle.std.proofs.lemmas.Bool.{and_parts}
 use Rattle.std.proofs.lemmas.List.{take_all}
 use Rattle.std.specs.Char.{is_whitespace}
 use Rattle.miette_text.specs.rules.Sequences.{Token, Character, spell}
-use Rattle.miette_text.specs.rules.Tame.{is_nil}
+use Rattle.miette_style.specs.rules.Codes.{is_nil}
 use Rattle.miette_text.specs.rules.Wrapping.{Piece, all_white, indented, is_space, line_feed, only_spaces, pieces, trimmed, whole_pieces}
 use Rattle.miette_text.specs.steps.Ends.{all_spaces, bare_len, line_len, plain_cells}
 use Rattle.miette_text.specs.steps.WholeText.{indent_text, piece_text}

@@ -2,7 +2,8 @@
 //! between them until they are printed.
 
 ghost use Rattle.std.specs.Prelude.{◌≡◌, ◌++◌, ◌∷◌, [], List, IfOk, OnOk, chars, map, true};
-ghost use Rattle.miette_text.specs.rules.Runs.{colour_start, colour_stop, link_start, printed_run};
+ghost use Rattle.miette_text.specs.rules.Runs.{link_start, printed_run};
+ghost use Rattle.miette_style.specs.rules.Codes.{colour_start, colour_stop};
 ghost use Rattle.miette_text.specs.rules.Sequences.{Character, Sequence, Token, spell};
 ghost use Rattle.miette_text.specs.views.Woven.{is_whole, sign_text, woven};
 
@@ -17,7 +18,7 @@ mod sequences;
 pub(crate) mod sign;
 pub(crate) mod sink;
 
-use crate::runs::colours::{begun_style, is_plain};
+use crate::runs::colours::begun_style;
 use crate::runs::sequences::sequence_at;
 use crate::runs::sign::{Tag, Sign, shared};
 use miette_style::style::Style;
@@ -187,7 +188,7 @@ impl Runs {
     pub fn push_run(&mut self, style: Style, text: &str) -> Result<(), AllocError>
         ensures text { OnOk result (spell self.new ≡ spell self.old ++ printed_run style (chars text.now)) }
     {
-        if text.is_empty() || is_plain(style) {
+        if text.is_empty() || style.is_plain() {
             self.push_str(text)?;
             return Ok(());
         }
@@ -204,7 +205,7 @@ impl Runs {
     pub fn push_run_chars(&mut self, style: Style, text: &[char]) -> Result<(), AllocError>
         ensures text { OnOk result (spell self.new ≡ spell self.old ++ printed_run style text.now) }
     {
-        if text.is_empty() || is_plain(style) {
+        if text.is_empty() || style.is_plain() {
             return self.push_chars(text);
         }
         self.begin(style)?;

@@ -2,7 +2,7 @@
 use Rattle.std.specs.Prelude.{ℕ, Bool, true, false, if◌then◌else◌, List, [], ◌∷◌, ◌++◌}
 use Rattle.miette_style.specs.declared.style.Style.{Style}
 use Rattle.miette_style.specs.rules.Styles.{plain}
-use Rattle.miette_text.specs.rules.Runs.{colour_start, colour_stop, style_codes}
+use Rattle.miette_style.specs.rules.Codes.{colour_start, colour_stop, style_codes}
 use Rattle.miette_page.specs.views.Told.{Token, begins, character, row_end}
 
 -- all characters so far, the style of the run at their end, and whether the run has a character yet

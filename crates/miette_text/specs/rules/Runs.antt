@@ -1,51 +1,9 @@
 -- What a row prints: texts in styles, and links.
-use Rattle.std.specs.Prelude.{◌≡◌, ℕ, Bool, true, if◌then◌else◌, List, [], ◌∷◌, ◌++◌, decimal, codes, Option, Some}
-use Rattle.std.specs.Prelude.{None}
+use Rattle.std.specs.Prelude.{◌≡◌, ℕ, true, List, [], ◌∷◌, ◌++◌}
 use Rattle.miette_style.specs.rules.Styles.{plain}
+use Rattle.miette_style.specs.rules.Codes.{style_codes, colour_start, colour_stop, escape}
 use Rattle.miette_style.specs.rules.Escapes.{no_escape}
-use Rattle.miette_style.specs.declared.style.Color.{Color}
-use Rattle.miette_style.specs.declared.style.Color.TheVariants.{Red, Green, Yellow, Blue, Magenta, Cyan, Rgb}
 use Rattle.miette_style.specs.declared.style.Style.{Style}
-
-abbrev pub foreground : Color → List ℕ
-foreground Red = codes "31"
-foreground Green = codes "32"
-foreground Yellow = codes "33"
-foreground Blue = codes "34"
-foreground Magenta = codes "35"
-foreground Cyan = codes "36"
-foreground (Rgb r g b) = codes "38;2;" ++ decimal r ++ codes ";" ++ decimal g ++ codes ";" ++ decimal b
-
-abbrev pub foreground_codes : Option Color → List (List ℕ)
-foreground_codes None = []
-foreground_codes (Some c) = foreground c ∷ []
-
-abbrev pub flag : Bool → List ℕ → List (List ℕ)
-flag b code = if b then code ∷ [] else []
-
--- the codes of a style; none where it is plain
-abbrev pub style_codes : Style → List (List ℕ)
-style_codes s = foreground_codes s.fg ++ flag s.bold (codes "1") ++ flag s.dimmed (codes "2")
-    ++ flag s.italic (codes "3") ++ flag s.underline (codes "4")
-
--- each behind a `;`
-abbrev pub behind_separators : List (List ℕ) → List ℕ
-behind_separators [] = []
-behind_separators (x ∷ xs) = 59 ∷ x ++ behind_separators xs
-
--- with `;` between them
-abbrev pub separated : List (List ℕ) → List ℕ
-separated [] = []
-separated (x ∷ xs) = x ++ behind_separators xs
-
-abbrev pub escape : ℕ
-escape = 27
-
-abbrev pub colour_start : Style → List ℕ
-colour_start s = escape ∷ 91 ∷ separated (style_codes s) ++ 109 ∷ []
-
-abbrev pub colour_stop : List ℕ
-colour_stop = escape ∷ 91 ∷ 48 ∷ 109 ∷ []
 
 -- A text in a style, or the start or the end of a link.
 pub data Fragment : Type 0 where

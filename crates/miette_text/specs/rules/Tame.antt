@@ -1,14 +1,11 @@
 -- Texts from which colours can be deleted before or after wrapping.
 use Rattle.std.specs.Prelude.{◌≡◌, ℕ, Bool, true, false, ◌&&◌, ◌||◌, not, ◌==◌, if◌then◌else◌, List, [], ◌∷◌, ◌++◌}
+use Rattle.miette_style.specs.rules.Codes.{is_nil}
 use Rattle.miette_style.specs.rules.Escapes.{no_escape}
 use Rattle.miette_text.specs.rules.Sequences.{Token, Character, Sequence, tokens, erase, is_bell, is_line_feed}
 use Rattle.miette_text.specs.rules.Sequences.{is_parameter}
 use Rattle.miette_style.specs.rules.Escapes.{is_escape}
 use Rattle.miette_text.specs.rules.Wrapping.{Plan, is_space, map_indents}
-
-abbrev pub is_nil : {A : Type 0} → List A → Bool
-is_nil [] = true
-is_nil (x ∷ xs) = false
 
 -- `m`, behind digits and `;`
 abbrev pub is_colour_end : List ℕ → Bool

@@ -2,7 +2,7 @@
 use Rattle.std.specs.Prelude.{ℕ, Bool, not, ◌||◌, List, [], ◌∷◌, ◌++◌, if◌then◌else◌}
 use Rattle.miette_text.specs.rules.Sequences.{flat}
 use Rattle.miette_text.specs.rules.Wrapping.{Cell, all_white}
-use Rattle.miette_text.specs.rules.Tame.{is_nil}
+use Rattle.miette_style.specs.rules.Codes.{is_nil}
 
 abbrev pub piece_text : List Cell → List ℕ
 piece_text [] = []

@@ -2,7 +2,7 @@
 use Rattle.std.specs.Prelude.{Bool, true, ◌&&◌, ◌==◌, ℕ, suc, ◌≤◌, nat_le, nat_lt, length, if◌then◌else◌, List, [], ◌∷◌}
 use Rattle.std.specs.Prelude.{◌++◌, map}
 use Rattle.std.specs.List.{All}
-use Rattle.miette_text.specs.rules.Runs.{behind_separators, colour_start, colour_stop, separated}
+use Rattle.miette_style.specs.rules.Codes.{behind_separators, colour_start, colour_stop, separated}
 use Rattle.miette_text.specs.rules.Sequences.{Token, Character, Sequence, sequence_len}
 use Rattle.miette_text.specs.rules.Wrapping.{Cell}
 use Rattle.miette_text.specs.declared.runs.sign.Tag.{Tag}

@@ -2,20 +2,12 @@
 
 ghost use Rattle.std.specs.Prelude.{◌≡◌, ◌++◌, ◌∷◌, ◌||◌, [], IfOk, IfSome, OnOk, decimal, false, is_some};
 ghost use Rattle.std.specs.Prelude.{string_bytes};
-ghost use Rattle.miette_text.specs.rules.Runs.{colour_start, flag, foreground, foreground_codes, style_codes};
-ghost use Rattle.miette_text.specs.rules.Tame.{is_nil};
+ghost use Rattle.miette_style.specs.rules.Codes.{colour_start, flag, foreground, foreground_codes};
 ghost use Rattle.miette_text.specs.views.Woven.{further_codes};
 
 use itoa::Buffer;
 use miette_style::style::{Color, Style};
 use std::alloc::AllocError;
-
-/// Whether nothing is set in a style.
-pub(crate) fn is_plain(style: Style) -> bool
-    ensures { result ≡ is_nil (style_codes style) }
-{
-    style.fg.is_none() && !style.bold && !style.dimmed && !style.italic && !style.underline
-}
 
 fn push_number(out: &mut String, number: u8) -> Result<(), AllocError>
     ensures { OnOk result (string_bytes out.new ≡ string_bytes out.old ++ decimal number) }

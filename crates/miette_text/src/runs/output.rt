@@ -2,14 +2,16 @@
 
 ghost use Rattle.std.specs.Prelude.{◌≡◌, ◌++◌, ◌∷◌, ℕ, List, [], IfOk, OnOk, chars, encode_utf8_all, refl};
 ghost use Rattle.std.specs.Prelude.{string_bytes};
-ghost use Rattle.miette_text.specs.rules.Runs.{colour_start, colour_stop, link_start, printed_run};
+ghost use Rattle.miette_text.specs.rules.Runs.{link_start, printed_run};
+ghost use Rattle.miette_style.specs.rules.Codes.{colour_start, colour_stop};
 ghost use Rattle.miette_text.specs.rules.Sequences.{spell};
 
 use crate::runs::Runs;
-use crate::runs::colours::{is_plain, push_style};
+use crate::runs::colours::push_style;
 use crate::runs::reading::{print, read_text};
 use crate::runs::sign::Sign;
 use crate::runs::sink::Sink;
+use miette_page::styled::WriteStyled;
 use miette_style::style::Style;
 use std::alloc::{AllocError, Global};
 use std::marker::Model;
@@ -49,7 +51,7 @@ fn print_run(out: &mut String, style: Style, text: &str) -> Result<(), AllocErro
     ensures { OnOk result (string_bytes out.new
         ≡ string_bytes out.old ++ encode_utf8_all (printed_run style (chars text.now))) }
 {
-    if text.is_empty() || is_plain(style) {
+    if text.is_empty() || style.is_plain() {
         out.push_str(text)?;
         return Ok(());
     }
@@ -263,5 +265,33 @@ impl Sink for Output {
             Target::Collected(runs) => runs.push_sign(sign)?,
         }
         Ok(())
+    }
+}
+
+impl WriteStyled for Output {
+    ghost written = { λ o. o };
+
+    fn reserve(&mut self, c: char, many: usize) -> Result<(), AllocError> {
+        Output::reserve(self, c, many)
+    }
+
+    fn push(&mut self, c: char) -> Result<(), AllocError> {
+        Output::push(self, c)
+    }
+
+    fn push_chars(&mut self, codes: &[char]) -> Result<(), AllocError> {
+        Output::push_chars(self, codes)
+    }
+
+    fn push_str(&mut self, text: &str) -> Result<(), AllocError> {
+        Output::push_str(self, text)
+    }
+
+    fn begin(&mut self, style: Style) -> Result<(), AllocError> {
+        Output::begin(self, style)
+    }
+
+    fn end(&mut self) -> Result<(), AllocError> {
+        Output::end(self)
     }
 }

@@ -10,7 +10,7 @@ use Rattle.miette_layout.proofs.closings.push_closing.Goals as goal
 use Rattle.miette_style.specs.rules.Themes.{characters_of}
 
 pub returns : goal.returns
-returns c =
+returns g c =
     several_closing width_of (characters_of c.args.sheet.now.theme.now.characters) (line_of_text c.args.sheet.now.line) c.args.sheet.now.gutter c.saturating_sub-columns.result (multi_labels c.args.sheet.now) (drawn_of c.args.sheet.now.labels.now c.args.label.now)
     (other_start (settings c.args.sheet.now) c.args.sheet.now.number_width) _ (chars c.first_part.result.0.now) (chars c.in-Some-rest.rest.now)
     c.args.page.now c.push_closed_row-2.new.page c.push_open_rows.new.page c.saturating_sub-columns.ensures

@@ -11,7 +11,7 @@ use Rattle.miette_layout.proofs.Framing.{bare_put}
 use Rattle.miette_layout.proofs.frame.push_bare_place.Goals as goal
 
 pub returns-then-frame : goal.returns-then-frame
-returns-then-frame c =
+returns-then-frame g c =
     let shown : (c.args.several && c.args.frame.now.options.primary_start) ≡ true = search rules in
     bare_put width_of (place_text (place_at c.args.place)) c.args.page.now c.push_line.new.self c.push_place.new.page c.push.new.self
     c.in_ok-push_line.ensures c.in_ok-push_place.ensures c.in_ok-push.ensures

@@ -8,7 +8,7 @@ use Rattle.miette_layout.proofs.Framing.{link_put}
 use Rattle.miette_layout.proofs.frame.push_link.Goals as goal
 
 pub returns : goal.returns
-returns c =
+returns g c =
     let shown : c.args.frame.now.options.primary_start ≡ true = search rules in
     link_put c.args.frame.now.theme.now.styles.link (chars c.args.name.now) (place_text (place_at c.args.place)) c.args.page.now c.push_styled.new.page c.push.new.self c.push_place.new.page
     c.in_ok-push_styled.ensures c.in_ok-push.ensures c.in_ok-push_place.ensures

@@ -9,7 +9,7 @@ use Rattle.miette_layout.proofs.Framing.{run_then, run_last}
 use Rattle.miette_layout.proofs.frame.push_named_place.Goals as goal
 
 pub returns : goal.returns
-returns c =
+returns g c =
     let last : Row = styled width_of plain (93 ∷ []) ∷ [] in
     let link = cond c.args.frame.now.options.primary_start (chars c.args.name.now ++ codes ":" ++ place_text (place_at c.args.place)) (chars c.args.name.now) in
     run_then width_of plain (91 ∷ []) (styled width_of c.args.frame.now.theme.now.styles.link link ∷ last) c.args.page.now c.push_ascii.new.page c.push_ascii-2.new.page c.in_ok-push_ascii.ensures

@@ -4,7 +4,7 @@ use Rattle.miette_layout.proofs.Framing.{place_put}
 use Rattle.miette_layout.proofs.frame.push_place.Goals as goal
 
 pub returns : goal.returns
-returns c =
+returns g c =
     let line : c.in-Some.line ≡ c.args.place.0 + 1 = search rules in
     let column : c.in-Some-checked_add.column ≡ c.args.place.1 + 1 = search rules in
     place_put (place_at c.args.place) c.in-Some.line c.in-Some-checked_add.column c.args.page.now c.push_number.new.self c.push.new.self c.push_number-2.new.self

@@ -12,7 +12,7 @@ use Rattle.miette_layout.proofs.Framing.{run_then, run_last}
 use Rattle.miette_layout.proofs.frame.push_refused_row.Goals as goal
 
 pub returns : goal.returns
-returns c =
+returns g c =
     let link = c.args.frame.now.theme.now.styles.link in
     let last : Row = styled width_of plain (codes "]") ∷ [] in
     let name : Row = styled width_of c.args.frame.now.theme.now.styles.warning (chars c.args.name.now) ∷ last in

@@ -8,7 +8,7 @@ use Rattle.miette_layout.proofs.Framing.{run_then, run_last}
 use Rattle.miette_layout.proofs.frame.push_refused_text.Goals as goal
 
 pub returns : goal.returns
-returns c =
+returns g c =
     let last : Row = styled width_of plain (codes "` (offset: ") ∷ [] in
     let text : Row = styled width_of c.args.frame.now.theme.now.styles.link (text_or_none c.args.label.now.text) ∷ last in
     let tick : Row = styled width_of plain (codes " `") ∷ text in

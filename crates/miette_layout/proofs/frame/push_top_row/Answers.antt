@@ -7,7 +7,7 @@ use Rattle.miette_layout.proofs.Texting.{parts_then, row_done}
 use Rattle.miette_layout.proofs.frame.push_top_row.Goals as goal
 
 pub returns : goal.returns
-returns c =
+returns g c =
     let s = settings_of c.args.frame.now.theme.now c.args.frame.now.options in
     let corner = corner_row s c.args.frame.now.number_width c.args.frame.now.theme.now.characters.ltop 1 in
     let location = location_of s (option_copied c.args.name) c.args.several (option_map place_at c.args.place) in

@@ -8,6 +8,6 @@ use Rattle.miette_layout.specs.rules.Gutters.{open_gutter}
 use Rattle.miette_layout.proofs.gutters.push_open_gutter.Given as goal
 
 abbrev pub invariant-loop-label : goal.invariant-loop-label
-invariant-loop-label l =
+invariant-loop-label g l =
     l.page ⊕ told (open_gutter (settings l.fn.sheet).width (settings l.fn.sheet).characters (line_of_text l.fn.sheet.line) l.left (map (drawn_of l.fn.sheet.labels.now) (drop l.label-index l.fn.sheet.multi.now)))
     ≡ l.fn.page ⊕ told (open_gutter (settings l.fn.sheet).width (settings l.fn.sheet).characters (line_of_text l.fn.sheet.line) l.fn.columns (multi_labels l.fn.sheet))

@@ -4,7 +4,7 @@ use Rattle.miette_layout.specs.steps.TellingCells.{cells_told}
 use Rattle.miette_layout.proofs.line.push_cells.Given as goal
 
 abbrev pub invariant-loop-cell : goal.invariant-loop-cell
-invariant-loop-cell l = l.page ⊕ cells_told l.walk ≡ l.fn.page ⊕ cells_told l.fn.walk
+invariant-loop-cell g l = l.page ⊕ cells_told l.walk ≡ l.fn.page ⊕ cells_told l.fn.walk
 
 abbrev pub decreases-loop-cell : goal.decreases-loop-cell
-decreases-loop-cell l = length l.walk
+decreases-loop-cell g l = length l.walk

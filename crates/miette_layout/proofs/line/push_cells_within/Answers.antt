@@ -4,7 +4,7 @@ use Rattle.miette_layout.proofs.Lining.{within_more, beyond_more, within_end, be
 use Rattle.miette_layout.proofs.line.push_cells_within.Goals as goal
 
 pub loop-left-preserved : goal.loop-left-preserved
-loop-left-preserved c =
+loop-left-preserved g c =
     let step : c.loop-left.walk ≡ cell_of c.in-Some.cell ∷ c.next.new.self = search rules in
     let less = c.saturating_sub-left.ensures ∙ ap (λ k. c.loop-left.left - k) c.len_utf8.ensures.value in
     record {
@@ -13,7 +13,7 @@ loop-left-preserved c =
     }
 
 pub returns-clause-within : goal.returns-clause-within
-returns-clause-within c = within_end c.loop-left.left c.loop-left.walk c.loop-left.page _ c.loop-left-test.false c.loop-left.invariant.within
+returns-clause-within g c = within_end c.loop-left.left c.loop-left.walk c.loop-left.page _ c.loop-left-test.false c.loop-left.invariant.within
 
 pub returns-clause-beyond : goal.returns-clause-beyond
-returns-clause-beyond c = beyond_end c.loop-left.left c.loop-left.walk _ c.loop-left-test.false c.loop-left.invariant.beyond
+returns-clause-beyond g c = beyond_end c.loop-left.left c.loop-left.walk _ c.loop-left-test.false c.loop-left.invariant.beyond

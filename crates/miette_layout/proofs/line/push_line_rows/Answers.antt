@@ -17,7 +17,7 @@ use Rattle.miette_layout.proofs.line.push_line_rows.Goals as goal
 use Rattle.miette_style.specs.rules.Themes.{characters_of}
 
 pub returns : goal.returns
-returns c =
+returns g c =
     let sheet = c.args.sheet.now in
     let shown = c.args.shown.now in
     let drawn : List Mark → List Row = λ ms. before_each (before_marks sheet) (marked_rows width_of (characters_of sheet.theme.now.characters) ms) in

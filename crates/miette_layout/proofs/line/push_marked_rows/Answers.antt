@@ -11,7 +11,7 @@ use Rattle.miette_layout.proofs.line.push_marked_rows.Goals as goal
 use Rattle.miette_style.specs.rules.Themes.{characters_of}
 
 pub returns : goal.returns
-returns c =
+returns g c =
     let some : 0 < length c.args.marks.now = search rules in
     marked_put (before_marks c.args.sheet.now) (mark_runs width_of (characters_of c.args.sheet.now.theme.now.characters) 0 (map (mark_of c.args.sheet.now.labels.now) c.args.marks.now))
     (rows_below width_of (characters_of c.args.sheet.now.theme.now.characters) [] (map (mark_of c.args.sheet.now.labels.now) c.args.marks.now))

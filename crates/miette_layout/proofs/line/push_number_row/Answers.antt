@@ -11,7 +11,7 @@ use Rattle.miette_layout.proofs.line.push_number_row.Goals as goal
 use Rattle.miette_style.specs.rules.Themes.{characters_of}
 
 pub returns : goal.returns
-returns c =
+returns g c =
     let sheet = c.args.sheet.now in
     number_row_put (number_start (settings sheet) sheet.number_width c.args.shown.now.number)
     (number_gutter width_of (characters_of sheet.theme.now.characters) (line_of_text sheet.line) sheet.gutter (multi_labels sheet))

@@ -6,7 +6,7 @@ use Rattle.miette_layout.proofs.strokes.push_mark.Goals as goal
 use Rattle.miette_style.specs.rules.Themes.{characters_of}
 
 pub returns : goal.returns
-returns c =
+returns g c =
     mark_put width_of (characters_of c.args.sheet.now.theme.now.characters) (mark_of c.args.sheet.now.labels.now c.args.mark.now) c.anchor_of-anchor.result (c.anchor_of-anchor.result - c.args.mark.now.from) (c.args.mark.now.until - c.anchor_of-anchor.result - 1) c.middle_of.result
     c.args.page.now c.begin.new.self c.push_copies.new.self c.push.new.self c.push_copies-2.new.self
     c.anchor_of-anchor.ensures.is c.anchor_of-anchor.ensures.from c.anchor_of-anchor.ensures.until (search rules) (search rules) c.middle_of.ensures

@@ -7,6 +7,6 @@ use Rattle.miette_layout.specs.steps.Sheets.{settings}
 use Rattle.miette_layout.proofs.strokes.push_marks.Given as goal
 
 abbrev pub invariant-loop-mark : goal.invariant-loop-mark
-invariant-loop-mark l =
+invariant-loop-mark g l =
     l.page ⊕ told (mark_runs (settings l.fn.sheet).width (settings l.fn.sheet).characters l.reached (map (mark_of l.fn.sheet.labels.now) (drop l.mark-index l.marks)))
     ≡ l.fn.page ⊕ told (mark_runs (settings l.fn.sheet).width (settings l.fn.sheet).characters 0 (map (mark_of l.fn.sheet.labels.now) l.marks))

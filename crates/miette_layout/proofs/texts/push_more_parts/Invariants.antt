@@ -10,9 +10,9 @@ use Rattle.miette_layout.specs.steps.Sheets.{settings, text_line}
 use Rattle.miette_layout.proofs.texts.push_more_parts.Given as goal
 
 abbrev pub invariant-loop-left : goal.invariant-loop-left
-invariant-loop-left l =
+invariant-loop-left g l =
     l.page ⊕ told_rows (map (text_line l.fn.sheet (map (mark_of l.fn.sheet.labels.now) l.fn.earlier) (mark_of l.fn.sheet.labels.now l.fn.mark) (beside (settings l.fn.sheet).characters)) (parts_of (option_copied l.left)))
     ≡ l.fn.page ⊕ told_rows (map (text_line l.fn.sheet (map (mark_of l.fn.sheet.labels.now) l.fn.earlier) (mark_of l.fn.sheet.labels.now l.fn.mark) (beside (settings l.fn.sheet).characters)) (cut_at_lf (chars l.fn.text)))
 
 abbrev pub decreases-loop-left : goal.decreases-loop-left
-decreases-loop-left l = option_map_or (λ text. length text.now + 1) l.left 0
+decreases-loop-left g l = option_map_or (λ text. length text.now + 1) l.left 0

@@ -7,7 +7,7 @@ use Rattle.miette_layout.proofs.texts.push_texts.Goals as goal
 use Rattle.miette_style.specs.rules.Themes.{characters_of}
 
 pub loop-place-preserved : goal.loop-place-preserved
-loop-place-preserved c =
+loop-place-preserved g c =
     let within : c.loop-place.place - 1 ≤ length c.args.marks.now = omega (arith, c.loop-place.invariant.within) in
     let some : c.loop-place.place - 1 < length c.args.marks.now = omega (arith, c.loop-place.invariant.within, c.loop-place-test.true) in
     let next : c.loop-place.place ≡ c.loop-place.place - 1 + 1 = omega (arith, c.loop-place-test.true) in

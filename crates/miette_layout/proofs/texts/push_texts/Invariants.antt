@@ -8,10 +8,10 @@ use Rattle.miette_layout.specs.steps.Sheets.{settings, before_marks}
 use Rattle.miette_layout.proofs.texts.push_texts.Given as goal
 
 abbrev pub invariant-loop-place : goal.invariant-loop-place
-invariant-loop-place l = record {
+invariant-loop-place g l = record {
   within : l.place ≤ length l.marks;
   told : l.page ≡ l.fn.page ⊕ told_rows (before_each (before_marks l.fn.sheet) (rows_below (settings l.fn.sheet).width (settings l.fn.sheet).characters (map (mark_of l.fn.sheet.labels.now) (take l.place l.marks)) (map (mark_of l.fn.sheet.labels.now) (drop l.place l.marks))));
 }
 
 abbrev pub decreases-loop-place : goal.decreases-loop-place
-decreases-loop-place l = l.place
+decreases-loop-place g l = l.place

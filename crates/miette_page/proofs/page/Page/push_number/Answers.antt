@@ -5,6 +5,6 @@ use Rattle.miette_page.specs.views.Told.{text_told}
 use Rattle.miette_page.proofs.page.Page.push_number.Goals as goal
 
 pub returns : goal.returns
-returns c =
+returns g c =
     c.in_ok-push_str.ensures
     ∙ ap (λ codes. c.args.self.now ⊕ text_told codes) (chars-IsAscii c.format.result.now c.format.ensures.ascii ∙ c.format.ensures.text)

@@ -1,7 +1,8 @@
 use Rattle.std.proofs.Common.{◌≡◌, ◌∙◌, ◌++◌, ap, arith, chars, length, ◌<◌, ◌==◌, ℕ, zero, suc, false, sym, eqb-true}
 use Rattle.miette_text.specs.rules.Runs.{printed_run}
 use Rattle.miette_text.specs.rules.Sequences.{spell}
-use Rattle.miette_text.proofs.Painting.{run-empty, run-plain, run-pushed, some-chars}
+use Rattle.miette_text.proofs.Painting.{run-empty, run-plain, run-pushed}
+use Rattle.miette_page.proofs.Paging.{some-chars}
 use Rattle.miette_text.proofs.runs.Runs.push_run.Goals as goal
 use Rattle.miette_text.proofs.runs.Runs.push_run.Goals.{then-is_empty-via-then-is_empty, then-is_empty-via-else-is_empty+then-is_plain}
 

@@ -1,7 +1,8 @@
 use Rattle.std.proofs.Common.{◌≡◌, ◌∙◌, ◌++◌, ap, arith, chars, encode_utf8_all, length, ◌<◌, ◌==◌, ℕ, zero, suc, false, string_bytes, sym, eqb-true}
 use Rattle.miette_text.specs.rules.Runs.{printed_run}
 use Rattle.miette_text.proofs.Outputs.{run-behind, text-behind}
-use Rattle.miette_text.proofs.Painting.{run-empty, run-plain, some-chars}
+use Rattle.miette_text.proofs.Painting.{run-empty, run-plain}
+use Rattle.miette_page.proofs.Paging.{some-chars}
 use Rattle.miette_text.proofs.runs.output.print_run.Goals as goal
 use Rattle.miette_text.proofs.runs.output.print_run.Goals.{then-is_empty-via-then-is_empty, then-is_empty-via-else-is_empty+then-is_plain}
 

@@ -1,5 +1,5 @@
 use Rattle.std.proofs.Common.{◌∙◌, ap, sym}
-use Rattle.miette_text.specs.rules.Runs.{colour_start}
+use Rattle.miette_style.specs.rules.Codes.{colour_start}
 use Rattle.miette_text.specs.views.Woven.{sign_text}
 use Rattle.miette_text.proofs.runs.sign.are_alike.Goals as goal
 

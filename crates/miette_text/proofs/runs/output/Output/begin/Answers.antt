@@ -1,7 +1,7 @@
 use Rattle.std.proofs.Common.{ap, sym, ◌++◌, ◌∙◌}
 use Rattle.miette_text.specs.views.Outputs.{written}
 use Rattle.miette_text.proofs.Outputs.{text-grows, style-behind}
-use Rattle.miette_text.specs.rules.Runs.{colour_start}
+use Rattle.miette_style.specs.rules.Codes.{colour_start}
 use Rattle.miette_text.proofs.Painting.{style-bytes}
 use Rattle.miette_text.proofs.runs.output.Output.begin.Goals as goal
 use Rattle.miette_text.proofs.runs.output.Output.begin.Goals.{in-Printed+in_ok-push_style-in-Printed, in-Collected+in_ok-begin-in-Collected}

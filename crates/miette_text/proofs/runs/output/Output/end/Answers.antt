@@ -1,7 +1,7 @@
 use Rattle.std.proofs.Common.{ap, sym, ◌++◌, ◌∙◌}
 use Rattle.miette_text.specs.views.Outputs.{written}
 use Rattle.miette_text.proofs.Outputs.{stop-behind, text-grows}
-use Rattle.miette_text.specs.rules.Runs.{colour_stop}
+use Rattle.miette_style.specs.rules.Codes.{colour_stop}
 use Rattle.miette_text.proofs.runs.output.Output.end.Goals as goal
 use Rattle.miette_text.proofs.runs.output.Output.end.Goals.{in-Printed+in_ok-push_str-in-Printed, in-Collected+in_ok-end-in-Collected}
 
