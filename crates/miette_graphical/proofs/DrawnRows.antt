@@ -7,12 +7,12 @@ use Rattle.miette_lines.specs.rules.Answers.{Highlight, NoneFails, AlwaysReads, 
 use Rattle.miette_lines.specs.rules.Contexts.{is_accepted, contents, lines_of_contents}
 use Rattle.miette_style.specs.rules.Asked.{Call, Leads}
 use Rattle.miette_layout.specs.views.Drawn.{MayGive}
-use Rattle.miette_layout.specs.rules.Frames as frames
-use Rattle.miette_layout.specs.rules.Frames.{refused_row}
+use Rattle.miette_snippets.specs.rules.Frames as frames
+use Rattle.miette_snippets.specs.rules.Frames.{refused_row}
 use Rattle.miette_lines.specs.rules.Around.{has_own, group_context}
 use Rattle.miette_lines.specs.rules.Groups.{refusal, joins_before, joined, groups_from, groups_answered, own_groups, groups_of, some_fails, groups_fail, in_order, spans_of}
-use Rattle.miette_layout.specs.rules.Highlighted.{EachHasPieces, SnippetsHavePieces, texts_of, group_calls, snippet_calls}
-use Rattle.miette_layout.specs.rules.SnippetLayout.{snippet_rows, rows_unless, rows_of_groups, settings_around, all_snippets}
+use Rattle.miette_snippets.specs.rules.Highlighted.{EachHasPieces, SnippetsHavePieces, texts_of, group_calls, snippet_calls}
+use Rattle.miette_snippets.specs.rules.SnippetLayout.{snippet_rows, rows_unless, rows_of_groups, settings_around, all_snippets}
 use Rattle.miette_page.specs.rules.Rows.{Row}
 use Rattle.miette_page.specs.views.Told.{told_rows}
 use Rattle.miette_page.specs.views.Printouts.{Printout, printout_of, ended, ◌⊕◌}

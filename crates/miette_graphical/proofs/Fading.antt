@@ -7,7 +7,7 @@ use Rattle.miette_text.specs.rules.Cutting.{without_leading, without_trailing}
 use Rattle.miette_text.specs.rules.Wrapping.{Plan, columns_of, wrapped}
 use Rattle.miette_graphical.proofs.TextLaws.{TextLaws, plain-tame, plain-erase}
 use Rattle.miette_graphical.specs.rules.Settings.{Settings}
-use Rattle.miette_layout.specs.laws.Clean.{IsClean}
+use Rattle.miette_snippet_laws.specs.laws.Clean.{IsClean}
 use Rattle.miette_graphical.specs.laws.Clean.{HaveNoEscapes}
 use Rattle.miette_graphical.specs.laws.Colourless.{colourless}
 use Rattle.miette_graphical.specs.rules.Indents.{wrapped_under}

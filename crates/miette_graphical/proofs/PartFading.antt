@@ -20,7 +20,7 @@ use Rattle.miette_tree.specs.rules.DiagnosticParts.{given_labels}
 use Rattle.miette_graphical.specs.rules.Text.{cause_texts, body, inner_text}
 use Rattle.miette_tree.specs.rules.Tree.{effective}
 use Rattle.std.specs.List.{AllByRecursion}
-use Rattle.miette_layout.specs.laws.Clean.{IsClean, IsCleanCode, IsCleanText, IsCleanLabel, IsCleanSource}
+use Rattle.miette_snippet_laws.specs.laws.Clean.{IsClean, IsCleanCode, IsCleanText, IsCleanLabel, IsCleanSource}
 use Rattle.miette_graphical.specs.laws.Clean.{AreCleanCharacters, AreCleanSettings, AreCleanLabels, IsCleanMeaning}
 use Rattle.miette_graphical.specs.laws.Colourless.{faded, colourless, unhighlighted_answer, AreSnippets}
 use Rattle.miette_graphical.proofs.Fading.{Fades, Pales, fades-to, fades-append, fades-clean, fades-print, fades-leading, fades-under, fades-feed, fades-rows, columns-pale}

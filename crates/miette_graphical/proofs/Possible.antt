@@ -7,9 +7,9 @@ use Rattle.miette_tree.specs.rules.Tree.{effective, Tree, tree, Cause, diagnosti
 use Rattle.miette_lines.specs.rules.Answers as layout
 use Rattle.miette_lines.specs.rules.Around.{group_context}
 use Rattle.miette_lines.specs.rules.Groups.{groups_of, in_order}
-use Rattle.miette_layout.specs.laws.Fading as fading
-use Rattle.miette_layout.specs.rules.Frames as frames
-use Rattle.miette_layout.specs.rules.SnippetLayout.{snippet_rows}
+use Rattle.miette_snippet_laws.specs.laws.Fading as fading
+use Rattle.miette_snippets.specs.rules.Frames as frames
+use Rattle.miette_snippets.specs.rules.SnippetLayout.{snippet_rows}
 use Rattle.miette_page.specs.rules.Rows.{Row, pieces_of}
 use Rattle.miette_graphical.specs.rules.Settings.{Settings}
 use Rattle.miette_graphical.specs.rules.Snippets.{layout_settings}

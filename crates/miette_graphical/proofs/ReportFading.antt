@@ -13,7 +13,7 @@ use Rattle.miette_graphical.specs.rules.Indents.{narrowed}
 use Rattle.miette_graphical.specs.rules.DiagnosticText.{SnippetRows, header, footer_text, under_arrow, title_text}
 use Rattle.miette_graphical.specs.rules.Text.{ends_there, are_last, only_if, body, inner_text, causes_text, related_text, report_text}
 use Rattle.miette_tree.specs.rules.Tree.{effective}
-use Rattle.miette_layout.specs.laws.Clean.{IsCleanSource}
+use Rattle.miette_snippet_laws.specs.laws.Clean.{IsCleanSource}
 use Rattle.miette_graphical.specs.laws.Clean.{AreCleanSettings, IsCleanMeaning, IsCleanTree, IsCleanCause, AreCleanTrees}
 use Rattle.miette_graphical.specs.laws.Colourless.{colourless, unhighlighted_answer, unhighlighted, unhighlighted_related, AreSnippets}
 use Rattle.miette_graphical.proofs.Bare.{own-bare, cause-bare, related-bare, first-bare, later-bare}

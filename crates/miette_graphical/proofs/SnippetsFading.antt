@@ -12,11 +12,11 @@ use Rattle.miette_text.specs.rules.Runs.{HaveNoEscape, print, printed_run, plain
 use Rattle.miette_style.specs.rules.Styles.{plain}
 use Rattle.miette_style.specs.rules.Escapes.{no_escape}
 use Rattle.miette_lines.specs.rules.Answers as layout
-use Rattle.miette_layout.specs.laws.Clean.{IsCleanLabel, IsCleanRow, IsCleanSource, AreCleanDrawings}
-use Rattle.miette_layout.specs.laws.Fading as fading
-use Rattle.miette_layout.specs.laws.Fading.{IsPlainRow}
-use Rattle.miette_layout.specs.rules.Frames as frames
-use Rattle.miette_layout.specs.rules.SnippetLayout.{snippet_rows}
+use Rattle.miette_snippet_laws.specs.laws.Clean.{IsCleanLabel, IsCleanRow, IsCleanSource, AreCleanDrawings}
+use Rattle.miette_snippet_laws.specs.laws.Fading as fading
+use Rattle.miette_snippet_laws.specs.laws.Fading.{IsPlainRow}
+use Rattle.miette_snippets.specs.rules.Frames as frames
+use Rattle.miette_snippets.specs.rules.SnippetLayout.{snippet_rows}
 use Rattle.miette_page.specs.rules.Rows.{Piece, Row, Run, pieces_of}
 use Rattle.miette_graphical.specs.rules.Answers.{Answer}
 use Rattle.miette_graphical.specs.laws.Clean.{AreCleanSettings, HaveNoEscapes}

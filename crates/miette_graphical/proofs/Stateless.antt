@@ -13,11 +13,11 @@ use Rattle.miette_lines.specs.rules.Around.{group_context}
 use Rattle.miette_lines.specs.rules.Contexts.{contents, lines_of_contents}
 use Rattle.miette_lines.specs.rules.Groups.{Refusal, refusal, groups_of, in_order}
 use Rattle.miette_lines.specs.rules.Labels.{DrawnLabel, drawn_from}
-use Rattle.miette_layout.specs.rules.Frames as frames
-use Rattle.miette_layout.specs.rules.Frames.{refused_row, top_row, bottom_row, number_width}
-use Rattle.miette_layout.specs.rules.Gutters.{gutter_columns}
-use Rattle.miette_layout.specs.rules.Highlighted.{group_calls, highlight_of, line_calls, piece_of, pieces_by, texts_of}
-use Rattle.miette_layout.specs.rules.SnippetLayout.{all_snippets, cells_of, line_rows, place_of, rows_of_lines, rows_unless, settings_around, snippet_rows}
+use Rattle.miette_snippets.specs.rules.Frames as frames
+use Rattle.miette_snippets.specs.rules.Frames.{refused_row, top_row, bottom_row, number_width}
+use Rattle.miette_snippets.specs.rules.Gutters.{gutter_columns}
+use Rattle.miette_snippets.specs.rules.Highlighted.{group_calls, highlight_of, line_calls, piece_of, pieces_by, texts_of}
+use Rattle.miette_snippets.specs.rules.SnippetLayout.{all_snippets, cells_of, line_rows, place_of, rows_of_lines, rows_unless, settings_around, snippet_rows}
 use Rattle.miette_tree.specs.rules.DiagnosticParts.{given_labels}
 use Rattle.miette_tree.specs.rules.Tree.{Tree, tree, Cause, diagnostic, texts, Trees, no_trees, more_trees, effective}
 use Rattle.miette_tree.specs.views.Handler.{AppendsOne}

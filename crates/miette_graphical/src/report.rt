@@ -7,7 +7,7 @@ ghost use Rattle.miette_graphical.specs.rules.Answered.{IsNested, IsOneCause, Is
 ghost use Rattle.miette_tree.specs.views.Handler.{AppendsOne};
 ghost use Rattle.miette_graphical.specs.rules.Printed.{all_read, always_reads, printed_causes, printed_inner};
 ghost use Rattle.miette_graphical.specs.rules.Printed.{printed_one, printed_related, printed_sibling};
-ghost use Rattle.miette_layout.specs.rules.Highlighted.{AreCallsOn, leaves_plain};
+ghost use Rattle.miette_snippets.specs.rules.Highlighted.{AreCallsOn, leaves_plain};
 ghost use Rattle.miette_tree.specs.views.Owned.{shown_source};
 ghost use Rattle.miette_graphical.specs.rules.Snippets.{drawn_rows};
 ghost use Rattle.miette_graphical.specs.rules.Text as texts;

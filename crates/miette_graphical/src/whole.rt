@@ -4,7 +4,7 @@ ghost use Rattle.std.specs.Prelude.{◌≡◌, IfOk, OnOk, false};
 ghost use Rattle.miette_graphical.specs.rules.Answered.{AreRootCauses, IsAskedReport};
 ghost use Rattle.miette_tree.specs.views.Handler.{AppendsOne};
 ghost use Rattle.miette_graphical.specs.rules.Printed.{all_read, printed, printed_root_causes};
-ghost use Rattle.miette_layout.specs.rules.Highlighted.{AreCallsOn, leaves_plain};
+ghost use Rattle.miette_snippets.specs.rules.Highlighted.{AreCallsOn, leaves_plain};
 ghost use Rattle.miette_graphical.specs.rules.Snippets.{drawn_rows};
 ghost use Rattle.miette_graphical.specs.views.SettingsView.{settings_of};
 ghost use Rattle.miette_tree.specs.views.Report.{tree_of};

@@ -9,9 +9,9 @@ use Rattle.miette_lines.specs.declared.primary.Place.TheVariants as places
 use Rattle.miette_lines.specs.declared.reading.ReadLabel.{ReadLabel}
 use Rattle.miette_lines.specs.rules.Around.{has_own}
 use Rattle.miette_lines.specs.rules.Contexts.{contents}
-use Rattle.miette_layout.specs.rules.Frames.{Place}
+use Rattle.miette_snippets.specs.rules.Frames.{Place}
 use Rattle.miette_lines.specs.views.Given.{label_at}
-use Rattle.miette_layout.specs.rules.SnippetLayout.{is_within, first_marked, primary_of, begins_at, place_of}
+use Rattle.miette_snippets.specs.rules.SnippetLayout.{is_within, first_marked, primary_of, begins_at, place_of}
 use Rattle.miette_lines.specs.views.Primary.{lies_within, or_else, chosen, PointsTo, begins_of, is_unread}
 use Rattle.miette_lines.specs.views.Read.{IsRead}
 use Rattle.miette_lines.proofs.Numbers.{by_cases}

@@ -24,24 +24,24 @@ use Rattle.miette_lines.specs.rules.Answers.{Answers, Highlight, first_of, later
 use Rattle.miette_lines.specs.rules.Around.{has_own, group_context}
 use Rattle.miette_lines.specs.rules.Contexts.{contents, lines_of_contents}
 use Rattle.miette_layout.specs.views.Drawn.{MayGive}
-use Rattle.miette_layout.specs.rules.Frames.{SnippetSettings, Place, refused_row, top_row, bottom_row, number_width}
+use Rattle.miette_snippets.specs.rules.Frames.{SnippetSettings, Place, refused_row, top_row, bottom_row, number_width}
 use Rattle.miette_lines.specs.views.Given.{drawn_of, label_at}
-use Rattle.miette_layout.specs.rules.Gutters.{gutter_columns}
+use Rattle.miette_snippets.specs.rules.Gutters.{gutter_columns}
 use Rattle.miette_lines.specs.rules.Groups.{in_order, refusal, groups_of, some_fails, AreAccepted}
-use Rattle.miette_layout.specs.rules.Highlighted.{EachHasPieces, SnippetsHavePieces, texts_of, line_calls, group_calls, snippet_calls}
+use Rattle.miette_snippets.specs.rules.Highlighted.{EachHasPieces, SnippetsHavePieces, texts_of, line_calls, group_calls, snippet_calls}
 use Rattle.miette_lines.specs.rules.Labels.{DrawnLabel, drawn_from}
-use Rattle.miette_layout.specs.rules.SnippetLayout.{snippet, all_snippets, line_rows, settings_around, rows_unless, place_of, body_rows}
-use Rattle.miette_layout.specs.steps.Lent.{cells_in, lent_rows, lent_snippet, PutsRows}
+use Rattle.miette_snippets.specs.rules.SnippetLayout.{snippet, all_snippets, line_rows, settings_around, rows_unless, place_of, body_rows}
+use Rattle.miette_drawing.specs.steps.Lent.{cells_in, lent_rows, lent_snippet, PutsRows}
 use Rattle.miette_lines.specs.views.Placing.{placed_from}
 use Rattle.miette_lines.specs.views.Primary.{chosen, PointsTo, is_unread}
 use Rattle.miette_lines.specs.views.Read.{IsRead, IsLent, AreGroups, AreGrouped, IsUnread, AreRead, name_of}
 use Rattle.miette_page.specs.views.Told.{Token, told_rows}
-use Rattle.miette_layout.proofs.Bodies.{none_refused}
+use Rattle.miette_snippets.proofs.Bodies.{none_refused}
 use Rattle.miette_lines.proofs.Bodies.{some_none}
 use Rattle.miette_layout.proofs.Choosing.{framed_place, place_is, unread_fails}
-use Rattle.miette_layout.proofs.Ends.{placed_drawn}
-use Rattle.miette_layout.proofs.Styling.{none_have, snippets_plain, calls_plain}
-use Rattle.miette_layout.proofs.Lending.{told_rows-append, lent_body, lent_texts, lent_texts_are}
+use Rattle.miette_snippets.proofs.Ends.{placed_drawn}
+use Rattle.miette_drawing.proofs.Styling.{none_have, snippets_plain, calls_plain}
+use Rattle.miette_drawing.proofs.Lending.{told_rows-append, lent_body, lent_texts, lent_texts_are}
 use Rattle.miette_lines.proofs.Owning.{own_ordered}
 use Rattle.miette_lines.proofs.Refusing.{read_of, all_accepted}
 use Rattle.miette_lines.proofs.Sorting.{label_got}

@@ -1,4 +1,1 @@
-pub mod rules
 pub mod views
-pub mod laws
-pub mod steps

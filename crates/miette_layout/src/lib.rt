@@ -1,19 +1,8 @@
-//! The rows of a diagnostic's snippets: which lines are shown, how labels are marked, and where their texts stand.
+//! The rows of a diagnostic's snippets: which labels are shown together, and what a refused one shows.
 #![tactic(auto)]
 
-mod closings;
-mod frame;
-mod gutters;
-mod highlighting;
-pub mod laws;
-mod line;
-mod marks;
-pub mod options;
-mod parts;
-mod sheet;
-mod snippet;
 pub mod snippets;
-mod strokes;
-mod texts;
 
 pub use miette_page::page;
+pub use miette_snippet_laws::laws;
+pub use miette_snippets::options;

@@ -3,15 +3,14 @@
 ghost use Rattle.std.specs.Prelude.{◌≡◌, [], List, Some, map, IfOk, MatchResult};
 ghost use Rattle.std.specs.List.{All};
 ghost use Rattle.miette_layout.specs.views.Drawn.{MayGive, RefusesWith};
-ghost use Rattle.miette_layout.specs.views.ThemeSettings.{settings_of};
+ghost use Rattle.miette_snippets.specs.views.ThemeSettings.{settings_of};
 ghost use Rattle.miette_lines.specs.views.Given.{label_at};
 ghost use Rattle.miette_lines.specs.rules.Groups.{in_order};
-ghost use Rattle.miette_layout.specs.rules.Highlighted.{AreCallsOn, leaves_plain};
+ghost use Rattle.miette_snippets.specs.rules.Highlighted.{AreCallsOn, leaves_plain};
 ghost use Rattle.miette_lines.specs.views.Read.{IsRead, name_of as name_of_reason};
 
-use crate::frame::{Frame, push_refused_row};
-use crate::options::Look;
-use crate::snippet::{Drawing, Passage, push_snippet};
+use miette_drawing::frame::{Frame, push_refused_row};
+use miette_drawing::snippet::{Drawing, Passage, push_snippet};
 use miette_lines::drawn_labels::placed_labels;
 use miette_lines::grouping::groups;
 use miette_lines::order::by_offset;
@@ -23,6 +22,7 @@ use miette_page::styled::WriteStyled;
 use miette_protocol::error::RenderError;
 use miette_protocol::protocol::LabeledSpan;
 use miette_protocol::source::SourceCode;
+use miette_snippets::options::Look;
 use miette_style::highlight::Highlighter;
 use std::alloc::AllocError;
 

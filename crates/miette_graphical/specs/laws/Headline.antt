@@ -7,16 +7,16 @@ use Rattle.miette_protocol.specs.rules.Reading.{Source, Span}
 use Rattle.miette_lines.specs.rules.Answers.{Highlight}
 use Rattle.miette_lines.specs.rules.Around.{HaveContext}
 use Rattle.miette_lines.specs.rules.Contexts.{contents}
-use Rattle.miette_layout.specs.rules.Frames as frames
+use Rattle.miette_snippets.specs.rules.Frames as frames
 use Rattle.miette_lines.specs.rules.Groups as grouping
 use Rattle.miette_lines.specs.rules.Groups.{AreAccepted, in_order, lines_of_groups}
 use Rattle.miette_lines.specs.rules.Labels.{DrawnLabel, drawn_from}
-use Rattle.miette_layout.specs.rules.SnippetLayout.{cells_of, settings_around}
-use Rattle.miette_layout.specs.rules.Marks.{Mark, anchor, marks_at, AreApart}
-use Rattle.miette_layout.specs.rules.Numbers.{runs, IsRun, AreParted}
-use Rattle.miette_layout.specs.laws.Pictures.{BodyShows, marks_of_line}
-use Rattle.miette_layout.specs.rules.Shown.{framed_runs, line_at}
-use Rattle.miette_layout.specs.rules.Snippets.{shown, snippets}
+use Rattle.miette_snippets.specs.rules.SnippetLayout.{cells_of, settings_around}
+use Rattle.miette_snippets.specs.rules.Marks.{Mark, anchor, marks_at, AreApart}
+use Rattle.miette_snippets.specs.rules.Numbers.{runs, IsRun, AreParted}
+use Rattle.miette_snippet_laws.specs.laws.Pictures.{BodyShows, marks_of_line}
+use Rattle.miette_snippets.specs.rules.Shown.{framed_runs, line_at}
+use Rattle.miette_snippets.specs.rules.Snippets.{shown, snippets}
 use Rattle.miette_graphical.specs.rules.Answers.{pieces_listed}
 use Rattle.miette_tree.specs.rules.DiagnosticParts.{given_labels}
 use Rattle.miette_graphical.specs.rules.Printed.{Printed}

@@ -14,12 +14,12 @@ use Rattle.miette_graphical.specs.rules.Answers.{cause_answers, related_answers,
 use Rattle.miette_graphical.specs.rules.Indents.{narrowed}
 use Rattle.miette_graphical.specs.rules.DiagnosticText.{SnippetRows, rows_text, title_text, help_text, under_arrow}
 use Rattle.miette_tree.specs.rules.DiagnosticParts.{given_labels}
-use Rattle.miette_layout.specs.rules.Frames as frames
+use Rattle.miette_snippets.specs.rules.Frames as frames
 use Rattle.miette_lines.specs.rules.Around.{group_context}
 use Rattle.miette_lines.specs.rules.Groups.{in_order, groups_of}
 use Rattle.miette_style.specs.rules.Asked.{Call}
-use Rattle.miette_layout.specs.rules.Highlighted.{SnippetsHavePieces, snippet_calls}
-use Rattle.miette_layout.specs.rules.SnippetLayout.{snippet_rows}
+use Rattle.miette_snippets.specs.rules.Highlighted.{SnippetsHavePieces, snippet_calls}
+use Rattle.miette_snippets.specs.rules.SnippetLayout.{snippet_rows}
 use Rattle.miette_tree.specs.views.Handler.{AppendsOne}
 use Rattle.miette_graphical.specs.rules.Printed.{always_reads}
 use Rattle.miette_graphical.specs.rules.Snippets.{drawn_rows, layout_settings}

@@ -8,10 +8,10 @@ use Rattle.miette_protocol.specs.declared.error.RenderError.{RenderError}
 use Rattle.miette_protocol.specs.declared.error.RenderError.TheVariants as errors
 use Rattle.miette_lines.specs.rules.Answers.{Answers, AlwaysReads}
 use Rattle.miette_lines.specs.rules.Around.{group_context}
-use Rattle.miette_layout.specs.rules.Frames.{SnippetSettings}
+use Rattle.miette_snippets.specs.rules.Frames.{SnippetSettings}
 use Rattle.miette_lines.specs.rules.Groups.{in_order, groups_of}
-use Rattle.miette_layout.specs.rules.Highlighted.{SnippetsHavePieces, snippet_calls}
-use Rattle.miette_layout.specs.rules.SnippetLayout.{snippet_rows}
+use Rattle.miette_snippets.specs.rules.Highlighted.{SnippetsHavePieces, snippet_calls}
+use Rattle.miette_snippets.specs.rules.SnippetLayout.{snippet_rows}
 use Rattle.miette_page.specs.views.Printouts.{Printout, ◌⊕◌}
 use Rattle.miette_page.specs.views.Told.{told_rows}
 

@@ -4,7 +4,7 @@ use Rattle.miette_text.specs.rules.Sequences.{spell}
 use Rattle.miette_tree.specs.rules.Tree.{effective, head, texts, trees, cause_of, related_of, source_of}
 use Rattle.miette_tree.specs.views.Report.{tree_of}
 use Rattle.miette_style.specs.rules.Asked.{Call, Leads}
-use Rattle.miette_layout.specs.rules.Highlighted.{AreCallsOn, follows, leaves_plain}
+use Rattle.miette_snippets.specs.rules.Highlighted.{AreCallsOn, follows, leaves_plain}
 use Rattle.miette_tree.specs.views.Owned.{shown_source}
 use Rattle.miette_graphical.specs.rules.Answered.{IsBelow, AreCauses, AreRelated, IsInner, IsOneCause, IsOneRelated}
 use Rattle.miette_tree.specs.views.Handler.{AppendsOne}

@@ -2,7 +2,7 @@ use Rattle.std.proofs.Common.{◌≡◌, subst, option_map, false, rules, List}
 use Rattle.miette_tree.specs.rules.Tree.{source_of}
 use Rattle.miette_tree.specs.views.Report.{tree_of}
 use Rattle.miette_style.specs.rules.Asked.{Call, Leads}
-use Rattle.miette_layout.specs.rules.Highlighted.{follows, leaves_plain}
+use Rattle.miette_snippets.specs.rules.Highlighted.{follows, leaves_plain}
 use Rattle.miette_tree.specs.views.Owned.{shown_source}
 use Rattle.miette_graphical.specs.rules.Answered.{IsBelow}
 use Rattle.miette_tree.specs.views.Handler.{AppendsOne}

@@ -1,5 +1,5 @@
 use Rattle.std.proofs.Common.{◌≡◌, ◌∙◌, ap, refl, subst, encode_utf8_all}
-use Rattle.miette_layout.specs.rules.Highlighted.{AreCallsOn, leaves_plain}
+use Rattle.miette_snippets.specs.rules.Highlighted.{AreCallsOn, leaves_plain}
 use Rattle.miette_tree.specs.views.Report.{tree_of}
 use Rattle.miette_graphical.specs.rules.Answered.{IsAskedReport}
 use Rattle.miette_graphical.specs.rules.Snippets.{drawn_rows}

@@ -1,0 +1,12 @@
+pub mod Closing
+pub mod Framing
+pub mod Guttering
+pub mod Lending
+pub mod Lining
+pub mod Parting
+pub mod Placing
+pub mod Plaining
+pub mod Stopping
+pub mod Stroking
+pub mod Styling
+pub mod Texting

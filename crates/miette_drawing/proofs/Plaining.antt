@@ -1,0 +1,125 @@
+-- Texts of printable ASCII characters.
+use Rattle.miette_page.specs.views.Printouts.{Printout, ◌⊕◌}
+use Rattle.std.proofs.Common.{ℕ, ◌+◌, ◌-◌, ◌<◌, ◌≤◌, ◌≡◌, true, false, leb, ltb, List, [], ◌∷◌, ◌++◌, map, length, refl, sym, ap, ◌∙◌, append-nil, arith}
+use Rattle.std.specs.Prelude.{encode_utf8_all}
+use Rattle.std.specs.List.{list_all}
+use Rattle.std.specs.Prelude.{chars}
+use Rattle.std.proofs.lemmas.Bool.{and_parts}
+use Rattle.std.proofs.lemmas.Bool.Decides.{nat_tests}
+use Rattle.std.proofs.lemmas.Str.{encode_ascii}
+use Rattle.bstr.specs.Utf8.{or_replacement}
+use Rattle.miette_snippets.specs.rules.PrintedCells.{first_column, last_column, cells_width, printed_cells, line_runs}
+use Rattle.miette_lines.specs.rules.Cells.{Cell, cells_from, characters, width_at, hides_next}
+use Rattle.miette_lines.specs.views.Given.{width_of}
+use Rattle.miette_page.specs.views.Told.{Token, begins, told, text_told}
+use Rattle.miette_style.specs.declared.style.Style.{Style}
+use Rattle.std.proofs.lemmas.List.{nil_from_length}
+use Rattle.miette_drawing.specs.steps.TellingCells.{cells_told}
+use Rattle.miette_snippets.specs.rules.Highlighted.{highlight_of}
+use Rattle.miette_snippets.specs.rules.SnippetLayout.{text_of_cells}
+use Rattle.miette_snippets.specs.rules.Marks.{Text}
+use Rattle.miette_lines.specs.views.Printable.{is_printable, plain_cells}
+use Rattle.miette_page.specs.rules.Rows.{Piece}
+use Rattle.miette_style.specs.rules.Styles.{plain}
+use Rattle.miette_lines.proofs.Numbers.{by_cases}
+use Rattle.miette_snippets.proofs.Telling.{ascii_chars, then}
+use Rattle.miette_lines.proofs.Stepping.{made, cells_step, cells_end}
+use Rattle.miette_lines.proofs.Plaining.{ascii_decoded, from_le, from_lt, one_column, plain_byte}
+
+plain_width : (tab column b : ℕ) → is_printable b ≡ true → 1 ≡ width_at width_of tab false column b
+plain_width tab column b h =
+    let p = plain_byte b h in
+    rw (p.escape, p.tab) (sym (one_column b h))
+
+plain_hides : (b : ℕ) → is_printable b ≡ true → false ≡ hides_next false b
+plain_hides b h = let p = plain_byte b h in rw (p.escape) refl
+
+-- their cells
+pub printable_cells : (tab offset column : ℕ) (bs : List ℕ) → list_all is_printable bs ≡ true → cells_from width_of tab false offset column (characters bs) ≡ plain_cells offset column bs
+printable_cells tab offset column [] h = cells_end width_of tab false offset column [] refl
+printable_cells tab offset column (b ∷ bs) h =
+    let parts = and_parts (is_printable b) (list_all is_printable bs) h in
+    let p = plain_byte b parts.0 in
+    let is = ascii_decoded b bs (omega (arith, p.high)) in
+    cells_step width_of tab false false offset column (b ∷ bs) bs b 1 1 (column + 1) (omega arith) refl
+    (sym (ap (λ d. or_replacement d.char) is)) (sym (ap (λ d. d.size) is)) (plain_width tab column b parts.0) refl (plain_hides b parts.0)
+    ∙ ap (λ cells. record { code = b; start = offset; after = offset + 1; from = column; until = column + 1 } ∷ cells) (printable_cells tab (offset + 1) (column + 1) bs parts.1)
+
+-- they print as they are
+pub printable_codes : (offset column : ℕ) (bs : List ℕ) → list_all is_printable bs ≡ true → map (λ (p : Piece). p.code) (printed_cells (plain_cells offset column bs)) ≡ bs
+printable_codes offset column [] h = refl
+printable_codes offset column (b ∷ bs) h =
+    let parts = and_parts (is_printable b) (list_all is_printable bs) h in
+    let p = plain_byte b parts.0 in
+    rw (p.tab) (ap (λ r. b ∷ r) (printable_codes (offset + 1) (column + 1) bs parts.1))
+
+printable_chars : (bs : List ℕ) → list_all is_printable bs ≡ true → chars bs ≡ bs
+printable_chars bs h = ascii_chars is_printable (λ b t. omega (arith, (plain_byte b t).high)) bs h
+
+pub printable_told : (tab offset : ℕ) (bs : List ℕ) → list_all is_printable bs ≡ true → text_told (chars bs) ≡ cells_told (cells_from width_of tab false offset 0 (characters bs))
+printable_told tab offset bs h =
+    ap text_told (printable_chars bs h) ∙ ap text_told (sym (printable_codes offset 0 bs h)) ∙ ap cells_told (sym (printable_cells tab offset 0 bs h))
+
+-- columns in them
+pub plain_columns : (offset column : ℕ) (bs : List ℕ) → cells_width column (plain_cells offset column bs) ≡ column + length bs
+plain_columns offset column [] = omega arith
+plain_columns offset column (b ∷ bs) = plain_columns (offset + 1) (column + 1) bs ∙ omega arith
+
+to_lt : (a b : ℕ) → a < b → ltb a b ≡ true
+to_lt a b h = grind (arith, nat_tests)
+
+to_le : (a b : ℕ) → a ≤ b → leb a b ≡ true
+to_le a b h = grind (arith, nat_tests)
+
+not_lt : (a b : ℕ) → b ≤ a → ltb a b ≡ false
+not_lt a b h = grind (arith, nat_tests)
+
+not_le : (a b : ℕ) → b < a → leb a b ≡ false
+not_le a b h = grind (arith, nat_tests)
+
+from_not_lt : (a b : ℕ) → ltb a b ≡ false → b ≤ a
+from_not_lt a b h = grind (arith, nat_tests)
+
+from_not_le : (a b : ℕ) → leb a b ≡ false → b < a
+from_not_le a b h = grind (arith, nat_tests)
+
+pub plain_first : (offset column : ℕ) (bs : List ℕ) (cs : List Cell) (e w o : ℕ) → o - offset < length bs → column + (o - offset) ≡ first_column (plain_cells offset column bs ++ cs) e w o
+plain_first offset column [] cs e w o h = absurd (omega arith)
+plain_first offset column (b ∷ bs) cs e w o h =
+    by_cases {C = column + (o - offset) ≡ first_column (plain_cells offset column (b ∷ bs) ++ cs) e w o} (ltb o (offset + 1))
+    (λ y. let lt : o < offset + 1 = from_lt o (offset + 1) y in rw y (omega arith))
+    (λ n. let ge : offset + 1 ≤ o = from_not_lt o (offset + 1) n in rw n (omega arith ∙ plain_first (offset + 1) (column + 1) bs cs e w o (omega arith)))
+
+pub plain_first_end : (offset column : ℕ) (bs : List ℕ) (cs : List Cell) (e w o : ℕ) → length bs ≤ o - offset → first_column cs e w o ≡ first_column (plain_cells offset column bs ++ cs) e w o
+plain_first_end offset column [] cs e w o h = refl
+plain_first_end offset column (b ∷ bs) cs e w o h = rw (not_lt o (offset + 1) (omega arith)) (plain_first_end (offset + 1) (column + 1) bs cs e w o (omega arith))
+
+pub plain_last : (offset column : ℕ) (bs : List ℕ) (cs : List Cell) (e w o : ℕ) → o - offset < length bs → column + (o - offset) ≡ last_column (plain_cells offset column bs ++ cs) e w o
+plain_last offset column [] cs e w o h = absurd (omega arith)
+plain_last offset column (b ∷ bs) cs e w o h =
+    by_cases {C = column + (o - offset) ≡ last_column (plain_cells offset column (b ∷ bs) ++ cs) e w o} (leb o offset)
+    (λ y. let le : o ≤ offset = from_le o offset y in rw y (omega arith))
+    (λ n. let gt : offset < o = from_not_le o offset n in rw n (omega arith ∙ plain_last (offset + 1) (column + 1) bs cs e w o (omega arith)))
+
+pub plain_last_end : (offset column : ℕ) (bs : List ℕ) (cs : List Cell) (e w o : ℕ) → length bs ≤ o - offset → last_column cs e w o ≡ last_column (plain_cells offset column bs ++ cs) e w o
+plain_last_end offset column [] cs e w o h = refl
+plain_last_end offset column (b ∷ bs) cs e w o h = rw (not_le o offset (omega arith)) (plain_last_end (offset + 1) (column + 1) bs cs e w o (omega arith))
+
+-- where they stand
+pub plain_text : (tab offset e : ℕ) (bs : List ℕ) → list_all is_printable bs ≡ true →
+    record { cells = plain_cells offset 0 bs ++ []; text_end = e; width = length bs } ≡ text_of_cells (cells_from width_of tab false offset 0 (characters bs)) e
+plain_text tab offset e bs h =
+    let many : length bs ≡ cells_width 0 (plain_cells offset 0 bs) = omega (arith, plain_columns offset 0 bs) in
+    let made : List Cell → ℕ → Text = λ cs n. record { cells = cs; text_end = e; width = n } in
+    ap (λ cs. made cs (length bs)) (append-nil (plain_cells offset 0 bs)) ∙ ap (made (plain_cells offset 0 bs)) many
+    ∙ ap (λ cs. text_of_cells cs e) (sym (printable_cells tab offset 0 bs h))
+
+-- a plain text
+pub plain_put : (tab offset : ℕ) (bs text : List ℕ) (pieces : List (ℕ × Style)) (p q r : Printout) → length pieces ≡ 0 → text ≡ bs → list_all is_printable bs ≡ true → q ≡ p ⊕ begins plain ∷ [] → r ≡ q ⊕ text_told (chars text) →
+    r ≡ p ⊕ told (line_runs (map highlight_of pieces) (cells_from width_of tab false offset 0 (characters bs)))
+plain_put tab offset bs text pieces p q r none same h hq hr =
+    then p (begins plain ∷ []) (text_told (chars text)) hq hr
+    ∙ ap (λ x. p ⊕ begins plain ∷ text_told (chars x)) same
+    ∙ ap (λ x. p ⊕ begins plain ∷ x) (printable_told tab offset bs h)
+    ∙ ap (λ x. p ⊕ x) (sym (append-nil (begins plain ∷ cells_told (cells_from width_of tab false offset 0 (characters bs)))))
+    ∙ ap (λ ps. p ⊕ told (line_runs (map highlight_of ps) (cells_from width_of tab false offset 0 (characters bs)))) (sym (nil_from_length pieces none))

@@ -1,0 +1,109 @@
+-- What mark rows tell.
+use Rattle.miette_page.proofs.Paging.{put_append, put_nil}
+use Rattle.miette_page.specs.views.Printouts.{Printout, ◌⊕◌}
+use Rattle.std.proofs.Common.{ℕ, zero, suc, ◌+◌, ◌-◌, ◌<◌, ◌≤◌, ◌≡◌, true, false, cond, eqb, List, [], ◌∷◌, ◌++◌, map, length, drop, get_or, replicate, refl, sym, ap, ◌∙◌, append_assoc, append-nil, arith, Option, Some}
+use Rattle.std.specs.Prelude.{encode_utf8, chars}
+use Rattle.std.proofs.lemmas.Bool.Decides.{nat_tests}
+use Rattle.std.proofs.lemmas.List.{at_drop_more, at_drop_all, map-append}
+use Rattle.std.specs.List.{range_with_len}
+use Rattle.miette_protocol.specs.views.Meaning.{Label}
+use Rattle.miette_style.specs.declared.style.Style.{Style}
+use Rattle.miette_drawing.specs.declared.marks.Mark.{Mark as MadeMark}
+use Rattle.miette_page.specs.rules.Rows.{drawn}
+use Rattle.miette_style.specs.rules.Styles.{plain}
+use Rattle.miette_lines.specs.rules.Labels.{parts_of, cut_at_lf, onto_part, is_empty}
+use Rattle.miette_snippets.specs.rules.Marks.{Mark, anchor}
+use Rattle.miette_snippets.specs.rules.Drawing.{mark_code, mark_run, mark_runs, code_with_parts}
+use Rattle.miette_drawing.specs.steps.Made.{mark_of}
+use Rattle.miette_page.specs.views.Told.{Token, begins, told, told_run, run_told, text_told}
+use Rattle.miette_snippets.proofs.Numbers.{range_with_len-append}
+use Rattle.miette_lines.proofs.Numbers.{by_cases}
+use Rattle.miette_snippets.proofs.Telling.{then, told_as, run_one, run_more, blank_told}
+use Rattle.miette_style.specs.rules.Themes.{Characters}
+
+mapped_codes : (w f : ℕ → ℕ) (ks : List ℕ) → map (λ p. p.code) (map (λ k. drawn w (f k)) ks) ≡ map f ks
+mapped_codes w f [] = refl
+mapped_codes w f (k ∷ ks) = ap (λ r. f k ∷ r) (mapped_codes w f ks)
+
+constant : (f : ℕ → ℕ) (u from n : ℕ) → ((k : ℕ) → from ≤ k → k < from + n → f k ≡ u) → map f (range_with_len from n) ≡ replicate n u
+constant f u from zero h = refl
+constant f u from (suc n) h = rw (h from (omega arith) (omega arith)) (ap (λ r. u ∷ r) (constant f u (from + 1) n (λ k a b. h k (omega arith) (omega arith))))
+
+abbrev pub middle : Characters → Mark → ℕ
+middle t m = cond (is_empty m.label) t.uarrow (code_with_parts t m.label.parts)
+
+-- a mark's characters, where its anchor is so many columns behind its start and before its end
+codes_by : (t : Characters) (m : Mark) (x y : ℕ) → anchor m ≡ m.from + x → map (mark_code t m) (range_with_len m.from (x + suc y)) ≡ (replicate x t.underline ++ middle t m ∷ []) ++ replicate y t.underline
+codes_by t m x y e =
+    let before : map (mark_code t m) (range_with_len m.from x) ≡ replicate x t.underline = constant (mark_code t m) t.underline m.from x (λ k a b. elsewhere t m k (apart k (anchor m) (omega arith))) in
+    let after : map (mark_code t m) (range_with_len (m.from + x + 1) y) ≡ replicate y t.underline = constant (mark_code t m) t.underline (m.from + x + 1) y (λ k a b. elsewhere t m k (apart k (anchor m) (omega arith))) in
+    ap (map (mark_code t m)) (range_with_len-append m.from x (suc y))
+    ∙ map-append (mark_code t m) (range_with_len m.from x) ((m.from + x) ∷ range_with_len (m.from + x + 1) y)
+    ∙ ap (λ r. r ++ mark_code t m (m.from + x) ∷ map (mark_code t m) (range_with_len (m.from + x + 1) y)) before
+    ∙ ap (λ r. replicate x t.underline ++ mark_code t m (m.from + x) ∷ r) after
+    ∙ ap (λ c. replicate x t.underline ++ c ∷ replicate y t.underline) (here t m (m.from + x) (sym e))
+    ∙ sym (append_assoc (replicate x t.underline) (middle t m ∷ []) (replicate y t.underline))
+  where
+    apart : (a b : ℕ) → (a ≡ b → ⊥) → eqb a b ≡ false
+    apart a b h = grind (arith, nat_tests)
+
+    elsewhere : (t : Characters) (m : Mark) (k : ℕ) → eqb k (anchor m) ≡ false → mark_code t m k ≡ t.underline
+    elsewhere t m k f = ap (λ b. cond b (middle t m) t.underline) f
+
+    same : (a b : ℕ) → a ≡ b → eqb a b ≡ true
+    same a b h = grind (arith, nat_tests)
+
+    here : (t : Characters) (m : Mark) (k : ℕ) → k ≡ anchor m → mark_code t m k ≡ middle t m
+    here t m k h = ap (λ b. cond b (middle t m) t.underline) (same k (anchor m) h)
+
+pub mark_put : (w : ℕ → ℕ) (t : Characters) (m : Mark) (at x y c : ℕ) (p q r s n : Printout) → at ≡ anchor m → m.from ≤ at → at < m.until → x ≡ at - m.from → y ≡ m.until - at - 1 → c ≡ middle t m →
+    q ≡ p ⊕ begins m.label.style ∷ [] → r ≡ q ⊕ text_told (replicate x t.underline) → s ≡ r ⊕ text_told (c ∷ []) → n ≡ s ⊕ text_told (replicate y t.underline) → n ≡ p ⊕ told_run (mark_run w t m)
+mark_put w t m at x y c p q r s n a le lt ex ey ec hq hr hs hn =
+    let style : Style = m.label.style in
+    let xs : List ℕ = replicate x t.underline in
+    let ys : List ℕ = replicate y t.underline in
+    let many : m.until - m.from ≡ x + suc y = omega arith in
+    let begun : r ≡ p ⊕ run_told style xs = then p (begins style ∷ []) (text_told xs) hq hr in
+    let middled : s ≡ p ⊕ run_told style (xs ++ c ∷ []) = told_as p (run_told style xs ++ text_told (c ∷ [])) (run_told style (xs ++ c ∷ [])) (then p (run_told style xs) (text_told (c ∷ [])) begun hs) (run_one style xs c) in
+    told_as p (run_told style (xs ++ c ∷ []) ++ text_told ys) (told_run (mark_run w t m)) (then p (run_told style (xs ++ c ∷ [])) (text_told ys) middled hn)
+    (run_more style (xs ++ c ∷ []) ys
+    ∙ ap (λ k. run_told style ((xs ++ k ∷ []) ++ ys)) ec
+    ∙ ap (run_told style) (sym (codes_by t m x y (omega arith)))
+    ∙ ap (λ k. run_told style (map (mark_code t m) (range_with_len m.from k))) (sym many)
+    ∙ ap (run_told style) (sym (mapped_codes w (mark_code t m) (range_with_len m.from (m.until - m.from)))))
+
+-- one more mark
+pub mark_more : (w : ℕ → ℕ) (t : Characters) (ls : List Label) (marks : List MadeMark) (i reached gap : ℕ) (d : MadeMark) (row spaced new whole : Printout) → i < length marks → gap ≡ (get_or marks i d).from - reached →
+    spaced ≡ row ⊕ run_told plain (replicate gap 32) → new ≡ spaced ⊕ told_run (mark_run w t (mark_of ls (get_or marks i d))) →
+    row ⊕ told (mark_runs w t reached (map (mark_of ls) (drop i marks))) ≡ whole → new ⊕ told (mark_runs w t (get_or marks i d).until (map (mark_of ls) (drop (i + 1) marks))) ≡ whole
+mark_more w t ls marks i reached gap d row spaced new whole lt z s n h =
+    let m : Mark = mark_of ls (get_or marks i d) in
+    let rest : List Token = told (mark_runs w t m.until (map (mark_of ls) (drop (i + 1) marks))) in
+    ap (λ r. r ⊕ rest) (n ∙ ap (λ r. r ⊕ told_run (mark_run w t m)) (s ∙ ap (λ k. row ⊕ run_told plain (replicate k 32)) z))
+    ∙ put_append (row ⊕ run_told plain (replicate (m.from - reached) 32)) (told_run (mark_run w t m)) rest
+    ∙ put_append row (run_told plain (replicate (m.from - reached) 32)) (told_run (mark_run w t m) ++ rest)
+    ∙ ap (λ r. row ⊕ (r ++ (told_run (mark_run w t m) ++ rest))) (sym (blank_told w (m.from - reached)))
+    ∙ ap (λ xs. row ⊕ told (mark_runs w t reached xs)) (sym (at_drop_more (map (mark_of ls)) marks i d lt)) ∙ h
+
+pub mark_end : (w : ℕ → ℕ) (t : Characters) (ls : List Label) (marks : List MadeMark) (i reached : ℕ) (row whole : Printout) → length marks ≤ i → row ⊕ told (mark_runs w t reached (map (mark_of ls) (drop i marks))) ≡ whole → row ≡ whole
+mark_end w t ls marks i reached row whole le h =
+    sym (put_nil row) ∙ ap (λ xs. row ⊕ told (mark_runs w t reached xs)) (sym (at_drop_all (map (mark_of ls)) marks i le)) ∙ h
+
+-- the character of a label with a text
+middle_onto : (t : Characters) (code : ℕ) (parts : List (List ℕ)) → t.underbar ≡ code_with_parts t (onto_part code parts)
+middle_onto t code [] = refl
+middle_onto t code (part ∷ parts) = refl
+
+middle_of_cut : (t : Characters) (codes : List ℕ) → t.underbar ≡ code_with_parts t (cut_at_lf codes)
+middle_of_cut t [] = refl
+middle_of_cut t (c ∷ cs) = by_cases (eqb c 10) (λ e. ap (λ b. code_with_parts t (cond b ([] ∷ cut_at_lf cs) (onto_part c (cut_at_lf cs)))) (sym e))
+    (λ e. middle_onto t c (cut_at_lf cs) ∙ ap (λ b. code_with_parts t (cond b ([] ∷ cut_at_lf cs) (onto_part c (cut_at_lf cs)))) (sym e))
+
+pub middle_of_some : (t : Characters) (text : Option (List ℕ)) (bytes : List ℕ) → text ≡ Some bytes → t.underbar ≡ code_with_parts t (parts_of text)
+middle_of_some t text bytes e = middle_of_cut t (chars bytes) ∙ ap (λ x. code_with_parts t (parts_of x)) (sym e)
+
+unequal : (a b : ℕ) → (a ≡ b → ⊥) → eqb a b ≡ false
+unequal a b h = grind (arith, nat_tests)
+
+pub middle_of_full : (t : Characters) (start after : ℕ) (text : Option (List ℕ)) (bytes : List ℕ) → (start ≡ after → ⊥) → text ≡ Some bytes → t.underbar ≡ cond (eqb start after) t.uarrow (code_with_parts t (parts_of text))
+middle_of_full t start after text bytes h e = middle_of_some t text bytes e ∙ ap (λ b. cond b t.uarrow (code_with_parts t (parts_of text))) (sym (unequal start after h))

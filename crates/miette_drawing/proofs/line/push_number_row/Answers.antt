@@ -1,0 +1,20 @@
+use Rattle.std.proofs.Common.{map}
+use Rattle.miette_snippets.specs.rules.PrintedCells.{line_runs}
+use Rattle.miette_snippets.specs.rules.Frames.{number_start}
+use Rattle.miette_snippets.specs.rules.Gutters.{number_gutter}
+use Rattle.miette_lines.specs.views.Given.{width_of}
+use Rattle.miette_snippets.specs.rules.Highlighted.{highlight_of}
+use Rattle.miette_drawing.specs.steps.Sheets.{settings, multi_labels, shown_cells}
+use Rattle.miette_newlines.specs.views.Walking.{line_of_text}
+use Rattle.miette_drawing.proofs.Lining.{number_row_put}
+use Rattle.miette_drawing.proofs.line.push_number_row.Goals as goal
+use Rattle.miette_style.specs.rules.Themes.{characters_of}
+
+pub returns : goal.returns
+returns g c =
+    let sheet = c.args.sheet.now in
+    number_row_put (number_start (settings sheet) sheet.number_width c.args.shown.now.number)
+    (number_gutter width_of (characters_of sheet.theme.now.characters) (line_of_text sheet.line) sheet.gutter (multi_labels sheet))
+    (line_runs (map highlight_of c.args.shown.now.pieces.now) (shown_cells sheet c.args.shown.now))
+    c.args.page.now c.push_number_start.new.page c.push_number_gutter.new.page c.push_text.new.page c.end_row.new.self
+    c.in_ok-push_number_start.ensures c.in_ok-push_number_gutter.ensures c.in_ok-push_text.ensures c.in_ok-end_row.ensures

@@ -1,0 +1,18 @@
+use Rattle.std.proofs.Common.{ap, ◌∙◌}
+use Rattle.std.specs.Option.{option_map}
+use Rattle.miette_drawing.specs.steps.Framed.{place_at}
+use Rattle.miette_snippets.specs.views.ThemeSettings.{settings_of}
+use Rattle.miette_snippets.specs.rules.Highlighted.{leaves_plain, follows}
+use Rattle.miette_style.specs.rules.Asked.{Leads}
+use Rattle.miette_drawing.proofs.Lending.{told_lent}
+use Rattle.miette_drawing.proofs.snippet.push_framed.Goals as goal
+
+pub returns-clause-rows : goal.returns-clause-rows
+returns-clause-rows g c =
+    told_lent (settings_of c.args.drawing.now.theme.now c.args.drawing.now.options) c.args.drawing.now.labels.now c.args.drawing.now.placed.now c.args.lent.now (option_map place_at c.args.place) (leaves_plain g.H.Highlighter.is_blank c.args.highlighter.now)
+    (λ calls. Leads (follows g.H.Highlighter.may_follow c.args.highlighter.now) calls (follows g.H.Highlighter.may_follow c.push_lines.new.highlighter))
+    c.in_ok-number_width.field-0 c.in_ok-gutter_width.field-0 c.in_ok-extent.extent.lines c.in_ok-extent.extent.most c.line-before.result c.offset-start.result
+    _ c.data-bytes.result.now c.args.page.now c.push_top_row.new.page c.push_lines.new.page c.push_bottom_row.new.page
+    c.line-before.ensures (c.offset-start.ensures ∙ ap (λ s. s.offset) c.span.ensures) c.name.ensures c.data-bytes.ensures
+    c.in_ok-extent.ensures.lines c.in_ok-extent.ensures.most c.in_ok-number_width.ensures c.in_ok-gutter_width.ensures
+    c.in_ok-push_top_row.ensures c.in_ok-push_lines.ensures.rows c.in_ok-push_bottom_row.ensures

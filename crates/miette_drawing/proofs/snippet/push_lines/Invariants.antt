@@ -1,0 +1,19 @@
+use Rattle.std.proofs.Common.{◌≡◌, ◌+◌, ◌-◌, ◌≤◌, length, map}
+use Rattle.miette_snippets.specs.views.ThemeSettings.{settings_of}
+use Rattle.miette_lines.specs.views.Given.{drawn_of}
+use Rattle.miette_snippets.specs.rules.Highlighted.{leaves_plain, follows}
+use Rattle.miette_lines.specs.views.Sweeping.{IsAt}
+use Rattle.miette_drawing.proofs.Lending.{AreLined}
+use Rattle.miette_drawing.proofs.snippet.push_lines.Given as goal
+
+abbrev pub invariant-loop-at : goal.invariant-loop-at
+invariant-loop-at g l = record {
+  lined : AreLined (settings_of l.body.frame.theme.now l.body.frame.options) l.body.frame.number_width l.body.gutter (map (drawn_of l.drawing.labels.now) l.drawing.placed.now) l.body.start l.body.bytes.now (l.body.before + 1)
+      (leaves_plain g.H.Highlighter.is_blank l.initial.highlighter) (follows g.H.Highlighter.may_follow l.initial.highlighter) (follows g.H.Highlighter.may_follow l.highlighter) l.at (l.before + 1) l.initial.page l.page;
+  inside : l.at ≤ length l.body.bytes.now;
+  state : IsAt l.drawing.placed.now (l.body.start + l.at) l.sweep.next l.sweep.running.items;
+  stays : leaves_plain g.H.Highlighter.is_blank l.highlighter ≡ leaves_plain g.H.Highlighter.is_blank l.initial.highlighter;
+}
+
+abbrev pub decreases-loop-at : goal.decreases-loop-at
+decreases-loop-at g l = length l.body.bytes.now - l.at

@@ -1,0 +1,152 @@
+//! The texts of the labels of several lines that end on a line.
+
+ghost use Rattle.std.specs.Prelude.{◌≡◌, ◌++◌, ◌∷◌, [], not, ◌&&◌, chars, map, OnOk};
+ghost use Rattle.miette_page.specs.views.Printouts.{◌⊕◌};
+ghost use Rattle.miette_page.specs.views.Told.{row_end, told_rows, run_told};
+ghost use Rattle.miette_lines.specs.rules.Labels.{starts_on, ends_on, cut_at_lf, closing};
+ghost use Rattle.miette_snippets.specs.rules.Gutters.{closing_parts, closing_rows};
+ghost use Rattle.miette_snippets.specs.rules.Frames.{other_start};
+ghost use Rattle.miette_snippets.specs.rules.SnippetLayout.{before_each};
+ghost use Rattle.miette_lines.specs.views.Sweeping.{label_of};
+ghost use Rattle.miette_lines.specs.views.Given.{drawn_of};
+ghost use Rattle.miette_drawing.specs.steps.Sheets.{settings, multi_labels, closed_line, open_line};
+ghost use Rattle.miette_newlines.specs.views.Walking.{line_of_text};
+
+use crate::gutters::{ends, push_open_gutter, push_other_gutter, starts};
+use crate::parts::first_part;
+use crate::sheet::Sheet;
+use crate::texts::push_other_start;
+use miette_lines::drawn_labels::text_of;
+use miette_lines::sweep::Placed;
+use miette_newlines::lines::LineOfText;
+use miette_page::page::Page;
+use miette_page::styled::WriteStyled;
+use miette_style::style::Style;
+use std::alloc::AllocError;
+
+// Whether a label ends on a line and began before it.
+fn closes(line: &LineOfText, label: &Placed) -> bool
+    ensures { result ≡ ends_on (line_of_text line.now) (label_of label.now)
+        && not (starts_on (line_of_text line.now) (label_of label.now)) }
+{
+    ends(line, label) && !starts(line, label)
+}
+
+// The end of a row: `─ a label's text`.
+fn push_part<O: WriteStyled>(
+    page: &mut Page<O>,
+    style: Style,
+    bar: char,
+    part: &str,
+) -> Result<(), AllocError>
+    ensures { OnOk result (page.new ≡ page.old ⊕ (run_told style (bar ∷ 32 ∷ chars part.now) ++ row_end ∷ [])) }
+{
+    page.push_line(style, bar, ' ', 1)?;
+    page.push_str(part)?;
+    page.end_row()?;
+    Ok(())
+}
+
+// A row of a text behind the corner of the gutter: `   · │╰─── a label's text`.
+fn push_closed_row<O: WriteStyled>(
+    page: &mut Page<O>,
+    sheet: &Sheet,
+    columns: usize,
+    label: &Placed,
+    bar: char,
+    part: &str,
+) -> Result<(), AllocError>
+    ensures { OnOk result (page.new ≡ page.old
+        ⊕ told_rows (closed_line sheet.now columns (drawn_of sheet.now.labels.now label.now) bar (chars part.now)
+        ∷ [])) }
+{
+    push_other_start(page, sheet)?;
+    push_other_gutter(page, sheet, columns)?;
+    push_part(page, label.style, bar, part)?;
+    Ok(())
+}
+
+// A row of a text behind the gutter's bars: `   · │   │ a label's text`.
+fn push_open_row<O: WriteStyled>(
+    page: &mut Page<O>,
+    sheet: &Sheet,
+    columns: usize,
+    label: &Placed,
+    part: &str,
+) -> Result<(), AllocError>
+    ensures { OnOk result (page.new ≡ page.old
+        ⊕ told_rows (open_line sheet.now columns (drawn_of sheet.now.labels.now label.now) (chars part.now) ∷ [])) }
+{
+    push_other_start(page, sheet)?;
+    push_open_gutter(page, sheet, columns)?;
+    push_part(page, label.style, sheet.theme.characters.vbar, part)?;
+    Ok(())
+}
+
+// The rows of a text's parts after the first.
+fn push_open_rows<O: WriteStyled>(
+    page: &mut Page<O>,
+    sheet: &Sheet,
+    columns: usize,
+    label: &Placed,
+    text: &str,
+) -> Result<(), AllocError>
+    ensures { OnOk result (page.new ≡ page.old
+        ⊕ told_rows (map (open_line sheet.now columns (drawn_of sheet.now.labels.now label.now))
+        (cut_at_lf (chars text.now)))) }
+{
+    let mut left = Some(text);
+    while let Some(text) = left {
+        let (part, rest) = first_part(text);
+        push_open_row(page, sheet, columns, label, part)?;
+        left = rest;
+    }
+    Ok(())
+}
+
+// The rows of a label's text: `╰──── text`, or `╰───┤ text` and a row for each further part.
+fn push_closing<O: WriteStyled>(
+    page: &mut Page<O>,
+    sheet: &Sheet,
+    label: &Placed,
+) -> Result<(), AllocError>
+    ensures { OnOk result (page.new ≡ page.old
+        ⊕ told_rows (before_each (other_start (settings sheet.now) sheet.now.number_width)
+        (closing_parts (settings sheet.now).width (settings sheet.now).characters (line_of_text sheet.now.line)
+        sheet.now.gutter (multi_labels sheet.now)
+        (drawn_of sheet.now.labels.now label.now) (drawn_of sheet.now.labels.now label.now).parts))) }
+{
+    let Some(text) = text_of(sheet.labels, label) else {
+        return Ok(());
+    };
+    let characters = &sheet.theme.characters;
+    let (first, rest) = first_part(text);
+    let Some(rest) = rest else {
+        push_closed_row(page, sheet, sheet.gutter, label, characters.hbar, first)?;
+        return Ok(());
+    };
+    let columns = sheet.gutter.saturating_sub(1);
+    push_closed_row(page, sheet, columns, label, characters.rcross, first)?;
+    push_open_rows(page, sheet, columns, label, rest)?;
+    Ok(())
+}
+
+/// The rows of the texts of the labels of several lines that end on the sheet's line, in order. `AllocError` where
+/// memory is refused, or `number_width + 2` is past the largest `usize`.
+pub(crate) fn push_closings<O: WriteStyled>(
+    page: &mut Page<O>,
+    sheet: &Sheet,
+) -> Result<(), AllocError>
+    ensures { OnOk result (page.new ≡ page.old
+        ⊕ told_rows (before_each (other_start (settings sheet.now) sheet.now.number_width)
+        (closing_rows (settings sheet.now).width (settings sheet.now).characters (line_of_text sheet.now.line)
+        sheet.now.gutter (multi_labels sheet.now)
+        (closing (line_of_text sheet.now.line) (multi_labels sheet.now))))) }
+{
+    for label in sheet.multi {
+        if closes(&sheet.line, label) {
+            push_closing(page, sheet, label)?;
+        }
+    }
+    Ok(())
+}

@@ -1,0 +1,287 @@
+//! The rows over and under a snippet's lines, and the row in place of snippets where a label is refused.
+
+ghost use Rattle.std.specs.Prelude.{◌≡◌, ◌++◌, ◌∷◌, [], IsTrue, nat_lt, chars, codes, decimal, option_copied};
+ghost use Rattle.std.specs.Prelude.{if◌then◌else◌, false, OnOk};
+ghost use Rattle.std.specs.List.{list_all};
+ghost use Rattle.std.specs.Option.{option_map};
+ghost use Rattle.miette_page.specs.views.Printouts.{◌⊕◌};
+ghost use Rattle.miette_page.specs.views.Told.{told, told_rows, run_told, text_told};
+ghost use Rattle.miette_snippets.specs.rules.Frames.{top_row_of, bottom_row, location, location_of, place_text};
+ghost use Rattle.miette_snippets.specs.rules.Frames.{refused_row, text_or_none};
+ghost use Rattle.miette_snippets.specs.views.ThemeSettings.{settings_of};
+ghost use Rattle.miette_drawing.specs.steps.Framed.{corner_row, place_at, refused_front};
+
+use miette_page::page::{PLAIN, Page};
+use miette_page::styled::WriteStyled;
+use miette_protocol::protocol::LabeledSpan;
+use miette_snippets::options::LayoutOptions;
+use miette_style::style::Style;
+use miette_style::theme::GraphicalTheme;
+use std::alloc::AllocError;
+
+/// What a snippet's frame is drawn with.
+#[derive(Clone, Copy)]
+pub struct Frame<'a> {
+    /// The characters and styles.
+    pub theme: &'a GraphicalTheme,
+    /// Whether the frame shows where its primary label begins.
+    pub options: LayoutOptions,
+    /// The columns of the line numbers.
+    pub number_width: usize,
+}
+
+// A run of ASCII characters.
+fn push_ascii<O: WriteStyled>(
+    page: &mut Page<O>,
+    style: Style,
+    text: &str,
+) -> Result<(), AllocError>
+    requires { IsTrue (list_all (λ b. nat_lt b 128) text.now) }
+    ensures { OnOk result (page.new ≡ page.old ⊕ run_told style text.now) }
+{
+    page.begin(style)?;
+    page.push_str(text)?;
+    Ok(())
+}
+
+// A run of a text.
+fn push_styled<O: WriteStyled>(
+    page: &mut Page<O>,
+    style: Style,
+    text: &str,
+) -> Result<(), AllocError>
+    ensures { OnOk result (page.new ≡ page.old ⊕ run_told style (chars text.now)) }
+{
+    page.begin(style)?;
+    page.push_str(text)?;
+    Ok(())
+}
+
+// A run of a number.
+fn push_count<O: WriteStyled>(
+    page: &mut Page<O>,
+    style: Style,
+    number: usize,
+) -> Result<(), AllocError>
+    ensures { OnOk result (page.new ≡ page.old ⊕ run_told style (decimal number)) }
+{
+    page.begin(style)?;
+    page.push_number(number)?;
+    Ok(())
+}
+
+// The spaces before a corner, the corner, and what follows it: `   ╭─`.
+fn push_corner<O: WriteStyled>(
+    page: &mut Page<O>,
+    frame: &Frame,
+    corner: char,
+    many: usize,
+) -> Result<(), AllocError>
+    ensures { OnOk result (page.new ≡ page.old
+        ⊕ told (corner_row (settings_of frame.now.theme.now frame.now.options) frame.now.number_width corner many)) }
+{
+    let Some(columns) = frame.number_width.checked_add(2) else {
+        return Err(AllocError);
+    };
+    page.push_blank(columns)?;
+    page.push_line(PLAIN, corner, frame.theme.characters.hbar, many)?;
+    Ok(())
+}
+
+// A line's and a column's number, counted from 1 where they are given from 0: `2:3`.
+fn push_place<O: WriteStyled>(page: &mut Page<O>, place: (usize, usize)) -> Result<(), AllocError>
+    ensures { OnOk result (page.new ≡ page.old ⊕ text_told (place_text (place_at place))) }
+{
+    let Some(line) = place.0.checked_add(1) else {
+        return Err(AllocError);
+    };
+    let Some(column) = place.1.checked_add(1) else {
+        return Err(AllocError);
+    };
+    page.push_number(line)?;
+    page.push(':')?;
+    page.push_number(column)?;
+    Ok(())
+}
+
+// What a place is called in a source with a name: `name:2:3`, or `name`.
+fn push_link<O: WriteStyled>(
+    page: &mut Page<O>,
+    frame: &Frame,
+    name: &str,
+    place: (usize, usize),
+) -> Result<(), AllocError>
+    ensures { OnOk result (page.new ≡ page.old ⊕ run_told frame.now.theme.now.styles.link
+        (if frame.now.options.primary_start then chars name.now ++ codes ":" ++ place_text (place_at place)
+        else chars name.now)) }
+{
+    push_styled(page, frame.theme.styles.link, name)?;
+    if !frame.options.primary_start {
+        return Ok(());
+    }
+    page.push(':')?;
+    push_place(page, place)?;
+    Ok(())
+}
+
+// A place in a source with a name: `[name:2:3]`, or `[name]` where the place isn't asked for.
+fn push_named_place<O: WriteStyled>(
+    page: &mut Page<O>,
+    frame: &Frame,
+    name: &str,
+    place: (usize, usize),
+) -> Result<(), AllocError>
+    ensures { OnOk result (page.new ≡ page.old
+        ⊕ told (location (settings_of frame.now.theme.now frame.now.options) (Some name.now) false (place_at place))) }
+{
+    push_ascii(page, PLAIN, "[")?;
+    push_link(page, frame, name, place)?;
+    push_ascii(page, PLAIN, "]")?;
+    Ok(())
+}
+
+// A place in a source without a name: `[2:3]`, or `───` in a snippet of one line or where the place isn't asked for.
+fn push_bare_place<O: WriteStyled>(
+    page: &mut Page<O>,
+    frame: &Frame,
+    several: bool,
+    place: (usize, usize),
+) -> Result<(), AllocError>
+    ensures { OnOk result (page.new ≡ page.old
+        ⊕ told (location (settings_of frame.now.theme.now frame.now.options) None several (place_at place))) }
+{
+    if several && frame.options.primary_start {
+        page.push_line(PLAIN, '[', ' ', 0)?;
+        push_place(page, place)?;
+        page.push(']')?;
+        return Ok(());
+    }
+    let line = frame.theme.characters.hbar;
+    page.push_line(PLAIN, line, line, 2)?;
+    Ok(())
+}
+
+// Where a snippet's primary label begins, if it has one.
+fn push_location<O: WriteStyled>(
+    page: &mut Page<O>,
+    frame: &Frame,
+    name: Option<&str>,
+    several: bool,
+    place: Option<(usize, usize)>,
+) -> Result<(), AllocError>
+    ensures { OnOk result (page.new ≡ page.old
+        ⊕ told (location_of (settings_of frame.now.theme.now frame.now.options) (option_copied name.entry) several
+        (option_map place_at place))) }
+{
+    let Some(place) = place else {
+        return Ok(());
+    };
+    match name {
+        Some(name) => {
+            push_named_place(page, frame, name, place)?;
+            Ok(())
+        }
+        None => {
+            push_bare_place(page, frame, several, place)?;
+            Ok(())
+        }
+    }
+}
+
+/// The row over a snippet's lines: `   ╭─[name:2:3]`.
+///
+/// `several` says whether the snippet has more than one line; `place` is where its primary label begins, line and
+/// column counted from 0. `AllocError` where memory is refused, or `number_width + 2` or a number counted from 1 is
+/// past the largest `usize`.
+pub(crate) fn push_top_row<O: WriteStyled>(
+    page: &mut Page<O>,
+    frame: &Frame,
+    name: Option<&str>,
+    several: bool,
+    place: Option<(usize, usize)>,
+) -> Result<(), AllocError>
+    ensures { OnOk result (page.new ≡ page.old
+        ⊕ told_rows (top_row_of (settings_of frame.now.theme.now frame.now.options) frame.now.number_width
+        (option_copied name.entry) several (option_map place_at place) ∷ [])) }
+{
+    push_corner(page, frame, frame.theme.characters.ltop, 1)?;
+    push_location(page, frame, name, several, place)?;
+    page.end_row()?;
+    Ok(())
+}
+
+/// The row under a snippet's lines: `   ╰────`. `AllocError` where memory is refused, or `number_width + 2` is past
+/// the largest `usize`.
+pub(crate) fn push_bottom_row<O: WriteStyled>(
+    page: &mut Page<O>,
+    frame: &Frame,
+) -> Result<(), AllocError>
+    ensures { OnOk result (page.new ≡ page.old
+        ⊕ told_rows (bottom_row (settings_of frame.now.theme.now frame.now.options) frame.now.number_width ∷ [])) }
+{
+    push_corner(page, frame, frame.theme.characters.lbot, 4)?;
+    page.end_row()?;
+    Ok(())
+}
+
+// A label's text, or that it has none.
+fn push_label_text<O: WriteStyled>(
+    page: &mut Page<O>,
+    style: Style,
+    label: &LabeledSpan,
+) -> Result<(), AllocError>
+    ensures { OnOk result (page.new ≡ page.old ⊕ run_told style (text_or_none label.now.text)) }
+{
+    match label.label() {
+        Some(text) => {
+            push_styled(page, style, text)?;
+            Ok(())
+        }
+        None => {
+            push_ascii(page, style, "<none>")?;
+            Ok(())
+        }
+    }
+}
+
+// What stands before a refused label's offset: "  [Failed to read contents for label `TEXT` (offset: ".
+fn push_refused_text<O: WriteStyled>(
+    page: &mut Page<O>,
+    frame: &Frame,
+    label: &LabeledSpan,
+) -> Result<(), AllocError>
+    ensures { OnOk result (page.new ≡ page.old
+        ⊕ told (refused_front (settings_of frame.now.theme.now frame.now.options) label.now)) }
+{
+    let styles = &frame.theme.styles;
+    push_ascii(page, PLAIN, "  [")?;
+    push_ascii(page, styles.error, "Failed to read contents for label")?;
+    push_ascii(page, PLAIN, " `")?;
+    push_label_text(page, styles.link, label)?;
+    push_ascii(page, PLAIN, "` (offset: ")?;
+    Ok(())
+}
+
+/// The row in place of snippets where a label is refused, with the refusal's name: "  [Failed to read contents for
+/// label `TEXT` (offset: O, length: N): NAME]". `AllocError` where memory is refused.
+pub fn push_refused_row<O: WriteStyled>(
+    page: &mut Page<O>,
+    frame: &Frame,
+    label: &LabeledSpan,
+    name: &str,
+) -> Result<(), AllocError>
+    ensures { OnOk result (page.new ≡ page.old
+        ⊕ told_rows (refused_row (settings_of frame.now.theme.now frame.now.options)
+        (record { label = label.now; name = chars name.now }) ∷ [])) }
+{
+    let styles = &frame.theme.styles;
+    push_refused_text(page, frame, label)?;
+    push_count(page, styles.link, label.offset())?;
+    push_ascii(page, PLAIN, ", length: ")?;
+    push_count(page, styles.link, label.len())?;
+    push_ascii(page, PLAIN, "): ")?;
+    push_styled(page, styles.warning, name)?;
+    push_ascii(page, PLAIN, "]")?;
+    page.end_row()?;
+    Ok(())
+}

@@ -1,0 +1,150 @@
+//! The gutter of a row, over the labels of several lines that lie on its line.
+
+ghost use Rattle.std.specs.Prelude.{◌≡◌, ◌++◌, ◌-◌, ◌∷◌, [], replicate, map, OnOk};
+ghost use Rattle.miette_page.specs.views.Printouts.{◌⊕◌};
+ghost use Rattle.miette_page.specs.views.Told.{told, run_told};
+ghost use Rattle.miette_lines.specs.rules.Labels.{starts_on, ends_on};
+ghost use Rattle.miette_lines.specs.views.Sweeping.{label_of};
+ghost use Rattle.miette_snippets.specs.rules.Gutters.{number_gutter, other_gutter, open_gutter, ending_corner};
+ghost use Rattle.miette_lines.specs.views.Given.{drawn_of};
+ghost use Rattle.miette_drawing.specs.steps.Sheets.{settings, multi_labels};
+ghost use Rattle.miette_newlines.specs.views.Walking.{line_of_text};
+
+use crate::sheet::Sheet;
+use miette_lines::drawn_labels::text_of;
+use miette_lines::sweep::Placed;
+use miette_newlines::lines::LineOfText;
+use miette_page::page::{PLAIN, Page};
+use miette_page::styled::WriteStyled;
+use miette_style::style::Style;
+use std::alloc::AllocError;
+
+// Whether a label starts on a line.
+pub(crate) fn starts(line: &LineOfText, label: &Placed) -> bool
+    ensures { result ≡ starts_on (line_of_text line.now) (label_of label.now) }
+{
+    line.start <= label.start && label.start < line.end
+}
+
+// Whether a label ends on a line.
+pub(crate) fn ends(line: &LineOfText, label: &Placed) -> bool
+    ensures { result ≡ ends_on (line_of_text line.now) (label_of label.now) }
+{
+    if label.start == label.after {
+        line.start <= label.start && label.start < line.end
+    } else {
+        line.start < label.after && label.after <= line.end
+    }
+}
+
+// The corner of a label that ends on the line.
+fn corner_at_end(sheet: &Sheet, label: &Placed) -> char
+    ensures { result ≡ ending_corner (settings sheet.now).characters (drawn_of sheet.now.labels.now label.now).parts }
+{
+    match text_of(sheet.labels, label) {
+        Some(_) => sheet.theme.characters.lcross,
+        None => sheet.theme.characters.lbot,
+    }
+}
+
+/// The gutter of a row that isn't the number row, in so many columns: a bar for each label that goes on,
+/// then a corner for the first one that ends on the line: `│╰───`. `AllocError` where memory is refused.
+pub(crate) fn push_other_gutter<O: WriteStyled>(
+    page: &mut Page<O>,
+    sheet: &Sheet,
+    columns: usize,
+) -> Result<(), AllocError>
+    ensures { OnOk result (page.new ≡ page.old
+        ⊕ told (other_gutter (settings sheet.now).width (settings sheet.now).characters (line_of_text sheet.now.line)
+        columns (multi_labels sheet.now))) }
+{
+    let characters = &sheet.theme.characters;
+    let mut left = columns;
+    for label in sheet.multi {
+        if ends(&sheet.line, label) {
+            page.push_line(
+                label.style,
+                characters.lbot,
+                characters.hbar,
+                left.saturating_sub(1),
+            )?;
+            return Ok(());
+        }
+        page.push_line(label.style, characters.vbar, characters.vbar, 0)?;
+        left = left.saturating_sub(1);
+    }
+    page.push_blank(left)?;
+    Ok(())
+}
+
+/// The same with spaces in place of the corner: `│    `. `AllocError` where memory is refused.
+pub(crate) fn push_open_gutter<O: WriteStyled>(
+    page: &mut Page<O>,
+    sheet: &Sheet,
+    columns: usize,
+) -> Result<(), AllocError>
+    ensures { OnOk result (page.new ≡ page.old
+        ⊕ told (open_gutter (settings sheet.now).width (settings sheet.now).characters (line_of_text sheet.now.line)
+        columns (multi_labels sheet.now))) }
+{
+    let characters = &sheet.theme.characters;
+    let mut left = columns;
+    for label in sheet.multi {
+        if ends(&sheet.line, label) {
+            page.push_blank(left)?;
+            return Ok(());
+        }
+        page.push_line(label.style, characters.vbar, characters.vbar, 0)?;
+        left = left.saturating_sub(1);
+    }
+    page.push_blank(left)?;
+    Ok(())
+}
+
+// An arrow from a corner, and a space: `╭──▶ `.
+fn push_arrow<O: WriteStyled>(
+    page: &mut Page<O>,
+    sheet: &Sheet,
+    style: Style,
+    corner: char,
+    left: usize,
+) -> Result<(), AllocError>
+    ensures { OnOk result (page.new ≡ page.old
+        ⊕ (run_told style (corner ∷ replicate (left - 3) (settings sheet.now).characters.hbar
+        ++ (settings sheet.now).characters.rarrow ∷ []) ++ run_told PLAIN (32 ∷ []))) }
+{
+    let characters = &sheet.theme.characters;
+    page.push_line(style, corner, characters.hbar, left.saturating_sub(3))?;
+    page.push(characters.rarrow)?;
+    page.push_blank(1)?;
+    Ok(())
+}
+
+/// The gutter of the number row: a bar for each label that runs through, an arrow for the first one that starts or
+/// ends on the line: `│╭─▶ `. `AllocError` where memory is refused.
+pub(crate) fn push_number_gutter<O: WriteStyled>(
+    page: &mut Page<O>,
+    sheet: &Sheet,
+) -> Result<(), AllocError>
+    ensures { OnOk result (page.new ≡ page.old
+        ⊕ told (number_gutter (settings sheet.now).width (settings sheet.now).characters (line_of_text sheet.now.line)
+        sheet.now.gutter (multi_labels sheet.now))) }
+{
+    let characters = &sheet.theme.characters;
+    let mut left = sheet.gutter;
+    for label in sheet.multi {
+        if starts(&sheet.line, label) {
+            push_arrow(page, sheet, label.style, characters.ltop, left)?;
+            return Ok(());
+        }
+        if ends(&sheet.line, label) {
+            let corner = corner_at_end(sheet, label);
+            push_arrow(page, sheet, label.style, corner, left)?;
+            return Ok(());
+        }
+        page.push_line(label.style, characters.vbar, characters.vbar, 0)?;
+        left = left.saturating_sub(1);
+    }
+    page.push_blank(left)?;
+    Ok(())
+}

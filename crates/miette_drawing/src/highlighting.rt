@@ -1,0 +1,80 @@
+//! What a highlighter answers for the lines of a snippet.
+
+ghost use Rattle.std.specs.Prelude.{◌≡◌, ℕ, List, [], ◌∷◌, true, map, IfOk, if◌then◌else◌};
+ghost use Rattle.miette_snippets.specs.rules.Highlighted.{AreCallsOn, ArePieces, decoded_text, highlight_of, leaves_plain};
+ghost use Rattle.miette_style.specs.rules.Asked.{Leads, asked, listed, restarted};
+ghost use Rattle.miette_style.specs.rules.Pieces.{CutsLine, plain_pieces};
+
+use bstr::ByteSlice;
+use miette_page::page::PLAIN;
+use miette_protocol::source::MietteSpanContents;
+use miette_style::highlight::Highlighter;
+use miette_style::laws::comparison_laws;
+use miette_style::style::Style;
+use std::alloc::{AllocError, Global};
+
+/// Begins a new snippet, of what its read lent.
+pub(crate) fn restart<H: Highlighter>(highlighter: &mut Option<H>, lent: &MietteSpanContents<'_>)
+    ensures calls { AreCallsOn H.may_follow highlighter.old highlighter.new (restarted lent.now ∷ []) }
+    ensures stays { leaves_plain H.is_blank highlighter.new ≡ leaves_plain H.is_blank highlighter.old }
+{
+    match highlighter {
+        Some(highlighter) => highlighter.restart(lent),
+        None => {}
+    }
+}
+
+// A highlighter's pieces for the bytes of a line's text, which it is given decoded.
+fn line_pieces<H: Highlighter>(
+    alloc: Global,
+    highlighter: &mut H,
+    text: &[u8],
+) -> Result<Vec<(usize, Style)>, AllocError>
+    ensures cut { IfOk result (λ pieces. CutsLine (decoded_text text.now) pieces.items) }
+    ensures plain { H.is_blank highlighter.old ≡ true →
+        IfOk result (λ pieces. pieces.items ≡ plain_pieces (decoded_text text.now)) }
+    ensures calls { IfOk result (λ pieces. Leads (H.may_follow highlighter.old)
+        (asked (decoded_text text.now) (listed pieces.items) ∷ []) (H.may_follow highlighter.new)) }
+    ensures stays { H.is_blank highlighter.new ≡ H.is_blank highlighter.old }
+{
+    let line = text.to_str_lossy(alloc)?;
+    highlighter.highlight_line(alloc, line.as_str())
+}
+
+// Whether a line is left in one plain piece.
+fn is_plain(pieces: &[(usize, Style)]) -> bool
+    ensures plain { (line : List ℕ) → pieces.now ≡ plain_pieces line → result ≡ true }
+    ensures counts { listed pieces.now ≡ (if result then [] else pieces.now) }
+{
+    comparison_laws();
+    match pieces {
+        [piece] => piece.1 == PLAIN,
+        _ => false,
+    }
+}
+
+/// A highlighter's pieces for the bytes of a line's text; none where it leaves the line plain, and where there is no
+/// highlighter. Each is a length in bytes of the decoded text, and a style. `AllocError` where memory is refused, to
+/// the highlighter too.
+pub(crate) fn pieces_of<H: Highlighter>(
+    alloc: Global,
+    highlighter: &mut Option<H>,
+    text: &[u8],
+) -> Result<Vec<(usize, Style)>, AllocError>
+    ensures pieces { IfOk result (λ pieces. ArePieces (leaves_plain H.is_blank highlighter.old) (decoded_text text.now)
+        (map highlight_of pieces.items)) }
+    ensures calls { IfOk result (λ pieces. AreCallsOn H.may_follow highlighter.old highlighter.new
+        (asked (decoded_text text.now) pieces.items ∷ [])) }
+    ensures stays { leaves_plain H.is_blank highlighter.new ≡ leaves_plain H.is_blank highlighter.old }
+{
+    match highlighter {
+        Some(highlighter) => {
+            let pieces = line_pieces(alloc, highlighter, text)?;
+            if is_plain(&pieces) {
+                return Ok(Vec::new(alloc));
+            }
+            Ok(pieces)
+        }
+        None => Ok(Vec::new(alloc)),
+    }
+}

@@ -1,0 +1,208 @@
+//! All rows of one line.
+
+ghost use Rattle.std.specs.Prelude.{◌≡◌, ◌++◌, ◌+◌, ◌^◌, ◌<◌, ◌∷◌, [], map, length, IfOk, OnOk};
+ghost use Rattle.std.specs.List.{All};
+ghost use Rattle.miette_snippets.specs.rules.PrintedCells.{printed, cells_within, cells_beyond, line_runs};
+ghost use Rattle.miette_snippets.specs.rules.Marks.{marks};
+ghost use Rattle.miette_snippets.specs.rules.Drawing.{marked_rows};
+ghost use Rattle.miette_snippets.specs.rules.Frames.{number_start};
+ghost use Rattle.miette_snippets.specs.rules.SnippetLayout.{before_each, line_rows_of, text_of_cells};
+ghost use Rattle.miette_page.specs.views.Printouts.{◌⊕◌};
+ghost use Rattle.miette_page.specs.views.Told.{told, told_rows, text_told};
+ghost use Rattle.miette_drawing.specs.steps.TellingCells.{cells_told};
+ghost use Rattle.miette_snippets.specs.rules.Highlighted.{highlight_of};
+ghost use Rattle.miette_lines.specs.views.Walking.{cell_of};
+ghost use Rattle.miette_drawing.specs.steps.Made.{mark_of};
+ghost use Rattle.miette_drawing.specs.steps.Sheets.{settings, multi_labels, before_marks, number_row, shown_cells};
+ghost use Rattle.miette_drawing.specs.steps.Sheets.{labels_alone};
+ghost use Rattle.miette_newlines.specs.views.Walking.{line_of_text};
+
+use crate::closings::push_closings;
+use crate::gutters::push_number_gutter;
+use crate::marks::{Mark, marks_on};
+use crate::sheet::{Sheet, ShownLine};
+use crate::strokes::push_marks;
+use crate::texts::{push_before_marks, push_texts};
+use miette_lines::cells::{Cell, Walk};
+use miette_lines::plain::printable;
+use miette_page::page::{PLAIN, Page};
+use miette_page::styled::WriteStyled;
+use miette_style::style::Style;
+use std::alloc::{AllocError, Global};
+
+// The number of a line: ` 12 │ `.
+fn push_number_start<O: WriteStyled>(
+    page: &mut Page<O>,
+    sheet: &Sheet,
+    number: usize,
+) -> Result<(), AllocError>
+    ensures { OnOk result (page.new ≡ page.old
+        ⊕ told (number_start (settings sheet.now) sheet.now.number_width number)) }
+{
+    page.push_blank(1)?;
+    page.begin(sheet.theme.styles.linum)?;
+    page.push_right(number, sheet.number_width)?;
+    page.push_line(PLAIN, ' ', sheet.theme.characters.vbar, 1)?;
+    page.push(' ')?;
+    Ok(())
+}
+
+// A character as it prints, a tab as spaces.
+fn push_cell<O: WriteStyled>(page: &mut Page<O>, cell: &Cell) -> Result<(), AllocError>
+    ensures { OnOk result (page.new ≡ page.old ⊕ text_told (map (λ p. p.code) (printed (cell_of cell.now)))) }
+{
+    if cell.code == '\t' {
+        page.push_copies(' ', cell.until.saturating_sub(cell.from))?;
+    } else {
+        page.push(cell.code)?;
+    }
+    Ok(())
+}
+
+// The characters that fill so many bytes.
+fn push_cells_within<O: WriteStyled>(
+    page: &mut Page<O>,
+    walk: &mut Walk,
+    bytes: usize,
+) -> Result<(), AllocError>
+    ensures within { OnOk result (page.new ≡ page.old ⊕ cells_told (cells_within bytes walk.old)) }
+    ensures beyond { OnOk result (walk.new ≡ cells_beyond bytes walk.old) }
+{
+    let mut left = bytes;
+    while left > 0 {
+        let Some(cell) = walk.next()? else {
+            return Ok(());
+        };
+        push_cell(page, &cell)?;
+        left = left.saturating_sub(cell.code.len_utf8());
+    }
+    Ok(())
+}
+
+// All characters that are left.
+fn push_cells<O: WriteStyled>(page: &mut Page<O>, walk: &mut Walk) -> Result<(), AllocError>
+    ensures { OnOk result (page.new ≡ page.old ⊕ cells_told walk.old) }
+{
+    while let Some(cell) = walk.next()? {
+        push_cell(page, &cell)?;
+    }
+    Ok(())
+}
+
+// The line's text in a highlighter's pieces, each a length in bytes and a style, and plain behind them.
+fn push_line_text<O: WriteStyled>(
+    page: &mut Page<O>,
+    walk: &mut Walk,
+    pieces: &[(usize, Style)],
+) -> Result<(), AllocError>
+    ensures { OnOk result (page.new ≡ page.old ⊕ told (line_runs (map highlight_of pieces.now) walk.old)) }
+{
+    for piece in pieces {
+        page.begin(piece.1)?;
+        push_cells_within(page, walk, piece.0)?;
+    }
+    page.begin(PLAIN)?;
+    push_cells(page, walk)?;
+    Ok(())
+}
+
+// The line's text: as it is where it's printable ASCII and in no highlighter's pieces, else character by character.
+fn push_text<O: WriteStyled>(
+    page: &mut Page<O>,
+    sheet: &Sheet,
+    shown: &ShownLine,
+) -> Result<(), AllocError>
+    requires { sheet.now.line.start + length shown.now.text.now < 2 ^ 64 }
+    ensures { OnOk result (page.new ≡ page.old
+        ⊕ told (line_runs (map highlight_of shown.now.pieces.now) (shown_cells sheet.now shown.now))) }
+{
+    if shown.pieces.is_empty() {
+        if let Some(plain) = printable(shown.text) {
+            page.begin(PLAIN)?;
+            page.push_str(plain)?;
+            return Ok(());
+        }
+    }
+    let mut walk = Walk::new(shown.text, sheet.line.start, sheet.options.tab_width);
+    push_line_text(page, &mut walk, shown.pieces)?;
+    Ok(())
+}
+
+// The number row: ` 12 │ ╭─▶ the line's text`.
+fn push_number_row<O: WriteStyled>(
+    page: &mut Page<O>,
+    sheet: &Sheet,
+    shown: &ShownLine,
+) -> Result<(), AllocError>
+    requires { sheet.now.line.start + length shown.now.text.now < 2 ^ 64 }
+    ensures { OnOk result (page.new ≡ page.old ⊕ told_rows (number_row sheet.now shown.now ∷ [])) }
+{
+    push_number_start(page, sheet, shown.number)?;
+    push_number_gutter(page, sheet)?;
+    push_text(page, sheet, shown)?;
+    page.end_row()?;
+    Ok(())
+}
+
+// The mark row and the rows of texts under it, where there is a mark.
+fn push_marked_rows<O: WriteStyled>(
+    page: &mut Page<O>,
+    sheet: &Sheet,
+    marks: &[Mark],
+) -> Result<(), AllocError>
+    requires { All (λ mark. mark.from < mark.until) marks.now }
+    ensures { OnOk result (page.new ≡ page.old ⊕ told_rows (before_each (before_marks sheet.now)
+        (marked_rows (settings sheet.now).width (settings sheet.now).characters
+        (map (mark_of sheet.now.labels.now) marks.now)))) }
+{
+    if marks.is_empty() {
+        return Ok(());
+    }
+    push_before_marks(page, sheet)?;
+    push_marks(page, sheet, marks)?;
+    page.end_row()?;
+    push_texts(page, sheet, marks)?;
+    Ok(())
+}
+
+// The marks of the labels that lie on a line alone.
+fn marks_alone(alloc: Global, sheet: &Sheet, shown: &ShownLine) -> Result<Vec<Mark>, AllocError>
+    requires { sheet.now.line.start + length shown.now.text.now < 2 ^ 64 }
+    ensures some { IfOk result (λ alone. All (λ mark. mark.from < mark.until) alone.items) }
+    ensures marks { IfOk result (λ alone. map (mark_of sheet.now.labels.now) alone.items
+        ≡ marks (text_of_cells (shown_cells sheet.now shown.now) sheet.now.line.text_end)
+        (labels_alone sheet.now shown.now)) }
+{
+    if shown.one.is_empty() {
+        return Ok(Vec::new(alloc));
+    }
+    marks_on(
+        alloc,
+        &sheet.line,
+        shown.text,
+        sheet.options.tab_width,
+        shown.one,
+    )
+}
+
+/// The rows of the sheet's line: the number row, the marks and texts of the labels that lie on it alone, and the texts
+/// of the labels of several lines that end there. `AllocError` where memory is refused, or a column is past the
+/// largest `usize`.
+pub(crate) fn push_line_rows<O: WriteStyled>(
+    alloc: Global,
+    page: &mut Page<O>,
+    sheet: &Sheet,
+    shown: &ShownLine,
+) -> Result<(), AllocError>
+    requires { sheet.now.line.start + length shown.now.text.now < 2 ^ 64 }
+    ensures { OnOk result (page.new ≡ page.old
+        ⊕ told_rows (line_rows_of (settings sheet.now) sheet.now.number_width sheet.now.gutter
+        (labels_alone sheet.now shown.now) (multi_labels sheet.now) (line_of_text sheet.now.line) shown.now.number
+        (shown_cells sheet.now shown.now) (map highlight_of shown.now.pieces.now))) }
+{
+    push_number_row(page, sheet, shown)?;
+    let marks = marks_alone(alloc, sheet, shown)?;
+    push_marked_rows(page, sheet, &marks)?;
+    push_closings(page, sheet)?;
+    Ok(())
+}

@@ -1,0 +1,42 @@
+//! What the rows of one line are drawn with.
+
+ghost use Rattle.std.specs.Prelude.{◌≡◌};
+
+use miette_lines::sweep::Placed;
+use miette_newlines::lines::LineOfText;
+use miette_protocol::protocol::LabeledSpan;
+use miette_snippets::options::LayoutOptions;
+use miette_style::style::Style;
+use miette_style::theme::GraphicalTheme;
+
+/// What all rows of a line are drawn with.
+#[derive(Clone, Copy)]
+pub(crate) struct Sheet<'a> {
+    /// The characters and styles.
+    pub(crate) theme: &'a GraphicalTheme,
+    /// The width of tabs.
+    pub(crate) options: LayoutOptions,
+    /// The columns of the line numbers.
+    pub(crate) number_width: usize,
+    /// The columns of the gutter.
+    pub(crate) gutter: usize,
+    /// The line.
+    pub(crate) line: LineOfText,
+    /// The diagnostic's labels, whose texts are drawn.
+    pub(crate) labels: &'a [LabeledSpan],
+    /// The labels of several lines that lie on the line, by offset.
+    pub(crate) multi: &'a [Placed],
+}
+
+/// A line as its own rows show it.
+#[derive(Clone, Copy)]
+pub(crate) struct ShownLine<'a> {
+    /// Its number, counted from 1.
+    pub(crate) number: usize,
+    /// The bytes of its text.
+    pub(crate) text: &'a [u8],
+    /// The labels that lie on it alone, by offset.
+    pub(crate) one: &'a [Placed],
+    /// A highlighter's pieces of its text, each a length in bytes and a style.
+    pub(crate) pieces: &'a [(usize, Style)],
+}

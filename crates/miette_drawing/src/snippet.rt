@@ -1,0 +1,274 @@
+//! The rows of one snippet.
+//!
+//!        ╭─[src/a.rs:1:1]       the frame's top row, with the place that it points to
+//!      1 │ ╭─▶ source           a number row: number, gutter, text of the line
+//!      2 │ │     text           the gutter goes on while a label of several lines does
+//!        · │     ──┬─           a mark for each label on this line alone; `┬` is its anchor
+//!        · │       ╰── here     a leader `╰──` goes from the anchor to the label's text
+//!      3 │ ├─▶     here         the gutter of a label of several lines where it ends
+//!        · ╰──── whole          and its text
+//!        ╰────                  the frame's bottom row
+//!
+//! The steps, in order:
+//!
+//! 1. `push_snippet` brings the sweep over the labels to the snippet's first line.
+//! 2. `push_framed` counts lines and the widest gutter, and puts the frame around (`frame.rt`).
+//! 3. `push_lines` goes on line by line: which labels lie on it (the sweep), a highlighter's pieces.
+//! 4. `push_line_rows` (`line.rt`) puts the rows of a line: its number row over the gutter
+//!    (`gutters.rt`), the marks and their leaders (`marks.rt`, `strokes.rt`), the texts
+//!    (`texts.rt`), and the texts of labels that end there (`closings.rt`).
+
+ghost use Rattle.std.specs.Prelude.{◌≡◌, ◌∷◌, ◌+◌, ◌<◌, ◌^◌, map, length, decimal, IfOk, OnOk};
+ghost use Rattle.miette_newlines.specs.rules.Lines.{lines_from};
+ghost use Rattle.miette_snippets.specs.views.ThemeSettings.{settings_of};
+ghost use Rattle.miette_lines.specs.views.Given.{drawn_of};
+ghost use Rattle.miette_snippets.specs.rules.Highlighted.{AreCallsOn, leaves_plain};
+ghost use Rattle.miette_style.specs.rules.Asked.{restarted};
+ghost use Rattle.miette_drawing.specs.steps.Lent.{PutsRows, PutsSnippet, texts_in, lent_rows};
+ghost use Rattle.miette_drawing.specs.steps.Lent.{width_of_count, gutter_of};
+ghost use Rattle.miette_lines.specs.views.Sweeping.{IsAt, AreSorted};
+
+use crate::frame::{Frame, push_bottom_row, push_top_row};
+use crate::highlighting::{pieces_of, restart};
+use crate::line::push_line_rows;
+use crate::sheet::{Sheet, ShownLine};
+use itoa::Buffer;
+use miette_lines::line_sweep::{extent_of, line_at};
+use miette_lines::sweep::{Bounds, Placed, Sweep, advance};
+use miette_page::page::Page;
+use miette_page::styled::WriteStyled;
+use miette_protocol::protocol::LabeledSpan;
+use miette_protocol::source::MietteSpanContents;
+use miette_snippets::options::LayoutOptions;
+use miette_style::highlight::Highlighter;
+use miette_style::theme::GraphicalTheme;
+use std::alloc::{AllocError, Global};
+
+/// What the snippets of a diagnostic are drawn with.
+#[derive(Clone, Copy)]
+pub struct Drawing<'a> {
+    /// Where memory comes from.
+    pub alloc: Global,
+    /// The characters and styles.
+    pub theme: &'a GraphicalTheme,
+    /// How snippets are laid out.
+    pub options: LayoutOptions,
+    /// The labels as given, whose texts are drawn.
+    pub labels: &'a [LabeledSpan],
+    /// The labels as they are drawn, by offset.
+    pub placed: &'a [Placed],
+}
+
+/// A sweep over labels, and the offset to which it has come.
+#[derive(Drop)]
+pub struct Passage {
+    /// What the sweep knows there.
+    pub sweep: Sweep,
+    /// The offset.
+    pub at: usize,
+}
+
+// What the lines of a snippet are drawn with: their frame and gutter, how many lines stand before them, and their
+// bytes with where these begin.
+#[derive(Clone, Copy)]
+struct Body<'a> {
+    frame: Frame<'a>,
+    gutter: usize,
+    before: usize,
+    start: usize,
+    bytes: &'a [u8],
+}
+
+// How many decimal digits a number has.
+fn digits(number: usize) -> usize
+    ensures { result ≡ length (decimal number) }
+{
+    let mut buffer = Buffer::new();
+    buffer.format(number).len()
+}
+
+// The digits of the number of the last of so many lines, where this many stand before the first; 1 where there is none.
+fn number_width(before: usize, lines: usize) -> Result<usize, AllocError>
+    ensures { IfOk result (λ w. w ≡ width_of_count before lines) }
+{
+    if lines == 0 {
+        return Ok(1);
+    }
+    match before.checked_add(lines) {
+        Some(last) => Ok(digits(last)),
+        None => Err(AllocError),
+    }
+}
+
+// The columns of a gutter with room for so many labels.
+fn gutter_width(most: usize) -> Result<usize, AllocError>
+    ensures { IfOk result (λ columns. columns ≡ gutter_of most) }
+{
+    if most == 0 {
+        return Ok(0);
+    }
+    match most.checked_add(3) {
+        Some(columns) => Ok(columns),
+        None => Err(AllocError),
+    }
+}
+
+// Brings a sweep to an offset.
+fn seek(
+    alloc: Global,
+    labels: &[Placed],
+    place: usize,
+    passage: &mut Passage,
+) -> Result<(), AllocError>
+    requires sorted { AreSorted labels.now }
+    requires at { IsAt labels.now passage.old.at passage.old.sweep.next passage.old.sweep.running.items }
+    ensures { OnOk result (IsAt labels.now place passage.new.sweep.next passage.new.sweep.running.items) }
+{
+    let mut from = passage.at;
+    if place < from {
+        passage.sweep = Sweep::new(alloc);
+        from = 0;
+    }
+    if from < place {
+        let bounds = Bounds {
+            start: from,
+            after: place,
+        };
+        let _passed = advance(alloc, labels, &bounds, &mut passage.sweep)?;
+    }
+    Ok(())
+}
+
+// The rows of a snippet's lines, in the highlighter's pieces.
+fn push_lines<'a, H: Highlighter, O: WriteStyled>(
+    drawing: &Drawing<'a>,
+    body: &Body<'a>,
+    highlighter: &mut Option<H>,
+    page: &mut Page<O>,
+    sweep: &mut Sweep,
+) -> Result<(), AllocError>
+    requires sorted { AreSorted drawing.now.placed.now }
+    requires at { IsAt drawing.now.placed.now body.now.start sweep.old.next sweep.old.running.items }
+    requires small { body.now.start + length body.now.bytes.now < 2 ^ 64 }
+    ensures rows { OnOk result (PutsRows (leaves_plain H.is_blank highlighter.old)
+        (AreCallsOn H.may_follow highlighter.old highlighter.new)
+        (texts_in body.now.start body.now.bytes.now (lines_from body.now.start body.now.bytes.now))
+        (λ pieces. lent_rows (settings_of body.now.frame.theme.now body.now.frame.options) body.now.frame.number_width
+        body.now.gutter (map (drawn_of drawing.now.labels.now) drawing.now.placed.now)
+        body.now.start body.now.bytes.now (body.now.before + 1) pieces (lines_from body.now.start body.now.bytes.now))
+        page.old page.new) }
+    ensures stays { leaves_plain H.is_blank highlighter.new ≡ leaves_plain H.is_blank highlighter.old }
+    ensures at { OnOk result (IsAt drawing.now.placed.now (body.now.start + length body.now.bytes.now) sweep.new.next
+        sweep.new.running.items) }
+{
+    let mut one = Vec::new(drawing.alloc);
+    let mut before = body.before;
+    let mut at: usize = 0;
+    while at < body.bytes.len() {
+        let Some(number) = before.checked_add(1) else {
+            return Err(AllocError);
+        };
+        let line = line_at(body.bytes, body.start, at);
+        let bounds = Bounds {
+            start: line.start,
+            after: line.end,
+        };
+        one.clear();
+        sweep.enter(drawing.placed, &bounds, &mut one)?;
+        let sheet = Sheet {
+            theme: body.frame.theme,
+            options: body.frame.options,
+            number_width: body.frame.number_width,
+            gutter: body.gutter,
+            line,
+            labels: drawing.labels,
+            multi: &sweep.running,
+        };
+        let text = &body.bytes[line.start - body.start..line.text_end - body.start];
+        let pieces = pieces_of(drawing.alloc, highlighter, text)?;
+        let shown = ShownLine {
+            number,
+            text,
+            one: &one,
+            pieces: &pieces,
+        };
+        push_line_rows(drawing.alloc, page, &sheet, &shown)?;
+        sweep.leave(line.end);
+        before = number;
+        at = line.end - body.start;
+    }
+    Ok(())
+}
+
+// The rows of a snippet, where the sweep has come to what its read lent.
+fn push_framed<'a, H: Highlighter, O: WriteStyled>(
+    drawing: &Drawing<'a>,
+    highlighter: &mut Option<H>,
+    page: &mut Page<O>,
+    sweep: &mut Sweep,
+    lent: &MietteSpanContents<'_>,
+    place: Option<(usize, usize)>,
+) -> Result<(), AllocError>
+    requires sorted { AreSorted drawing.now.placed.now }
+    requires at { IsAt drawing.now.placed.now lent.now.span.offset sweep.old.next sweep.old.running.items }
+    requires small { lent.now.span.offset + length lent.now.bytes < 2 ^ 64 }
+    ensures rows { OnOk result (PutsSnippet (leaves_plain H.is_blank highlighter.old)
+        (AreCallsOn H.may_follow highlighter.old highlighter.new)
+        drawing.now lent.now place page.old page.new) }
+    ensures stays { leaves_plain H.is_blank highlighter.new ≡ leaves_plain H.is_blank highlighter.old }
+    ensures at { OnOk result (IsAt drawing.now.placed.now (lent.now.span.offset + length lent.now.bytes) sweep.new.next
+        sweep.new.running.items) }
+{
+    let start = lent.span().offset();
+    let bytes = lent.data();
+    let before = lent.line();
+    let extent = extent_of(drawing.alloc, bytes, start, drawing.placed, sweep)?;
+    let frame = Frame {
+        theme: drawing.theme,
+        options: drawing.options,
+        number_width: number_width(before, extent.lines)?,
+    };
+    let body = Body {
+        frame,
+        gutter: gutter_width(extent.most)?,
+        before,
+        start,
+        bytes,
+    };
+    push_top_row(page, &frame, lent.name(), extent.lines > 1, place)?;
+    push_lines(drawing, &body, highlighter, page, sweep)?;
+    push_bottom_row(page, &frame)?;
+    Ok(())
+}
+
+/// The rows of a snippet from what its read lent: its frame, which points to this line and column, and its lines, in
+/// the pieces of the highlighter, which is restarted. The sweep over the labels comes to where the lent bytes end.
+/// `AllocError` where memory is refused, to the highlighter too, or an offset, a line's number or a column is past
+/// the largest `usize`.
+pub fn push_snippet<'a, H: Highlighter, O: WriteStyled>(
+    drawing: &Drawing<'a>,
+    highlighter: &mut Option<H>,
+    page: &mut Page<O>,
+    passage: &mut Passage,
+    lent: &MietteSpanContents<'_>,
+    place: Option<(usize, usize)>,
+) -> Result<(), AllocError>
+    requires sorted { AreSorted drawing.now.placed.now }
+    requires at { IsAt drawing.now.placed.now passage.old.at passage.old.sweep.next passage.old.sweep.running.items }
+    ensures rows { OnOk result (PutsSnippet (leaves_plain H.is_blank highlighter.old)
+        (λ calls. AreCallsOn H.may_follow highlighter.old highlighter.new (restarted lent.now ∷ calls)) drawing.now
+        lent.now place page.old page.new) }
+    ensures stays { leaves_plain H.is_blank highlighter.new ≡ leaves_plain H.is_blank highlighter.old }
+    ensures at { OnOk result (IsAt drawing.now.placed.now passage.new.at passage.new.sweep.next
+        passage.new.sweep.running.items) }
+{
+    let start = lent.span().offset();
+    let Some(end) = start.checked_add(lent.data().len()) else {
+        return Err(AllocError);
+    };
+    seek(drawing.alloc, drawing.placed, start, passage)?;
+    restart(highlighter, lent);
+    push_framed(drawing, highlighter, page, &mut passage.sweep, lent, place)?;
+    passage.at = end;
+    Ok(())
+}

@@ -1,0 +1,85 @@
+//! The mark row of a line.
+
+ghost use Rattle.std.specs.Prelude.{◌≡◌, ◌++◌, ◌+◌, ◌/◌, ◌^◌, ◌<◌, ◌≤◌, if◌then◌else◌, map, OnOk};
+ghost use Rattle.std.specs.List.{All};
+ghost use Rattle.miette_page.specs.views.Printouts.{◌⊕◌};
+ghost use Rattle.miette_page.specs.views.Told.{told, told_run};
+ghost use Rattle.miette_lines.specs.rules.Labels.{is_empty};
+ghost use Rattle.miette_lines.specs.views.Given.{drawn_of};
+ghost use Rattle.miette_snippets.specs.rules.Drawing.{code_with_parts, mark_run, mark_runs};
+ghost use Rattle.miette_drawing.specs.steps.Made.{mark_of};
+ghost use Rattle.miette_drawing.specs.steps.Sheets.{settings};
+
+use crate::marks::Mark;
+use crate::sheet::Sheet;
+use miette_lines::drawn_labels::text_of;
+use miette_page::page::Page;
+use miette_page::styled::WriteStyled;
+use std::alloc::AllocError;
+
+/// The column of a mark at which its text hangs: the middle one, rounded down.
+pub(crate) fn anchor_of(mark: &Mark) -> usize
+    requires { mark.now.from < mark.now.until }
+    ensures is { result ≡ (mark.now.from + mark.now.until) / 2 }
+    ensures from { mark.now.from ≤ result }
+    ensures until { result < mark.now.until }
+    ensures small { result + 1 < 2 ^ 64 }
+{
+    mark.from + (mark.until - mark.from) / 2
+}
+
+// The character at a mark's anchor.
+fn middle_of(sheet: &Sheet, mark: &Mark) -> char
+    ensures { result ≡ (if is_empty (drawn_of sheet.now.labels.now mark.now.label)
+        then (settings sheet.now).characters.uarrow
+        else code_with_parts (settings sheet.now).characters (drawn_of sheet.now.labels.now mark.now.label).parts) }
+{
+    let characters = &sheet.theme.characters;
+    if mark.label.start == mark.label.after {
+        return characters.uarrow;
+    }
+    match text_of(sheet.labels, &mark.label) {
+        Some(_) => characters.underbar,
+        None => characters.underline,
+    }
+}
+
+// A mark: `──┬──`.
+fn push_mark<O: WriteStyled>(
+    page: &mut Page<O>,
+    sheet: &Sheet,
+    mark: &Mark,
+) -> Result<(), AllocError>
+    requires { mark.now.from < mark.now.until }
+    ensures { OnOk result (page.new ≡ page.old
+        ⊕ told_run (mark_run (settings sheet.now).width (settings sheet.now).characters
+        (mark_of sheet.now.labels.now mark.now))) }
+{
+    let line = sheet.theme.characters.underline;
+    let anchor = anchor_of(mark);
+    page.begin(mark.label.style)?;
+    page.push_copies(line, anchor - mark.from)?;
+    page.push(middle_of(sheet, mark))?;
+    page.push_copies(line, mark.until - anchor - 1)?;
+    Ok(())
+}
+
+/// The marks, each behind the spaces before it: `  ──┬── ▲ ─┬─`. `AllocError` where memory is refused.
+pub(crate) fn push_marks<O: WriteStyled>(
+    page: &mut Page<O>,
+    sheet: &Sheet,
+    marks: &[Mark],
+) -> Result<(), AllocError>
+    requires { All (λ mark. mark.from < mark.until) marks.now }
+    ensures { OnOk result (page.new ≡ page.old
+        ⊕ told (mark_runs (settings sheet.now).width (settings sheet.now).characters 0
+        (map (mark_of sheet.now.labels.now) marks.now))) }
+{
+    let mut reached: usize = 0;
+    for mark in marks {
+        page.push_blank(mark.from.saturating_sub(reached))?;
+        push_mark(page, sheet, mark)?;
+        reached = mark.until;
+    }
+    Ok(())
+}

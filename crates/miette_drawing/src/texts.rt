@@ -1,0 +1,180 @@
+//! The rows of texts under a mark row, the last label's first.
+
+ghost use Rattle.std.specs.Prelude.{◌≡◌, ◌++◌, ◌+◌, ◌∷◌, [], ◌<◌, List, chars, map, replicate, OnOk};
+ghost use Rattle.std.specs.List.{All};
+ghost use Rattle.miette_page.specs.views.Printouts.{◌⊕◌};
+ghost use Rattle.miette_page.specs.views.Told.{told, told_rows};
+ghost use Rattle.miette_lines.specs.rules.Labels.{cut_at_lf};
+ghost use Rattle.miette_snippets.specs.rules.Drawing.{lead_runs, beside, rows_of_parts, rows_below};
+ghost use Rattle.miette_snippets.specs.rules.Frames.{other_start};
+ghost use Rattle.miette_snippets.specs.rules.SnippetLayout.{before_each};
+ghost use Rattle.miette_lines.specs.views.Given.{drawn_of};
+ghost use Rattle.miette_drawing.specs.steps.Made.{mark_of};
+ghost use Rattle.miette_drawing.specs.steps.Sheets.{settings, before_marks, text_line};
+
+use crate::gutters::push_other_gutter;
+use crate::marks::Mark;
+use crate::parts::first_part;
+use crate::sheet::Sheet;
+use crate::strokes::anchor_of;
+use miette_lines::drawn_labels::text_of;
+use miette_page::page::{PLAIN, Page};
+use miette_page::styled::WriteStyled;
+use std::alloc::AllocError;
+
+/// What stands before the gutter of a row that isn't the number row: `   · `. `AllocError` where memory is refused, or
+/// `number_width + 2` is past the largest `usize`.
+pub(crate) fn push_other_start<O: WriteStyled>(
+    page: &mut Page<O>,
+    sheet: &Sheet,
+) -> Result<(), AllocError>
+    ensures { OnOk result (page.new ≡ page.old ⊕ told (other_start (settings sheet.now) sheet.now.number_width)) }
+{
+    let Some(columns) = sheet.number_width.checked_add(2) else {
+        return Err(AllocError);
+    };
+    page.push_blank(columns)?;
+    page.push_line(PLAIN, sheet.theme.characters.vbar_break, ' ', 1)?;
+    Ok(())
+}
+
+/// What stands before the marks and the texts under a line: `   · │╰──`. It fails as `push_other_start` does.
+pub(crate) fn push_before_marks<O: WriteStyled>(
+    page: &mut Page<O>,
+    sheet: &Sheet,
+) -> Result<(), AllocError>
+    ensures { OnOk result (page.new ≡ page.old ⊕ told (before_marks sheet.now)) }
+{
+    push_other_start(page, sheet)?;
+    push_other_gutter(page, sheet, sheet.gutter)?;
+    Ok(())
+}
+
+// What stands before a text's corner, which is to stand in this column: a bar at the anchor of each earlier mark.
+fn push_leads<O: WriteStyled>(
+    page: &mut Page<O>,
+    sheet: &Sheet,
+    earlier: &[Mark],
+    column: usize,
+) -> Result<(), AllocError>
+    requires { All (λ mark. mark.from < mark.until) earlier.now }
+    ensures { OnOk result (page.new ≡ page.old
+        ⊕ told (lead_runs (settings sheet.now).width (settings sheet.now).characters 0
+        (map (mark_of sheet.now.labels.now) earlier.now) column)) }
+{
+    let bar = sheet.theme.characters.vbar;
+    let mut reached: usize = 0;
+    for mark in earlier {
+        let anchor = anchor_of(mark);
+        page.push_blank(anchor.saturating_sub(reached))?;
+        page.push_line(mark.label.style, bar, bar, 0)?;
+        reached = anchor + 1;
+    }
+    page.push_blank(column.saturating_sub(reached))?;
+    Ok(())
+}
+
+// The first three characters before a part of a text; the fourth is a space.
+#[derive(Clone, Copy)]
+struct Front(char, char, char);
+
+// A row of a text: `   ·   │ ╰── a label's text`.
+fn push_text_row<O: WriteStyled>(
+    page: &mut Page<O>,
+    sheet: &Sheet,
+    earlier: &[Mark],
+    mark: &Mark,
+    front: Front,
+    part: &str,
+) -> Result<(), AllocError>
+    requires earlier { All (λ mark. mark.from < mark.until) earlier.now }
+    requires own { mark.now.from < mark.now.until }
+    ensures { OnOk result (page.new ≡ page.old
+        ⊕ told_rows (text_line sheet.now (map (mark_of sheet.now.labels.now) earlier.now)
+        (mark_of sheet.now.labels.now mark.now) (front.0 ∷ front.1 ∷ front.2 ∷ 32 ∷ []) (chars part.now) ∷ [])) }
+{
+    let anchor = anchor_of(mark);
+    push_before_marks(page, sheet)?;
+    push_leads(page, sheet, earlier, anchor)?;
+    page.push_line(mark.label.style, front.0, front.1, 1)?;
+    page.push(front.2)?;
+    page.push(' ')?;
+    page.push_str(part)?;
+    page.end_row()?;
+    Ok(())
+}
+
+// The rows of a text's parts after the first: `   ·   │   │ a label's text`.
+fn push_more_parts<O: WriteStyled>(
+    page: &mut Page<O>,
+    sheet: &Sheet,
+    earlier: &[Mark],
+    mark: &Mark,
+    text: &str,
+) -> Result<(), AllocError>
+    requires earlier { All (λ mark. mark.from < mark.until) earlier.now }
+    requires own { mark.now.from < mark.now.until }
+    ensures { OnOk result (page.new ≡ page.old ⊕ told_rows (map
+        (text_line sheet.now (map (mark_of sheet.now.labels.now) earlier.now) (mark_of sheet.now.labels.now mark.now)
+        (beside (settings sheet.now).characters))
+        (cut_at_lf (chars text.now)))) }
+{
+    let front = Front(' ', ' ', sheet.theme.characters.vbar);
+    let mut left = Some(text);
+    while let Some(text) = left {
+        let (part, rest) = first_part(text);
+        push_text_row(page, sheet, earlier, mark, front, part)?;
+        left = rest;
+    }
+    Ok(())
+}
+
+// The rows of a mark's text, where these marks stand before it: `╰── text`, or `╰─┤ text` and a row for each further
+// part.
+fn push_text<O: WriteStyled>(
+    page: &mut Page<O>,
+    sheet: &Sheet,
+    earlier: &[Mark],
+    mark: &Mark,
+) -> Result<(), AllocError>
+    requires earlier { All (λ mark. mark.from < mark.until) earlier.now }
+    requires own { mark.now.from < mark.now.until }
+    ensures { OnOk result (page.new ≡ page.old ⊕ told_rows (before_each (before_marks sheet.now)
+        (rows_of_parts (settings sheet.now).width (settings sheet.now).characters
+        (map (mark_of sheet.now.labels.now) earlier.now) (mark_of sheet.now.labels.now mark.now)
+        (drawn_of sheet.now.labels.now mark.now.label).parts))) }
+{
+    let Some(text) = text_of(sheet.labels, &mark.label) else {
+        return Ok(());
+    };
+    let characters = &sheet.theme.characters;
+    let (first, rest) = first_part(text);
+    let Some(rest) = rest else {
+        let front = Front(characters.lbot, characters.hbar, characters.hbar);
+        push_text_row(page, sheet, earlier, mark, front, first)?;
+        return Ok(());
+    };
+    let front = Front(characters.lbot, characters.hbar, characters.rcross);
+    push_text_row(page, sheet, earlier, mark, front, first)?;
+    push_more_parts(page, sheet, earlier, mark, rest)?;
+    Ok(())
+}
+
+/// The rows of the texts of all marks, the last one's first. It fails as `push_other_start` does.
+pub(crate) fn push_texts<O: WriteStyled>(
+    page: &mut Page<O>,
+    sheet: &Sheet,
+    marks: &[Mark],
+) -> Result<(), AllocError>
+    requires { All (λ mark. mark.from < mark.until) marks.now }
+    ensures { OnOk result (page.new ≡ page.old ⊕ told_rows (before_each (before_marks sheet.now)
+        (rows_below (settings sheet.now).width (settings sheet.now).characters []
+        (map (mark_of sheet.now.labels.now) marks.now)))) }
+{
+    let mut place = marks.len();
+    while place > 0 {
+        place -= 1;
+        push_text(page, sheet, &marks[..place], &marks[place])?;
+    }
+    Ok(())
+}

@@ -1,9 +1,0 @@
-use Rattle.miette_layout.specs.steps.Framed.{corner_row}
-use Rattle.miette_layout.specs.views.ThemeSettings.{settings_of}
-use Rattle.miette_layout.proofs.Texting.{row_done}
-use Rattle.miette_layout.proofs.frame.push_bottom_row.Goals as goal
-
-pub returns : goal.returns
-returns g c =
-    row_done (corner_row (settings_of c.args.frame.now.theme.now c.args.frame.now.options) c.args.frame.now.number_width c.args.frame.now.theme.now.characters.lbot 4)
-    c.args.page.now c.push_corner.new.page c.end_row.new.self c.in_ok-push_corner.ensures c.in_ok-end_row.ensures

@@ -1,9 +1,0 @@
-use Rattle.miette_page.specs.views.Printouts.{◌⊕◌}
-use Rattle.std.proofs.Common.{◌≡◌, ◌++◌, map, drop}
-use Rattle.miette_page.specs.views.Told.{told}
-use Rattle.miette_layout.specs.rules.PrintedCells.{line_runs}
-use Rattle.miette_layout.specs.rules.Highlighted.{highlight_of}
-use Rattle.miette_layout.proofs.line.push_line_text.Given as goal
-
-abbrev pub invariant-loop-piece : goal.invariant-loop-piece
-invariant-loop-piece g l = l.page ⊕ told (line_runs (map highlight_of (drop l.piece-index l.pieces)) l.walk) ≡ l.fn.page ⊕ told (line_runs (map highlight_of l.pieces) l.fn.walk)

@@ -1,0 +1,248 @@
+-- Whole lines that follow each other, joined by where they begin, make the maximal runs.
+use Rattle.std.proofs.Common.{ℕ, ◌+◌, ◌-◌, ◌<◌, ◌≤◌, ◌≡◌, min, max, Bool, false, leb, List, [], ◌∷◌, length, map, refl, sym, ap, ap₂, ◌∙◌, ⊎_elim, ◌&&◌, ◌||◌, arith}
+use Rattle.std.specs.Prelude.{if◌then◌else◌}
+use Rattle.std.proofs.lemmas.Bool.{le-leb, lt-leb, leb-true, leb-false, cases_lt}
+use Rattle.std.proofs.lemmas.List.Elements.{filter_agree}
+use Rattle.std.specs.List.{range_with_len, filter, list_any, AllByRecursion}
+use Rattle.miette_newlines.specs.rules.Lines.{Line}
+use Rattle.miette_protocol.specs.rules.Reading.{Span}
+use Rattle.miette_lines.specs.rules.Groups.{joined, put_stretch, by_begin, stretches_from, joined_stretches}
+use Rattle.miette_snippets.specs.rules.Numbers.{runs}
+use Rattle.miette_lines.proofs.Sources.{lines, start_of, end_of, end_of_span}
+use Rattle.miette_snippets.proofs.Numbers.{filter-none}
+use Rattle.miette_lines.proofs.Numbers.{by_cases}
+use Rattle.miette_snippets.proofs.Lines.{line-mono, line-start, start-next, start-le-end, end-mono}
+use Rattle.miette_snippets.proofs.Data.{starts}
+use Rattle.miette_lines.proofs.Data.{cut}
+use Rattle.miette_snippets.proofs.Merging.{within, or_assoc, span_run}
+use Rattle.miette_lines.proofs.Merging.{swap_or}
+
+-- the numbers of the first and the last of some lines; the last need not be there
+pub record Block : Type 0 where
+  pub low : ℕ
+  pub high : ℕ
+
+-- the place of their bytes
+abbrev pub span_of : List ℕ → Block → Span
+span_of bytes b = record {
+  offset = start_of (lines bytes) b.low;
+  len = end_of (length bytes) (lines bytes) b.high - start_of (lines bytes) b.low;
+}
+
+pub record IsBlock (all : ℕ) (b : Block) : Type 0 where
+  pub order : b.low ≤ b.high
+  pub there : b.low < all
+
+abbrev pub AreBlocks : ℕ → List Block → Type 0
+AreBlocks all bs = AllByRecursion (IsBlock all) bs
+
+-- ---- where they begin and end
+
+starts_same : (bytes : List ℕ) (i k : ℕ) → i < length (lines bytes) → k < length (lines bytes) → leb (start_of (lines bytes) i) (start_of (lines bytes) k) ≡ leb i k
+starts_same bytes i k li lk =
+    by_cases {C = leb (start_of (lines bytes) i) (start_of (lines bytes) k) ≡ leb i k} (leb i k)
+    (λ t. rw t (le-leb _ _ (starts bytes i k li lk (leb-true i k t))))
+    (λ f. rw f (lt-leb _ _ (⊎_elim (λ lt. lt)
+    (λ ge. absurd (omega (
+      arith,
+      leb-false i k f,
+      line-mono (start_of (lines bytes) i) (start_of (lines bytes) k) (lines bytes) ge,
+      line-start 0 (length bytes) i (lines bytes) (cut bytes) li,
+      line-start 0 (length bytes) k (lines bytes) (cut bytes) lk,
+    )))
+    (cases_lt (start_of (lines bytes) k) (start_of (lines bytes) i)))))
+
+pub block_end : (bytes : List ℕ) (b : Block) → IsBlock (length (lines bytes)) b → end_of_span (span_of bytes b) ≡ end_of (length bytes) (lines bytes) b.high
+block_end bytes b h =
+    omega (arith, start-le-end 0 (length bytes) b.low (lines bytes) (cut bytes) h.there, end-mono 0 (length bytes) b.low b.high (lines bytes) (cut bytes) h.order)
+
+-- lines begin at or before the end of others where none is left out between them
+touch_start : (bytes : List ℕ) (low high : ℕ) → low < length (lines bytes) → low ≤ high + 1 → start_of (lines bytes) low ≤ end_of (length bytes) (lines bytes) high
+touch_start bytes low high lt le =
+    let n : ℕ = length bytes in
+    let ls : List Line = lines bytes in
+    ⊎_elim {C = start_of ls low ≤ end_of n ls high}
+    (λ more. let e : high + 1 ≡ low = omega arith in
+    let next : start_of ls (high + 1) ≡ end_of n ls high = start-next 0 n high ls (cut bytes) (omega arith) in
+    let same : start_of ls (high + 1) ≡ start_of ls low = ap (start_of ls) e in omega (arith, next, same))
+    (λ not_more. omega (arith, start-le-end 0 n low ls (cut bytes) lt, end-mono 0 n low high ls (cut bytes) not_more))
+    (cases_lt high low)
+
+apart_start : (bytes : List ℕ) (low high : ℕ) → low < length (lines bytes) → high + 1 < low → end_of (length bytes) (lines bytes) high < start_of (lines bytes) low
+apart_start bytes low high lt gap =
+    let n : ℕ = length bytes in
+    let ls : List Line = lines bytes in
+    let next : start_of ls (high + 1) ≡ end_of n ls high = start-next 0 n high ls (cut bytes) (omega arith) in
+    ⊎_elim {C = end_of n ls high < start_of ls low} (λ l. l)
+    (λ ge. absurd (omega (
+      arith,
+      line-mono (start_of ls low) (start_of ls (high + 1)) ls (omega (arith, next, ge)),
+      line-start 0 n low ls (cut bytes) lt,
+      line-start 0 n (high + 1) ls (cut bytes) (omega arith),
+    )))
+    (cases_lt (end_of n ls high) (start_of ls low))
+
+touches_same : (bytes : List ℕ) (a b : Block) → IsBlock (length (lines bytes)) a → IsBlock (length (lines bytes)) b →
+    leb (span_of bytes b).offset (end_of_span (span_of bytes a)) ≡ leb b.low (a.high + 1)
+touches_same bytes a b ha hb =
+    ap (leb (start_of (lines bytes) b.low)) (block_end bytes a ha)
+    ∙ by_cases {C = leb (start_of (lines bytes) b.low) (end_of (length bytes) (lines bytes) a.high) ≡ leb b.low (a.high + 1)} (leb b.low (a.high + 1))
+    (λ t. rw t (le-leb _ _ (touch_start bytes b.low a.high hb.there (leb-true b.low (a.high + 1) t))))
+    (λ f. rw f (lt-leb _ _ (apart_start bytes b.low a.high hb.there (leb-false b.low (a.high + 1) f))))
+
+-- ---- their order
+
+abbrev pub put_block : Block → List Block → List Block
+put_block b [] = b ∷ []
+put_block b (next ∷ bs) = if leb b.low next.low then b ∷ next ∷ bs else next ∷ put_block b bs
+
+abbrev pub blocks_by_begin : List Block → List Block
+blocks_by_begin [] = []
+blocks_by_begin (b ∷ bs) = put_block b (blocks_by_begin bs)
+
+put_there : (all : ℕ) (b : Block) (bs : List Block) → IsBlock all b → AreBlocks all bs → AreBlocks all (put_block b bs)
+put_there all b [] own h = (own, tt)
+put_there all b (next ∷ bs) own h =
+    by_cases {C = AreBlocks all (put_block b (next ∷ bs))} (leb b.low next.low) (λ t. rw t (own, h)) (λ f. rw f (h.0, put_there all b bs own h.1))
+
+pub ordered_there : (all : ℕ) (bs : List Block) → AreBlocks all bs → AreBlocks all (blocks_by_begin bs)
+ordered_there all [] h = tt
+ordered_there all (b ∷ bs) h = put_there all b (blocks_by_begin bs) h.0 (ordered_there all bs h.1)
+
+put_same : (bytes : List ℕ) (b : Block) (bs : List Block) → IsBlock (length (lines bytes)) b → AreBlocks (length (lines bytes)) bs →
+    put_stretch (span_of bytes b) (map (span_of bytes) bs) ≡ map (span_of bytes) (put_block b bs)
+put_same bytes b [] own h = refl
+put_same bytes b (next ∷ bs) own h =
+    let same : leb (start_of (lines bytes) b.low) (start_of (lines bytes) next.low) ≡ leb b.low next.low = starts_same bytes b.low next.low own.there h.0.there in
+    by_cases {C = put_stretch (span_of bytes b) (map (span_of bytes) (next ∷ bs)) ≡ map (span_of bytes) (put_block b (next ∷ bs))} (leb b.low next.low)
+    (λ t. rw (same, t) refl) (λ f. rw (same, f) (ap (λ r. span_of bytes next ∷ r) (put_same bytes b bs own h.1)))
+
+pub order_same : (bytes : List ℕ) (bs : List Block) → AreBlocks (length (lines bytes)) bs → by_begin (map (span_of bytes) bs) ≡ map (span_of bytes) (blocks_by_begin bs)
+order_same bytes [] h = refl
+order_same bytes (b ∷ bs) h =
+    ap (put_stretch (span_of bytes b)) (order_same bytes bs h.1) ∙ put_same bytes b (blocks_by_begin bs) h.0 (ordered_there (length (lines bytes)) bs h.1)
+
+-- each begins where the one before it does, or later
+abbrev pub AreAscending : ℕ → List Block → Type 0
+AreAscending from [] = Unit {0}
+AreAscending from (b ∷ bs) = (from ≤ b.low) × AreAscending b.low bs
+
+lower : (i k : ℕ) (bs : List Block) → i ≤ k → AreAscending k bs → AreAscending i bs
+lower i k [] le h = tt
+lower i k (b ∷ bs) le h = (omega (arith, h.0), h.1)
+
+put_ascends : (from : ℕ) (b : Block) (bs : List Block) → from ≤ b.low → AreAscending from bs → AreAscending from (put_block b bs)
+put_ascends from b [] le h = (le, tt)
+put_ascends from b (next ∷ bs) le h =
+    by_cases {C = AreAscending from (put_block b (next ∷ bs))} (leb b.low next.low)
+    (λ t. rw t (le, (leb-true b.low next.low t, h.1)))
+    (λ f. rw f (h.0, put_ascends next.low b bs (omega (arith, leb-false b.low next.low f)) h.1))
+
+pub ordered_ascends : (bs : List Block) → AreAscending 0 (blocks_by_begin bs)
+ordered_ascends [] = tt
+ordered_ascends (b ∷ bs) = put_ascends 0 b (blocks_by_begin bs) (omega arith) (ordered_ascends bs)
+
+put_any : (p : Block → Bool) (b : Block) (bs : List Block) → list_any p (put_block b bs) ≡ (p b || list_any p bs)
+put_any p b [] = refl
+put_any p b (next ∷ bs) =
+    by_cases {C = list_any p (put_block b (next ∷ bs)) ≡ (p b || list_any p (next ∷ bs))} (leb b.low next.low)
+    (λ t. rw t refl) (λ f. rw f (ap (λ x. p next || x) (put_any p b bs) ∙ swap_or (p next) (p b) (list_any p bs)))
+
+pub ordered_any : (p : Block → Bool) (bs : List Block) → list_any p (blocks_by_begin bs) ≡ list_any p bs
+ordered_any p [] = refl
+ordered_any p (b ∷ bs) = put_any p b (blocks_by_begin bs) ∙ ap (λ x. p b || x) (ordered_any p bs)
+
+-- ---- joined
+
+abbrev pub joined_block : Block → Block → Block
+joined_block a b = record { low = a.low; high = max a.high b.high }
+
+abbrev pub blocks_from : Block → List Block → List Block
+blocks_from before [] = before ∷ []
+blocks_from before (b ∷ bs) = if leb b.low (before.high + 1) then blocks_from (joined_block before b) bs else before ∷ blocks_from b bs
+
+abbrev pub joined_blocks : List Block → List Block
+joined_blocks [] = []
+joined_blocks (b ∷ bs) = blocks_from b bs
+
+join_there : (all : ℕ) (a b : Block) → IsBlock all a → IsBlock all (joined_block a b)
+join_there all a b h = record { order = omega (arith, h.order); there = h.there }
+
+pub from_there : (all : ℕ) (before : Block) (bs : List Block) → IsBlock all before → AreBlocks all bs → AreBlocks all (blocks_from before bs)
+from_there all before [] own h = (own, tt)
+from_there all before (b ∷ bs) own h =
+    by_cases {C = AreBlocks all (blocks_from before (b ∷ bs))} (leb b.low (before.high + 1))
+    (λ t. rw t (from_there all (joined_block before b) bs (join_there all before b own) h.1)) (λ f. rw f (own, from_there all b bs h.0 h.1))
+
+pub joined_there : (all : ℕ) (bs : List Block) → AreBlocks all bs → AreBlocks all (joined_blocks bs)
+joined_there all [] h = tt
+joined_there all (b ∷ bs) h = from_there all b bs h.0 h.1
+
+greater_end : (bytes : List ℕ) (i k : ℕ) → max (end_of (length bytes) (lines bytes) i) (end_of (length bytes) (lines bytes) k) ≡ end_of (length bytes) (lines bytes) (max i k)
+greater_end bytes i k =
+    let n : ℕ = length bytes in
+    let ls : List Line = lines bytes in
+    ⊎_elim {C = max (end_of n ls i) (end_of n ls k) ≡ end_of n ls (max i k)}
+    (λ lt. let e : max i k ≡ k = omega arith in let le : end_of n ls i ≤ end_of n ls k = end-mono 0 n i k ls (cut bytes) (omega arith) in rw e (omega arith))
+    (λ ge. let e : max i k ≡ i = omega arith in let le : end_of n ls k ≤ end_of n ls i = end-mono 0 n k i ls (cut bytes) ge in rw e (omega arith))
+    (cases_lt i k)
+
+pub join_same : (bytes : List ℕ) (a b : Block) → IsBlock (length (lines bytes)) a → IsBlock (length (lines bytes)) b →
+    joined (span_of bytes a) (span_of bytes b) ≡ span_of bytes (joined_block a b)
+join_same bytes a b ha hb =
+    ap₂ (λ x y. record { offset = start_of (lines bytes) a.low; len = max x y - start_of (lines bytes) a.low }) (block_end bytes a ha) (block_end bytes b hb)
+    ∙ ap (λ x. record { offset = start_of (lines bytes) a.low; len = x - start_of (lines bytes) a.low }) (greater_end bytes a.high b.high)
+
+from_same : (bytes : List ℕ) (before : Block) (bs : List Block) → IsBlock (length (lines bytes)) before → AreBlocks (length (lines bytes)) bs →
+    stretches_from (span_of bytes before) (map (span_of bytes) bs) ≡ map (span_of bytes) (blocks_from before bs)
+from_same bytes before [] own h = refl
+from_same bytes before (b ∷ bs) own h =
+    let same : leb (start_of (lines bytes) b.low) (end_of_span (span_of bytes before)) ≡ leb b.low (before.high + 1) = touches_same bytes before b own h.0 in
+    by_cases {C = stretches_from (span_of bytes before) (map (span_of bytes) (b ∷ bs)) ≡ map (span_of bytes) (blocks_from before (b ∷ bs))} (leb b.low (before.high + 1))
+    (λ t. rw (same, t) (ap (λ s. stretches_from s (map (span_of bytes) bs)) (join_same bytes before b own h.0)
+    ∙ from_same bytes (joined_block before b) bs (join_there (length (lines bytes)) before b own) h.1))
+    (λ f. rw (same, f) (ap (λ r. span_of bytes before ∷ r) (from_same bytes b bs h.0 h.1)))
+
+pub joined_same : (bytes : List ℕ) (bs : List Block) → AreBlocks (length (lines bytes)) bs → joined_stretches (map (span_of bytes) bs) ≡ map (span_of bytes) (joined_blocks bs)
+joined_same bytes [] h = refl
+joined_same bytes (b ∷ bs) h = from_same bytes b bs h.0 h.1
+
+-- ---- their numbers
+
+abbrev pub is_in_block : ℕ → Block → Bool
+is_in_block k b = leb b.low k && leb k b.high
+
+abbrev pub in_blocks : List Block → ℕ → Bool
+in_blocks bs k = list_any (is_in_block k) bs
+
+-- the numbers of the lines that are there
+abbrev pub numbers_of : ℕ → Block → List ℕ
+numbers_of all b = range_with_len b.low (min (b.high + 1) all - b.low)
+
+none-below : (from k : ℕ) (bs : List Block) → AreAscending from bs → k < from → in_blocks bs k ≡ false
+none-below from k [] h lt = refl
+none-below from k (b ∷ bs) h lt = let no : leb b.low k ≡ false = lt-leb b.low k (omega (arith, h.0)) in rw no (none-below b.low k bs h.1 (omega (arith, h.0)))
+
+pub merged : (all : ℕ) (before : Block) (bs : List Block) → IsBlock all before → AreBlocks all bs → AreAscending before.low bs →
+    map (numbers_of all) (blocks_from before bs) ≡ runs (filter (in_blocks (before ∷ bs)) (range_with_len 0 all))
+merged all before [] own h up =
+    sym (span_run before.low before.high all (λ k. false) own.order own.there (λ k a. refl) ∙ rw (filter-none (λ k. false) 0 all (λ k a b. refl)) refl)
+merged all before (b ∷ bs) own h up =
+    by_cases {C = map (numbers_of all) (blocks_from before (b ∷ bs)) ≡ runs (filter (in_blocks (before ∷ b ∷ bs)) (range_with_len 0 all))} (leb b.low (before.high + 1))
+    (λ t. rw t (merged all (joined_block before b) bs (join_there all before b own) h.1 (lower before.low b.low bs up.0 up.1)
+    ∙ ap runs (filter_agree _ _ (λ k. sym (or_assoc (is_in_block k before) (is_in_block k b) (in_blocks bs k)
+    ∙ ap (λ x. x || in_blocks bs k) (within before.low before.high b.low b.high k up.0 (leb-true b.low (before.high + 1) t)))) (range_with_len 0 all))))
+    (λ f. let gap : before.high + 1 < b.low = leb-false b.low (before.high + 1) f in
+    rw f (ap (λ r. numbers_of all before ∷ r) (merged all b bs h.0 h.1 up.1)
+    ∙ sym (span_run before.low before.high all (in_blocks (b ∷ bs)) own.order own.there
+    (λ k a. none-below b.low k (b ∷ bs) (omega arith, up.1) (omega arith)))))
+
+-- the blocks joined by where they begin hold the maximal runs of all their numbers
+joined_runs : (all : ℕ) (bs : List Block) → AreBlocks all bs → AreAscending 0 bs → map (numbers_of all) (joined_blocks bs) ≡ runs (filter (in_blocks bs) (range_with_len 0 all))
+joined_runs all [] h up = rw (filter-none (λ k. false) 0 all (λ k a b. refl)) refl
+joined_runs all (b ∷ bs) h up = merged all b bs h.0 h.1 up.1
+
+pub blocks_are_runs : (all : ℕ) (bs : List Block) → AreBlocks all bs → map (numbers_of all) (joined_blocks (blocks_by_begin bs)) ≡ runs (filter (in_blocks bs) (range_with_len 0 all))
+blocks_are_runs all bs h =
+    joined_runs all (blocks_by_begin bs) (ordered_there all bs h) (ordered_ascends bs)
+    ∙ ap runs (filter_agree _ _ (λ k. ordered_any (is_in_block k) bs) (range_with_len 0 all))

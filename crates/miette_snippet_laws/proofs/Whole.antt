@@ -1,0 +1,39 @@
+-- The rows of a whole snippet.
+use Rattle.std.proofs.Common.{ℕ, ◌+◌, ◌≤◌, ◌≡◌, List, [], ◌∷◌, length, arith}
+use Rattle.std.specs.Prelude.{decimal}
+use Rattle.std.specs.List.{AllByRecursion}
+use Rattle.miette_newlines.specs.rules.Lines.{Line}
+use Rattle.miette_protocol.specs.rules.Reading.{Contents}
+use Rattle.miette_lines.specs.rules.Answers.{Highlight, first_of, later_of}
+use Rattle.miette_lines.specs.rules.Contexts.{lines_of_contents}
+use Rattle.miette_lines.specs.rules.Labels.{DrawnLabel}
+use Rattle.miette_snippets.specs.rules.Drawing.{IsNarrow}
+use Rattle.miette_snippets.specs.rules.Gutters.{gutter_columns}
+use Rattle.miette_snippets.specs.rules.Frames.{SnippetSettings, width_of_lines}
+use Rattle.miette_snippets.specs.rules.SnippetLayout.{cells_of}
+use Rattle.miette_snippet_laws.specs.laws.Pictures.{LinesShow, BodyShows}
+use Rattle.miette_snippet_laws.proofs.Numerals.{decimal-mono}
+use Rattle.miette_snippet_laws.proofs.Beneath.{HasRoom, line_shows, line_begins, all_room}
+
+lines_show : (s : SnippetSettings) (w columns last : ℕ) (labels : List DrawnLabel) (source : List ℕ) (number : ℕ) (pieces : List (List Highlight)) (lines : List Line) → IsNarrow s.width s.characters →
+    number + length lines ≡ last + 1 → length (decimal last) ≤ w → AllByRecursion (λ line. HasRoom labels line columns) lines → LinesShow s w columns labels source number pieces lines
+lines_show s w columns last labels source number pieces [] n sum fits room = tt
+lines_show s w columns last labels source number pieces (line ∷ lines) n sum fits room =
+    let below : number ≤ last = omega (arith, sum) in
+    let own : length (decimal number) ≤ w = omega (arith, decimal-mono number last below, fits) in (
+      line_begins s w columns labels line number (cells_of s source line) (first_of pieces) n room.0 own,
+      line_shows s w columns labels line number (cells_of s source line) (first_of pieces) n room.0,
+      lines_show s w columns last labels source (number + 1) (later_of pieces) lines n (omega (arith, sum)) fits room.1,
+    )
+
+width-fits : (line : ℕ) (l : Line) (ls : List Line) → length (decimal (line + length (l ∷ ls))) ≤ width_of_lines line (l ∷ ls)
+width-fits line l ls = omega arith
+
+body_from : (s : SnippetSettings) (labels : List DrawnLabel) (source : List ℕ) (line : ℕ) (pieces : List (List Highlight)) (lines : List Line) → IsNarrow s.width s.characters →
+    LinesShow s (width_of_lines line lines) (gutter_columns labels lines) labels source (line + 1) pieces lines
+body_from s labels source line pieces [] n = tt
+body_from s labels source line pieces (l ∷ ls) n =
+    lines_show s (width_of_lines line (l ∷ ls)) (gutter_columns labels (l ∷ ls)) (line + length (l ∷ ls)) labels source (line + 1) pieces (l ∷ ls) n (omega arith) (width-fits line l ls) (all_room labels (l ∷ ls))
+
+pub body_shows : (s : SnippetSettings) (labels : List DrawnLabel) (source : List ℕ) (read : Contents) (pieces : List (List Highlight)) → IsNarrow s.width s.characters → BodyShows s labels source read pieces
+body_shows s labels source read pieces n = body_from s labels source read.line pieces (lines_of_contents read) n

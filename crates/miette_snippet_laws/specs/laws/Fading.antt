@@ -1,0 +1,28 @@
+-- SnippetSettings and answers without colours, and rows that are plain.
+use Rattle.std.specs.Prelude.{◌≡◌, []}
+use Rattle.std.specs.List.{AllByRecursion}
+use Rattle.miette_lines.specs.rules.Answers.{Answers}
+use Rattle.miette_snippets.specs.rules.Frames.{Styles, SnippetSettings}
+use Rattle.miette_page.specs.rules.Rows.{Row}
+use Rattle.miette_style.specs.rules.Styles.{plain}
+
+abbrev pub faded : Styles → Styles
+faded s = record {
+  error = plain;
+  warning = plain;
+  link = plain;
+  linum = plain;
+  highlights = [];
+}
+
+-- the same settings with every style plain
+abbrev pub colourless : SnippetSettings → SnippetSettings
+colourless s = record s { styles = faded s.styles }
+
+-- the same reads without a highlighter
+abbrev pub unhighlighted : Answers → Answers
+unhighlighted a = record a { pieces = [] }
+
+-- every run of a row is plain
+abbrev pub IsPlainRow : Row → Type 0
+IsPlainRow row = AllByRecursion (λ run. run.style ≡ plain) row

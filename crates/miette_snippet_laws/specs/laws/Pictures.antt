@@ -1,0 +1,94 @@
+-- What the rows of a line show at their columns, and what it means that a text hangs from its mark.
+use Rattle.std.specs.Prelude.{ℕ, ◌+◌, ◌<◌, ◌≡◌, ◌⊎◌, List, [], ◌∷◌, map, Some, ◌&&◌, if◌then◌else◌, nat_lt, nat_le}
+use Rattle.std.specs.List.{AllByRecursion}
+use Rattle.miette_page.specs.rules.Rows.{Piece, Row, pieces_of, drawn, code_at, Begins}
+use Rattle.miette_newlines.specs.rules.Lines.{Line}
+use Rattle.miette_snippets.specs.rules.PrintedCells.{line_runs}
+use Rattle.miette_lines.specs.rules.Cells.{Cell}
+use Rattle.miette_lines.specs.rules.Labels.{DrawnLabel, one_line}
+use Rattle.miette_snippets.specs.rules.Marks.{Mark, marks, anchor}
+use Rattle.miette_snippets.specs.rules.Drawing.{mark_code}
+use Rattle.miette_snippets.specs.rules.Frames.{SnippetSettings, number_width}
+use Rattle.miette_protocol.specs.rules.Reading.{Contents}
+use Rattle.miette_lines.specs.rules.Answers.{Highlight, first_of, later_of}
+use Rattle.miette_lines.specs.rules.Contexts.{lines_of_contents}
+use Rattle.miette_snippets.specs.rules.Gutters.{gutter_columns}
+use Rattle.miette_snippets.specs.rules.SnippetLayout.{line_rows, text_of_cells, cells_of}
+use Rattle.miette_style.specs.rules.Themes.{Characters}
+
+-- what stands at a column of the mark row
+abbrev pub mark_at : (ℕ → ℕ) → Characters → List Mark → ℕ → Piece
+mark_at width t [] column = drawn width 32
+mark_at width t (mark ∷ marks) column =
+    if nat_le mark.from column && nat_lt column mark.until then drawn width (mark_code t mark column)
+    else mark_at width t marks column
+
+-- where the last mark ends
+abbrev pub marks_end : ℕ → List Mark → ℕ
+marks_end reached [] = reached
+marks_end reached (mark ∷ marks) = marks_end mark.until marks
+
+-- A text hangs from a column: going down, there is vbar in that column until there is lbot, and the text begins four
+-- columns on.
+abbrev pub HangsFrom : Characters → ℕ → List Piece → List (List Piece) → Type 0
+HangsFrom t column part [] = ⊥
+HangsFrom t column part (row ∷ rows) =
+    ((code_at row column ≡ Some t.lbot) × Begins row (column + 4) part)
+    ⊎ ((code_at row column ≡ Some t.vbar) × HangsFrom t column part rows)
+
+-- the first part of the mark's text, if it has one, hangs from its anchor, with columns counted from this one on
+abbrev pub PartHangs : (ℕ → ℕ) → Characters → List (List Piece) → ℕ → List (List ℕ) → Type 0
+PartHangs width t rows column [] = Unit {0}
+PartHangs width t rows column (part ∷ parts) = HangsFrom t column (map (drawn width) part) rows
+
+abbrev pub Hangs : (ℕ → ℕ) → Characters → List (List Piece) → ℕ → Mark → Type 0
+Hangs width t rows start mark = PartHangs width t rows (start + anchor mark) mark.label.parts
+
+-- the marks of a line
+abbrev pub marks_of_line : List DrawnLabel → Line → List Cell → List Mark
+marks_of_line labels line cells = marks (text_of_cells cells line.text_end) (one_line line labels)
+
+-- where the text of the rows begins
+abbrev pub text_start : ℕ → ℕ → ℕ
+text_start w columns = w + 4 + columns
+
+-- what is said of the rows under a row
+abbrev pub Below : (List Row → Type 0) → List Row → Type 0
+Below P [] = ⊥
+Below P (row ∷ rows) = P rows
+
+-- The rows of a line with marks, under its number row: the mark row has each mark in its columns, and each text hangs
+-- in the rows under that.
+abbrev pub AreMarked : SnippetSettings → ℕ → List Mark → List Row → Type 0
+AreMarked s start marks [] = ⊥
+AreMarked s start marks (row ∷ rows) =
+    ((column : ℕ) → column < marks_end 0 marks →
+    code_at (pieces_of row) (start + column) ≡ Some (mark_at s.width s.characters marks column).code)
+    × AllByRecursion (Hangs s.width s.characters (map pieces_of rows) start) marks
+
+abbrev pub ShowMarks : SnippetSettings → ℕ → List Mark → List Row → Type 0
+ShowMarks s start [] rows = Unit {0}
+ShowMarks s start (mark ∷ marks) rows = Below (AreMarked s start (mark ∷ marks)) rows
+
+-- the text of a number row begins at a column
+abbrev pub HasText : ℕ → Row → List Row → Type 0
+HasText start text [] = ⊥
+HasText start text (row ∷ rows) = Begins (pieces_of row) start (pieces_of text)
+
+-- The rows of lines, numbered from here on: in each line's rows the text begins at one column, and the texts of the
+-- labels that lie on it alone hang from their marks.
+abbrev pub LinesShow : SnippetSettings → ℕ → ℕ → List DrawnLabel → List ℕ → ℕ → List (List Highlight) → List Line →
+    Type 0
+LinesShow s w columns labels source number pieces [] = Unit {0}
+LinesShow s w columns labels source number pieces (line ∷ lines) =
+    HasText (text_start w columns) (line_runs (first_of pieces) (cells_of s source line))
+    (line_rows s w columns labels line number (cells_of s source line) (first_of pieces))
+    × ShowMarks s (text_start w columns) (marks_of_line labels line (cells_of s source line))
+    (line_rows s w columns labels line number (cells_of s source line) (first_of pieces))
+    × LinesShow s w columns labels source (number + 1) (later_of pieces) lines
+
+-- that of a snippet's read
+abbrev pub BodyShows : SnippetSettings → List DrawnLabel → List ℕ → Contents → List (List Highlight) → Type 0
+BodyShows s labels source read pieces =
+    LinesShow s (number_width read) (gutter_columns labels (lines_of_contents read)) labels source (read.line + 1)
+    pieces (lines_of_contents read)

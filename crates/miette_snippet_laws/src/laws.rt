@@ -1,0 +1,86 @@
+//! What holds of the rows of snippets, as laws of their definitions.
+
+ghost use Rattle.std.specs.Prelude.{◌≡◌, ◌≤◌, ℕ, List, ◌∷◌, [], Some, Bool, map, IfSome};
+ghost use Rattle.std.specs.Option.{option_map};
+ghost use Rattle.std.specs.List.{AllByRecursion, concat};
+ghost use Rattle.miette_snippets.specs.rules.Numbers.{runs, IsRun, AreParted};
+ghost use Rattle.miette_protocol.specs.views.Meaning.{Label};
+ghost use Rattle.miette_protocol.specs.rules.Reading.{Source, Contents, Span};
+ghost use Rattle.miette_snippet_laws.specs.laws.Belonging.{HasOneGroup};
+ghost use Rattle.miette_snippet_laws.specs.laws.Clean.{AreCleanDrawings, IsCleanLabel, IsCleanRow, IsCleanSource};
+ghost use Rattle.miette_snippet_laws.specs.laws.Fading.{IsPlainRow, colourless, unhighlighted};
+ghost use Rattle.miette_page.specs.rules.Rows.{pieces_of};
+ghost use Rattle.miette_lines.specs.rules.Answers.{Answers, AlwaysReads, Highlight, NoneFails};
+ghost use Rattle.miette_lines.specs.rules.Around.{HaveContext, group_context};
+ghost use Rattle.miette_lines.specs.rules.Groups.{AreAccepted, in_order, groups_of, lines_of_groups};
+ghost use Rattle.miette_snippets.specs.rules.Snippets.{snippets};
+ghost use Rattle.miette_lines.specs.rules.Labels.{DrawnLabel};
+ghost use Rattle.miette_snippets.specs.rules.Marks.{Text, marks, anchor, marks_at, AreApart};
+ghost use Rattle.miette_snippets.specs.rules.Drawing.{IsNarrow};
+ghost use Rattle.miette_snippets.specs.rules.Frames.{SnippetSettings};
+ghost use Rattle.miette_snippets.specs.rules.SnippetLayout.{snippet_rows};
+ghost use Rattle.miette_snippet_laws.specs.laws.Pictures.{BodyShows};
+ghost use Rattle.miette_snippets.specs.rules.Shown.{framed_runs};
+
+/// Where no read fails, and there is at least one line of context for each label, the lines that the groups of labels
+/// show are the maximal runs of all lines that lie in the context of a label.
+pub fn groups_are_runs()
+    ensures { (context : ℕ) (source : Source) (fails : List Bool) (labels : List Label) → HaveContext context labels →
+        NoneFails fails →
+        lines_of_groups (group_context context (in_order labels)) source
+        (groups_of context source fails (in_order labels)) ≡ snippets context source.bytes labels }
+{}
+
+/// The runs of a list hold its numbers, in order and once. Each is consecutive, and none goes on into the next.
+pub fn runs_are_maximal()
+    ensures { (ks : List ℕ) → (concat (runs ks) ≡ ks) × AllByRecursion IsRun (runs ks) × AreParted (runs ks) }
+{}
+
+/// Where labels have their own numbers of context lines, each belongs to the one group that holds the data of its read.
+pub fn labels_have_one_group()
+    ensures { (context : ℕ) (source : Source) (labels : List Label) → AreAccepted source.bytes labels →
+        AllByRecursion (HasOneGroup context source labels) labels }
+{}
+
+/// Where the source always reads and accepts the labels, and there is at least one line of context for each label,
+/// the rows of the snippets are those of the maximal runs of the shown lines: each line once, with its number and its
+/// own cells, each run in a frame.
+pub fn snippets_draw_runs()
+    ensures { (s : SnippetSettings) (source : Source) (labels : List Label) (answers : Answers) →
+        HaveContext s.context labels → AreAccepted source.bytes labels → AlwaysReads answers →
+        snippet_rows s source labels answers ≡ Some (framed_runs s source labels answers) }
+{}
+
+/// The marks of a line's labels are not empty, and each begins where the one before it ends, or later. So an anchor
+/// lies in its own mark and in no other.
+pub fn marks_are_apart()
+    ensures apart { (text : Text) (labels : List DrawnLabel) → AreApart 0 (marks text labels) }
+    ensures anchors { (text : Text) (labels : List DrawnLabel) →
+        AllByRecursion (λ mark. marks_at (anchor mark) (marks text labels) ≡ mark ∷ []) (marks text labels) }
+{}
+
+/// In the rows of each line of a snippet the text begins at one column, the mark row has the marks in their columns
+/// counted from there, and each text hangs from its own mark's anchor.
+pub fn texts_hang()
+    ensures { (s : SnippetSettings) (labels : List DrawnLabel) (source : List ℕ) (read : Contents)
+        (pieces : List (List Highlight)) →
+        IsNarrow s.width s.characters → BodyShows s labels source read pieces }
+{}
+
+/// In plain styles and without a highlighter's pieces the snippets have the same rows of the same characters in the
+/// same columns, and all of them are plain.
+pub fn rows_fade()
+    ensures same { (s : SnippetSettings) (source : Source) (labels : List Label) (answers : Answers) →
+        option_map (map pieces_of) (snippet_rows (colourless s) source labels (unhighlighted answers))
+        ≡ option_map (map pieces_of) (snippet_rows s source labels answers) }
+    ensures plain { (s : SnippetSettings) (source : Source) (labels : List Label) (answers : Answers) →
+        IfSome (snippet_rows (colourless s) source labels (unhighlighted answers)) (AllByRecursion IsPlainRow) }
+{}
+
+/// Where the characters that are drawn, the source's name and bytes, and the labels' texts hold no escape, the rows
+/// of the snippets hold none, whatever the reads and a highlighter answer.
+pub fn rows_hold_no_escape()
+    ensures { (s : SnippetSettings) (source : Source) (labels : List Label) (answers : Answers) →
+        AreCleanDrawings s.characters → IsCleanSource source → AllByRecursion IsCleanLabel labels →
+        IfSome (snippet_rows s source labels answers) (AllByRecursion IsCleanRow) }
+{}

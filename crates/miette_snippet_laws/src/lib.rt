@@ -1,0 +1,4 @@
+//! What holds of the rules of snippets.
+#![tactic(auto)]
+
+pub mod laws;

@@ -1,0 +1,10 @@
+pub mod Bodies
+pub mod Bridge
+pub mod Data
+pub mod Ends
+pub mod Joining
+pub mod Lines
+pub mod Merging
+pub mod Numbers
+pub mod Segments
+pub mod Telling

@@ -1,0 +1,11 @@
+-- What users rely on, in the words of docs/RULES.md.
+pub mod Drawing
+pub mod Frames
+pub mod Gutters
+pub mod Highlighted
+pub mod Marks
+pub mod Numbers
+pub mod PrintedCells
+pub mod Shown
+pub mod SnippetLayout
+pub mod Snippets

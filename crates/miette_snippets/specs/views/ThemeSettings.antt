@@ -1,0 +1,27 @@
+-- The settings of a theme and options.
+use Rattle.miette_style.specs.declared.theme.ThemeStyles.{ThemeStyles}
+use Rattle.miette_style.specs.declared.theme.GraphicalTheme.{GraphicalTheme}
+use Rattle.miette_snippets.specs.declared.options.LayoutOptions.{LayoutOptions}
+use Rattle.miette_snippets.specs.rules.Frames.{Styles, SnippetSettings}
+use Rattle.miette_lines.specs.views.Given.{width_of}
+use Rattle.miette_style.specs.rules.Themes.{characters_of}
+
+abbrev pub styles_of : ThemeStyles → Styles
+styles_of it = record {
+  error = it.error;
+  warning = it.warning;
+  link = it.link;
+  linum = it.linum;
+  highlights = it.highlights.items;
+}
+
+-- the settings of a theme and options
+abbrev pub settings_of : GraphicalTheme → LayoutOptions → SnippetSettings
+settings_of theme options = record {
+  characters = characters_of theme.characters;
+  styles = styles_of theme.styles;
+  width = width_of;
+  tab = options.tab_width;
+  context = options.context_lines;
+  primary_start = options.primary_start;
+}
