@@ -26,10 +26,10 @@ layout_settings s = record {
 }
 
 -- a run's characters, as their bytes read
-abbrev pub run_text : layout.Fragment → List ℕ
+abbrev pub run_text : layout.Run → List ℕ
 run_text run = chars (encode_utf8_all (map (λ p. p.code) run.pieces))
 
-abbrev pub run_of_row : layout.Fragment → Fragment
+abbrev pub run_of_row : layout.Run → Fragment
 run_of_row run = Styled run.style (run_text run)
 
 abbrev pub runs_of_row : layout.Row → List Fragment
