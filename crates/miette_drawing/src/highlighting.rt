@@ -1,7 +1,8 @@
 //! What a highlighter answers for the lines of a snippet.
 
 ghost use Rattle.std.specs.Prelude.{◌≡◌, ℕ, List, [], ◌∷◌, true, map, IfOk, if◌then◌else◌};
-ghost use Rattle.miette_snippets.specs.rules.Highlighted.{AreCallsOn, ArePieces, decoded_text, highlight_of, leaves_plain};
+ghost use Rattle.miette_snippets.specs.rules.Highlighted.{AreCallsOn, ArePieces, decoded_text};
+ghost use Rattle.miette_snippets.specs.rules.Highlighted.{highlight_of, leaves_plain};
 ghost use Rattle.miette_style.specs.rules.Asked.{Leads, asked, listed, restarted};
 ghost use Rattle.miette_style.specs.rules.Pieces.{CutsLine, plain_pieces};
 

@@ -21,6 +21,9 @@ use miette_style::highlight::Highlighter;
 use miette_text::runs::output::Output;
 use miette_tree::report::Report;
 
+// The bytes of a small report, for which room is taken at once.
+const SMALL: usize = 256;
+
 /// Appends the causes of the outermost report, where they are shown.
 fn push_root_causes<D: Diagnostic, S: SourceCode, H: Highlighter>(
     pen: &mut Pen<H>,
@@ -58,6 +61,7 @@ pub fn report_output<D: Diagnostic, S: SourceCode, H: Highlighter>(
     ensures stays { leaves_plain H.is_blank pen.new.highlighter ≡ leaves_plain H.is_blank pen.old.highlighter }
 {
     let mut text = Output::for_text(pen.alloc);
+    text.reserve(' ', SMALL)?;
     push_header_of(layout, report, &mut text)?;
     push_message_of(pen.alloc, layout, report, &mut text)?;
     push_root_causes(pen, layout, report, &mut text)?;

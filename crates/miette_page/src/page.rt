@@ -40,7 +40,8 @@ impl<O: WriteStyled> Model for Page<O> {
 
 // What stands before the first character of a run.
 fn start_run<O: WriteStyled>(out: &mut O, style: Style, begun: bool) -> Result<(), AllocError>
-    ensures { OnOk result (O.written out.new ≡ started (record { text = O.written out.old; style = style; begun = begun })) }
+    ensures { OnOk result (O.written out.new
+        ≡ started (record { text = O.written out.old; style = style; begun = begun })) }
 {
     if begun || style.is_plain() {
         return Ok(());
@@ -50,7 +51,8 @@ fn start_run<O: WriteStyled>(out: &mut O, style: Style, begun: bool) -> Result<(
 
 // What stands behind the last character of a run.
 fn end_run<O: WriteStyled>(out: &mut O, style: Style, begun: bool) -> Result<(), AllocError>
-    ensures { OnOk result (O.written out.new ≡ ended (record { text = O.written out.old; style = style; begun = begun })) }
+    ensures { OnOk result (O.written out.new
+        ≡ ended (record { text = O.written out.old; style = style; begun = begun })) }
 {
     if !begun || style.is_plain() {
         return Ok(());

@@ -1,7 +1,7 @@
 //! The picture of a report, by a handler's settings.
 
-ghost use Rattle.std.specs.Prelude.{◌≡◌, ◌++◌, ℕ, List, [], OnErr, OnOk, false, true, chars, string_bytes, encode_utf8_all};
-ghost use Rattle.std.specs.Prelude.{option_map};
+ghost use Rattle.std.specs.Prelude.{◌≡◌, ◌++◌, ℕ, List, [], OnErr, OnOk, false, true, chars, string_bytes};
+ghost use Rattle.std.specs.Prelude.{encode_utf8_all, option_map};
 ghost use Rattle.std.specs.List.{AllByRecursion};
 ghost use Rattle.miette_graphical.specs.rules.Answered.{Appends, AppendsAsked, IsTextOf};
 ghost use Rattle.miette_graphical.specs.rules.Answers.{unlisted};

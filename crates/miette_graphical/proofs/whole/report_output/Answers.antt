@@ -1,4 +1,4 @@
-use Rattle.std.proofs.Common.{◌≡◌, subst, option_map, false, rules, List}
+use Rattle.std.proofs.Common.{◌≡◌, ◌∙◌, subst, option_map, false, rules, List}
 use Rattle.miette_tree.specs.rules.Tree.{source_of}
 use Rattle.miette_tree.specs.views.Report.{tree_of}
 use Rattle.miette_style.specs.rules.Asked.{Call, Leads}
@@ -36,5 +36,5 @@ returns-clause-ok g c =
     let below : AppendsOne (IsBelow drawn_rows s blank (λ calls. Leads mid calls now) (source_of value) value) caused drawn =
     subst (λ o. AppendsOne (IsBelow drawn_rows s blank (λ calls. Leads mid calls now) o value) caused drawn) c.source_code.ensures
     (subst (λ b. AppendsOne (IsBelow drawn_rows s b (λ calls. Leads mid calls now) source value) caused drawn) c.push_root_causes.ensures.stays c.in_ok-push_below.ensures.ok) in
-    report_whole drawn_rows s blank begun mid now value c.for_text-text.result c.push_header_of.new.out c.push_message_of.new.out caused drawn c.push_footer.new.out
-    c.for_text-text.ensures c.in_ok-push_header_of.ensures.text c.in_ok-push_message_of.ensures c.in_ok-push_root_causes.ensures.ok below c.in_ok-push_footer.ensures
+    report_whole drawn_rows s blank begun mid now value c.reserve.new.self c.push_header_of.new.out c.push_message_of.new.out caused drawn c.push_footer.new.out
+    (c.in_ok-reserve.ensures ∙ c.for_text-text.ensures) c.in_ok-push_header_of.ensures.text c.in_ok-push_message_of.ensures c.in_ok-push_root_causes.ensures.ok below c.in_ok-push_footer.ensures
