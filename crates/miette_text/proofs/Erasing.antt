@@ -1,7 +1,7 @@
 -- The laws: what is wrapped from tame parts is tame, and deleting colours commutes with it.
-use Rattle.std.proofs.Common.{◌≡◌, ℕ, zero, suc, List, [], ◌∷◌, ◌++◌, take, refl, sym, ap, ap₂, ◌∙◌, arith, append_assoc}
+use Rattle.std.proofs.Common.{◌≡◌, ℕ, zero, suc, List, [], ◌∷◌, ◌++◌, take, refl, sym, ap, ap₂, ◌∙◌, arith}
 use Rattle.std.proofs.lemmas.Bool.Decides.{nat_tests}
-use Rattle.miette_text.specs.rules.Sequences.{Token, Character, Sequence, tokens, tokens_behind, spell, spelling, erase, sequence_len}
+use Rattle.miette_text.specs.rules.Sequences.{Token, Character, Sequence, tokens, tokens_behind, spell, erase, sequence_len}
 use Rattle.miette_text.specs.rules.Tame.{State, Free, Escaped, Opened, Waiting, Broken, step, state_behind, AreTame, IsTame, colourless, AllTame}
 use Rattle.miette_text.specs.rules.Wrapping.{Plan, map_indents, wrapped_tokens, wrapped}
 use Rattle.miette_text.proofs.Erased.{erased}

@@ -31,3 +31,5 @@ pub mod Growing
 pub mod Painting
 pub mod Settled
 pub mod Outputs
+pub mod SingleRows
+pub mod Fitting

@@ -2,3 +2,4 @@
 pub mod Ends
 pub mod WholeText
 pub mod Feeds
+pub mod Fitting

@@ -11,16 +11,16 @@ pub(crate) mod cells;
 mod colours;
 pub(crate) mod columns;
 mod cut;
-pub(crate) mod tags;
 pub mod output;
 pub mod reading;
 mod sequences;
 pub(crate) mod sign;
 pub(crate) mod sink;
+pub(crate) mod tags;
 
 use crate::runs::colours::begun_style;
 use crate::runs::sequences::sequence_at;
-use crate::runs::sign::{Tag, Sign, shared};
+use crate::runs::sign::{Sign, Tag, shared};
 use miette_style::style::Style;
 use std::alloc::{AllocError, Global};
 use std::marker::Model;

@@ -24,6 +24,7 @@ ghost use Rattle.miette_text.specs.views.Plans.{cuts_hyphens, options_plan, prin
 
 pub mod cutting;
 mod ends;
+pub mod fitting;
 pub mod laws;
 mod lines;
 mod whole;

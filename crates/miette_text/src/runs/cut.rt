@@ -5,8 +5,8 @@ ghost use Rattle.miette_text.specs.rules.Cutting.{cut_end, cut_front};
 ghost use Rattle.miette_text.specs.steps.Feeds.{capped, feeds_len, kept_len, lowered};
 
 use crate::runs::Runs;
-use crate::runs::tags::{are_colours, upto_len};
 use crate::runs::sign::Tag;
+use crate::runs::tags::{are_colours, upto_len};
 
 // How many line feeds at the front have only colours before and between them.
 fn feeds_len(codes: &[char], tags: &[Tag]) -> usize

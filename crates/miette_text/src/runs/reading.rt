@@ -9,8 +9,8 @@ ghost use Rattle.miette_text.specs.rules.Wrapping.{columns_of};
 use crate::runs::cells::push_all;
 use crate::runs::columns::token_columns;
 use crate::runs::sequences::{sequence_at, stays_open};
-use crate::runs::sign::{Tag, Sign};
-use crate::runs::{RunsSlice, Runs, is_whole};
+use crate::runs::sign::{Sign, Tag};
+use crate::runs::{Runs, RunsSlice, is_whole};
 use std::alloc::{AllocError, Global};
 
 // A character for each byte.

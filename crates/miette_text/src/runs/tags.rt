@@ -6,7 +6,7 @@ ghost use Rattle.miette_text.specs.rules.Sequences.{is_parameter};
 ghost use Rattle.miette_text.specs.rules.Tame.{is_colour, is_colour_end};
 ghost use Rattle.miette_text.specs.views.Woven.{beyond, sign_text, upto};
 
-use crate::runs::sign::{Tag, Sign};
+use crate::runs::sign::{Sign, Tag};
 
 /// How many tags at the front stand before the character at a place.
 pub(crate) fn upto_len(at: usize, tags: &[Tag]) -> usize

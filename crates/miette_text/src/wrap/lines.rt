@@ -7,7 +7,7 @@ ghost use Rattle.miette_text.specs.views.Woven.{cells_at, left_at, woven};
 ghost use Rattle.miette_text.specs.rules.Wrapping.{cell_tokens, joined, piece_rows, pieces, text_rows, trimmed};
 
 use crate::runs::RunsSlice;
-use crate::runs::cells::{push_all, push_cells, push_tags, push_signs};
+use crate::runs::cells::{push_all, push_cells, push_signs, push_tags};
 use crate::runs::sink::Sink;
 use crate::wrap::ends::{Cuts, row_len};
 use std::alloc::AllocError;

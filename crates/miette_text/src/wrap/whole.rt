@@ -9,8 +9,8 @@ ghost use Rattle.miette_text.specs.rules.Wrapping.{all_white, pieces, trimmed, w
 
 use crate::runs::RunsSlice;
 use crate::runs::cells::{push_all, push_cells, push_tags};
-use crate::runs::tags::upto_len;
 use crate::runs::sink::Sink;
+use crate::runs::tags::upto_len;
 use crate::wrap::lines::{bare_len, line_len};
 use std::alloc::AllocError;
 

@@ -1,0 +1,146 @@
+//! Texts that stand in one row as they are.
+
+ghost use Rattle.std.specs.Prelude.{◌≡◌, ◌++◌, ℕ, List, IfOk, chars, false, true};
+ghost use Rattle.miette_text.specs.rules.Sequences.{spell};
+ghost use Rattle.miette_text.specs.rules.Wrapping.{Plan, wrapped};
+ghost use Rattle.miette_text.specs.steps.Ends.{all_spaces, plain_cells};
+ghost use Rattle.miette_text.specs.steps.Fitting.{all_printable, fits_row, is_shown};
+
+use crate::runs::Runs;
+use crate::runs::cells::push_all;
+use crate::runs::columns::{char_columns, token_columns};
+use crate::runs::output::Output;
+use crate::runs::reading::is_settled;
+use std::alloc::AllocError;
+
+// Whether all bytes are ASCII characters from the space to the tilde: each is a character of one column.
+fn is_printable(bytes: &[u8]) -> bool
+    ensures { result ≡ all_printable bytes.now }
+{
+    for byte in bytes {
+        if *byte < b' ' || b'~' < *byte {
+            return false;
+        }
+    }
+    true
+}
+
+fn all_spaces(bytes: &[u8]) -> bool
+    ensures { result ≡ all_spaces (plain_cells bytes.now) }
+{
+    for byte in bytes {
+        if *byte != b' ' {
+            return false;
+        }
+    }
+    true
+}
+
+// Whether a text is a line without sequences that has room, and ends with no space: character by character.
+fn walk_fits(room: usize, text: &str) -> bool
+    ensures { result ≡ fits_row room (chars text.now) }
+{
+    let mut left = room;
+    let mut bare = true;
+    for c in text.chars() {
+        let columns = char_columns(c);
+        if c == '\u{1B}' || c == '\n' || left < columns {
+            return false;
+        }
+        left -= columns;
+        bare = c != ' ';
+    }
+    bare
+}
+
+// The same; the columns of printable ASCII are its bytes.
+fn fits_row(room: usize, text: &str) -> bool
+    ensures { result ≡ fits_row room (chars text.now) }
+{
+    let bytes = text.as_bytes();
+    if !is_printable(bytes) {
+        return walk_fits(room, text);
+    }
+    match bytes {
+        [] => true,
+        [.., last] => *last != b' ' && bytes.len() <= room,
+    }
+}
+
+// Whether a text is a line without sequences that isn't white: character by character.
+fn walk_shown(text: &str) -> bool
+    ensures { result ≡ is_shown (chars text.now) }
+{
+    let mut shown = false;
+    for c in text.chars() {
+        if c == '\u{1B}' || c == '\n' {
+            return false;
+        }
+        shown = shown || !c.is_whitespace();
+    }
+    shown
+}
+
+// The same; printable ASCII is white where it is spaces.
+fn is_shown(text: &str) -> bool
+    ensures { result ≡ is_shown (chars text.now) }
+{
+    let bytes = text.as_bytes();
+    if is_printable(bytes) {
+        return !all_spaces(bytes);
+    }
+    walk_shown(text)
+}
+
+// Whether a text stands in one row behind an indent, and both as they are.
+fn fits(wraps: bool, width: usize, first: &Runs, text: &str) -> Result<bool, AllocError>
+    ensures { IfOk result (λ fits. fits ≡ true → (p : Plan (List ℕ)) →
+        p.wraps ≡ wraps → p.room ≡ width → p.first ≡ spell first.now →
+        wrapped p (chars text.now) ≡ spell first.now ++ chars text.now) }
+{
+    let indent = first.parts();
+    if !is_settled(indent) {
+        return Ok(false);
+    }
+    if !wraps {
+        return Ok(is_shown(text));
+    }
+    let columns = token_columns(indent)?;
+    let Some(room) = width.checked_sub(columns) else {
+        return Ok(false);
+    };
+    Ok(fits_row(room, text))
+}
+
+/// Appends a text behind an indent where both stand in one row as they are, and says whether; where they don't,
+/// nothing is appended. What is appended is what `wrap` appends under any plan of this width and first indent: neither
+/// the other indent nor cuts have a say then. No memory is taken but for what is appended.
+///
+/// They do where the text holds no escape and no line feed, the indent's signs are whole and no other character of it
+/// is an escape, and
+///
+/// - if rows are filled, both together have no more columns than `width`, and the text doesn't end with a space
+/// - if not, a character of the text isn't white
+///
+/// # Errors
+/// `AllocError` where memory is refused, or the indent has more columns than a `usize` counts. What `out` holds is then
+/// open.
+pub fn push_fitting(
+    wraps: bool,
+    width: usize,
+    first: &Runs,
+    text: &str,
+    out: &mut Output,
+) -> Result<bool, AllocError>
+    ensures fits { IfOk result (λ fits. fits ≡ true → (p : Plan (List ℕ)) →
+        p.wraps ≡ wraps → p.room ≡ width → p.first ≡ spell first.now →
+        out.new ≡ out.old ++ wrapped p (chars text.now)) }
+    ensures otherwise { IfOk result (λ fits. fits ≡ false → out.new ≡ out.old) }
+{
+    let fits = fits(wraps, width, first, text)?;
+    if fits {
+        push_all(out, first.parts())?;
+        out.push_str(text)?;
+    }
+    Ok(fits)
+}
