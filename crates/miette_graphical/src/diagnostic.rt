@@ -10,12 +10,11 @@ ghost use Rattle.miette_text.specs.rules.Runs as runs;
 ghost use Rattle.miette_style.specs.rules.Codes.{is_nil};
 
 use crate::header::{push_header, severity_title};
-use crate::indents::{Branch, push_message, push_under_arrow};
+use crate::indents::{Branch, push_message, push_text_under_arrow};
 use crate::settings::{Layout, severity_style};
 use miette_protocol::protocol::{Diagnostic, Severity};
 use miette_protocol::source::SourceCode;
 use miette_text::runs::output::Output;
-use miette_text::runs::reading::read_text;
 use miette_tree::report::Report;
 use std::alloc::{AllocError, Global};
 
@@ -96,8 +95,7 @@ pub fn push_cause_texts(
             outer,
             is_last: is_nil(more),
         };
-        let cause = read_text(alloc, text.as_str())?;
-        push_under_arrow(alloc, layout, branch, &cause, out)?;
+        push_text_under_arrow(alloc, layout, branch, text.as_str(), out)?;
         rest = more;
     }
     Ok(())

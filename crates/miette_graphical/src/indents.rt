@@ -1,6 +1,6 @@
 //! What stands in front of rows, and text wrapped under it.
 
-ghost use Rattle.std.specs.Prelude.{◌≡◌, ◌++◌, ◌-◌, IfOk, OnOk, chars, option_map};
+ghost use Rattle.std.specs.Prelude.{◌≡◌, ◌++◌, ◌-◌, ℕ, List, IfOk, OnOk, chars, false, option_map, true};
 ghost use Rattle.miette_graphical.specs.views.Modes.{splits};
 ghost use Rattle.miette_graphical.specs.views.SettingsView.{settings_of};
 ghost use Rattle.miette_graphical.specs.rules.Indents as indents;
@@ -15,6 +15,7 @@ use miette_protocol::protocol::Severity;
 use miette_text::runs::Runs;
 use miette_text::runs::output::Output;
 use miette_text::runs::reading::{columns_of, read_text};
+use miette_text::wrap::fitting::push_fitting;
 use miette_text::wrap::{Plan, cuts_hyphens, wrap};
 use std::alloc::{AllocError, Global};
 
@@ -57,6 +58,26 @@ fn push_wrapped(
 {
     wrap(alloc, plan, text, out)?;
     out.push('\n')
+}
+
+// Appends a text behind an indent, and a line feed, where both stand in one row as they are; says whether.
+fn push_row(
+    layout: Layout<'_>,
+    first: &Runs,
+    text: &str,
+    out: &mut Output,
+) -> Result<bool, AllocError>
+    ensures fits { IfOk result (λ fits. fits ≡ true → (further : List ℕ) → out.new ≡ out.old
+        ++ (indents.wrapped_behind (settings_of layout.entry) (spell first.now) further (chars text.now)
+        ++ parts.line_feed)) }
+    ensures otherwise { IfOk result (λ fits. fits ≡ false → out.new ≡ out.old) }
+{
+    let width = layout.width.saturating_sub(2);
+    if !push_fitting(layout.wraps, width, first, text, out)? {
+        return Ok(false);
+    }
+    out.push('\n')?;
+    Ok(true)
 }
 
 // `  × `
@@ -154,6 +175,26 @@ pub fn push_under_arrow(
     push_wrapped(alloc, plan(layout, &first, &further), text, out)
 }
 
+/// Appends a cause that is a text under its arrow.
+pub fn push_text_under_arrow(
+    alloc: Global,
+    layout: Layout<'_>,
+    branch: Branch,
+    text: &str,
+    out: &mut Output,
+) -> Result<(), AllocError>
+    ensures { OnOk result (out.new ≡ out.old ++ parts.under_arrow (settings_of layout.entry) branch.outer branch.is_last
+        (chars text.now)) }
+{
+    let first = arrow_indent(alloc, layout, branch)?;
+    if push_row(layout, &first, text, out)? {
+        return Ok(());
+    }
+    let further = stem_indent(alloc, layout, branch)?;
+    let text = read_text(alloc, text)?;
+    push_wrapped(alloc, plan(layout, &first, &further), &text, out)
+}
+
 /// Appends a message behind its icon.
 pub fn push_message(
     alloc: Global,
@@ -167,6 +208,9 @@ pub fn push_message(
         (indents.bar_indent (settings_of layout.entry) severity) (chars message.now) ++ parts.line_feed)) }
 {
     let first = icon_indent(alloc, layout, severity)?;
+    if push_row(layout, &first, message, out)? {
+        return Ok(());
+    }
     let further = bar_indent(alloc, layout, severity)?;
     let message = read_text(alloc, message)?;
     push_wrapped(alloc, plan(layout, &first, &further), &message, out)
@@ -204,6 +248,9 @@ pub fn push_help(
         return Ok(());
     };
     let first = help_indent(alloc, layout)?;
+    if push_row(layout, &first, help, out)? {
+        return Ok(());
+    }
     let further = blank_indent(alloc, &[' '; 8])?;
     let help = read_text(alloc, help)?;
     push_wrapped(alloc, plan(layout, &first, &further), &help, out)
@@ -217,7 +264,10 @@ pub fn push_footer(alloc: Global, layout: Layout<'_>, out: &mut Output) -> Resul
         return Ok(());
     };
     let indent = blank_indent(alloc, &[' ', ' '])?;
-    let footer = read_text(alloc, footer)?;
     out.push('\n')?;
+    if push_row(layout, &indent, footer, out)? {
+        return Ok(());
+    }
+    let footer = read_text(alloc, footer)?;
     push_wrapped(alloc, plan(layout, &indent, &indent), &footer, out)
 }

@@ -1,0 +1,21 @@
+use Rattle.std.proofs.Common.{rules, ◌≡◌, ◌++◌, ◌∷◌, [], ◌∙◌, ap, sym, refl, true, ◌-◌, append_assoc}
+use Rattle.std.specs.Prelude.{chars}
+use Rattle.miette_text.specs.rules.Sequences.{spell}
+use Rattle.miette_graphical.specs.views.SettingsView.{settings_of}
+use Rattle.miette_graphical.specs.rules.Indents.{wrapped_behind}
+use Rattle.miette_graphical.proofs.indents.push_row.Goals as goal
+
+pub returns-clause-fits : goal.returns-clause-fits
+returns-clause-fits c = λ h further.
+    let s = settings_of c.args.layout in
+    let did : c.in_ok-push_fitting.field-0 ≡ true = search rules in
+    c.in_ok-push.ensures
+    ∙ ap (λ o. o ++ 10 ∷ []) (c.in_ok-push_fitting.ensures.fits did (record {
+      room = s.width - 2;
+      first = spell c.args.first.now;
+      further = further;
+      breaks = s.breaks;
+      wraps = s.wraps;
+      hyphens = s.hyphens;
+    }) refl (sym c.saturating_sub-width.ensures) refl)
+    ∙ append_assoc c.args.out.now (wrapped_behind s (spell c.args.first.now) further (chars c.args.text.now)) (10 ∷ [])
