@@ -288,6 +288,7 @@ ROWS = {
     "ensure!": [SEVEN],
     "fill": behind(FILLED),
     "wrap": [collected(""), collected(FILLED)],
+    "push_fitting": [collected(""), collected("* word-and-\u6f22")],
     "without_leading": [runs(FEEDS), runs(f"{RED}red{END}\n")],
     "without_trailing": [runs(FEEDS), runs(f"\n{RED}\nred{END}")],
     "read": [runs(WORDS)],

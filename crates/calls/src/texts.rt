@@ -6,14 +6,16 @@ use miette::wrap::{Plan, WordSeparator, WordSplitter, WrapOptions, fill, wrap};
 use miette_text::runs::output::Output;
 use miette_text::runs::reading::{columns_of, print, read, read_text};
 use miette_text::wrap::cutting::{without_leading, without_trailing};
+use miette_text::wrap::fitting::push_fitting;
 use miette_tree::report_handler::append_whole;
 use std::alloc::Global;
 use std::io::Write;
 
 /// The calls of this module.
-pub const NAMES: [&str; 9] = [
+pub const NAMES: [&str; 10] = [
     "fill",
     "wrap",
+    "push_fitting",
     "without_leading",
     "without_trailing",
     "read",
@@ -35,6 +37,7 @@ pub fn make<W: Write>(alloc: Global, name: &str, out: &mut W) -> Done {
     match name {
         "fill" => filled(alloc, out),
         "wrap" => wrapped(alloc, out),
+        "push_fitting" => fitted(alloc, out),
         "append_whole" => {
             let mut text = String::from_str(alloc, "> ")?;
             given(out, &text)?;
@@ -93,4 +96,12 @@ fn wrapped<W: Write>(alloc: Global, out: &mut W) -> Done {
     given(out, &output)?;
     let answer = wrap(alloc, plan, &text, &mut output);
     changed(out, answer, &output)
+}
+
+fn fitted<W: Write>(alloc: Global, out: &mut W) -> Done {
+    let first = read_text(alloc, "* ")?;
+    let mut output = Output::for_runs(alloc);
+    given(out, &output)?;
+    let answer = push_fitting(true, 13, &first, "word-and-\u{6f22}", &mut output);
+    changed(out, answer.map(|_fits| ()), &output)
 }

@@ -1,3 +1,6 @@
+use miette_text::runs::output::Output;
+use miette_text::runs::reading::read_text;
+use miette_text::wrap::fitting::push_fitting;
 use miette_text::wrap::{WordSeparator, WordSplitter, WrapOptions, fill};
 use std::alloc::{AllocError, Global};
 use std::process::Abort;
@@ -143,4 +146,59 @@ fn nothing_to_indent(rt: HostRuntime) -> Result<(), Fail> {
         ("a\n\t", 80, "|\u{1B}[31m \u{1B}[0m a\n.\t"),
     ];
     fills(&rt, rt.alloc(), options, &rows)
+}
+
+/// What is appended behind a red indent of two columns, where the text fits.
+fn fitted(
+    alloc: Global,
+    wraps: bool,
+    width: usize,
+    text: &str,
+) -> Result<Option<String>, AllocError> {
+    let first = read_text(alloc, "\u{1B}[31m>\u{1B}[0m ")?;
+    let mut out = Output::for_text(alloc);
+    let fits = push_fitting(wraps, width, &first, text, &mut out)?;
+    let out = out.into_text(alloc)?;
+    Ok(if fits { Some(out) } else { None })
+}
+
+#[test]
+fn fitting(rt: HostRuntime) -> Result<(), Fail> {
+    let alloc = rt.alloc();
+    // a text, its columns with the indent's, and whether it fits these
+    let rows = [
+        ("", 2, true),
+        ("one-two three", 15, true),
+        ("漢字 é", 8, true),
+        ("漢\u{301}", 4, true),
+        ("one ", 6, false),
+        ("漢 ", 5, false),
+        (" ", 3, false),
+        ("a\nb", 5, false),
+        ("漢\n", 5, false),
+        ("\u{1B}[31ma", 8, false),
+    ];
+    for (text, width, fits) in rows {
+        let wanted = format!(in alloc; "\u{1B}[31m>\u{1B}[0m {text}")?;
+        let found = fitted(alloc, true, width, text)?;
+        assert_eq!(&rt;
+            found.as_deref(),
+            if fits { Some(wanted.as_str()) } else { None }
+        );
+        assert_eq!(&rt;
+            fitted(alloc, true, width.saturating_sub(1), text)?.as_deref(),
+            None
+        );
+    }
+    // lines that stay whole have any width; those that are white have another indent
+    for (text, fits) in [
+        ("a ", true),
+        (" é", true),
+        ("", false),
+        (" ", false),
+        ("\u{A0}", false),
+    ] {
+        assert_eq!(&rt; fitted(alloc, false, 0, text)?.is_some(), fits);
+    }
+    Ok(())
 }
