@@ -10,3 +10,4 @@ pub mod Stopping
 pub mod Stroking
 pub mod Styling
 pub mod Texting
+pub mod Untabbing

@@ -1,29 +1,17 @@
 -- Texts of printable ASCII characters.
-use Rattle.miette_page.specs.views.Printouts.{Printout, ◌⊕◌}
-use Rattle.std.proofs.Common.{ℕ, ◌+◌, ◌-◌, ◌<◌, ◌≤◌, ◌≡◌, true, false, leb, ltb, List, [], ◌∷◌, ◌++◌, map, length, refl, sym, ap, ◌∙◌, append-nil, arith}
-use Rattle.std.specs.Prelude.{encode_utf8_all}
+use Rattle.std.proofs.Common.{ℕ, ◌+◌, ◌-◌, ◌<◌, ◌≤◌, ◌≡◌, true, false, leb, ltb, List, [], ◌∷◌, ◌++◌, length, refl, sym, ap, ◌∙◌, append-nil, arith}
 use Rattle.std.specs.List.{list_all}
-use Rattle.std.specs.Prelude.{chars}
 use Rattle.std.proofs.lemmas.Bool.{and_parts}
 use Rattle.std.proofs.lemmas.Bool.Decides.{nat_tests}
-use Rattle.std.proofs.lemmas.Str.{encode_ascii}
 use Rattle.bstr.specs.Utf8.{or_replacement}
-use Rattle.miette_snippets.specs.rules.PrintedCells.{first_column, last_column, cells_width, printed_cells, line_runs}
+use Rattle.miette_snippets.specs.rules.PrintedCells.{first_column, last_column, cells_width}
 use Rattle.miette_lines.specs.rules.Cells.{Cell, cells_from, characters, width_at, hides_next}
 use Rattle.miette_lines.specs.views.Given.{width_of}
-use Rattle.miette_page.specs.views.Told.{Token, begins, told, text_told}
-use Rattle.miette_style.specs.declared.style.Style.{Style}
-use Rattle.std.proofs.lemmas.List.{nil_from_length}
-use Rattle.miette_drawing.specs.steps.TellingCells.{cells_told}
-use Rattle.miette_snippets.specs.rules.Highlighted.{highlight_of}
 use Rattle.miette_snippets.specs.rules.SnippetLayout.{text_of_cells}
 use Rattle.miette_snippets.specs.rules.Marks.{Text}
 use Rattle.miette_lines.specs.views.Printable.{is_printable, plain_cells}
-use Rattle.miette_page.specs.rules.Rows.{Piece}
-use Rattle.miette_style.specs.rules.Styles.{plain}
 use Rattle.miette_lines.proofs.Numbers.{by_cases}
-use Rattle.miette_snippets.proofs.Telling.{ascii_chars, then}
-use Rattle.miette_lines.proofs.Stepping.{made, cells_step, cells_end}
+use Rattle.miette_lines.proofs.Stepping.{cells_step, cells_end}
 use Rattle.miette_lines.proofs.Plaining.{ascii_decoded, from_le, from_lt, one_column, plain_byte}
 
 plain_width : (tab column b : ℕ) → is_printable b ≡ true → 1 ≡ width_at width_of tab false column b
@@ -44,21 +32,6 @@ printable_cells tab offset column (b ∷ bs) h =
     cells_step width_of tab false false offset column (b ∷ bs) bs b 1 1 (column + 1) (omega arith) refl
     (sym (ap (λ d. or_replacement d.char) is)) (sym (ap (λ d. d.size) is)) (plain_width tab column b parts.0) refl (plain_hides b parts.0)
     ∙ ap (λ cells. record { code = b; start = offset; after = offset + 1; from = column; until = column + 1 } ∷ cells) (printable_cells tab (offset + 1) (column + 1) bs parts.1)
-
--- they print as they are
-pub printable_codes : (offset column : ℕ) (bs : List ℕ) → list_all is_printable bs ≡ true → map (λ (p : Piece). p.code) (printed_cells (plain_cells offset column bs)) ≡ bs
-printable_codes offset column [] h = refl
-printable_codes offset column (b ∷ bs) h =
-    let parts = and_parts (is_printable b) (list_all is_printable bs) h in
-    let p = plain_byte b parts.0 in
-    rw (p.tab) (ap (λ r. b ∷ r) (printable_codes (offset + 1) (column + 1) bs parts.1))
-
-printable_chars : (bs : List ℕ) → list_all is_printable bs ≡ true → chars bs ≡ bs
-printable_chars bs h = ascii_chars is_printable (λ b t. omega (arith, (plain_byte b t).high)) bs h
-
-pub printable_told : (tab offset : ℕ) (bs : List ℕ) → list_all is_printable bs ≡ true → text_told (chars bs) ≡ cells_told (cells_from width_of tab false offset 0 (characters bs))
-printable_told tab offset bs h =
-    ap text_told (printable_chars bs h) ∙ ap text_told (sym (printable_codes offset 0 bs h)) ∙ ap cells_told (sym (printable_cells tab offset 0 bs h))
 
 -- columns in them
 pub plain_columns : (offset column : ℕ) (bs : List ℕ) → cells_width column (plain_cells offset column bs) ≡ column + length bs
@@ -113,13 +86,3 @@ plain_text tab offset e bs h =
     let made : List Cell → ℕ → Text = λ cs n. record { cells = cs; text_end = e; width = n } in
     ap (λ cs. made cs (length bs)) (append-nil (plain_cells offset 0 bs)) ∙ ap (made (plain_cells offset 0 bs)) many
     ∙ ap (λ cs. text_of_cells cs e) (sym (printable_cells tab offset 0 bs h))
-
--- a plain text
-pub plain_put : (tab offset : ℕ) (bs text : List ℕ) (pieces : List (ℕ × Style)) (p q r : Printout) → length pieces ≡ 0 → text ≡ bs → list_all is_printable bs ≡ true → q ≡ p ⊕ begins plain ∷ [] → r ≡ q ⊕ text_told (chars text) →
-    r ≡ p ⊕ told (line_runs (map highlight_of pieces) (cells_from width_of tab false offset 0 (characters bs)))
-plain_put tab offset bs text pieces p q r none same h hq hr =
-    then p (begins plain ∷ []) (text_told (chars text)) hq hr
-    ∙ ap (λ x. p ⊕ begins plain ∷ text_told (chars x)) same
-    ∙ ap (λ x. p ⊕ begins plain ∷ x) (printable_told tab offset bs h)
-    ∙ ap (λ x. p ⊕ x) (sym (append-nil (begins plain ∷ cells_told (cells_from width_of tab false offset 0 (characters bs)))))
-    ∙ ap (λ ps. p ⊕ told (line_runs (map highlight_of ps) (cells_from width_of tab false offset 0 (characters bs)))) (sym (nil_from_length pieces none))

@@ -4,3 +4,4 @@ pub mod Lent
 pub mod Made
 pub mod Sheets
 pub mod TellingCells
+pub mod Untabbed

@@ -11,4 +11,5 @@ mod parts;
 mod sheet;
 pub mod snippet;
 mod strokes;
+mod tabs;
 mod texts;

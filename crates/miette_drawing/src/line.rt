@@ -22,9 +22,9 @@ use crate::gutters::push_number_gutter;
 use crate::marks::{Mark, marks_on};
 use crate::sheet::{Sheet, ShownLine};
 use crate::strokes::push_marks;
+use crate::tabs::untabbed;
 use crate::texts::{push_before_marks, push_texts};
 use miette_lines::cells::{Cell, Walk};
-use miette_lines::plain::printable;
 use miette_page::page::{PLAIN, Page};
 use miette_page::styled::WriteStyled;
 use miette_style::style::Style;
@@ -106,7 +106,7 @@ fn push_line_text<O: WriteStyled>(
     Ok(())
 }
 
-// The line's text: as it is where it's printable ASCII and in no highlighter's pieces, else character by character.
+// The line's text: as it is where it's UTF-8 without tabs and in no highlighter's pieces, else character by character.
 fn push_text<O: WriteStyled>(
     page: &mut Page<O>,
     sheet: &Sheet,
@@ -117,9 +117,9 @@ fn push_text<O: WriteStyled>(
         ⊕ told (line_runs (map highlight_of shown.now.pieces.now) (shown_cells sheet.now shown.now))) }
 {
     if shown.pieces.is_empty() {
-        if let Some(plain) = printable(shown.text) {
+        if let Some(text) = untabbed(shown.text) {
             page.begin(PLAIN)?;
-            page.push_str(plain)?;
+            page.push_str(text)?;
             return Ok(());
         }
     }

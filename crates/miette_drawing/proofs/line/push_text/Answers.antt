@@ -1,8 +1,8 @@
 use Rattle.std.proofs.Common.{eqb-true, sym, ◌∙◌}
-use Rattle.miette_drawing.proofs.Plaining.{plain_put}
+use Rattle.miette_drawing.proofs.Untabbing.{untabbed_put}
 use Rattle.miette_drawing.proofs.line.push_text.Goals as goal
 
 pub returns-in-Some : goal.returns-in-Some
 returns-in-Some g c =
-    plain_put c.args.sheet.now.options.tab_width c.args.sheet.now.line.start c.args.shown.now.text.now c.in-Some.plain.now c.args.shown.now.pieces.now c.args.page.now c.begin.new.self c.push_str.new.self
-    (eqb-true _ _ (sym c.is_empty.ensures ∙ c.if-is_empty.true)) c.in-Some.ensures.same c.in-Some.ensures.printable c.in_ok-begin.ensures c.in_ok-push_str.ensures
+    untabbed_put c.args.sheet.now.options.tab_width c.args.sheet.now.line.start c.args.shown.now.text.now c.in-Some.text.now c.args.shown.now.pieces.now c.args.page.now c.begin.new.self c.push_str.new.self
+    (eqb-true _ _ (sym c.is_empty.ensures ∙ c.if-is_empty.true)) c.in-Some.ensures.same c.in-Some.ensures.utf8 c.in-Some.ensures.untabbed c.in_ok-begin.ensures c.in_ok-push_str.ensures
