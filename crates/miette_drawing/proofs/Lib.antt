@@ -9,5 +9,6 @@ pub mod Plaining
 pub mod Stopping
 pub mod Stroking
 pub mod Styling
+pub mod Tabbing
 pub mod Texting
 pub mod Untabbing

@@ -38,7 +38,7 @@ number_put s w number p b l d v n hb hl hd hv hn =
     (parts_then (styled s.width s.styles.linum digits ∷ []) (styled s.width plain bar ∷ []) b d n numbered barred)
 
 -- a cell
-codes_of_tab : (n : ℕ) → replicate n 32 ≡ map (λ (p : Piece). p.code) (replicate n (record { code = 32; columns = 1 }))
+pub codes_of_tab : (n : ℕ) → replicate n 32 ≡ map (λ (p : Piece). p.code) (replicate n (record { code = 32; columns = 1 }))
 codes_of_tab zero = refl
 codes_of_tab (suc n) = ap (λ r. 32 ∷ r) (codes_of_tab n)
 

@@ -68,7 +68,7 @@ characters_untabbed (c ∷ cs) h =
     rw (character_untabbed c parts.0) (characters_untabbed cs parts.1)
 
 -- characters print as they are
-printed_code : (cell : Cell) → eqb cell.code 9 ≡ false → map (λ (p : Piece). p.code) (printed cell) ≡ cell.code ∷ []
+pub printed_code : (cell : Cell) → eqb cell.code 9 ≡ false → map (λ (p : Piece). p.code) (printed cell) ≡ cell.code ∷ []
 printed_code cell h = rw h refl
 
 untabbed_codes : (tab offset column : ℕ) (hidden : Bool) (cs : List Character) → list_all is_untabbed (codes cs) ≡ true →

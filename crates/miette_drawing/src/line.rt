@@ -22,7 +22,7 @@ use crate::gutters::push_number_gutter;
 use crate::marks::{Mark, marks_on};
 use crate::sheet::{Sheet, ShownLine};
 use crate::strokes::push_marks;
-use crate::tabs::untabbed;
+use crate::tabs::{all_tabbed, push_tabbed, untabbed};
 use crate::texts::{push_before_marks, push_texts};
 use miette_lines::cells::{Cell, Walk};
 use miette_page::page::{PLAIN, Page};
@@ -106,7 +106,8 @@ fn push_line_text<O: WriteStyled>(
     Ok(())
 }
 
-// The line's text: as it is where it's UTF-8 without tabs and in no highlighter's pieces, else character by character.
+// The line's text: in no highlighter's pieces as it is where it's UTF-8 without tabs, and between its tabs where it's
+// printable ASCII; else character by character.
 fn push_text<O: WriteStyled>(
     page: &mut Page<O>,
     sheet: &Sheet,
@@ -120,6 +121,11 @@ fn push_text<O: WriteStyled>(
         if let Some(text) = untabbed(shown.text) {
             page.begin(PLAIN)?;
             page.push_str(text)?;
+            return Ok(());
+        }
+        if all_tabbed(shown.text) {
+            page.begin(PLAIN)?;
+            push_tabbed(page, shown.text, sheet.options.tab_width)?;
             return Ok(());
         }
     }
