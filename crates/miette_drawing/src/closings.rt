@@ -14,15 +14,14 @@ ghost use Rattle.miette_newlines.specs.views.Walking.{line_of_text};
 
 use crate::gutters::{ends, push_open_gutter, push_other_gutter, starts};
 use crate::parts::first_part;
-use crate::sheet::Sheet;
+use crate::sheet::{Outcome, Sheet};
 use crate::texts::push_other_start;
 use miette_lines::drawn_labels::text_of;
 use miette_lines::sweep::Placed;
 use miette_newlines::lines::LineOfText;
+use miette_page::canvas::Canvas;
 use miette_page::page::Page;
-use miette_page::styled::WriteStyled;
 use miette_style::style::Style;
-use std::alloc::AllocError;
 
 // Whether a label ends on a line and began before it.
 fn closes(line: &LineOfText, label: &Placed) -> bool
@@ -33,12 +32,7 @@ fn closes(line: &LineOfText, label: &Placed) -> bool
 }
 
 // The end of a row: `─ a label's text`.
-fn push_part<O: WriteStyled>(
-    page: &mut Page<O>,
-    style: Style,
-    bar: char,
-    part: &str,
-) -> Result<(), AllocError>
+fn push_part<O: Canvas>(page: &mut Page<O>, style: Style, bar: char, part: &str) -> Outcome
     ensures { OnOk result (page.new ≡ page.old ⊕ (run_told style (bar ∷ 32 ∷ chars part.now) ++ row_end ∷ [])) }
 {
     page.push_line(style, bar, ' ', 1)?;
@@ -48,14 +42,14 @@ fn push_part<O: WriteStyled>(
 }
 
 // A row of a text behind the corner of the gutter: `   · │╰─── a label's text`.
-fn push_closed_row<O: WriteStyled>(
+fn push_closed_row<O: Canvas>(
     page: &mut Page<O>,
     sheet: &Sheet,
     columns: usize,
     label: &Placed,
     bar: char,
     part: &str,
-) -> Result<(), AllocError>
+) -> Outcome
     ensures { OnOk result (page.new ≡ page.old
         ⊕ told_rows (closed_line sheet.now columns (drawn_of sheet.now.labels.now label.now) bar (chars part.now)
         ∷ [])) }
@@ -67,13 +61,13 @@ fn push_closed_row<O: WriteStyled>(
 }
 
 // A row of a text behind the gutter's bars: `   · │   │ a label's text`.
-fn push_open_row<O: WriteStyled>(
+fn push_open_row<O: Canvas>(
     page: &mut Page<O>,
     sheet: &Sheet,
     columns: usize,
     label: &Placed,
     part: &str,
-) -> Result<(), AllocError>
+) -> Outcome
     ensures { OnOk result (page.new ≡ page.old
         ⊕ told_rows (open_line sheet.now columns (drawn_of sheet.now.labels.now label.now) (chars part.now) ∷ [])) }
 {
@@ -84,13 +78,13 @@ fn push_open_row<O: WriteStyled>(
 }
 
 // The rows of a text's parts after the first.
-fn push_open_rows<O: WriteStyled>(
+fn push_open_rows<O: Canvas>(
     page: &mut Page<O>,
     sheet: &Sheet,
     columns: usize,
     label: &Placed,
     text: &str,
-) -> Result<(), AllocError>
+) -> Outcome
     ensures { OnOk result (page.new ≡ page.old
         ⊕ told_rows (map (open_line sheet.now columns (drawn_of sheet.now.labels.now label.now))
         (cut_at_lf (chars text.now)))) }
@@ -105,11 +99,7 @@ fn push_open_rows<O: WriteStyled>(
 }
 
 // The rows of a label's text: `╰──── text`, or `╰───┤ text` and a row for each further part.
-fn push_closing<O: WriteStyled>(
-    page: &mut Page<O>,
-    sheet: &Sheet,
-    label: &Placed,
-) -> Result<(), AllocError>
+fn push_closing<O: Canvas>(page: &mut Page<O>, sheet: &Sheet, label: &Placed) -> Outcome
     ensures { OnOk result (page.new ≡ page.old
         ⊕ told_rows (before_each (other_start (settings sheet.now) sheet.now.number_width)
         (closing_parts (settings sheet.now).width (settings sheet.now).characters (line_of_text sheet.now.line)
@@ -133,10 +123,7 @@ fn push_closing<O: WriteStyled>(
 
 /// The rows of the texts of the labels of several lines that end on the sheet's line, in order. `AllocError` where
 /// memory is refused, or `number_width + 2` is past the largest `usize`.
-pub(crate) fn push_closings<O: WriteStyled>(
-    page: &mut Page<O>,
-    sheet: &Sheet,
-) -> Result<(), AllocError>
+pub(crate) fn push_closings<O: Canvas>(page: &mut Page<O>, sheet: &Sheet) -> Outcome
     ensures { OnOk result (page.new ≡ page.old
         ⊕ told_rows (before_each (other_start (settings sheet.now) sheet.now.number_width)
         (closing_rows (settings sheet.now).width (settings sheet.now).characters (line_of_text sheet.now.line)

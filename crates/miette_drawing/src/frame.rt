@@ -11,8 +11,9 @@ ghost use Rattle.miette_snippets.specs.rules.Frames.{refused_row, text_or_none};
 ghost use Rattle.miette_snippets.specs.views.ThemeSettings.{settings_of};
 ghost use Rattle.miette_drawing.specs.steps.Framed.{corner_row, place_at, refused_front};
 
+use crate::sheet::Outcome;
+use miette_page::canvas::Canvas;
 use miette_page::page::{PLAIN, Page};
-use miette_page::styled::WriteStyled;
 use miette_protocol::protocol::LabeledSpan;
 use miette_snippets::options::LayoutOptions;
 use miette_style::style::Style;
@@ -31,11 +32,7 @@ pub struct Frame<'a> {
 }
 
 // A run of ASCII characters.
-fn push_ascii<O: WriteStyled>(
-    page: &mut Page<O>,
-    style: Style,
-    text: &str,
-) -> Result<(), AllocError>
+fn push_ascii<O: Canvas>(page: &mut Page<O>, style: Style, text: &str) -> Outcome
     requires { IsTrue (list_all (λ b. nat_lt b 128) text.now) }
     ensures { OnOk result (page.new ≡ page.old ⊕ run_told style text.now) }
 {
@@ -45,11 +42,7 @@ fn push_ascii<O: WriteStyled>(
 }
 
 // A run of a text.
-fn push_styled<O: WriteStyled>(
-    page: &mut Page<O>,
-    style: Style,
-    text: &str,
-) -> Result<(), AllocError>
+fn push_styled<O: Canvas>(page: &mut Page<O>, style: Style, text: &str) -> Outcome
     ensures { OnOk result (page.new ≡ page.old ⊕ run_told style (chars text.now)) }
 {
     page.begin(style)?;
@@ -58,11 +51,7 @@ fn push_styled<O: WriteStyled>(
 }
 
 // A run of a number.
-fn push_count<O: WriteStyled>(
-    page: &mut Page<O>,
-    style: Style,
-    number: usize,
-) -> Result<(), AllocError>
+fn push_count<O: Canvas>(page: &mut Page<O>, style: Style, number: usize) -> Outcome
     ensures { OnOk result (page.new ≡ page.old ⊕ run_told style (decimal number)) }
 {
     page.begin(style)?;
@@ -71,12 +60,7 @@ fn push_count<O: WriteStyled>(
 }
 
 // The spaces before a corner, the corner, and what follows it: `   ╭─`.
-fn push_corner<O: WriteStyled>(
-    page: &mut Page<O>,
-    frame: &Frame,
-    corner: char,
-    many: usize,
-) -> Result<(), AllocError>
+fn push_corner<O: Canvas>(page: &mut Page<O>, frame: &Frame, corner: char, many: usize) -> Outcome
     ensures { OnOk result (page.new ≡ page.old
         ⊕ told (corner_row (settings_of frame.now.theme.now frame.now.options) frame.now.number_width corner many)) }
 {
@@ -89,7 +73,7 @@ fn push_corner<O: WriteStyled>(
 }
 
 // A line's and a column's number, counted from 1 where they are given from 0: `2:3`.
-fn push_place<O: WriteStyled>(page: &mut Page<O>, place: (usize, usize)) -> Result<(), AllocError>
+fn push_place<O: Canvas>(page: &mut Page<O>, place: (usize, usize)) -> Outcome
     ensures { OnOk result (page.new ≡ page.old ⊕ text_told (place_text (place_at place))) }
 {
     let Some(line) = place.0.checked_add(1) else {
@@ -105,12 +89,12 @@ fn push_place<O: WriteStyled>(page: &mut Page<O>, place: (usize, usize)) -> Resu
 }
 
 // What a place is called in a source with a name: `name:2:3`, or `name`.
-fn push_link<O: WriteStyled>(
+fn push_link<O: Canvas>(
     page: &mut Page<O>,
     frame: &Frame,
     name: &str,
     place: (usize, usize),
-) -> Result<(), AllocError>
+) -> Outcome
     ensures { OnOk result (page.new ≡ page.old ⊕ run_told frame.now.theme.now.styles.link
         (if frame.now.options.primary_start then chars name.now ++ codes ":" ++ place_text (place_at place)
         else chars name.now)) }
@@ -125,12 +109,12 @@ fn push_link<O: WriteStyled>(
 }
 
 // A place in a source with a name: `[name:2:3]`, or `[name]` where the place isn't asked for.
-fn push_named_place<O: WriteStyled>(
+fn push_named_place<O: Canvas>(
     page: &mut Page<O>,
     frame: &Frame,
     name: &str,
     place: (usize, usize),
-) -> Result<(), AllocError>
+) -> Outcome
     ensures { OnOk result (page.new ≡ page.old
         ⊕ told (location (settings_of frame.now.theme.now frame.now.options) (Some name.now) false (place_at place))) }
 {
@@ -141,12 +125,12 @@ fn push_named_place<O: WriteStyled>(
 }
 
 // A place in a source without a name: `[2:3]`, or `───` in a snippet of one line or where the place isn't asked for.
-fn push_bare_place<O: WriteStyled>(
+fn push_bare_place<O: Canvas>(
     page: &mut Page<O>,
     frame: &Frame,
     several: bool,
     place: (usize, usize),
-) -> Result<(), AllocError>
+) -> Outcome
     ensures { OnOk result (page.new ≡ page.old
         ⊕ told (location (settings_of frame.now.theme.now frame.now.options) None several (place_at place))) }
 {
@@ -162,13 +146,13 @@ fn push_bare_place<O: WriteStyled>(
 }
 
 // Where a snippet's primary label begins, if it has one.
-fn push_location<O: WriteStyled>(
+fn push_location<O: Canvas>(
     page: &mut Page<O>,
     frame: &Frame,
     name: Option<&str>,
     several: bool,
     place: Option<(usize, usize)>,
-) -> Result<(), AllocError>
+) -> Outcome
     ensures { OnOk result (page.new ≡ page.old
         ⊕ told (location_of (settings_of frame.now.theme.now frame.now.options) (option_copied name.entry) several
         (option_map place_at place))) }
@@ -193,13 +177,13 @@ fn push_location<O: WriteStyled>(
 /// `several` says whether the snippet has more than one line; `place` is where its primary label begins, line and
 /// column counted from 0. `AllocError` where memory is refused, or `number_width + 2` or a number counted from 1 is
 /// past the largest `usize`.
-pub(crate) fn push_top_row<O: WriteStyled>(
+pub(crate) fn push_top_row<O: Canvas>(
     page: &mut Page<O>,
     frame: &Frame,
     name: Option<&str>,
     several: bool,
     place: Option<(usize, usize)>,
-) -> Result<(), AllocError>
+) -> Outcome
     ensures { OnOk result (page.new ≡ page.old
         ⊕ told_rows (top_row_of (settings_of frame.now.theme.now frame.now.options) frame.now.number_width
         (option_copied name.entry) several (option_map place_at place) ∷ [])) }
@@ -212,10 +196,7 @@ pub(crate) fn push_top_row<O: WriteStyled>(
 
 /// The row under a snippet's lines: `   ╰────`. `AllocError` where memory is refused, or `number_width + 2` is past
 /// the largest `usize`.
-pub(crate) fn push_bottom_row<O: WriteStyled>(
-    page: &mut Page<O>,
-    frame: &Frame,
-) -> Result<(), AllocError>
+pub(crate) fn push_bottom_row<O: Canvas>(page: &mut Page<O>, frame: &Frame) -> Outcome
     ensures { OnOk result (page.new ≡ page.old
         ⊕ told_rows (bottom_row (settings_of frame.now.theme.now frame.now.options) frame.now.number_width ∷ [])) }
 {
@@ -225,11 +206,7 @@ pub(crate) fn push_bottom_row<O: WriteStyled>(
 }
 
 // A label's text, or that it has none.
-fn push_label_text<O: WriteStyled>(
-    page: &mut Page<O>,
-    style: Style,
-    label: &LabeledSpan,
-) -> Result<(), AllocError>
+fn push_label_text<O: Canvas>(page: &mut Page<O>, style: Style, label: &LabeledSpan) -> Outcome
     ensures { OnOk result (page.new ≡ page.old ⊕ run_told style (text_or_none label.now.text)) }
 {
     match label.label() {
@@ -245,11 +222,7 @@ fn push_label_text<O: WriteStyled>(
 }
 
 // What stands before a refused label's offset: "  [Failed to read contents for label `TEXT` (offset: ".
-fn push_refused_text<O: WriteStyled>(
-    page: &mut Page<O>,
-    frame: &Frame,
-    label: &LabeledSpan,
-) -> Result<(), AllocError>
+fn push_refused_text<O: Canvas>(page: &mut Page<O>, frame: &Frame, label: &LabeledSpan) -> Outcome
     ensures { OnOk result (page.new ≡ page.old
         ⊕ told (refused_front (settings_of frame.now.theme.now frame.now.options) label.now)) }
 {
@@ -264,12 +237,12 @@ fn push_refused_text<O: WriteStyled>(
 
 /// The row in place of snippets where a label is refused, with the refusal's name: "  [Failed to read contents for
 /// label `TEXT` (offset: O, length: N): NAME]". `AllocError` where memory is refused.
-pub fn push_refused_row<O: WriteStyled>(
+pub fn push_refused_row<O: Canvas>(
     page: &mut Page<O>,
     frame: &Frame,
     label: &LabeledSpan,
     name: &str,
-) -> Result<(), AllocError>
+) -> Outcome
     ensures { OnOk result (page.new ≡ page.old
         ⊕ told_rows (refused_row (settings_of frame.now.theme.now frame.now.options)
         (record { label = label.now; name = chars name.now }) ∷ [])) }

@@ -10,14 +10,13 @@ ghost use Rattle.miette_lines.specs.views.Given.{drawn_of};
 ghost use Rattle.miette_drawing.specs.steps.Sheets.{settings, multi_labels};
 ghost use Rattle.miette_newlines.specs.views.Walking.{line_of_text};
 
-use crate::sheet::Sheet;
+use crate::sheet::{Outcome, Sheet};
 use miette_lines::drawn_labels::text_of;
 use miette_lines::sweep::Placed;
 use miette_newlines::lines::LineOfText;
+use miette_page::canvas::Canvas;
 use miette_page::page::{PLAIN, Page};
-use miette_page::styled::WriteStyled;
 use miette_style::style::Style;
-use std::alloc::AllocError;
 
 // Whether a label starts on a line.
 pub(crate) fn starts(line: &LineOfText, label: &Placed) -> bool
@@ -49,11 +48,11 @@ fn corner_at_end(sheet: &Sheet, label: &Placed) -> char
 
 /// The gutter of a row that isn't the number row, in so many columns: a bar for each label that goes on,
 /// then a corner for the first one that ends on the line: `│╰───`. `AllocError` where memory is refused.
-pub(crate) fn push_other_gutter<O: WriteStyled>(
+pub(crate) fn push_other_gutter<O: Canvas>(
     page: &mut Page<O>,
     sheet: &Sheet,
     columns: usize,
-) -> Result<(), AllocError>
+) -> Outcome
     ensures { OnOk result (page.new ≡ page.old
         ⊕ told (other_gutter (settings sheet.now).width (settings sheet.now).characters (line_of_text sheet.now.line)
         columns (multi_labels sheet.now))) }
@@ -78,11 +77,11 @@ pub(crate) fn push_other_gutter<O: WriteStyled>(
 }
 
 /// The same with spaces in place of the corner: `│    `. `AllocError` where memory is refused.
-pub(crate) fn push_open_gutter<O: WriteStyled>(
+pub(crate) fn push_open_gutter<O: Canvas>(
     page: &mut Page<O>,
     sheet: &Sheet,
     columns: usize,
-) -> Result<(), AllocError>
+) -> Outcome
     ensures { OnOk result (page.new ≡ page.old
         ⊕ told (open_gutter (settings sheet.now).width (settings sheet.now).characters (line_of_text sheet.now.line)
         columns (multi_labels sheet.now))) }
@@ -102,13 +101,13 @@ pub(crate) fn push_open_gutter<O: WriteStyled>(
 }
 
 // An arrow from a corner, and a space: `╭──▶ `.
-fn push_arrow<O: WriteStyled>(
+fn push_arrow<O: Canvas>(
     page: &mut Page<O>,
     sheet: &Sheet,
     style: Style,
     corner: char,
     left: usize,
-) -> Result<(), AllocError>
+) -> Outcome
     ensures { OnOk result (page.new ≡ page.old
         ⊕ (run_told style (corner ∷ replicate (left - 3) (settings sheet.now).characters.hbar
         ++ (settings sheet.now).characters.rarrow ∷ []) ++ run_told PLAIN (32 ∷ []))) }
@@ -122,10 +121,7 @@ fn push_arrow<O: WriteStyled>(
 
 /// The gutter of the number row: a bar for each label that runs through, an arrow for the first one that starts or
 /// ends on the line: `│╭─▶ `. `AllocError` where memory is refused.
-pub(crate) fn push_number_gutter<O: WriteStyled>(
-    page: &mut Page<O>,
-    sheet: &Sheet,
-) -> Result<(), AllocError>
+pub(crate) fn push_number_gutter<O: Canvas>(page: &mut Page<O>, sheet: &Sheet) -> Outcome
     ensures { OnOk result (page.new ≡ page.old
         ⊕ told (number_gutter (settings sheet.now).width (settings sheet.now).characters (line_of_text sheet.now.line)
         sheet.now.gutter (multi_labels sheet.now))) }

@@ -20,22 +20,18 @@ ghost use Rattle.miette_newlines.specs.views.Walking.{line_of_text};
 use crate::closings::push_closings;
 use crate::gutters::push_number_gutter;
 use crate::marks::{Mark, marks_on};
-use crate::sheet::{Sheet, ShownLine};
+use crate::sheet::{Outcome, Sheet, ShownLine};
 use crate::strokes::push_marks;
 use crate::tabs::{all_tabbed, push_tabbed, untabbed};
 use crate::texts::{push_before_marks, push_texts};
 use miette_lines::cells::{Cell, Walk};
+use miette_page::canvas::Canvas;
 use miette_page::page::{PLAIN, Page};
-use miette_page::styled::WriteStyled;
 use miette_style::style::Style;
 use std::alloc::{AllocError, Global};
 
 // The number of a line: ` 12 │ `.
-fn push_number_start<O: WriteStyled>(
-    page: &mut Page<O>,
-    sheet: &Sheet,
-    number: usize,
-) -> Result<(), AllocError>
+fn push_number_start<O: Canvas>(page: &mut Page<O>, sheet: &Sheet, number: usize) -> Outcome
     ensures { OnOk result (page.new ≡ page.old
         ⊕ told (number_start (settings sheet.now) sheet.now.number_width number)) }
 {
@@ -48,7 +44,7 @@ fn push_number_start<O: WriteStyled>(
 }
 
 // A character as it prints, a tab as spaces.
-fn push_cell<O: WriteStyled>(page: &mut Page<O>, cell: &Cell) -> Result<(), AllocError>
+fn push_cell<O: Canvas>(page: &mut Page<O>, cell: &Cell) -> Outcome
     ensures { OnOk result (page.new ≡ page.old ⊕ text_told (map (λ p. p.code) (printed (cell_of cell.now)))) }
 {
     if cell.code == '\t' {
@@ -60,11 +56,7 @@ fn push_cell<O: WriteStyled>(page: &mut Page<O>, cell: &Cell) -> Result<(), Allo
 }
 
 // The characters that fill so many bytes.
-fn push_cells_within<O: WriteStyled>(
-    page: &mut Page<O>,
-    walk: &mut Walk,
-    bytes: usize,
-) -> Result<(), AllocError>
+fn push_cells_within<O: Canvas>(page: &mut Page<O>, walk: &mut Walk, bytes: usize) -> Outcome
     ensures within { OnOk result (page.new ≡ page.old ⊕ cells_told (cells_within bytes walk.old)) }
     ensures beyond { OnOk result (walk.new ≡ cells_beyond bytes walk.old) }
 {
@@ -80,7 +72,7 @@ fn push_cells_within<O: WriteStyled>(
 }
 
 // All characters that are left.
-fn push_cells<O: WriteStyled>(page: &mut Page<O>, walk: &mut Walk) -> Result<(), AllocError>
+fn push_cells<O: Canvas>(page: &mut Page<O>, walk: &mut Walk) -> Outcome
     ensures { OnOk result (page.new ≡ page.old ⊕ cells_told walk.old) }
 {
     while let Some(cell) = walk.next()? {
@@ -90,11 +82,11 @@ fn push_cells<O: WriteStyled>(page: &mut Page<O>, walk: &mut Walk) -> Result<(),
 }
 
 // The line's text in a highlighter's pieces, each a length in bytes and a style, and plain behind them.
-fn push_line_text<O: WriteStyled>(
+fn push_line_text<O: Canvas>(
     page: &mut Page<O>,
     walk: &mut Walk,
     pieces: &[(usize, Style)],
-) -> Result<(), AllocError>
+) -> Outcome
     ensures { OnOk result (page.new ≡ page.old ⊕ told (line_runs (map highlight_of pieces.now) walk.old)) }
 {
     for piece in pieces {
@@ -108,11 +100,7 @@ fn push_line_text<O: WriteStyled>(
 
 // The line's text: in no highlighter's pieces as it is where it's UTF-8 without tabs, and between its tabs where it's
 // printable ASCII; else character by character.
-fn push_text<O: WriteStyled>(
-    page: &mut Page<O>,
-    sheet: &Sheet,
-    shown: &ShownLine,
-) -> Result<(), AllocError>
+fn push_text<O: Canvas>(page: &mut Page<O>, sheet: &Sheet, shown: &ShownLine) -> Outcome
     requires { sheet.now.line.start + length shown.now.text.now < 2 ^ 64 }
     ensures { OnOk result (page.new ≡ page.old
         ⊕ told (line_runs (map highlight_of shown.now.pieces.now) (shown_cells sheet.now shown.now))) }
@@ -135,11 +123,7 @@ fn push_text<O: WriteStyled>(
 }
 
 // The number row: ` 12 │ ╭─▶ the line's text`.
-fn push_number_row<O: WriteStyled>(
-    page: &mut Page<O>,
-    sheet: &Sheet,
-    shown: &ShownLine,
-) -> Result<(), AllocError>
+fn push_number_row<O: Canvas>(page: &mut Page<O>, sheet: &Sheet, shown: &ShownLine) -> Outcome
     requires { sheet.now.line.start + length shown.now.text.now < 2 ^ 64 }
     ensures { OnOk result (page.new ≡ page.old ⊕ told_rows (number_row sheet.now shown.now ∷ [])) }
 {
@@ -151,11 +135,7 @@ fn push_number_row<O: WriteStyled>(
 }
 
 // The mark row and the rows of texts under it, where there is a mark.
-fn push_marked_rows<O: WriteStyled>(
-    page: &mut Page<O>,
-    sheet: &Sheet,
-    marks: &[Mark],
-) -> Result<(), AllocError>
+fn push_marked_rows<O: Canvas>(page: &mut Page<O>, sheet: &Sheet, marks: &[Mark]) -> Outcome
     requires { All (λ mark. mark.from < mark.until) marks.now }
     ensures { OnOk result (page.new ≡ page.old ⊕ told_rows (before_each (before_marks sheet.now)
         (marked_rows (settings sheet.now).width (settings sheet.now).characters
@@ -194,12 +174,12 @@ fn marks_alone(alloc: Global, sheet: &Sheet, shown: &ShownLine) -> Result<Vec<Ma
 /// The rows of the sheet's line: the number row, the marks and texts of the labels that lie on it alone, and the texts
 /// of the labels of several lines that end there. `AllocError` where memory is refused, or a column is past the
 /// largest `usize`.
-pub(crate) fn push_line_rows<O: WriteStyled>(
+pub(crate) fn push_line_rows<O: Canvas>(
     alloc: Global,
     page: &mut Page<O>,
     sheet: &Sheet,
     shown: &ShownLine,
-) -> Result<(), AllocError>
+) -> Outcome
     requires { sheet.now.line.start + length shown.now.text.now < 2 ^ 64 }
     ensures { OnOk result (page.new ≡ page.old
         ⊕ told_rows (line_rows_of (settings sheet.now) sheet.now.number_width sheet.now.gutter

@@ -8,6 +8,10 @@ use miette_protocol::protocol::LabeledSpan;
 use miette_snippets::options::LayoutOptions;
 use miette_style::style::Style;
 use miette_style::theme::GraphicalTheme;
+use std::alloc::AllocError;
+
+/// What putting rows onto a page gives: nothing, or that memory was refused.
+pub(crate) type Outcome = Result<(), AllocError>;
 
 /// What all rows of a line are drawn with.
 #[derive(Clone, Copy)]

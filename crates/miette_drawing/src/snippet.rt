@@ -31,12 +31,12 @@ ghost use Rattle.miette_lines.specs.views.Sweeping.{IsAt, AreSorted};
 use crate::frame::{Frame, push_bottom_row, push_top_row};
 use crate::highlighting::{pieces_of, restart};
 use crate::line::push_line_rows;
-use crate::sheet::{Sheet, ShownLine};
+use crate::sheet::{Outcome, Sheet, ShownLine};
 use itoa::Buffer;
 use miette_lines::line_sweep::{extent_of, line_at};
 use miette_lines::sweep::{Bounds, Placed, Sweep, advance};
+use miette_page::canvas::Canvas;
 use miette_page::page::Page;
-use miette_page::styled::WriteStyled;
 use miette_protocol::protocol::LabeledSpan;
 use miette_protocol::source::MietteSpanContents;
 use miette_snippets::options::LayoutOptions;
@@ -114,12 +114,7 @@ fn gutter_width(most: usize) -> Result<usize, AllocError>
 }
 
 // Brings a sweep to an offset.
-fn seek(
-    alloc: Global,
-    labels: &[Placed],
-    place: usize,
-    passage: &mut Passage,
-) -> Result<(), AllocError>
+fn seek(alloc: Global, labels: &[Placed], place: usize, passage: &mut Passage) -> Outcome
     requires sorted { AreSorted labels.now }
     requires at { IsAt labels.now passage.old.at passage.old.sweep.next passage.old.sweep.running.items }
     ensures { OnOk result (IsAt labels.now place passage.new.sweep.next passage.new.sweep.running.items) }
@@ -140,13 +135,13 @@ fn seek(
 }
 
 // The rows of a snippet's lines, in the highlighter's pieces.
-fn push_lines<'a, H: Highlighter, O: WriteStyled>(
+fn push_lines<'a, H: Highlighter, O: Canvas>(
     drawing: &Drawing<'a>,
     body: &Body<'a>,
     highlighter: &mut Option<H>,
     page: &mut Page<O>,
     sweep: &mut Sweep,
-) -> Result<(), AllocError>
+) -> Outcome
     requires sorted { AreSorted drawing.now.placed.now }
     requires at { IsAt drawing.now.placed.now body.now.start sweep.old.next sweep.old.running.items }
     requires small { body.now.start + length body.now.bytes.now < 2 ^ 64 }
@@ -201,14 +196,14 @@ fn push_lines<'a, H: Highlighter, O: WriteStyled>(
 }
 
 // The rows of a snippet, where the sweep has come to what its read lent.
-fn push_framed<'a, H: Highlighter, O: WriteStyled>(
+fn push_framed<'a, H: Highlighter, O: Canvas>(
     drawing: &Drawing<'a>,
     highlighter: &mut Option<H>,
     page: &mut Page<O>,
     sweep: &mut Sweep,
     lent: &MietteSpanContents<'_>,
     place: Option<(usize, usize)>,
-) -> Result<(), AllocError>
+) -> Outcome
     requires sorted { AreSorted drawing.now.placed.now }
     requires at { IsAt drawing.now.placed.now lent.now.span.offset sweep.old.next sweep.old.running.items }
     requires small { lent.now.span.offset + length lent.now.bytes < 2 ^ 64 }
@@ -245,14 +240,14 @@ fn push_framed<'a, H: Highlighter, O: WriteStyled>(
 /// the pieces of the highlighter, which is restarted. The sweep over the labels comes to where the lent bytes end.
 /// `AllocError` where memory is refused, to the highlighter too, or an offset, a line's number or a column is past
 /// the largest `usize`.
-pub fn push_snippet<'a, H: Highlighter, O: WriteStyled>(
+pub fn push_snippet<'a, H: Highlighter, O: Canvas>(
     drawing: &Drawing<'a>,
     highlighter: &mut Option<H>,
     page: &mut Page<O>,
     passage: &mut Passage,
     lent: &MietteSpanContents<'_>,
     place: Option<(usize, usize)>,
-) -> Result<(), AllocError>
+) -> Outcome
     requires sorted { AreSorted drawing.now.placed.now }
     requires at { IsAt drawing.now.placed.now passage.old.at passage.old.sweep.next passage.old.sweep.running.items }
     ensures rows { OnOk result (PutsSnippet (leaves_plain H.is_blank highlighter.old)

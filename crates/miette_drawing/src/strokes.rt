@@ -11,11 +11,10 @@ ghost use Rattle.miette_drawing.specs.steps.Made.{mark_of};
 ghost use Rattle.miette_drawing.specs.steps.Sheets.{settings};
 
 use crate::marks::Mark;
-use crate::sheet::Sheet;
+use crate::sheet::{Outcome, Sheet};
 use miette_lines::drawn_labels::text_of;
+use miette_page::canvas::Canvas;
 use miette_page::page::Page;
-use miette_page::styled::WriteStyled;
-use std::alloc::AllocError;
 
 /// The column of a mark at which its text hangs: the middle one, rounded down.
 pub(crate) fn anchor_of(mark: &Mark) -> usize
@@ -45,11 +44,7 @@ fn middle_of(sheet: &Sheet, mark: &Mark) -> char
 }
 
 // A mark: `──┬──`.
-fn push_mark<O: WriteStyled>(
-    page: &mut Page<O>,
-    sheet: &Sheet,
-    mark: &Mark,
-) -> Result<(), AllocError>
+fn push_mark<O: Canvas>(page: &mut Page<O>, sheet: &Sheet, mark: &Mark) -> Outcome
     requires { mark.now.from < mark.now.until }
     ensures { OnOk result (page.new ≡ page.old
         ⊕ told_run (mark_run (settings sheet.now).width (settings sheet.now).characters
@@ -65,11 +60,7 @@ fn push_mark<O: WriteStyled>(
 }
 
 /// The marks, each behind the spaces before it: `  ──┬── ▲ ─┬─`. `AllocError` where memory is refused.
-pub(crate) fn push_marks<O: WriteStyled>(
-    page: &mut Page<O>,
-    sheet: &Sheet,
-    marks: &[Mark],
-) -> Result<(), AllocError>
+pub(crate) fn push_marks<O: Canvas>(page: &mut Page<O>, sheet: &Sheet, marks: &[Mark]) -> Outcome
     requires { All (λ mark. mark.from < mark.until) marks.now }
     ensures { OnOk result (page.new ≡ page.old
         ⊕ told (mark_runs (settings sheet.now).width (settings sheet.now).characters 0

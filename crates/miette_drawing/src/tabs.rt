@@ -7,9 +7,10 @@ ghost use Rattle.miette_page.specs.views.Printouts.{◌⊕◌};
 ghost use Rattle.miette_page.specs.views.Told.{text_told};
 ghost use Rattle.miette_drawing.specs.steps.Untabbed.{is_untabbed, is_tabbed, tabbed_codes};
 
+use crate::sheet::Outcome;
 use memchr::memchr;
+use miette_page::canvas::Canvas;
 use miette_page::page::Page;
-use miette_page::styled::WriteStyled;
 use std::alloc::AllocError;
 use std::str;
 
@@ -46,7 +47,7 @@ fn tab_columns(tab: usize, column: usize) -> usize
 }
 
 // Bytes that are ASCII, as they are.
-fn push_stretch<O: WriteStyled>(page: &mut Page<O>, bytes: &[u8]) -> Result<(), AllocError>
+fn push_stretch<O: Canvas>(page: &mut Page<O>, bytes: &[u8]) -> Outcome
     requires { IsAscii bytes.now }
     ensures { OnOk result (page.new ≡ page.old ⊕ text_told bytes.now) }
 {
@@ -59,11 +60,7 @@ fn push_stretch<O: WriteStyled>(page: &mut Page<O>, bytes: &[u8]) -> Result<(), 
 
 /// Prints ASCII from the first column on: what lies between tabs as it is, a tab as spaces up to the next multiple of
 /// the tab width. `AllocError` where memory is refused, or a column is past the largest `usize`.
-pub(crate) fn push_tabbed<O: WriteStyled>(
-    page: &mut Page<O>,
-    text: &[u8],
-    tab: usize,
-) -> Result<(), AllocError>
+pub(crate) fn push_tabbed<O: Canvas>(page: &mut Page<O>, text: &[u8], tab: usize) -> Outcome
     requires { IsAscii text.now }
     ensures { OnOk result (page.new ≡ page.old ⊕ text_told (tabbed_codes tab 0 text.now)) }
 {

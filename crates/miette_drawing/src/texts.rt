@@ -15,19 +15,16 @@ ghost use Rattle.miette_drawing.specs.steps.Sheets.{settings, before_marks, text
 use crate::gutters::push_other_gutter;
 use crate::marks::Mark;
 use crate::parts::first_part;
-use crate::sheet::Sheet;
+use crate::sheet::{Outcome, Sheet};
 use crate::strokes::anchor_of;
 use miette_lines::drawn_labels::text_of;
+use miette_page::canvas::Canvas;
 use miette_page::page::{PLAIN, Page};
-use miette_page::styled::WriteStyled;
 use std::alloc::AllocError;
 
 /// What stands before the gutter of a row that isn't the number row: `   · `. `AllocError` where memory is refused, or
 /// `number_width + 2` is past the largest `usize`.
-pub(crate) fn push_other_start<O: WriteStyled>(
-    page: &mut Page<O>,
-    sheet: &Sheet,
-) -> Result<(), AllocError>
+pub(crate) fn push_other_start<O: Canvas>(page: &mut Page<O>, sheet: &Sheet) -> Outcome
     ensures { OnOk result (page.new ≡ page.old ⊕ told (other_start (settings sheet.now) sheet.now.number_width)) }
 {
     let Some(columns) = sheet.number_width.checked_add(2) else {
@@ -39,10 +36,7 @@ pub(crate) fn push_other_start<O: WriteStyled>(
 }
 
 /// What stands before the marks and the texts under a line: `   · │╰──`. It fails as `push_other_start` does.
-pub(crate) fn push_before_marks<O: WriteStyled>(
-    page: &mut Page<O>,
-    sheet: &Sheet,
-) -> Result<(), AllocError>
+pub(crate) fn push_before_marks<O: Canvas>(page: &mut Page<O>, sheet: &Sheet) -> Outcome
     ensures { OnOk result (page.new ≡ page.old ⊕ told (before_marks sheet.now)) }
 {
     push_other_start(page, sheet)?;
@@ -51,12 +45,12 @@ pub(crate) fn push_before_marks<O: WriteStyled>(
 }
 
 // What stands before a text's corner, which is to stand in this column: a bar at the anchor of each earlier mark.
-fn push_leads<O: WriteStyled>(
+fn push_leads<O: Canvas>(
     page: &mut Page<O>,
     sheet: &Sheet,
     earlier: &[Mark],
     column: usize,
-) -> Result<(), AllocError>
+) -> Outcome
     requires { All (λ mark. mark.from < mark.until) earlier.now }
     ensures { OnOk result (page.new ≡ page.old
         ⊕ told (lead_runs (settings sheet.now).width (settings sheet.now).characters 0
@@ -79,14 +73,14 @@ fn push_leads<O: WriteStyled>(
 struct Front(char, char, char);
 
 // A row of a text: `   ·   │ ╰── a label's text`.
-fn push_text_row<O: WriteStyled>(
+fn push_text_row<O: Canvas>(
     page: &mut Page<O>,
     sheet: &Sheet,
     earlier: &[Mark],
     mark: &Mark,
     front: Front,
     part: &str,
-) -> Result<(), AllocError>
+) -> Outcome
     requires earlier { All (λ mark. mark.from < mark.until) earlier.now }
     requires own { mark.now.from < mark.now.until }
     ensures { OnOk result (page.new ≡ page.old
@@ -105,13 +99,13 @@ fn push_text_row<O: WriteStyled>(
 }
 
 // The rows of a text's parts after the first: `   ·   │   │ a label's text`.
-fn push_more_parts<O: WriteStyled>(
+fn push_more_parts<O: Canvas>(
     page: &mut Page<O>,
     sheet: &Sheet,
     earlier: &[Mark],
     mark: &Mark,
     text: &str,
-) -> Result<(), AllocError>
+) -> Outcome
     requires earlier { All (λ mark. mark.from < mark.until) earlier.now }
     requires own { mark.now.from < mark.now.until }
     ensures { OnOk result (page.new ≡ page.old ⊕ told_rows (map
@@ -131,12 +125,7 @@ fn push_more_parts<O: WriteStyled>(
 
 // The rows of a mark's text, where these marks stand before it: `╰── text`, or `╰─┤ text` and a row for each further
 // part.
-fn push_text<O: WriteStyled>(
-    page: &mut Page<O>,
-    sheet: &Sheet,
-    earlier: &[Mark],
-    mark: &Mark,
-) -> Result<(), AllocError>
+fn push_text<O: Canvas>(page: &mut Page<O>, sheet: &Sheet, earlier: &[Mark], mark: &Mark) -> Outcome
     requires earlier { All (λ mark. mark.from < mark.until) earlier.now }
     requires own { mark.now.from < mark.now.until }
     ensures { OnOk result (page.new ≡ page.old ⊕ told_rows (before_each (before_marks sheet.now)
@@ -161,11 +150,7 @@ fn push_text<O: WriteStyled>(
 }
 
 /// The rows of the texts of all marks, the last one's first. It fails as `push_other_start` does.
-pub(crate) fn push_texts<O: WriteStyled>(
-    page: &mut Page<O>,
-    sheet: &Sheet,
-    marks: &[Mark],
-) -> Result<(), AllocError>
+pub(crate) fn push_texts<O: Canvas>(page: &mut Page<O>, sheet: &Sheet, marks: &[Mark]) -> Outcome
     requires { All (λ mark. mark.from < mark.until) marks.now }
     ensures { OnOk result (page.new ≡ page.old ⊕ told_rows (before_each (before_marks sheet.now)
         (rows_below (settings sheet.now).width (settings sheet.now).characters []

@@ -17,8 +17,8 @@ use miette_lines::order::by_offset;
 use miette_lines::primary::{near, place_of};
 use miette_lines::reading::{ReadLabel, ReadLabels, Refusal, read_labels, some_own};
 use miette_lines::sweep::Sweep;
+use miette_page::canvas::Canvas;
 use miette_page::page::Page;
-use miette_page::styled::WriteStyled;
 use miette_protocol::error::RenderError;
 use miette_protocol::protocol::LabeledSpan;
 use miette_protocol::source::SourceCode;
@@ -37,7 +37,7 @@ fn name_of(refusal: Refusal) -> &'static str
 }
 
 // The snippets of labels that were read, or none where the read of a group or of some place failed.
-fn read_snippets<'a, 'b, S: SourceCode, H: Highlighter, O: WriteStyled + Drop>(
+fn read_snippets<'a, 'b, S: SourceCode, H: Highlighter, O: Canvas + Drop>(
     highlighter: &mut Option<H>,
     look: &Look<'b>,
     source: &'a S,
@@ -89,7 +89,7 @@ fn read_snippets<'a, 'b, S: SourceCode, H: Highlighter, O: WriteStyled + Drop>(
 }
 
 // All snippets, or the one row of a label that is refused; none where the read of a group or of some place failed.
-fn all_snippets<'b, S: SourceCode, H: Highlighter, O: WriteStyled + Drop>(
+fn all_snippets<'b, S: SourceCode, H: Highlighter, O: Canvas + Drop>(
     highlighter: &mut Option<H>,
     look: &Look<'b>,
     source: &S,
@@ -129,7 +129,7 @@ fn all_snippets<'b, S: SourceCode, H: Highlighter, O: WriteStyled + Drop>(
 /// given the text of each line in order, decoded. Fails with `Refused` where a group of labels with their own numbers
 /// of context lines or a label's place can't be read, which a source that always reads never does, and with `Memory`
 /// where memory is refused, to the highlighter too.
-pub fn snippets<'b, S: SourceCode, H: Highlighter, O: WriteStyled + Drop>(
+pub fn snippets<'b, S: SourceCode, H: Highlighter, O: Canvas + Drop>(
     highlighter: &mut Option<H>,
     look: &Look<'b>,
     source: &S,

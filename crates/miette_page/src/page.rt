@@ -4,7 +4,7 @@ ghost use Rattle.std.specs.Prelude.{◌≡◌, ◌-◌, ◌∷◌, ◌++◌, [],
 ghost use Rattle.miette_page.specs.views.Printouts.{◌⊕◌, ended, printout_of, started};
 ghost use Rattle.miette_page.specs.views.Told.{begins, row_end, run_told, text_told};
 
-use crate::styled::WriteStyled;
+use crate::canvas::Canvas;
 use itoa::Buffer;
 use miette_style::style::Style;
 use std::alloc::AllocError;
@@ -24,13 +24,13 @@ pub const PLAIN: Style = Style {
 /// A run is begun with its style and then gets its text; a row is ended behind its last run. A run without a
 /// character prints nothing. Where memory is wanting, what the page holds is open: it's to be dropped.
 #[derive(Debug, Drop)]
-pub struct Page<O: WriteStyled> {
+pub struct Page<O: Canvas> {
     out: O,
     style: Style,
     begun: bool,
 }
 
-impl<O: WriteStyled> Model for Page<O> {
+impl<O: Canvas> Model for Page<O> {
     ghost use Rattle.miette_page.specs.views.Printouts.{Printout};
 
     ghost Value = { Printout };
@@ -39,7 +39,7 @@ impl<O: WriteStyled> Model for Page<O> {
 }
 
 // What stands before the first character of a run.
-fn start_run<O: WriteStyled>(out: &mut O, style: Style, begun: bool) -> Result<(), AllocError>
+fn start_run<O: Canvas>(out: &mut O, style: Style, begun: bool) -> Result<(), AllocError>
     ensures { OnOk result (O.written out.new
         ≡ started (record { text = O.written out.old; style = style; begun = begun })) }
 {
@@ -50,7 +50,7 @@ fn start_run<O: WriteStyled>(out: &mut O, style: Style, begun: bool) -> Result<(
 }
 
 // What stands behind the last character of a run.
-fn end_run<O: WriteStyled>(out: &mut O, style: Style, begun: bool) -> Result<(), AllocError>
+fn end_run<O: Canvas>(out: &mut O, style: Style, begun: bool) -> Result<(), AllocError>
     ensures { OnOk result (O.written out.new
         ≡ ended (record { text = O.written out.old; style = style; begun = begun })) }
 {
@@ -61,7 +61,7 @@ fn end_run<O: WriteStyled>(out: &mut O, style: Style, begun: bool) -> Result<(),
 }
 
 // Copies of a character, whose room is taken at once.
-fn push_each<O: WriteStyled>(out: &mut O, character: char, many: usize) -> Result<(), AllocError>
+fn push_each<O: Canvas>(out: &mut O, character: char, many: usize) -> Result<(), AllocError>
     ensures { OnOk result (O.written out.new ≡ O.written out.old ++ replicate many character) }
 {
     out.reserve(character, many)?;
@@ -72,7 +72,7 @@ fn push_each<O: WriteStyled>(out: &mut O, character: char, many: usize) -> Resul
     Ok(())
 }
 
-impl<O: WriteStyled + Drop> Page<O> {
+impl<O: Canvas + Drop> Page<O> {
     /// The output, with what was printed. `AllocError` where memory is refused.
     pub fn into_output(self) -> Result<O, AllocError>
         ensures { IfOk result (λ out. O.written out ≡ ended self) }
@@ -87,7 +87,7 @@ impl<O: WriteStyled + Drop> Page<O> {
     }
 }
 
-impl<O: WriteStyled> Page<O> {
+impl<O: Canvas> Page<O> {
     /// A page that prints behind what the output holds.
     pub fn over(out: O) -> Self
         ensures { result ≡ printout_of (O.written out) }

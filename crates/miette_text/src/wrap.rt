@@ -176,7 +176,8 @@ pub fn cuts_hyphens(splitter: WordSplitter) -> bool
 }
 
 fn wrapped_text(alloc: Global, options: &WrapOptions<'_>, text: &str) -> Result<String, AllocError>
-    ensures { IfOk result (λ s. string_bytes s ≡ encode_utf8_all (wrapped (options_plan options.now) (chars text.now))) }
+    ensures { IfOk result (λ s. string_bytes s
+        ≡ encode_utf8_all (wrapped (options_plan options.now) (chars text.now))) }
 {
     let first = read_text(alloc, options.first_indent)?;
     let further = read_text(alloc, options.further_indent)?;

@@ -11,7 +11,7 @@ use crate::runs::colours::push_style;
 use crate::runs::reading::{print, read_text};
 use crate::runs::sign::Sign;
 use crate::runs::sink::Sink;
-use miette_page::styled::WriteStyled;
+use miette_page::canvas::Canvas;
 use miette_style::style::Style;
 use std::alloc::{AllocError, Global};
 use std::marker::Model;
@@ -268,7 +268,7 @@ impl Sink for Output {
     }
 }
 
-impl WriteStyled for Output {
+impl Canvas for Output {
     ghost written = { λ o. o };
 
     fn reserve(&mut self, c: char, many: usize) -> Result<(), AllocError> {

@@ -2,4 +2,4 @@ use Rattle.std.proofs.Common.{◌≡◌, ◌++◌, replicate}
 use Rattle.miette_page.proofs.page.push_each.Given as goal
 
 abbrev pub invariant-loop-i : goal.invariant-loop-i
-invariant-loop-i g l = g.O.WriteStyled.written l.out ≡ g.O.WriteStyled.written l.fn.out ++ replicate l.i l.character
+invariant-loop-i g l = g.O.Canvas.written l.out ≡ g.O.Canvas.written l.fn.out ++ replicate l.i l.character

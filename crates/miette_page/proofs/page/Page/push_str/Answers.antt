@@ -10,7 +10,7 @@ returns-then-is_empty g c = none_bytes c.args.self.now c.args.text.now (eqb-true
 
 pub returns : goal.returns
 returns g c =
-    page_put _ (g.O.WriteStyled.written c.start_run.new.out) (g.O.WriteStyled.written c.push_str.new.self) (chars c.args.text.now)
+    page_put _ (g.O.Canvas.written c.start_run.new.out) (g.O.Canvas.written c.push_str.new.self) (chars c.args.text.now)
     (some-chars c.args.text.now c.utf8.text (nonzero (length c.args.text.now) (sym c.is_empty.ensures ∙ c.if-is_empty.false)))
     c.in_ok-start_run.ensures c.in_ok-push_str.ensures
     ∙ ap (λ p. p ⊕ text_told (chars c.args.text.now)) c.self.view_is

@@ -9,7 +9,7 @@ use std::alloc::AllocError;
 /// What characters in styles are appended to: a text that prints them at once, or a list of them that can be wrapped.
 ///
 /// After an error, what it holds is open: it's to be dropped.
-pub trait WriteStyled {
+pub trait Canvas {
     /// The characters that were appended, with those of the codes that begin and end a style.
     ghost written: { Self → List ℕ };
 
