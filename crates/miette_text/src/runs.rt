@@ -8,7 +8,6 @@ ghost use Rattle.miette_text.specs.rules.Sequences.{Character, Sequence, Token, 
 ghost use Rattle.miette_text.specs.views.Woven.{is_whole, sign_text, woven};
 
 pub(crate) mod cells;
-mod colours;
 pub(crate) mod columns;
 mod cut;
 pub mod output;
@@ -18,9 +17,9 @@ pub(crate) mod sign;
 pub(crate) mod sink;
 pub(crate) mod tags;
 
-use crate::runs::colours::begun_style;
 use crate::runs::sequences::sequence_at;
 use crate::runs::sign::{Sign, Tag, shared};
+use miette_style::codes::begun_style;
 use miette_style::style::Style;
 use std::alloc::{AllocError, Global};
 use std::marker::Model;

@@ -48,3 +48,7 @@ colour_start s = escape ∷ 91 ∷ separated (style_codes s) ++ 109 ∷ []
 
 abbrev pub colour_stop : List ℕ
 colour_stop = escape ∷ 91 ∷ 48 ∷ 109 ∷ []
+
+-- codes with `;` between them, and before them where others stand there
+abbrev pub further_codes : Bool → List (List ℕ) → List ℕ
+further_codes some cs = if some then behind_separators cs else separated cs

@@ -2,7 +2,7 @@
 use Rattle.std.specs.Prelude.{Bool, true, ◌&&◌, ◌==◌, ℕ, suc, ◌≤◌, nat_le, nat_lt, length, if◌then◌else◌, List, [], ◌∷◌}
 use Rattle.std.specs.Prelude.{◌++◌, map}
 use Rattle.std.specs.List.{All}
-use Rattle.miette_style.specs.rules.Codes.{behind_separators, colour_start, colour_stop, separated}
+use Rattle.miette_style.specs.rules.Codes.{colour_start, colour_stop}
 use Rattle.miette_text.specs.rules.Sequences.{Token, Character, Sequence, sequence_len}
 use Rattle.miette_text.specs.rules.Wrapping.{Cell}
 use Rattle.miette_text.specs.declared.runs.sign.Tag.{Tag}
@@ -67,9 +67,3 @@ is_whole codes = nat_lt 0 (length codes) && (sequence_len codes == length codes)
 abbrev pub are_whole : List Tag → Bool
 are_whole [] = true
 are_whole (m ∷ ms) = is_whole (tag_text m) && are_whole ms
-
--- ---- the codes of a style
-
--- codes with `;` between them, and before them where others stand there
-abbrev pub further_codes : Bool → List (List ℕ) → List ℕ
-further_codes some cs = if some then behind_separators cs else separated cs

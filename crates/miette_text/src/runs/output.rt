@@ -7,11 +7,11 @@ ghost use Rattle.miette_style.specs.rules.Codes.{colour_start, colour_stop};
 ghost use Rattle.miette_text.specs.rules.Sequences.{spell};
 
 use crate::runs::Runs;
-use crate::runs::colours::push_style;
 use crate::runs::reading::{print, read_text};
 use crate::runs::sign::Sign;
 use crate::runs::sink::Sink;
 use miette_page::canvas::Canvas;
+use miette_style::codes::push_style;
 use miette_style::style::Style;
 use std::alloc::{AllocError, Global};
 use std::marker::Model;

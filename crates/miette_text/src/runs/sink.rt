@@ -4,8 +4,8 @@ ghost use Rattle.std.specs.Prelude.{◌≡◌, ◌++◌, ℕ, List, [], OnOk, en
 ghost use Rattle.miette_text.specs.views.Sinks.{encode-joins};
 ghost use Rattle.miette_text.specs.views.Woven.{sign_text};
 
-use crate::runs::colours::push_style;
 use crate::runs::sign::Sign;
+use miette_style::codes::push_style;
 use std::alloc::AllocError;
 use std::rc::Rc;
 

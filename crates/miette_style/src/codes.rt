@@ -1,12 +1,11 @@
-//! Styles, printed.
+//! The codes of styles, printed.
 
 ghost use Rattle.std.specs.Prelude.{◌≡◌, ◌++◌, ◌∷◌, ◌||◌, [], IfOk, IfSome, OnOk, decimal, false, is_some};
 ghost use Rattle.std.specs.Prelude.{string_bytes};
-ghost use Rattle.miette_style.specs.rules.Codes.{colour_start, flag, foreground, foreground_codes};
-ghost use Rattle.miette_text.specs.views.Woven.{further_codes};
+ghost use Rattle.miette_style.specs.rules.Codes.{colour_start, flag, foreground, foreground_codes, further_codes};
 
+use crate::style::{Color, Style};
 use itoa::Buffer;
-use miette_style::style::{Color, Style};
 use std::alloc::AllocError;
 
 fn push_number(out: &mut String, number: u8) -> Result<(), AllocError>
@@ -107,7 +106,10 @@ fn own_start(style: Style) -> Option<&'static str>
 }
 
 /// Appends what begins a style: at once where it is one of the terminal's own colours.
-pub(crate) fn push_style(out: &mut String, style: Style) -> Result<(), AllocError>
+///
+/// # Errors
+/// `AllocError` where memory is refused.
+pub fn push_style(out: &mut String, style: Style) -> Result<(), AllocError>
     ensures { OnOk result (string_bytes out.new ≡ string_bytes out.old ++ colour_start style) }
 {
     match own_start(style) {
@@ -132,7 +134,7 @@ fn own_color(digit: char) -> Option<Color>
 }
 
 /// The style that codes begin, where it is one of the terminal's own colours and nothing else.
-pub(crate) fn begun_style(codes: &[char]) -> Option<Style>
+pub fn begun_style(codes: &[char]) -> Option<Style>
     ensures { IfSome result (λ style. colour_start style ≡ codes.now) }
 {
     let [a, b, c, d, e] = codes else {

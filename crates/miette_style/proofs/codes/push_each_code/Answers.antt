@@ -1,5 +1,5 @@
-use Rattle.miette_text.proofs.Painting.{style-pushed}
-use Rattle.miette_text.proofs.runs.colours.push_each_code.Goals as goal
+use Rattle.miette_style.proofs.CodeLists.{style-pushed}
+use Rattle.miette_style.proofs.codes.push_each_code.Goals as goal
 
 pub returns : goal.returns
 returns c =
