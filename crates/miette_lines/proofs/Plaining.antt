@@ -1,5 +1,5 @@
 -- Texts of printable ASCII characters.
-use Rattle.std.proofs.Common.{ℕ, zero, suc, ◌-◌, ◌<◌, ◌≤◌, ◌≡◌, true, false, leb, ltb, eqb, List, [], ◌∷◌, length, refl, sym, ap, arith}
+use Rattle.std.proofs.Common.{ℕ, ◌-◌, ◌<◌, ◌≤◌, ◌≡◌, true, false, leb, ltb, eqb, List, [], ◌∷◌, length, refl, sym, ap, arith}
 use Rattle.std.specs.Prelude.{slice_index}
 use Rattle.std.specs.Int.{is_in_range}
 use Rattle.std.specs.List.{list_all}
@@ -55,10 +55,3 @@ printable_character b bs h =
 
 pub printable_in_range : (b : ℕ) → is_printable b ≡ true → is_in_range 0x20 0x7E b ≡ true
 printable_in_range b h = grind (arith, nat_tests)
-
--- they are ASCII
-pub printable_ascii : (bs : List ℕ) → list_all is_printable bs ≡ true → (i : ℕ) → slice_index bs i < 128
-printable_ascii [] h zero = omega arith
-printable_ascii [] h (suc i) = omega arith
-printable_ascii (b ∷ bs) h zero = let p = plain_byte b (and_parts (is_printable b) (list_all is_printable bs) h).0 in omega (arith, p.high)
-printable_ascii (b ∷ bs) h (suc i) = printable_ascii bs (and_parts (is_printable b) (list_all is_printable bs) h).1 i
