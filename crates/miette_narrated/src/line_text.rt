@@ -36,7 +36,11 @@ impl<'a, 'p> LineText<'a, 'p> {
     }
 
     /// The same text with these places and trails.
-    pub(crate) fn with_places<'q>(self, places: &'q [Place], trails: &'q [Trail]) -> LineText<'a, 'q>
+    pub(crate) fn with_places<'q>(
+        self,
+        places: &'q [Place],
+        trails: &'q [Trail],
+    ) -> LineText<'a, 'q>
         requires places { All (IsPlace self.bytes.now) places.now }
         requires trails { All (IsTrail self.bytes.now) trails.now }
         ensures { result.bytes.now ≡ self.entry.bytes.now }

@@ -24,7 +24,11 @@ pub(crate) struct ShownLine<'a, 'p> {
 
 impl<'a, 'p> ShownLine<'a, 'p> {
     /// The same line, with places of its text from which a walk over its characters may go on, and trails.
-    pub(crate) fn with_places<'q>(&self, places: &'q [Place], trails: &'q [Trail]) -> ShownLine<'a, 'q>
+    pub(crate) fn with_places<'q>(
+        &self,
+        places: &'q [Place],
+        trails: &'q [Trail],
+    ) -> ShownLine<'a, 'q>
         requires places { All (IsPlace self.now.text.bytes.now) places.now }
         requires trails { All (IsTrail self.now.text.bytes.now) trails.now }
         ensures { shown_of result ≡ shown_of self.now }

@@ -6,11 +6,11 @@ ghost use Rattle.miette_description.specs.rules.Description.{tree_for};
 ghost use Rattle.miette_report.specs.rules.Job.{IsDescription, IsNarrating, IsRefused};
 ghost use Rattle.miette_report.specs.rules.Faults.{status_of};
 
+use crate::arguments::Arguments;
 use crate::device::Device;
 use crate::fault::{Fault, Program};
 use crate::option_words::Choice;
 use crate::pipeline::rendered_length;
-use crate::arguments::Arguments;
 use crate::whole::{read_whole, write_whole};
 use crate::words::number;
 use std::alloc::Global;

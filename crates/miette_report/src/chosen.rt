@@ -5,10 +5,10 @@ ghost use Rattle.miette_tree.specs.views.Report.{tree_of};
 ghost use Rattle.miette_json.specs.rules.Reads.{AlwaysReads};
 ghost use Rattle.miette_report.specs.rules.Chosen.{IsAsked, IsGiven, MayRefuse, Stays};
 
+use crate::arguments::Arguments;
 use crate::fault::Fault;
 use crate::language::LanguageHighlighter;
 use crate::option_words::Choice;
-use crate::arguments::Arguments;
 use miette::error::RenderError;
 use miette::handlers::{DebugReportHandler, JSONReportHandler, ReportHandler};
 use miette::highlight::Highlighter;

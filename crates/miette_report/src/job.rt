@@ -6,12 +6,12 @@ ghost use Rattle.miette_description.specs.rules.Description.{tree_for};
 ghost use Rattle.miette_report.specs.rules.Job.{IsDescription, IsRefused};
 ghost use Rattle.miette_report.specs.rules.Faults.{status_of};
 
+pub use crate::arguments::Arguments;
 use crate::device::Device;
 use crate::fault::Program;
 pub use crate::fault::{Fault, Fault as JobError, Fault as WordsFault};
 pub use crate::option_words::Choice;
 pub use crate::pipeline::run;
-pub use crate::arguments::Arguments;
 use std::alloc::Global;
 use std::io::{Read, Write};
 

@@ -1,6 +1,7 @@
 //! The work of the programs: from the description of a report to its written text.
 #![tactic(auto)]
 
+mod arguments;
 pub mod bench;
 mod chosen;
 pub mod device;
@@ -13,7 +14,6 @@ mod lint_lines;
 mod option_words;
 mod picture;
 mod pipeline;
-mod arguments;
 pub mod whole;
 pub mod words;
 

@@ -9,11 +9,11 @@ ghost use Rattle.miette_json.specs.rules.Reads.{AlwaysReads};
 ghost use Rattle.miette_description.specs.rules.Description.{tree_for};
 ghost use Rattle.miette_report.specs.rules.Job.{IsDescription, IsNarrating, IsRefused, Writes};
 
+use crate::arguments::Arguments;
 use crate::chosen::Chosen;
 use crate::device::Device;
 use crate::fault::Fault;
 use crate::language::LanguageHighlighter;
-use crate::arguments::Arguments;
 use crate::whole::{read_whole, write_whole};
 use miette::highlight::Highlighter;
 use miette_description::error::BuildError;

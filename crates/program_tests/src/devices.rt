@@ -3,7 +3,7 @@ ghost use Rattle.std.specs.Prelude.{Some};
 
 use miette_report::device::Device;
 use miette_report::fault::Fault;
-use miette_report::job::{JobError, Arguments, job_with, run};
+use miette_report::job::{Arguments, JobError, job_with, run};
 use miette_report::whole::{read_whole, write_whole};
 use std::alloc::{AllocError, Global};
 use std::io;
