@@ -126,7 +126,7 @@ def deep(count, key):
 
 # how often what stands in what at most, and KB of stack that are enough: a tenth and more above what docs/PERFORMANCE.md
 # says; on a smaller stack a program may end by a signal
-STACKS = ((b"cause", 0, 96), (b"cause", 126, 192), (b"related", 63, 192))
+STACKS = ((b"cause", 0, 96), (b"cause", 126, 192), (b"related", 63, 224))
 PROGRAMS = [("job", it) for it in ([], ["--nested", "yes"], ["--narrated"], ["--json"], ["--debug"])] + [("bench", ["1"])]
 
 
