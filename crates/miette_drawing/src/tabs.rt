@@ -51,6 +51,9 @@ fn push_stretch<O: Canvas>(page: &mut Page<O>, bytes: &[u8]) -> Outcome
     requires { IsAscii bytes.now }
     ensures { OnOk result (page.new ≡ page.old ⊕ text_told bytes.now) }
 {
+    if bytes.is_empty() {
+        return Ok(());
+    }
     let Ok(text) = str::from_utf8(bytes) else {
         unreachable!();
     };

@@ -1,19 +1,23 @@
--- What the code asks of a text, character by character, and of printable ASCII.
-use Rattle.std.proofs.Common.{◌≡◌, ℕ, suc, ◌+◌, ◌-◌, ◌<◌, ◌≤◌, Bool, true, false, not, ◌&&◌, ◌||◌, nat_le, List, [], ◌∷◌, IsAscii, length, get_or, drop, refl, sym, ap, ap₂, ◌∙◌, arith}
+-- What the code asks of a text, character by character, of printable ASCII, and of bytes that are searched.
+use Rattle.std.proofs.Common.{◌≡◌, ℕ, zero, suc, ◌+◌, ◌-◌, ◌<◌, ◌≤◌, Bool, true, false, not, ◌&&◌, ◌||◌, nat_le, nat_lt, List, [], ◌∷◌, ◌++◌, IsAscii, IsUtf8, length, get_or, drop, refl, sym, ap, ap₂, ◌∙◌, arith, append-nil, ltb-true, Option, Some, None}
+use Rattle.std.specs.Prelude.{chars, encode_utf8, encode_utf8_all, slice_index}
+use Rattle.std.specs.Option.{is_some}
 use Rattle.std.proofs.lemmas.Bool.{and_parts}
 use Rattle.std.proofs.lemmas.Bool.Decides.{nat_tests}
 use Rattle.std.proofs.lemmas.List.{drop_more}
 use Rattle.std.proofs.lemmas.List.Elements.{All-cons, All-nil}
 use Rattle.std.proofs.lemmas.List.Sums.{sum_by-cons}
+use Rattle.std.proofs.lemmas.Str.{encode_ascii, encodes-chars, inside_one}
 use Rattle.std.proofs.lemmas.Str.Ascii.{IsAscii-from_all}
 use Rattle.std.specs.List.{All}
 use Rattle.std.specs.Char.{is_whitespace}
+use Rattle.memchr.specs.Find.{IsFirstByte, Nowhere, Passes, is_byte2}
 use Rattle.unicode_width.specs.Width.{char_width}
 use Rattle.miette_style.specs.rules.Escapes.{is_escape}
 use Rattle.miette_text.specs.rules.Sequences.{is_line_feed}
 use Rattle.miette_text.specs.rules.Wrapping.{all_white, is_space, width}
-use Rattle.miette_text.specs.steps.Ends.{all_spaces, code_columns, plain_cells}
-use Rattle.miette_text.specs.steps.Fitting.{all_printable, ends_bare, fits_row, is_line, is_shown}
+use Rattle.miette_text.specs.steps.Ends.{code_columns, plain_cells}
+use Rattle.miette_text.specs.steps.Fitting.{all_printable, ends_bare, fits_row, is_line}
 use Rattle.miette_text.proofs.Weaving.{drop-all}
 
 -- ---- printable ASCII
@@ -49,18 +53,6 @@ printable-line (c ∷ cs) h =
     let rest = printable-line cs p.1 in
     grind (arith, nat_tests)
 
-printed-white : (c : ℕ) → 32 ≤ c → c ≤ 126 → is_whitespace c ≡ is_space c
-printed-white c h k = grind (arith, nat_tests)
-
-pub printable-white : (cs : List ℕ) → all_printable cs ≡ true → all_white (plain_cells cs) ≡ all_spaces (plain_cells cs)
-printable-white [] h = refl
-printable-white (c ∷ cs) h =
-    let p = and_parts (nat_le 32 c && nat_le c 126) (all_printable cs) h in
-    let q = and_parts (nat_le 32 c) (nat_le c 126) p.0 in
-    let a : 32 ≤ c = grind (arith, nat_tests) in
-    let b : c ≤ 126 = grind (arith, nat_tests) in
-    ap₂ (λ x y. x && y) (printed-white c a b) (printable-white cs p.1)
-
 -- whether the last of printable ASCII is a space
 ends-last : (bare : Bool) (cs : List ℕ) → 0 < length cs → ends_bare bare cs ≡ not (is_space (get_or cs (length cs - 1) 0))
 ends-last bare [] h = absurd (omega arith)
@@ -75,9 +67,6 @@ printable-fits room cs h l =
     ap₂ (λ a b. a && (b && nat_le (code_columns cs) room)) (printable-line cs h) (ends-last true cs l)
     ∙ ap (λ n. not (is_space (get_or cs (length cs - 1) 0)) && nat_le n room) (printable-columns cs h)
 
-pub printable-shown : (cs : List ℕ) → all_printable cs ≡ true → is_shown cs ≡ not (all_spaces (plain_cells cs))
-printable-shown cs h = ap₂ (λ a b. a && not b) (printable-line cs h) (printable-white cs h)
-
 -- ---- one character on
 
 -- a character that no line has
@@ -87,10 +76,6 @@ is_apart c = is_escape c || is_line_feed c
 -- what is left of a text fits the columns that are left
 abbrev pub left_fits : ℕ → Bool → List ℕ → Bool
 left_fits left bare rest = is_line rest && (ends_bare bare rest && nat_le (code_columns rest) left)
-
--- or has a character that isn't white, or one was before it
-abbrev pub left_shown : Bool → List ℕ → Bool
-left_shown shown rest = is_line rest && (shown || not (all_white (plain_cells rest)))
 
 and-none : (b : Bool) → (b && false) ≡ false
 and-none true = refl
@@ -113,18 +98,6 @@ next-fits left bare c cs h k =
     let n : nat_le (code_columns (c ∷ cs)) left ≡ nat_le (code_columns cs) (left - width c) = grind (arith, nat_tests) in
     ap₂ (λ a b. (not a && is_line cs) && (ends_bare (not (is_space c)) cs && b)) h n
 
-apart-shown : (shown : Bool) (c : ℕ) (cs : List ℕ) → is_apart c ≡ true → left_shown shown (c ∷ cs) ≡ false
-apart-shown shown c cs h = ap (λ b. (not b && is_line cs) && (shown || not (all_white (plain_cells (c ∷ cs))))) h
-
-or-not-and : (a b c : Bool) → (a || not (b && c)) ≡ ((a || not b) || not c)
-or-not-and true b c = refl
-or-not-and false true c = refl
-or-not-and false false c = refl
-
-next-shown : (shown : Bool) (c : ℕ) (cs : List ℕ) → is_apart c ≡ false → left_shown shown (c ∷ cs) ≡ left_shown (shown || not (is_whitespace c)) cs
-next-shown shown c cs h =
-    ap₂ (λ a b. (not a && is_line cs) && b) h (or-not-and shown (is_whitespace c) (all_white (plain_cells cs)))
-
 -- ---- and in a text, at an index
 
 front : (cs : List ℕ) (n c : ℕ) → (n < length cs) × (c ≡ get_or cs n c) → drop n cs ≡ c ∷ drop (n + 1) cs
@@ -143,15 +116,15 @@ next-fits_at left bare cs n c w m t e h k f =
     ∙ next-fits left bare c (drop (n + 1) cs) h (omega arith)
     ∙ ap₂ (λ v i. left_fits (left - v) (not (is_space c)) (drop i cs)) (sym e) (sym f)
 
-pub apart-shown_at : (shown : Bool) (cs : List ℕ) (n c : ℕ) → (n < length cs) × (c ≡ get_or cs n c) → is_apart c ≡ true → left_shown shown (drop n cs) ≡ false
-apart-shown_at shown cs n c t h = ap (left_shown shown) (front cs n c t) ∙ apart-shown shown c (drop (n + 1) cs) h
+pub ink_at : (cs : List ℕ) (n c : ℕ) → (n < length cs) × (c ≡ get_or cs n c) → is_whitespace c ≡ false → all_white (plain_cells (drop n cs)) ≡ false
+ink_at cs n c t h =
+    ap (λ us. all_white (plain_cells us)) (front cs n c t) ∙ ap (λ b. b && all_white (plain_cells (drop (n + 1) cs))) h
 
-pub next-shown_at : (shown next : Bool) (cs : List ℕ) (n c m : ℕ) → (n < length cs) × (c ≡ get_or cs n c) → is_apart c ≡ false → next ≡ (shown || not (is_whitespace c)) → m ≡ n + 1 →
-    left_shown shown (drop n cs) ≡ left_shown next (drop m cs)
-next-shown_at shown next cs n c m t h e f =
-    ap (left_shown shown) (front cs n c t)
-    ∙ next-shown shown c (drop (n + 1) cs) h
-    ∙ ap₂ (λ v i. left_shown v (drop i cs)) (sym e) (sym f)
+pub white_at : (cs : List ℕ) (n c m : ℕ) → (n < length cs) × (c ≡ get_or cs n c) → is_whitespace c ≡ true → m ≡ n + 1 → all_white (plain_cells (drop n cs)) ≡ all_white (plain_cells (drop m cs))
+white_at cs n c m t h e =
+    ap (λ us. all_white (plain_cells us)) (front cs n c t)
+    ∙ ap (λ b. b && all_white (plain_cells (drop (n + 1) cs))) h
+    ∙ ap (λ i. all_white (plain_cells (drop i cs))) (sym e)
 
 -- ---- at the end
 
@@ -159,14 +132,77 @@ and-true : (b : Bool) → (b && true) ≡ b
 and-true true = refl
 and-true false = refl
 
-or-false : (b : Bool) → (b || false) ≡ b
-or-false true = refl
-or-false false = refl
-
 pub end-fits : (left : ℕ) (bare : Bool) (cs : List ℕ) (n : ℕ) → length cs ≤ n → left_fits left bare (drop n cs) ≡ bare
 end-fits left bare cs n h =
     let z : nat_le 0 left ≡ true = grind (arith, nat_tests) in
     ap (left_fits left bare) (drop-all n cs h) ∙ ap (λ b. bare && b) z ∙ and-true bare
 
-pub end-shown : (shown : Bool) (cs : List ℕ) (n : ℕ) → length cs ≤ n → left_shown shown (drop n cs) ≡ shown
-end-shown shown cs n h = ap (left_shown shown) (drop-all n cs h) ∙ or-false shown
+pub end-white : (cs : List ℕ) (n : ℕ) → length cs ≤ n → all_white (plain_cells (drop n cs)) ≡ true
+end-white cs n h = ap (λ us. all_white (plain_cells us)) (drop-all n cs h)
+
+-- ---- the bytes of a line
+
+line-append : (xs ys : List ℕ) → is_line (xs ++ ys) ≡ (is_line xs && is_line ys)
+line-append [] ys = refl
+line-append (x ∷ xs) ys =
+    ap (λ b. not (is_apart x) && b) (line-append xs ys) ∙ and-assoc (not (is_apart x)) (is_line xs) (is_line ys)
+  where
+    and-assoc : (a b c : Bool) → (a && (b && c)) ≡ ((a && b) && c)
+    and-assoc true b c = refl
+    and-assoc false b c = refl
+
+not-apart : (b : ℕ) → 128 ≤ b → is_apart b ≡ false
+not-apart b h = grind (arith, nat_tests)
+
+line-high : (bs : List ℕ) → ((k : ℕ) → k < length bs → 128 ≤ get_or bs k 0) → is_line bs ≡ true
+line-high [] h = refl
+line-high (b ∷ bs) h =
+    ap₂ (λ x y. not x && y) (not-apart b (h 0 (omega arith))) (line-high bs (λ k l. h (suc k) (omega (arith, l))))
+
+-- a character past ASCII has no byte of ASCII
+high-byte : (c k : ℕ) → 128 ≤ c → k < length (encode_utf8 c) → 128 ≤ get_or (encode_utf8 c) k 0
+high-byte c k h l = elim (nat_lt (get_or (encode_utf8 c) k 0) 128) as (λ b. nat_lt (get_or (encode_utf8 c) k 0) 128 ≡ b → 128 ≤ get_or (encode_utf8 c) k 0) [
+  | true ↦ λ e. absurd (omega (arith, inside_one c [] (encode_utf8 c) k (sym (append-nil (encode_utf8 c))) l (ltb-true _ _ e), ltb-true _ _ e))
+  | false ↦ λ e. grind (arith, nat_tests)
+] refl
+
+line-character : (c : ℕ) → is_line (encode_utf8 c) ≡ not (is_apart c)
+line-character c = elim (nat_lt c 128) as (λ b. nat_lt c 128 ≡ b → is_line (encode_utf8 c) ≡ not (is_apart c)) [
+  | true ↦ λ e. ap is_line (encode_ascii c (ltb-true _ _ e)) ∙ and-true (not (is_apart c))
+  | false ↦ λ e.
+      let h : 128 ≤ c = grind (arith, nat_tests) in
+      line-high (encode_utf8 c) (λ k l. high-byte c k h l) ∙ sym (ap not (not-apart c h))
+] refl
+
+line-characters : (cs : List ℕ) → is_line (encode_utf8_all cs) ≡ is_line cs
+line-characters [] = refl
+line-characters (c ∷ cs) =
+    line-append (encode_utf8 c) (encode_utf8_all cs)
+    ∙ ap₂ (λ x y. x && y) (line-character c) (line-characters cs)
+
+pub line-text : (bs : List ℕ) → IsUtf8 bs → is_line bs ≡ is_line (chars bs)
+line-text bs u = ap is_line (sym (encodes-chars bs u)) ∙ line-characters (chars bs)
+
+-- a search for an escape or a line feed that finds none
+abbrev breaks : ℕ → Bool
+breaks = is_byte2 27 10
+
+nowhere-line : (bs : List ℕ) → Nowhere (Passes breaks bs) 0 (length bs) → is_line bs ≡ true
+nowhere-line [] h = refl
+nowhere-line (b ∷ bs) h =
+    ap₂ (λ x y. not x && y) (other (is_apart b) (h 0 (omega arith) (omega arith))) (nowhere-line bs (λ k lo lt. h (suc k) (omega arith) (omega (arith, lt))))
+  where
+    other : (x : Bool) → (x ≡ true → ⊥) → x ≡ false
+    other true h = absurd (h refl)
+    other false h = refl
+
+found-line : (bs : List ℕ) (k : ℕ) → k < length bs → breaks (slice_index bs k) ≡ true → is_line bs ≡ false
+found-line [] k l h = absurd (omega arith)
+found-line (b ∷ bs) zero l h = ap (λ x. not x && is_line bs) h
+found-line (b ∷ bs) (suc k) l h = ap (λ y. not (is_apart b) && y) (found-line bs k (omega (arith, l)) h) ∙ and-none (not (is_apart b))
+
+pub searched-line : (bs : List ℕ) (r : Option ℕ) (none : Bool) → IsFirstByte breaks bs r → is_some r ≡ not none → none ≡ is_line bs
+searched-line bs None true h e = sym (nowhere-line bs h)
+searched-line bs (Some k) false h e = sym (found-line bs k h.0.high h.1)
+searched-line bs None false h e = absurd (cc)
+searched-line bs (Some k) true h e = absurd (cc)

@@ -1,5 +1,5 @@
 -- The bytes of what begins a style, and runs in a style.
-use Rattle.std.proofs.Common.{◌≡◌, ℕ, ◌<◌, Bool, true, false, ◌&&◌, ◌||◌, ◌==◌, length, List, [], ◌∷◌, ◌++◌, codes, refl, sym, ap, ap₂, ◌∙◌, arith, append_assoc, append-nil, eqb-true, encode_utf8_all, Option, Some, None, is_some}
+use Rattle.std.proofs.Common.{◌≡◌, ℕ, ◌<◌, true, false, ◌&&◌, ◌==◌, length, List, [], ◌∷◌, ◌++◌, refl, sym, ap, ap₂, ◌∙◌, arith, append_assoc, eqb-true, encode_utf8_all}
 use Rattle.std.proofs.lemmas.Bool.{and_parts}
 use Rattle.std.proofs.lemmas.Bool.Decides.{nat_tests}
 use Rattle.std.proofs.lemmas.Str.{encode_ascii}
@@ -9,7 +9,6 @@ use Rattle.miette_style.specs.rules.Codes.{colour_start, colour_stop, style_code
 use Rattle.miette_style.specs.rules.Escapes.{is_escape}
 use Rattle.miette_text.specs.rules.Tame.{is_colour, is_colour_end}
 use Rattle.miette_style.specs.rules.Codes.{is_nil}
-use Rattle.miette_style.specs.declared.style.Color.{Color}
 use Rattle.miette_style.specs.declared.style.Style.{Style}
 use Rattle.miette_text.proofs.Printing.{start_colour}
 

@@ -1,16 +1,17 @@
 //! Texts that stand in one row as they are.
 
-ghost use Rattle.std.specs.Prelude.{◌≡◌, ◌++◌, ℕ, List, IfOk, chars, false, true};
+ghost use Rattle.std.specs.Prelude.{◌≡◌, ◌++◌, ℕ, List, IfOk, chars, false, not, true};
 ghost use Rattle.miette_text.specs.rules.Sequences.{spell};
-ghost use Rattle.miette_text.specs.rules.Wrapping.{Plan, wrapped};
-ghost use Rattle.miette_text.specs.steps.Ends.{all_spaces, plain_cells};
-ghost use Rattle.miette_text.specs.steps.Fitting.{all_printable, fits_row, is_shown};
+ghost use Rattle.miette_text.specs.rules.Wrapping.{Plan, all_white, wrapped};
+ghost use Rattle.miette_text.specs.steps.Ends.{plain_cells};
+ghost use Rattle.miette_text.specs.steps.Fitting.{all_printable, fits_row, is_line, is_shown};
 
 use crate::runs::Runs;
 use crate::runs::cells::push_all;
 use crate::runs::columns::{char_columns, token_columns};
 use crate::runs::output::Output;
 use crate::runs::reading::is_settled;
+use memchr::memchr2;
 use std::alloc::AllocError;
 
 // Whether all bytes are ASCII characters from the space to the tilde: each is a character of one column.
@@ -19,17 +20,6 @@ fn is_printable(bytes: &[u8]) -> bool
 {
     for byte in bytes {
         if *byte < b' ' || b'~' < *byte {
-            return false;
-        }
-    }
-    true
-}
-
-fn all_spaces(bytes: &[u8]) -> bool
-    ensures { result ≡ all_spaces (plain_cells bytes.now) }
-{
-    for byte in bytes {
-        if *byte != b' ' {
             return false;
         }
     }
@@ -53,43 +43,44 @@ fn walk_fits(room: usize, text: &str) -> bool
     bare
 }
 
-// The same; the columns of printable ASCII are its bytes.
+// The same; the columns of printable ASCII are its bytes. A text with more bytes than columns is left soon.
 fn fits_row(room: usize, text: &str) -> bool
     ensures { result ≡ fits_row room (chars text.now) }
 {
     let bytes = text.as_bytes();
-    if !is_printable(bytes) {
+    if room < bytes.len() || !is_printable(bytes) {
         return walk_fits(room, text);
     }
     match bytes {
         [] => true,
-        [.., last] => *last != b' ' && bytes.len() <= room,
+        [.., last] => *last != b' ',
     }
 }
 
-// Whether a text is a line without sequences that isn't white: character by character.
-fn walk_shown(text: &str) -> bool
-    ensures { result ≡ is_shown (chars text.now) }
+// Whether no byte is an escape or a line feed.
+fn is_line(bytes: &[u8]) -> bool
+    ensures { result ≡ is_line bytes.now }
 {
-    let mut shown = false;
-    for c in text.chars() {
-        if c == '\u{1B}' || c == '\n' {
-            return false;
-        }
-        shown = shown || !c.is_whitespace();
-    }
-    shown
+    memchr2(b'\x1B', b'\n', bytes).is_none()
 }
 
-// The same; printable ASCII is white where it is spaces.
+// Whether a character isn't white.
+fn has_ink(text: &str) -> bool
+    ensures { result ≡ not (all_white (plain_cells (chars text.now))) }
+{
+    for c in text.chars() {
+        if !c.is_whitespace() {
+            return true;
+        }
+    }
+    false
+}
+
+// Whether a text is a line without sequences that isn't white.
 fn is_shown(text: &str) -> bool
     ensures { result ≡ is_shown (chars text.now) }
 {
-    let bytes = text.as_bytes();
-    if is_printable(bytes) {
-        return !all_spaces(bytes);
-    }
-    walk_shown(text)
+    is_line(text.as_bytes()) && has_ink(text)
 }
 
 // Whether a text stands in one row behind an indent, and both as they are.

@@ -1,15 +1,16 @@
-use Rattle.std.proofs.Common.{◌≡◌, ◌∙◌, ap, not, sym, true}
-use Rattle.std.proofs.lemmas.Str.{chars-IsAscii}
-use Rattle.miette_text.specs.steps.Ends.{all_spaces, plain_cells}
-use Rattle.miette_text.specs.steps.Fitting.{all_printable, is_shown}
-use Rattle.miette_text.proofs.Fitting.{printable-ascii, printable-shown}
+use Rattle.std.proofs.Common.{◌≡◌, ◌∙◌, ◌&&◌, ap, chars, not, sym}
+use Rattle.miette_text.specs.rules.Wrapping.{all_white}
+use Rattle.miette_text.specs.steps.Ends.{plain_cells}
+use Rattle.miette_text.specs.steps.Fitting.{is_line}
+use Rattle.miette_text.proofs.Fitting.{line-text}
 use Rattle.miette_text.proofs.wrap.fitting.is_shown.Goals as goal
 
-pub returns-then-is_printable : goal.returns-then-is_printable
-returns-then-is_printable c =
-    let bs = c.args.text.now in
-    let e = c.as_bytes-bytes.ensures.value in
-    let h : all_printable bs ≡ true = ap all_printable (sym e) ∙ sym c.is_printable.ensures ∙ c.if-is_printable.true in
-    ap not (c.all_spaces.ensures ∙ ap (λ us. all_spaces (plain_cells us)) e)
-    ∙ sym (printable-shown bs h)
-    ∙ ap is_shown (sym (chars-IsAscii bs (printable-ascii bs h)))
+pub returns-then-is_line : goal.returns-then-is_line
+returns-then-is_line c =
+    let line : is_line (chars c.args.text.now) ≡ _ = sym (line-text c.args.text.now c.utf8.text) ∙ ap is_line (sym c.as_bytes.ensures.value) ∙ sym c.is_line.ensures ∙ c.if-is_line.true in
+    c.has_ink.ensures ∙ sym (ap (λ b. b && not (all_white (plain_cells (chars c.args.text.now)))) line)
+
+pub returns-else-is_line : goal.returns-else-is_line
+returns-else-is_line c =
+    let line : is_line (chars c.args.text.now) ≡ _ = sym (line-text c.args.text.now c.utf8.text) ∙ ap is_line (sym c.as_bytes.ensures.value) ∙ sym c.is_line.ensures ∙ c.if-is_line.false in
+    c.if-is_line.false ∙ sym (ap (λ b. b && not (all_white (plain_cells (chars c.args.text.now)))) line)
