@@ -177,6 +177,11 @@ SNIPPET = (
     "    label at line 2, columns 3 to 6: This bit here\nsnippet line 3:     here\n"
 )
 FOOT = "diagnostic help: try\ndiagnostic code: a::b\nFor more details, see:\nhttp://x\n"
+PLACE = "bad_file.rs:2:3: "
+LISTED = (
+    f"{PLACE}warning[a::b]: oops!\n{PLACE}note: This bit here\n{PLACE}note: caused by: b\n"
+    f"{PLACE}note: caused by: c\n{PLACE}help: try\n"
+)
 SPELLED = (
     '{"message": "oops!","code": "a::b","severity": "warning","causes": ["b","c"],"url": "http://x","help": "try",'
     '"filename": "bad_file.rs","labels": [{"label": "This bit here","span": {"offset": 9,"length": 4}}],"related": []}'
@@ -330,6 +335,9 @@ ROWS = {
     ]
     * 3,
     "ReportHandler::debug for NarratableReportHandler": behind(TOLD + SNIPPET + FOOT),
+    "BriefReportHandler::render_report": behind(LISTED),
+    "BriefReportHandler::render": behind(LISTED),
+    "ReportHandler::debug for BriefReportHandler": behind(LISTED),
     "JSONReportHandler::render_report": behind(SPELLED),
     "ReportHandler::debug for JSONReportHandler": behind(SPELLED),
     "DebugReportHandler::render_report": behind(SHOWN),

@@ -56,6 +56,7 @@ RUNS = [
     (["job", "--term-unicode", "yes"], LABELLED, 0, PICTURE),
     (["job", "--theme", "unicode"], LABELLED, 0, COLOURED),
     (["job", "--narrated"], LABELLED, 0, NARRATED),
+    (["job", "--brief"], LABELLED, 0, "2:1: error: 漢\n2:1: note: x\n"),
     (["job", "--json"], LABELLED, 0, LABELLED_JSON),
     (["bench", "2", "--narrated"], SMALL, 0, "33\n"),
 ]
@@ -65,7 +66,7 @@ REFUSED = [
     (["draw", "f", "9", "+4", "l", "m"], "usage: draw NAME OFFSET LENGTH LABEL MESSAGE\n"),
     (["job", "--jsonx"], "usage: job [OPTIONS]\n"),
     (["bench", "x"], "usage: bench N [OPTIONS]\n"),
-    (["lint", "f"], "usage: lint NAME WIDTH\n"),
+    (["lint", "f"], "usage: lint [--brief] NAME WIDTH\n"),
 ]
 # words and an input of which nothing is written, status, row
 SILENT = [

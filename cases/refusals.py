@@ -61,8 +61,8 @@ RUNS = [
 ] + [
     (["job", *words], json.dumps(description))
     for description in (LABELLED, LINKED, RELATED, MANY, APART, OWN, REFUSED)
-    for words in (PLAIN, TERMINAL, ["--nested", "yes", "--footer", "bye"], ["--narrated"], ["--json"], ["--debug"])
-    if not (description is REFUSED and words == ["--narrated"])
+    for words in (PLAIN, TERMINAL, ["--nested", "yes", "--footer", "bye"], ["--narrated"], ["--brief"], ["--json"], ["--debug"])
+    if not (description is REFUSED and words in (["--narrated"], ["--brief"]))
 ]
 
 

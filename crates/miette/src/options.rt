@@ -42,6 +42,7 @@ pub fn rgb_colors_law()
 /// take no memory.
 #[derive(Drop)]
 pub struct MietteHandlerOpts<H = Box<dyn Highlighter>> {
+    force_brief: bool,
     force_narrated: Option<bool>,
     force_graphical: Option<bool>,
     width: Option<usize>,
@@ -71,6 +72,7 @@ impl<H> Model for MietteHandlerOpts<H> {
     ghost Value = { Options H };
 
     ghost view = { λ it. record {
+      brief = it.force_brief;
       narrated = it.force_narrated;
       graphical = it.force_graphical;
       width = it.width;
@@ -101,6 +103,7 @@ impl<H> Default for MietteHandlerOpts<H> {
 
     fn default() -> Self {
         MietteHandlerOpts {
+            force_brief: false,
             force_narrated: None,
             force_graphical: None,
             width: None,
@@ -205,7 +208,7 @@ impl<H: Highlighter> MietteHandlerOpts<H> {
         self
     }
 
-    /// The causes of the report are shown, by either handler.
+    /// The causes of the report are shown, by each handler.
     pub fn with_cause_chain(mut self) -> Self
         ensures { result ≡ record self { chain = Some true } }
     {
@@ -213,7 +216,7 @@ impl<H: Highlighter> MietteHandlerOpts<H> {
         self
     }
 
-    /// The causes of the report are not shown, by either handler.
+    /// The causes of the report are not shown, by any handler.
     pub fn without_cause_chain(mut self) -> Self
         ensures { result ≡ record self { chain = Some false } }
     {
@@ -269,7 +272,16 @@ impl<H: Highlighter> MietteHandlerOpts<H> {
         self
     }
 
-    /// Whether reports are narrated or pictures. This counts before all else that is said of it.
+    /// Whether reports are brief, a row for each part. Where they are, this counts before all that is said of pictures
+    /// and narration; where they are not, nothing changes.
+    pub fn force_brief(mut self, force: bool) -> Self
+        ensures { result ≡ record self { brief = force } }
+    {
+        self.force_brief = force;
+        self
+    }
+
+    /// Whether reports are narrated or pictures. This counts before all else that is said of it, but `force_brief`.
     pub fn force_narrated(mut self, force: bool) -> Self
         ensures { result ≡ record self { narrated = Some force } }
     {
@@ -277,7 +289,7 @@ impl<H: Highlighter> MietteHandlerOpts<H> {
         self
     }
 
-    /// A text under each outermost report, by either handler.
+    /// A text under each outermost report, in pictures and narrated.
     pub fn footer(mut self, footer: String) -> Self
         ensures { result ≡ record self { footer = Some (string_bytes footer) } }
     {
@@ -285,7 +297,8 @@ impl<H: Highlighter> MietteHandlerOpts<H> {
         self
     }
 
-    /// How many lines of context are shown around a label that has no number of its own, by either handler.
+    /// How many lines of context are shown around a label that has no number of its own, in pictures and
+    /// narrated.
     pub fn context_lines(mut self, lines: usize) -> Self
         ensures { result ≡ record self { context = Some lines } }
     {

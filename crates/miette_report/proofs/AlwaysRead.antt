@@ -1,5 +1,5 @@
 -- Of a report whose sources always read, each read of a handler is determined.
-use Rattle.std.proofs.Common.{◌≡◌, ℕ, ◌+◌, Bool, true, false, List, [], ◌∷◌, ◌++◌, length, Option, Some, None, IfSome, refl, ap, ◌∙◌}
+use Rattle.std.proofs.Common.{◌≡◌, ℕ, ◌+◌, Bool, true, false, List, [], ◌∷◌, ◌++◌, length, Option, Some, None, IfSome, refl, sym, ap, ap₂, ◌∙◌}
 use Rattle.std.proofs.lemmas.Bool.{le-leb}
 use Rattle.std.specs.List.{list_all}
 use Rattle.std.specs.Prelude.{◌&&◌, ◌||◌, if◌then◌else◌}
@@ -13,6 +13,8 @@ use Rattle.miette_tree.specs.rules.DiagnosticParts.{given_labels}
 use Rattle.miette_graphical.specs.rules.Printed.{Printed, over, printed, printed_causes, printed_related, source_reads, always_reads, all_read}
 use Rattle.miette_json.specs.rules.Reads.{AlwaysReads, CauseAlwaysReads, AllAlwaysRead}
 use Rattle.miette_graphical.specs.rules.Settings.{Settings}
+use Rattle.miette_brief.specs.rules.Answered as briefly
+use Rattle.miette_brief.specs.rules.Report as brief
 use Rattle.miette_narrated.specs.rules.Answered as told
 use Rattle.miette_narrated.specs.rules.Report.{Answers, RelatedAnswers, related_answers, first_answers, later_answers}
 
@@ -135,3 +137,58 @@ mutual
 
 pub told-accepted : (t : Tree) (a : Answers) → AlwaysReads t → told.AreAnswers None a t → told.report_accepted t ≡ true
 told-accepted t a q k = tree_accepted None a t tt q k
+
+-- ---- a brief report
+
+mutual
+  pub brief-reads : (t : Tree) → AlwaysReads t → briefly.AlwaysReads t
+  brief-reads (tree m own c r) q = (q.0, brief_cause_reads c q.1, brief_trees_read r q.2)
+
+  brief_cause_reads : (c : Cause) → CauseAlwaysReads c → briefly.CauseAlwaysReads c
+  brief_cause_reads (texts ts) q = tt
+  brief_cause_reads (diagnostic t) q = brief-reads t q
+
+  brief_trees_read : (ts : Trees) → AllAlwaysRead ts → briefly.AllAlwaysRead ts
+  brief_trees_read no_trees q = tt
+  brief_trees_read (more_trees t ts) q = (brief-reads t q.0, brief_trees_read ts q.1)
+
+one_kept : (source : Option Source) (labels : List Label) → Reads source → briefly.HasAccepted source (in_order labels) → told.accepts source labels ≡ true
+one_kept None labels p a = refl
+one_kept (Some s) labels p a = both _ _ (accept_all s.bytes (in_order labels) a) (either (told.is_nil labels) s.always_reads p)
+
+mutual
+  tree_kept : (inherited : Option Source) (a : brief.Answers) (t : Tree) → Reads inherited → AlwaysReads t → briefly.ArePossible inherited a t → told.holds_of told.accepts inherited t ≡ true
+  tree_kept inherited a (tree m own c r) p q k =
+      let source = effective own inherited in
+      let here : Reads source = effective_reads own inherited q.0 p in
+      both _ _ (one_kept source _ here k.0) (trees_kept source (brief.related_answers a) r here q.2 k.3)
+
+  trees_kept : (inherited : Option Source) (more : brief.RelatedAnswers) (ts : Trees) → Reads inherited → AllAlwaysRead ts → briefly.AllPossible inherited more ts → told.holds_of_all told.accepts inherited ts ≡ true
+  trees_kept inherited more no_trees p q k = refl
+  trees_kept inherited more (more_trees t ts) p q k =
+      both _ _ (tree_kept inherited (brief.first_answers more) t p q.0 k.0) (trees_kept inherited (brief.later_answers more) ts p q.1 k.1)
+
+-- a brief report is given only where a narrated one is
+pub brief-accepted : (t : Tree) (a : brief.Answers) → AlwaysReads t → briefly.ArePossible None a t → told.report_accepted t ≡ true
+brief-accepted t a q k = tree_kept None a t tt q k
+
+one_alike : (source : Option Source) (labels : List Label) → Reads source → told.accepts source labels ≡ briefly.accepts source (in_order labels)
+one_alike None labels p = refl
+one_alike (Some s) labels p =
+    ap (λ b. list_all (λ label. is_accepted s.bytes label.span) (in_order labels) && b)
+    (either (told.is_nil labels) s.always_reads p ∙ sym (either (briefly.is_nil (in_order labels)) s.always_reads p))
+
+mutual
+  tree_alike : (inherited : Option Source) (t : Tree) → Reads inherited → AlwaysReads t → told.holds_of told.accepts inherited t ≡ briefly.accepts_report inherited t
+  tree_alike inherited (tree m own c r) p q =
+      let source = effective own inherited in
+      let here : Reads source = effective_reads own inherited q.0 p in
+      ap₂ (λ x y. x && y) (one_alike source (given_labels m.labels) here) (trees_alike source r here q.2)
+
+  trees_alike : (inherited : Option Source) (ts : Trees) → Reads inherited → AllAlwaysRead ts → told.holds_of_all told.accepts inherited ts ≡ briefly.accepts_related inherited ts
+  trees_alike inherited no_trees p q = refl
+  trees_alike inherited (more_trees t ts) p q = ap₂ (λ x y. x && y) (tree_alike inherited t p q.0) (trees_alike inherited ts p q.1)
+
+-- and refused where that is
+pub brief-accepts : (t : Tree) → AlwaysReads t → told.report_accepted t ≡ briefly.report_accepted t
+brief-accepts t q = tree_alike None t tt q

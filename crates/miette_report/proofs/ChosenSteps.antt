@@ -1,10 +1,13 @@
 -- Steps from the handler that was chosen to the text that the settings ask for.
-use Rattle.std.proofs.Common.{◌≡◌, ℕ, Bool, List, [], length, ◌++◌, ◌∙◌, ap, Option, None, Some, IfSome, Result, Ok, Err, IfOk, OnOk, OnErr, IsUtf8, String, string_bytes, true, false, encode_utf8_all, refl, sym, subst}
+use Rattle.std.proofs.Common.{◌≡◌, ℕ, Bool, List, [], length, ◌++◌, ◌∙◌, ap, Option, None, Some, IfSome, Result, Ok, Err, IfOk, OnOk, OnErr, IsUtf8, String, string_bytes, true, false, encode_utf8_all, refl, sym, subst, not, ◌&&◌}
 use Rattle.miette_graphical.proofs.Only.{same-report}
+use Rattle.miette.specs.rules.Choice.{is_graphical}
 use Rattle.miette.specs.rules.Options.{Options}
 use Rattle.miette.specs.declared.options.handler.MietteHandler.TheVariants as handler
 use Rattle.miette_style.specs.declared.theme.Terminal.{Terminal}
 use Rattle.miette_tree.specs.rules.Tree.{Tree}
+use Rattle.miette_brief.specs.rules.Answered as briefly
+use Rattle.miette_brief.specs.rules.Report as brief
 use Rattle.miette_narrated.specs.rules.Answered.{report_accepted, report_reads, Appends}
 use Rattle.miette_narrated.specs.rules.Report as narrated
 use Rattle.miette_graphical.specs.rules.Answers.{unlisted}
@@ -21,11 +24,11 @@ use Rattle.miette_graphical.specs.rules.Snippets.{drawn_rows}
 use Rattle.miette_graphical.specs.rules.Text.{report_text}
 use Rattle.miette_report.specs.rules.Chosen.{IsAsked, IsGiven, MayRefuse, Stays}
 use Rattle.miette_description.specs.rules.Description.{tree_for}
-use Rattle.miette_report.specs.rules.Job.{IsBuiltText, IsJobText, IsNarrating, IsRefused, Writes}
+use Rattle.miette_report.specs.rules.Job.{IsBuiltText, IsJobText, IsTelling, IsRefused, Writes}
 use Rattle.miette_report.specs.declared.chosen.Chosen.{Chosen}
 use Rattle.miette_report.specs.declared.chosen.Chosen.TheVariants as chosen
 use Rattle.miette_report.specs.declared.option_words.Choice.{Choice}
-use Rattle.miette_report.proofs.AlwaysRead.{printed-reads, told-reads, told-accepted}
+use Rattle.miette_report.proofs.AlwaysRead.{printed-reads, told-reads, told-accepted, brief-reads, brief-accepted, brief-accepts}
 
 -- ---- what a handler of the library appends
 
@@ -76,6 +79,23 @@ narrated-given is_blank h s t old new (Ok x) is reads text only =
     } in
     subst (λ k. AppendsOne (IsGiven is_blank k t) old new) (sym is) one
 
+pub brief-given : {A E H : Type 0} (is_blank : H → Bool) (h : Chosen H) (s : brief.BriefSettings) (t : Tree) (old new : List ℕ) (r : Result A E) → h ≡ chosen.Built (handler.Brief s) → AlwaysReads t
+    → OnOk r (AppendsOne (briefly.IsBrief s t) old new) → OnOk r (briefly.AlwaysReads t → new ≡ old ++ brief.brief s t brief.unlisted) → OnOk r (AppendsOne (IsGiven is_blank h t) old new)
+brief-given is_blank h s t old new (Err e) is reads text only = tt
+brief-given is_blank h s t old new (Ok x) is reads text only =
+    let one : AppendsOne (IsGiven is_blank (chosen.Built (handler.Brief s)) t) old new =
+    record {
+      text = brief.brief s t brief.unlisted;
+      is_given = (brief-accepted t text.is_given.answers reads text.is_given.possible, refl);
+      appended = only (brief-reads t reads);
+    } in
+    subst (λ k. AppendsOne (IsGiven is_blank k t) old new) (sym is) one
+
+pub brief-refuses : {H : Type 0} (h : Chosen H) (s : brief.BriefSettings) (t : Tree) → h ≡ chosen.Built (handler.Brief s) → AlwaysReads t → briefly.report_accepted t ≡ false → MayRefuse h t
+brief-refuses {H} h s t is reads refused =
+    let here : MayRefuse {H = H} (chosen.Built (handler.Brief s)) t = brief-accepts t reads ∙ refused in
+    subst (λ (k : Chosen H). MayRefuse k t) (sym is) here
+
 -- the text where it was appended to none
 pub text-given : {A E F Z : Type 0} (rendered : Result A E) (result : Result (String Z) F) (text : String Z) (old : List ℕ) (P : List ℕ → Type 0) → OnOk rendered (AppendsOne P old (string_bytes text))
     → IfOk result (λ it. (it ≡ text) × OnErr rendered ⊥) → old ≡ [] → IfOk result (λ it. P (string_bytes it))
@@ -96,13 +116,17 @@ pub render-writes : {E Z H : Type 0} (is_blank : H → Bool) (c : Choice) (o : O
 render-writes is_blank c o l h bytes t (Err e) is read given = tt
 render-writes is_blank c o l h bytes t (Ok text) is read given = (read.0, (t, read.1, (string_bytes text, asked-text is_blank c o l h t (string_bytes text) is given, refl)))
 
-asked-refusal : {H : Type 0} (c : Choice) (o : Options H) (l : Terminal) (h : Chosen H) (t : Tree) → IsAsked c o l h → MayRefuse h t → IsNarrating c o l × (report_accepted t ≡ false)
+no-picture : {H : Type 0} (o : Options H) (l : Terminal) → o.brief ≡ true → is_graphical o l ≡ false
+no-picture o l is = ap (λ b. not b && is_graphical (record o { brief = false }) l) is
+
+asked-refusal : {H : Type 0} (c : Choice) (o : Options H) (l : Terminal) (h : Chosen H) (t : Tree) → IsAsked c o l h → MayRefuse h t → IsTelling c o l × (report_accepted t ≡ false)
 asked-refusal c o l chosen.Json t is refused = absurd refused
 asked-refusal c o l chosen.Debug t is refused = absurd refused
 asked-refusal c o l (chosen.Built (handler.Graphical it)) t is refused = absurd refused
 asked-refusal c o l (chosen.Built (handler.Narrated it)) t is refused = ((is.0, is.1.0), refused)
+asked-refusal c o l (chosen.Built (handler.Brief it)) t is refused = ((is.0, no-picture o l is.1.0), refused)
 
-pub render-refuses : {H : Type 0} (c : Choice) (o : Options H) (l : Terminal) (h : Chosen H) (bytes : List ℕ) (t : Tree) → IsAsked c o l h → (IsUtf8 bytes × (tree_for bytes ≡ Some t)) → MayRefuse h t → IsNarrating c o l × IsRefused bytes
+pub render-refuses : {H : Type 0} (c : Choice) (o : Options H) (l : Terminal) (h : Chosen H) (bytes : List ℕ) (t : Tree) → IsAsked c o l h → (IsUtf8 bytes × (tree_for bytes ≡ Some t)) → MayRefuse h t → IsTelling c o l × IsRefused bytes
 render-refuses c o l h bytes t is read refused = let told = asked-refusal c o l h t is refused in (told.0, (read.0, (t, read.1, told.1)))
 
 -- ---- where the handler was called before
@@ -112,6 +136,7 @@ stays-itself is_blank chosen.Json = refl
 stays-itself is_blank chosen.Debug = refl
 stays-itself is_blank (chosen.Built (handler.Graphical it)) = (refl, refl)
 stays-itself is_blank (chosen.Built (handler.Narrated it)) = refl
+stays-itself is_blank (chosen.Built (handler.Brief it)) = refl
 
 pub stays-on : {H : Type 0} (is_blank : H → Bool) (h k m : Chosen H) → Stays is_blank h k → Stays is_blank k m → Stays is_blank h m
 stays-on is_blank chosen.Json k m p q = subst (λ x. Stays is_blank x m) p q
@@ -122,10 +147,19 @@ stays-on is_blank (chosen.Built h) (chosen.Built k) chosen.Json p q = absurd q
 stays-on is_blank (chosen.Built h) (chosen.Built k) chosen.Debug p q = absurd q
 stays-on is_blank (chosen.Built (handler.Graphical h)) (chosen.Built (handler.Graphical k)) (chosen.Built (handler.Graphical m)) p q = (q.0 ∙ p.0, q.1 ∙ p.1)
 stays-on is_blank (chosen.Built (handler.Graphical h)) (chosen.Built (handler.Graphical k)) (chosen.Built (handler.Narrated m)) p q = absurd q
+stays-on is_blank (chosen.Built (handler.Graphical h)) (chosen.Built (handler.Graphical k)) (chosen.Built (handler.Brief m)) p q = absurd q
 stays-on is_blank (chosen.Built (handler.Graphical h)) (chosen.Built (handler.Narrated k)) (chosen.Built m) p q = absurd p
+stays-on is_blank (chosen.Built (handler.Graphical h)) (chosen.Built (handler.Brief k)) (chosen.Built m) p q = absurd p
 stays-on is_blank (chosen.Built (handler.Narrated h)) (chosen.Built (handler.Narrated k)) (chosen.Built (handler.Narrated m)) p q = q ∙ p
 stays-on is_blank (chosen.Built (handler.Narrated h)) (chosen.Built (handler.Narrated k)) (chosen.Built (handler.Graphical m)) p q = absurd q
+stays-on is_blank (chosen.Built (handler.Narrated h)) (chosen.Built (handler.Narrated k)) (chosen.Built (handler.Brief m)) p q = absurd q
 stays-on is_blank (chosen.Built (handler.Narrated h)) (chosen.Built (handler.Graphical k)) (chosen.Built m) p q = absurd p
+stays-on is_blank (chosen.Built (handler.Narrated h)) (chosen.Built (handler.Brief k)) (chosen.Built m) p q = absurd p
+stays-on is_blank (chosen.Built (handler.Brief h)) (chosen.Built (handler.Brief k)) (chosen.Built (handler.Brief m)) p q = q ∙ p
+stays-on is_blank (chosen.Built (handler.Brief h)) (chosen.Built (handler.Brief k)) (chosen.Built (handler.Graphical m)) p q = absurd q
+stays-on is_blank (chosen.Built (handler.Brief h)) (chosen.Built (handler.Brief k)) (chosen.Built (handler.Narrated m)) p q = absurd q
+stays-on is_blank (chosen.Built (handler.Brief h)) (chosen.Built (handler.Graphical k)) (chosen.Built m) p q = absurd p
+stays-on is_blank (chosen.Built (handler.Brief h)) (chosen.Built (handler.Narrated k)) (chosen.Built m) p q = absurd p
 
 -- what it gives then, it might have given at first
 pub given-before : {H : Type 0} (is_blank : H → Bool) (h k : Chosen H) (t : Tree) (text : List ℕ) → Stays is_blank h k → IsGiven is_blank k t text → IsGiven is_blank h t text
@@ -137,8 +171,13 @@ given-before is_blank (chosen.Built (handler.Graphical h)) (chosen.Built (handle
     subst (λ b. drawn.IsTextOf drawn_rows h.settings b t text × (b ≡ true → text ≡ encode_utf8_all (report_text drawn_rows h.settings t unlisted))) stays.1
     (subst (λ s. drawn.IsTextOf drawn_rows s (draws_plain is_blank k) t text × (draws_plain is_blank k ≡ true → text ≡ encode_utf8_all (report_text drawn_rows s t unlisted))) stays.0 given)
 given-before is_blank (chosen.Built (handler.Narrated h)) (chosen.Built (handler.Narrated k)) t text stays given = subst (λ s. IsBuiltText is_blank (handler.Narrated s) t text) stays given
+given-before is_blank (chosen.Built (handler.Brief h)) (chosen.Built (handler.Brief k)) t text stays given = subst (λ s. IsBuiltText is_blank (handler.Brief s) t text) stays given
 given-before is_blank (chosen.Built (handler.Graphical h)) (chosen.Built (handler.Narrated k)) t text stays given = absurd stays
+given-before is_blank (chosen.Built (handler.Graphical h)) (chosen.Built (handler.Brief k)) t text stays given = absurd stays
 given-before is_blank (chosen.Built (handler.Narrated h)) (chosen.Built (handler.Graphical k)) t text stays given = absurd stays
+given-before is_blank (chosen.Built (handler.Narrated h)) (chosen.Built (handler.Brief k)) t text stays given = absurd stays
+given-before is_blank (chosen.Built (handler.Brief h)) (chosen.Built (handler.Graphical k)) t text stays given = absurd stays
+given-before is_blank (chosen.Built (handler.Brief h)) (chosen.Built (handler.Narrated k)) t text stays given = absurd stays
 
 pub refused-before : {H : Type 0} (is_blank : H → Bool) (h k : Chosen H) (t : Tree) → Stays is_blank h k → MayRefuse k t → MayRefuse h t
 refused-before is_blank chosen.Json k t stays refused = subst (λ x. MayRefuse x t) stays refused
@@ -147,7 +186,11 @@ refused-before is_blank (chosen.Built h) chosen.Json t stays refused = absurd re
 refused-before is_blank (chosen.Built h) chosen.Debug t stays refused = absurd refused
 refused-before is_blank (chosen.Built h) (chosen.Built (handler.Graphical k)) t stays refused = absurd refused
 refused-before is_blank (chosen.Built (handler.Narrated h)) (chosen.Built (handler.Narrated k)) t stays refused = refused
+refused-before is_blank (chosen.Built (handler.Brief h)) (chosen.Built (handler.Brief k)) t stays refused = refused
 refused-before is_blank (chosen.Built (handler.Graphical h)) (chosen.Built (handler.Narrated k)) t stays refused = absurd stays
+refused-before is_blank (chosen.Built (handler.Graphical h)) (chosen.Built (handler.Brief k)) t stays refused = absurd stays
+refused-before is_blank (chosen.Built (handler.Narrated h)) (chosen.Built (handler.Brief k)) t stays refused = absurd stays
+refused-before is_blank (chosen.Built (handler.Brief h)) (chosen.Built (handler.Narrated k)) t stays refused = absurd stays
 
 pub length-written : {H : Type 0} (is_blank : H → Bool) (c : Choice) (o : Options H) (l : Terminal) (h : Chosen H) (bytes : List ℕ) (t : Tree) (text : List ℕ) (n : ℕ) → IsAsked c o l h
     → (IsUtf8 bytes × (tree_for bytes ≡ Some t)) → IsGiven is_blank h t text → n ≡ length text → Writes is_blank c o l bytes (λ given. n ≡ length given)

@@ -12,6 +12,8 @@ use Rattle.miette_graphical.specs.views.Handling.{Handling, draws_plain, without
 use Rattle.miette_graphical.specs.rules.Settings.{default_settings}
 use Rattle.miette_graphical.specs.rules.Snippets.{drawn_rows}
 use Rattle.miette_graphical.specs.rules.Text.{report_text}
+use Rattle.miette_brief.specs.rules.Answered as briefly
+use Rattle.miette_brief.specs.rules.Report as rows
 use Rattle.miette_report.proofs.AlwaysRead.{printed-reads}
 use Rattle.miette_report.specs.views.Drawn.{draw_settings, drawn_tree, over_input, CallPictures, IsPicture, IsReadWhole, Pictures}
 use Rattle.miette_report.specs.rules.Words.{AreDrawWords, IsNoDrawCall}
@@ -71,3 +73,11 @@ call_pictured words name offset length label message (Err e) all P are h = tt
 
 pub draw_called : (Q : Type 0) (words : List (List ℕ)) (name : List ℕ) (offset length : ℕ) (label message : List ℕ) → AreDrawWords words name offset length label message → (Q → ⊥) → Q ↔ IsNoDrawCall words
 draw_called Q words name offset length label message are called = (λ q. absurd (called q), λ none. absurd (none name offset length label message are))
+
+-- ---- brief rows
+
+pub listed : (t : Tree) (name : List ℕ) (m : Meaning) (input : List ℕ) (s : rows.BriefSettings) (old new : List ℕ) → t ≡ over_input name m input → s ≡ rows.default_settings → old ≡ []
+    → (briefly.AlwaysReads t → new ≡ old ++ rows.brief s t rows.unlisted) → new ≡ rows.brief rows.default_settings (over_input name m input) rows.unlisted
+listed t name m input s old new same is none only =
+    let over : briefly.AlwaysReads (over_input name m input) = (refl, tt, tt) in
+    only (subst briefly.AlwaysReads (sym same) over) ∙ ap (λ o. o ++ rows.brief s t rows.unlisted) none ∙ ap₂ (λ u v. rows.brief u v rows.unlisted) is same

@@ -117,6 +117,7 @@ fn options_with(
     ensures { IfOk result (λ it. by_language it ≡ with_option (option_ask asked.entry) (by_language options)) }
 {
     Ok(match asked {
+        OptionAsked::Brief => options.force_brief(true),
         OptionAsked::Narrated => options.force_narrated(true),
         OptionAsked::Graphical => options.force_graphical(true),
         OptionAsked::Width(width) => options.width(width),

@@ -3,7 +3,7 @@
 ghost use Rattle.std.specs.Prelude.{◌≡◌, ◌⊎◌, ◌<◌, IfOk, IfSome, IsUtf8, OnErr, OnOk, None, drop, map, string_bytes};
 ghost use Rattle.miette_report.specs.rules.Asked.{choice_in};
 ghost use Rattle.miette_description.specs.rules.Description.{tree_for};
-ghost use Rattle.miette_report.specs.rules.Job.{IsDescription, IsNarrating, IsRefused};
+ghost use Rattle.miette_report.specs.rules.Job.{IsDescription, IsTelling, IsRefused};
 ghost use Rattle.miette_report.specs.rules.Faults.{status_of};
 
 use crate::arguments::Arguments;
@@ -90,7 +90,7 @@ fn measure<R: Read + Drop, W: Write + Drop>(
     ensures description { (result ≡ Err Fault.Description) →
         IfSome (R.remaining reader) (λ bytes. IsUtf8 bytes → tree_for bytes ≡ None) }
     ensures refused { (result ≡ Err Fault.Refused) →
-        IsNarrating settings.choice settings.options settings.terminal × IfSome (R.remaining reader) IsRefused }
+        IsTelling settings.choice settings.options settings.terminal × IfSome (R.remaining reader) IsRefused }
     ensures called { ¬ (result ≡ Err Fault.Usage) }
 {
     let bytes = read_whole(alloc, &mut Device::new(reader))?;

@@ -87,6 +87,9 @@ impl<H: Highlighter> Chosen<H> {
             Chosen::Built(MietteHandler::Narrated(handler)) => {
                 text_or_fault(handler.render_report(report, &mut text), text)
             }
+            Chosen::Built(MietteHandler::Brief(handler)) => {
+                text_or_fault(handler.render_report(report, &mut text), text)
+            }
         }
     }
 

@@ -70,7 +70,7 @@ impl Program {
             Program::Draw => "NAME OFFSET LENGTH LABEL MESSAGE",
             Program::Job => "[OPTIONS]",
             Program::Bench => "N [OPTIONS]",
-            Program::Lint => "NAME WIDTH",
+            Program::Lint => "[--brief] NAME WIDTH",
         }
     }
 

@@ -29,7 +29,7 @@ pub fn job_with<R: Read + Drop, W: Write + Drop, F: Write + Drop>(
     ensures status { result < 5 }
     ensures done { result ≡ 0 → IfSome (R.remaining reader) IsDescription }
     ensures description { result ≡ 3 → IfSome (R.remaining reader) (λ bytes. IsUtf8 bytes → tree_for bytes ≡ None) }
-    // Only a narrated report is refused, and only for a label that isn't accepted.
+    // Only a narrated or brief report is refused, and only for a label that isn't accepted.
     ensures refused { result ≡ 4 → IfSome (R.remaining reader) IsRefused }
     ensures narrated { result ≡ 4 → choice_in Choice.Build (map string_bytes words.now) ≡ Choice.Build }
 {

@@ -1,22 +1,24 @@
 //! The program `lint` over any reader and writers.
 
-ghost use Rattle.std.specs.Prelude.{◌≡◌, ◌↔◌, ◌⊎◌, ◌<◌, false, true, IfOk, IfSome, IsNone, IsTrue, OnErr, map};
+ghost use Rattle.std.specs.Prelude.{◌≡◌, ◌↔◌, ◌⊎◌, ◌<◌, false, true, IfOk, IfSome, IsNone, IsTrue, OnErr, map, Some, None};
 ghost use Rattle.std.specs.Prelude.{string_bytes};
 ghost use Rattle.std.specs.Io.KnownBytes.{Appends};
 ghost use Rattle.miette.specs.Diagnostic.{meaning_of};
 ghost use Rattle.miette_report.specs.views.Device.{TakesBeginning};
-ghost use Rattle.miette_report.specs.views.Linted.{counted, warning, CallIsClean, CallLints, IsClean, IsLinted, Lints};
+ghost use Rattle.miette_report.specs.views.Drawn.{over_input};
+ghost use Rattle.miette_report.specs.views.Linted.{counted, warning, CallIsClean, CallLints, IsClean, IsLinted, IsShown, Lints};
 ghost use Rattle.miette_report.specs.views.Linted.{LintsText};
-ghost use Rattle.miette_report.specs.rules.Words.{AreLintWords, IsNoLintCall};
+ghost use Rattle.miette_report.specs.rules.Words.{AreLintWords, IsNoLintCall, IsReadAs};
 
 use crate::device::Device;
 use crate::fault::{Fault, Program};
 pub use crate::lint_lines::findings;
-use crate::picture::picture_over;
+use crate::picture::{picture_over, rows_over};
 use crate::whole::{read_whole, write_whole};
 use crate::words::number;
 use itoa::Buffer;
 use miette::diagnostic::MietteDiagnostic;
+use miette::error::RenderError;
 use miette::protocol::{LabeledSpan, Severity};
 use std::alloc::{AllocError, Global};
 use std::io::{Read, Write};
@@ -24,6 +26,8 @@ use std::io::{Read, Write};
 /// What the words ask for.
 #[derive(Clone, Copy, Debug, PartialEq, Eq)]
 pub struct LintWords<'a> {
+    /// Whether the findings are brief rows, and no picture.
+    pub brief: bool,
     /// The source's name.
     pub name: &'a str,
     /// How many columns a line may have.
@@ -31,17 +35,32 @@ pub struct LintWords<'a> {
 }
 
 impl<'a> LintWords<'a> {
-    /// Reads the words after the program's name. Nothing, where there are not two, or where the second is no number.
+    /// Reads the words after the program's name: two, and perhaps `--brief` before them. Nothing, where they are
+    /// others, or where the last is no number.
     pub fn read(words: &'a [String]) -> Option<Self>
-        ensures some { IfSome result (λ it. AreLintWords (map string_bytes words.now) it.name.now it.width) }
+        ensures some { IfSome result (λ it. AreLintWords (map string_bytes words.now) it.brief it.name.now
+            it.width) }
         ensures none { IsNone result → IsNoLintCall (map string_bytes words.now) }
     {
-        let [name, width] = words else {
-            return None;
-        };
+        match words {
+            [name, width] => LintWords::named(false, name.as_str(), width.as_str()),
+            [word, name, width] if word.as_str() == "--brief" => {
+                LintWords::named(true, name.as_str(), width.as_str())
+            }
+            _ => None,
+        }
+    }
+
+    // With this name and the width that this word writes. Nothing, where it is no number.
+    fn named(brief: bool, name: &'a str, width: &str) -> Option<Self>
+        ensures some { IfSome result (λ it. (it.brief ≡ brief) × (it.name.now ≡ name.now)
+            × IsReadAs width.now (Some it.width)) }
+        ensures none { IsNone result → IsReadAs width.now None }
+    {
         Some(LintWords {
-            name: name.as_str(),
-            width: number(width.as_str())?,
+            brief,
+            name,
+            width: number(width)?,
         })
     }
 }
@@ -75,20 +94,38 @@ fn diagnostic(alloc: Global, found: Vec<LabeledSpan>) -> Result<MietteDiagnostic
     )
 }
 
+// The text of a diagnostic over the input: brief rows, or a picture.
+fn shown(
+    alloc: Global,
+    words: &LintWords<'_>,
+    diagnostic: MietteDiagnostic,
+    input: Vec<u8>,
+) -> Result<String, RenderError>
+    ensures { IfOk result (λ text. IsShown words.now.brief
+        (over_input words.now.name.now (meaning_of diagnostic) input.items) (string_bytes text)) }
+{
+    if words.brief {
+        rows_over(alloc, words.name, diagnostic, input)
+    } else {
+        picture_over(alloc, words.name, diagnostic, input)
+    }
+}
+
 // The text for what is found in the input: nothing where that is nothing.
 fn text_of(
     alloc: Global,
-    name: &str,
+    words: &LintWords<'_>,
     found: Vec<LabeledSpan>,
     input: Vec<u8>,
 ) -> Result<String, AllocError>
-    ensures { IfOk result (λ text. IsLinted name.now input.items found.items (string_bytes text)) }
+    ensures { IfOk result (λ text. IsLinted words.now.brief words.now.name.now input.items found.items
+        (string_bytes text)) }
 {
     if is_clean(&found) {
         return Ok(String::new(alloc));
     }
     let diagnostic = diagnostic(alloc, found)?;
-    match picture_over(alloc, name, diagnostic, input) {
+    match shown(alloc, words, diagnostic, input) {
         Ok(text) => Ok(text),
         Err(_) => Err(AllocError),
     }
@@ -109,7 +146,7 @@ pub fn write_findings<R: Read, W: Write>(
     requires reader_unmarked { reader.old.failed ≡ false }
     requires writer_unmarked { writer.old.failed ≡ false }
     ensures ok { IfOk result (λ clean. IfSome (R.remaining reader.old.inner) (λ bytes.
-        Lints words.now.name.now words.now.width bytes clean
+        Lints words.now.brief words.now.name.now words.now.width bytes clean
         (Appends (W.contents writer.old.inner) (W.contents writer.new.inner)))) }
     ensures others { OnErr result ((result ≡ Err Fault.Memory) ⊎ (result ≡ Err Fault.Read)
         ⊎ (result ≡ Err Fault.Write)) }
@@ -118,7 +155,7 @@ pub fn write_findings<R: Read, W: Write>(
     ensures write_mark { IsTrue writer.new.failed ↔ (result ≡ Err Fault.Write) }
     // After a write fault a beginning of the text was taken.
     ensures beginning { (result ≡ Err Fault.Write) → IfSome (R.remaining reader.old.inner) (λ bytes.
-        LintsText words.now.name.now words.now.width bytes
+        LintsText words.now.brief words.now.name.now words.now.width bytes
         (TakesBeginning (W.contents writer.old.inner) (W.contents writer.new.inner))) }
     // After any other error nothing was written.
     ensures untouched { OnErr result ((result ≡ Err Fault.Write) ⊎ (writer.new ≡ writer.old)) }
@@ -126,7 +163,7 @@ pub fn write_findings<R: Read, W: Write>(
     let input = read_whole(alloc, reader)?;
     let found = findings(alloc, input.as_slice(), words.width)?;
     let clean = is_clean(&found);
-    let text = text_of(alloc, words.name, found, input)?;
+    let text = text_of(alloc, words, found, input)?;
     write_whole(writer, text.as_bytes())?;
     Ok(clean)
 }

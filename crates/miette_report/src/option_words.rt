@@ -14,7 +14,7 @@ use miette::options::RgbColors;
 /// Which handler gives the text.
 #[derive(Clone, Copy, Debug, PartialEq, Eq)]
 pub enum Choice {
-    /// The one that the options build: graphical or narrated.
+    /// The one that the options build: graphical, narrated or brief.
     Build,
     /// JSON.
     Json,
@@ -43,6 +43,7 @@ pub(crate) enum BuildAsked<'a> {
 /// What is asked for of the handler that is built.
 #[derive(Clone, Copy)]
 pub(crate) enum OptionAsked<'a> {
+    Brief,
     Narrated,
     Graphical,
     Width(usize),
@@ -114,6 +115,7 @@ fn alone<'a>(word: &str) -> Option<Asked<'a>>
     match word {
         "--json" => Some(Asked::Choice(Choice::Json)),
         "--debug" => Some(Asked::Choice(Choice::Debug)),
+        "--brief" => Some(Asked::Build(BuildAsked::Option(OptionAsked::Brief))),
         "--narrated" => Some(Asked::Build(BuildAsked::Option(OptionAsked::Narrated))),
         "--graphical" => Some(Asked::Build(BuildAsked::Option(OptionAsked::Graphical))),
         _ => None,

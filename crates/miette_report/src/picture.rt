@@ -1,13 +1,14 @@
-//! The picture of a diagnostic over a source.
+//! The picture of a diagnostic over a source, and its brief rows.
 
 ghost use Rattle.std.specs.Prelude.{◌≡◌, string_bytes, IfOk};
 ghost use Rattle.miette.specs.Diagnostic.{meaning_of};
 ghost use Rattle.miette.specs.Report.{tree_of};
+ghost use Rattle.miette_brief.specs.rules.Report.{brief, default_settings, unlisted};
 ghost use Rattle.miette_report.specs.views.Drawn.{over_input, IsPicture, IsReadWhole};
 
 use miette::diagnostic::MietteDiagnostic;
 use miette::error::RenderError;
-use miette::handlers::GraphicalReportHandler;
+use miette::handlers::{BriefReportHandler, GraphicalReportHandler};
 use miette::protocol::Diagnostic;
 use miette::report::{OwnedSource, Report};
 use miette::source::SourceCode;
@@ -72,4 +73,26 @@ pub(crate) fn picture_over(
         Err(_) => return Err(RenderError::Memory),
     };
     draw(alloc, &report)
+}
+
+/// The brief rows of a diagnostic over the input under its name.
+///
+/// # Errors
+/// Where no memory is found, and where a label isn't accepted.
+pub(crate) fn rows_over(
+    alloc: Global,
+    name: &str,
+    diagnostic: MietteDiagnostic,
+    input: Vec<u8>,
+) -> Result<String, RenderError>
+    ensures { IfOk result (λ text. string_bytes text
+        ≡ brief default_settings (over_input name.now (meaning_of diagnostic) input.items) unlisted) }
+{
+    let report: Report = match report(alloc, name, diagnostic, input) {
+        Ok(report) => report,
+        Err(_) => return Err(RenderError::Memory),
+    };
+    let mut text = String::new(alloc);
+    BriefReportHandler::new().render_report(&report, &mut text)?;
+    Ok(text)
 }

@@ -7,7 +7,7 @@ ghost use Rattle.miette_report.specs.views.Device.{TakesBeginning};
 ghost use Rattle.miette_tree.specs.views.Report.{tree_of};
 ghost use Rattle.miette_json.specs.rules.Reads.{AlwaysReads};
 ghost use Rattle.miette_description.specs.rules.Description.{tree_for};
-ghost use Rattle.miette_report.specs.rules.Job.{IsDescription, IsNarrating, IsRefused, Writes};
+ghost use Rattle.miette_report.specs.rules.Job.{IsDescription, IsTelling, IsRefused, Writes};
 
 use crate::arguments::Arguments;
 use crate::chosen::Chosen;
@@ -46,7 +46,7 @@ fn text_of(alloc: Global, bytes: &[u8], settings: Arguments) -> Result<String, F
         settings.options settings.terminal bytes.now (λ given. string_bytes text ≡ given)) }
     ensures description { (result ≡ Err Fault.Description) → IsUtf8 bytes.now → tree_for bytes.now ≡ None }
     ensures refused { (result ≡ Err Fault.Refused) →
-        IsNarrating settings.choice settings.options settings.terminal × IsRefused bytes.now }
+        IsTelling settings.choice settings.options settings.terminal × IsRefused bytes.now }
     ensures others { OnErr result ((result ≡ Err Fault.Description) ⊎ (result ≡ Err Fault.Refused)
         ⊎ (result ≡ Err Fault.Memory)) }
 {
@@ -68,7 +68,7 @@ pub(crate) fn rendered_length(
     ensures described { OnOk result (IsDescription bytes.now) }
     ensures description { (result ≡ Err Fault.Description) → IsUtf8 bytes.now → tree_for bytes.now ≡ None }
     ensures refused { (result ≡ Err Fault.Refused) →
-        IsNarrating settings.choice settings.options settings.terminal × IsRefused bytes.now }
+        IsTelling settings.choice settings.options settings.terminal × IsRefused bytes.now }
     ensures others { OnErr result ((result ≡ Err Fault.Description) ⊎ (result ≡ Err Fault.Refused)
         ⊎ (result ≡ Err Fault.Memory)) }
 {
@@ -86,7 +86,7 @@ pub(crate) fn rendered_length(
 /// # Errors
 /// `Read` exactly where a call of the reader failed. `Write` exactly where one of the writer failed, or took nothing:
 /// it has then taken a beginning of the text. `Description` where what was read describes no report. `Refused` only
-/// of a narrated report, where a label that it tells isn't accepted. `Memory` where memory is refused. After all but
+/// of a narrated or brief report, where a label that it tells isn't accepted. `Memory` where memory is refused. After all but
 /// `Write` nothing was written.
 pub fn run<R: Read, W: Write>(
     alloc: Global,
@@ -104,9 +104,9 @@ pub fn run<R: Read, W: Write>(
         IsUtf8 bytes → tree_for bytes ≡ None) }
     ensures read_mark { IsTrue reader.new.failed ↔ (result ≡ Err Fault.Read) }
     ensures write_mark { IsTrue writer.new.failed ↔ (result ≡ Err Fault.Write) }
-    // Only a narrated report is refused, and only where a label that it tells isn't accepted.
+    // Only a narrated or brief report is refused, and only where a label that it tells isn't accepted.
     ensures refused { (result ≡ Err Fault.Refused) →
-        IsNarrating settings.choice settings.options settings.terminal
+        IsTelling settings.choice settings.options settings.terminal
         × IfSome (R.remaining reader.old.inner) IsRefused }
     // After a write fault a beginning of the text was taken.
     ensures beginning { (result ≡ Err Fault.Write) → IfSome (R.remaining reader.old.inner) (λ bytes.

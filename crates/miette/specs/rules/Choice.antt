@@ -1,12 +1,14 @@
 -- Which handler options and a terminal choose, and how it is set. Of several places that may say it, the first that
 -- does counts.
-use Rattle.std.specs.Prelude.{◌≡◌, ℕ, Bool, true, false, not, List, Option, None, is_some, if◌then◌else◌, unwrap_or}
+use Rattle.std.specs.Prelude.{◌≡◌, ℕ, Bool, true, false, not, ◌&&◌, List, Option, None, is_some, if◌then◌else◌, unwrap_or}
 use Rattle.std.specs.Prelude.{option_map, chars, codes, string_bytes}
 use Rattle.std.specs.Option.{option_or}
 use Rattle.std.specs.Str.{bytes_eq}
 use Rattle.miette_style.specs.rules.Themes.{Styles, Theme, ansi_styles, ascii_characters, no_styles}
 use Rattle.miette_style.specs.rules.Themes.{rgb_styles, unicode_characters}
 use Rattle.miette_style.specs.declared.theme.Terminal.{Terminal}
+use Rattle.miette_brief.specs.rules.Report.{BriefSettings}
+use Rattle.miette_brief.specs.rules.Report as brief
 use Rattle.miette_narrated.specs.rules.Report as narrated
 use Rattle.miette_graphical.specs.views.Handling.{Handling}
 use Rattle.miette_graphical.specs.rules.Settings.{Settings, Urls, default_settings, links_shown}
@@ -14,15 +16,16 @@ use Rattle.miette.specs.rules.Options.{Options}
 use Rattle.miette.specs.declared.options.RgbColors.{RgbColors}
 use Rattle.miette.specs.declared.options.RgbColors.TheVariants.{Always, Preferred, Never}
 use Rattle.miette.specs.declared.options.handler.MietteHandler.{MietteHandler}
-use Rattle.miette.specs.declared.options.handler.MietteHandler.TheVariants.{Graphical, Narrated}
+use Rattle.miette.specs.declared.options.handler.MietteHandler.TheVariants.{Graphical, Narrated, Brief}
 
 -- what the terminal's user says of graphics: `0` asks for them, all else for none
 abbrev pub asks_for_graphics : List ℕ → Bool
 asks_for_graphics text = bytes_eq text (codes "0")
 
+-- pictures, where reports are not brief
 abbrev pub is_graphical : {H : Type 0} → Options H → Terminal → Bool
 is_graphical o t =
-    unwrap_or (option_map not o.narrated) (unwrap_or o.graphical
+    not o.brief && unwrap_or (option_map not o.narrated) (unwrap_or o.graphical
     (unwrap_or (option_map asks_for_graphics (option_map string_bytes t.no_graphics)) true))
 
 abbrev pub chosen_width : {H : Type 0} → Options H → Terminal → ℕ
@@ -80,6 +83,10 @@ told o =
       footer = option_or o.footer default.footer;
     }
 
+-- how reports are told in brief: what isn't set stays as it is
+abbrev pub briefly : {H : Type 0} → Options H → BriefSettings
+briefly o = record { chain = unwrap_or o.chain brief.default_settings.chain }
+
 -- the graphical handler that options and a terminal choose
 pub record IsDrawing {H : Type 0} (o : Options H) (t : Terminal) (it : Handling H) : Type 0 where
   pub settings : it.settings ≡ drawn o t
@@ -88,4 +95,5 @@ pub record IsDrawing {H : Type 0} (o : Options H) (t : Terminal) (it : Handling 
 -- the handler that options and a terminal choose
 abbrev pub IsChosen : {H : Type 0} → Options H → Terminal → MietteHandler H → Type 0
 IsChosen o t (Graphical it) = (is_graphical o t ≡ true) × IsDrawing o t it
-IsChosen o t (Narrated it) = (is_graphical o t ≡ false) × (it ≡ told o)
+IsChosen o t (Narrated it) = (is_graphical o t ≡ false) × (o.brief ≡ false) × (it ≡ told o)
+IsChosen o t (Brief it) = (o.brief ≡ true) × (it ≡ briefly o)

@@ -1,10 +1,11 @@
 -- What a user may ask for: each option as it was set last, or nothing. The parameter is the type of highlighters.
-use Rattle.std.specs.Prelude.{ℕ, Bool, List, Option, None}
+use Rattle.std.specs.Prelude.{ℕ, Bool, false, List, Option, None}
 use Rattle.miette_style.specs.rules.Themes.{Theme}
 use Rattle.miette.specs.declared.options.RgbColors.{RgbColors}
 use Rattle.miette.specs.declared.options.RgbColors.TheVariants.{Never}
 
 pub record Options (H : Type 0) : Type 0 where
+  pub brief : Bool
   pub narrated : Option Bool
   pub graphical : Option Bool
   pub width : Option ℕ
@@ -25,6 +26,7 @@ pub record Options (H : Type 0) : Type 0 where
 
 abbrev pub no_options : {H : Type 0} → Options H
 no_options = record {
+  brief = false;
   narrated = None;
   graphical = None;
   width = None;

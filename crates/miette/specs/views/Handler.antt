@@ -1,26 +1,34 @@
--- What either handler may give, refuse and keep: what the one that was chosen does.
+-- What each handler may give, refuse and keep: what the one that was chosen does.
 use Rattle.std.specs.Prelude.{◌≡◌, ℕ, Bool, List, false}
 use Rattle.miette_tree.specs.rules.Tree.{Tree}
+use Rattle.miette_brief.specs.rules.Answered as brief
 use Rattle.miette_narrated.specs.rules.Answered.{IsNarrated, report_accepted}
 use Rattle.miette_graphical.specs.rules.Answered.{IsTextOf}
 use Rattle.miette_graphical.specs.views.Handling.{draws_plain}
 use Rattle.miette_graphical.specs.rules.Printed.{all_read, printed}
 use Rattle.miette_graphical.specs.rules.Snippets.{drawn_rows}
 use Rattle.miette.specs.declared.options.handler.MietteHandler.{MietteHandler}
-use Rattle.miette.specs.declared.options.handler.MietteHandler.TheVariants.{Graphical, Narrated}
+use Rattle.miette.specs.declared.options.handler.MietteHandler.TheVariants.{Graphical, Narrated, Brief}
 
 abbrev pub Gives : {H : Type 0} → (H → Bool) → MietteHandler H → Tree → List ℕ → Type 0
 Gives is_blank (Graphical it) t = IsTextOf drawn_rows it.settings (draws_plain is_blank it) t
 Gives is_blank (Narrated it) t = IsNarrated it t
+Gives is_blank (Brief it) t = brief.IsBrief it t
 
 abbrev pub Refuses : {H : Type 0} → MietteHandler H → Tree → Type 0
 Refuses (Graphical it) t = all_read (printed it.settings t) ≡ false
 Refuses (Narrated it) t = report_accepted t ≡ false
+Refuses (Brief it) t = brief.report_accepted t ≡ false
 
 -- The kind stays; of a graphical handler the settings do, and whether it leaves lines plain.
 abbrev pub Keeps : {H : Type 0} → (H → Bool) → MietteHandler H → MietteHandler H → Type 0
 Keeps is_blank (Graphical old) (Graphical new) =
     (new.settings ≡ old.settings) × (draws_plain is_blank new ≡ draws_plain is_blank old)
 Keeps is_blank (Narrated old) (Narrated new) = new ≡ old
+Keeps is_blank (Brief old) (Brief new) = new ≡ old
 Keeps is_blank (Graphical old) (Narrated new) = ⊥
+Keeps is_blank (Graphical old) (Brief new) = ⊥
 Keeps is_blank (Narrated old) (Graphical new) = ⊥
+Keeps is_blank (Narrated old) (Brief new) = ⊥
+Keeps is_blank (Brief old) (Graphical new) = ⊥
+Keeps is_blank (Brief old) (Narrated new) = ⊥

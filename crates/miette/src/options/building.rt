@@ -4,15 +4,17 @@ ghost use Rattle.std.specs.Prelude.{◌≡◌, IfOk, None, chars, option_map, un
 ghost use Rattle.std.specs.Option.{option_or};
 ghost use Rattle.miette_style.specs.rules.Themes.{characters_of, styles_of, theme_of};
 ghost use Rattle.miette.specs.rules.Choice.{IsChosen, IsDrawing, chosen_highlighter, chosen_theme, chosen_width};
-ghost use Rattle.miette.specs.rules.Choice.{coloured_styles, fitting_theme, is_graphical, takes_colours, told};
+ghost use Rattle.miette.specs.rules.Choice.{briefly, coloured_styles, fitting_theme, is_graphical, takes_colours, told};
 
 use crate::options::{MietteHandler, MietteHandlerOpts, RgbColors, Terminal};
-use miette_handlers::handlers::{GraphicalReportHandler, NarratableReportHandler};
+use miette_handlers::handlers::{
+    BriefReportHandler, GraphicalReportHandler, NarratableReportHandler,
+};
 use miette_style::highlight::Highlighter;
 use miette_style::theme::{GraphicalTheme, ThemeCharacters, ThemeStyles};
 use std::alloc::{AllocError, Global};
 
-/// A handler of either kind with the causes, the context and the footer of options.
+/// A graphical or a narrating handler with the causes, the context and the footer of options.
 macro_rules! with_parts {
     ($handler:expr, $options:expr) => {{
         let MietteHandlerOpts {
@@ -48,6 +50,8 @@ impl<H: Highlighter> MietteHandlerOpts<H> {
     {
         if self.is_graphical(terminal) {
             Ok(MietteHandler::Graphical(self.graphical_handler(alloc, terminal)?))
+        } else if self.force_brief {
+            Ok(MietteHandler::Brief(self.brief_handler()))
         } else {
             Ok(MietteHandler::Narrated(self.narrated_handler()))
         }
@@ -74,14 +78,16 @@ impl<H: Highlighter> MietteHandlerOpts<H> {
         ensures { result ≡ is_graphical self.now terminal.now }
     {
         match (
+            self.force_brief,
             self.force_narrated,
             self.force_graphical,
             &terminal.no_graphics,
         ) {
-            (Some(narrated), _, _) => !narrated,
-            (None, Some(graphical), _) => graphical,
-            (None, None, Some(text)) => text.as_str() == "0",
-            (None, None, None) => true,
+            (true, _, _, _) => false,
+            (false, Some(narrated), _, _) => !narrated,
+            (false, None, Some(graphical), _) => graphical,
+            (false, None, None, Some(text)) => text.as_str() == "0",
+            (false, None, None, None) => true,
         }
     }
 
@@ -89,6 +95,17 @@ impl<H: Highlighter> MietteHandlerOpts<H> {
         ensures { result ≡ told self }
     {
         with_parts!(NarratableReportHandler::new(), self)
+    }
+
+    fn brief_handler(&self) -> BriefReportHandler
+        ensures { result ≡ briefly self.now }
+    {
+        let handler = BriefReportHandler::new();
+        match self.cause_chain {
+            Some(true) => handler.with_cause_chain(),
+            Some(false) => handler.without_cause_chain(),
+            None => handler,
+        }
     }
 
     /// The theme that was set, which is then taken out, or the one that fits.

@@ -5,7 +5,9 @@ ghost use Rattle.miette.specs.rules.Choice.{IsChosen};
 ghost use Rattle.miette.specs.rules.Options.{no_options};
 
 use crate::options::{MietteHandlerOpts, Terminal};
-use miette_handlers::handlers::{GraphicalReportHandler, NarratableReportHandler, ReportHandler};
+use miette_handlers::handlers::{
+    BriefReportHandler, GraphicalReportHandler, NarratableReportHandler, ReportHandler,
+};
 use miette_protocol::error::RenderError;
 use miette_protocol::protocol::Diagnostic;
 use miette_protocol::source::SourceCode;
@@ -13,14 +15,16 @@ use miette_style::highlight::Highlighter;
 use miette_tree::report::Report;
 use std::alloc::{AllocError, Global};
 
-/// A handler that draws reports or one that narrates them. Users write `MietteHandler`; the parameter is the type of
-/// the highlighter that is used.
+/// A handler that draws reports, one that narrates them, or one that tells them in brief. Users write `MietteHandler`;
+/// the parameter is the type of the highlighter that is used.
 #[derive(Drop)]
 pub enum MietteHandler<H = Box<dyn Highlighter>> {
     /// Reports are pictures.
     Graphical(GraphicalReportHandler<H>),
     /// Reports are rows of plain words.
     Narrated(NarratableReportHandler),
+    /// Reports have one row for each part.
+    Brief(BriefReportHandler),
 }
 
 impl MietteHandler {
@@ -52,6 +56,7 @@ impl<H: Highlighter> ReportHandler for MietteHandler<H> {
         match self {
             MietteHandler::Graphical(handler) => handler.debug(report, out),
             MietteHandler::Narrated(handler) => handler.debug(report, out),
+            MietteHandler::Brief(handler) => handler.debug(report, out),
         }
     }
 }

@@ -9,7 +9,8 @@ use Rattle.miette_report.specs.declared.option_words.Choice.TheVariants.{Json, D
 abbrev pub is_alone : List ℕ → Bool
 is_alone word =
     bytes_eq word (codes "--json") || (bytes_eq word (codes "--debug")
-    || (bytes_eq word (codes "--narrated") || bytes_eq word (codes "--graphical")))
+    || (bytes_eq word (codes "--brief")
+    || (bytes_eq word (codes "--narrated") || bytes_eq word (codes "--graphical"))))
 
 -- the handler of this name, or the one before
 abbrev pub named_choice : Choice → List ℕ → Choice

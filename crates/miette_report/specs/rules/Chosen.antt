@@ -28,12 +28,13 @@ IsGiven is_blank chosen.Json t text = text ≡ json_text (value_of t)
 IsGiven is_blank chosen.Debug t text = IsDebugText t text
 IsGiven is_blank (chosen.Built it) t text = IsBuiltText is_blank it t text
 
--- only a narrated report is refused, for a label that isn't accepted
+-- only a narrated or brief report is refused, for a label that isn't accepted
 abbrev pub MayRefuse : {H : Type 0} → Chosen H → Tree → Type 0
 MayRefuse chosen.Json t = ⊥
 MayRefuse chosen.Debug t = ⊥
 MayRefuse (chosen.Built (handler.Graphical it)) t = ⊥
 MayRefuse (chosen.Built (handler.Narrated it)) t = report_accepted t ≡ false
+MayRefuse (chosen.Built (handler.Brief it)) t = report_accepted t ≡ false
 
 -- The handler stays; of one that is built what a handler keeps does.
 abbrev pub Stays : {H : Type 0} → (H → Bool) → Chosen H → Chosen H → Type 0

@@ -32,7 +32,7 @@ abbrev pub usage_of : Program → List ℕ
 usage_of Draw = codes "NAME OFFSET LENGTH LABEL MESSAGE"
 usage_of Job = codes "[OPTIONS]"
 usage_of Bench = codes "N [OPTIONS]"
-usage_of Lint = codes "NAME WIDTH"
+usage_of Lint = codes "[--brief] NAME WIDTH"
 
 -- after its name what ended the program, and a line feed
 abbrev pub named_row : Program → List ℕ → List ℕ

@@ -3,9 +3,10 @@ use Rattle.std.specs.Prelude.{◌≡◌, ℕ, Bool, List, Some, true, false, IsU
 use Rattle.miette.specs.rules.Choice.{IsChosen, is_graphical}
 use Rattle.miette.specs.rules.Options.{Options}
 use Rattle.miette.specs.declared.options.handler.MietteHandler.{MietteHandler}
-use Rattle.miette.specs.declared.options.handler.MietteHandler.TheVariants.{Graphical, Narrated}
+use Rattle.miette.specs.declared.options.handler.MietteHandler.TheVariants.{Graphical, Narrated, Brief}
 use Rattle.miette_style.specs.declared.theme.Terminal.{Terminal}
 use Rattle.miette_tree.specs.rules.Tree.{Tree}
+use Rattle.miette_brief.specs.rules.Report as brief
 use Rattle.miette_narrated.specs.rules.Answered.{report_accepted}
 use Rattle.miette_narrated.specs.rules.Report as narrated
 use Rattle.miette_graphical.specs.rules.Answered.{IsTextOf}
@@ -21,13 +22,14 @@ use Rattle.miette_report.specs.declared.option_words.Choice.{Choice}
 use Rattle.miette_report.specs.declared.option_words.Choice.TheVariants.{Build, Json, Debug}
 
 -- A text that a handler gives for a tree whose sources always read: a picture, one alone where no highlighter or a
--- blank one is set; a narrated text only where every label that is told is accepted.
+-- blank one is set; a narrated or brief text only where every label that is told is accepted.
 abbrev pub IsBuiltText : {H : Type 0} → (H → Bool) → MietteHandler H → Tree → List ℕ → Type 0
 IsBuiltText is_blank (Graphical it) t text =
     IsTextOf drawn_rows it.settings (draws_plain is_blank it) t text
     × (draws_plain is_blank it ≡ true → text ≡ encode_utf8_all (report_text drawn_rows it.settings t unlisted))
 IsBuiltText is_blank (Narrated it) t text = (report_accepted t ≡ true)
     × (text ≡ narrated.narrated it t narrated.unlisted)
+IsBuiltText is_blank (Brief it) t text = (report_accepted t ≡ true) × (text ≡ brief.brief it t brief.unlisted)
 
 -- the same by what was asked for
 abbrev pub IsJobText : {H : Type 0} → (H → Bool) → Choice → Options H → Terminal → Tree → List ℕ → Type 0
@@ -50,6 +52,6 @@ IsDescription bytes = IsUtf8 bytes × ((t : Tree) × (tree_for bytes ≡ Some t)
 abbrev pub IsRefused : List ℕ → Type 0
 IsRefused bytes = IsUtf8 bytes × ((t : Tree) × (tree_for bytes ≡ Some t) × (report_accepted t ≡ false))
 
--- the report is narrated
-abbrev pub IsNarrating : {H : Type 0} → Choice → Options H → Terminal → Type 0
-IsNarrating choice options terminal = (choice ≡ Build) × (is_graphical options terminal ≡ false)
+-- the report is narrated, or told in brief
+abbrev pub IsTelling : {H : Type 0} → Choice → Options H → Terminal → Type 0
+IsTelling choice options terminal = (choice ≡ Build) × (is_graphical options terminal ≡ false)

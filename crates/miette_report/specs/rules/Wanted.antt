@@ -20,6 +20,7 @@ use Rattle.miette_report.specs.declared.option_words.Choice.TheVariants.{Build, 
 
 -- of how the handler that is built writes
 pub data OptionAsk : Type 0 where
+  Brief : OptionAsk
   Narrated : OptionAsk
   Graphical : OptionAsk
   Width : ℕ → OptionAsk
@@ -58,8 +59,9 @@ abbrev pub word_ask : List ℕ → Option Ask
 word_ask word =
     if bytes_eq word (codes "--json") then Some (OfHandler Json)
     else (if bytes_eq word (codes "--debug") then Some (OfHandler Debug)
+    else (if bytes_eq word (codes "--brief") then Some (OfOptions Brief)
     else (if bytes_eq word (codes "--narrated") then Some (OfOptions Narrated)
-    else (if bytes_eq word (codes "--graphical") then Some (OfOptions Graphical) else None)))
+    else (if bytes_eq word (codes "--graphical") then Some (OfOptions Graphical) else None))))
 
 -- a word whose value is any text
 abbrev pub text_ask : List ℕ → List ℕ → Option Ask
@@ -203,6 +205,7 @@ nothing_asked = record {
 -- options with the language of their highlighter in its place
 abbrev pub by_language : Options LanguageHighlighter → Options Language
 by_language o = record {
+  brief = o.brief;
   narrated = o.narrated;
   graphical = o.graphical;
   width = o.width;
@@ -232,6 +235,7 @@ wanted choice options terminal = record {
 
 -- Options with one thing more, in place of what was asked for it before.
 abbrev pub options_with : OptionAsk → Options Language → Options Language
+options_with Brief o = record o { brief = true }
 options_with Narrated o = record o { narrated = Some true }
 options_with Graphical o = record o { graphical = Some true }
 options_with (Width n) o = record o { width = Some n }

@@ -1,5 +1,6 @@
 -- The words that programs are called with.
-use Rattle.std.specs.Prelude.{◌≡◌, ℕ, ◌<◌, ◌≤◌, ◌^◌, List, [], ◌∷◌, Option, Some, None}
+use Rattle.std.specs.Prelude.{◌≡◌, ℕ, ◌<◌, ◌≤◌, ◌^◌, Bool, true, false, List, [], ◌∷◌, ◌++◌, Option, Some, None}
+use Rattle.std.specs.Prelude.{codes}
 use Rattle.std.specs.Str.Parse.{IsNumeral, digits_value}
 
 -- What a word is read as: the number that its digits write, one or more and nothing else, where that number is below
@@ -22,12 +23,17 @@ abbrev pub IsNoDrawCall : List (List ℕ) → Type 0
 IsNoDrawCall words = (name : List ℕ) (offset length : ℕ) (label message : List ℕ) →
     ¬ (AreDrawWords words name offset length label message)
 
--- two words, the second of which is a number
-pub record AreLintWords (words : List (List ℕ)) (name : List ℕ) (width : ℕ) : Type 0 where
+-- the word that asks for rows in place of a picture
+abbrev pub brief_word : Bool → List (List ℕ)
+brief_word true = codes "--brief" ∷ []
+brief_word false = []
+
+-- two words, the second of which is a number, and before them perhaps `--brief`
+pub record AreLintWords (words : List (List ℕ)) (brief : Bool) (name : List ℕ) (width : ℕ) : Type 0 where
   pub width_word : List ℕ
-  pub two : words ≡ name ∷ width_word ∷ []
+  pub are : words ≡ brief_word brief ++ (name ∷ width_word ∷ [])
   pub width_is : IsReadAs width_word (Some width)
 
 -- no reading of the words is one of `lint`'s
 abbrev pub IsNoLintCall : List (List ℕ) → Type 0
-IsNoLintCall words = (name : List ℕ) (width : ℕ) → ¬ (AreLintWords words name width)
+IsNoLintCall words = (brief : Bool) (name : List ℕ) (width : ℕ) → ¬ (AreLintWords words brief name width)

@@ -11,7 +11,7 @@ use Rattle.miette_report.specs.declared.option_words.TerminalAsked.TheVariants a
 use Rattle.miette_report.specs.declared.option_words.ThemeAsked.{ThemeAsked}
 use Rattle.miette_report.specs.declared.option_words.ThemeAsked.TheVariants as theme
 use Rattle.miette_report.specs.rules.Wanted.{Ask, OfHandler, OfOptions, OfTerminal}
-use Rattle.miette_report.specs.rules.Wanted.{OptionAsk, Narrated, Graphical, Width, Context, Tab, Drawn, Unicode, Color}
+use Rattle.miette_report.specs.rules.Wanted.{OptionAsk, Brief, Narrated, Graphical, Width, Context, Tab, Drawn, Unicode, Color}
 use Rattle.miette_report.specs.rules.Wanted.{Links, Chain, Break, Wrap, Hyphens, Nested, Rgb, Footer, Highlighted}
 use Rattle.miette_report.specs.rules.Wanted.{TerminalAsk, Columns, Colours, DrawsUnicode, ShowsLinks, NoGraphics}
 
@@ -22,6 +22,7 @@ theme_named theme.UnicodeNocolor = record { characters = unicode_characters; sty
 theme_named theme.None = record { characters = ascii_characters; styles = no_styles }
 
 abbrev pub option_ask : OptionAsked → OptionAsk
+option_ask option.Brief = Brief
 option_ask option.Narrated = Narrated
 option_ask option.Graphical = Graphical
 option_ask (option.Width n) = Width n

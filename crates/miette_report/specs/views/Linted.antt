@@ -1,6 +1,8 @@
 -- What the program `lint` reports.
 use Rattle.std.specs.Prelude.{◌≡◌, ℕ, ◌<◌, Bool, true, false, List, [], ◌∷◌, ◌++◌, Some, codes, decimal, length}
 use Rattle.miette.specs.Diagnostic.{message_alone}
+use Rattle.miette.specs.Tree.{Tree}
+use Rattle.miette_brief.specs.rules.Report as rows
 use Rattle.miette.specs.Meaning.{Label, Meaning}
 use Rattle.miette_protocol.specs.declared.protocol.Severity.TheVariants.{Warning}
 use Rattle.miette_report.specs.views.Drawn.{over_input, IsPicture}
@@ -14,10 +16,15 @@ counted n = decimal n ++ codes " findings"
 abbrev pub warning : List Label → Meaning
 warning found = record (message_alone (counted (length found))) { severity = Some Warning; labels = Some found }
 
+-- the text of a report that is read whole: brief rows, or a picture
+abbrev pub IsShown : Bool → Tree → List ℕ → Type 0
+IsShown true t text = text ≡ rows.brief rows.default_settings t rows.unlisted
+IsShown false t text = IsPicture t text
+
 -- the text for what is found in the input: nothing where that is nothing
-abbrev pub IsLinted : List ℕ → List ℕ → List Label → List ℕ → Type 0
-IsLinted name input [] text = text ≡ []
-IsLinted name input (l ∷ ls) text = IsPicture (over_input name (warning (l ∷ ls)) input) text
+abbrev pub IsLinted : Bool → List ℕ → List ℕ → List Label → List ℕ → Type 0
+IsLinted brief name input [] text = text ≡ []
+IsLinted brief name input (l ∷ ls) text = IsShown brief (over_input name (warning (l ∷ ls)) input) text
 
 -- whether there is none
 abbrev pub IsClean : List Label → Bool → Type 0
@@ -25,21 +32,22 @@ IsClean found true = found ≡ []
 IsClean found false = 0 < length found
 
 -- A fact of the text for these words and this input, with whether nothing is found in it.
-abbrev pub Lints : List ℕ → ℕ → List ℕ → Bool → (List ℕ → Type 0) → Type 0
-Lints name width input clean holds =
-    (text : List ℕ) × IsClean (findings_of input width) clean × IsLinted name input (findings_of input width) text
-    × holds text
+abbrev pub Lints : Bool → List ℕ → ℕ → List ℕ → Bool → (List ℕ → Type 0) → Type 0
+Lints brief name width input clean holds =
+    (text : List ℕ) × IsClean (findings_of input width) clean
+    × IsLinted brief name input (findings_of input width) text × holds text
 
 -- A fact of the text alone.
-abbrev pub LintsText : List ℕ → ℕ → List ℕ → (List ℕ → Type 0) → Type 0
-LintsText name width input holds = (text : List ℕ) × IsLinted name input (findings_of input width) text × holds text
+abbrev pub LintsText : Bool → List ℕ → ℕ → List ℕ → (List ℕ → Type 0) → Type 0
+LintsText brief name width input holds =
+    (text : List ℕ) × IsLinted brief name input (findings_of input width) text × holds text
 
 -- A fact of the text for the words as the program is called with them, with whether nothing is found in the input.
 abbrev pub CallLints : List (List ℕ) → List ℕ → Bool → (List ℕ → Type 0) → Type 0
-CallLints words input clean holds = (name : List ℕ) × (width : ℕ) × AreLintWords words name width
-    × Lints name width input clean holds
+CallLints words input clean holds = (brief : Bool) × (name : List ℕ) × (width : ℕ)
+    × AreLintWords words brief name width × Lints brief name width input clean holds
 
 -- By the words the program finds nothing in the input, or something.
 abbrev pub CallIsClean : List (List ℕ) → List ℕ → Bool → Type 0
-CallIsClean words input clean = (name : List ℕ) × (width : ℕ) × AreLintWords words name width
-    × IsClean (findings_of input width) clean
+CallIsClean words input clean = (brief : Bool) × (name : List ℕ) × (width : ℕ)
+    × AreLintWords words brief name width × IsClean (findings_of input width) clean

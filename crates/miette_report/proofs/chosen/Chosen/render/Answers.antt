@@ -1,6 +1,6 @@
 use Rattle.std.proofs.Common.{ap, ◌∙◌, rules}
 use Rattle.miette_report.specs.declared.chosen.Chosen.TheVariants as chosen
-use Rattle.miette_report.proofs.ChosenSteps.{json-given, debug-given, graphical-given, graphical-accepts, narrated-given, text-given}
+use Rattle.miette_report.proofs.ChosenSteps.{json-given, debug-given, graphical-given, graphical-accepts, narrated-given, brief-given, brief-refuses, text-given}
 use Rattle.miette_report.proofs.chosen.Chosen.render.Goals as goal
 
 pub returns-in-Json-clause-ok : goal.returns-in-Json-clause-ok
@@ -22,3 +22,11 @@ returns-in-Built-Graphical-clause-refused g c =
 pub returns-in-Built-Narrated-clause-ok : goal.returns-in-Built-Narrated-clause-ok
 returns-in-Built-Narrated-clause-ok g c =
     text-given _ _ _ _ _ (narrated-given g.H.Highlighter.is_blank _ c.in-Built-Narrated.handler _ _ _ _ (c.in-Built-Narrated.is ∙ ap chosen.Built c.in-Built-Narrated.field-0-is) c.requires.reads c.render_report-in-Built-Narrated.ensures.text c.render_report-in-Built-Narrated.ensures.only) c.text_or_fault-in-Built-Narrated.ensures.ok (search rules)
+
+pub returns-in-Built-Brief-clause-ok : goal.returns-in-Built-Brief-clause-ok
+returns-in-Built-Brief-clause-ok g c =
+    text-given _ _ _ _ _ (brief-given g.H.Highlighter.is_blank _ c.in-Built-Brief.handler _ _ _ _ (c.in-Built-Brief.is ∙ ap chosen.Built c.in-Built-Brief.field-0-is) c.requires.reads c.render_report-in-Built-Brief.ensures.text c.render_report-in-Built-Brief.ensures.only) c.text_or_fault-in-Built-Brief.ensures.ok (search rules)
+
+pub returns-in-Built-Brief-clause-refused : goal.returns-in-Built-Brief-clause-refused
+returns-in-Built-Brief-clause-refused g c =
+    λ refused. brief-refuses _ c.in-Built-Brief.handler _ (c.in-Built-Brief.is ∙ ap chosen.Built c.in-Built-Brief.field-0-is) c.requires.reads (c.render_report-in-Built-Brief.ensures.refused (c.text_or_fault-in-Built-Brief.ensures.refused refused))

@@ -1,0 +1,195 @@
+-- The rows and the answers of a tree, put together from those of its parts.
+use Rattle.std.proofs.Common.{◌≡◌, ℕ, suc, zero, ◌+◌, ◌<◌, ◌≤◌, List, [], ◌∷◌, ◌++◌, length, get_or, map, drop, add-one, Bool, true, false, ◌&&◌, Option, Some, None, refl, sym, ap, ap₂, subst, ◌∙◌, append_assoc, append-nil, arith}
+use Rattle.std.specs.Prelude.{IfSome}
+use Rattle.std.proofs.Math.Seq.{drop-cons}
+use Rattle.std.proofs.lemmas.List.{drop_all}
+use Rattle.miette_protocol.specs.rules.Reading.{Source}
+use Rattle.miette_protocol.specs.views.Meaning.{Label}
+use Rattle.miette_tree.specs.rules.Tree.{Tree, tree, Cause, diagnostic, texts, Trees, no_trees, more_trees, trees, effective, head, source_of, cause_of, related_of}
+use Rattle.miette_tree.specs.rules.DiagnosticParts.{given_labels}
+use Rattle.miette_lines.specs.rules.Groups.{in_order}
+use Rattle.miette_brief.specs.rules.Rows.{Place, Row, rows_text}
+use Rattle.miette_brief.specs.rules.Places.{diagnostic_place, cause_place}
+use Rattle.miette_brief.specs.rules.Report.{BriefSettings, Answers, RelatedAnswers, unlisted, listed, no_more, and_more, own_fault, cause_answers, related_answers, first_answers, later_answers, finding_row, note_rows, cause_row, cause_rows, caused_rows, cause_rows_if, help_rows, rows_at, own_rows, report_rows, related_rows, brief}
+use Rattle.miette_brief.specs.rules.Answered.{AlwaysReads, CauseAlwaysReads, AllAlwaysRead, accepts, accepts_report, accepts_related, MayMeet, HasAccepted, CausePossible, CausedPossible, ArePossible, AllPossible, AppendsCauses, AppendsOwn, AppendsReport, AppendsRelated, IsBrief}
+use Rattle.miette_brief.specs.views.Read.{IsDiagnosticPlace}
+use Rattle.miette_brief.proofs.Putting.{rows_joined}
+
+-- ---- causes that aren't told
+
+nothing_met : (source : Option Source) → MayMeet source false
+nothing_met None = refl
+nothing_met (Some source) = λ f. cc
+
+mutual
+  none_met : (source : Option Source) (c : Cause) → CausePossible source unlisted c
+  none_met source (diagnostic t) = none_met_in source t
+  none_met source (texts ts) = tt
+
+  none_met_in : (source : Option Source) (t : Tree) → CausedPossible source unlisted t
+  none_met_in source (tree m own c r) = (nothing_met (effective own source), none_met source c)
+
+pub untold : (at : Place) (source : Option Source) (c : Cause) (old new : List ℕ) → new ≡ old → AppendsCauses false at source c old new
+untold at source c old new e = record { answers = unlisted; possible = none_met source c; appended = e ∙ sym (append-nil old) }
+
+-- ---- one diagnostic
+
+four : (old a b p new x y z w : List ℕ) → a ≡ old ++ x → b ≡ a ++ y → p ≡ b ++ z → new ≡ p ++ w → new ≡ old ++ (x ++ (y ++ (z ++ w)))
+four old a b p new x y z w e f g h = h ∙ ap (λ l. l ++ w) (g ∙ ap (λ l. l ++ z) (f ∙ ap (λ l. l ++ y) e)) ∙ simp append_assoc
+
+rows_of_four : (row : Row) (notes causes help : List Row) → rows_text (row ∷ (notes ++ (causes ++ help))) ≡ rows_text (row ∷ []) ++ (rows_text notes ++ (rows_text causes ++ rows_text help))
+rows_of_four row notes causes help =
+    rows_joined (row ∷ []) (notes ++ (causes ++ help)) ∙ ap (λ l. rows_text (row ∷ []) ++ l) (rows_joined notes (causes ++ help) ∙ ap (λ l. rows_text notes ++ l) (rows_joined causes help))
+
+pub own_told : (chain : Bool) (source : Option Source) (t : Tree) (labels order : List Label) (at : Place) (help : Option (List ℕ)) (old a b p new : List ℕ)
+    → labels ≡ given_labels (head t).labels → order ≡ in_order labels → help ≡ (head t).help → IsDiagnosticPlace source order at
+    → a ≡ old ++ rows_text (finding_row at (head t) ∷ []) → b ≡ a ++ rows_text (note_rows source order) → HasAccepted source order
+    → AppendsCauses chain at source (cause_of t) b p → new ≡ p ++ rows_text (help_rows at help) → AppendsOwn chain source (head t) (cause_of t) old new
+own_told chain source t labels order at help old a b p new el eo eh placed e f accepted causes g =
+    let m = head t in
+    let c = cause_of t in
+    let ls : List Label = in_order (given_labels m.labels) in
+    let same : order ≡ ls = eo ∙ ap in_order el in
+    let here : IsDiagnosticPlace source ls at = subst (λ (l : List Label). IsDiagnosticPlace source l at) same placed in
+    let notes : b ≡ a ++ rows_text (note_rows source ls) = f ∙ ap (λ l. a ++ rows_text (note_rows source l)) same in
+    let helped : new ≡ p ++ rows_text (help_rows at m.help) = g ∙ ap (λ h. p ++ rows_text (help_rows at h)) eh in
+    let answers : Answers = listed here.fault causes.answers no_more in
+    record {
+      answers = answers;
+      accepted = subst (λ (l : List Label). HasAccepted source l) same accepted;
+      possible = here.possible;
+      causes = causes.possible;
+      appended = four old a b p new (rows_text (finding_row at m ∷ [])) (rows_text (note_rows source ls)) (rows_text (cause_rows_if chain at source causes.answers c)) (rows_text (help_rows at m.help)) e notes causes.appended helped
+          ∙ ap (λ l. old ++ l) (sym (rows_of_four (finding_row at m) (note_rows source ls) (cause_rows_if chain at source causes.answers c) (help_rows at m.help)))
+          ∙ ap (λ q. old ++ rows_text (rows_at chain q source answers m c)) here.is;
+    }
+
+-- ---- a report
+
+pub report_told : (chain : Bool) (inherited : Option Source) (t : Tree) (source : Option Source) (related : Trees) (old mid new : List ℕ)
+    → source ≡ effective (source_of t) inherited → related ≡ related_of t → AppendsOwn chain source (head t) (cause_of t) old mid
+    → AppendsRelated chain source related mid new → AppendsReport chain inherited t old new
+report_told chain inherited (tree m s c rs) source related old mid new es er own others =
+    let from = effective s inherited in
+    let here : AppendsOwn chain from m c old mid = subst (λ (o : Option Source). AppendsOwn chain o m c old mid) es own in
+    let there : AppendsRelated chain from rs mid new = subst (λ (ts : Trees). AppendsRelated chain from ts mid new) er (subst (λ (o : Option Source). AppendsRelated chain o related mid new) es others) in
+    let rows : List Row = own_rows chain from here.answers m c in
+    let more : List Row = related_rows chain from there.answers rs in
+    record {
+      answers = listed (own_fault here.answers) (cause_answers here.answers) there.answers;
+      possible = (here.accepted, here.possible, here.causes, there.possible);
+      appended = there.appended ∙ ap (λ l. l ++ rows_text more) here.appended ∙ append_assoc old (rows_text rows) (rows_text more) ∙ ap (λ l. old ++ l) (sym (rows_joined rows more));
+    }
+
+-- ---- related reports, one after the other
+
+-- Some are told, and these are left: whatever answers these have, the whole has some.
+pub record RelatedSoFar (chain : Bool) (inherited : Option Source) (all left : Trees) (old now : List ℕ) : Type 0 where
+  pub with_rest : RelatedAnswers → RelatedAnswers
+  pub possible : (more : RelatedAnswers) → AllPossible inherited more left → AllPossible inherited (with_rest more) all
+  pub joined : (more : RelatedAnswers) → now ++ rows_text (related_rows chain inherited more left) ≡ old ++ rows_text (related_rows chain inherited (with_rest more) all)
+
+pub none_so_far : (chain : Bool) (inherited : Option Source) (all : Trees) (old : List ℕ) → RelatedSoFar chain inherited all all old old
+none_so_far chain inherited all old = record { with_rest = λ more. more; possible = λ more p. p; joined = λ more. refl }
+
+pub one_more : (chain : Bool) (inherited : Option Source) (all : Trees) (t : Tree) (ts : Trees) (old now new : List ℕ)
+    → RelatedSoFar chain inherited all (more_trees t ts) old now → AppendsReport chain inherited t now new → RelatedSoFar chain inherited all ts old new
+one_more chain inherited all t ts old now new r a = record {
+  with_rest = λ more. r.with_rest (and_more a.answers more);
+  possible = λ more p. r.possible (and_more a.answers more) (a.possible, p);
+  joined = λ more. ap (λ l. l ++ rows_text (related_rows chain inherited more ts)) a.appended
+      ∙ append_assoc now (rows_text (report_rows chain inherited a.answers t)) (rows_text (related_rows chain inherited more ts))
+      ∙ ap (λ l. now ++ l) (sym (rows_joined (report_rows chain inherited a.answers t) (related_rows chain inherited more ts)))
+      ∙ r.joined (and_more a.answers more);
+}
+
+pub all_told : (chain : Bool) (inherited : Option Source) (all : Trees) (old now : List ℕ) → RelatedSoFar chain inherited all no_trees old now → AppendsRelated chain inherited all old now
+all_told chain inherited all old now r = record { answers = r.with_rest no_more; possible = r.possible no_more tt; appended = sym (append-nil now) ∙ r.joined no_more }
+
+-- the one next of a list of reports
+pub next_of : {R : Type 0} (value : R → Tree) (rs : List R) (i : ℕ) (d : R) → i < length rs → d ≡ get_or rs i d → trees (map value (drop i rs)) ≡ more_trees (value d) (trees (map value (drop (i + 1) rs)))
+next_of value rs i d h is = ap (λ l. trees (map value l)) (drop-cons rs i d h ∙ ap (λ x. x ∷ drop (suc i) rs) (sym is) ∙ ap (λ n. d ∷ drop n rs) (sym (add-one i)))
+
+pub at_the_end : {R : Type 0} (value : R → Tree) (chain : Bool) (inherited : Option Source) (rs : List R) (all : Trees) (i : ℕ) (old now : List ℕ) → length rs ≤ i
+    → RelatedSoFar chain inherited all (trees (map value (drop i rs))) old now → RelatedSoFar chain inherited all no_trees old now
+at_the_end value chain inherited rs all i old now h r = subst (λ l. RelatedSoFar chain inherited all (trees (map value l)) old now) (drop_all i rs h) r
+
+-- ---- where something is refused
+
+and_false : (b : Bool) → (b && false) ≡ false
+and_false true = refl
+and_false false = refl
+
+pub refused_here : (t : Tree) (inherited source : Option Source) → source ≡ effective (source_of t) inherited →
+    accepts source (in_order (given_labels (head t).labels)) ≡ false → accepts_report inherited t ≡ false
+refused_here (tree m s c r) inherited source es e =
+    ap (λ b. b && accepts_related (effective s inherited) r) (sym (ap (λ o. accepts o (in_order (given_labels m.labels))) es) ∙ e)
+
+pub refused_below : (t : Tree) (inherited source : Option Source) (related : Trees) → source ≡ effective (source_of t) inherited → related ≡ related_of t →
+    accepts_related source related ≡ false → accepts_report inherited t ≡ false
+refused_below (tree m s c r) inherited source related es er e =
+    ap (λ b. accepts (effective s inherited) (in_order (given_labels m.labels)) && b) (sym (ap₂ accepts_related es er) ∙ e) ∙ and_false (accepts (effective s inherited) (in_order (given_labels m.labels)))
+
+pub one_refused : {R : Type 0} (value : R → Tree) (inherited : Option Source) (rs : List R) (i : ℕ) (d : R) → i < length rs → d ≡ get_or rs i d → accepts_report inherited (value d) ≡ false →
+    accepts_related inherited (trees (map value rs)) ≡ false
+one_refused value inherited [] i d lt is e = absurd (omega arith)
+one_refused value inherited (r ∷ rs) zero d lt is e =
+    ap (λ b. b && accepts_related inherited (trees (map value rs))) (ap (λ x. accepts_report inherited (value x)) (sym is) ∙ e)
+one_refused value inherited (r ∷ rs) (suc i) d lt is e =
+    ap (λ b. accepts_report inherited (value r) && b) (one_refused value inherited rs i d (omega arith) is e) ∙ and_false (accepts_report inherited (value r))
+
+-- ---- where every source always reads
+
+abbrev Reads : Option Source → Type 0
+Reads s = IfSome s (λ own. own.always_reads ≡ true)
+
+effective_reads : (s inherited : Option Source) → Reads s → Reads inherited → Reads (effective s inherited)
+effective_reads None inherited r i = i
+effective_reads (Some own) inherited r i = r
+
+no_fault : (b reads : Bool) → reads ≡ true → (b ≡ true → reads ≡ false) → b ≡ false
+no_fault false reads r f = refl
+no_fault true reads r f = (let no : reads ≡ false = f refl in cc)
+
+fault_free : (s : Option Source) (b : Bool) → MayMeet s b → Reads s → b ≡ false
+fault_free None b h r = h
+fault_free (Some s) b h r = no_fault b s.always_reads r h
+
+mutual
+  same_causes : (at : Place) (inherited : Option Source) (a : Answers) (c : Cause) → CausePossible inherited a c → Reads inherited → CauseAlwaysReads c → cause_rows at inherited a c ≡ cause_rows at inherited unlisted c
+  same_causes at inherited a (diagnostic t) p i reads = same_caused at inherited a t p i reads
+  same_causes at inherited a (texts ts) p i reads = refl
+
+  same_caused : (at : Place) (inherited : Option Source) (a : Answers) (t : Tree) → CausedPossible inherited a t → Reads inherited → AlwaysReads t → caused_rows at inherited a t ≡ caused_rows at inherited unlisted t
+  same_caused at inherited a (tree m own c r) p i reads =
+      let from = effective own inherited in
+      let from_reads : Reads from = effective_reads own inherited reads.0 i in
+      ap₂ (λ b rows. cause_row (cause_place at from b (in_order (given_labels m.labels))) m.message ∷ rows)
+      (fault_free from (own_fault a) p.0 from_reads) (same_causes at inherited (cause_answers a) c p.1 i reads.1)
+
+same_if : (chain : Bool) (at : Place) (inherited : Option Source) (a : Answers) (c : Cause) → CausePossible inherited a c → Reads inherited → CauseAlwaysReads c → cause_rows_if chain at inherited a c ≡ cause_rows_if chain at inherited unlisted c
+same_if true at inherited a c p i reads = same_causes at inherited a c p i reads
+same_if false at inherited a c p i reads = refl
+
+mutual
+  same_report : (chain : Bool) (inherited : Option Source) (a : Answers) (t : Tree) → ArePossible inherited a t → Reads inherited → AlwaysReads t → report_rows chain inherited a t ≡ report_rows chain inherited unlisted t
+  same_report chain inherited a (tree m own c r) p i reads =
+      let from = effective own inherited in
+      let from_reads : Reads from = effective_reads own inherited reads.0 i in
+      let ls : List Label = in_order (given_labels m.labels) in
+      let at : Place = diagnostic_place from false ls in
+      let placed : diagnostic_place from (own_fault a) ls ≡ at = ap (λ b. diagnostic_place from b ls) (fault_free from (own_fault a) p.1 from_reads) in
+      ap (λ q. rows_at chain q from a m c ++ related_rows chain from (related_answers a) r) placed
+      ∙ ap₂ (λ causes others. (finding_row at m ∷ (note_rows from ls ++ (causes ++ help_rows at m.help))) ++ others)
+      (same_if chain at from (cause_answers a) c p.2 from_reads reads.1) (same_related chain from (related_answers a) r p.3 from_reads reads.2)
+
+  same_related : (chain : Bool) (inherited : Option Source) (more : RelatedAnswers) (ts : Trees) → AllPossible inherited more ts → Reads inherited → AllAlwaysRead ts → related_rows chain inherited more ts ≡ related_rows chain inherited no_more ts
+  same_related chain inherited more no_trees p i reads = refl
+  same_related chain inherited more (more_trees t ts) p i reads =
+      ap₂ (λ x y. x ++ y) (same_report chain inherited (first_answers more) t p.0 i reads.0) (same_related chain inherited (later_answers more) ts p.1 i reads.1)
+
+pub is_brief : (chain : Bool) (t : Tree) (text : List ℕ) → AppendsReport chain None t [] text → IsBrief (record { chain = chain }) t text
+is_brief chain t text a = record { answers = a.answers; possible = a.possible; is = a.appended }
+
+pub only_brief : (s : BriefSettings) (t : Tree) (text old new : List ℕ) → IsBrief s t text → new ≡ old ++ text → AlwaysReads t → new ≡ old ++ brief s t unlisted
+only_brief s t text old new h e reads = e ∙ ap (λ x. old ++ x) (h.is ∙ ap rows_text (same_report s.chain None h.answers t h.possible tt reads))

@@ -1,0 +1,10 @@
+use Rattle.std.proofs.Common.{◌≡◌, ◌++◌, string_bytes, map, drop}
+use Rattle.miette_brief.specs.rules.Rows.{rows_text}
+use Rattle.miette_brief.specs.rules.Report.{cause_row}
+use Rattle.miette_brief.specs.views.Given.{place_of}
+use Rattle.miette_brief.proofs.report.push_cause_texts.Given as goal
+
+abbrev pub invariant-loop-text : goal.invariant-loop-text
+invariant-loop-text l =
+    string_bytes l.out ++ rows_text (map (cause_row (place_of l.at)) (map string_bytes (drop l.text-index l.texts)))
+    ≡ string_bytes l.fn.out ++ rows_text (map (cause_row (place_of l.at)) (map string_bytes l.texts))

@@ -1,0 +1,45 @@
+-- How many rows a report has, and what rows are.
+use Rattle.std.specs.Prelude.{◌≡◌, ◌≢◌, ℕ, ◌+◌, Bool, true, false, List, [], ◌∷◌, ◌++◌, length, Option, Some, None}
+use Rattle.std.specs.Char.{is_control}
+use Rattle.std.specs.List.{AllByRecursion}
+use Rattle.std.specs.Str.{NoCharPasses}
+use Rattle.miette_protocol.specs.views.Meaning.{Label}
+use Rattle.miette_tree.specs.rules.Tree.{Tree, tree, causes_of, Trees, no_trees, more_trees}
+use Rattle.miette_tree.specs.rules.DiagnosticParts.{given_labels}
+
+-- one where there is a text
+abbrev pub one_if : Option (List ℕ) → ℕ
+one_if None = 0
+one_if (Some text) = 1
+
+-- how many labels have a text
+abbrev pub texts_in : List Label → ℕ
+texts_in [] = 0
+texts_in (label ∷ labels) = one_if label.text + texts_in labels
+
+-- how many causes are told
+abbrev pub told_causes : Bool → List (List ℕ) → ℕ
+told_causes true causes = length causes
+told_causes false causes = 0
+
+-- each diagnostic that is no cause, its labels with a text, its causes where they are told, and its help
+abbrev mutual
+  pub parts : Bool → Tree → ℕ
+  parts chain (tree m s c r) =
+      (1 + (texts_in (given_labels m.labels) + (told_causes chain (causes_of c) + one_if m.help))) + all_parts chain r
+
+  pub all_parts : Bool → Trees → ℕ
+  all_parts chain no_trees = 0
+  all_parts chain (more_trees t ts) = parts chain t + all_parts chain ts
+
+-- rows, each with a line feed behind it
+abbrev pub ended : List (List ℕ) → List ℕ
+ended [] = []
+ended (row ∷ rows) = row ++ (10 ∷ ended rows)
+
+-- A text is so many rows, each ended by a line feed: none is empty, and none holds a control character.
+pub record IsRows (count : ℕ) (text : List ℕ) : Type 0 where
+  pub rows : List (List ℕ)
+  pub are : text ≡ ended rows
+  pub many : length rows ≡ count
+  pub each : AllByRecursion (λ row. NoCharPasses is_control row × (row ≢ [])) rows

@@ -1,0 +1,5 @@
+-- What users rely on.
+pub mod Rows
+pub mod Places
+pub mod Report
+pub mod Answered

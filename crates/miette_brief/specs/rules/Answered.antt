@@ -1,0 +1,124 @@
+-- Which answers the sources of a report can have given where it was told, where nothing is refused, and what is
+-- appended.
+use Rattle.std.specs.Prelude.{◌≡◌, ℕ, Bool, true, false, ◌&&◌, ◌||◌, List, [], ◌∷◌, ◌++◌, Option, Some, None, IfSome}
+use Rattle.std.specs.Prelude.{⊤}
+use Rattle.std.specs.List.{list_all}
+use Rattle.miette_protocol.specs.views.Meaning.{Label, Meaning}
+use Rattle.miette_protocol.specs.rules.Reading.{Source}
+use Rattle.miette_tree.specs.rules.Tree.{Tree, tree, Cause, diagnostic, texts, Trees, no_trees, more_trees, effective}
+use Rattle.miette_tree.specs.rules.DiagnosticParts.{given_labels}
+use Rattle.miette_lines.specs.rules.Contexts.{is_accepted}
+use Rattle.miette_lines.specs.rules.Groups.{in_order, AreAccepted}
+use Rattle.miette_brief.specs.rules.Rows.{Place, rows_text}
+use Rattle.miette_brief.specs.rules.Report.{BriefSettings, Answers, RelatedAnswers, own_fault, cause_answers}
+use Rattle.miette_brief.specs.rules.Report.{related_answers, first_answers, later_answers, cause_rows_if}
+use Rattle.miette_brief.specs.rules.Report.{own_rows, report_rows, related_rows, brief}
+
+-- ---- where reads are determined, and where nothing is refused
+
+-- every source of a report always reads: its own, those of its causes, and those of the reports related to it
+abbrev mutual
+  pub AlwaysReads : Tree → Type 0
+  AlwaysReads (tree m own c r) = IfSome own (λ s. s.always_reads ≡ true) × CauseAlwaysReads c × AllAlwaysRead r
+
+  pub CauseAlwaysReads : Cause → Type 0
+  CauseAlwaysReads (diagnostic t) = AlwaysReads t
+  CauseAlwaysReads (texts ts) = ⊤
+
+  pub AllAlwaysRead : Trees → Type 0
+  AllAlwaysRead no_trees = ⊤
+  AllAlwaysRead (more_trees t ts) = AlwaysReads t × AllAlwaysRead ts
+
+abbrev pub is_nil : List Label → Bool
+is_nil [] = true
+is_nil (label ∷ labels) = false
+
+-- labels by offset that are accepted, over a source that always reads
+abbrev pub accepts : Option Source → List Label → Bool
+accepts None labels = true
+accepts (Some source) labels = list_all (λ label. is_accepted source.bytes label.span) labels
+    && (is_nil labels || source.always_reads)
+
+-- Each diagnostic that is no cause has such labels over its effective source.
+abbrev mutual
+  pub accepts_report : Option Source → Tree → Bool
+  accepts_report inherited (tree m own c r) =
+      accepts (effective own inherited) (in_order (given_labels m.labels))
+      && accepts_related (effective own inherited) r
+
+  pub accepts_related : Option Source → Trees → Bool
+  accepts_related inherited no_trees = true
+  accepts_related inherited (more_trees t ts) = accepts_report inherited t && accepts_related inherited ts
+
+abbrev pub report_accepted : Tree → Bool
+report_accepted t = accepts_report None t
+
+-- ---- answers of sources
+
+-- only a source that doesn't always read meets a fault
+abbrev pub MayMeet : Option Source → Bool → Type 0
+MayMeet None fault = fault ≡ false
+MayMeet (Some source) fault = fault ≡ true → source.always_reads ≡ false
+
+-- a source accepted these labels
+abbrev pub HasAccepted : Option Source → List Label → Type 0
+HasAccepted None labels = ⊤
+HasAccepted (Some source) labels = AreAccepted source.bytes labels
+
+abbrev mutual
+  pub CausePossible : Option Source → Answers → Cause → Type 0
+  CausePossible inherited a (diagnostic t) = CausedPossible inherited a t
+  CausePossible inherited a (texts ts) = ⊤
+
+  pub CausedPossible : Option Source → Answers → Tree → Type 0
+  CausedPossible inherited a (tree m own c r) = MayMeet (effective own inherited) (own_fault a)
+      × CausePossible inherited (cause_answers a) c
+
+abbrev mutual
+  pub ArePossible : Option Source → Answers → Tree → Type 0
+  ArePossible inherited a (tree m own c r) =
+      HasAccepted (effective own inherited) (in_order (given_labels m.labels))
+      × MayMeet (effective own inherited) (own_fault a)
+      × CausePossible (effective own inherited) (cause_answers a) c
+      × AllPossible (effective own inherited) (related_answers a) r
+
+  pub AllPossible : Option Source → RelatedAnswers → Trees → Type 0
+  AllPossible inherited more no_trees = ⊤
+  AllPossible inherited more (more_trees t ts) =
+      ArePossible inherited (first_answers more) t × AllPossible inherited (later_answers more) ts
+
+-- ---- what is appended
+
+-- new is old and then the rows of a cause where causes are told, for some answers
+pub record AppendsCauses (chain : Bool) (at : Place) (inherited : Option Source) (c : Cause) (old new : List ℕ) : Type 0
+  where
+    pub answers : Answers
+    pub possible : CausePossible inherited answers c
+    pub appended : new ≡ old ++ rows_text (cause_rows_if chain at inherited answers c)
+
+-- new is old and then the rows of a diagnostic with its cause, for some answers
+pub record AppendsOwn (chain : Bool) (source : Option Source) (m : Meaning) (c : Cause) (old new : List ℕ) : Type 0
+  where
+    pub answers : Answers
+    pub accepted : HasAccepted source (in_order (given_labels m.labels))
+    pub possible : MayMeet source (own_fault answers)
+    pub causes : CausePossible source (cause_answers answers) c
+    pub appended : new ≡ old ++ rows_text (own_rows chain source answers m c)
+
+-- new is old and then a report, for some answers
+pub record AppendsReport (chain : Bool) (inherited : Option Source) (t : Tree) (old new : List ℕ) : Type 0 where
+  pub answers : Answers
+  pub possible : ArePossible inherited answers t
+  pub appended : new ≡ old ++ rows_text (report_rows chain inherited answers t)
+
+-- new is old and then related reports, for some answers
+pub record AppendsRelated (chain : Bool) (inherited : Option Source) (ts : Trees) (old new : List ℕ) : Type 0 where
+  pub answers : RelatedAnswers
+  pub possible : AllPossible inherited answers ts
+  pub appended : new ≡ old ++ rows_text (related_rows chain inherited answers ts)
+
+-- a brief text of a report: for answers that its sources can have given
+pub record IsBrief (s : BriefSettings) (t : Tree) (text : List ℕ) : Type 0 where
+  pub answers : Answers
+  pub possible : ArePossible None answers t
+  pub is : text ≡ brief s t answers

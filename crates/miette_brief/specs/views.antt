@@ -1,0 +1,3 @@
+-- What the code's values stand for, and what its reads gave.
+pub mod Given
+pub mod Read

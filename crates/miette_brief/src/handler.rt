@@ -1,0 +1,119 @@
+//! The handler of brief reports.
+
+ghost use Rattle.std.specs.Prelude.{◌≡◌, ◌++◌, true, false, OnOk, OnErr, string_bytes};
+ghost use Rattle.miette_tree.specs.views.Report.{tree_of};
+ghost use Rattle.miette_tree.specs.views.Handler.{AppendsOne};
+ghost use Rattle.miette_brief.specs.rules.Report.{default_settings, brief, unlisted};
+ghost use Rattle.miette_brief.specs.rules.Answered.{IsBrief, AlwaysReads, report_accepted};
+
+use crate::report::brief_of;
+use miette_protocol::error::RenderError;
+use miette_protocol::protocol::Diagnostic;
+use miette_protocol::source::SourceCode;
+use miette_tree::report::Report;
+use std::marker::Model;
+
+/// Tells a report in one row for each of its parts, as editors and build logs read it: `NAME:LINE:COLUMN: error: ..`.
+///
+/// All calls but `render_report` and `render`, and `debug` and `display` of a `ReportHandler`, take no memory.
+#[derive(Debug, Drop)]
+pub struct BriefReportHandler {
+    cause_chain: bool,
+}
+
+impl Model for BriefReportHandler {
+    ghost use Rattle.miette_brief.specs.rules.Report.{BriefSettings};
+
+    ghost Value = { BriefSettings };
+
+    ghost view = { λ it. record { chain = it.cause_chain } };
+}
+
+/// As `new`.
+impl Default for BriefReportHandler {
+    ghost use Rattle.std.specs.Prelude.{◌≡◌};
+    ghost use Rattle.miette_brief.specs.rules.Report.{default_settings};
+
+    ghost is_default = { λ it. it ≡ default_settings };
+
+    fn default() -> Self {
+        BriefReportHandler::new()
+    }
+}
+
+impl BriefReportHandler {
+    /// A handler that tells causes.
+    pub fn new() -> Self
+        ensures { result ≡ default_settings }
+    {
+        BriefReportHandler { cause_chain: true }
+    }
+
+    /// The causes of each report are told.
+    pub fn with_cause_chain(self) -> Self
+        ensures { result ≡ record self { chain = true } }
+    {
+        self.telling_causes(true)
+    }
+
+    /// No causes are told.
+    pub fn without_cause_chain(self) -> Self
+        ensures { result ≡ record self { chain = false } }
+    {
+        self.telling_causes(false)
+    }
+
+    fn telling_causes(self, cause_chain: bool) -> Self
+        ensures { result ≡ record self { chain = cause_chain } }
+    {
+        BriefReportHandler { cause_chain }
+    }
+
+    fn tells_causes(&self) -> bool
+        ensures { result ≡ self.now.chain }
+    {
+        self.cause_chain
+    }
+
+    /// Appends the brief text of a report. After an error `out` is as before: `Memory` where memory was refused,
+    /// `Refused` where a label of a diagnostic that is no cause isn't accepted, or where a source that doesn't always
+    /// read refused one.
+    pub fn render_report(&self, report: &Report, out: &mut String) -> Result<(), RenderError>
+        // a text for answers that the sources can have given
+        ensures text { OnOk result (AppendsOne (IsBrief self.now
+            (tree_of ⟦<Box<dyn Diagnostic> as Diagnostic>⟧.meaning ⟦<Box<dyn SourceCode> as SourceCode>⟧.source
+            report.now)) (string_bytes out.old) (string_bytes out.new)) }
+        // where every source of the report always reads, there is one such text
+        ensures only { OnOk result (AlwaysReads (tree_of ⟦<Box<dyn Diagnostic> as Diagnostic>⟧.meaning
+            ⟦<Box<dyn SourceCode> as SourceCode>⟧.source report.now) →
+            string_bytes out.new ≡ string_bytes out.old
+            ++ brief self.now (tree_of ⟦<Box<dyn Diagnostic> as Diagnostic>⟧.meaning
+            ⟦<Box<dyn SourceCode> as SourceCode>⟧.source report.now) unlisted) }
+        ensures refused { (result ≡ Err RenderError.Refused) →
+            report_accepted (tree_of ⟦<Box<dyn Diagnostic> as Diagnostic>⟧.meaning
+            ⟦<Box<dyn SourceCode> as SourceCode>⟧.source report.now) ≡ false }
+        ensures err { OnErr result (string_bytes out.new ≡ string_bytes out.old) }
+    {
+        self.render(report, out)
+    }
+
+    /// The same of a report of diagnostics and sources of any kind, with the same errors.
+    pub fn render<D: Diagnostic, S: SourceCode>(
+        &self,
+        report: &Report<D, S>,
+        out: &mut String,
+    ) -> Result<(), RenderError>
+        ensures text { OnOk result (AppendsOne (IsBrief self.now (tree_of D.meaning S.source report.now))
+            (string_bytes out.old) (string_bytes out.new)) }
+        ensures only { OnOk result (AlwaysReads (tree_of D.meaning S.source report.now) →
+            string_bytes out.new ≡ string_bytes out.old
+            ++ brief self.now (tree_of D.meaning S.source report.now) unlisted) }
+        ensures refused { (result ≡ Err RenderError.Refused) →
+            report_accepted (tree_of D.meaning S.source report.now) ≡ false }
+        ensures err { OnErr result (string_bytes out.new ≡ string_bytes out.old) }
+    {
+        let text = brief_of(*out.allocator(), self.tells_causes(), report)?;
+        out.push_str(text.as_str())?;
+        Ok(())
+    }
+}

@@ -1,0 +1,10 @@
+//! The brief report: one row for each part of a report, as editors and build logs read it.
+#![tactic(auto)]
+
+mod debug;
+pub mod handler;
+pub mod laws;
+mod places;
+mod report;
+mod rows;
+mod words;

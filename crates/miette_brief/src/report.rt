@@ -1,0 +1,233 @@
+//! The brief text of a report, part by part.
+
+ghost use Rattle.std.specs.Prelude.{◌≡◌, ◌++◌, ◌∷◌, ◌<◌, [], false, OnOk, IfOk, string_bytes, map, length};
+ghost use Rattle.std.specs.Prelude.{option_copied, true};
+ghost use Rattle.std.specs.List.{All};
+ghost use Rattle.std.specs.Option.{option_map};
+ghost use Rattle.miette_tree.specs.rules.Tree.{head, cause_of, trees};
+ghost use Rattle.miette_tree.specs.views.Report.{tree_of};
+ghost use Rattle.miette_tree.specs.views.Owned.{shown_source};
+ghost use Rattle.miette_tree.specs.rules.DiagnosticParts.{given_labels};
+ghost use Rattle.miette_lines.specs.rules.Groups.{in_order};
+ghost use Rattle.miette_lines.specs.views.Given.{label_at};
+ghost use Rattle.miette_brief.specs.rules.Rows.{rows_text};
+ghost use Rattle.miette_brief.specs.rules.Places.{label_place as place_of_label};
+ghost use Rattle.miette_brief.specs.rules.Report.{finding_row, note_rows_of, note_rows, cause_row, help_rows};
+ghost use Rattle.miette_brief.specs.rules.Answered.{HasAccepted, accepts, accepts_report, accepts_related};
+ghost use Rattle.miette_brief.specs.rules.Answered.{report_accepted, AppendsCauses, AppendsOwn, AppendsReport};
+ghost use Rattle.miette_brief.specs.rules.Answered.{AppendsRelated, IsBrief};
+ghost use Rattle.miette_brief.specs.views.Given.{place_of};
+ghost use Rattle.miette_brief.specs.views.Read.{IsUnread, IsReadAt};
+
+use crate::places::{cause_place, diagnostic_place, label_of, label_place};
+use crate::rows::{Kind, Place, push_row};
+use miette_lines::order::{Turn, by_offset};
+use miette_protocol::error::RenderError;
+use miette_protocol::protocol::{Diagnostic, LabeledSpan};
+use miette_protocol::source::SourceCode;
+use miette_tree::parts::{cause_texts, labels_of, own_or};
+use miette_tree::report::{Cause, Report, SourceRef};
+use std::alloc::{AllocError, Global};
+
+/// The row of a diagnostic.
+fn push_head<D: Diagnostic, S: SourceCode>(
+    report: &Report<D, S>,
+    at: Place<'_>,
+    out: &mut String,
+) -> Result<(), AllocError>
+    ensures { OnOk result (string_bytes out.new ≡ string_bytes out.old
+        ++ rows_text (finding_row (place_of at.entry) (head (tree_of D.meaning S.source report.now)) ∷ [])) }
+{
+    let kind = Kind::Finding(report.severity(), report.code());
+    push_row(out, at, kind, report.message())
+}
+
+/// The row of a label that has a text; `Refused` where its read is refused.
+fn push_note<S: SourceCode>(
+    source: Option<SourceRef<'_, S>>,
+    label: &LabeledSpan,
+    out: &mut String,
+) -> Result<(), RenderError>
+    ensures text { OnOk result (string_bytes out.new ≡ string_bytes out.old ++ rows_text (note_rows_of
+        (place_of_label (option_map (shown_source S.source) source.entry) label.now.span) label.now.text)) }
+    ensures accepted { OnOk result (IsReadAt (option_map (shown_source S.source) source.entry) label.now.span) }
+    ensures refused { (result ≡ Err RenderError.Refused) →
+        IsUnread (option_map (shown_source S.source) source.entry) label.now.span }
+{
+    let at = label_place(source, label.inner())?;
+    let Some(text) = label.label() else {
+        return Ok(());
+    };
+    push_row(out, at, Kind::Note, text)?;
+    Ok(())
+}
+
+/// The rows of labels in this order; `Refused` where one can't be read.
+fn push_notes<S: SourceCode>(
+    source: Option<SourceRef<'_, S>>,
+    labels: &[LabeledSpan],
+    order: &[Turn],
+    out: &mut String,
+) -> Result<(), RenderError>
+    requires inside { All (λ turn. turn.index < length labels.now) order.now }
+    ensures text { OnOk result (string_bytes out.new ≡ string_bytes out.old
+        ++ rows_text (note_rows (option_map (shown_source S.source) source.entry)
+        (map (λ turn. label_at labels.now turn.index) order.now))) }
+    ensures accepted { OnOk result (HasAccepted (option_map (shown_source S.source) source.entry)
+        (map (λ turn. label_at labels.now turn.index) order.now)) }
+    ensures refused { (result ≡ Err RenderError.Refused) →
+        accepts (option_map (shown_source S.source) source.entry)
+        (map (λ turn. label_at labels.now turn.index) order.now) ≡ false }
+{
+    for turn in order {
+        let label = label_of(labels, *turn);
+        push_note(source, label, out)?;
+    }
+    Ok(())
+}
+
+/// The rows of causes that are texts.
+fn push_cause_texts(at: Place<'_>, texts: &[String], out: &mut String) -> Result<(), AllocError>
+    ensures { OnOk result (string_bytes out.new ≡ string_bytes out.old
+        ++ rows_text (map (cause_row (place_of at.entry)) (map string_bytes texts.now))) }
+{
+    for text in texts {
+        push_row(out, at, Kind::Cause, text.as_str())?;
+    }
+    Ok(())
+}
+
+/// The rows of the causes of a report that lies at a place over a source, or over none.
+fn push_causes<'a, D: Diagnostic, S: SourceCode>(
+    alloc: Global,
+    report: &'a Report<D, S>,
+    at: Place<'a>,
+    source: Option<SourceRef<'a, S>>,
+    out: &mut String,
+) -> Result<(), AllocError>
+    ensures { OnOk result (AppendsCauses true (place_of at.entry) (option_map (shown_source S.source) source.entry)
+        (cause_of (tree_of D.meaning S.source report.now)) (string_bytes out.old) (string_bytes out.new)) }
+{
+    let mut above = report;
+    while let Cause::Diagnostic(next) = above.cause() {
+        let own = own_or(next, source);
+        let place = cause_place(alloc, own, labels_of(next), at)?;
+        push_row(out, place, Kind::Cause, next.message())?;
+        above = next;
+    }
+    push_cause_texts(at, cause_texts(above), out)?;
+    Ok(())
+}
+
+/// The row of help, where there is any.
+fn push_help(out: &mut String, at: Place<'_>, help: Option<&str>) -> Result<(), AllocError>
+    ensures { OnOk result (string_bytes out.new ≡ string_bytes out.old
+        ++ rows_text (help_rows (place_of at.entry) (option_copied help.entry))) }
+{
+    let Some(help) = help else {
+        return Ok(());
+    };
+    push_row(out, at, Kind::Help, help)
+}
+
+/// The same where causes are told.
+fn push_causes_if<'a, D: Diagnostic, S: SourceCode>(
+    alloc: Global,
+    told: bool,
+    report: &'a Report<D, S>,
+    at: Place<'a>,
+    source: Option<SourceRef<'a, S>>,
+    out: &mut String,
+) -> Result<(), AllocError>
+    ensures { OnOk result (AppendsCauses told (place_of at.entry) (option_map (shown_source S.source) source.entry)
+        (cause_of (tree_of D.meaning S.source report.now)) (string_bytes out.old) (string_bytes out.new)) }
+{
+    if !told {
+        return Ok(());
+    }
+    push_causes(alloc, report, at, source, out)?;
+    Ok(())
+}
+
+/// The rows of a report over a source, or over none, without those of related reports.
+fn push_own<'a, D: Diagnostic, S: SourceCode>(
+    alloc: Global,
+    chain: bool,
+    report: &'a Report<D, S>,
+    source: Option<SourceRef<'a, S>>,
+    out: &mut String,
+) -> Result<(), RenderError>
+    ensures text { OnOk result (AppendsOwn chain (option_map (shown_source S.source) source.entry)
+        (head (tree_of D.meaning S.source report.now)) (cause_of (tree_of D.meaning S.source report.now))
+        (string_bytes out.old) (string_bytes out.new)) }
+    ensures refused { (result ≡ Err RenderError.Refused) →
+        accepts (option_map (shown_source S.source) source.entry)
+        (in_order (given_labels (head (tree_of D.meaning S.source report.now)).labels)) ≡ false }
+{
+    let labels = labels_of(report);
+    let order = by_offset(alloc, labels)?;
+    let at = diagnostic_place(source, labels, &order)?;
+    push_head(report, at, out)?;
+    push_notes(source, labels, &order, out)?;
+    push_causes_if(alloc, chain, report, at, source, out)?;
+    push_help(out, at, report.help())?;
+    Ok(())
+}
+
+/// Appends a report, below one with this source.
+#[cycle(report)]
+fn push_report<'a, D: Diagnostic, S: SourceCode>(
+    alloc: Global,
+    chain: bool,
+    report: &'a Report<D, S>,
+    inherited: Option<SourceRef<'a, S>>,
+    out: &mut String,
+) -> Result<(), RenderError>
+    ensures text { OnOk result (AppendsReport chain (option_map (shown_source S.source) inherited.entry)
+        (tree_of D.meaning S.source report.now) (string_bytes out.old) (string_bytes out.new)) }
+    ensures refused { (result ≡ Err RenderError.Refused) →
+        accepts_report (option_map (shown_source S.source) inherited.entry) (tree_of D.meaning S.source report.now)
+        ≡ false }
+{
+    let source = own_or(report, inherited);
+    push_own(alloc, chain, report, source, out)?;
+    push_related(alloc, chain, report.related(), source, out)?;
+    Ok(())
+}
+
+/// Appends related reports, below a report with this source.
+#[cycle(report)]
+fn push_related<'a, D: Diagnostic, S: SourceCode>(
+    alloc: Global,
+    chain: bool,
+    reports: &'a [Report<D, S>],
+    source: Option<SourceRef<'a, S>>,
+    out: &mut String,
+) -> Result<(), RenderError>
+    ensures text { OnOk result (AppendsRelated chain (option_map (shown_source S.source) source.entry)
+        (trees (map (tree_of D.meaning S.source) reports.now)) (string_bytes out.old) (string_bytes out.new)) }
+    ensures refused { (result ≡ Err RenderError.Refused) →
+        accepts_related (option_map (shown_source S.source) source.entry)
+        (trees (map (tree_of D.meaning S.source) reports.now)) ≡ false }
+{
+    for report in reports {
+        push_report(alloc, chain, report, source, out)?;
+    }
+    Ok(())
+}
+
+/// The brief text of a report, with its causes where the chain is told.
+pub(crate) fn brief_of<D: Diagnostic, S: SourceCode>(
+    alloc: Global,
+    chain: bool,
+    report: &Report<D, S>,
+) -> Result<String, RenderError>
+    ensures text { IfOk result (λ text. IsBrief (record { chain = chain }) (tree_of D.meaning S.source report.now)
+        (string_bytes text)) }
+    ensures refused { (result ≡ Err RenderError.Refused) →
+        report_accepted (tree_of D.meaning S.source report.now) ≡ false }
+{
+    let mut text = String::new(alloc);
+    push_report(alloc, chain, report, None, &mut text)?;
+    Ok(text)
+}
