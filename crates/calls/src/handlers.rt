@@ -6,8 +6,8 @@ use crate::sources::README;
 use crate::themes::terminal;
 use miette::error::RenderError;
 use miette::handlers::{
-    DebugReportHandler, GraphicalReportHandler, JSONReportHandler, NarratableReportHandler,
-    ReportHandler,
+    BriefReportHandler, DebugReportHandler, GraphicalReportHandler, JSONReportHandler,
+    NarratableReportHandler, ReportHandler,
 };
 use miette::highlight::BlankHighlighter;
 use miette::options::{MietteHandler, MietteHandlerOpts};
@@ -17,7 +17,7 @@ use std::alloc::{AllocError, Global};
 use std::io::Write;
 
 /// The calls of this module.
-pub const NAMES: [&str; 15] = [
+pub const NAMES: [&str; 18] = [
     "GraphicalReportHandler::new",
     "GraphicalReportHandler::render_report",
     "ReportHandler::debug for GraphicalReportHandler",
@@ -25,6 +25,9 @@ pub const NAMES: [&str; 15] = [
     "NarratableReportHandler::render",
     "NarratableReportHandler::clone",
     "ReportHandler::debug for NarratableReportHandler",
+    "BriefReportHandler::render_report",
+    "BriefReportHandler::render",
+    "ReportHandler::debug for BriefReportHandler",
     "JSONReportHandler::render_report",
     "ReportHandler::debug for JSONReportHandler",
     "DebugReportHandler::render_report",
@@ -67,12 +70,16 @@ fn rendered(
     text: &mut String,
 ) -> Result<Result<(), RenderError>, Stop> {
     let mut telling = NarratableReportHandler::new();
+    let mut listing = BriefReportHandler::new();
     let mut spelling = JSONReportHandler::new();
     let mut showing = DebugReportHandler::new();
     Ok(match name {
         "NarratableReportHandler::render_report" => telling.render_report(report, text),
         "NarratableReportHandler::render" => telling.render(report, text),
         "ReportHandler::debug for NarratableReportHandler" => telling.debug(report, text),
+        "BriefReportHandler::render_report" => listing.render_report(report, text),
+        "BriefReportHandler::render" => listing.render(report, text),
+        "ReportHandler::debug for BriefReportHandler" => listing.debug(report, text),
         "JSONReportHandler::render_report" => spelling.render_report(report, text),
         "ReportHandler::debug for JSONReportHandler" => spelling.debug(report, text),
         "DebugReportHandler::render_report" => showing.render_report(report, text),

@@ -2,6 +2,8 @@
 //! texts were written by hand from the rules. What a description can say stands in `cases/`.
 #![tactic(auto)]
 
+#[cfg(test)]
+mod brief;
 pub mod clauses;
 #[cfg(test)]
 mod debug;

@@ -65,6 +65,14 @@ fn narrated(rt: HostRuntime) -> Result<(), Fail> {
 }
 
 #[test]
+fn brief_before_all_else(rt: HostRuntime) -> Result<(), Fail> {
+    let asked = MietteHandlerOpts::new()
+        .force_narrated(true)
+        .force_graphical(true);
+    make(&rt, rt.alloc(), asked.force_brief(true), "error: m\n")
+}
+
+#[test]
 fn separated_by_spaces(rt: HostRuntime) -> Result<(), Fail> {
     let asked = MietteHandlerOpts::new().word_separator(WordSeparator::AsciiSpace);
     make(&rt, rt.alloc(), asked, "  x m\n")
