@@ -1,13 +1,13 @@
 //! The program `lint` over any reader and writers.
 
-ghost use Rattle.std.specs.Prelude.{◌≡◌, ◌↔◌, ◌⊎◌, ◌<◌, false, true, IfOk, IfSome, IsNone, IsTrue, OnErr, map, Some, None};
-ghost use Rattle.std.specs.Prelude.{string_bytes};
+ghost use Rattle.std.specs.Prelude.{◌≡◌, ◌↔◌, ◌⊎◌, ◌<◌, false, true, IfOk, IfSome, IsNone, IsTrue, OnErr, map};
+ghost use Rattle.std.specs.Prelude.{Some, None, string_bytes};
 ghost use Rattle.std.specs.Io.KnownBytes.{Appends};
 ghost use Rattle.miette.specs.Diagnostic.{meaning_of};
 ghost use Rattle.miette_report.specs.views.Device.{TakesBeginning};
 ghost use Rattle.miette_report.specs.views.Drawn.{over_input};
-ghost use Rattle.miette_report.specs.views.Linted.{counted, warning, CallIsClean, CallLints, IsClean, IsLinted, IsShown, Lints};
-ghost use Rattle.miette_report.specs.views.Linted.{LintsText};
+ghost use Rattle.miette_report.specs.views.Linted.{counted, warning, CallIsClean, CallLints, IsClean, IsLinted};
+ghost use Rattle.miette_report.specs.views.Linted.{IsShown, Lints, LintsText};
 ghost use Rattle.miette_report.specs.rules.Words.{AreLintWords, IsNoLintCall, IsReadAs};
 
 use crate::device::Device;

@@ -86,8 +86,8 @@ pub(crate) fn rendered_length(
 /// # Errors
 /// `Read` exactly where a call of the reader failed. `Write` exactly where one of the writer failed, or took nothing:
 /// it has then taken a beginning of the text. `Description` where what was read describes no report. `Refused` only
-/// of a narrated or brief report, where a label that it tells isn't accepted. `Memory` where memory is refused. After all but
-/// `Write` nothing was written.
+/// of a narrated or brief report, where a label that it tells isn't accepted. `Memory` where memory is refused. After
+/// all but `Write` nothing was written.
 pub fn run<R: Read, W: Write>(
     alloc: Global,
     reader: &mut Device<R>,

@@ -8,7 +8,8 @@ use Rattle.miette_style.specs.rules.Themes.{ansi_styles, no_styles, unicode_char
 use Rattle.miette_snippets.specs.rules.Marks.{Mark}
 use Rattle.miette_snippets.specs.rules.Numbers.{runs}
 use Rattle.miette_graphical.specs.rules.Settings.{Settings, default_settings}
-use Rattle.miette_graphical.specs.laws.Headline.{AreOwnMarks, ShowsRuns, SnippetHangs, groups_of, marks_under, shown_lines}
+use Rattle.miette_graphical.specs.laws.Headline.{AreOwnMarks, ShowsRuns, SnippetHangs, groups_of, marks_under}
+use Rattle.miette_graphical.specs.laws.Headline.{shown_lines}
 use Rattle.std.specs.List.{AllByRecursion}
 
 -- ---- the report: a label on the one letter of a name, in the second of two lines
@@ -17,10 +18,16 @@ abbrev pub settings_file : Source
 settings_file = named (plain_source (codes "port = 80\nhost = x\n")) (codes "app.toml") None
 
 abbrev pub name_label : Label
-name_label = record { text = Some (codes "this name"); span = record { offset = 17; len = 1 }; primary = false; context = None }
+name_label = record {
+  text = Some (codes "this name");
+  span = record { offset = 17; len = 1 };
+  primary = false;
+  context = None;
+}
 
 abbrev pub warning_tree : Tree
-warning_tree = with_source settings_file (alone (record (message_alone (codes "no such host")) { labels = Some (name_label ∷ []) }))
+warning_tree = with_source settings_file
+    (alone (record (message_alone (codes "no such host")) { labels = Some (name_label ∷ []) }))
 
 -- ---- how it is drawn
 
@@ -48,4 +55,5 @@ pub record HasOwnMark (s : Settings) : Type 0 where
 
 -- in each snippet the label's text hangs from its mark
 abbrev pub TextHangs : Settings → Type 0
-TextHangs s = AllByRecursion (SnippetHangs s settings_file (name_label ∷ [])) (groups_of s settings_file (name_label ∷ []))
+TextHangs s = AllByRecursion (SnippetHangs s settings_file (name_label ∷ []))
+    (groups_of s settings_file (name_label ∷ []))

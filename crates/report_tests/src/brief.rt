@@ -57,7 +57,9 @@ fn worked(alloc: Global) -> Result<Report, Fail> {
 fn a_row_for_each_part(rt: HostRuntime) -> Result<(), Fail> {
     let report = worked(rt.alloc())?;
     let wanted =
-        "bad_file.rs:1:1: error[c::d]: oops! (twice)\nbad_file.rs:1:1: note: and this one\nbad_file.rs:2:3: note: This bit here\nwhy.rs:2:1: note: caused by: why\nbad_file.rs:1:1: help: try\nbad_file.rs:3:7: warning: rel\nbad_file.rs:3:8: note: e\n";
+        "bad_file.rs:1:1: error[c::d]: oops! (twice)\nbad_file.rs:1:1: note: and this one\n\
+        bad_file.rs:2:3: note: This bit here\nwhy.rs:2:1: note: caused by: why\n\
+        bad_file.rs:1:1: help: try\nbad_file.rs:3:7: warning: rel\nbad_file.rs:3:8: note: e\n";
     assert_eq!(rt; listed(rt.alloc(), &report)?.as_str(), wanted);
     Ok(())
 }

@@ -1,5 +1,5 @@
-//! The report of the first chapter of docs/GUIDE.md, by the calls that it shows. The same report by `job` stands first in
-//! `cases/gallery.jsonl`.
+//! The report of the first chapter of docs/GUIDE.md, by the calls that it shows. The same report by `job` stands first
+//! in `cases/gallery.jsonl`.
 
 use crate::clauses::{draw_both, warning};
 use miette::diagnostic::MietteDiagnostic;
@@ -11,10 +11,14 @@ use std::alloc::Global;
 use std::test::Fail;
 
 const ONE_LABEL: &str =
-    "  × oops!\n   ╭─[bad_file.rs:2:3]\n 1 │ source\n 2 │   text\n   ·   ──┬─\n   ·     ╰── This bit here\n 3 │     here\n   ╰────\n  help: try doing it better next time?\n";
+    "  × oops!\n   ╭─[bad_file.rs:2:3]\n 1 │ source\n 2 │   text\n   ·   ──┬─\n   \
+    ·     ╰── This bit here\n 3 │     here\n   ╰────\n  \
+    help: try doing it better next time?\n";
 
-const ONE_LABEL_TOLD: &str =
-    "oops!\n    Diagnostic severity: error\nBegin snippet for bad_file.rs starting at line 1, column 1\n\nsnippet line 1: source\nsnippet line 2:   text\n    label at line 2, columns 3 to 6: This bit here\nsnippet line 3:     here\ndiagnostic help: try doing it better next time?\n";
+const ONE_LABEL_TOLD: &str = "oops!\n    Diagnostic severity: error\n\
+    Begin snippet for bad_file.rs starting at line 1, column 1\n\nsnippet line 1: source\n\
+    snippet line 2:   text\n    label at line 2, columns 3 to 6: This bit here\n\
+    snippet line 3:     here\ndiagnostic help: try doing it better next time?\n";
 
 /// The diagnostic of the guide's first chapter.
 fn first_diagnostic(alloc: Global) -> Result<MietteDiagnostic, Fail> {
@@ -50,7 +54,8 @@ fn first_told(alloc: Global) -> Result<String, Fail> {
 }
 
 const WARNING: &str =
-    "  × no such host\n   ╭─[app.toml:2:8]\n 1 │ port = 80\n 2 │ host = x\n   ·        ┬\n   ·        ╰── this name\n   ╰────\n";
+    "  × no such host\n   ╭─[app.toml:2:8]\n 1 │ port = 80\n 2 │ host = x\n   ·        ┬\n   \
+    ·        ╰── this name\n   ╰────\n";
 
 #[test]
 fn a_warning_whose_clauses_are_used(rt: HostRuntime) -> Result<(), Fail> {

@@ -98,7 +98,9 @@ fn stopped(alloc: Global, length: usize) -> Result<Report, Fail> {
 /// The name of the file that is told for a label of this length.
 fn names_it(rt: &impl Abort, alloc: Global, length: usize, name: &str) -> Result<(), Fail> {
     let wanted = format!(in alloc;
-        "{{\"message\": \"m\",\"severity\": \"error\",\"causes\": [],\"filename\": \"{name}\",\"labels\": [{{\"span\": {{\"offset\": 0,\"length\": {length}}}}}],\"related\": []}}"
+        "{{\"message\": \"m\",\"severity\": \"error\",\"causes\": [],\
+        \"filename\": \"{name}\",\
+        \"labels\": [{{\"span\": {{\"offset\": 0,\"length\": {length}}}}}],\"related\": []}}"
     )?;
     expect(rt, alloc, &stopped(alloc, length)?, wanted.as_str())
 }

@@ -64,7 +64,8 @@ fn a_label_over_all_lines(rt: HostRuntime) -> Result<(), Fail> {
         ..M
     };
     let wanted =
-        "  × oops!\n   ╭─[bad_file.rs:1:1]\n 1 │ ╭─▶ source\n 2 │ │     text\n 3 │ ├─▶     here\n   · ╰──── whole\n   ╰────\n";
+        "  × oops!\n   ╭─[bad_file.rs:1:1]\n 1 │ ╭─▶ source\n 2 │ │     text\n 3 │ ├─▶     here\n   \
+        · ╰──── whole\n   ╰────\n";
     assert_eq!(rt; drawn(rt.alloc(), &whole)?.as_str(), wanted);
     Ok(())
 }

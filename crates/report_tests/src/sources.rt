@@ -145,11 +145,11 @@ fn a_label_that_is_too_long(rt: HostRuntime) -> Result<(), Fail> {
 fn a_place_that_is_not_read(rt: HostRuntime) -> Result<(), Fail> {
     let report = two(rt.alloc())?;
     refuses(&rt, &drawn(rt.alloc(), &report)?);
-    let wanted =
-        "m\n    Diagnostic severity: error\nBegin snippet starting at line 1, column 1\n\nsnippet line 1: ab\n    label at line 1, column 1\n";
+    let wanted = "m\n    Diagnostic severity: error\nBegin snippet starting at line 1, column 1\n\n\
+        snippet line 1: ab\n    label at line 1, column 1\n";
     gives(&rt, &told(rt.alloc(), &report)?, wanted);
-    let wanted =
-        "{\"message\": \"m\",\"severity\": \"error\",\"causes\": [],\"filename\": \"\",\"labels\": [{\"span\": {\"offset\": 0,\"length\": 1}}],\"related\": []}";
+    let wanted = "{\"message\": \"m\",\"severity\": \"error\",\"causes\": [],\
+        \"filename\": \"\",\"labels\": [{\"span\": {\"offset\": 0,\"length\": 1}}],\"related\": []}";
     gives(&rt, &as_json(rt.alloc(), &report)?, wanted);
     Ok(())
 }

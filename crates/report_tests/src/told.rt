@@ -10,9 +10,16 @@ use std::alloc::Global;
 
 /// A report with a text in front has the labels that it had, and the text as its message.
 pub fn under(alloc: Global, report: Report, text: &str) -> Result<Report, Report>
-    ensures labels { IfOk result (λ r. (head (tree_of ⟦<Box<dyn Diagnostic> as Diagnostic>⟧.meaning ⟦<Box<dyn SourceCode> as SourceCode>⟧.source r)).labels
-        ≡ (head (tree_of ⟦<Box<dyn Diagnostic> as Diagnostic>⟧.meaning ⟦<Box<dyn SourceCode> as SourceCode>⟧.source report)).labels) }
-    ensures message { IfOk result (λ r. (head (tree_of ⟦<Box<dyn Diagnostic> as Diagnostic>⟧.meaning ⟦<Box<dyn SourceCode> as SourceCode>⟧.source r)).message ≡ text.now) }
+    ensures labels { IfOk result (λ r.
+        (head
+        (tree_of ⟦<Box<dyn Diagnostic> as Diagnostic>⟧.meaning ⟦<Box<dyn SourceCode> as SourceCode>⟧.source r)).labels
+        ≡ (head
+        (tree_of ⟦<Box<dyn Diagnostic> as Diagnostic>⟧.meaning ⟦<Box<dyn SourceCode> as SourceCode>⟧.source
+        report)).labels) }
+    ensures message { IfOk result (λ r.
+        (head
+        (tree_of ⟦<Box<dyn Diagnostic> as Diagnostic>⟧.meaning ⟦<Box<dyn SourceCode> as SourceCode>⟧.source r)).message
+        ≡ text.now) }
 {
     report.wrap_err(alloc, text)
 }
@@ -22,8 +29,10 @@ pub fn step(alloc: Global, outcome: Result<u32>) -> Result<u32>
     ensures ok { IfOk outcome (λ value. result ≡ Ok value) }
     ensures err { IfErr outcome (λ report. IfErr result (λ r.
         (tree_of ⟦<Box<dyn Diagnostic> as Diagnostic>⟧.meaning ⟦<Box<dyn SourceCode> as SourceCode>⟧.source r
-        ≡ wrapped (codes "the step failed") (tree_of ⟦<Box<dyn Diagnostic> as Diagnostic>⟧.meaning ⟦<Box<dyn SourceCode> as SourceCode>⟧.source report))
-        ⊎ (tree_of ⟦<Box<dyn Diagnostic> as Diagnostic>⟧.meaning ⟦<Box<dyn SourceCode> as SourceCode>⟧.source r ≡ alone out_of_memory_alone))) }
+        ≡ wrapped (codes "the step failed")
+        (tree_of ⟦<Box<dyn Diagnostic> as Diagnostic>⟧.meaning ⟦<Box<dyn SourceCode> as SourceCode>⟧.source report))
+        ⊎ (tree_of ⟦<Box<dyn Diagnostic> as Diagnostic>⟧.meaning ⟦<Box<dyn SourceCode> as SourceCode>⟧.source r
+        ≡ alone out_of_memory_alone))) }
 {
     outcome.wrap_err(alloc, "the step failed")
 }

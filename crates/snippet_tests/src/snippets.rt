@@ -21,8 +21,8 @@ fn is_drawn<S: SourceCode>(
 #[test]
 fn one_label(rt: HostRuntime) -> Result<(), Fail> {
     let source = NamedSource::new(rt.alloc(), "bad_file.rs", "source\n  text\n    here")?;
-    let wanted =
-        "   ╭─[bad_file.rs:2:3]\n 1 │ source\n 2 │   text\n   ·   ──┬─\n   ·     ╰── This bit here\n 3 │     here\n   ╰────\n";
+    let wanted = "   ╭─[bad_file.rs:2:3]\n 1 │ source\n 2 │   text\n   ·   ──┬─\n   \
+        ·     ╰── This bit here\n 3 │     here\n   ╰────\n";
     is_drawn(&rt, rt.alloc(), &source, &[("This bit here", 9, 4)], wanted)
 }
 
@@ -56,7 +56,8 @@ fn reads_that_fail(rt: HostRuntime) -> Result<(), Fail> {
     let rows = [
         (
             two_lines(1, true),
-            "   ╭─[1:1]\n 1 │ a\n   · ─\n 2 │ b\n   · ─\n   ╰────\n   ╭─[2:1]\n 1 │ a\n   · ─\n 2 │ b\n   · ─\n   ╰────\n",
+            "   ╭─[1:1]\n 1 │ a\n   · ─\n 2 │ b\n   · ─\n   ╰────\n   ╭─[2:1]\n 1 │ a\n   · ─\n \
+            2 │ b\n   · ─\n   ╰────\n",
         ),
         (
             two_lines(0, false),

@@ -18,7 +18,10 @@ impl Diagnostic for Missing {
     ghost use Rattle.miette_protocol.specs.views.Diagnostic.{message_alone};
     ghost use Rattle.miette_protocol.specs.declared.protocol.Severity.TheVariants.{Warning};
 
-    ghost meaning = { λ it. record (message_alone (string_bytes it.message)) { severity = Some Warning; help = Some (string_bytes it.help) } };
+    ghost meaning = { λ it. record (message_alone (string_bytes it.message)) {
+      severity = Some Warning;
+      help = Some (string_bytes it.help);
+    } };
 
     fn message(&self) -> &str {
         self.message.as_str()

@@ -208,7 +208,8 @@ fn json_is_read_back(rt: HostRuntime) -> Result<(), Fail> {
     let text = serde_json::to_string(alloc, &full)?;
     assert_eq!(rt;
         text.as_str(),
-        r#"{"message":"message","code":"c","severity":"Warning","help":"h","url":"u","labels":[{"label":"t","span":{"offset":1,"length":2},"primary":false}]}"#
+        "{\"message\":\"message\",\"code\":\"c\",\"severity\":\"Warning\",\"help\":\"h\",\"url\":\"u\",\
+        \"labels\":[{\"label\":\"t\",\"span\":{\"offset\":1,\"length\":2},\"primary\":false}]}"
     );
     assert!(rt; read_back(alloc, &full)? == full);
     Ok(())

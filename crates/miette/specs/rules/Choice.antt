@@ -1,7 +1,7 @@
 -- Which handler options and a terminal choose, and how it is set. Of several places that may say it, the first that
 -- does counts.
-use Rattle.std.specs.Prelude.{◌≡◌, ℕ, Bool, true, false, not, ◌&&◌, List, Option, None, is_some, if◌then◌else◌, unwrap_or}
-use Rattle.std.specs.Prelude.{option_map, chars, codes, string_bytes}
+use Rattle.std.specs.Prelude.{◌≡◌, ℕ, Bool, true, false, not, ◌&&◌, List, Option, None, is_some, if◌then◌else◌}
+use Rattle.std.specs.Prelude.{unwrap_or, option_map, chars, codes, string_bytes}
 use Rattle.std.specs.Option.{option_or}
 use Rattle.std.specs.Str.{bytes_eq}
 use Rattle.miette_style.specs.rules.Themes.{Styles, Theme, ansi_styles, ascii_characters, no_styles}

@@ -11,8 +11,9 @@ use Rattle.miette_report.specs.declared.option_words.TerminalAsked.TheVariants a
 use Rattle.miette_report.specs.declared.option_words.ThemeAsked.{ThemeAsked}
 use Rattle.miette_report.specs.declared.option_words.ThemeAsked.TheVariants as theme
 use Rattle.miette_report.specs.rules.Wanted.{Ask, OfHandler, OfOptions, OfTerminal}
-use Rattle.miette_report.specs.rules.Wanted.{OptionAsk, Brief, Narrated, Graphical, Width, Context, Tab, Drawn, Unicode, Color}
-use Rattle.miette_report.specs.rules.Wanted.{Links, Chain, Break, Wrap, Hyphens, Nested, Rgb, Footer, Highlighted}
+use Rattle.miette_report.specs.rules.Wanted.{OptionAsk, Brief, Narrated, Graphical, Width, Context, Tab, Drawn}
+use Rattle.miette_report.specs.rules.Wanted.{Unicode, Color, Links, Chain, Break, Wrap, Hyphens, Nested}
+use Rattle.miette_report.specs.rules.Wanted.{Rgb, Footer, Highlighted}
 use Rattle.miette_report.specs.rules.Wanted.{TerminalAsk, Columns, Colours, DrawsUnicode, ShowsLinks, NoGraphics}
 
 abbrev pub theme_named : ThemeAsked → Theme
