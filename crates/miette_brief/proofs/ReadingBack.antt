@@ -1,13 +1,14 @@
 -- The place of a row, read back.
-use Rattle.std.proofs.Common.{◌≡◌, ℕ, ◌+◌, ◌<◌, ◌^◌, ◌==◌, List, [], ◌∷◌, ◌++◌, Bool, true, false, not, Some, refl, sym, ap, ap₂, ◌∙◌, append_assoc, arith}
+use Rattle.std.proofs.Common.{◌≡◌, ℕ, ◌+◌, ◌<◌, ◌^◌, ◌==◌, List, [], ◌∷◌, ◌++◌, Bool, true, false, not, Option, Some, None, IfSome, length, subst, refl, sym, ap, ◌∙◌, append_assoc, arith}
 use Rattle.std.specs.Prelude.{decimal}
+use Rattle.std.specs.List.{list_all}
 use Rattle.std.specs.Str.Parse.{digits_value}
 use Rattle.std.proofs.lemmas.Bool.{and_parts}
 use Rattle.std.proofs.lemmas.Bool.Decides.{nat_tests}
-use Rattle.std.proofs.lemmas.Fmt.{decimal_is_IsNumeral}
+use Rattle.std.proofs.lemmas.Fmt.{decimal_is_IsNumeral, decimal_nonempty}
 use Rattle.miette_brief.specs.declared.rows.Position.{Position}
 use Rattle.miette_brief.specs.rules.Rows.{Row, one_row, place_text, kind_text, row_text}
-use Rattle.miette_brief.specs.laws.ReadBack.{has_no_colon, before_colon, after_colon, number_before, ReadsBack}
+use Rattle.miette_brief.specs.laws.ReadBack.{has_no_colon, before_colon, after_colon, number_before, position_in, ReadsBack}
 use Rattle.miette_brief.proofs.Counting.{decimal_all}
 
 not_false : (b : Bool) → not b ≡ true → b ≡ false
@@ -35,25 +36,56 @@ decimal_no_colon n = decimal_all (λ b. not (b == 58)) digit_no_colon n
 number_past : (n : ℕ) (ys : List ℕ) → n < 2 ^ 64 → number_before (decimal n ++ (58 ∷ ys)) ≡ n
 number_past n ys h = ap (digits_value 10) (before_past (decimal n) ys (decimal_no_colon n)) ∙ (decimal_is_IsNumeral n h).1
 
+-- ---- positions
+
 shape : (n l c rest : List ℕ) → (n ++ ((58 ∷ (l ++ (58 ∷ c))) ++ (58 ∷ 32 ∷ []))) ++ rest ≡ n ++ (58 ∷ (l ++ (58 ∷ (c ++ (58 ∷ (32 ∷ rest))))))
 shape n l c rest = simp append_assoc
 
-back : (n rest : List ℕ) (at : Position) (row : List ℕ) → has_no_colon n ≡ true → at.line < 2 ^ 64 → at.column < 2 ^ 64
-    → row ≡ n ++ (58 ∷ (decimal at.line ++ (58 ∷ (decimal at.column ++ (58 ∷ rest))))) → ReadsBack n at row
-back n rest at row free line column e =
+shape_alone : (n rest : List ℕ) → (n ++ (58 ∷ 32 ∷ [])) ++ rest ≡ n ++ (58 ∷ 32 ∷ rest)
+shape_alone n rest = simp append_assoc
+
+digit_no_space : (d : ℕ) → d < 10 → not ((48 + d) == 32) ≡ true
+digit_no_space d h = grind (arith, nat_tests)
+
+-- no position stands behind a space, and one behind anything else
+position_there : (ds rest : List ℕ) → 0 < length ds → list_all (λ b. not (b == 32)) ds ≡ true
+    → position_in (ds ++ rest) ≡ Some (record { line = number_before (ds ++ rest); column = number_before (after_colon (ds ++ rest)) })
+position_there [] rest some h = absurd (omega arith)
+position_there (d ∷ ds) rest some h = rw (not_false (d == 32) (and_parts (not (d == 32)) (list_all (λ b. not (b == 32)) ds) h).0) refl
+
+same_position : (l c : ℕ) (at : Position) → l ≡ at.line → c ≡ at.column → Some (record { line = l; column = c }) ≡ Some at
+same_position l c at p q = rw (p, q) refl
+
+position_past : (at : Position) (rest : List ℕ) → at.line < 2 ^ 64 → at.column < 2 ^ 64
+    → position_in (decimal at.line ++ (58 ∷ (decimal at.column ++ (58 ∷ rest)))) ≡ Some at
+position_past at rest line column =
     let last = decimal at.column ++ (58 ∷ rest) in
     let behind = decimal at.line ++ (58 ∷ last) in
-    let first : after_colon row ≡ behind = ap after_colon e ∙ after_past n behind free in
-    let second : after_colon (after_colon row) ≡ last = ap after_colon first ∙ after_past (decimal at.line) last (decimal_no_colon at.line) in
-    record {
-      name_is = ap before_colon e ∙ before_past n behind free;
-      line_is = ap number_before first ∙ number_past at.line last line;
-      column_is = ap number_before second ∙ number_past at.column rest column;
-    }
+    position_there (decimal at.line) (58 ∷ last) (decimal_nonempty at.line line) (decimal_all (λ b. not (b == 32)) digit_no_space at.line)
+    ∙ same_position (number_before behind) (number_before (after_colon behind)) at (number_past at.line last line)
+    (ap number_before (after_past (decimal at.line) last (decimal_no_colon at.line)) ∙ number_past at.column rest column)
 
-pub place_back : (row : Row) (name : List ℕ) (at : Position) → row.place.name ≡ Some name → row.place.position ≡ Some at → has_no_colon (one_row name) ≡ true
-    → at.line < 2 ^ 64 → at.column < 2 ^ 64 → ReadsBack (one_row name) at (row_text row)
-place_back row name at en ep free line column =
+-- ---- rows
+
+back : (n behind row : List ℕ) (position : Option Position) → has_no_colon n ≡ true → row ≡ n ++ (58 ∷ behind)
+    → position_in behind ≡ position → ReadsBack n position row
+back n behind row position free e p = record {
+  name_is = ap before_colon e ∙ before_past n behind free;
+  position_is = ap (λ bs. position_in (after_colon bs)) e ∙ (ap position_in (after_past n behind free) ∙ p);
+}
+
+pub text_back : (name rest : List ℕ) (position : Option Position) → has_no_colon (one_row name) ≡ true → IfSome position (λ at. (at.line < 2 ^ 64) × (at.column < 2 ^ 64))
+    → ReadsBack (one_row name) position (place_text (Some name) position ++ rest)
+text_back name rest None free fits = back (one_row name) (32 ∷ rest) (place_text (Some name) None ++ rest) None free (shape_alone (one_row name) rest) refl
+text_back name rest (Some at) free fits =
+    let line = decimal at.line in
+    let column = decimal at.column in
+    back (one_row name) (line ++ (58 ∷ (column ++ (58 ∷ (32 ∷ rest))))) (place_text (Some name) (Some at) ++ rest) (Some at) free
+    (shape (one_row name) line column rest) (position_past at (32 ∷ rest) fits.0 fits.1)
+
+pub place_back : (row : Row) (name : List ℕ) → row.place.name ≡ Some name → has_no_colon (one_row name) ≡ true
+    → IfSome row.place.position (λ at. (at.line < 2 ^ 64) × (at.column < 2 ^ 64)) → ReadsBack (one_row name) row.place.position (row_text row)
+place_back row name en free fits =
     let rest = kind_text row.kind ++ one_row row.text in
-    back (one_row name) (32 ∷ rest) at (row_text row) free line column
-    (ap₂ (λ n p. place_text n p ++ rest) en ep ∙ shape (one_row name) (decimal at.line) (decimal at.column) rest)
+    subst (λ n. ReadsBack (one_row name) row.place.position (place_text n row.place.position ++ rest)) (sym en)
+    (text_back name rest row.place.position free fits)

@@ -76,8 +76,8 @@ impl BriefReportHandler {
     }
 
     /// Appends the brief text of a report. After an error `out` is as before: `Memory` where memory was refused,
-    /// `Refused` where a label of a diagnostic that is no cause isn't accepted, or where a source that doesn't always
-    /// read refused one.
+    /// `Refused` where a label of the report or of one related to it isn't accepted, or where a source that doesn't
+    /// always read refused one. Labels of causes refuse nothing, nor do those of reports related to a cause.
     pub fn render_report(&self, report: &Report, out: &mut String) -> Result<(), RenderError>
         // a text for answers that the sources can have given
         ensures text { OnOk result (AppendsOne (IsBrief self.now

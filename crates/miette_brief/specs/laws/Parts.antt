@@ -22,7 +22,7 @@ abbrev pub told_causes : Bool → List (List ℕ) → ℕ
 told_causes true causes = length causes
 told_causes false causes = 0
 
--- each diagnostic that is no cause, its labels with a text, its causes where they are told, and its help
+-- the message, the labels with a text, the causes where they are told, the help, and the parts of each related report
 abbrev mutual
   pub parts : Bool → Tree → ℕ
   parts chain (tree m s c r) =

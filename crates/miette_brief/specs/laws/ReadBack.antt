@@ -1,5 +1,5 @@
 -- How the place of a row is read back.
-use Rattle.std.specs.Prelude.{◌≡◌, ℕ, ◌==◌, Bool, not, List, [], ◌∷◌, if◌then◌else◌}
+use Rattle.std.specs.Prelude.{◌≡◌, ℕ, ◌==◌, Bool, not, List, [], ◌∷◌, Option, Some, None, if◌then◌else◌}
 use Rattle.std.specs.List.{list_all}
 use Rattle.std.specs.Str.Parse.{digits_value}
 use Rattle.miette_brief.specs.declared.rows.Position.{Position}
@@ -21,8 +21,14 @@ after_colon (b ∷ bs) = if b == 58 then bs else after_colon bs
 abbrev pub number_before : List ℕ → ℕ
 number_before bs = digits_value 10 (before_colon bs)
 
--- a row begins with this name, this line and this column, each up to a colon
-pub record ReadsBack (name : List ℕ) (at : Position) (row : List ℕ) : Type 0 where
+-- what stands behind a name's colon: a line and a column, each up to a colon, or a space, and then no position
+abbrev pub position_in : List ℕ → Option Position
+position_in [] = None
+position_in (b ∷ bs) =
+    if b == 32 then None
+    else Some (record { line = number_before (b ∷ bs); column = number_before (after_colon (b ∷ bs)) })
+
+-- a row begins with this name, up to a colon, and with this position, or with none
+pub record ReadsBack (name : List ℕ) (position : Option Position) (row : List ℕ) : Type 0 where
   pub name_is : before_colon row ≡ name
-  pub line_is : number_before (after_colon row) ≡ at.line
-  pub column_is : number_before (after_colon (after_colon row)) ≡ at.column
+  pub position_is : position_in (after_colon row) ≡ position

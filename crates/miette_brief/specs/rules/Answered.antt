@@ -39,7 +39,7 @@ accepts None labels = true
 accepts (Some source) labels = list_all (λ label. is_accepted source.bytes label.span) labels
     && (is_nil labels || source.always_reads)
 
--- Each diagnostic that is no cause has such labels over its effective source.
+-- The report has such labels over its effective source, and so has each one related to it.
 abbrev mutual
   pub accepts_report : Option Source → Tree → Bool
   accepts_report inherited (tree m own c r) =

@@ -2,4 +2,4 @@ use Rattle.miette_brief.proofs.ReadingBack.{place_back}
 use Rattle.miette_brief.proofs.laws.a_place_reads_back.Goals as goal
 
 pub returns : goal.returns
-returns c = λ row name at n p free line column. place_back row name at n p free line column
+returns c = λ row name n p fits. place_back row name n p fits
