@@ -16,28 +16,36 @@ enum Bytes {
     Named(NamedSource<IndexedSource>),
 }
 
-/// A source that owns its bytes and keeps an index of their lines, so that a report can hold it with
-/// no box. It always reads.
+/// A source that owns its bytes and keeps an index of their lines. What it keeps lies in a place of its own, so that a
+/// report that holds it, or none, is small. It always reads.
 #[derive(Drop)]
 pub struct OwnedSource {
-    bytes: Bytes,
+    bytes: Box<Bytes>,
 }
 
 impl OwnedSource {
-    ghost use Rattle.miette_tree.specs.views.Owned.{owned_source};
+    ghost use Rattle.miette_tree.specs.views.Owned.{bytes_source, owned_source};
 
-    /// These bytes, with no name and no language. `AllocError` where there is no memory for the index; the bytes
-    /// are then let go.
+    // In a place of its own.
+    fn placed(alloc: Global, bytes: Bytes) -> Result<OwnedSource, AllocError>
+        ensures { IfOk result (λ it. owned_source it ≡ bytes_source bytes) }
+    {
+        match Box::new(alloc, bytes) {
+            Ok(bytes) => Ok(OwnedSource { bytes }),
+            Err(_) => Err(AllocError),
+        }
+    }
+
+    /// These bytes, with no name and no language. `AllocError` where there is no memory for the index and its place;
+    /// the bytes are then let go.
     pub fn new(alloc: Global, bytes: Vec<u8>) -> Result<OwnedSource, AllocError>
         ensures { IfOk result (λ it. owned_source it ≡ plain_source bytes.items) }
     {
-        Ok(OwnedSource {
-            bytes: Bytes::Plain(IndexedSource::new(alloc, bytes)?),
-        })
+        OwnedSource::placed(alloc, Bytes::Plain(IndexedSource::new(alloc, bytes)?))
     }
 
     /// These bytes, with a name, and with a language where one is given. `AllocError` where there is no memory
-    /// for the index, the name or the language; the bytes are then let go.
+    /// for the index and its place, the name or the language; the bytes are then let go.
     pub fn named(
         alloc: Global,
         name: &str,
@@ -52,9 +60,7 @@ impl OwnedSource {
             Some(language) => source.with_language(alloc, language)?,
             None => source,
         };
-        Ok(OwnedSource {
-            bytes: Bytes::Named(source),
-        })
+        OwnedSource::placed(alloc, Bytes::Named(source))
     }
 }
 
@@ -70,7 +76,7 @@ impl SourceCode for OwnedSource {
         before: usize,
         after: usize,
     ) -> Result<MietteSpanContents<'_>, MietteError> {
-        match &self.bytes {
+        match &*self.bytes {
             Bytes::Plain(source) => source.read_span(span, before, after),
             Bytes::Named(source) => source.read_span(span, before, after),
         }

@@ -24,7 +24,7 @@ pub type Result<T, E = Report> = std::result::Result<T, E>;
 ///
 /// Users write `Report`; the parameters are the boxes in which diagnostics and sources are given.
 pub struct Report<D = Box<dyn Diagnostic>, S = Box<dyn SourceCode>> {
-    front: Option<String>,
+    front: Option<Box<String>>,
     innermost: Innermost<D>,
     source: Option<Kept<S>>,
     cause: KeptCause<Report<D, S>>,
@@ -250,6 +250,9 @@ impl<D: Diagnostic, S: SourceCode> Report<D, S> {
         ensures kind { IfOk result (λ r. kind_of r ≡ kind_of self) }
         ensures err { IfErr result (λ r. r ≡ self) }
     {
+        let Ok(front) = Box::new(alloc, front) else {
+            return Err(self);
+        };
         let mut report = self;
         match report.chain_becomes_causes(alloc) {
             Ok(()) => {

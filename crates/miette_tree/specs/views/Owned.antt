@@ -13,7 +13,7 @@ bytes_source (bytes.Plain it) = plain_source it
 bytes_source (bytes.Named it) = named (plain_source (inner_of it)) (name_of it) (given_language it)
 
 abbrev pub owned_source : OwnedSource → Source
-owned_source it = bytes_source it.bytes
+owned_source it = bytes_source it.bytes.value
 
 -- a source that was given in a box, given what boxes mean, or an owned one
 abbrev pub kept_source : {S : Type 0} → (S → Source) → Kept S → Source

@@ -47,7 +47,7 @@ trees_from (Some ts) = trees ts
 abbrev pub tree_step : {D S : Type 0} → (D → Meaning) → (S → Source) → Report-F D S Tree → Tree
 tree_step means is r =
     tree
-    (fronted (option_map string_bytes r.front) (innermost_meaning means r.innermost))
+    (fronted (option_map (λ b. string_bytes b.value) r.front) (innermost_meaning means r.innermost))
     (option_map (kept_source is) r.source)
     (kept_cause r.cause)
     (trees_from (option_map (λ v. v.items) r.related))
