@@ -15,9 +15,10 @@ use Rattle.memchr.specs.Find.{IsFirstByte, Nowhere, Passes, is_byte2}
 use Rattle.unicode_width.specs.Width.{char_width}
 use Rattle.miette_style.specs.rules.Escapes.{is_escape}
 use Rattle.miette_text.specs.rules.Sequences.{is_line_feed}
-use Rattle.miette_text.specs.rules.Wrapping.{all_white, is_space, width}
-use Rattle.miette_text.specs.steps.Ends.{code_columns, plain_cells}
-use Rattle.miette_text.specs.steps.Fitting.{all_printable, ends_bare, fits_row, is_line}
+use Rattle.miette_text.specs.rules.Fitting.{ends_bare, has_ink, is_line}
+use Rattle.miette_text.specs.rules.Wrapping.{is_space, width}
+use Rattle.miette_text.specs.steps.Ends.{code_columns}
+use Rattle.miette_text.specs.steps.Fitting.{all_printable, fits_row}
 use Rattle.miette_text.proofs.Weaving.{drop-all}
 
 -- ---- printable ASCII
@@ -116,15 +117,14 @@ next-fits_at left bare cs n c w m t e h k f =
     ∙ next-fits left bare c (drop (n + 1) cs) h (omega arith)
     ∙ ap₂ (λ v i. left_fits (left - v) (not (is_space c)) (drop i cs)) (sym e) (sym f)
 
-pub ink_at : (cs : List ℕ) (n c : ℕ) → (n < length cs) × (c ≡ get_or cs n c) → is_whitespace c ≡ false → all_white (plain_cells (drop n cs)) ≡ false
-ink_at cs n c t h =
-    ap (λ us. all_white (plain_cells us)) (front cs n c t) ∙ ap (λ b. b && all_white (plain_cells (drop (n + 1) cs))) h
+pub ink_at : (cs : List ℕ) (n c : ℕ) → (n < length cs) × (c ≡ get_or cs n c) → is_whitespace c ≡ false → has_ink (drop n cs) ≡ true
+ink_at cs n c t h = ap has_ink (front cs n c t) ∙ ap (λ b. not b || has_ink (drop (n + 1) cs)) h
 
-pub white_at : (cs : List ℕ) (n c m : ℕ) → (n < length cs) × (c ≡ get_or cs n c) → is_whitespace c ≡ true → m ≡ n + 1 → all_white (plain_cells (drop n cs)) ≡ all_white (plain_cells (drop m cs))
+pub white_at : (cs : List ℕ) (n c m : ℕ) → (n < length cs) × (c ≡ get_or cs n c) → is_whitespace c ≡ true → m ≡ n + 1 → has_ink (drop n cs) ≡ has_ink (drop m cs)
 white_at cs n c m t h e =
-    ap (λ us. all_white (plain_cells us)) (front cs n c t)
-    ∙ ap (λ b. b && all_white (plain_cells (drop (n + 1) cs))) h
-    ∙ ap (λ i. all_white (plain_cells (drop i cs))) (sym e)
+    ap has_ink (front cs n c t)
+    ∙ ap (λ b. not b || has_ink (drop (n + 1) cs)) h
+    ∙ ap (λ i. has_ink (drop i cs)) (sym e)
 
 -- ---- at the end
 
@@ -137,8 +137,8 @@ end-fits left bare cs n h =
     let z : nat_le 0 left ≡ true = grind (arith, nat_tests) in
     ap (left_fits left bare) (drop-all n cs h) ∙ ap (λ b. bare && b) z ∙ and-true bare
 
-pub end-white : (cs : List ℕ) (n : ℕ) → length cs ≤ n → all_white (plain_cells (drop n cs)) ≡ true
-end-white cs n h = ap (λ us. all_white (plain_cells us)) (drop-all n cs h)
+pub end-white : (cs : List ℕ) (n : ℕ) → length cs ≤ n → has_ink (drop n cs) ≡ false
+end-white cs n h = ap has_ink (drop-all n cs h)
 
 -- ---- the bytes of a line
 

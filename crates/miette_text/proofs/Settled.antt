@@ -1,13 +1,14 @@
 -- Runs that are read again as they were printed.
-use Rattle.std.proofs.Common.{◌≡◌, ℕ, zero, suc, ◌<◌, Bool, true, false, not, ◌&&◌, ◌==◌, nat_lt, List, [], ◌∷◌, ◌++◌, map, length, refl, sym, ap, ap₂, ◌∙◌, arith, append-nil, eqb-true, ltb-true, if◌then◌else◌}
+use Rattle.std.proofs.Common.{◌≡◌, ℕ, zero, suc, ◌<◌, Bool, true, false, not, ◌&&◌, ◌==◌, nat_le, nat_lt, List, [], ◌∷◌, ◌++◌, map, length, refl, sym, ap, ap₂, ◌∙◌, arith, append-nil, eqb-true, ltb-true, if◌then◌else◌}
 use Rattle.std.proofs.lemmas.Bool.{and_parts}
 use Rattle.std.proofs.lemmas.Bool.Decides.{nat_tests}
 use Rattle.miette_style.specs.rules.Codes.{colour_start}
-use Rattle.miette_text.specs.rules.Sequences.{Token, Character, Sequence, tokens, spell, is_line_feed, is_bell, one_more, begins_terminator, control_len, command_len, after_escape_len, sequence_len}
+use Rattle.miette_text.specs.rules.Sequences.{Token, Character, Sequence, is_whole, tokens, spell, is_line_feed, is_bell, one_more, begins_terminator, control_len, command_len, after_escape_len, sequence_len}
 use Rattle.miette_style.specs.rules.Escapes.{is_escape}
 use Rattle.miette_text.specs.rules.Tame.{is_colour}
 use Rattle.miette_style.specs.rules.Escapes.{no_escape}
-use Rattle.miette_text.specs.views.Woven.{tag_text, tag_token, upto, beyond, woven, is_whole, are_whole}
+use Rattle.miette_text.specs.views.Woven.{tag_text, tag_token, upto, beyond, woven, are_whole}
+use Rattle.miette_text.specs.rules.Fitting.{are_settled}
 use Rattle.miette_text.specs.declared.runs.sign.Tag.{Tag}
 use Rattle.miette_style.specs.declared.style.Style.{Style}
 use Rattle.miette_text.proofs.Growing.{spell-characters}
@@ -123,3 +124,40 @@ colour-whole s h =
 
 pub start-whole : (s : Style) → is_whole (colour_start s) ≡ true
 start-whole s = colour-whole (colour_start s) (start_colour s)
+
+-- ---- exactly those are settled
+
+and-same : (a b c : Bool) → (a && (b && c)) ≡ ((a && b) && c)
+and-same true b c = refl
+and-same false b c = refl
+
+settled-front : (ms : List Tag) (ts : List Token) → are_settled (map tag_token ms ++ ts) ≡ (are_whole ms && are_settled ts)
+settled-front [] ts = refl
+settled-front (m ∷ ms) ts =
+    ap (λ b. is_whole (tag_text m) && b) (settled-front ms ts) ∙ and-same (is_whole (tag_text m)) (are_whole ms) (are_settled ts)
+
+settled-tags_alone : (ms : List Tag) → are_settled (map tag_token ms) ≡ are_whole ms
+settled-tags_alone [] = refl
+settled-tags_alone (m ∷ ms) = ap (λ b. is_whole (tag_text m) && b) (settled-tags_alone ms)
+
+whole-parted : (p : ℕ) (ms : List Tag) → are_whole ms ≡ (are_whole (upto p ms) && are_whole (beyond p ms))
+whole-parted p [] = refl
+whole-parted p (m ∷ ms) = elim (nat_le m.at p) as (λ b. are_whole (m ∷ ms) ≡ (are_whole (if b then m ∷ upto p ms else []) && are_whole (if b then beyond p ms else m ∷ ms))) [
+  | true ↦ ap (λ b. is_whole (tag_text m) && b) (whole-parted p ms) ∙ and-same (is_whole (tag_text m)) (are_whole (upto p ms)) (are_whole (beyond p ms))
+  | false ↦ refl
+]
+
+between : (a b c d : Bool) → (a && (b && (c && d))) ≡ ((b && c) && (a && d))
+between true true c d = refl
+between true false c d = refl
+between false true true d = refl
+between false true false d = refl
+between false false c d = refl
+
+pub settled-exact : (p : ℕ) (cs : List ℕ) (ms : List Tag) → are_settled (woven p cs ms) ≡ (no_escape cs && are_whole ms)
+settled-exact p [] ms = settled-tags_alone ms
+settled-exact p (c ∷ cs) ms =
+    settled-front (upto p ms) (Character c ∷ woven (suc p) cs (beyond p ms))
+    ∙ ap (λ b. are_whole (upto p ms) && (not (is_escape c) && b)) (settled-exact (suc p) cs (beyond p ms))
+    ∙ between (are_whole (upto p ms)) (not (is_escape c)) (no_escape cs) (are_whole (beyond p ms))
+    ∙ ap (λ b. (not (is_escape c) && no_escape cs) && b) (sym (whole-parted p ms))

@@ -1,14 +1,16 @@
 -- Texts that stand in one row as they are.
-use Rattle.std.proofs.Common.{◌≡◌, ℕ, ◌+◌, ◌-◌, ◌≤◌, Bool, true, false, not, ◌&&◌, ◌||◌, nat_le, List, [], ◌∷◌, ◌++◌, map, flat_map, refl, sym, ap, ◌∙◌, if◌then◌else◌, arith, append-nil}
+use Rattle.std.proofs.Common.{◌≡◌, ℕ, ◌+◌, ◌-◌, ◌<◌, ◌≤◌, Bool, true, false, not, ◌&&◌, ◌||◌, nat_le, List, [], ◌∷◌, ◌++◌, map, flat_map, refl, sym, ap, ap₂, ◌∙◌, if◌then◌else◌, arith, append-nil}
 use Rattle.std.proofs.lemmas.Bool.{and_parts}
 use Rattle.std.proofs.lemmas.Bool.Decides.{nat_tests}
 use Rattle.std.proofs.lemmas.List.Sums.{sum_by-append}
+use Rattle.std.specs.Char.{is_whitespace}
 use Rattle.miette_style.specs.rules.Escapes.{is_escape, no_escape}
 use Rattle.miette_text.specs.rules.Sequences.{Token, Character, tokens, spell, is_line_feed}
 use Rattle.miette_text.specs.rules.Filled.{Fits, IsFilled}
 use Rattle.miette_text.specs.rules.Wrapping.{Cell, Cuts, Piece, Plan, Word, all_white, cell_tokens, columns, columns_of, cut_words, cuts_of, filled, first_room, further_room, is_space, joined, map_indents, on_first, only_spaces, piece_rows, pieces, row_tokens, rows, text_rows, trimmed, whole_pieces, width, with_code, with_rest, word_cells, wrapped}
 use Rattle.miette_text.specs.steps.Ends.{code_columns, codes_of, plain_cells, row_cells}
-use Rattle.miette_text.specs.steps.Fitting.{ends_bare, fits_row, is_line, is_shown}
+use Rattle.miette_text.specs.rules.Fitting.{are_settled, ends_bare, fits, has_ink, is_line}
+use Rattle.miette_text.specs.steps.Fitting.{fits_row, is_shown}
 use Rattle.miette_text.proofs.Closed.{cut_words-flat}
 use Rattle.miette_text.proofs.FirstRow.{columns-codes}
 use Rattle.miette_text.proofs.Growing.{spell-characters}
@@ -134,12 +136,56 @@ wrapped-row p first room cs w i t r h =
     ∙ filled-line (map_indents tokens p) (tokens cs) cs (text-line cs q.0) s.0 (omega arith)
     ∙ ap (λ us. spell us ++ cs) under
 
+ink-white : (cs : List ℕ) → has_ink cs ≡ not (all_white (plain_cells cs))
+ink-white [] = refl
+ink-white (c ∷ cs) = ap (λ b. not (is_whitespace c) || b) (ink-white cs) ∙ either (is_whitespace c) (all_white (plain_cells cs))
+  where
+    either : (a b : Bool) → (not a || not b) ≡ not (a && b)
+    either true b = refl
+    either false b = refl
+
+opposite : (b : Bool) → not b ≡ true → b ≡ false
+opposite true h = sym h
+opposite false h = refl
+
 pub wrapped-shown : (p : Plan (List ℕ)) (first : List Token) (cs : List ℕ) → p.wraps ≡ false → p.first ≡ spell first → tokens (spell first) ≡ first → is_shown cs ≡ true →
     wrapped p cs ≡ spell first ++ cs
 wrapped-shown p first cs w i t h =
-    let q = and_parts (is_line cs) (not (all_white (plain_cells cs))) h in
+    let q = and_parts (is_line cs) (has_ink cs) h in
     let under : tokens p.first ≡ first = ap tokens i ∙ t in
-    let k : all_white (plain_cells cs) ≡ false = grind (arith, nat_tests) in
+    let k : all_white (plain_cells cs) ≡ false = opposite (all_white (plain_cells cs)) (sym (ink-white cs) ∙ q.1) in
     ap (λ (b : Bool). spell (if b then filled (map_indents tokens p) (tokens cs) else whole_pieces (tokens p.first) (tokens p.further) (pieces (tokens cs)))) w
     ∙ whole-line (tokens p.first) (tokens p.further) (tokens cs) cs (text-line cs q.0) k
     ∙ ap (λ us. spell us ++ cs) under
+
+-- ---- and when the answer is that they do
+
+pub fits-none : (wraps : Bool) (room : ℕ) (first : List Token) (cs : List ℕ) → are_settled first ≡ false → false ≡ fits wraps room first cs
+fits-none wraps room first cs h =
+    sym (ap (λ b. b && (is_line cs && (if wraps then ends_bare true cs && nat_le (columns_of first + code_columns cs) room else has_ink cs))) h)
+
+pub fits-shown : (wraps : Bool) (room : ℕ) (first : List Token) (cs : List ℕ) → are_settled first ≡ true → wraps ≡ false → is_shown cs ≡ fits wraps room first cs
+fits-shown wraps room first cs h w =
+    sym (ap₂ (λ a b. a && (is_line cs && (if b then ends_bare true cs && nat_le (columns_of first + code_columns cs) room else has_ink cs))) h w)
+
+-- a row that is filled, with what is said of its room
+fits-filled : (wraps : Bool) (room : ℕ) (first : List Token) (cs : List ℕ) (b : Bool) → are_settled first ≡ true → wraps ≡ true → b ≡ nat_le (columns_of first + code_columns cs) room →
+    (is_line cs && (ends_bare true cs && b)) ≡ fits wraps room first cs
+fits-filled wraps room first cs b h w e =
+    ap (λ x. is_line cs && (ends_bare true cs && x)) e
+    ∙ sym (ap₂ (λ a b. a && (is_line cs && (if b then ends_bare true cs && nat_le (columns_of first + code_columns cs) room else has_ink cs))) h w)
+
+pub fits-row : (wraps : Bool) (room left : ℕ) (first : List Token) (cs : List ℕ) → are_settled first ≡ true → wraps ≡ true → columns_of first ≤ room → left ≡ room - columns_of first →
+    fits_row left cs ≡ fits wraps room first cs
+fits-row wraps room left first cs h w k e =
+    let same : nat_le (code_columns cs) left ≡ nat_le (columns_of first + code_columns cs) room = grind (arith, nat_tests) in
+    fits-filled wraps room first cs (nat_le (code_columns cs) left) h w same
+
+pub fits-no_room : (wraps : Bool) (room : ℕ) (first : List Token) (cs : List ℕ) → are_settled first ≡ true → wraps ≡ true → room < columns_of first → false ≡ fits wraps room first cs
+fits-no_room wraps room first cs h w k =
+    let none : false ≡ nat_le (columns_of first + code_columns cs) room = grind (arith, nat_tests) in
+    sym (ap (λ b. is_line cs && b) (and-none (ends_bare true cs)) ∙ and-none (is_line cs)) ∙ fits-filled wraps room first cs false h w none
+  where
+    and-none : (b : Bool) → (b && false) ≡ false
+    and-none true = refl
+    and-none false = refl

@@ -4,8 +4,8 @@
 ghost use Rattle.std.specs.Prelude.{◌≡◌, ◌++◌, ◌∷◌, [], List, IfOk, OnOk, chars, map, true};
 ghost use Rattle.miette_text.specs.rules.Runs.{link_start, printed_run};
 ghost use Rattle.miette_style.specs.rules.Codes.{colour_start, colour_stop};
-ghost use Rattle.miette_text.specs.rules.Sequences.{Character, Sequence, Token, spell};
-ghost use Rattle.miette_text.specs.views.Woven.{is_whole, sign_text, woven};
+ghost use Rattle.miette_text.specs.rules.Sequences.{Character, Sequence, Token, is_whole, spell};
+ghost use Rattle.miette_text.specs.views.Woven.{sign_text, woven};
 
 pub(crate) mod cells;
 pub(crate) mod columns;

@@ -1,6 +1,6 @@
 -- What a text is made of: characters, and sequences for the terminal. A text is the list of its
 -- characters' codes.
-use Rattle.std.specs.Prelude.{ℕ, zero, suc, Bool, false, ◌&&◌, ◌||◌, ◌==◌, nat_le, if◌then◌else◌, List, [], ◌∷◌, ◌++◌}
+use Rattle.std.specs.Prelude.{ℕ, zero, suc, Bool, false, ◌&&◌, ◌||◌, ◌==◌, nat_le, nat_lt, length, if◌then◌else◌, List, [], ◌∷◌, ◌++◌}
 use Rattle.std.specs.Prelude.{take}
 use Rattle.miette_style.specs.rules.Escapes.{is_escape}
 
@@ -66,6 +66,10 @@ after_escape_len (c ∷ cs) = if c == 91 then one_more (control_len cs) else if 
 abbrev pub sequence_len : List ℕ → ℕ
 sequence_len [] = 0
 sequence_len (c ∷ cs) = if is_escape c then one_more (after_escape_len cs) else 0
+
+-- one whole sequence
+abbrev pub is_whole : List ℕ → Bool
+is_whole codes = nat_lt 0 (length codes) && (sequence_len codes == length codes)
 
 -- The colour at the front of a text: `ESC [`, digits and `;`, `m`.
 abbrev pub after_colour_escape_len : List ℕ → ℕ

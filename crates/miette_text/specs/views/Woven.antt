@@ -1,9 +1,9 @@
 -- Runs: characters, and at their places the signs between them.
-use Rattle.std.specs.Prelude.{Bool, true, ◌&&◌, ◌==◌, ℕ, suc, ◌≤◌, nat_le, nat_lt, length, if◌then◌else◌, List, [], ◌∷◌}
+use Rattle.std.specs.Prelude.{Bool, true, ◌&&◌, ℕ, suc, ◌≤◌, nat_le, if◌then◌else◌, List, [], ◌∷◌}
 use Rattle.std.specs.Prelude.{◌++◌, map}
 use Rattle.std.specs.List.{All}
 use Rattle.miette_style.specs.rules.Codes.{colour_start, colour_stop}
-use Rattle.miette_text.specs.rules.Sequences.{Token, Character, Sequence, sequence_len}
+use Rattle.miette_text.specs.rules.Sequences.{Token, Character, Sequence, is_whole}
 use Rattle.miette_text.specs.rules.Wrapping.{Cell}
 use Rattle.miette_text.specs.declared.runs.sign.Tag.{Tag}
 use Rattle.miette_text.specs.declared.runs.sign.Sign.{Sign}
@@ -58,10 +58,6 @@ tags_spelled [] = []
 tags_spelled (m ∷ ms) = tag_text m ++ tags_spelled ms
 
 -- ---- sequences that are whole
-
--- one whole sequence
-abbrev pub is_whole : List ℕ → Bool
-is_whole codes = nat_lt 0 (length codes) && (sequence_len codes == length codes)
 
 -- each prints one
 abbrev pub are_whole : List Tag → Bool

@@ -1,9 +1,10 @@
 //! Texts read into runs, and runs printed.
 
 ghost use Rattle.std.specs.Prelude.{◌≡◌, IfOk, chars, encode_utf8_all, string_bytes, true};
-ghost use Rattle.miette_text.specs.rules.Sequences.{spell, tokens};
+ghost use Rattle.miette_text.specs.rules.Fitting.{are_settled};
+ghost use Rattle.miette_text.specs.rules.Sequences.{is_whole, spell, tokens};
 ghost use Rattle.miette_style.specs.rules.Escapes.{no_escape};
-ghost use Rattle.miette_text.specs.views.Woven.{are_whole, is_whole, sign_text, woven};
+ghost use Rattle.miette_text.specs.views.Woven.{are_whole, sign_text, woven};
 ghost use Rattle.miette_text.specs.rules.Wrapping.{columns_of};
 
 use crate::runs::cells::push_all;
@@ -118,8 +119,9 @@ fn are_whole(tags: &[Tag]) -> bool
 
 /// Whether what runs print surely reads as these runs again.
 pub(crate) fn is_settled(runs: RunsSlice<'_>) -> bool
-    ensures { result ≡ true → tokens (spell (woven 0 runs.entry.codes.now runs.entry.tags.now))
+    ensures same { result ≡ true → tokens (spell (woven 0 runs.entry.codes.now runs.entry.tags.now))
         ≡ woven 0 runs.entry.codes.now runs.entry.tags.now }
+    ensures exact { result ≡ are_settled (woven 0 runs.entry.codes.now runs.entry.tags.now) }
 {
     has_no_escape(runs.codes) && are_whole(runs.tags)
 }

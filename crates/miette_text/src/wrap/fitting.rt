@@ -1,10 +1,10 @@
 //! Texts that stand in one row as they are.
 
-ghost use Rattle.std.specs.Prelude.{◌≡◌, ◌++◌, ℕ, List, IfOk, chars, false, not, true};
+ghost use Rattle.std.specs.Prelude.{◌≡◌, ◌++◌, ℕ, List, IfOk, chars, false, true};
 ghost use Rattle.miette_text.specs.rules.Sequences.{spell};
-ghost use Rattle.miette_text.specs.rules.Wrapping.{Plan, all_white, wrapped};
-ghost use Rattle.miette_text.specs.steps.Ends.{plain_cells};
-ghost use Rattle.miette_text.specs.steps.Fitting.{all_printable, fits_row, is_line, is_shown};
+ghost use Rattle.miette_text.specs.rules.Fitting.{fits, has_ink, is_line};
+ghost use Rattle.miette_text.specs.rules.Wrapping.{Plan, wrapped};
+ghost use Rattle.miette_text.specs.steps.Fitting.{all_printable, fits_row, is_shown};
 
 use crate::runs::Runs;
 use crate::runs::cells::push_all;
@@ -66,7 +66,7 @@ fn is_line(bytes: &[u8]) -> bool
 
 // Whether a character isn't white.
 fn has_ink(text: &str) -> bool
-    ensures { result ≡ not (all_white (plain_cells (chars text.now))) }
+    ensures { result ≡ has_ink (chars text.now) }
 {
     for c in text.chars() {
         if !c.is_whitespace() {
@@ -85,7 +85,8 @@ fn is_shown(text: &str) -> bool
 
 // Whether a text stands in one row behind an indent, and both as they are.
 fn fits(wraps: bool, width: usize, first: &Runs, text: &str) -> Result<bool, AllocError>
-    ensures { IfOk result (λ fits. fits ≡ true → (p : Plan (List ℕ)) →
+    ensures when { IfOk result (λ found. found ≡ fits wraps width first.now (chars text.now)) }
+    ensures same { IfOk result (λ found. found ≡ true → (p : Plan (List ℕ)) →
         p.wraps ≡ wraps → p.room ≡ width → p.first ≡ spell first.now →
         wrapped p (chars text.now) ≡ spell first.now ++ chars text.now) }
 {
@@ -123,10 +124,11 @@ pub fn push_fitting(
     text: &str,
     out: &mut Output,
 ) -> Result<bool, AllocError>
-    ensures fits { IfOk result (λ fits. fits ≡ true → (p : Plan (List ℕ)) →
+    ensures when { IfOk result (λ found. found ≡ fits wraps width first.now (chars text.now)) }
+    ensures fits { IfOk result (λ found. found ≡ true → (p : Plan (List ℕ)) →
         p.wraps ≡ wraps → p.room ≡ width → p.first ≡ spell first.now →
         out.new ≡ out.old ++ wrapped p (chars text.now)) }
-    ensures otherwise { IfOk result (λ fits. fits ≡ false → out.new ≡ out.old) }
+    ensures otherwise { IfOk result (λ found. found ≡ false → out.new ≡ out.old) }
 {
     let fits = fits(wraps, width, first, text)?;
     if fits {

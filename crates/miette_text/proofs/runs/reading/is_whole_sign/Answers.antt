@@ -1,5 +1,6 @@
 use Rattle.std.proofs.Common.{◌∙◌, ap, sym}
-use Rattle.miette_text.specs.views.Woven.{is_whole, sign_text}
+use Rattle.miette_text.specs.rules.Sequences.{is_whole}
+use Rattle.miette_text.specs.views.Woven.{sign_text}
 use Rattle.miette_text.proofs.Settled.{start-whole}
 use Rattle.miette_text.proofs.runs.reading.is_whole_sign.Goals as goal
 

@@ -1,4 +1,4 @@
-use Rattle.std.proofs.Common.{◌∙◌, ap, arith, chars, length, not, sym}
+use Rattle.std.proofs.Common.{◌∙◌, arith, chars, length, sym}
 use Rattle.std.proofs.lemmas.Iterator.{YieldsList-from_chars}
 use Rattle.std.proofs.lemmas.Iterator.Consumers.{YieldsList-turn, YieldsList-end}
 use Rattle.std.proofs.lemmas.List.{length_push}
@@ -9,7 +9,7 @@ pub returns-then-not-is_whitespace : goal.returns-then-not-is_whitespace
 returns-then-not-is_whitespace c =
     let x = c.in-Some.c in
     let t = YieldsList-turn (YieldsList-from_chars c.args.text.now c.utf8.text cc) c.loop-c.yielded _ c.loop-c.yielded_by _ _ x c.in-Some.is c.next.ensures.steps in
-    sym (ap not (c.loop-c.invariant ∙ ink_at (chars c.args.text.now) (length c.loop-c.yielded) x t (sym c.is_whitespace.ensures ∙ c.if-not-is_whitespace.true)))
+    sym (c.loop-c.invariant ∙ ink_at (chars c.args.text.now) (length c.loop-c.yielded) x t (sym c.is_whitespace.ensures ∙ c.if-not-is_whitespace.true))
 
 pub loop-c-preserved : goal.loop-c-preserved
 loop-c-preserved c =
@@ -21,4 +21,4 @@ loop-c-preserved c =
 pub returns : goal.returns
 returns c =
     let end = YieldsList-end (YieldsList-from_chars c.args.text.now c.utf8.text cc) c.loop-c.yielded _ c.loop-c.yielded_by _ _ c.in-None.is c.next.ensures.steps in
-    sym (ap not (c.loop-c.invariant ∙ end-white (chars c.args.text.now) (length c.loop-c.yielded) (omega (arith, end.1))))
+    sym (c.loop-c.invariant ∙ end-white (chars c.args.text.now) (length c.loop-c.yielded) (omega (arith, end.1)))
