@@ -1,7 +1,7 @@
 -- Rows and answers that agree wherever a diagnostic is printed give the same text.
 use Rattle.std.proofs.Common.{◌≡◌, ℕ, zero, suc, inl, inr, Bool, true, false, List, [], ◌∷◌, ◌++◌, Option, Some, None, refl, ap, ap₂, ◌∙◌, subst, if◌then◌else◌}
 use Rattle.std.specs.List.{AllByRecursion, Contains}
-use Rattle.miette_text.specs.rules.Cutting.{without_trailing}
+use Rattle.miette_runs.specs.rules.Cutting.{without_trailing}
 use Rattle.miette_protocol.specs.views.Meaning.{Meaning}
 use Rattle.miette_protocol.specs.rules.Reading.{Source}
 use Rattle.miette_protocol.specs.declared.protocol.Severity.{Severity}

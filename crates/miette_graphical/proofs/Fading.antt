@@ -1,10 +1,11 @@
 -- Texts that are tame, and the same texts without their colours.
 use Rattle.std.proofs.Common.{◌≡◌, ℕ, ◌-◌, Bool, true, false, List, [], ◌∷◌, ◌++◌, map, refl, sym, ap, ap₂, ◌∙◌, if◌then◌else◌}
-use Rattle.miette_text.specs.rules.Sequences.{tokens, erase}
+use Rattle.miette_runs.specs.rules.Sequences.{tokens, erase}
 use Rattle.miette_text.specs.rules.Tame.{IsTame, AllTame}
-use Rattle.miette_text.specs.rules.Runs.{Fragment, HaveNoEscape, plain_run, print}
-use Rattle.miette_text.specs.rules.Cutting.{without_leading, without_trailing}
-use Rattle.miette_text.specs.rules.Wrapping.{Plan, columns_of, wrapped}
+use Rattle.miette_runs.specs.rules.Runs.{Fragment, HaveNoEscape, plain_run, print}
+use Rattle.miette_runs.specs.rules.Cutting.{without_leading, without_trailing}
+use Rattle.miette_text.specs.rules.Wrapping.{Plan, wrapped}
+use Rattle.miette_runs.specs.rules.Cells.{columns_of}
 use Rattle.miette_graphical.proofs.TextLaws.{TextLaws, plain-tame, plain-erase}
 use Rattle.miette_graphical.specs.rules.Settings.{Settings}
 use Rattle.miette_snippet_laws.specs.laws.Clean.{IsClean}

@@ -1,6 +1,6 @@
 -- The text of the outermost report, from the texts of its parts.
 use Rattle.std.specs.Prelude.{ℕ, List, ◌++◌}
-use Rattle.miette_text.specs.rules.Runs.{print}
+use Rattle.miette_runs.specs.rules.Runs.{print}
 use Rattle.miette_protocol.specs.views.Meaning.{Meaning}
 use Rattle.miette_graphical.specs.rules.Settings.{Settings}
 use Rattle.miette_graphical.specs.rules.DiagnosticText.{header, footer_text}

@@ -1,6 +1,6 @@
 -- What is printed behind a text as its rows are made is what these rows print.
 use Rattle.std.proofs.Common.{◌≡◌, ℕ, true, List, [], ◌∷◌, ◌++◌, map, refl, sym, ap, ◌∙◌, append_assoc, append-nil}
-use Rattle.miette_text.specs.rules.Runs.{print, printed_run}
+use Rattle.miette_runs.specs.rules.Runs.{print, printed_run}
 use Rattle.miette_style.specs.rules.Codes.{style_codes, colour_start, colour_stop}
 use Rattle.miette_style.specs.declared.style.Style.{Style}
 use Rattle.miette_page.specs.rules.Rows.{Row, Run}

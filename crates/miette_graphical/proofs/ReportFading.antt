@@ -1,7 +1,7 @@
 -- A whole report without its colours, by induction over the tree.
 use Rattle.std.proofs.Common.{◌≡◌, ℕ, Bool, List, [], ◌++◌, refl, ap, ap₂, ◌∙◌, Option, IfSome, if◌then◌else◌}
-use Rattle.miette_text.specs.rules.Runs.{print}
-use Rattle.miette_text.specs.rules.Cutting.{without_trailing}
+use Rattle.miette_runs.specs.rules.Runs.{print}
+use Rattle.miette_runs.specs.rules.Cutting.{without_trailing}
 use Rattle.miette_protocol.specs.views.Meaning.{Meaning}
 use Rattle.miette_protocol.specs.rules.Reading.{Source}
 use Rattle.miette_tree.specs.rules.Tree.{Tree, tree, Cause, diagnostic, texts, Trees, no_trees, more_trees}

@@ -8,7 +8,7 @@ use Rattle.std.proofs.lemmas.List.{map-append}
 use Rattle.std.proofs.lemmas.Str.{chars-nil}
 use Rattle.miette_protocol.specs.views.Meaning.{Label}
 use Rattle.miette_protocol.specs.rules.Reading.{Source}
-use Rattle.miette_text.specs.rules.Runs.{HaveNoEscape, print, printed_run, plain_run}
+use Rattle.miette_runs.specs.rules.Runs.{HaveNoEscape, print, printed_run, plain_run}
 use Rattle.miette_style.specs.rules.Styles.{plain}
 use Rattle.miette_style.specs.rules.Escapes.{no_escape}
 use Rattle.miette_lines.specs.rules.Answers as layout

@@ -1,8 +1,8 @@
 -- Printing a report, step by step: the answers of a whole are put together from those of its parts.
 use Rattle.std.proofs.Common.{◌≡◌, ◌≤◌, ◌<◌, Bool, true, false, ◌&&◌, List, [], ◌∷◌, ◌++◌, ℕ, length, map, drop, take, ◌-◌, get_or, refl, sym, subst, ap, ap₂, ◌∙◌, append_assoc, append-nil, arith, Option, MatchBool, if◌then◌else◌}
 use Rattle.std.proofs.lemmas.List.{take_rest}
-use Rattle.miette_text.specs.rules.Cutting.{without_leading, without_trailing}
-use Rattle.miette_text.specs.rules.Runs.{print}
+use Rattle.miette_runs.specs.rules.Cutting.{without_leading, without_trailing}
+use Rattle.miette_runs.specs.rules.Runs.{print}
 use Rattle.miette_protocol.specs.views.Meaning.{Meaning}
 use Rattle.miette_protocol.specs.rules.Reading.{Source}
 use Rattle.miette_tree.specs.rules.Tree.{Tree, tree, Cause, diagnostic, texts, Trees, no_trees, more_trees, head, source_of, cause_of, related_of, trees}

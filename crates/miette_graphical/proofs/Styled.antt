@@ -1,7 +1,7 @@
 -- A text in a style, and a header or the end of its row.
 use Rattle.std.proofs.Common.{◌≡◌, ◌≢◌, ℕ, Bool, true, false, not, List, [], ◌∷◌, ◌++◌, Option, Some, None, codes, refl, sym}
 use Rattle.std.specs.Str.{chars}
-use Rattle.miette_text.specs.rules.Runs.{Fragment, printed_run}
+use Rattle.miette_runs.specs.rules.Runs.{Fragment, printed_run}
 use Rattle.miette_style.specs.rules.Codes.{colour_start, colour_stop, flag, foreground_codes, style_codes}
 use Rattle.miette_style.specs.rules.Styles.{plain}
 use Rattle.miette_style.specs.rules.Codes.{is_nil}

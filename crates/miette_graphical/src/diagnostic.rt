@@ -6,7 +6,7 @@ ghost use Rattle.miette_graphical.specs.rules.Text as texts;
 ghost use Rattle.miette_graphical.specs.views.SettingsView.{settings_of};
 ghost use Rattle.miette_tree.specs.views.Report.{tree_of};
 ghost use Rattle.miette_tree.specs.rules.Tree.{head};
-ghost use Rattle.miette_text.specs.rules.Runs as runs;
+ghost use Rattle.miette_runs.specs.rules.Runs as runs;
 ghost use Rattle.miette_style.specs.rules.Codes.{is_nil};
 
 use crate::header::{push_header, severity_title};

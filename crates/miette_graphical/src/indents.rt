@@ -6,8 +6,8 @@ ghost use Rattle.miette_graphical.specs.views.SettingsView.{settings_of};
 ghost use Rattle.miette_graphical.specs.rules.Indents as indents;
 ghost use Rattle.miette_graphical.specs.rules.DiagnosticText as parts;
 ghost use Rattle.miette_text.specs.views.Plans.{printed_plan};
-ghost use Rattle.miette_text.specs.rules.Runs.{print};
-ghost use Rattle.miette_text.specs.rules.Sequences.{spell};
+ghost use Rattle.miette_runs.specs.rules.Runs.{print};
+ghost use Rattle.miette_runs.specs.rules.Sequences.{spell};
 ghost use Rattle.miette_text.specs.rules.Wrapping.{wrapped};
 
 use crate::settings::{Layout, icon, severity_style};

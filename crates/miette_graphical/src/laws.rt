@@ -20,7 +20,7 @@ ghost use Rattle.miette_graphical.specs.rules.Text.{report_text};
 ghost use Rattle.miette_tree.specs.rules.Tree.{Tree};
 ghost use Rattle.miette_style.specs.declared.theme.Terminal.{Terminal};
 ghost use Rattle.miette_style.specs.rules.Themes.{Characters, Styles, terminal_theme};
-ghost use Rattle.miette_text.specs.rules.Sequences.{erase};
+ghost use Rattle.miette_runs.specs.rules.Sequences.{erase};
 ghost use Rattle.miette_text.specs.rules.Tame.{IsTame};
 
 use miette_layout::laws::{

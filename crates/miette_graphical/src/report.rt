@@ -14,7 +14,7 @@ ghost use Rattle.miette_graphical.specs.rules.Text as texts;
 ghost use Rattle.miette_graphical.specs.views.SettingsView.{settings_of};
 ghost use Rattle.miette_tree.specs.views.Report.{tree_of};
 ghost use Rattle.miette_tree.specs.rules.Tree.{cause_of, effective, head, source_of, trees};
-ghost use Rattle.miette_text.specs.rules.Sequences.{spell};
+ghost use Rattle.miette_runs.specs.rules.Sequences.{spell};
 
 use crate::diagnostic::{is_nil, push_cause_texts, push_header_of, push_message_of, push_title};
 use crate::indents::{Branch, layout_under, push_help, push_under_arrow};

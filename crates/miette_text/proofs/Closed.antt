@@ -2,11 +2,13 @@
 use Rattle.std.proofs.Common.{◌≡◌, ℕ, ◌+◌, Bool, true, false, ◌&&◌, ◌||◌, ◌==◌, nat_lt, List, [], ◌∷◌, ◌++◌, map, flat_map, refl, sym, ap, ap₂, ◌∙◌, subst, arith, eqb-true, append_assoc, append-nil, if◌then◌else◌, ◌⊎◌, inl, inr}
 use Rattle.std.proofs.lemmas.Bool.Decides.{nat_tests}
 use Rattle.std.proofs.lemmas.List.Concat.{flat_map-append}
-use Rattle.miette_text.specs.rules.Sequences.{Token, Character, Sequence, is_line_feed}
+use Rattle.miette_runs.specs.rules.Sequences.{Token, Character, Sequence, is_line_feed}
 use Rattle.miette_style.specs.rules.Escapes.{is_escape}
-use Rattle.miette_text.specs.rules.Tame.{State, Free, Escaped, Opened, Waiting, Broken, step, state_behind, AreTame, is_colour, is_link}
+use Rattle.miette_text.specs.rules.Tame.{State, Free, Escaped, Opened, Waiting, Broken, step, state_behind, AreTame}
+use Rattle.miette_runs.specs.rules.Colours.{is_colour, is_link}
 use Rattle.miette_style.specs.rules.Codes.{is_nil}
-use Rattle.miette_text.specs.rules.Wrapping.{Cell, Piece, Word, Cuts, Plan, on_first, with_tag, with_code, no_characters, pieces, cell_tokens, width, columns, is_space, with_letter, with_space, words, onto, is_alphanumeric, begins_alphanumeric, hyphen_parts, broken, with_spaces, first_room, further_room, cuts_of, hyphenated, narrowed, parts, cut_words, word_cells, rows_behind, rows, only_spaces, trimmed, row_tokens, with_rest, piece_rows, text_rows, line_feed, joined, filled, all_white, piece_tokens, indented, last_indented, whole_pieces, wrapped_tokens}
+use Rattle.miette_text.specs.rules.Wrapping.{Piece, Word, Cuts, Plan, on_first, with_tag, with_code, no_characters, pieces, cell_tokens, columns, is_space, with_letter, with_space, words, onto, is_alphanumeric, begins_alphanumeric, hyphen_parts, broken, with_spaces, first_room, further_room, cuts_of, hyphenated, narrowed, parts, cut_words, word_cells, rows_behind, rows, only_spaces, trimmed, row_tokens, with_rest, piece_rows, text_rows, line_feed, joined, filled, all_white, piece_tokens, indented, last_indented, whole_pieces, wrapped_tokens}
+use Rattle.miette_runs.specs.rules.Cells.{Cell, width}
 use Rattle.miette_text.proofs.Parsing.{broken_stays}
 
 -- ---- states

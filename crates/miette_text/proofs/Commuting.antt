@@ -3,9 +3,10 @@ use Rattle.std.proofs.Common.{◌≡◌, ℕ, ◌+◌, ◌-◌, Bool, true, fals
 use Rattle.std.specs.Char.{is_whitespace}
 use Rattle.std.proofs.lemmas.Bool.Decides.{nat_tests}
 use Rattle.std.proofs.lemmas.List.{map-append}
-use Rattle.miette_text.specs.rules.Sequences.{Token, Character, Sequence, is_line_feed}
-use Rattle.miette_text.specs.rules.Tame.{is_colour}
-use Rattle.miette_text.specs.rules.Wrapping.{Cell, Piece, Word, Cuts, Plan, map_indents, on_first, with_tag, with_code, no_characters, pieces, cell_tokens, width, columns, token_width, columns_of, is_space, with_letter, with_space, words, onto, is_alphanumeric, begins_alphanumeric, hyphen_parts, broken, with_spaces, first_room, further_room, cuts_of, hyphenated, narrowed, parts, cut_words, word_cells, rows_behind, rows, only_spaces, trimmed, row_tokens, with_rest, piece_rows, text_rows, line_feed, joined, filled, all_white, piece_tokens, indented, last_indented, whole_pieces, wrapped_tokens}
+use Rattle.miette_runs.specs.rules.Sequences.{Token, Character, Sequence, is_line_feed}
+use Rattle.miette_runs.specs.rules.Colours.{is_colour}
+use Rattle.miette_text.specs.rules.Wrapping.{Piece, Word, Cuts, Plan, map_indents, on_first, with_tag, with_code, no_characters, pieces, cell_tokens, columns, is_space, with_letter, with_space, words, onto, is_alphanumeric, begins_alphanumeric, hyphen_parts, broken, with_spaces, first_room, further_room, cuts_of, hyphenated, narrowed, parts, cut_words, word_cells, rows_behind, rows, only_spaces, trimmed, row_tokens, with_rest, piece_rows, text_rows, line_feed, joined, filled, all_white, piece_tokens, indented, last_indented, whole_pieces, wrapped_tokens}
+use Rattle.miette_runs.specs.rules.Cells.{Cell, width, token_width, columns_of}
 use Rattle.miette_text.proofs.Erased.{erased}
 
 abbrev pub kept : List (List ℕ) → List (List ℕ)

@@ -3,7 +3,7 @@ use Rattle.std.proofs.Common.{◌≡◌, ℕ, zero, suc, ◌<◌, ◌≤◌, Boo
 use Rattle.std.proofs.lemmas.Bool.{and_parts}
 use Rattle.std.proofs.lemmas.Bool.Decides.{nat_tests}
 use Rattle.std.proofs.lemmas.Str.{encode_ascii, inside_one, length-encode, len_utf8_bounds}
-use Rattle.miette_text.specs.rules.Sequences.{erase, erase_behind, is_parameter, one_more, colour_end_len, after_colour_escape_len}
+use Rattle.miette_runs.specs.rules.Sequences.{erase, erase_behind, is_parameter, one_more, colour_end_len, after_colour_escape_len}
 use Rattle.miette_style.specs.rules.Escapes.{is_escape}
 use Rattle.miette_text.proofs.Parsing.{erase_plain}
 

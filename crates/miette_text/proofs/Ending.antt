@@ -1,9 +1,9 @@
 -- The first word, and a row without its last spaces.
 use Rattle.std.proofs.Common.{◌≡◌, ℕ, suc, Bool, true, false, not, ◌&&◌, List, [], ◌∷◌, ◌++◌, length, take, drop, refl, sym, ap, ap₂, ◌∙◌, append_assoc, if◌then◌else◌}
-use Rattle.miette_text.specs.rules.Sequences.{flat}
-use Rattle.miette_text.specs.rules.Wrapping.{Cell, Word, words, with_space, with_letter, is_space}
-use Rattle.miette_text.specs.steps.WholeText.{piece_text}
-use Rattle.miette_text.specs.steps.Ends.{all_spaces, bare_len, tags_text}
+use Rattle.miette_runs.specs.rules.Sequences.{flat}
+use Rattle.miette_text.specs.rules.Wrapping.{Word, words, with_space, with_letter, is_space}
+use Rattle.miette_runs.specs.rules.Cells.{Cell, piece_text, tags_text}
+use Rattle.miette_text.specs.steps.Ends.{all_spaces, bare_len}
 use Rattle.miette_text.proofs.RowTexts.{shown}
 
 -- ---- the first word

@@ -1,7 +1,7 @@
 -- Tokens without the colours.
 use Rattle.std.specs.Prelude.{if◌then◌else◌, List, [], ◌∷◌}
-use Rattle.miette_text.specs.rules.Sequences.{Token, Character, Sequence}
-use Rattle.miette_text.specs.rules.Tame.{is_colour}
+use Rattle.miette_runs.specs.rules.Sequences.{Token, Character, Sequence}
+use Rattle.miette_runs.specs.rules.Colours.{is_colour}
 
 abbrev pub erased : List Token → List Token
 erased [] = []

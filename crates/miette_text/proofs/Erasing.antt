@@ -1,33 +1,18 @@
 -- The laws: what is wrapped from tame parts is tame, and deleting colours commutes with it.
-use Rattle.std.proofs.Common.{◌≡◌, ℕ, zero, suc, List, [], ◌∷◌, ◌++◌, take, refl, sym, ap, ap₂, ◌∙◌, arith}
+use Rattle.std.proofs.Common.{◌≡◌, ℕ, List, [], ◌∷◌, ◌++◌, sym, ap, ap₂, ◌∙◌, arith}
 use Rattle.std.proofs.lemmas.Bool.Decides.{nat_tests}
-use Rattle.miette_text.specs.rules.Sequences.{Token, Character, Sequence, tokens, tokens_behind, spell, erase, sequence_len}
+use Rattle.miette_runs.specs.rules.Sequences.{Token, Character, Sequence, tokens, spell, erase}
 use Rattle.miette_text.specs.rules.Tame.{State, Free, Escaped, Opened, Waiting, Broken, step, state_behind, AreTame, IsTame, colourless, AllTame}
 use Rattle.miette_text.specs.rules.Wrapping.{Plan, map_indents, wrapped_tokens, wrapped}
 use Rattle.miette_text.proofs.Erased.{erased}
 use Rattle.miette_text.proofs.Parsing.{broken_stays, tokens-spell, erase-spell}
 use Rattle.miette_text.proofs.Commuting.{wrapped-erased, erased-append}
 use Rattle.miette_text.proofs.Closed.{wrapped_tokens-tame, run-append}
-use Rattle.miette_text.proofs.Joining.{spell-append}
+use Rattle.miette_runs.proofs.Appending.{spell-append}
 use Rattle.miette_text.proofs.Simple.{wrapped-read}
+use Rattle.miette_runs.proofs.Tokens.{spell-tokens}
 
 -- ---- the tokens of a text spell it
-
-spell-behind : (k : ℕ) (cs : List ℕ) → take k cs ++ spell (tokens_behind k cs) ≡ cs
-spell-behind zero [] = refl
-spell-behind (suc k) [] = refl
-spell-behind (suc k) (c ∷ cs) = ap (λ xs. c ∷ xs) (spell-behind k cs)
-spell-behind zero (c ∷ cs) =
-    elim (sequence_len (c ∷ cs)) as (λ n. spell (elim n as (λ _. List Token) [
-      | zero ↦ Character c ∷ tokens_behind 0 cs
-      | suc k ↦ Sequence (take (suc k) (c ∷ cs)) ∷ tokens_behind k cs
-    ]) ≡ c ∷ cs) [
-      | zero ↦ ap (λ xs. c ∷ xs) (spell-behind 0 cs)
-      | suc k ↦ ap (λ xs. c ∷ xs) (spell-behind k cs)
-    ]
-
-pub spell-tokens : (text : List ℕ) → spell (tokens text) ≡ text
-spell-tokens text = spell-behind 0 text
 
 -- ---- deleting colours from a tame text
 

@@ -1,6 +1,6 @@
 -- What `fill` appends, without its colours.
 use Rattle.std.proofs.Common.{◌≡◌, ℕ, List, ◌++◌, ap, ◌∙◌, encode_utf8_all, Result, Ok, Err, OnOk}
-use Rattle.miette_text.specs.rules.Sequences.{erase}
+use Rattle.miette_runs.specs.rules.Sequences.{erase}
 use Rattle.miette_text.specs.rules.Tame.{AppendsErasing, AreColoured, colourless}
 use Rattle.miette_text.specs.rules.Wrapping.{Plan, wrapped}
 use Rattle.miette_text.proofs.Encoding.{erase-encode}

@@ -5,8 +5,10 @@ use Rattle.std.proofs.lemmas.Bool.Decides.{nat_tests}
 use Rattle.std.proofs.lemmas.List.{take-map, length-map}
 use Rattle.std.proofs.lemmas.List.Sums.{sum_by-cons}
 use Rattle.unicode_width.specs.Width.{char_width}
-use Rattle.miette_text.specs.rules.Wrapping.{Cell, Cuts, Word, width, columns, rows, is_space}
-use Rattle.miette_text.specs.steps.Ends.{codes_of, row_cells, code_columns, part_len, gap_len, code_behind, words_behind, rows_left}
+use Rattle.miette_text.specs.rules.Wrapping.{Cuts, Word, columns, rows, is_space}
+use Rattle.miette_runs.specs.rules.Cells.{Cell, width}
+use Rattle.miette_text.specs.steps.Ends.{codes_of, row_cells, part_len, gap_len, code_behind, words_behind, rows_left}
+use Rattle.miette_runs.specs.steps.Cells.{code_columns}
 use Rattle.miette_text.proofs.Packing.{pack, pack-rows}
 use Rattle.miette_text.proofs.Parting.{words-next, part-some, drop-codes}
 

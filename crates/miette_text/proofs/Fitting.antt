@@ -14,12 +14,13 @@ use Rattle.std.specs.Char.{is_whitespace}
 use Rattle.memchr.specs.Find.{IsFirstByte, Nowhere, Passes, is_byte2}
 use Rattle.unicode_width.specs.Width.{char_width}
 use Rattle.miette_style.specs.rules.Escapes.{is_escape}
-use Rattle.miette_text.specs.rules.Sequences.{is_line_feed}
+use Rattle.miette_runs.specs.rules.Sequences.{is_line_feed}
 use Rattle.miette_text.specs.rules.Fitting.{ends_bare, has_ink, is_line}
-use Rattle.miette_text.specs.rules.Wrapping.{is_space, width}
-use Rattle.miette_text.specs.steps.Ends.{code_columns}
+use Rattle.miette_text.specs.rules.Wrapping.{is_space}
+use Rattle.miette_runs.specs.rules.Cells.{width}
+use Rattle.miette_runs.specs.steps.Cells.{code_columns}
 use Rattle.miette_text.specs.steps.Fitting.{all_printable, fits_row}
-use Rattle.miette_text.proofs.Weaving.{drop-all}
+use Rattle.miette_runs.proofs.Weaving.{drop-all}
 
 -- ---- printable ASCII
 

@@ -1,16 +1,14 @@
 -- What the rows of the rules spell.
 use Rattle.std.proofs.Common.{◌≡◌, ℕ, true, false, not, ◌&&◌, List, [], ◌∷◌, ◌++◌, map, flat_map, refl, sym, ap, ap₂, ◌∙◌, append_assoc, append-nil, if◌then◌else◌}
 use Rattle.std.proofs.lemmas.List.{map-append}
-use Rattle.miette_text.specs.rules.Sequences.{flat, Token, Character, Sequence, spell, spelling}
-use Rattle.miette_text.specs.rules.Wrapping.{Cell, Cuts, Piece, Word, is_space, cell_tokens, cut_words, piece_rows, rows, text_rows, trimmed, only_spaces, row_tokens, with_rest, joined, line_feed}
+use Rattle.miette_runs.specs.rules.Sequences.{flat, Token, Character, Sequence, spell}
+use Rattle.miette_text.specs.rules.Wrapping.{Cuts, Piece, Word, is_space, cell_tokens, cut_words, piece_rows, rows, text_rows, trimmed, only_spaces, row_tokens, with_rest, joined, line_feed}
+use Rattle.miette_runs.specs.rules.Cells.{Cell}
 use Rattle.miette_text.specs.steps.Ends.{all_spaces, row_cells}
 use Rattle.miette_text.proofs.RowTexts.{shown, lines_of, behind, joined_lines}
+use Rattle.miette_runs.proofs.Appending.{spell-append}
 
 -- ---- what rows spell
-
-pub spell-append : (us vs : List Token) → spell (us ++ vs) ≡ spell us ++ spell vs
-spell-append [] vs = refl
-spell-append (u ∷ us) vs = ap (λ xs. spelling u ++ xs) (spell-append us vs) ∙ sym (append_assoc (spelling u) (spell us) (spell vs))
 
 pub spell-tags : (ms : List (List ℕ)) → spell (map Sequence ms) ≡ flat ms
 spell-tags [] = refl

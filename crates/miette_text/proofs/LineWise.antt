@@ -1,13 +1,15 @@
 -- A text, line by line.
 use Rattle.std.proofs.Common.{◌≡◌, ℕ, suc, ◌+◌, ◌-◌, ◌<◌, ◌≤◌, min, Bool, true, false, List, [], ◌∷◌, ◌++◌, map, length, take, drop, refl, sym, ap, ap₂, ◌∙◌, append_assoc, append-nil, if◌then◌else◌, arith, eqb-true}
 use Rattle.std.proofs.lemmas.List.{length-map}
-use Rattle.miette_text.specs.rules.Sequences.{Token, Character, Sequence, is_line_feed, flat, spell}
-use Rattle.miette_text.specs.rules.Wrapping.{Cell, Cuts, Piece, Plan, Word, columns_of, cut_words, filled, joined, line_feed, text_rows, on_first, with_tag, with_code, no_characters, pieces, onto, rows, rows_behind, columns, word_cells}
+use Rattle.miette_runs.specs.rules.Sequences.{Token, Character, Sequence, is_line_feed, flat, spell}
+use Rattle.miette_text.specs.rules.Wrapping.{Cuts, Piece, Plan, Word, cut_words, filled, joined, line_feed, text_rows, on_first, with_tag, with_code, no_characters, pieces, onto, rows, rows_behind, columns, word_cells}
+use Rattle.miette_runs.specs.rules.Cells.{Cell, columns_of}
 use Rattle.miette_text.specs.steps.Ends.{line_len, row_cells}
-use Rattle.miette_text.specs.views.Woven.{beyond, cells_at, left_at, tag_text, tag_token, tags_spelled, upto, woven}
-use Rattle.miette_text.specs.declared.runs.sign.Tag.{Tag}
+use Rattle.miette_runs.specs.views.Woven.{beyond, cells_at, left_at, tag_text, tag_token, tags_spelled, upto, woven}
+use Rattle.miette_runs.specs.declared.runs.sign.Tag.{Tag}
 use Rattle.miette_text.proofs.RowTexts.{behind, joined_lines, lines_of, shown}
-use Rattle.miette_text.proofs.Joining.{lines_from, piece_lines, spell-append, spell-text_rows}
+use Rattle.miette_text.proofs.Joining.{lines_from, piece_lines, spell-text_rows}
+use Rattle.miette_runs.proofs.Appending.{spell-append}
 use Rattle.miette_text.proofs.WovenCells.{spelled-flat}
 
 -- ---- pieces

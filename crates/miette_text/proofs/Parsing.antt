@@ -1,28 +1,13 @@
 -- A tame text is cut into the tokens that it is spelled by, and colours can be deleted token by token.
-use Rattle.std.proofs.Common.{◌≡◌, ℕ, zero, suc, ◌<◌, true, false, ◌||◌, ◌==◌, List, [], ◌∷◌, ◌++◌, length, take, refl, ap, ◌∙◌, arith, eqb-true, inl, inr, if◌then◌else◌}
+use Rattle.std.proofs.Common.{◌≡◌, ℕ, zero, suc, ◌<◌, true, false, ◌||◌, ◌==◌, List, [], ◌∷◌, ◌++◌, length, refl, ap, ◌∙◌, arith, eqb-true, inl, inr, if◌then◌else◌}
 use Rattle.std.proofs.lemmas.Bool.{and_parts, or_cases}
 use Rattle.std.proofs.lemmas.Bool.Decides.{nat_tests}
-use Rattle.miette_text.specs.rules.Sequences.{Token, Character, Sequence, tokens, tokens_behind, spell, erase, erase_behind, one_more, control_len, command_len, colour_end_len, sequence_len, after_escape_len, colour_len, after_colour_escape_len}
+use Rattle.miette_runs.specs.rules.Sequences.{Token, Character, Sequence, tokens, spell, erase, erase_behind, command_len, colour_end_len, sequence_len, after_escape_len, colour_len, after_colour_escape_len}
 use Rattle.miette_style.specs.rules.Escapes.{is_escape}
-use Rattle.miette_text.specs.rules.Tame.{State, Free, Escaped, Opened, Waiting, Broken, step, state_behind, is_colour, is_colour_end, is_link, is_link_behind, is_link_end, is_backslash}
-use Rattle.miette_style.specs.rules.Codes.{is_nil}
+use Rattle.miette_text.specs.rules.Tame.{State, Free, Escaped, Opened, Waiting, Broken, step, state_behind}
+use Rattle.miette_runs.specs.rules.Colours.{is_colour, is_colour_end, is_link, is_link_behind, is_link_end, is_backslash}
 use Rattle.miette_text.proofs.Erased.{erased}
-
-one_more_pos : (n : ℕ) → 0 < n → one_more n ≡ suc n
-one_more_pos zero h = omega arith
-one_more_pos (suc n) h = refl
-
-colour_end_some : (s : List ℕ) → is_colour_end s ≡ true → 0 < length s
-colour_end_some [] h = cc
-colour_end_some (c ∷ s) h = omega arith
-
-nil_of : (s : List ℕ) → is_nil s ≡ true → s ≡ []
-nil_of [] h = refl
-nil_of (c ∷ s) h = cc
-
-pub colour_end-control : (s r : List ℕ) → is_colour_end s ≡ true → control_len (s ++ r) ≡ length s
-colour_end-control [] r h = cc
-colour_end-control (c ∷ s) r h = grind (arith, nat_tests, nil_of s, colour_end-control s r, one_more_pos (control_len (s ++ r)), colour_end_some s)
+use Rattle.miette_runs.proofs.Tokens.{one_more_pos, colour_end_some, nil_of, colour-sequence, tokens_sequence, tokens_character}
 
 pub colour_end-colour : (s r : List ℕ) → is_colour_end s ≡ true → colour_end_len (s ++ r) ≡ length s
 colour_end-colour [] r h = cc
@@ -46,47 +31,15 @@ colour_len_of [] r h = cc
 colour_len_of (c ∷ []) r h = grind (arith, nat_tests)
 colour_len_of (c ∷ d ∷ s) r h = grind (arith, nat_tests, colour_end-colour s r, colour_end_some s, one_more_pos (colour_end_len (s ++ r)))
 
-pub colour-sequence : (s r : List ℕ) → is_colour s ≡ true → sequence_len (s ++ r) ≡ length s
-colour-sequence [] r h = cc
-colour-sequence (c ∷ []) r h = grind (arith, nat_tests)
-colour-sequence (c ∷ d ∷ s) r h = grind (arith, nat_tests, colour_end-control s r, colour_end_some s, one_more_pos (control_len (s ++ r)))
-
 pub link-sequence : (s r : List ℕ) → is_link s ≡ true → sequence_len (s ++ r) ≡ length s
 link-sequence [] r h = cc
 link-sequence (c ∷ []) r h = grind (arith, nat_tests)
 link-sequence (c ∷ d ∷ s) r h = grind (arith, nat_tests, link_end-command s r, link_end_some s, one_more_pos (command_len (s ++ r)))
 
-tokens_skip : (s r : List ℕ) → tokens_behind (length s) (s ++ r) ≡ tokens_behind 0 r
-tokens_skip [] [] = refl
-tokens_skip [] (c ∷ r) = refl
-tokens_skip (c ∷ s) r = tokens_skip s r
-
 erase_skip : (s r : List ℕ) → erase_behind (length s) (s ++ r) ≡ erase_behind 0 r
 erase_skip [] [] = refl
 erase_skip [] (c ∷ r) = refl
 erase_skip (c ∷ s) r = erase_skip s r
-
-take_front : (s r : List ℕ) → take (length s) (s ++ r) ≡ s
-take_front [] r = refl
-take_front (c ∷ s) r = ap (λ xs. c ∷ xs) (take_front s r)
-
--- a sequence at the front is the first token
-pub tokens_sequence : (s r : List ℕ) → 0 < length s → sequence_len (s ++ r) ≡ length s → tokens (s ++ r) ≡ Sequence s ∷ tokens r
-tokens_sequence [] r p h = absurd (omega arith)
-tokens_sequence (c ∷ s) r p h =
-    ap (λ (n : ℕ). elim n as (λ _. List Token) [
-      | zero ↦ Character c ∷ tokens_behind 0 (s ++ r)
-      | suc k ↦ Sequence (take (suc k) (c ∷ (s ++ r))) ∷ tokens_behind k (s ++ r)
-    ]) h
-    ∙ ap (λ xs. Sequence (c ∷ xs) ∷ tokens_behind (length s) (s ++ r)) (take_front s r)
-    ∙ ap (λ ts. Sequence (c ∷ s) ∷ ts) (tokens_skip s r)
-
-pub tokens_character : (c : ℕ) (r : List ℕ) → sequence_len (c ∷ r) ≡ 0 → tokens (c ∷ r) ≡ Character c ∷ tokens r
-tokens_character c r h =
-    ap (λ (n : ℕ). elim n as (λ _. List Token) [
-      | zero ↦ Character c ∷ tokens_behind 0 r
-      | suc k ↦ Sequence (take (suc k) (c ∷ r)) ∷ tokens_behind k r
-    ]) h
 
 pub erase_colour : (s r : List ℕ) → 0 < length s → colour_len (s ++ r) ≡ length s → erase (s ++ r) ≡ erase r
 erase_colour [] r p h = absurd (omega arith)

@@ -2,7 +2,7 @@
 use Rattle.std.proofs.Common.{◌≡◌, ℕ, ◌+◌, Bool, true, false, ◌&&◌, not, nat_lt, List, [], ◌∷◌, ◌++◌, refl, sym, ap, ◌∙◌, if◌then◌else◌}
 use Rattle.std.proofs.lemmas.Bool.{true≢false, false≢true}
 use Rattle.std.specs.Cmp.{second_so}
-use Rattle.miette_text.specs.rules.Sequences.{Token, Character, Sequence}
+use Rattle.miette_runs.specs.rules.Sequences.{Token, Character, Sequence}
 use Rattle.miette_text.specs.rules.Wrapping.{Word, columns, word_cells, is_space, only_spaces, onto, rows, rows_behind, trimmed}
 use Rattle.miette_text.specs.rules.Filled.{all_words, sequences_of, is_letter, ends_with_letter, IsTrimmed}
 

@@ -1,7 +1,8 @@
 -- What rows print, row by row.
 use Rattle.std.proofs.Common.{ℕ, ◌&&◌, not, if◌then◌else◌, List, [], ◌∷◌, ◌++◌}
-use Rattle.miette_text.specs.rules.Sequences.{flat}
-use Rattle.miette_text.specs.rules.Wrapping.{Cell, is_space}
+use Rattle.miette_runs.specs.rules.Sequences.{flat}
+use Rattle.miette_text.specs.rules.Wrapping.{is_space}
+use Rattle.miette_runs.specs.rules.Cells.{Cell}
 use Rattle.miette_text.specs.steps.Ends.{all_spaces}
 
 -- a row without its last spaces

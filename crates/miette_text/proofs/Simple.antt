@@ -1,9 +1,11 @@
 -- What is read and wrapped, and lines that are not wrapped.
 use Rattle.std.proofs.Common.{◌≡◌, ℕ, Bool, true, false, List, [], ◌∷◌, ◌++◌, map, flat_map, refl, sym, ap, ap₂, ◌∙◌, append_assoc, if◌then◌else◌}
-use Rattle.miette_text.specs.rules.Sequences.{Token, Character, Sequence, tokens, spell, flat}
-use Rattle.miette_text.specs.rules.Wrapping.{Plan, Cell, Piece, cell_tokens, piece_tokens, indented, last_indented, all_white, trimmed, map_indents, wrapped_tokens, wrapped}
-use Rattle.miette_text.specs.steps.WholeText.{piece_text, indent_text}
-use Rattle.miette_text.proofs.Joining.{spell-append, spell-tags}
+use Rattle.miette_runs.specs.rules.Sequences.{Token, Character, Sequence, tokens, spell, flat}
+use Rattle.miette_text.specs.rules.Wrapping.{Plan, Piece, cell_tokens, piece_tokens, indented, last_indented, all_white, trimmed, map_indents, wrapped_tokens, wrapped}
+use Rattle.miette_runs.specs.rules.Cells.{Cell, piece_text}
+use Rattle.miette_text.specs.steps.WholeText.{indent_text}
+use Rattle.miette_text.proofs.Joining.{spell-tags}
+use Rattle.miette_runs.proofs.Appending.{spell-append}
 
 -- What is wrapped under indents that are read is what is wrapped under their texts.
 pub wrapped-read : (p : Plan (List ℕ)) (first further ts : List Token) (text : List ℕ) → first ≡ tokens p.first → further ≡ tokens p.further → ts ≡ tokens text →

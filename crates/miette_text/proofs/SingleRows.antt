@@ -5,17 +5,19 @@ use Rattle.std.proofs.lemmas.Bool.Decides.{nat_tests}
 use Rattle.std.proofs.lemmas.List.Sums.{sum_by-append}
 use Rattle.std.specs.Char.{is_whitespace}
 use Rattle.miette_style.specs.rules.Escapes.{is_escape, no_escape}
-use Rattle.miette_text.specs.rules.Sequences.{Token, Character, tokens, spell, is_line_feed}
+use Rattle.miette_runs.specs.rules.Sequences.{Token, Character, tokens, spell, is_line_feed, are_settled}
 use Rattle.miette_text.specs.rules.Filled.{Fits, IsFilled}
-use Rattle.miette_text.specs.rules.Wrapping.{Cell, Cuts, Piece, Plan, Word, all_white, cell_tokens, columns, columns_of, cut_words, cuts_of, filled, first_room, further_room, is_space, joined, map_indents, on_first, only_spaces, piece_rows, pieces, row_tokens, rows, text_rows, trimmed, whole_pieces, width, with_code, with_rest, word_cells, wrapped}
-use Rattle.miette_text.specs.steps.Ends.{code_columns, codes_of, plain_cells, row_cells}
-use Rattle.miette_text.specs.rules.Fitting.{are_settled, ends_bare, fits, has_ink, is_line}
+use Rattle.miette_text.specs.rules.Wrapping.{Cuts, Piece, Plan, Word, all_white, cell_tokens, columns, cut_words, cuts_of, filled, first_room, further_room, is_space, joined, map_indents, on_first, only_spaces, piece_rows, pieces, row_tokens, rows, text_rows, trimmed, whole_pieces, with_code, with_rest, word_cells, wrapped}
+use Rattle.miette_runs.specs.rules.Cells.{Cell, columns_of, width}
+use Rattle.miette_text.specs.steps.Ends.{codes_of, row_cells}
+use Rattle.miette_runs.specs.steps.Cells.{code_columns, plain_cells}
+use Rattle.miette_text.specs.rules.Fitting.{ends_bare, fits, has_ink, is_line}
 use Rattle.miette_text.specs.steps.Fitting.{fits_row, is_shown}
 use Rattle.miette_text.proofs.Closed.{cut_words-flat}
 use Rattle.miette_text.proofs.FirstRow.{columns-codes}
-use Rattle.miette_text.proofs.Growing.{spell-characters}
-use Rattle.miette_text.proofs.Joining.{spell-append}
-use Rattle.miette_text.proofs.Settled.{tokens-plain}
+use Rattle.miette_runs.proofs.Growing.{spell-characters}
+use Rattle.miette_runs.proofs.Appending.{spell-append}
+use Rattle.miette_runs.proofs.Settled.{tokens-plain}
 use Rattle.miette_text.proofs.Unique.{only_rows}
 
 -- ---- a line is one piece

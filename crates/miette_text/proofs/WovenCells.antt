@@ -2,12 +2,13 @@
 use Rattle.std.proofs.Common.{◌≡◌, ℕ, zero, suc, ◌+◌, ◌-◌, ◌<◌, ◌≤◌, Bool, false, ◌&&◌, List, [], ◌∷◌, ◌++◌, map, length, take, drop, get_or, refl, sym, ap, ap₂, ◌∙◌, append-nil, if◌then◌else◌, arith, length-take}
 use Rattle.std.proofs.lemmas.Bool.Decides.{nat_tests}
 use Rattle.std.proofs.lemmas.List.{map_more, length-map}
-use Rattle.miette_text.specs.rules.Sequences.{flat}
-use Rattle.miette_text.specs.rules.Wrapping.{Cell, is_space}
-use Rattle.miette_text.specs.steps.WholeText.{piece_text}
-use Rattle.miette_text.specs.steps.Ends.{all_spaces, bare_len, codes_of, tags_text, plain_cell, plain_cells}
-use Rattle.miette_text.specs.views.Woven.{beyond, cells_at, left_at, tag_text, tags_spelled, upto}
-use Rattle.miette_text.specs.declared.runs.sign.Tag.{Tag}
+use Rattle.miette_runs.specs.rules.Sequences.{flat}
+use Rattle.miette_text.specs.rules.Wrapping.{is_space}
+use Rattle.miette_runs.specs.rules.Cells.{Cell, piece_text, tags_text}
+use Rattle.miette_runs.specs.steps.Cells.{plain_cell, plain_cells}
+use Rattle.miette_text.specs.steps.Ends.{all_spaces, bare_len, codes_of}
+use Rattle.miette_runs.specs.views.Woven.{beyond, cells_at, left_at, tag_text, tags_spelled, upto}
+use Rattle.miette_runs.specs.declared.runs.sign.Tag.{Tag}
 use Rattle.miette_text.proofs.RowTexts.{shown}
 use Rattle.miette_text.proofs.Ending.{shown-bare, bare-space, bare-letter}
 

@@ -1,10 +1,11 @@
 -- The rows of a line, from the front.
 use Rattle.std.proofs.Common.{◌≡◌, ℕ, ◌+◌, ◌<◌, ◌≤◌, List, [], ◌∷◌, ◌++◌, map, length, take, drop, refl, ap, ap₂, ◌∙◌, append-nil, arith, length-drop}
 use Rattle.std.proofs.Math.ListN.{drop_of_length-le}
-use Rattle.miette_text.specs.rules.Wrapping.{Cell, Cuts, rows}
+use Rattle.miette_text.specs.rules.Wrapping.{Cuts, rows}
+use Rattle.miette_runs.specs.rules.Cells.{Cell}
 use Rattle.miette_text.specs.steps.Ends.{row_cells, code_behind, words_behind, rows_left, IsFirstRow}
-use Rattle.miette_text.specs.views.Woven.{cells_at, left_at}
-use Rattle.miette_text.specs.declared.runs.sign.Tag.{Tag}
+use Rattle.miette_runs.specs.views.Woven.{cells_at, left_at}
+use Rattle.miette_runs.specs.declared.runs.sign.Tag.{Tag}
 use Rattle.miette_text.proofs.RowTexts.{joined_lines, lines_of, shown}
 use Rattle.miette_text.proofs.LineWise.{rows-some}
 use Rattle.miette_text.proofs.WovenCells.{cells-codes, cells-take, cells-drop}

@@ -1,27 +1,22 @@
 -- Lines with tags at their places, under indents.
-use Rattle.std.proofs.Common.{◌≡◌, ℕ, suc, ◌+◌, ◌<◌, Bool, true, false, not, ◌&&◌, ◌||◌, List, [], ◌∷◌, ◌++◌, map, length, take, drop, refl, sym, ap, ap₂, ◌∙◌, append_assoc, if◌then◌else◌, arith, nat_le, drop-drop}
+use Rattle.std.proofs.Common.{◌≡◌, ℕ, suc, ◌+◌, ◌<◌, Bool, true, false, not, ◌&&◌, ◌||◌, List, [], ◌∷◌, ◌++◌, map, length, take, drop, refl, sym, ap, ap₂, ◌∙◌, append_assoc, if◌then◌else◌, arith, drop-drop}
 use Rattle.std.proofs.lemmas.Bool.{and_parts}
 use Rattle.std.proofs.lemmas.List.{take_all}
 use Rattle.std.specs.Char.{is_whitespace}
-use Rattle.miette_text.specs.rules.Sequences.{Token, Character, spell}
+use Rattle.miette_runs.specs.rules.Sequences.{Token, Character, spell}
 use Rattle.miette_style.specs.rules.Codes.{is_nil}
 use Rattle.miette_text.specs.rules.Wrapping.{Piece, all_white, indented, is_space, line_feed, only_spaces, pieces, trimmed, whole_pieces}
-use Rattle.miette_text.specs.steps.Ends.{all_spaces, bare_len, line_len, plain_cells}
-use Rattle.miette_text.specs.steps.WholeText.{indent_text, piece_text}
-use Rattle.miette_text.specs.views.Woven.{beyond, cells_at, left_at, tag_text, tag_token, tags_spelled, upto, woven}
-use Rattle.miette_text.specs.declared.runs.sign.Tag.{Tag}
-use Rattle.miette_text.proofs.Appending.{appended}
-use Rattle.miette_text.proofs.Joining.{spell-append}
+use Rattle.miette_text.specs.steps.Ends.{all_spaces, bare_len, line_len}
+use Rattle.miette_runs.specs.steps.Cells.{plain_cells}
+use Rattle.miette_runs.specs.rules.Cells.{piece_text}
+use Rattle.miette_text.specs.steps.WholeText.{indent_text}
+use Rattle.miette_runs.specs.views.Woven.{beyond, cells_at, left_at, tag_text, tag_token, tags_spelled, upto, woven}
+use Rattle.miette_runs.specs.declared.runs.sign.Tag.{Tag}
+use Rattle.miette_runs.proofs.Appending.{appended, spell-append}
 use Rattle.miette_text.proofs.LineWise.{line-first, line-last, pieces-some}
 use Rattle.miette_text.proofs.Simple.{spell-indented, spell-last}
 use Rattle.miette_text.proofs.WovenCells.{spelled-flat}
-
-pub upto-beyond : (at : ℕ) (tags : List Tag) → map tag_token (upto at tags) ++ map tag_token (beyond at tags) ≡ map tag_token tags
-upto-beyond at [] = refl
-upto-beyond at (m ∷ tags) = elim (nat_le m.at at) as (λ v. map tag_token (if v then m ∷ upto at tags else []) ++ map tag_token (if v then beyond at tags else m ∷ tags) ≡ tag_token m ∷ map tag_token tags) [
-  | true ↦ ap (λ us. tag_token m ∷ us) (upto-beyond at tags)
-  | false ↦ refl
-]
+use Rattle.miette_runs.proofs.Weaving.{upto-beyond}
 
 -- ---- an indent without its last spaces
 

@@ -1,5 +1,4 @@
 -- The code's own steps, which no rule names.
 pub mod Ends
 pub mod WholeText
-pub mod Feeds
 pub mod Fitting

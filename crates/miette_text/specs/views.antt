@@ -1,5 +1,2 @@
 -- What the code's values stand for.
 pub mod Plans
-pub mod Sinks
-pub mod Woven
-pub mod Outputs

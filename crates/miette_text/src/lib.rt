@@ -2,7 +2,7 @@
 #![tactic(auto)]
 
 pub mod laws;
-pub mod runs;
 pub mod wrap;
 
+pub use miette_runs::runs;
 pub use miette_style::{highlight, style, theme};

@@ -8,36 +8,36 @@
 //!
 //! | Stage | Function |
 //! |---|---|
-//! | a text is read as runs, its escape sequences as signs | `read_text`, `reread` (`runs/reading.rt`) |
+//! | a text is read as runs, its escape sequences as signs | `read_text`, `reread` (`reading.rt` of `miette_runs`) |
 //! | lines are parted at line feeds | `line_len` (`lines.rt`) |
 //! | words, their parts, and how many of them a row takes | `row_len` (`ends.rt`) |
 //! | rows are printed with the signs that stand in them | `push_filled` (`lines.rt`) |
 //! | lines that aren't wrapped are printed whole | `push_whole` (`whole.rt`) |
 //!
-//! `fill` wraps a text, `wrap` runs. `cutting.rt` cuts line feeds at an end.
+//! `fill` wraps a text, `wrap` runs. `cutting` cuts line feeds at an end.
 
 ghost use Rattle.std.specs.Prelude.{◌≡◌, ◌++◌, IfOk, OnErr, OnOk, chars, encode_utf8_all, string_bytes, true};
-ghost use Rattle.miette_text.specs.rules.Sequences.{erase, spell, tokens};
+ghost use Rattle.miette_runs.specs.rules.Sequences.{erase, spell, tokens};
 ghost use Rattle.miette_text.specs.rules.Tame.{AppendsErasing, AreColoured, colourless};
 ghost use Rattle.miette_text.specs.rules.Wrapping.{filled, wrapped, wrapped_tokens};
 ghost use Rattle.miette_text.specs.views.Plans.{cuts_hyphens, options_plan, printed_plan, runs_plan};
 
-pub mod cutting;
 mod ends;
 pub mod fitting;
 pub mod laws;
 mod lines;
 mod whole;
 
-use crate::runs::Runs;
-use crate::runs::cells::push_all;
-use crate::runs::columns::token_columns;
-use crate::runs::output::Output;
-use crate::runs::reading::{is_settled, read_text, reread};
-use crate::runs::sink::Sink;
 use crate::wrap::ends::Cuts;
 use crate::wrap::lines::{Under, push_filled};
 use crate::wrap::whole::push_whole;
+use miette_runs::runs::Runs;
+use miette_runs::runs::cells::push_all;
+use miette_runs::runs::columns::token_columns;
+pub use miette_runs::runs::cutting;
+use miette_runs::runs::output::Output;
+use miette_runs::runs::reading::{is_settled, read_text, reread};
+use miette_runs::runs::sink::Sink;
 use std::alloc::{AllocError, Global};
 
 /// How words are told apart.

@@ -17,7 +17,7 @@ use Rattle.miette_graphical.specs.rules.Printed.{all_read, printed}
 use Rattle.miette_graphical.specs.rules.Settings.{default_settings}
 use Rattle.miette_graphical.specs.rules.Snippets.{drawn_rows}
 use Rattle.miette_graphical.specs.views.Handling.{Handling, draws_plain, without_highlighter}
-use Rattle.miette_text.specs.rules.Sequences.{erase}
+use Rattle.miette_runs.specs.rules.Sequences.{erase}
 use Rattle.miette_text.specs.rules.Tame.{AppendsErasing}
 use Rattle.report_tests.specs.Known.{HasOwnMark, ShowsBothLines, TextHangs, in_colours, plain, warning_tree}
 

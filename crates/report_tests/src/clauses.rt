@@ -4,7 +4,7 @@ ghost use Rattle.std.specs.Prelude.{◌≡◌, IfOk, string_bytes, encode_utf8_a
 ghost use Rattle.miette_graphical.specs.rules.Answers.{unlisted};
 ghost use Rattle.miette_graphical.specs.rules.Snippets.{drawn_rows};
 ghost use Rattle.miette_graphical.specs.rules.Text.{report_text};
-ghost use Rattle.miette_text.specs.rules.Sequences.{erase};
+ghost use Rattle.miette_runs.specs.rules.Sequences.{erase};
 ghost use Rattle.miette_tree.specs.views.Report.{tree_of};
 ghost use Rattle.report_tests.specs.Known.{HasOwnMark, ShowsBothLines, TextHangs, plain, warning_tree};
 

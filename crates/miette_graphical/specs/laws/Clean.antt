@@ -1,7 +1,7 @@
 -- Trees and settings that hold no escape.
 use Rattle.std.specs.Prelude.{List, Option, IfSome}
 use Rattle.std.specs.List.{AllByRecursion}
-use Rattle.miette_text.specs.rules.Runs.{Fragment, HaveNoEscape}
+use Rattle.miette_runs.specs.rules.Runs.{Fragment, HaveNoEscape}
 use Rattle.miette_style.specs.rules.Themes.{Characters}
 use Rattle.miette_protocol.specs.views.Meaning.{Meaning, Label}
 use Rattle.miette_snippet_laws.specs.laws.Clean.{IsClean, IsCleanText, IsCleanLabel, IsCleanSource, AreCleanDrawings}

@@ -1,7 +1,7 @@
 -- The same settings with every style plain, and the same answers with the blank highlighter.
 use Rattle.std.specs.Prelude.{◌≡◌, ℕ, Bool, true, List, [], map, Option, IfSome, encode_utf8_all}
-use Rattle.miette_text.specs.rules.Runs.{plain_run}
-use Rattle.miette_text.specs.rules.Sequences.{erase}
+use Rattle.miette_runs.specs.rules.Runs.{plain_run}
+use Rattle.miette_runs.specs.rules.Sequences.{erase}
 use Rattle.miette_style.specs.rules.Styles.{plain}
 use Rattle.miette_protocol.specs.views.Meaning.{Label}
 use Rattle.miette_protocol.specs.rules.Reading.{Source}

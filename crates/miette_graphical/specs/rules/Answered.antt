@@ -2,7 +2,7 @@
 -- of them.
 use Rattle.std.specs.Prelude.{◌≡◌, ℕ, Bool, true, List, [], ◌++◌, Option, Some, None, is_some, MatchBool}
 use Rattle.std.specs.Prelude.{encode_utf8_all}
-use Rattle.miette_text.specs.rules.Cutting.{without_trailing}
+use Rattle.miette_runs.specs.rules.Cutting.{without_trailing}
 use Rattle.miette_protocol.specs.views.Meaning.{Meaning, Label}
 use Rattle.miette_protocol.specs.rules.Reading.{Source}
 use Rattle.miette_tree.specs.rules.Tree.{Tree, tree, Cause, diagnostic, texts, Trees, no_trees, more_trees, head}

@@ -1,6 +1,6 @@
 -- The parts of one diagnostic's text.
 use Rattle.std.specs.Prelude.{ℕ, Bool, List, [], ◌∷◌, ◌++◌, codes, chars, Option, Some, None}
-use Rattle.miette_text.specs.rules.Runs.{Fragment, Styled, LinkTo, LinkEnd, print}
+use Rattle.miette_runs.specs.rules.Runs.{Fragment, Styled, LinkTo, LinkEnd, print}
 use Rattle.miette_style.specs.declared.style.Style.{Style}
 use Rattle.miette_protocol.specs.views.Meaning.{Meaning, Label}
 use Rattle.miette_protocol.specs.rules.Reading.{Source}

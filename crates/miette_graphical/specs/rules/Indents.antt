@@ -1,9 +1,10 @@
 -- What stands in front of rows, in runs, and text that is wrapped under it.
 use Rattle.std.specs.Prelude.{ℕ, ◌-◌, Bool, true, false, List, [], ◌∷◌, ◌++◌, codes, replicate, Option}
-use Rattle.miette_text.specs.rules.Runs.{Fragment, Styled, print}
+use Rattle.miette_runs.specs.rules.Runs.{Fragment, Styled, print}
 use Rattle.miette_style.specs.rules.Styles.{plain}
-use Rattle.miette_text.specs.rules.Sequences.{tokens}
-use Rattle.miette_text.specs.rules.Wrapping.{columns_of, wrapped}
+use Rattle.miette_runs.specs.rules.Sequences.{tokens}
+use Rattle.miette_text.specs.rules.Wrapping.{wrapped}
+use Rattle.miette_runs.specs.rules.Cells.{columns_of}
 use Rattle.miette_protocol.specs.declared.protocol.Severity.{Severity}
 use Rattle.miette_graphical.specs.rules.Settings.{Settings, icon, severity_style}
 

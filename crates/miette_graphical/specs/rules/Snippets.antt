@@ -1,6 +1,6 @@
 -- The rows of a diagnostic's snippets, as runs.
 use Rattle.std.specs.Prelude.{ℕ, List, [], map, chars, encode_utf8_all, Option, Some, None, unwrap_or}
-use Rattle.miette_text.specs.rules.Runs.{Fragment, Styled}
+use Rattle.miette_runs.specs.rules.Runs.{Fragment, Styled}
 use Rattle.miette_page.specs.rules.Rows as layout
 use Rattle.miette_snippets.specs.rules.Frames as frames
 use Rattle.miette_lines.specs.views.Given.{width_of}

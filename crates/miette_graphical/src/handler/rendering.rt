@@ -17,7 +17,7 @@ ghost use Rattle.miette_graphical.specs.rules.Text.{report_text};
 ghost use Rattle.miette_graphical.specs.views.SettingsView.{settings_of};
 ghost use Rattle.miette_style.specs.rules.Asked.{AnsweredBy, Call};
 ghost use Rattle.miette_style.specs.rules.Pieces.{Piece};
-ghost use Rattle.miette_text.specs.rules.Sequences.{erase};
+ghost use Rattle.miette_runs.specs.rules.Sequences.{erase};
 ghost use Rattle.miette_text.specs.rules.Tame.{AppendsErasing};
 ghost use Rattle.miette_tree.specs.views.Report.{tree_of};
 

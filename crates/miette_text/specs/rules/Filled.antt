@@ -1,6 +1,6 @@
 -- Which rows a list of words fills, and what is printed of a row, by what holds of them.
 use Rattle.std.specs.Prelude.{◌≡◌, ℕ, ◌+◌, ◌<◌, ◌≤◌, Bool, true, false, not, List, [], ◌∷◌, ◌++◌}
-use Rattle.miette_text.specs.rules.Sequences.{Token, Character, Sequence}
+use Rattle.miette_runs.specs.rules.Sequences.{Token, Character, Sequence}
 use Rattle.miette_text.specs.rules.Wrapping.{Word, columns, is_space, only_spaces, word_cells}
 
 abbrev pub all_words : List (List Word) → List Word

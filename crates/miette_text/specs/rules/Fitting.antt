@@ -2,14 +2,9 @@
 use Rattle.std.specs.Prelude.{ℕ, ◌+◌, Bool, true, false, not, ◌&&◌, ◌||◌, nat_le, if◌then◌else◌, List, [], ◌∷◌, sum_by}
 use Rattle.std.specs.Char.{is_whitespace}
 use Rattle.miette_style.specs.rules.Escapes.{is_escape}
-use Rattle.miette_text.specs.rules.Sequences.{Token, Character, Sequence, is_line_feed, is_whole}
-use Rattle.miette_text.specs.rules.Wrapping.{columns_of, is_space, width}
-
--- whole sequences, and characters that are no escape: what they print is read as these again
-abbrev pub are_settled : List Token → Bool
-are_settled [] = true
-are_settled (Character c ∷ ts) = not (is_escape c) && are_settled ts
-are_settled (Sequence s ∷ ts) = is_whole s && are_settled ts
+use Rattle.miette_runs.specs.rules.Sequences.{Token, is_line_feed, are_settled}
+use Rattle.miette_text.specs.rules.Wrapping.{is_space}
+use Rattle.miette_runs.specs.rules.Cells.{columns_of, width}
 
 -- no escape and no line feed
 abbrev pub is_line : List ℕ → Bool

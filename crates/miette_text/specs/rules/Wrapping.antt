@@ -1,16 +1,11 @@
 -- How a text is wrapped: what stands in each row.
 use Rattle.std.specs.Prelude.{ℕ, ◌+◌, ◌-◌, min, Bool, true, false, ◌&&◌, ◌||◌, ◌==◌, nat_lt, nat_le, if◌then◌else◌}
-use Rattle.std.specs.Prelude.{List, [], ◌∷◌, ◌++◌, map, flat_map, sum_by, unwrap_or}
+use Rattle.std.specs.Prelude.{List, [], ◌∷◌, ◌++◌, map, flat_map, sum_by}
 use Rattle.std.specs.Char.{is_whitespace}
-use Rattle.unicode_width.specs.Width.{char_width}
-use Rattle.miette_text.specs.rules.Sequences.{Token, Character, Sequence, tokens, spell, is_line_feed}
+use Rattle.miette_runs.specs.rules.Sequences.{Token, Character, Sequence, tokens, spell, is_line_feed}
+use Rattle.miette_runs.specs.rules.Cells.{Cell, width, columns_of}
 
 -- ---- characters with their sequences, and pieces
-
--- A character, with the sequences that stand before it: they go where it goes.
-pub record Cell : Type 0 where
-  pub tags : List (List ℕ)
-  pub code : ℕ
 
 -- What stands between two line feeds: its characters, and the sequences behind the last of them.
 pub record Piece : Type 0 where
@@ -44,18 +39,8 @@ cell_tokens c = map Sequence c.tags ++ Character c.code ∷ []
 
 -- ---- widths
 
-abbrev pub width : ℕ → ℕ
-width c = unwrap_or (char_width false c) 0
-
 abbrev pub columns : List Cell → ℕ
 columns = sum_by (λ c. width c.code)
-
-abbrev pub token_width : Token → ℕ
-token_width (Character c) = width c
-token_width (Sequence s) = 0
-
-abbrev pub columns_of : List Token → ℕ
-columns_of = sum_by token_width
 
 -- ---- words
 

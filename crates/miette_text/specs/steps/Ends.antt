@@ -1,8 +1,9 @@
 -- Where the first part of a word, the first row, and a row without its last spaces end.
 use Rattle.std.specs.Prelude.{◌≡◌, ℕ, zero, suc, ◌+◌, Bool, true, false, ◌&&◌, ◌==◌, nat_lt, List, [], ◌∷◌, ◌++◌}
-use Rattle.std.specs.Prelude.{if◌then◌else◌, map, flat_map, take, drop, sum_by}
-use Rattle.miette_text.specs.rules.Sequences.{flat, is_line_feed}
-use Rattle.miette_text.specs.rules.Wrapping.{Cell, Cuts, Word, width, is_space, is_alphanumeric, hyphen_parts, narrowed}
+use Rattle.std.specs.Prelude.{if◌then◌else◌, map, flat_map, take, drop}
+use Rattle.miette_runs.specs.rules.Sequences.{is_line_feed}
+use Rattle.miette_text.specs.rules.Wrapping.{Cuts, Word, is_space, is_alphanumeric, hyphen_parts, narrowed}
+use Rattle.miette_runs.specs.rules.Cells.{Cell, width}
 use Rattle.miette_text.specs.rules.Wrapping.{parts, rows, with_spaces, word_cells, words}
 
 abbrev pub all_spaces : List Cell → Bool
@@ -14,17 +15,10 @@ abbrev pub bare_len : List Cell → ℕ
 bare_len [] = 0
 bare_len (c ∷ cs) = if is_space c.code && all_spaces cs then 0 else suc (bare_len cs)
 
-abbrev pub tags_text : List Cell → List ℕ
-tags_text [] = []
-tags_text (c ∷ cs) = flat c.tags ++ tags_text cs
-
 -- ---- of codes alone, whatever sequences stand between them
 
 abbrev pub codes_of : List Cell → List ℕ
 codes_of = map (λ (c : Cell). c.code)
-
-abbrev pub code_columns : List ℕ → ℕ
-code_columns = sum_by width
 
 abbrev pub begins_word : List ℕ → Bool
 begins_word [] = false
@@ -81,9 +75,3 @@ IsFirstRow cuts before room codes n =
 abbrev pub line_len : List ℕ → ℕ
 line_len [] = 0
 line_len (c ∷ cs) = if is_line_feed c then 0 else suc (line_len cs)
-
-abbrev pub plain_cell : ℕ → Cell
-plain_cell c = record { tags = []; code = c }
-
-abbrev pub plain_cells : List ℕ → List Cell
-plain_cells = map plain_cell

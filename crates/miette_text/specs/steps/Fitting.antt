@@ -1,7 +1,7 @@
 -- What the code asks of a text that is to stand in one row as it is.
 use Rattle.std.specs.Prelude.{ℕ, Bool, true, ◌&&◌, nat_le, List, [], ◌∷◌}
 use Rattle.miette_text.specs.rules.Fitting.{ends_bare, has_ink, is_line}
-use Rattle.miette_text.specs.steps.Ends.{code_columns}
+use Rattle.miette_runs.specs.steps.Cells.{code_columns}
 
 -- A line that fits so many columns, and ends with no space.
 abbrev pub fits_row : ℕ → List ℕ → Bool

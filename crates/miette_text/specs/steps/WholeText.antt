@@ -1,12 +1,8 @@
 -- Text under indents that is not wrapped, in the steps of the code.
-use Rattle.std.specs.Prelude.{ℕ, Bool, not, ◌||◌, List, [], ◌∷◌, ◌++◌, if◌then◌else◌}
-use Rattle.miette_text.specs.rules.Sequences.{flat}
-use Rattle.miette_text.specs.rules.Wrapping.{Cell, all_white}
+use Rattle.std.specs.Prelude.{ℕ, Bool, not, ◌||◌, List, [], if◌then◌else◌}
+use Rattle.miette_text.specs.rules.Wrapping.{all_white}
+use Rattle.miette_runs.specs.rules.Cells.{Cell}
 use Rattle.miette_style.specs.rules.Codes.{is_nil}
-
-abbrev pub piece_text : List Cell → List ℕ
-piece_text [] = []
-piece_text (c ∷ cs) = (flat c.tags ++ c.code ∷ []) ++ piece_text cs
 
 -- nothing before what stands behind the last line feed where it has no character
 abbrev pub indent_text : Bool → List ℕ → List ℕ → List Cell → List ℕ

@@ -1,6 +1,6 @@
 -- How the code's options and plans wrap.
 use Rattle.std.specs.Prelude.{ℕ, Bool, true, false, List, chars}
-use Rattle.miette_text.specs.rules.Sequences.{Token, spell}
+use Rattle.miette_runs.specs.rules.Sequences.{Token, spell}
 use Rattle.miette_text.specs.rules.Wrapping as rules
 use Rattle.miette_text.specs.declared.wrap.Plan.{Plan}
 use Rattle.miette_text.specs.declared.wrap.WrapOptions.{WrapOptions}

@@ -1,10 +1,11 @@
 //! Where parts of words end, and rows.
 
 ghost use Rattle.std.specs.Prelude.{◌≡◌, ◌≤◌, ◌<◌, ◌==◌, ◌&&◌, IfOk, length, take};
-ghost use Rattle.miette_text.specs.steps.Ends.{IsFirstRow, begins_word, code_columns, gap_len, part_len};
+ghost use Rattle.miette_text.specs.steps.Ends.{IsFirstRow, begins_word, gap_len, part_len};
+ghost use Rattle.miette_runs.specs.steps.Cells.{code_columns};
 ghost use Rattle.miette_text.specs.rules.Wrapping.{is_alphanumeric};
 
-use crate::runs::columns::{char_columns, sum};
+use miette_runs::runs::columns::{char_columns, sum};
 use std::alloc::AllocError;
 use std::marker::Model;
 

@@ -1,17 +1,17 @@
 //! Texts that stand in one row as they are.
 
 ghost use Rattle.std.specs.Prelude.{◌≡◌, ◌++◌, ℕ, List, IfOk, chars, false, true};
-ghost use Rattle.miette_text.specs.rules.Sequences.{spell};
+ghost use Rattle.miette_runs.specs.rules.Sequences.{spell};
 ghost use Rattle.miette_text.specs.rules.Fitting.{fits, has_ink, is_line};
 ghost use Rattle.miette_text.specs.rules.Wrapping.{Plan, wrapped};
 ghost use Rattle.miette_text.specs.steps.Fitting.{all_printable, fits_row, is_shown};
 
-use crate::runs::Runs;
-use crate::runs::cells::push_all;
-use crate::runs::columns::{char_columns, token_columns};
-use crate::runs::output::Output;
-use crate::runs::reading::is_settled;
 use memchr::memchr2;
+use miette_runs::runs::Runs;
+use miette_runs::runs::cells::push_all;
+use miette_runs::runs::columns::{char_columns, token_columns};
+use miette_runs::runs::output::Output;
+use miette_runs::runs::reading::is_settled;
 use std::alloc::AllocError;
 
 // Whether all bytes are ASCII characters from the space to the tilde: each is a character of one column.

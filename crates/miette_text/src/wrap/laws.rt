@@ -2,12 +2,13 @@
 //! with what runs print.
 
 ghost use Rattle.std.specs.Prelude.{◌≡◌, ℕ, List, ◌++◌, map, encode_utf8_all};
-ghost use Rattle.miette_text.specs.rules.Cutting.{without_leading, without_trailing};
-ghost use Rattle.miette_text.specs.rules.Runs.{HaveNoEscape, Fragment, plain_run, print};
-ghost use Rattle.miette_text.specs.rules.Sequences.{Token, erase, tokens};
+ghost use Rattle.miette_runs.specs.rules.Cutting.{without_leading, without_trailing};
+ghost use Rattle.miette_runs.specs.rules.Runs.{HaveNoEscape, Fragment, plain_run, print};
+ghost use Rattle.miette_runs.specs.rules.Sequences.{Token, erase, tokens};
 ghost use Rattle.miette_text.specs.rules.Tame.{AllTame, AreColoured, IsTame, colourless};
 ghost use Rattle.miette_text.specs.rules.Filled.{IsFilled, IsTrimmed, all_words};
-ghost use Rattle.miette_text.specs.rules.Wrapping.{Plan, Word, columns_of, rows, trimmed, wrapped};
+ghost use Rattle.miette_text.specs.rules.Wrapping.{Plan, Word, rows, trimmed, wrapped};
+ghost use Rattle.miette_runs.specs.rules.Cells.{columns_of};
 
 /// Wrapping tame parts gives a tame text, and colours can be deleted before or after.
 pub fn wrapping_law()

@@ -1,15 +1,16 @@
 //! Lines, wrapped and printed row by row.
 
 ghost use Rattle.std.specs.Prelude.{◌≡◌, ◌≤◌, ◌++◌, ◌∷◌, [], IfOk, OnOk, drop, flat_map, length};
-ghost use Rattle.miette_text.specs.steps.Ends.{bare_len, line_len, plain_cells};
-ghost use Rattle.miette_text.specs.rules.Sequences.{spell};
-ghost use Rattle.miette_text.specs.views.Woven.{cells_at, left_at, woven};
+ghost use Rattle.miette_text.specs.steps.Ends.{bare_len, line_len};
+ghost use Rattle.miette_runs.specs.steps.Cells.{plain_cells};
+ghost use Rattle.miette_runs.specs.rules.Sequences.{spell};
+ghost use Rattle.miette_runs.specs.views.Woven.{cells_at, left_at, woven};
 ghost use Rattle.miette_text.specs.rules.Wrapping.{cell_tokens, joined, piece_rows, pieces, text_rows, trimmed};
 
-use crate::runs::RunsSlice;
-use crate::runs::cells::{push_all, push_cells, push_signs, push_tags};
-use crate::runs::sink::Sink;
 use crate::wrap::ends::{Cuts, row_len};
+use miette_runs::runs::RunsSlice;
+use miette_runs::runs::cells::{push_all, push_cells, push_signs, push_tags};
+use miette_runs::runs::sink::Sink;
 use std::alloc::AllocError;
 
 /// What rows stand under: the columns of the first, and the indent of the others with the columns that it leaves.

@@ -1,17 +1,17 @@
 //! Text under indents, not wrapped.
 
 ghost use Rattle.std.specs.Prelude.{◌≡◌, ◌++◌, OnOk};
-ghost use Rattle.miette_text.specs.steps.Ends.{plain_cells};
-ghost use Rattle.miette_text.specs.rules.Sequences.{spell};
+ghost use Rattle.miette_runs.specs.steps.Cells.{plain_cells};
+ghost use Rattle.miette_runs.specs.rules.Sequences.{spell};
 ghost use Rattle.miette_text.specs.steps.WholeText.{indent_text};
-ghost use Rattle.miette_text.specs.views.Woven.{woven};
+ghost use Rattle.miette_runs.specs.views.Woven.{woven};
 ghost use Rattle.miette_text.specs.rules.Wrapping.{all_white, pieces, trimmed, whole_pieces};
 
-use crate::runs::RunsSlice;
-use crate::runs::cells::{push_all, push_cells, push_tags};
-use crate::runs::sink::Sink;
-use crate::runs::tags::upto_len;
 use crate::wrap::lines::{bare_len, line_len};
+use miette_runs::runs::RunsSlice;
+use miette_runs::runs::cells::{push_all, push_cells, push_tags};
+use miette_runs::runs::sink::Sink;
+use miette_runs::runs::tags::upto_len;
 use std::alloc::AllocError;
 
 // An indent without its last spaces; its signs stay.

@@ -1,5 +1,5 @@
 use Rattle.std.proofs.Common.{refl, ap, ◌∙◌, encode_utf8_all, sym}
-use Rattle.miette_text.specs.rules.Sequences.{erase}
+use Rattle.miette_runs.specs.rules.Sequences.{erase}
 use Rattle.miette_graphical.specs.laws.Colourless.{colourless, unhighlighted}
 use Rattle.miette_graphical.specs.rules.Printed.{all_read}
 use Rattle.miette_graphical.specs.rules.Snippets.{drawn_rows}

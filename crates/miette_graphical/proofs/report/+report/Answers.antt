@@ -1,6 +1,6 @@
 use Rattle.std.proofs.Common.{◌≡◌, ◌≤◌, ◌<◌, suc, sym, ◌++◌, ◌-◌, length, take, drop, get_or, ap, ◌∙◌, subst, map, option_map, false, refl, string_bytes, arith, rules, List}
-use Rattle.miette_text.specs.rules.Cutting.{without_leading, without_trailing}
-use Rattle.miette_text.specs.rules.Sequences.{spell}
+use Rattle.miette_runs.specs.rules.Cutting.{without_leading, without_trailing}
+use Rattle.miette_runs.specs.rules.Sequences.{spell}
 use Rattle.miette_tree.specs.rules.Tree.{effective, head, texts, trees, cause_of, related_of, source_of}
 use Rattle.miette_tree.specs.views.Report.{tree_of}
 use Rattle.miette_style.specs.rules.Asked.{Call, Leads}

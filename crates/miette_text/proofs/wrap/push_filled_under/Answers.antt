@@ -1,10 +1,11 @@
 use Rattle.std.proofs.Common.{◌≡◌, ◌∙◌, [], ◌-◌, ◌++◌, ap, min}
-use Rattle.miette_text.specs.rules.Sequences.{spell}
-use Rattle.miette_text.specs.rules.Wrapping.{columns_of, joined, pieces, text_rows}
+use Rattle.miette_runs.specs.rules.Sequences.{spell}
+use Rattle.miette_text.specs.rules.Wrapping.{joined, pieces, text_rows}
+use Rattle.miette_runs.specs.rules.Cells.{columns_of}
 use Rattle.miette_text.specs.views.Plans.{runs_plan}
-use Rattle.miette_text.specs.views.Woven.{woven}
+use Rattle.miette_runs.specs.views.Woven.{woven}
 use Rattle.miette_text.proofs.LineWise.{filled-text}
-use Rattle.miette_text.proofs.Appending.{appended}
+use Rattle.miette_runs.proofs.Appending.{appended}
 use Rattle.miette_text.proofs.wrap.push_filled_under.Goals as goal
 
 pub returns : goal.returns

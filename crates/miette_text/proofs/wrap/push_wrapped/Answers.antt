@@ -1,8 +1,8 @@
 use Rattle.std.proofs.Common.{◌≡◌, ◌∙◌, ◌++◌, Bool, ap, ap₂, false, if◌then◌else◌, sym, true}
-use Rattle.miette_text.specs.rules.Sequences.{spell}
+use Rattle.miette_runs.specs.rules.Sequences.{spell}
 use Rattle.miette_text.specs.rules.Wrapping.{filled, pieces, whole_pieces}
 use Rattle.miette_text.specs.views.Plans.{runs_plan}
-use Rattle.miette_text.specs.views.Woven.{woven}
+use Rattle.miette_runs.specs.views.Woven.{woven}
 use Rattle.miette_text.proofs.wrap.push_wrapped.Goals as goal
 
 pub returns-in_ok-push_filled_under : goal.returns-in_ok-push_filled_under

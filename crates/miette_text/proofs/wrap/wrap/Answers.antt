@@ -1,5 +1,5 @@
 use Rattle.std.proofs.Common.{◌≡◌, ◌∙◌, ◌++◌, ap, sym}
-use Rattle.miette_text.specs.rules.Sequences.{spell}
+use Rattle.miette_runs.specs.rules.Sequences.{spell}
 use Rattle.miette_text.specs.rules.Wrapping.{wrapped_tokens}
 use Rattle.miette_text.specs.views.Plans.{printed_plan, runs_plan}
 use Rattle.miette_text.proofs.Simple.{wrapped-read}

@@ -1,5 +1,5 @@
 use Rattle.std.proofs.Common.{◌≡◌, ◌∙◌, ◌++◌, ap, ap₂, chars, encode_utf8_all, string_bytes}
-use Rattle.miette_text.specs.rules.Sequences.{spell}
+use Rattle.miette_runs.specs.rules.Sequences.{spell}
 use Rattle.miette_text.specs.rules.Wrapping.{wrapped_tokens}
 use Rattle.miette_text.specs.views.Plans.{options_plan}
 use Rattle.miette_text.proofs.Simple.{wrapped-read}

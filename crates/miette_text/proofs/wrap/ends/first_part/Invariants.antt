@@ -1,6 +1,7 @@
 use Rattle.std.proofs.Common.{◌≡◌, ◌+◌, drop, take}
 use Rattle.miette_text.specs.rules.Wrapping.{Cuts}
-use Rattle.miette_text.specs.steps.Ends.{part_len, code_columns}
+use Rattle.miette_text.specs.steps.Ends.{part_len}
+use Rattle.miette_runs.specs.steps.Cells.{code_columns}
 use Rattle.miette_text.proofs.wrap.ends.first_part.Given as goal
 
 abbrev pub invariant-loop-i : goal.invariant-loop-i

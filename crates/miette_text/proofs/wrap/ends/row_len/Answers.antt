@@ -1,7 +1,8 @@
 use Rattle.std.proofs.Common.{◌≡◌, ◌∙◌, ◌+◌, ◌<◌, ◌≤◌, ◌&&◌, nat_lt, true, false, length, length-drop, take, drop, drop-drop, sym, ap, arith}
 use Rattle.std.proofs.lemmas.Bool.Decides.{nat_tests}
 use Rattle.std.proofs.lemmas.List.{take_rest}
-use Rattle.miette_text.specs.steps.Ends.{code_behind, code_columns, gap_len, part_len}
+use Rattle.miette_text.specs.steps.Ends.{code_behind, gap_len, part_len}
+use Rattle.miette_runs.specs.steps.Cells.{code_columns}
 use Rattle.miette_text.proofs.FirstRow.{behind-last, row-ends, row-fits, row-starts, row-whole, step-some}
 use Rattle.miette_text.proofs.Parting.{behind-add}
 use Rattle.miette_text.proofs.wrap.ends.row_len.Goals as goal

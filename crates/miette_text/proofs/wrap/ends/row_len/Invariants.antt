@@ -1,5 +1,5 @@
 use Rattle.std.proofs.Common.{◌≡◌, ℕ, ◌-◌, ◌≤◌, nat_lt, false, List, [], drop, take, length}
-use Rattle.miette_text.specs.rules.Wrapping.{Cell}
+use Rattle.miette_runs.specs.rules.Cells.{Cell}
 use Rattle.miette_text.specs.steps.Ends.{code_behind, codes_of, words_behind}
 use Rattle.miette_text.proofs.Packing.{pack}
 use Rattle.miette_text.proofs.wrap.ends.row_len.Given as goal

@@ -1,7 +1,6 @@
 use Rattle.std.proofs.Common.{◌≡◌, ◌∙◌, ◌-◌, List, chars, ap, ap₂, arith, sym}
-use Rattle.miette_text.specs.rules.Fitting.{are_settled}
-use Rattle.miette_text.specs.rules.Sequences.{Token, spell, tokens}
-use Rattle.miette_text.specs.rules.Wrapping.{columns_of}
+use Rattle.miette_runs.specs.rules.Sequences.{are_settled, Token, spell, tokens}
+use Rattle.miette_runs.specs.rules.Cells.{columns_of}
 use Rattle.miette_text.proofs.SingleRows.{fits-no_room, fits-none, fits-row, fits-shown, wrapped-row, wrapped-shown}
 use Rattle.miette_text.proofs.wrap.fitting.fits.Goals as goal
 

@@ -1,6 +1,6 @@
 use Rattle.std.proofs.Common.{ap, ◌∙◌}
-use Rattle.miette_text.specs.rules.Sequences.{tokens}
-use Rattle.miette_text.specs.rules.Wrapping.{columns_of}
+use Rattle.miette_runs.specs.rules.Sequences.{tokens}
+use Rattle.miette_runs.specs.rules.Cells.{columns_of}
 use Rattle.miette_text.proofs.Commuting.{columns_of-erased}
 use Rattle.miette_text.proofs.Erasing.{tokens-erase}
 use Rattle.miette_text.proofs.wrap.laws.columns_law.Goals as goal

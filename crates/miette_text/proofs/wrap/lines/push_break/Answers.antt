@@ -1,7 +1,7 @@
 use Rattle.std.proofs.Common.{◌≡◌, ◌∙◌, ◌++◌, ◌∷◌, [], ap}
-use Rattle.miette_text.specs.rules.Sequences.{spell}
-use Rattle.miette_text.specs.views.Woven.{woven}
-use Rattle.miette_text.proofs.Appending.{appended}
+use Rattle.miette_runs.specs.rules.Sequences.{spell}
+use Rattle.miette_runs.specs.views.Woven.{woven}
+use Rattle.miette_runs.proofs.Appending.{appended}
 use Rattle.miette_text.proofs.wrap.lines.push_break.Goals as goal
 
 pub returns : goal.returns

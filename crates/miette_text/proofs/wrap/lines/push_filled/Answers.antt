@@ -1,13 +1,14 @@
 use Rattle.std.proofs.Common.{◌≡◌, ◌∙◌, ◌+◌, ◌-◌, ◌<◌, ◌≤◌, ◌++◌, ◌∷◌, [], ap, ap₂, arith, drop, drop-drop, length, length-drop, map, sym, take}
 use Rattle.std.proofs.lemmas.List.{drop-take, take_rest}
-use Rattle.miette_text.specs.steps.Ends.{line_len, tags_text}
-use Rattle.miette_text.specs.rules.Sequences.{flat, spell}
+use Rattle.miette_text.specs.steps.Ends.{line_len}
+use Rattle.miette_runs.specs.rules.Cells.{tags_text}
+use Rattle.miette_runs.specs.rules.Sequences.{flat, spell}
 use Rattle.miette_text.specs.rules.Wrapping.{pieces}
-use Rattle.miette_text.specs.views.Woven.{beyond, cells_at, left_at, tag_text, tags_spelled, upto, woven}
+use Rattle.miette_runs.specs.views.Woven.{beyond, cells_at, left_at, tag_text, tags_spelled, upto, woven}
 use Rattle.miette_text.proofs.LineWise.{last-line, line-at, line_text, text_of}
 use Rattle.miette_text.proofs.WovenCells.{feed-tags}
 use Rattle.miette_text.proofs.Joining.{piece-printed, text-printed}
-use Rattle.miette_text.proofs.Appending.{appended}
+use Rattle.miette_runs.proofs.Appending.{appended}
 use Rattle.miette_text.proofs.wrap.lines.push_filled.Goals as goal
 
 pub returns-then-end-text : goal.returns-then-end-text

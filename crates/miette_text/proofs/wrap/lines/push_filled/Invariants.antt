@@ -1,6 +1,6 @@
 use Rattle.std.proofs.Common.{◌≡◌, ◌≤◌, ◌-◌, ◌++◌, drop, length}
-use Rattle.miette_text.specs.rules.Sequences.{spell}
-use Rattle.miette_text.specs.views.Woven.{woven}
+use Rattle.miette_runs.specs.rules.Sequences.{spell}
+use Rattle.miette_runs.specs.views.Woven.{woven}
 use Rattle.miette_text.proofs.LineWise.{text_of}
 use Rattle.miette_text.proofs.wrap.lines.push_filled.Given as goal
 

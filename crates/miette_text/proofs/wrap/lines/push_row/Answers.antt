@@ -1,12 +1,13 @@
 use Rattle.std.proofs.Common.{◌≡◌, ◌∙◌, ◌+◌, ◌-◌, ◌++◌, ap, ap₂, drop, drop-drop, length, sym, take}
 use Rattle.std.proofs.lemmas.List.{take_rest}
-use Rattle.miette_text.specs.steps.Ends.{bare_len, tags_text, plain_cells}
-use Rattle.miette_text.specs.steps.WholeText.{piece_text}
-use Rattle.miette_text.specs.views.Woven.{cells_at, left_at}
+use Rattle.miette_text.specs.steps.Ends.{bare_len}
+use Rattle.miette_runs.specs.steps.Cells.{plain_cells}
+use Rattle.miette_runs.specs.rules.Cells.{tags_text, piece_text}
+use Rattle.miette_runs.specs.views.Woven.{cells_at, left_at}
 use Rattle.miette_text.proofs.WovenCells.{cells-shown, left-parts}
 use Rattle.miette_text.proofs.RowTexts.{shown}
 use Rattle.miette_text.proofs.Joining.{spell-trimmed}
-use Rattle.miette_text.proofs.Appending.{appended}
+use Rattle.miette_runs.proofs.Appending.{appended}
 use Rattle.miette_text.proofs.wrap.lines.push_row.Goals as goal
 
 pub returns-clause-text : goal.returns-clause-text

@@ -1,15 +1,15 @@
 use Rattle.std.proofs.Common.{◌≡◌, ◌∙◌, ◌+◌, ◌-◌, ◌<◌, ◌≤◌, ◌++◌, ◌∷◌, [], ap, ap₂, arith, drop, drop-drop, get_or, length, length-drop, map, sym, take}
 use Rattle.std.proofs.lemmas.List.{drop-take, get_or-drop, take_rest}
 use Rattle.miette_text.specs.steps.Ends.{code_behind, row_cells}
-use Rattle.miette_text.specs.rules.Sequences.{spell}
-use Rattle.miette_text.specs.views.Woven.{cells_at, left_at, woven}
+use Rattle.miette_runs.specs.rules.Sequences.{spell}
+use Rattle.miette_runs.specs.views.Woven.{cells_at, left_at, woven}
 use Rattle.miette_text.specs.rules.Wrapping.{rows}
 use Rattle.miette_text.proofs.FirstRow.{behind-last}
 use Rattle.miette_text.proofs.Parting.{words-alone}
 use Rattle.miette_text.proofs.WovenCells.{left-parts}
 use Rattle.miette_text.proofs.RowTexts.{joined_lines, lines_of, shown}
 use Rattle.miette_text.proofs.Joining.{piece-printed, spell-trimmed}
-use Rattle.miette_text.proofs.Appending.{appended}
+use Rattle.miette_runs.proofs.Appending.{appended}
 use Rattle.miette_text.proofs.WovenRows.{last-printed, row-printed, rows_text}
 use Rattle.miette_text.proofs.wrap.lines.push_rows.Goals as goal
 

@@ -1,6 +1,6 @@
 use Rattle.std.proofs.Common.{◌≡◌, ◌≤◌, ◌-◌, ◌++◌, drop, length}
-use Rattle.miette_text.specs.rules.Sequences.{spell}
-use Rattle.miette_text.specs.views.Woven.{left_at, woven}
+use Rattle.miette_runs.specs.rules.Sequences.{spell}
+use Rattle.miette_runs.specs.views.Woven.{left_at, woven}
 use Rattle.miette_text.proofs.WovenRows.{rows_text}
 use Rattle.miette_text.proofs.wrap.lines.push_rows.Given as goal
 

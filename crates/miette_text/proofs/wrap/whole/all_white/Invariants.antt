@@ -1,5 +1,5 @@
 use Rattle.std.proofs.Common.{◌≡◌, drop}
-use Rattle.miette_text.specs.steps.Ends.{plain_cells}
+use Rattle.miette_runs.specs.steps.Cells.{plain_cells}
 use Rattle.miette_text.specs.rules.Wrapping.{all_white}
 use Rattle.miette_text.proofs.wrap.whole.all_white.Given as goal
 

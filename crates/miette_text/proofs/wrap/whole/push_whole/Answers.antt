@@ -1,12 +1,14 @@
 use Rattle.std.proofs.Common.{◌≡◌, ◌∙◌, ◌+◌, ◌-◌, ◌<◌, ◌≤◌, ◌++◌, ◌∷◌, [], true, false, ap, ap₂, arith, drop, length, length-drop, nat_eq, take}
 use Rattle.std.proofs.lemmas.Bool.Decides.{nat_tests}
 use Rattle.std.proofs.lemmas.List.{take_rest}
-use Rattle.miette_text.specs.steps.Ends.{line_len, plain_cells}
-use Rattle.miette_text.specs.rules.Sequences.{spell}
-use Rattle.miette_text.specs.steps.WholeText.{indent_text, piece_text}
-use Rattle.miette_text.specs.views.Woven.{beyond, cells_at, left_at, tags_spelled, upto, woven}
+use Rattle.miette_text.specs.steps.Ends.{line_len}
+use Rattle.miette_runs.specs.steps.Cells.{plain_cells}
+use Rattle.miette_runs.specs.rules.Cells.{piece_text}
+use Rattle.miette_runs.specs.rules.Sequences.{spell}
+use Rattle.miette_text.specs.steps.WholeText.{indent_text}
+use Rattle.miette_runs.specs.views.Woven.{beyond, cells_at, left_at, tags_spelled, upto, woven}
 use Rattle.miette_text.specs.rules.Wrapping.{trimmed}
-use Rattle.miette_text.proofs.Appending.{appended}
+use Rattle.miette_runs.proofs.Appending.{appended}
 use Rattle.miette_text.proofs.WovenWhole.{end-at, line-at, line_text, three-pushed, whole_at}
 use Rattle.miette_text.proofs.wrap.whole.push_whole.Goals as goal
 

@@ -1,5 +1,5 @@
 use Rattle.std.proofs.Common.{◌≡◌, ◌≤◌, ◌++◌, ◌-◌, drop, length}
-use Rattle.miette_text.specs.views.Woven.{woven}
+use Rattle.miette_runs.specs.views.Woven.{woven}
 use Rattle.miette_text.specs.rules.Wrapping.{trimmed}
 use Rattle.miette_text.proofs.WovenWhole.{whole_at}
 use Rattle.miette_text.proofs.wrap.whole.push_whole.Given as goal

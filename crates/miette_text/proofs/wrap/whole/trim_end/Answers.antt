@@ -1,5 +1,5 @@
 use Rattle.std.proofs.Common.{◌∙◌, ap, sym, take}
-use Rattle.miette_text.specs.views.Woven.{woven}
+use Rattle.miette_runs.specs.views.Woven.{woven}
 use Rattle.miette_text.proofs.WovenWhole.{trimmed-woven}
 use Rattle.miette_text.proofs.wrap.whole.trim_end.Goals as goal
 

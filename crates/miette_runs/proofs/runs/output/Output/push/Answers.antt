@@ -1,0 +1,16 @@
+use Rattle.std.proofs.Common.{[], ap, sym, ◌++◌, ◌∙◌, ◌∷◌}
+use Rattle.miette_runs.specs.views.Outputs.{written}
+use Rattle.miette_runs.proofs.Outputs.{text-grows, code-behind}
+use Rattle.miette_runs.proofs.runs.output.Output.push.Goals as goal
+use Rattle.miette_runs.proofs.runs.output.Output.push.Goals.{in-Printed+in_ok-push-in-Printed, in-Collected+in_ok-push-in-Collected}
+
+pub returns : goal.returns
+returns c = elim c.match-self.branch [
+  | in-Printed+in_ok-push-in-Printed w ↦
+      ap (λ o. written o.target) w.self-inside-is
+      ∙ text-grows w.in-Printed.text w.push.new.self c.args.self.now (c.args.c ∷ []) (sym (ap written w.in-Printed.is) ∙ c.self.view_is) (code-behind _ _ c.args.c w.in_ok-push-in-Printed.ensures.bytes)
+  | in-Collected+in_ok-push-in-Collected w ↦
+      ap (λ o. written o.target) w.self-inside-is
+      ∙ w.in_ok-push-in-Collected.ensures.text
+      ∙ ap (λ x. x ++ (c.args.c ∷ [])) (sym (ap written w.in-Collected.is) ∙ c.self.view_is)
+]

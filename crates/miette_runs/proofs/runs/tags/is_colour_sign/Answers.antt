@@ -1,0 +1,8 @@
+use Rattle.std.proofs.Common.{◌∙◌, ap, sym}
+use Rattle.miette_runs.specs.rules.Colours.{is_colour}
+use Rattle.miette_runs.specs.views.Woven.{sign_text}
+use Rattle.miette_runs.proofs.Parameters.{start_colour}
+use Rattle.miette_runs.proofs.runs.tags.is_colour_sign.Goals as goal
+
+pub returns-in-Begin : goal.returns-in-Begin
+returns-in-Begin c = sym (ap (λ s. is_colour (sign_text s)) c.in-Begin.is ∙ start_colour c.in-Begin.field-0)

@@ -1,0 +1,27 @@
+-- Characters with their sequences: what they print, and how wide they are.
+use Rattle.std.specs.Prelude.{ℕ, false, List, [], ◌∷◌, ◌++◌, sum_by, unwrap_or}
+use Rattle.unicode_width.specs.Width.{char_width}
+use Rattle.miette_runs.specs.rules.Sequences.{Token, Character, Sequence, flat}
+
+-- A character, with the sequences that stand before it: they go where it goes.
+pub record Cell : Type 0 where
+  pub tags : List (List ℕ)
+  pub code : ℕ
+
+abbrev pub piece_text : List Cell → List ℕ
+piece_text [] = []
+piece_text (c ∷ cs) = (flat c.tags ++ c.code ∷ []) ++ piece_text cs
+
+abbrev pub tags_text : List Cell → List ℕ
+tags_text [] = []
+tags_text (c ∷ cs) = flat c.tags ++ tags_text cs
+
+abbrev pub width : ℕ → ℕ
+width c = unwrap_or (char_width false c) 0
+
+abbrev pub token_width : Token → ℕ
+token_width (Character c) = width c
+token_width (Sequence s) = 0
+
+abbrev pub columns_of : List Token → ℕ
+columns_of = sum_by token_width

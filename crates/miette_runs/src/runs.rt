@@ -1,0 +1,317 @@
+//! Runs: texts in styles, links, and the sequences that a text brought along, kept apart from the characters
+//! between them until they are printed.
+
+ghost use Rattle.std.specs.Prelude.{◌≡◌, ◌++◌, ◌∷◌, [], List, IfOk, OnOk, chars, map, true};
+ghost use Rattle.miette_runs.specs.rules.Runs.{link_start, printed_run};
+ghost use Rattle.miette_style.specs.rules.Codes.{colour_start, colour_stop};
+ghost use Rattle.miette_runs.specs.rules.Sequences.{Character, Sequence, Token, is_whole, spell};
+ghost use Rattle.miette_runs.specs.views.Woven.{sign_text, woven};
+
+pub mod cells;
+pub mod columns;
+mod cut;
+pub mod cutting;
+pub mod output;
+pub mod reading;
+mod sequences;
+pub mod sign;
+pub mod sink;
+pub mod tags;
+
+use crate::runs::sequences::sequence_at;
+use crate::runs::sign::{Sign, Tag, shared};
+use miette_style::codes::begun_style;
+use miette_style::style::Style;
+use std::alloc::{AllocError, Global};
+use std::marker::Model;
+use std::rc::Rc;
+
+/// Characters, and in order the signs that stand between them, each with how many characters are before it.
+///
+/// A run in a style is what stands between the sign that begins the style and the one that ends it. Where memory is
+/// wanting, what the runs hold is open: they are to be dropped.
+#[derive(Debug, Drop)]
+pub struct Runs {
+    codes: Vec<char>,
+    tags: Vec<Tag>,
+}
+
+impl Model for Runs {
+    ghost use Rattle.std.specs.Prelude.{List, length};
+    ghost use Rattle.miette_runs.specs.rules.Sequences.{Token};
+    ghost use Rattle.miette_runs.specs.views.Woven.{AreWithin, woven};
+
+    ghost Value = { List Token };
+
+    ghost view = { λ r. woven 0 r.codes.items r.tags.items };
+
+    ghost invariant = { λ r. AreWithin (length r.codes.items) r.tags.items };
+}
+
+impl Runs {
+    /// No runs.
+    pub fn new(alloc: Global) -> Self
+        ensures { result ≡ [] }
+    {
+        Runs {
+            codes: Vec::new(alloc),
+            tags: Vec::new(alloc),
+        }
+    }
+
+    /// Characters alone.
+    pub(crate) fn of_characters(alloc: Global, codes: Vec<char>) -> Self
+        ensures { result ≡ map Character codes.items }
+    {
+        Runs {
+            codes,
+            tags: Vec::new(alloc),
+        }
+    }
+
+    // Takes room for so many characters more.
+    pub(crate) fn reserve(&mut self, many: usize) -> Result<(), AllocError>
+        ensures { OnOk result (self.new ≡ self.old) }
+    {
+        self.codes.reserve(many)?;
+        Ok(())
+    }
+
+    /// Appends a character.
+    ///
+    /// # Errors
+    /// `AllocError` where memory is refused.
+    pub fn push(&mut self, c: char) -> Result<(), AllocError>
+        ensures tokens { OnOk result (self.new ≡ self.old ++ Character c ∷ []) }
+        ensures text { OnOk result (spell self.new ≡ spell self.old ++ c ∷ []) }
+    {
+        self.codes.push(c)?;
+        Ok(())
+    }
+
+    /// Appends characters.
+    ///
+    /// # Errors
+    /// `AllocError` where memory is refused.
+    pub fn push_chars(&mut self, codes: &[char]) -> Result<(), AllocError>
+        ensures tokens { OnOk result (self.new ≡ self.old ++ map Character codes.now) }
+        ensures text { OnOk result (spell self.new ≡ spell self.old ++ codes.now) }
+    {
+        self.codes.extend_from_slice(codes)?;
+        Ok(())
+    }
+
+    /// Appends the characters of a text.
+    ///
+    /// # Errors
+    /// `AllocError` where memory is refused.
+    pub fn push_str(&mut self, text: &str) -> Result<(), AllocError>
+        ensures tokens { OnOk result (self.new ≡ self.old ++ map Character (chars text.now)) }
+        ensures text { OnOk result (spell self.new ≡ spell self.old ++ chars text.now) }
+    {
+        for c in text.chars() {
+            self.push(c)?;
+        }
+        Ok(())
+    }
+
+    // A sign behind the last character.
+    fn push_tag(&mut self, sign: Rc<Sign>) -> Result<(), AllocError>
+        ensures tokens { OnOk result (self.new ≡ self.old ++ Sequence (sign_text sign.value) ∷ []) }
+        ensures text { OnOk result (spell self.new ≡ spell self.old ++ sign_text sign.value) }
+    {
+        let at = self.codes.len();
+        self.tags.push(Tag { at, sign })?;
+        Ok(())
+    }
+
+    // A sign that no other runs have.
+    fn push_own(&mut self, sign: Sign) -> Result<(), AllocError>
+        ensures tokens { OnOk result (self.new ≡ self.old ++ Sequence (sign_text sign) ∷ []) }
+        ensures text { OnOk result (spell self.new ≡ spell self.old ++ sign_text sign) }
+    {
+        let shared = shared(*self.codes.allocator(), &self.tags, sign)?;
+        self.push_tag(shared)
+    }
+
+    /// Appends a sign of other runs, which these share then.
+    pub(crate) fn push_sign(&mut self, sign: &Rc<Sign>) -> Result<(), AllocError>
+        ensures tokens { OnOk result (self.new ≡ self.old ++ Sequence (sign_text sign.now.value) ∷ []) }
+        ensures text { OnOk result (spell self.new ≡ spell self.old ++ sign_text sign.now.value) }
+    {
+        let shared = sign.clone()?;
+        self.push_tag(shared)
+    }
+
+    /// Appends codes as one sign.
+    pub(crate) fn push_codes_as_sign(&mut self, codes: &[char]) -> Result<(), AllocError>
+        ensures tokens { OnOk result (self.new ≡ self.old ++ Sequence codes.now ∷ []) }
+        ensures text { OnOk result (spell self.new ≡ spell self.old ++ codes.now) }
+    {
+        if is_end(codes) {
+            return self.push_own(Sign::End);
+        }
+        if let Some(style) = begun_style(codes) {
+            return self.push_own(Sign::Begin(style));
+        }
+        let alloc = *self.codes.allocator();
+        let copy = Vec::from_slice(alloc, codes)?;
+        self.push_own(Sign::Sequence(copy))
+    }
+
+    /// Begins a style, in which what is appended next is printed.
+    ///
+    /// # Errors
+    /// `AllocError` where memory is refused.
+    pub fn begin(&mut self, style: Style) -> Result<(), AllocError>
+        ensures tokens { OnOk result (self.new ≡ self.old ++ Sequence (colour_start style) ∷ []) }
+        ensures text { OnOk result (spell self.new ≡ spell self.old ++ colour_start style) }
+    {
+        self.push_own(Sign::Begin(style))
+    }
+
+    /// Ends the style.
+    ///
+    /// # Errors
+    /// `AllocError` where memory is refused.
+    pub fn end(&mut self) -> Result<(), AllocError>
+        ensures tokens { OnOk result (self.new ≡ self.old ++ Sequence colour_stop ∷ []) }
+        ensures text { OnOk result (spell self.new ≡ spell self.old ++ colour_stop) }
+    {
+        self.push_own(Sign::End)
+    }
+
+    /// Appends a text in a style.
+    ///
+    /// # Errors
+    /// `AllocError` where memory is refused.
+    pub fn push_run(&mut self, style: Style, text: &str) -> Result<(), AllocError>
+        ensures text { OnOk result (spell self.new ≡ spell self.old ++ printed_run style (chars text.now)) }
+    {
+        if text.is_empty() || style.is_plain() {
+            self.push_str(text)?;
+            return Ok(());
+        }
+        self.begin(style)?;
+        self.push_str(text)?;
+        self.end()?;
+        Ok(())
+    }
+
+    /// Appends characters in a style.
+    ///
+    /// # Errors
+    /// `AllocError` where memory is refused.
+    pub fn push_run_chars(&mut self, style: Style, text: &[char]) -> Result<(), AllocError>
+        ensures text { OnOk result (spell self.new ≡ spell self.old ++ printed_run style text.now) }
+    {
+        if text.is_empty() || style.is_plain() {
+            return self.push_chars(text);
+        }
+        self.begin(style)?;
+        self.push_chars(text)?;
+        self.end()
+    }
+
+    // A sequence as a sign, or its characters where it isn't a whole one.
+    fn push_sequence(&mut self, codes: Vec<char>) -> Result<(), AllocError>
+        ensures text { OnOk result (spell self.new ≡ spell self.old ++ codes.items) }
+    {
+        if is_whole(&codes) {
+            self.push_own(Sign::Sequence(codes))
+        } else {
+            self.push_chars(&codes)
+        }
+    }
+
+    /// Begins a link to a URL.
+    ///
+    /// # Errors
+    /// `AllocError` where memory is refused.
+    pub fn push_link(&mut self, url: &str) -> Result<(), AllocError>
+        ensures text { OnOk result (spell self.new ≡ spell self.old ++ link_start (chars url.now)) }
+    {
+        let alloc = *self.codes.allocator();
+        self.push_sequence(link_codes(alloc, url)?)
+    }
+
+    /// Ends the link.
+    ///
+    /// # Errors
+    /// `AllocError` where memory is refused.
+    pub fn push_link_end(&mut self) -> Result<(), AllocError>
+        ensures text { OnOk result (spell self.new ≡ spell self.old ++ link_start []) }
+    {
+        self.push_link("")?;
+        Ok(())
+    }
+
+    /// Appends other runs.
+    ///
+    /// # Errors
+    /// `AllocError` where memory is refused.
+    pub fn append(&mut self, more: &Runs) -> Result<(), AllocError>
+        ensures tokens { OnOk result (self.new ≡ self.old ++ more.now) }
+        ensures text { OnOk result (spell self.new ≡ spell self.old ++ spell more.now) }
+    {
+        let parts = more.parts();
+        let mut start: usize = 0;
+        for tag in parts.tags {
+            let rest = &parts.codes[start..];
+            let gap = tag.at.saturating_sub(start).min(rest.len());
+            self.push_chars(&rest[..gap])?;
+            self.push_sign(&tag.sign)?;
+            start += gap;
+        }
+        self.push_chars(&parts.codes[start..])?;
+        Ok(())
+    }
+
+    /// The characters, and the signs between them.
+    pub fn parts(&self) -> RunsSlice<'_>
+        ensures { woven 0 result.codes.now result.tags.now ≡ self.now }
+    {
+        RunsSlice {
+            codes: self.codes.as_slice(),
+            tags: self.tags.as_slice(),
+        }
+    }
+}
+
+// What begins a link.
+fn link_codes(alloc: Global, url: &str) -> Result<Vec<char>, AllocError>
+    ensures { IfOk result (λ v. v.items ≡ link_start (chars url.now)) }
+{
+    let mut codes = Vec::from_slice(alloc, &['\u{1B}', ']', '8', ';', ';'])?;
+    for c in url.chars() {
+        codes.push(c)?;
+    }
+    codes.extend_from_slice(&['\u{1B}', '\\'])?;
+    Ok(codes)
+}
+
+// Whether codes end a style.
+fn is_end(codes: &[char]) -> bool
+    ensures { result ≡ true → codes.now ≡ colour_stop }
+{
+    match codes {
+        [a, b, c, d] => *a == '\u{1B}' && *b == '[' && *c == '0' && *d == 'm',
+        _ => false,
+    }
+}
+
+/// Whether codes are one whole sequence.
+pub(crate) fn is_whole(codes: &[char]) -> bool
+    ensures { result ≡ is_whole codes.now }
+{
+    !codes.is_empty() && sequence_at(codes, 0, false) == codes.len()
+}
+
+/// The characters of runs, and the signs between them.
+#[derive(Clone, Copy)]
+pub struct RunsSlice<'a> {
+    /// The characters.
+    pub codes: &'a [char],
+    /// The signs between them, in order.
+    pub tags: &'a [Tag],
+}

@@ -1,0 +1,105 @@
+//! Characters with the signs before them, appended to a sink.
+
+ghost use Rattle.std.specs.Prelude.{◌≡◌, ◌≤◌, ◌++◌, IfOk, OnOk, drop, length};
+ghost use Rattle.miette_runs.specs.rules.Cells.{tags_text, piece_text};
+ghost use Rattle.miette_runs.specs.rules.Sequences.{spell};
+ghost use Rattle.miette_runs.specs.views.Woven.{cells_at, left_at, tags_spelled, woven};
+
+use crate::runs::RunsSlice;
+use crate::runs::sign::Tag;
+use crate::runs::sink::Sink;
+use std::alloc::AllocError;
+
+/// Appends characters, which begin at a place, with the tags before them; gives how many tags that were.
+///
+/// # Errors
+/// `AllocError` where memory is refused.
+pub fn push_cells<S: Sink>(
+    out: &mut S,
+    at: usize,
+    codes: &[char],
+    tags: &[Tag],
+) -> Result<usize, AllocError>
+    ensures text { OnOk result (S.holds out.new
+        ≡ S.holds out.old ++ S.spells (piece_text (cells_at at codes.now tags.now))) }
+    ensures left { IfOk result (λ n. drop n tags.now ≡ left_at at codes.now tags.now) }
+    ensures within { IfOk result (λ n. n ≤ length tags.now) }
+{
+    if codes.is_empty() {
+        return Ok(0);
+    }
+    let mut place = at;
+    let mut start: usize = 0;
+    for (n, tag) in tags.iter().enumerate() {
+        let gap = tag.at.saturating_sub(place);
+        let rest = &codes[start..];
+        if rest.len() <= gap {
+            out.push_codes(rest)?;
+            return Ok(n);
+        }
+        out.push_codes(&rest[..gap])?;
+        out.push_sign(&tag.sign)?;
+        start += gap;
+        place += gap;
+    }
+    out.push_codes(&codes[start..])?;
+    Ok(tags.len())
+}
+
+/// Appends the signs alone that stand before characters, which begin at a place; gives how many those were.
+///
+/// # Errors
+/// `AllocError` where memory is refused.
+pub fn push_signs<S: Sink>(
+    out: &mut S,
+    at: usize,
+    codes: &[char],
+    tags: &[Tag],
+) -> Result<usize, AllocError>
+    ensures text { OnOk result (S.holds out.new
+        ≡ S.holds out.old ++ S.spells (tags_text (cells_at at codes.now tags.now))) }
+    ensures left { IfOk result (λ n. drop n tags.now ≡ left_at at codes.now tags.now) }
+    ensures within { IfOk result (λ n. n ≤ length tags.now) }
+{
+    if codes.is_empty() {
+        return Ok(0);
+    }
+    let mut place = at;
+    let mut start: usize = 0;
+    for (n, tag) in tags.iter().enumerate() {
+        let gap = tag.at.saturating_sub(place);
+        if codes.len() - start <= gap {
+            return Ok(n);
+        }
+        out.push_sign(&tag.sign)?;
+        start += gap;
+        place += gap;
+    }
+    Ok(tags.len())
+}
+
+/// Appends signs.
+///
+/// # Errors
+/// `AllocError` where memory is refused.
+pub fn push_tags<S: Sink>(out: &mut S, tags: &[Tag]) -> Result<(), AllocError>
+    ensures { OnOk result (S.holds out.new ≡ S.holds out.old ++ S.spells (tags_spelled tags.now)) }
+{
+    for tag in tags {
+        out.push_sign(&tag.sign)?;
+    }
+    Ok(())
+}
+
+/// Appends characters, and the signs between them.
+///
+/// # Errors
+/// `AllocError` where memory is refused.
+pub fn push_all<S: Sink>(out: &mut S, runs: RunsSlice<'_>) -> Result<(), AllocError>
+    ensures { OnOk result (S.holds out.new ≡ S.holds out.old
+        ++ S.spells (spell (woven 0 runs.entry.codes.now runs.entry.tags.now))) }
+{
+    let n = push_cells(out, 0, runs.codes, runs.tags)?;
+    push_tags(out, &runs.tags[n..])?;
+    Ok(())
+}

@@ -1,0 +1,88 @@
+//! Runs without the line feeds at an end.
+
+ghost use Rattle.std.specs.Prelude.{◌≡◌, ◌≤◌, length, map};
+ghost use Rattle.miette_runs.specs.rules.Cutting.{cut_end, cut_front};
+ghost use Rattle.miette_runs.specs.steps.Feeds.{capped, feeds_len, kept_len, lowered};
+
+use crate::runs::Runs;
+use crate::runs::sign::Tag;
+use crate::runs::tags::{are_colours, upto_len};
+
+// How many line feeds at the front have only colours before and between them.
+fn feeds_len(codes: &[char], tags: &[Tag]) -> usize
+    ensures value { result ≡ feeds_len 0 codes.now tags.now }
+    ensures within { result ≤ length codes.now }
+{
+    let mut left = tags;
+    for (i, code) in codes.iter().enumerate() {
+        let (before, behind) = left.split_at(upto_len(i, left));
+        if *code != '\n' || !are_colours(before) {
+            return i;
+        }
+        left = behind;
+    }
+    codes.len()
+}
+
+// How many characters are before the line feeds and colours at the end.
+fn kept_len(codes: &[char], tags: &[Tag]) -> usize
+    ensures value { result ≡ kept_len 0 codes.now tags.now }
+    ensures within { result ≤ length codes.now }
+{
+    let mut left = tags;
+    let mut kept: usize = 0;
+    for (i, code) in codes.iter().enumerate() {
+        let (before, behind) = left.split_at(upto_len(i, left));
+        if *code != '\n' {
+            kept = i + 1;
+        } else if !are_colours(before) {
+            kept = i;
+        }
+        left = behind;
+    }
+    if are_colours(left) { kept } else { codes.len() }
+}
+
+// So many characters less are before each tag.
+fn lower(tags: &mut [Tag], by: usize)
+    ensures { tags.new ≡ map (lowered by) tags.old }
+{
+    for i in 0..tags.len() {
+        let tag = &mut tags[i];
+        tag.at = tag.at.saturating_sub(by);
+    }
+}
+
+// No more than so many characters are before each tag.
+fn cap(tags: &mut [Tag], at: usize)
+    ensures { tags.new ≡ map (capped at) tags.old }
+{
+    for i in 0..tags.len() {
+        let tag = &mut tags[i];
+        tag.at = tag.at.min(at);
+    }
+}
+
+impl Runs {
+    /// Cuts the line feeds at the front; colours before and between them stay.
+    pub(crate) fn cut_front(&mut self)
+        ensures { self.new ≡ cut_front self.old }
+    {
+        let n = feeds_len(&self.codes, &self.tags);
+        if 0 < n {
+            self.codes.drain(..n);
+            lower(&mut self.tags, n);
+        }
+    }
+
+    /// Cuts the line feeds at the end; colours behind and between them stay.
+    pub(crate) fn cut_end(&mut self)
+        ensures { self.new ≡ cut_end self.old }
+    {
+        let n = kept_len(&self.codes, &self.tags);
+        if n < self.codes.len() {
+            self.codes.truncate(n);
+            cap(&mut self.tags, n);
+        }
+    }
+}

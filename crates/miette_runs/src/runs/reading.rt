@@ -1,0 +1,168 @@
+//! Texts read into runs, and runs printed.
+
+ghost use Rattle.std.specs.Prelude.{◌≡◌, IfOk, chars, encode_utf8_all, string_bytes, true};
+ghost use Rattle.miette_runs.specs.rules.Sequences.{are_settled, is_whole, spell, tokens};
+ghost use Rattle.miette_style.specs.rules.Escapes.{no_escape};
+ghost use Rattle.miette_runs.specs.views.Woven.{are_whole, sign_text, woven};
+ghost use Rattle.miette_runs.specs.rules.Cells.{columns_of};
+
+use crate::runs::cells::push_all;
+use crate::runs::columns::token_columns;
+use crate::runs::sequences::{sequence_at, stays_open};
+use crate::runs::sign::{Sign, Tag};
+use crate::runs::{Runs, RunsSlice, is_whole};
+use std::alloc::{AllocError, Global};
+
+// A character for each byte.
+fn byte_codes(alloc: Global, bytes: &[u8]) -> Result<Vec<char>, AllocError>
+    ensures { IfOk result (λ v. v.items ≡ bytes.now) }
+{
+    let mut codes = Vec::with_capacity(alloc, bytes.len())?;
+    for byte in bytes {
+        codes.push(char::from(*byte))?;
+    }
+    Ok(codes)
+}
+
+// The characters of a text; those of ASCII are its bytes.
+fn codes_of(alloc: Global, text: &str) -> Result<Vec<char>, AllocError>
+    ensures { IfOk result (λ v. v.items ≡ chars text.now) }
+{
+    if text.is_ascii() {
+        let codes = byte_codes(alloc, text.as_bytes())?;
+        return Ok(codes);
+    }
+    text.chars().collect(alloc)
+}
+
+fn has_no_escape(codes: &[char]) -> bool
+    ensures { result ≡ no_escape codes.now }
+{
+    for code in codes {
+        if *code == '\u{1B}' {
+            return false;
+        }
+    }
+    true
+}
+
+// Cuts a text into characters and sequences.
+fn cut(alloc: Global, codes: &[char]) -> Result<Runs, AllocError>
+    ensures { IfOk result (λ r. r ≡ tokens codes.now) }
+{
+    let mut found = Runs::new(alloc);
+    let mut i: usize = 0;
+    let mut unfinished = false;
+    'rest: while i < codes.len() {
+        let len = sequence_at(codes, i, unfinished);
+        if len == 0 {
+            found.push(codes[i])?;
+            unfinished = stays_open(codes, i, unfinished);
+            i += 1;
+        } else {
+            found.push_codes_as_sign(&codes[i..i + len])?;
+            i += len;
+        }
+    }
+    Ok(found)
+}
+
+/// The runs that characters spell: each whole sequence in them is a sign.
+///
+/// # Errors
+/// `AllocError` where memory is refused. The characters are then let go.
+pub fn read(alloc: Global, codes: Vec<char>) -> Result<Runs, AllocError>
+    ensures tokens { IfOk result (λ r. r ≡ tokens codes.items) }
+    ensures text { IfOk result (λ r. spell r ≡ codes.items) }
+{
+    if has_no_escape(&codes) {
+        return Ok(Runs::of_characters(alloc, codes));
+    }
+    let found = cut(alloc, &codes)?;
+    Ok(found)
+}
+
+/// The runs that a text spells.
+///
+/// # Errors
+/// `AllocError` where memory is refused.
+pub fn read_text(alloc: Global, text: &str) -> Result<Runs, AllocError>
+    ensures tokens { IfOk result (λ r. r ≡ tokens (chars text.now)) }
+    ensures text { IfOk result (λ r. spell r ≡ chars text.now) }
+{
+    let codes = codes_of(alloc, text)?;
+    read(alloc, codes)
+}
+
+// Whether a sign prints one whole sequence.
+fn is_whole_sign(sign: &Sign) -> bool
+    ensures { result ≡ is_whole (sign_text sign.now) }
+{
+    match sign {
+        Sign::Begin(_) => true,
+        Sign::End => true,
+        Sign::Sequence(codes) => is_whole(codes),
+    }
+}
+
+fn are_whole(tags: &[Tag]) -> bool
+    ensures { result ≡ are_whole tags.now }
+{
+    for tag in tags {
+        if !is_whole_sign(&tag.sign) {
+            return false;
+        }
+    }
+    true
+}
+
+/// Whether what runs print surely reads as these runs again.
+pub fn is_settled(runs: RunsSlice<'_>) -> bool
+    ensures same { result ≡ true → tokens (spell (woven 0 runs.entry.codes.now runs.entry.tags.now))
+        ≡ woven 0 runs.entry.codes.now runs.entry.tags.now }
+    ensures exact { result ≡ are_settled (woven 0 runs.entry.codes.now runs.entry.tags.now) }
+{
+    has_no_escape(runs.codes) && are_whole(runs.tags)
+}
+
+/// The runs that what runs print reads as.
+///
+/// # Errors
+/// `AllocError` where memory is refused.
+pub fn reread(alloc: Global, runs: &Runs) -> Result<Runs, AllocError>
+    ensures { IfOk result (λ r. r ≡ tokens (spell runs.now)) }
+{
+    let text = print(alloc, runs)?;
+    let found = read_text(alloc, text.as_str())?;
+    Ok(found)
+}
+
+/// What runs print.
+///
+/// # Errors
+/// `AllocError` where memory is refused.
+pub fn print(alloc: Global, runs: &Runs) -> Result<String, AllocError>
+    ensures { IfOk result (λ s. string_bytes s ≡ encode_utf8_all (spell runs.now)) }
+{
+    let parts = runs.parts();
+    let mut text = String::with_capacity(alloc, parts.codes.len())?;
+    push_all(&mut text, parts)?;
+    Ok(text)
+}
+
+/// How many columns runs have, as they are printed.
+///
+/// # Errors
+/// `AllocError` where memory is refused, or they have more columns than a `usize` counts.
+pub fn columns_of(alloc: Global, runs: &Runs) -> Result<usize, AllocError>
+    ensures { IfOk result (λ n. n ≡ columns_of (tokens (spell runs.now))) }
+{
+    let parts = runs.parts();
+    if is_settled(parts) {
+        let columns = token_columns(parts)?;
+        return Ok(columns);
+    }
+    let again = reread(alloc, runs)?;
+    let columns = token_columns(again.parts())?;
+    Ok(columns)
+}

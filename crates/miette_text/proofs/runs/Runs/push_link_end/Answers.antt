@@ -1,8 +1,0 @@
-use Rattle.std.proofs.Common.{◌∙◌, ◌++◌, ap}
-use Rattle.miette_text.specs.rules.Runs.{link_start}
-use Rattle.miette_text.specs.rules.Sequences.{spell}
-use Rattle.miette_text.proofs.Painting.{chars-none}
-use Rattle.miette_text.proofs.runs.Runs.push_link_end.Goals as goal
-
-pub returns : goal.returns
-returns c = record { text = c.in_ok-push_link.ensures.text ∙ ap (λ xs. spell c.args.self.now ++ link_start xs) chars-none }

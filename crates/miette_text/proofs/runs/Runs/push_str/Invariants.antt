@@ -1,6 +1,0 @@
-use Rattle.std.proofs.Common.{◌≡◌, ◌++◌, map}
-use Rattle.miette_text.specs.rules.Sequences.{Character}
-use Rattle.miette_text.proofs.runs.Runs.push_str.Given as goal
-
-abbrev pub invariant-loop-c : goal.invariant-loop-c
-invariant-loop-c l = l.self ≡ l.fn.self ++ map Character l.yielded

@@ -1,6 +1,0 @@
-use Rattle.std.proofs.Common.{◌≡◌, ◌++◌, drop, map, take}
-use Rattle.miette_text.specs.steps.Feeds.{capped}
-use Rattle.miette_text.proofs.runs.cut.cap.Given as goal
-
-abbrev pub invariant-loop-i : goal.invariant-loop-i
-invariant-loop-i l = l.tags ≡ map (capped l.at) (take l.i l.fn.tags) ++ drop l.i l.fn.tags

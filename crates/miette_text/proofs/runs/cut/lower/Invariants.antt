@@ -1,6 +1,0 @@
-use Rattle.std.proofs.Common.{◌≡◌, ◌++◌, drop, map, take}
-use Rattle.miette_text.specs.steps.Feeds.{lowered}
-use Rattle.miette_text.proofs.runs.cut.lower.Given as goal
-
-abbrev pub invariant-loop-i : goal.invariant-loop-i
-invariant-loop-i l = l.tags ≡ map (lowered l.by) (take l.i l.fn.tags) ++ drop l.i l.fn.tags

@@ -1,8 +1,0 @@
-use Rattle.std.proofs.Common.{◌∙◌, ap, sym}
-use Rattle.miette_text.specs.rules.Sequences.{is_whole}
-use Rattle.miette_text.specs.views.Woven.{sign_text}
-use Rattle.miette_text.proofs.Settled.{start-whole}
-use Rattle.miette_text.proofs.runs.reading.is_whole_sign.Goals as goal
-
-pub returns-in-Begin : goal.returns-in-Begin
-returns-in-Begin c = sym (ap (λ s. is_whole (sign_text s)) c.in-Begin.is ∙ start-whole c.in-Begin.field-0)

@@ -1,7 +1,0 @@
-use Rattle.std.proofs.Common.{◌≡◌, drop}
-use Rattle.miette_text.specs.rules.Sequences.{command_len}
-use Rattle.miette_text.proofs.Counting.{counted}
-use Rattle.miette_text.proofs.runs.sequences.command_len.Given as goal
-
-abbrev pub invariant-loop-i : goal.invariant-loop-i
-invariant-loop-i l = command_len l.codes ≡ counted l.i (command_len (drop l.i l.codes))

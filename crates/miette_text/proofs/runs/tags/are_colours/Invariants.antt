@@ -1,6 +1,0 @@
-use Rattle.std.proofs.Common.{◌≡◌, drop}
-use Rattle.miette_text.specs.steps.Feeds.{are_colours}
-use Rattle.miette_text.proofs.runs.tags.are_colours.Given as goal
-
-abbrev pub invariant-loop-tag : goal.invariant-loop-tag
-invariant-loop-tag l = are_colours (drop l.tag-index l.tags) ≡ are_colours l.tags
