@@ -3,3 +3,4 @@ pub mod Lists
 pub mod Sources
 pub mod SeenLaws
 pub mod NumberSteps
+pub mod Fronted

@@ -1,8 +1,9 @@
 //! Why a description gives no report.
 
 ghost use Rattle.std.specs.Prelude.{◌≡◌};
-ghost use Rattle.miette_description.specs.declared.error.BuildError.TheVariants.{Memory};
+ghost use Rattle.miette_description.specs.declared.error.BuildError.TheVariants.{Memory, Description};
 
+use json::Invalid;
 use std::alloc::AllocError;
 
 /// Why no report was built.
@@ -19,5 +20,13 @@ impl From<AllocError> for BuildError {
 
     fn from(_refused: AllocError) -> BuildError {
         BuildError::Memory
+    }
+}
+
+impl From<Invalid> for BuildError {
+    ghost from_gives = { λ _ e. e ≡ Description };
+
+    fn from(_invalid: Invalid) -> BuildError {
+        BuildError::Description
     }
 }

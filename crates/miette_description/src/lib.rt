@@ -7,4 +7,5 @@ mod members;
 mod numbers;
 mod parsed;
 mod parts;
+mod reading;
 pub mod report;

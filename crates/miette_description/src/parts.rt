@@ -1,6 +1,6 @@
 //! The parts of a report, from the members of its description.
 
-ghost use Rattle.std.specs.Prelude.{◌≡◌, Option, Some, None, IfOk, option_map, map, string_bytes};
+ghost use Rattle.std.specs.Prelude.{◌≡◌, ◌++◌, Option, Some, None, IfOk, OnOk, option_map, map, string_bytes};
 ghost use Rattle.std.specs.Option.{option_copied};
 ghost use Rattle.serde_json.specs.Find.{as_str};
 ghost use Rattle.miette_description.specs.views.Seen.{seen};
@@ -108,6 +108,23 @@ pub(crate) fn texts_at(
         None => Ok(None),
         Some(found) => Ok(Some(texts_from(alloc, found)?)),
     }
+}
+
+/// Copies of these texts at the end of the list.
+pub(crate) fn push_texts(
+    alloc: Global,
+    list: &mut Vec<String>,
+    texts: &[String],
+) -> Result<(), BuildError>
+    ensures ok { OnOk result (map string_bytes list.new.items
+        ≡ map string_bytes list.old.items ++ map string_bytes texts.now) }
+    ensures memory { (result ≡ Err BuildError.Description) → ⊥ }
+{
+    for text in texts {
+        let copy = String::from_str(alloc, text.as_str())?;
+        list.push(copy).map_err(|_| BuildError::Memory)?;
+    }
+    Ok(())
 }
 
 fn severity_named(value: &Value<'_>) -> Option<Severity>

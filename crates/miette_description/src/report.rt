@@ -20,11 +20,13 @@ ghost use Rattle.miette_description.specs.steps.Built.{maybe_sourced, maybe_rela
 use crate::error::BuildError;
 use crate::numbers::{is_whole, value_has_float};
 use crate::parsed::{list_in, member_at};
-use crate::parts::{diagnostic_from, source_at, texts_at};
-use json::{Error, Reader, Scratch, Value};
+use crate::parts::{diagnostic_from, push_texts, source_at, texts_at};
+use crate::reading::read_value;
+use json::{Reader, Scratch, Value};
 use miette_protocol::diagnostic::MietteDiagnostic;
 use miette_protocol::protocol::Diagnostic;
 use miette_protocol::source::SourceCode;
+use miette_tree::parts::cause_texts;
 use miette_tree::report::{OwnedSource, Report};
 use std::alloc::Global;
 
@@ -41,13 +43,10 @@ fn value_of<'a>(
     ensures description { (result ≡ Err BuildError.Description) → read text.now ≡ None }
 {
     let mut reader = Reader::new(text, scratch)?;
-    match Value::read(alloc, &mut reader, DEPTH) {
-        Ok(value) => match reader.next() {
-            None => Ok(value),
-            Some(_) => Err(BuildError::Description),
-        },
-        Err(Error::Invalid) => Err(BuildError::Description),
-        Err(Error::OutOfMemory | Error::TooLong | Error::DuplicateKey) => Err(BuildError::Memory),
+    let value = read_value(alloc, &mut reader, DEPTH)?;
+    match reader.next() {
+        None => Ok(value),
+        Some(_) => Err(BuildError::Description),
     }
 }
 
@@ -147,7 +146,8 @@ fn report_with_cause<D: Diagnostic, S: SourceCode>(
     }
 }
 
-/// The report with each text put in front, in order.
+/// The report with each text put in front, in order: the last is its message, and the others become its causes at once,
+/// before the chain that it had.
 fn report_under<D: Diagnostic, S: SourceCode>(
     alloc: Global,
     report: Report<D, S>,
@@ -161,14 +161,16 @@ fn report_under<D: Diagnostic, S: SourceCode>(
     let Some(contexts) = contexts else {
         return Ok(report);
     };
-    let mut report = report;
-    for context in contexts {
-        match report.wrap_err(alloc, context.as_str()) {
-            Ok(made) => report = made,
-            Err(_) => return Err(BuildError::Memory),
-        }
-    }
-    Ok(report)
+    let mut list = contexts;
+    let Some(last) = list.pop() else {
+        return Ok(report);
+    };
+    let Ok(made) = report.wrap_err(alloc, last.as_str()) else {
+        return Err(BuildError::Memory);
+    };
+    list.reverse();
+    push_texts(alloc, &mut list, cause_texts(&made))?;
+    Ok(made.with_cause_texts(list))
 }
 
 /// The report with its source, where there is one.

@@ -1,0 +1,29 @@
+use Rattle.std.proofs.Common.{◌≡◌, ℕ, ◌+◌, ◌*◌, ◌≤◌, length}
+use Rattle.json.specs.Json.{items, members, value, parse_map}
+use Rattle.json.proofs.Trees.{items_before, members_before}
+use Rattle.miette_description.proofs.reading.+read.Given as goal
+
+abbrev pub decreases-read_value : goal.decreases-read_value
+decreases-read_value l = 2 * l.depth
+
+abbrev pub decreases-read_items : goal.decreases-read_items
+decreases-read_items l = 2 * l.depth + 1
+
+abbrev pub decreases-read_members : goal.decreases-read_members
+decreases-read_members l = 2 * l.depth + 1
+
+abbrev pub invariant-read_items-loop-alloc : goal.invariant-read_items-loop-alloc
+invariant-read_items-loop-alloc l =
+    (n : ℕ) × (length l.reader ≤ n) × (items (value l.depth) (length l.initial.reader) l.initial.reader ≡ parse_map (items_before l.found.items) (items (value l.depth) n l.reader))
+    × (length l.reader ≤ length l.initial.reader)
+
+abbrev pub decreases-read_items-loop-alloc : goal.decreases-read_items-loop-alloc
+decreases-read_items-loop-alloc l = length l.reader
+
+abbrev pub invariant-read_members-loop-found : goal.invariant-read_members-loop-found
+invariant-read_members-loop-found l =
+    (n : ℕ) × (length l.reader ≤ n) × (members (value l.depth) (length l.initial.reader) l.initial.reader ≡ parse_map (members_before l.found.items) (members (value l.depth) n l.reader))
+    × (length l.reader ≤ length l.initial.reader)
+
+abbrev pub decreases-read_members-loop-found : goal.decreases-read_members-loop-found
+decreases-read_members-loop-found l = length l.reader
