@@ -141,6 +141,7 @@ fn push_lines<'a, H: Highlighter, O: Canvas>(
     highlighter: &mut Option<H>,
     page: &mut Page<O>,
     sweep: &mut Sweep,
+    one: &mut Vec<Placed>,
 ) -> Outcome
     requires sorted { AreSorted drawing.now.placed.now }
     requires at { IsAt drawing.now.placed.now body.now.start sweep.old.next sweep.old.running.items }
@@ -156,7 +157,6 @@ fn push_lines<'a, H: Highlighter, O: Canvas>(
     ensures at { OnOk result (IsAt drawing.now.placed.now (body.now.start + length body.now.bytes.now) sweep.new.next
         sweep.new.running.items) }
 {
-    let mut one = Vec::new(drawing.alloc);
     let mut before = body.before;
     let mut at: usize = 0;
     while at < body.bytes.len() {
@@ -169,7 +169,7 @@ fn push_lines<'a, H: Highlighter, O: Canvas>(
             after: line.end,
         };
         one.clear();
-        sweep.enter(drawing.placed, &bounds, &mut one)?;
+        sweep.enter(drawing.placed, &bounds, one)?;
         let sheet = Sheet {
             theme: body.frame.theme,
             options: body.frame.options,
@@ -184,7 +184,7 @@ fn push_lines<'a, H: Highlighter, O: Canvas>(
         let shown = ShownLine {
             number,
             text,
-            one: &one,
+            one,
             pieces: &pieces,
         };
         push_line_rows(drawing.alloc, page, &sheet, &shown)?;
@@ -217,7 +217,8 @@ fn push_framed<'a, H: Highlighter, O: Canvas>(
     let start = lent.span().offset();
     let bytes = lent.data();
     let before = lent.line();
-    let extent = extent_of(drawing.alloc, bytes, start, drawing.placed, sweep)?;
+    let mut one = Vec::new(drawing.alloc);
+    let extent = extent_of(drawing.alloc, bytes, start, drawing.placed, sweep, &mut one)?;
     let frame = Frame {
         theme: drawing.theme,
         options: drawing.options,
@@ -231,7 +232,7 @@ fn push_framed<'a, H: Highlighter, O: Canvas>(
         bytes,
     };
     push_top_row(page, &frame, lent.name(), extent.lines > 1, place)?;
-    push_lines(drawing, &body, highlighter, page, sweep)?;
+    push_lines(drawing, &body, highlighter, page, sweep, &mut one)?;
     push_bottom_row(page, &frame)?;
     Ok(())
 }

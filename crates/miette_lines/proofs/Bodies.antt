@@ -1,5 +1,5 @@
 -- Answers of reads, one by one.
-use Rattle.std.proofs.Common.{ℕ, ◌+◌, ◌-◌, ◌≡◌, Bool, true, false, List, [], ◌∷◌, length, refl}
+use Rattle.std.proofs.Common.{ℕ, ◌+◌, ◌≡◌, Bool, true, false, List, [], ◌∷◌, length, refl}
 use Rattle.std.proofs.lemmas.Bool.{le-leb, and_from}
 use Rattle.miette_protocol.specs.rules.Reading.{Span, IsAccepted}
 use Rattle.miette_lines.specs.rules.Answers.{next_answer, later_answers, NoneFails}

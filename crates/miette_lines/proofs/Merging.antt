@@ -1,5 +1,5 @@
 -- Numbers that ascend.
-use Rattle.std.proofs.Common.{ℕ, ◌-◌, ◌≤◌, ◌≡◌, Bool, true, false, List, [], ◌∷◌, refl, ◌||◌}
+use Rattle.std.proofs.Common.{ℕ, ◌≤◌, ◌≡◌, Bool, true, false, List, [], ◌∷◌, refl, ◌||◌}
 use Rattle.miette_protocol.specs.rules.Reading.{Span}
 
 -- each begins where the one before it does, or later

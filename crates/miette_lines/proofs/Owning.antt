@@ -1,5 +1,5 @@
 -- Labels of which some have their own context lines.
-use Rattle.std.proofs.Common.{ℕ, ◌-◌, ◌≡◌, max, Bool, true, false, cond, leb, List, [], ◌∷◌, ◌||◌, Option, Some, None, refl, ap, ◌∙◌}
+use Rattle.std.proofs.Common.{ℕ, ◌≡◌, max, Bool, true, false, cond, leb, List, [], ◌∷◌, ◌||◌, Option, Some, None, refl, ap, ◌∙◌}
 use Rattle.std.specs.Prelude.{unwrap_or, is_some}
 use Rattle.std.specs.List.{list_any}
 use Rattle.miette_protocol.specs.views.Meaning.{Label}

@@ -34,14 +34,15 @@ pub struct Extent {
     pub most: usize,
 }
 
-/// The lines of some bytes of a source, which begin at this offset where the sweep is, are counted. `AllocError`
-/// where memory is refused.
+/// The lines of some bytes of a source, which begin at this offset where the sweep is, are counted. What `one` holds is
+/// given up, and its room used. `AllocError` where memory is refused.
 pub fn extent_of(
     alloc: Global,
     bytes: &[u8],
     start: usize,
     labels: &[Placed],
     sweep: &Sweep,
+    one: &mut Vec<Placed>,
 ) -> Result<Extent, AllocError>
     requires sorted { AreSorted labels.now }
     requires at { IsAt labels.now start sweep.now.next sweep.now.running.items }
@@ -50,7 +51,6 @@ pub fn extent_of(
     ensures most { IfOk result (λ extent. extent.most ≡ most_multi labels.now (lines_from start bytes.now)) }
 {
     let mut ahead = sweep.copy(alloc)?;
-    let mut one = Vec::new(alloc);
     let mut lines: usize = 0;
     let mut most = 0;
     for line in Lines::new(bytes, start) {
@@ -59,7 +59,7 @@ pub fn extent_of(
             after: line.end,
         };
         one.clear();
-        ahead.enter(labels, &bounds, &mut one)?;
+        ahead.enter(labels, &bounds, one)?;
         most = ahead.running.len().max(most);
         ahead.leave(line.end);
         lines += 1;

@@ -1,5 +1,5 @@
 -- What a sweep over labels by offset knows at a place between two lines.
-use Rattle.std.specs.Prelude.{ℕ, ◌<◌, ◌≤◌, ◌≡◌, List, [], ◌∷◌, length, take, Bool, nat_lt}
+use Rattle.std.specs.Prelude.{ℕ, ◌<◌, ◌≤◌, ◌≡◌, List, [], length, take, Bool, nat_lt}
 use Rattle.std.specs.Prelude.{slice_index_or}
 use Rattle.std.specs.List.{filter}
 use Rattle.miette_lines.specs.declared.sweep.Placed.{Placed}
