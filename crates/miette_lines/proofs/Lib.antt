@@ -11,6 +11,7 @@ pub mod Merging
 pub mod Nearing
 pub mod Numbers
 pub mod Owning
+pub mod Placing
 pub mod Plaining
 pub mod Refusing
 pub mod Segments

@@ -3,7 +3,7 @@
 ghost use Rattle.std.specs.Prelude.{option_copied, ◌≡◌, ℕ, List, IfOk};
 ghost use Rattle.miette_lines.specs.rules.Labels.{style_at};
 ghost use Rattle.miette_lines.specs.views.Given.{text_at};
-ghost use Rattle.miette_lines.specs.views.Placing.{placed_from, end_drawn};
+ghost use Rattle.miette_lines.specs.views.Placing.{placed_from, placed_one, end_drawn, is_told, lends_before, told_end};
 
 use crate::reading::ReadLabel;
 use crate::spans::end_of;
@@ -32,23 +32,81 @@ fn drawn_end(read: &ReadLabel<'_>) -> Result<usize, AllocError>
     Ok(end.max(read.span.offset()))
 }
 
+// Whether a read lent bytes before its label and none from there on.
+fn lends_before(read: &ReadLabel<'_>) -> Result<bool, AllocError>
+    ensures { IfOk result (λ before. before ≡ lends_before read.now) }
+{
+    let lent = read.contents.span();
+    let offset = read.span.offset();
+    let end = end_of(lent)?;
+    Ok(lent.offset() < offset && end == offset)
+}
+
+/// Where the source ends, if the reads tell: the read of a label with a line of context lends bytes before the label
+/// and none from there on only where the label begins at the end of the source. `AllocError` where the span of a read
+/// ends past the largest `usize`.
+pub fn told_end(reads: &[ReadLabel<'_>]) -> Result<Option<usize>, AllocError>
+    ensures { IfOk result (λ end. end ≡ told_end reads.now) }
+{
+    for read in reads {
+        if lends_before(read)? {
+            return Ok(Some(read.span.offset()));
+        }
+    }
+    Ok(None)
+}
+
+// Whether a label begins where the source is told to end.
+fn is_told(end: Option<usize>, offset: usize) -> bool
+    ensures { result ≡ is_told end offset }
+{
+    match end {
+        Some(end) => offset == end,
+        None => false,
+    }
+}
+
+// A label as it is drawn, in the style of the i-th one.
+fn placed_one(
+    end: Option<usize>,
+    styles: &[Style],
+    i: usize,
+    read: &ReadLabel<'_>,
+) -> Result<Placed, AllocError>
+    ensures { IfOk result (λ placed. placed ≡ placed_one end styles.now i read.now) }
+{
+    let offset = read.span.offset();
+    let behind = is_told(end, offset);
+    let before = offset.saturating_sub(1);
+    let drawn = drawn_end(read)?;
+    let (start, after) = if behind {
+        (before, before)
+    } else {
+        (offset, drawn)
+    };
+    Ok(Placed {
+        start,
+        after,
+        style: style_of(styles, i),
+        index: read.index,
+        behind,
+    })
+}
+
 /// The labels that were read, in the same order, as they are drawn: each with its style by its place in that order.
-/// `AllocError` where memory is refused, or the span of a label or of its read ends past the largest `usize`.
+/// Those that begin where the source is told to end stand behind the text of its last line, as empty ones at its last
+/// byte. `AllocError` where memory is refused, or the span of a label or of its read ends past the largest `usize`.
 pub fn placed_labels(
     alloc: Global,
     styles: &[Style],
+    end: Option<usize>,
     reads: &[ReadLabel<'_>],
 ) -> Result<Vec<Placed>, AllocError>
-    ensures { IfOk result (λ placed. placed.items ≡ placed_from styles.now 0 reads.now) }
+    ensures { IfOk result (λ placed. placed.items ≡ placed_from end styles.now 0 reads.now) }
 {
     let mut placed = Vec::with_capacity(alloc, reads.len())?;
     for (i, read) in reads.iter().enumerate() {
-        placed.push(Placed {
-            start: read.span.offset(),
-            after: drawn_end(read)?,
-            style: style_of(styles, i),
-            index: read.index,
-        })?;
+        placed.push(placed_one(end, styles, i, read)?)?;
     }
     Ok(placed)
 }

@@ -19,6 +19,8 @@ pub struct Placed {
     pub style: Style,
     /// Its number in the list as given, counted from 0.
     pub index: usize,
+    /// Whether it stands behind the text of its line.
+    pub behind: bool,
 }
 
 /// Where a line begins, and where it ends with its terminator.

@@ -1,19 +1,22 @@
 -- Labels as they are drawn, and how they lie on a line.
-use Rattle.std.specs.Prelude.{ℕ, ◌+◌, ◌%◌, min, max, List, [], ◌∷◌, length, slice_index_or, chars, Option, Some, None}
+use Rattle.std.specs.Prelude.{ℕ, ◌+◌, ◌-◌, ◌%◌, min, max, List, [], ◌∷◌, length, slice_index_or, chars, Option, Some, None}
 use Rattle.std.specs.Prelude.{Bool, not, ◌&&◌, ◌||◌, if◌then◌else◌, ◌==◌, nat_lt, nat_le}
-use Rattle.std.specs.List.{filter}
+use Rattle.std.specs.List.{filter, list_any}
 use Rattle.miette_newlines.specs.rules.Lines.{Line}
 use Rattle.miette_protocol.specs.views.Meaning.{Label}
 use Rattle.miette_style.specs.declared.style.Style.{Style}
 use Rattle.miette_style.specs.rules.Styles.{plain}
+use Rattle.miette_lines.specs.rules.Around.{lines_around}
 use Rattle.miette_lines.specs.rules.Contexts.{end_of_span}
 
--- a label as it is drawn, from an offset to its drawn end, with the parts of its text, none where it has no text
+-- A label as it is drawn, from an offset to its drawn end, with the parts of its text, none where it has no text; and
+-- whether it stands behind the text of its line.
 pub record DrawnLabel : Type 0 where
   pub start : ℕ
   pub after : ℕ
   pub style : Style
   pub parts : List (List ℕ)
+  pub behind : Bool
 
 abbrev pub onto_part : ℕ → List (List ℕ) → List (List ℕ)
 onto_part code [] = (code ∷ []) ∷ []
@@ -34,18 +37,33 @@ abbrev pub style_at : List Style → ℕ → Style
 style_at [] i = plain
 style_at (style ∷ styles) i = slice_index_or (style ∷ styles) (i % length (style ∷ styles)) plain
 
--- the end of a drawn label is cut to the source's
-abbrev pub drawn_label : List Style → ℕ → ℕ → Label → DrawnLabel
-drawn_label styles n i label = record {
-  start = label.span.offset;
-  after = max label.span.offset (min (end_of_span label.span) n);
+-- whether a label begins where a source of so many bytes ends
+abbrev pub is_at_end : ℕ → Label → Bool
+is_at_end n label = label.span.offset == n
+
+-- whether a label with so many lines around it shows the last line from there: there is such a line, and one around it
+abbrev pub shows_end : ℕ → ℕ → Label → Bool
+shows_end n lines label = nat_lt 0 n && (is_at_end n label && nat_lt 0 lines)
+
+-- whether one of these labels does
+abbrev pub some_shows_end : ℕ → ℕ → List Label → Bool
+some_shows_end context n labels = list_any (λ label. shows_end n (lines_around context labels label) label) labels
+
+-- The end of a drawn label is cut to the source's. Where the labels at the end are drawn, each is an empty one at the
+-- last line's last byte, which stands behind that line's text.
+abbrev pub drawn_label : Bool → List Style → ℕ → ℕ → Label → DrawnLabel
+drawn_label ends styles n i label = record {
+  start = if ends && is_at_end n label then n - 1 else label.span.offset;
+  after = if ends && is_at_end n label then n - 1 else max label.span.offset (min (end_of_span label.span) n);
   style = style_at styles i;
   parts = parts_of label.text;
+  behind = ends && is_at_end n label;
 }
 
-abbrev pub drawn_from : List Style → ℕ → ℕ → List Label → List DrawnLabel
-drawn_from styles n i [] = []
-drawn_from styles n i (label ∷ labels) = drawn_label styles n i label ∷ drawn_from styles n (i + 1) labels
+abbrev pub drawn_from : Bool → List Style → ℕ → ℕ → List Label → List DrawnLabel
+drawn_from ends styles n i [] = []
+drawn_from ends styles n i (label ∷ labels) = drawn_label ends styles n i label
+    ∷ drawn_from ends styles n (i + 1) labels
 
 abbrev pub is_empty : DrawnLabel → Bool
 is_empty label = label.start == label.after

@@ -21,6 +21,7 @@ drawn_of labels p = record {
   after = p.after;
   style = p.style;
   parts = parts_of (text_at labels p.index);
+  behind = p.behind;
 }
 
 -- the i-th label

@@ -1,5 +1,5 @@
 -- What a sweep over labels by offset knows at a place between two lines.
-use Rattle.std.specs.Prelude.{ℕ, ◌<◌, ◌≤◌, ◌≡◌, List, [], length, take, Bool, nat_lt}
+use Rattle.std.specs.Prelude.{ℕ, ◌<◌, ◌≤◌, ◌≡◌, List, [], length, take, Bool, false, nat_lt}
 use Rattle.std.specs.Prelude.{slice_index_or}
 use Rattle.std.specs.List.{filter}
 use Rattle.miette_lines.specs.declared.sweep.Placed.{Placed}
@@ -10,7 +10,7 @@ use Rattle.miette_lines.specs.rules.Labels.{DrawnLabel, reach, is_one_line, is_m
 
 -- a label of this place; its text decides nothing
 abbrev pub label_of : Placed → DrawnLabel
-label_of p = record { start = p.start; after = p.after; style = p.style; parts = [] }
+label_of p = record { start = p.start; after = p.after; style = p.style; parts = []; behind = p.behind }
 
 -- a line from here to there; where its text ends decides nothing
 abbrev pub line_of_bounds : Bounds → Line
@@ -27,7 +27,7 @@ abbrev pub is_multi : Line → Placed → Bool
 is_multi line p = is_multi_line line (label_of p)
 
 abbrev pub nothing : Placed
-nothing = record { start = 0; after = 0; style = plain; index = 0 }
+nothing = record { start = 0; after = 0; style = plain; index = 0; behind = false }
 
 -- the k-th label's start
 abbrev pub start_at : List Placed → ℕ → ℕ
