@@ -16,10 +16,10 @@ use Rattle.miette_lines.specs.rules.Contexts.{contents, lines_of_contents, is_ac
 use Rattle.miette_lines.specs.rules.Groups as G
 use Rattle.miette_lines.specs.rules.Groups.{joins_before, joined, groups_from, groups_answered, in_order, spans_of, put_label, refusal, AreAccepted}
 use Rattle.miette_snippets.specs.rules.Snippets as N
-use Rattle.miette_lines.specs.rules.Labels.{DrawnLabel, drawn_from}
+use Rattle.miette_lines.specs.rules.Labels.{DrawnLabel}
 use Rattle.miette_snippets.specs.rules.Gutters.{gutter_columns}
 use Rattle.miette_snippets.specs.rules.Frames.{SnippetSettings, width_of_lines}
-use Rattle.miette_snippets.specs.rules.SnippetLayout.{rows_of_lines, body_rows, line_rows, cells_of, snippet, all_snippets}
+use Rattle.miette_snippets.specs.rules.SnippetLayout.{rows_of_lines, body_rows, line_rows, cells_of, snippet, all_snippets, drawn_labels}
 use Rattle.miette_snippets.specs.rules.Shown.{line_at, numbered_rows, run_width, run_rows, rows_of_runs, bodies, framed}
 use Rattle.miette_lines.proofs.Sources.{lines, start_of, end_of, first_line, last_line, read, lines_in}
 use Rattle.miette_snippets.proofs.Joining as J
@@ -225,7 +225,7 @@ joined_bodies s source labels drawn fails pieces one none =
 -- whole snippets
 
 pub all_framed : (s : SnippetSettings) (source : Source) (labels : List Label) (pieces : List (List (List Highlight))) (groups : List Span) →
-    all_snippets s source labels pieces groups ≡ framed s source labels groups (bodies s (drawn_from s.styles.highlights (length source.bytes) 0 labels) source pieces groups)
+    all_snippets s source labels pieces groups ≡ framed s source labels groups (bodies s (drawn_labels s (length source.bytes) labels) source pieces groups)
 all_framed s source labels pieces [] = refl
 all_framed s source labels pieces (group ∷ groups) =
     ap (λ r. snippet s source labels group (first_of pieces) ++ r) (all_framed s source labels (later_of pieces) groups)

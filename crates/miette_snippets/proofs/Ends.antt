@@ -1,6 +1,6 @@
 -- A label's end, cut to the end of what its read lent, is cut to the source's end. So labels are drawn as the definition says.
-use Rattle.std.proofs.Common.{ℕ, zero, suc, ◌+◌, ◌-◌, ◌<◌, ◌≤◌, ◌≡◌, ◌⊎◌, inl, inr, min, max, true, false, cond, ltb, leb, ◌&&◌, List, [], ◌∷◌, length, map, refl, ap, ◌∙◌, ⊎_elim, subst, arith, All}
-use Rattle.std.proofs.lemmas.Bool.{leb-false, ltb-false, cases_lt}
+use Rattle.std.proofs.Common.{ℕ, zero, suc, ◌+◌, ◌-◌, ◌<◌, ◌≤◌, ◌≡◌, ◌⊎◌, inl, inr, min, max, Bool, true, false, cond, eqb, ltb, leb, ◌&&◌, Option, Some, None, List, [], ◌∷◌, length, map, refl, ap, ◌∙◌, ⊎_elim, subst, arith, All}
+use Rattle.std.proofs.lemmas.Bool.{eqb-true, leb-false, ltb-false, cases_lt}
 use Rattle.miette_newlines.specs.rules.Lines as P
 use Rattle.miette_newlines.specs.rules.Lines.{Line}
 use Rattle.miette_protocol.specs.views.Meaning.{Label}
@@ -11,10 +11,10 @@ use Rattle.miette_lines.specs.declared.reading.ReadLabel.{ReadLabel}
 use Rattle.miette_lines.specs.rules.Around.{lines_around}
 use Rattle.miette_lines.specs.rules.Contexts as C
 use Rattle.miette_lines.specs.rules.Contexts.{contents}
-use Rattle.miette_lines.specs.rules.Labels.{drawn_from, drawn_label, style_at, parts_of}
+use Rattle.miette_lines.specs.rules.Labels.{DrawnLabel, drawn_from, drawn_label, style_at, parts_of}
 use Rattle.miette_lines.specs.views.Given.{label_at, text_at, drawn_of}
 use Rattle.miette_lines.specs.views.Read.{IsRead}
-use Rattle.miette_lines.specs.views.Placing.{end_drawn, placed_one, placed_from}
+use Rattle.miette_lines.specs.views.Placing.{end_drawn, is_told, placed_one, placed_from}
 use Rattle.miette_lines.proofs.Sources.{IsCut, line_of, end_of, lines, end_of_span, reading_end, last_line, read}
 use Rattle.miette_lines.proofs.Numbers.{by_cases}
 use Rattle.miette_snippets.proofs.Lines.{end-ge, line-mono}
@@ -27,7 +27,7 @@ use Rattle.miette_snippets.proofs.Bodies.{end-of-data}
 use Rattle.miette_lines.proofs.Refusing.{read_of}
 
 -- a line that ends nothing is the last
-last-ends : (text_end end n : ℕ) → (end < n → text_end < end) → ltb text_end end ≡ false → end ≤ n → end ≡ n
+pub last-ends : (text_end end n : ℕ) → (end < n → text_end < end) → ltb text_end end ≡ false → end ≤ n → end ≡ n
 last-ends text_end end n h f le = ⊎_elim {C = end ≡ n} (λ lt. absurd (omega (arith, h lt, ltb-false text_end end f))) (λ ge. omega arith) (cases_lt end n)
 
 -- the line of an offset, or one after it, ends there or later
@@ -47,7 +47,7 @@ ends-past at n o (suc k) (l ∷ ls) h le on =
     (λ f. omega (arith, leb-false l.end o f, end-ge l.end n k ls h.5))
 
 -- an offset that the reading goes past, and that is in the source, is not after the context's end
-covered : (c : ℕ) (bytes : List ℕ) (span : Span) (o : ℕ) → o ≤ length bytes → o ≤ end_of_span span → o ≤ (read c bytes span).end
+pub covered : (c : ℕ) (bytes : List ℕ) (span : Span) (o : ℕ) → o ≤ length bytes → o ≤ end_of_span span → o ≤ (read c bytes span).end
 covered c bytes span o le own =
     ends-past 0 (length bytes) o (last_line c bytes span) (lines bytes) (cut bytes) le
     (omega (arith, line-mono o (reading_end bytes (end_of_span span)) (lines bytes) (omega (arith, own, end-le-reading bytes (end_of_span span)))))
@@ -107,17 +107,45 @@ text_is [] i = refl
 text_is (l ∷ ls) zero = refl
 text_is (l ∷ ls) (suc i) = text_is ls i
 
--- a label as it is placed is the label as it is drawn
-one_is : (styles : List Style) (context : ℕ) (source : Source) (labels : List Label) (i : ℕ) (r : ReadLabel) → IsRead context source labels r →
-    drawn_of labels (placed_one styles i r) ≡ drawn_label styles (length source.bytes) i (label_at labels r.index)
-one_is styles context source labels i r h =
-    ap (λ e. record { start = r.span.offset; after = e; style = style_at styles i; parts = parts_of (text_at labels r.index) }) (end_is context source labels r h)
-    ∙ ap (λ s. record { start = s.offset; after = max (label_at labels r.index).span.offset (min (end_of_span (label_at labels r.index).span) (length source.bytes)); style = style_at styles i; parts = parts_of (text_at labels r.index) }) h.span
-    ∙ ap (λ t. record { start = (label_at labels r.index).span.offset; after = max (label_at labels r.index).span.offset (min (end_of_span (label_at labels r.index).span) (length source.bytes)); style = style_at styles i; parts = parts_of t }) (text_is labels r.index)
+-- Where the source's end is told, or isn't.
+abbrev pub end_told : Bool → ℕ → Option ℕ
+end_told ends n = cond ends (Some n) None
 
-pub placed_drawn : (styles : List Style) (context : ℕ) (source : Source) (labels : List Label) (i : ℕ) (reads : List ReadLabel) → All (IsRead context source labels) reads →
-    map (drawn_of labels) (placed_from styles i reads) ≡ drawn_from styles (length source.bytes) i (map (read_of labels) reads)
-placed_drawn styles context source labels i [] h = refl
-placed_drawn styles context source labels i (r ∷ rs) h =
-    ap (λ d. d ∷ map (drawn_of labels) (placed_from styles (i + 1) rs)) (one_is styles context source labels i r (h 0 r (omega arith)))
-    ∙ ap (λ ds. drawn_label styles (length source.bytes) i (label_at labels r.index) ∷ ds) (placed_drawn styles context source labels (i + 1) rs (λ k d lt. h (suc k) d (omega arith)))
+behind_is : (ends : Bool) (n offset : ℕ) → is_told (end_told ends n) offset ≡ (ends && eqb offset n)
+behind_is true n offset = refl
+behind_is false n offset = refl
+
+-- a label at this offset and with this end, at the byte before where it stands behind
+abbrev made : Style → List (List ℕ) → Bool → ℕ → ℕ → DrawnLabel
+made style parts behind offset after = record { start = cond behind (offset - 1) offset; after = cond behind (offset - 1) after; style = style; parts = parts; behind = behind }
+
+at_last : (style : Style) (parts : List (List ℕ)) (ends : Bool) (n offset after : ℕ) →
+    made style parts (ends && eqb offset n) offset after
+    ≡ record { start = cond (ends && eqb offset n) (n - 1) offset; after = cond (ends && eqb offset n) (n - 1) after; style = style; parts = parts; behind = ends && eqb offset n }
+at_last style parts false n offset after = refl
+at_last style parts true n offset after =
+    by_cases {C = made style parts (eqb offset n) offset after ≡ record { start = cond (eqb offset n) (n - 1) offset; after = cond (eqb offset n) (n - 1) after; style = style; parts = parts; behind = eqb offset n }} (eqb offset n)
+    (λ t. rw t (ap (λ x. record { start = x - 1; after = x - 1; style = style; parts = parts; behind = true }) (eqb-true offset n t)))
+    (λ f. rw f refl)
+
+-- a label as it is placed is the label as it is drawn
+one_is : (ends : Bool) (styles : List Style) (context : ℕ) (source : Source) (labels : List Label) (i : ℕ) (r : ReadLabel) → IsRead context source labels r →
+    drawn_of labels (placed_one (end_told ends (length source.bytes)) styles i r) ≡ drawn_label ends styles (length source.bytes) i (label_at labels r.index)
+one_is ends styles context source labels i r h =
+    let n : ℕ = length source.bytes in
+    let l : Label = label_at labels r.index in
+    let style : Style = style_at styles i in
+    let parts : List (List ℕ) = parts_of (text_at labels r.index) in
+    let drawn : Span → ℕ = λ s. max s.offset (min (end_of_span s) n) in
+    ap (λ b. made style parts b r.span.offset (end_drawn r)) (behind_is ends n r.span.offset)
+    ∙ ap (made style parts (ends && eqb r.span.offset n) r.span.offset) (end_is context source labels r h)
+    ∙ ap (λ s. made style parts (ends && eqb s.offset n) s.offset (drawn l.span)) h.span
+    ∙ ap (λ t. made style (parts_of t) (ends && eqb l.span.offset n) l.span.offset (drawn l.span)) (text_is labels r.index)
+    ∙ at_last style (parts_of l.text) ends n l.span.offset (drawn l.span)
+
+pub placed_drawn : (ends : Bool) (styles : List Style) (context : ℕ) (source : Source) (labels : List Label) (i : ℕ) (reads : List ReadLabel) → All (IsRead context source labels) reads →
+    map (drawn_of labels) (placed_from (end_told ends (length source.bytes)) styles i reads) ≡ drawn_from ends styles (length source.bytes) i (map (read_of labels) reads)
+placed_drawn ends styles context source labels i [] h = refl
+placed_drawn ends styles context source labels i (r ∷ rs) h =
+    ap (λ d. d ∷ map (drawn_of labels) (placed_from (end_told ends (length source.bytes)) styles (i + 1) rs)) (one_is ends styles context source labels i r (h 0 r (omega arith)))
+    ∙ ap (λ ds. drawn_label ends styles (length source.bytes) i (label_at labels r.index) ∷ ds) (placed_drawn ends styles context source labels (i + 1) rs (λ k d lt. h (suc k) d (omega arith)))

@@ -4,7 +4,6 @@ use Rattle.std.specs.List.{range_with_len, filter, list_any}
 use Rattle.miette_protocol.specs.rules.Reading.{Span}
 use Rattle.miette_snippets.specs.rules.Numbers.{runs}
 use Rattle.miette_lines.proofs.Sources.{lines, first_line, last_line, read, lines_in}
-use Rattle.miette_lines.proofs.Joining.{groups}
 
 -- a span comes before the first one that does not begin before it
 abbrev pub put_by_offset : Span → List Span → List Span

@@ -1,6 +1,7 @@
 pub mod Bodies
 pub mod Bridge
 pub mod Data
+pub mod Endings
 pub mod Ends
 pub mod Joining
 pub mod Lines

@@ -1,6 +1,6 @@
 -- What rows tell.
 use Rattle.miette_page.specs.views.Printouts.{Printout, ◌⊕◌}
-use Rattle.std.proofs.Common.{ℕ, zero, suc, Bool, true, ◌<◌, ◌≡◌, arith, length, get_or, List, [], ◌∷◌, ◌++◌, map, replicate, refl, sym, ap, ◌∙◌, append_assoc, append-nil}
+use Rattle.std.proofs.Common.{ℕ, zero, suc, Bool, true, ◌<◌, ◌≡◌, arith, List, [], ◌∷◌, ◌++◌, map, replicate, refl, sym, ap, ◌∙◌, append_assoc, append-nil}
 use Rattle.miette_style.specs.declared.style.Style.{Style}
 use Rattle.miette_page.specs.rules.Rows.{Row, drawn, styled}
 use Rattle.miette_style.specs.rules.Styles.{plain}

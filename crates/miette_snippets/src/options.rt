@@ -12,6 +12,8 @@ pub struct LayoutOptions {
     pub context_lines: usize,
     /// Whether a frame shows where its primary label begins.
     pub primary_start: bool,
+    /// Whether a label at the end of a source is drawn, behind the text of its last line.
+    pub end_labels: bool,
 }
 
 /// How snippets look: a theme's characters and styles, and the layout; and where the memory that they need comes from.

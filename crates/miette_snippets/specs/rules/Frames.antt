@@ -25,6 +25,7 @@ pub record SnippetSettings : Type 0 where
   pub tab : ℕ
   pub context : ℕ
   pub primary_start : Bool
+  pub end_labels : Bool
 
 -- the text of a label, whose bytes are given
 abbrev pub text_or_none : Option (List ℕ) → List ℕ

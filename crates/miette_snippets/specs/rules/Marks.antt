@@ -17,8 +17,13 @@ pub record Mark : Type 0 where
   pub until : ℕ
   pub label : DrawnLabel
 
+-- the column of a label's first byte; where it stands behind the text, the one after the text's columns
+abbrev pub label_from : Text → DrawnLabel → ℕ
+label_from text label = if label.behind then text.width
+    else first_column text.cells text.text_end text.width label.start
+
 abbrev pub mark_from : Text → ℕ → DrawnLabel → ℕ
-mark_from text reached label = max (first_column text.cells text.text_end text.width label.start) reached
+mark_from text reached label = max (label_from text label) reached
 
 abbrev pub mark_until : Text → ℕ → DrawnLabel → ℕ
 mark_until text reached label =

@@ -3,8 +3,7 @@ use Rattle.std.specs.Prelude.{ℕ, ◌+◌, ◌-◌, List, [], ◌∷◌, ◌++�
 use Rattle.miette_page.specs.rules.Rows.{Piece, Run}
 use Rattle.miette_style.specs.rules.Styles.{plain}
 use Rattle.miette_lines.specs.rules.Answers.{Highlight}
-use Rattle.bstr.specs.Utf8.{pieces}
-use Rattle.miette_lines.specs.rules.Cells.{Cell, characters}
+use Rattle.miette_lines.specs.rules.Cells.{Cell}
 
 -- the column of an offset, rounded down to a character's start; at the text's end its width, after it one more
 abbrev pub first_column : List Cell → ℕ → ℕ → ℕ → ℕ

@@ -9,10 +9,11 @@ use Rattle.miette_snippets.specs.rules.Snippets.{snippets}
 use Rattle.miette_lines.specs.rules.Answers.{Answers, Highlight, first_of, later_of}
 use Rattle.miette_lines.specs.rules.Contexts.{contents}
 use Rattle.miette_lines.specs.rules.Groups.{in_order, groups_of}
-use Rattle.miette_lines.specs.rules.Labels.{DrawnLabel, drawn_from}
+use Rattle.miette_lines.specs.rules.Labels.{DrawnLabel}
 use Rattle.miette_snippets.specs.rules.Gutters.{gutter_columns}
 use Rattle.miette_snippets.specs.rules.Frames.{SnippetSettings, top_row, bottom_row, number_width}
 use Rattle.miette_snippets.specs.rules.SnippetLayout.{cells_of, line_rows, body_rows, place_of, settings_around}
+use Rattle.miette_snippets.specs.rules.SnippetLayout.{drawn_labels}
 
 -- line k
 abbrev pub line_at : List Line → ℕ → Line
@@ -67,5 +68,6 @@ framed_runs s source labels answers =
     framed (settings_around s (in_order labels)) source (in_order labels)
     (groups_of s.context source answers.join_fails (in_order labels))
     (rows_of_runs (settings_around s (in_order labels))
-    (drawn_from s.styles.highlights (length source.bytes) 0 (in_order labels)) source.bytes answers.pieces
+    (drawn_labels (settings_around s (in_order labels)) (length source.bytes) (in_order labels)) source.bytes
+    answers.pieces
     (snippets s.context source.bytes labels))

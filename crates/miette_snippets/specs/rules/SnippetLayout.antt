@@ -13,7 +13,7 @@ use Rattle.miette_lines.specs.rules.Contexts.{end_of_span, contents, lines_of_co
 use Rattle.miette_lines.specs.rules.Groups.{in_order, refusal, groups_of, some_fails, groups_fail}
 use Rattle.miette_snippets.specs.rules.PrintedCells.{cells_width, line_runs}
 use Rattle.miette_lines.specs.rules.Cells.{Cell, characters, cells_from}
-use Rattle.miette_lines.specs.rules.Labels.{DrawnLabel, drawn_from, one_line, multi_line, closing}
+use Rattle.miette_lines.specs.rules.Labels.{DrawnLabel, drawn_from, some_shows_end, one_line, multi_line, closing}
 use Rattle.miette_snippets.specs.rules.Marks.{Text, marks}
 use Rattle.miette_snippets.specs.rules.Drawing.{marked_rows}
 use Rattle.miette_snippets.specs.rules.Gutters.{gutter_columns, number_gutter, other_gutter, closing_rows}
@@ -89,11 +89,15 @@ abbrev pub place_of : Source → Span → List Label → Option Place
 place_of source group labels = option_map (begins_at source)
     (primary_of (filter (is_within (has_own labels) group) labels))
 
+-- The labels of a source of so many bytes, by offset, as they are drawn. Those at the end are drawn behind the text of
+-- the last line where the settings say so and one of them shows that line.
+abbrev pub drawn_labels : SnippetSettings → ℕ → List Label → List DrawnLabel
+drawn_labels s n labels = drawn_from (s.end_labels && some_shows_end s.context n labels) s.styles.highlights n 0 labels
+
 abbrev pub snippet : SnippetSettings → Source → List Label → Span → List (List Highlight) → List Row
 snippet s source labels group pieces =
     top_row s (contents s.context source group) (place_of source group labels)
-    ∷ body_rows s (drawn_from s.styles.highlights (length source.bytes) 0 labels) source.bytes
-    (contents s.context source group) pieces
+    ∷ body_rows s (drawn_labels s (length source.bytes) labels) source.bytes (contents s.context source group) pieces
     ++ bottom_row s (number_width (contents s.context source group)) ∷ []
 
 abbrev pub all_snippets : SnippetSettings → Source → List Label → List (List (List Highlight)) → List Span → List Row

@@ -24,4 +24,5 @@ settings_of theme options = record {
   tab = options.tab_width;
   context = options.context_lines;
   primary_start = options.primary_start;
+  end_labels = options.end_labels;
 }
