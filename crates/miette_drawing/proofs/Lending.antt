@@ -1,12 +1,12 @@
 -- The rows that are drawn from what a read lent are those of the definition, which has the whole source.
 use Rattle.miette_page.proofs.Paging.{put_append, put_nil}
 use Rattle.miette_page.specs.views.Printouts.{Printout, ◌⊕◌}
-use Rattle.std.proofs.Common.{ℕ, zero, suc, ◌+◌, ◌-◌, ◌^◌, ◌<◌, ◌≤◌, ◌≡◌, max, Bool, true, false, eqb, ltb, List, [], ◌∷◌, ◌++◌, length, map, take, drop, Option, refl, sym, ap, ◌∙◌, subst, arith, All, append_assoc, append-nil}
+use Rattle.std.proofs.Common.{ℕ, zero, suc, ◌+◌, ◌-◌, ◌^◌, ◌<◌, ◌≤◌, ◌≡◌, max, Bool, true, false, cond, eqb, ltb, List, [], ◌∷◌, ◌++◌, length, map, take, drop, Option, refl, sym, ap, ◌∙◌, subst, arith, All, append_assoc, append-nil}
 use Rattle.std.specs.Prelude.{slice_range, slice_index_or}
 use Rattle.std.specs.List.{AllByRecursion, filter}
 use Rattle.std.proofs.lemmas.List.{drop-take, length-take, length-map, drop_all}
 use Rattle.std.proofs.Math.Seq.{take-take}
-use Rattle.std.proofs.lemmas.Bool.{ne_eqb}
+use Rattle.std.proofs.lemmas.Bool.{ne_eqb, eqb-true, eqb-false}
 use Rattle.miette_newlines.specs.rules.Lines as P
 use Rattle.miette_newlines.specs.rules.Lines.{Line}
 use Rattle.miette_protocol.specs.views.Meaning.{Label}
@@ -28,7 +28,7 @@ use Rattle.miette_lines.specs.rules.Labels.{DrawnLabel, is_one_line, is_multi_li
 use Rattle.miette_snippets.specs.rules.SnippetLayout.{cells_of, line_rows, line_rows_of, rows_of_lines, body_rows}
 use Rattle.miette_snippets.specs.rules.Highlighted.{EachHasPieces, ArePieces, decoded_text, texts_of, line_calls, piece_of}
 use Rattle.miette_drawing.specs.steps.Lent.{cells_in, text_in, texts_in, lent_rows, lent_snippet, width_of_count, gutter_of, PutsRows}
-use Rattle.miette_lines.specs.views.Placing.{placed_from}
+use Rattle.miette_lines.specs.views.Placing.{end_drawn, is_told, placed_from}
 use Rattle.miette_lines.specs.views.Read.{IsRead}
 use Rattle.miette_newlines.specs.views.Walking.{line_of_text}
 use Rattle.miette_lines.specs.views.Sweeping.{is_one, is_multi, nothing, start_at, AreSorted, IsAt}
@@ -40,6 +40,7 @@ use Rattle.miette_lines.proofs.Lines.{cut_lines, cut-le}
 use Rattle.miette_lines.proofs.Segments.{drop_drop}
 use Rattle.miette_lines.proofs.Bridge.{lines_same}
 use Rattle.miette_snippets.proofs.Bodies.{order_same}
+use Rattle.miette_snippets.proofs.Ends.{end_told}
 use Rattle.miette_snippets.proofs.Merging.{sorted}
 use Rattle.miette_lines.proofs.Merging.{IsAscending}
 use Rattle.miette_lines.proofs.Refusing.{read_of}
@@ -172,23 +173,41 @@ ascends-drawn from k [] h lt = absurd (omega (arith, lt))
 ascends-drawn from zero (p ∷ ps) h lt = h.1
 ascends-drawn from (suc k) (p ∷ ps) h lt = ascends-drawn p.start k ps h.2 (omega (arith, lt))
 
-placed_ascends : (styles : List Style) (context : ℕ) (source : Source) (labels : List Label) (from i : ℕ) (reads : List ReadLabel) → All (IsRead context source labels) reads →
-    IsAscending from (spans_of (map (read_of labels) reads)) → Ascends from (placed_from styles i reads)
-placed_ascends styles context source labels from i [] h up = tt
-placed_ascends styles context source labels from i (r ∷ rs) h up =
+-- a label further on is placed further on
+lower_le : (ends : Bool) (n a b : ℕ) → a ≤ b → b ≤ n → cond (is_told (end_told ends n) a) (a - 1) a ≤ cond (is_told (end_told ends n) b) (b - 1) b
+lower_le false n a b le top = le
+lower_le true n a b le top =
+    by_cases {C = cond (eqb a n) (a - 1) a ≤ cond (eqb b n) (b - 1) b} (eqb a n)
+    (λ t. by_cases {C = cond (eqb a n) (a - 1) a ≤ cond (eqb b n) (b - 1) b} (eqb b n) (λ u. rw (t, u) (omega (arith, le))) (λ u. rw (t, u) (omega (arith, le))))
+    (λ f. by_cases {C = cond (eqb a n) (a - 1) a ≤ cond (eqb b n) (b - 1) b} (eqb b n)
+    (λ u. rw (f, u) (omega (arith, le, eqb-true b n u, eqb-false a n f))) (λ u. rw (f, u) le))
+
+placed_after : (behind : Bool) (offset after : ℕ) → offset ≤ after → cond behind (offset - 1) offset ≤ cond behind (offset - 1) after
+placed_after true offset after le = omega arith
+placed_after false offset after le = le
+
+placed_ascends : (ends : Bool) (styles : List Style) (context : ℕ) (source : Source) (labels : List Label) (from i : ℕ) (reads : List ReadLabel) → All (IsRead context source labels) reads →
+    IsAscending from (spans_of (map (read_of labels) reads)) →
+    Ascends (cond (is_told (end_told ends (length source.bytes)) from) (from - 1) from) (placed_from (end_told ends (length source.bytes)) styles i reads)
+placed_ascends ends styles context source labels from i [] h up = tt
+placed_ascends ends styles context source labels from i (r ∷ rs) h up =
     let own : IsRead context source labels r = h 0 r (omega arith) in
     let at : r.span.offset ≡ (label_at labels r.index).span.offset = ap (λ s. s.offset) own.span in
-    let next : IsAscending r.span.offset (spans_of (map (read_of labels) rs)) = subst (λ (n : ℕ). IsAscending n (spans_of (map (read_of labels) rs))) (sym at) up.1 in
-    (omega (arith, at, up.0), omega arith, placed_ascends styles context source labels r.span.offset (i + 1) rs (tail_all (IsRead context source labels) r rs h) next)
+    let next : IsAscending r.span.offset (spans_of (map (read_of labels) rs)) = subst (λ (n : ℕ). IsAscending n (spans_of (map (read_of labels) rs))) (sym at) up.1 in (
+      lower_le ends (length source.bytes) from r.span.offset (omega (arith, at, up.0)) own.accepted.begins,
+      placed_after (is_told (end_told ends (length source.bytes)) r.span.offset) r.span.offset (end_drawn r) (omega arith),
+      placed_ascends ends styles context source labels r.span.offset (i + 1) rs (tail_all (IsRead context source labels) r rs h) next,
+    )
 
-pub placed_sorted : (styles : List Style) (context : ℕ) (source : Source) (labels : List Label) (reads : List ReadLabel) → All (IsRead context source labels) reads →
-    map (read_of labels) reads ≡ in_order labels → AreSorted (placed_from styles 0 reads)
-placed_sorted styles context source labels reads h e =
+pub placed_sorted : (ends : Bool) (styles : List Style) (context : ℕ) (source : Source) (labels : List Label) (reads : List ReadLabel) → All (IsRead context source labels) reads →
+    map (read_of labels) reads ≡ in_order labels → AreSorted (placed_from (end_told ends (length source.bytes)) styles 0 reads)
+placed_sorted ends styles context source labels reads h e =
     let up : IsAscending 0 (spans_of (map (read_of labels) reads)) =
     subst (λ (ss : List Span). IsAscending 0 ss) (sym (ap spans_of e ∙ order_same labels)) (sorted (spans_of labels)) in
-    let ps : List Placed = placed_from styles 0 reads in
-    let k : Ascends 0 ps = placed_ascends styles context source labels 0 0 reads h up in
-    record { order = λ i j le lt. ascends-order 0 i j ps k le lt; drawn = λ i lt. ascends-drawn 0 i ps k lt }
+    let ps : List Placed = placed_from (end_told ends (length source.bytes)) styles 0 reads in
+    let from : ℕ = cond (is_told (end_told ends (length source.bytes)) 0) (0 - 1) 0 in
+    let k : Ascends from ps = placed_ascends ends styles context source labels 0 0 reads h up in
+    record { order = λ i j le lt. ascends-order from i j ps k le lt; drawn = λ i lt. ascends-drawn from i ps k lt }
 
 -- a sweep at the beginning
 pub at_start : (labels : List Placed) → IsAt labels 0 0 []

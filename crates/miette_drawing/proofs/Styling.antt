@@ -15,8 +15,8 @@ use Rattle.miette_lines.specs.rules.Contexts.{contents, lines_of_contents}
 use Rattle.miette_snippets.specs.rules.Frames.{SnippetSettings, top_row, bottom_row, number_width}
 use Rattle.miette_snippets.specs.rules.Gutters.{gutter_columns}
 use Rattle.miette_snippets.specs.rules.Highlighted.{ArePieces, EachHasPieces, SnippetsHavePieces, highlight_of, piece_of, texts_of, follows, line_calls, group_calls}
-use Rattle.miette_lines.specs.rules.Labels.{DrawnLabel, drawn_from}
-use Rattle.miette_snippets.specs.rules.SnippetLayout.{line_rows, rows_of_lines, cells_of, all_snippets, place_of}
+use Rattle.miette_lines.specs.rules.Labels.{DrawnLabel}
+use Rattle.miette_snippets.specs.rules.SnippetLayout.{line_rows, rows_of_lines, cells_of, drawn_labels, all_snippets, place_of}
 
 pub same_pieces : (ps : List Piece) → map piece_of (map highlight_of ps) ≡ ps
 same_pieces [] = refl
@@ -54,7 +54,7 @@ pub snippets_plain : (s : SnippetSettings) (source : Source) (labels : List Labe
 snippets_plain s source labels pieces [] h = refl
 snippets_plain s source labels pieces (group ∷ groups) h =
     let lent : Contents = contents s.context source group in
-    let drawn : List DrawnLabel = drawn_from s.styles.highlights (length source.bytes) 0 labels in
+    let drawn : List DrawnLabel = drawn_labels s (length source.bytes) labels in
     ap₂ (λ rows more. (top_row s lent (place_of source group labels) ∷ rows ++ bottom_row s (number_width lent) ∷ []) ++ more)
     (rows_plain s (number_width lent) (gutter_columns drawn (lines_of_contents lent)) drawn source.bytes (lent.line + 1) (first_of pieces) (lines_of_contents lent) h.0)
     (snippets_plain s source labels (later_of pieces) groups h.1)

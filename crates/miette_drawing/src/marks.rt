@@ -6,7 +6,7 @@ ghost use Rattle.miette_protocol.specs.views.Meaning.{Label};
 ghost use Rattle.miette_snippets.specs.rules.PrintedCells.{cells_width, first_column as first_of_cells};
 ghost use Rattle.miette_snippets.specs.rules.PrintedCells.{last_column as last_of_cells};
 ghost use Rattle.miette_lines.specs.rules.Cells.{cells_from, characters};
-ghost use Rattle.miette_snippets.specs.rules.Marks.{mark_from, mark_until, marks};
+ghost use Rattle.miette_snippets.specs.rules.Marks.{label_from, mark_from, mark_until, marks};
 ghost use Rattle.miette_snippets.specs.rules.SnippetLayout.{text_of_cells};
 ghost use Rattle.miette_lines.specs.views.Sweeping.{label_of};
 ghost use Rattle.miette_lines.specs.views.Given.{drawn_of, width_of};
@@ -211,6 +211,17 @@ impl<'a> Columns<'a> {
             None => self.column_at_end(offset),
         }
     }
+
+    /// The column at which a label's mark begins, unless the mark before it ends behind that: the first one behind the
+    /// text, or that of the label's first byte. `AllocError` as of `first_column`.
+    pub(crate) fn label_column(&self, label: &Placed) -> Result<usize, AllocError>
+        ensures { IfOk result (λ column. column ≡ label_from self.now (label_of label.now)) }
+    {
+        if label.behind {
+            return Ok(self.width);
+        }
+        self.first_column(label.start)
+    }
 }
 
 /// A mark: its columns from the one up to the other, and its label.
@@ -231,7 +242,7 @@ fn next_mark(columns: &Columns<'_>, label: &Placed, reached: usize) -> Result<Ma
     ensures label { IfOk result (λ mark. mark.label ≡ label.now) }
     ensures some { IfOk result (λ mark. mark.from < mark.until) }
 {
-    let from = columns.first_column(label.start)?.max(reached);
+    let from = columns.label_column(label)?.max(reached);
     let Some(next) = from.checked_add(1) else {
         return Err(AllocError);
     };
