@@ -64,18 +64,18 @@ gutter_bleached labels lines = ap (λ most. if most == 0 then 0 else most + 3) (
 
 -- ---- labels as they are drawn
 
-pub drawn_bleached : (styles : List Style) (n i : ℕ) (labels : List Label) → drawn_from [] n i labels ≡ map bleached (drawn_from styles n i labels)
-drawn_bleached styles n i [] = refl
-drawn_bleached styles n i (label ∷ labels) =
-    ap (λ r. bleached (drawn_label styles n i label) ∷ r) (drawn_bleached styles n (i + 1) labels)
+pub drawn_bleached : (ends : Bool) (styles : List Style) (n i : ℕ) (labels : List Label) → drawn_from ends [] n i labels ≡ map bleached (drawn_from ends styles n i labels)
+drawn_bleached ends styles n i [] = refl
+drawn_bleached ends styles n i (label ∷ labels) =
+    ap (λ r. bleached (drawn_label ends styles n i label) ∷ r) (drawn_bleached ends styles n (i + 1) labels)
 
 text_clean : (text : Option (List ℕ)) → IfSome text IsCleanText → AllByRecursion IsClean (parts_of text)
 text_clean None h = tt
 text_clean (Some text) h = clean_parts (chars text) h
 
-pub drawn_clean : (styles : List Style) (n i : ℕ) (labels : List Label) → AllByRecursion IsCleanLabel labels → AllByRecursion HasCleanParts (drawn_from styles n i labels)
-drawn_clean styles n i [] h = tt
-drawn_clean styles n i (label ∷ labels) h = (text_clean label.text h.0, drawn_clean styles n (i + 1) labels h.1)
+pub drawn_clean : (ends : Bool) (styles : List Style) (n i : ℕ) (labels : List Label) → AllByRecursion IsCleanLabel labels → AllByRecursion HasCleanParts (drawn_from ends styles n i labels)
+drawn_clean ends styles n i [] h = tt
+drawn_clean ends styles n i (label ∷ labels) h = (text_clean label.text h.0, drawn_clean ends styles n (i + 1) labels h.1)
 
 -- ---- labels in order
 

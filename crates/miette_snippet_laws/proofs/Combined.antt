@@ -13,8 +13,8 @@ use Rattle.miette_lines.specs.rules.Contexts.{contents}
 use Rattle.miette_snippets.specs.rules.Frames.{SnippetSettings, refused_row}
 use Rattle.miette_lines.specs.rules.Groups as G
 use Rattle.miette_lines.specs.rules.Groups.{in_order, spans_of, groups_answered, own_groups, groups_of, AreAccepted}
-use Rattle.miette_lines.specs.rules.Labels.{DrawnLabel, drawn_from}
-use Rattle.miette_snippets.specs.rules.SnippetLayout.{body_rows, all_snippets, settings_around, rows_unless, snippet_rows}
+use Rattle.miette_lines.specs.rules.Labels.{DrawnLabel}
+use Rattle.miette_snippets.specs.rules.SnippetLayout.{body_rows, all_snippets, drawn_labels, settings_around, rows_unless, snippet_rows}
 use Rattle.miette_snippets.specs.rules.Numbers.{runs}
 use Rattle.miette_snippets.specs.rules.Shown.{rows_of_runs, bodies, framed, framed_runs}
 use Rattle.miette_snippets.specs.rules.Snippets as N
@@ -140,7 +140,7 @@ snippets_are_runs s source labels answers h accepted always =
     let ls : List Label = in_order labels in
     let s' : SnippetSettings = settings_around s ls in
     let gs : List Span = groups_of s.context source answers.join_fails ls in
-    let drawn : List DrawnLabel = drawn_from s.styles.highlights (length source.bytes) 0 ls in
+    let drawn : List DrawnLabel = drawn_labels s' (length source.bytes) ls in
     ap (λ r. rows_unless s source ls answers (option_map (refused_row s) r)) (none_refused source.bytes answers.label_fails ls always.labels (ordered_accepted source.bytes labels accepted))
     ∙ ap₂ (λ a b. cond (a || b) None (Some (all_snippets s' source ls answers.pieces gs))) (none_unread s.context source answers.join_fails ls always.joins) (some_none answers.place_fails gs always.places)
     ∙ ap Some (all_framed s' source ls answers.pieces gs

@@ -5,6 +5,7 @@ pub mod Bleaching
 pub mod CleanTexts
 pub mod Columns
 pub mod Combined
+pub mod Ending
 pub mod Flat
 pub mod Hanging
 pub mod Maximal

@@ -15,8 +15,8 @@ use Rattle.miette_snippet_laws.specs.laws.Fading.{colourless, unhighlighted, IsP
 use Rattle.miette_snippets.specs.rules.Frames.{SnippetSettings, Place, text_or_none, refused_row, number_start, other_start, place_text, location, location_of, top_row_of, bottom_row, number_width}
 use Rattle.miette_lines.specs.rules.Groups.{Refusal, refusal, in_order, groups_of, some_fails, groups_fail}
 use Rattle.miette_snippets.specs.rules.Gutters.{number_gutter, other_gutter, closing_rows, gutter_columns}
-use Rattle.miette_lines.specs.rules.Labels.{DrawnLabel, drawn_from, one_line, multi_line, closing, is_one_line, is_multi_line, ends_on, starts_on}
-use Rattle.miette_snippets.specs.rules.SnippetLayout.{text_of_cells, cells_of, before_each, line_rows_of, line_rows, rows_of_lines, body_rows, place_of, snippet, all_snippets, settings_around, rows_unless, snippet_rows}
+use Rattle.miette_lines.specs.rules.Labels.{DrawnLabel, some_shows_end, one_line, multi_line, closing, is_one_line, is_multi_line, ends_on, starts_on}
+use Rattle.miette_snippets.specs.rules.SnippetLayout.{text_of_cells, cells_of, before_each, line_rows_of, line_rows, rows_of_lines, body_rows, place_of, drawn_labels, snippet, all_snippets, settings_around, rows_unless, snippet_rows}
 use Rattle.miette_snippets.specs.rules.Marks.{marks}
 use Rattle.miette_page.specs.rules.Rows.{Run, Row, pieces_of, unstyled}
 use Rattle.miette_style.specs.rules.Styles.{plain}
@@ -165,12 +165,13 @@ module _ (P : Type 0) (s : SnippetSettings) (clean : P → AreCleanDrawings s.ch
   pale_snippet source labels group pieces h k =
       let n = length source.bytes in
       let read = contents s.context source group in
-      let drawn = drawn_from s.styles.highlights n 0 labels in
-      let body : PaleRows P (body_rows (colourless s) (drawn_from [] n 0 labels) source.bytes read []) (body_rows s drawn source.bytes read pieces) =
-      subst (λ ls. PaleRows P (body_rows (colourless s) ls source.bytes read []) (body_rows s drawn source.bytes read pieces)) (sym (drawn_bleached s.styles.highlights n 0 labels))
-      (pale_body drawn source.bytes read pieces (λ p. drawn_clean s.styles.highlights n 0 labels (k p)) (λ p. (h p).bytes)) in
+      let ends : Bool = s.end_labels && some_shows_end s.context n labels in
+      let drawn = drawn_labels s n labels in
+      let body : PaleRows P (body_rows (colourless s) (drawn_labels (colourless s) n labels) source.bytes read []) (body_rows s drawn source.bytes read pieces) =
+      subst (λ ls. PaleRows P (body_rows (colourless s) ls source.bytes read []) (body_rows s drawn source.bytes read pieces)) (sym (drawn_bleached ends s.styles.highlights n 0 labels))
+      (pale_body drawn source.bytes read pieces (λ p. drawn_clean ends s.styles.highlights n 0 labels (k p)) (λ p. (h p).bytes)) in
       rows_cons P (pale_top (number_width read) source.name (nat_lt 1 (length (lines_of_contents read))) (place_of source group labels) (λ p. (h p).name))
-      (rows_append P (body_rows (colourless s) (drawn_from [] n 0 labels) source.bytes read []) (body_rows s drawn source.bytes read pieces)
+      (rows_append P (body_rows (colourless s) (drawn_labels (colourless s) n labels) source.bytes read []) (body_rows s drawn source.bytes read pieces)
       (bottom_row (colourless s) (number_width read) ∷ []) (bottom_row s (number_width read) ∷ []) body (rows_cons P (pale_bottom (number_width read)) (rows_nil P)))
 
   pale_all : (source : Source) (labels : List Label) (pieces : List (List (List Highlight))) (groups : List Span) → (P → IsCleanSource source) → (P → AllByRecursion IsCleanLabel labels) →

@@ -1,5 +1,6 @@
 -- What holds of the rules.
 pub mod Belonging
 pub mod Clean
+pub mod Ends
 pub mod Fading
 pub mod Pictures

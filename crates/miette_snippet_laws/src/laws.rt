@@ -1,6 +1,6 @@
 //! What holds of the rows of snippets, as laws of their definitions.
 
-ghost use Rattle.std.specs.Prelude.{◌≡◌, ◌≤◌, ℕ, List, ◌∷◌, [], Some, Bool, map, IfSome};
+ghost use Rattle.std.specs.Prelude.{◌≡◌, ◌≤◌, ℕ, List, ◌∷◌, [], Some, Bool, true, false, map, length, IfSome};
 ghost use Rattle.std.specs.Option.{option_map};
 ghost use Rattle.std.specs.List.{AllByRecursion, concat};
 ghost use Rattle.miette_snippets.specs.rules.Numbers.{runs, IsRun, AreParted};
@@ -8,13 +8,14 @@ ghost use Rattle.miette_protocol.specs.views.Meaning.{Label};
 ghost use Rattle.miette_protocol.specs.rules.Reading.{Source, Contents, Span};
 ghost use Rattle.miette_snippet_laws.specs.laws.Belonging.{HasOneGroup};
 ghost use Rattle.miette_snippet_laws.specs.laws.Clean.{AreCleanDrawings, IsCleanLabel, IsCleanRow, IsCleanSource};
+ghost use Rattle.miette_snippet_laws.specs.laws.Ends.{AreBehindText, EndsStandBehind, with_ends};
 ghost use Rattle.miette_snippet_laws.specs.laws.Fading.{IsPlainRow, colourless, unhighlighted};
 ghost use Rattle.miette_page.specs.rules.Rows.{pieces_of};
 ghost use Rattle.miette_lines.specs.rules.Answers.{Answers, AlwaysReads, Highlight, NoneFails};
 ghost use Rattle.miette_lines.specs.rules.Around.{HaveContext, group_context};
 ghost use Rattle.miette_lines.specs.rules.Groups.{AreAccepted, in_order, groups_of, lines_of_groups};
 ghost use Rattle.miette_snippets.specs.rules.Snippets.{snippets};
-ghost use Rattle.miette_lines.specs.rules.Labels.{DrawnLabel};
+ghost use Rattle.miette_lines.specs.rules.Labels.{DrawnLabel, some_shows_end};
 ghost use Rattle.miette_snippets.specs.rules.Marks.{Text, marks, anchor, marks_at, AreApart};
 ghost use Rattle.miette_snippets.specs.rules.Drawing.{IsNarrow};
 ghost use Rattle.miette_snippets.specs.rules.Frames.{SnippetSettings};
@@ -57,6 +58,20 @@ pub fn marks_are_apart()
     ensures apart { (text : Text) (labels : List DrawnLabel) → AreApart 0 (marks text labels) }
     ensures anchors { (text : Text) (labels : List DrawnLabel) →
         AllByRecursion (λ mark. marks_at (anchor mark) (marks text labels) ≡ mark ∷ []) (marks text labels) }
+{}
+
+/// Where the labels at the end of a source are drawn, and one of them has a line of context, just these labels stand
+/// behind the text of the last line, each as an empty label that lies on that line alone; its mark begins behind the
+/// columns of the text. Where none of them has one, or no label is at the end, or the source is empty, the rows are
+/// those of before.
+pub fn ends_are_drawn()
+    ensures lines { (s : SnippetSettings) (bytes : List ℕ) (labels : List Label) → s.end_labels ≡ true →
+        some_shows_end s.context (length bytes) labels ≡ true → EndsStandBehind s bytes labels }
+    ensures marks { (text : Text) (labels : List DrawnLabel) → AreBehindText text labels }
+    ensures others { (ends : Bool) (s : SnippetSettings) (source : Source) (labels : List Label) (answers : Answers) →
+        some_shows_end s.context (length source.bytes) labels ≡ false →
+        snippet_rows (with_ends ends s) source labels answers
+        ≡ snippet_rows (with_ends false s) source labels answers }
 {}
 
 /// In the rows of each line of a snippet the text begins at one column, the mark row has the marks in their columns

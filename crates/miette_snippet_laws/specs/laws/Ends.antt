@@ -1,0 +1,34 @@
+-- Labels that begin where a source ends, as they are drawn.
+use Rattle.std.specs.Prelude.{ℕ, ◌≡◌, ◌≤◌, true, List, [], ◌∷◌, map, length, Bool, ◌&&◌}
+use Rattle.std.specs.List.{AllByRecursion}
+use Rattle.miette_newlines.specs.rules.Lines.{Line, lines_of}
+use Rattle.miette_protocol.specs.views.Meaning.{Label}
+use Rattle.miette_lines.specs.rules.Labels.{DrawnLabel, is_at_end, is_empty, is_one_line}
+use Rattle.miette_snippets.specs.rules.Frames.{SnippetSettings}
+use Rattle.miette_snippets.specs.rules.Marks.{Text, marks}
+use Rattle.miette_snippets.specs.rules.SnippetLayout.{drawn_labels}
+
+-- the last of some lines
+abbrev pub last_line : List Line → Line
+last_line [] = record { start = 0; text_end = 0; end = 0 }
+last_line (line ∷ []) = line
+last_line (line ∷ next ∷ lines) = last_line (next ∷ lines)
+
+-- whether a label stands behind a line's text, as an empty one that lies on this line alone
+abbrev pub stands_behind : Line → DrawnLabel → Bool
+stands_behind line label = label.behind && (is_empty label && is_one_line line label)
+
+-- just the labels that begin at the source's end stand behind the text of its last line
+abbrev pub EndsStandBehind : SnippetSettings → List ℕ → List Label → Type 0
+EndsStandBehind s bytes labels =
+    map (stands_behind (last_line (lines_of bytes))) (drawn_labels s (length bytes) labels)
+    ≡ map (is_at_end (length bytes)) labels
+
+-- the mark of a label that stands behind a line's text begins behind the columns of that text
+abbrev pub AreBehindText : Text → List DrawnLabel → Type 0
+AreBehindText text labels =
+    AllByRecursion (λ mark. mark.label.behind ≡ true → text.width ≤ mark.from) (marks text labels)
+
+-- the same settings, but for whether labels at the end are drawn
+abbrev pub with_ends : Bool → SnippetSettings → SnippetSettings
+with_ends ends s = record s { end_labels = ends }
