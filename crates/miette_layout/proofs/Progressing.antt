@@ -1,7 +1,7 @@
 -- Snippets one after the other, and what the whole gives.
 use Rattle.miette_page.proofs.Paging.{put_append, put_nil}
 use Rattle.miette_page.specs.views.Printouts.{Printout, ◌⊕◌}
-use Rattle.std.proofs.Common.{ℕ, zero, suc, ◌+◌, ◌<◌, ◌≤◌, ◌≡◌, Bool, true, false, cond, List, [], ◌∷◌, ◌++◌, length, map, drop, get_or, Option, Some, None, ◌||◌, refl, sym, ap, ap₂, ◌∙◌, subst, arith, All, append_assoc, append-nil}
+use Rattle.std.proofs.Common.{ℕ, zero, suc, ◌+◌, ◌<◌, ◌≤◌, ◌≡◌, Bool, true, false, cond, List, [], ◌∷◌, ◌++◌, length, map, drop, get_or, Option, Some, None, ◌&&◌, ◌||◌, refl, sym, ap, ap₂, ◌∙◌, subst, arith, All, append_assoc, append-nil}
 use Rattle.std.specs.Option.{option_map}
 use Rattle.std.specs.Prelude.{is_some, if◌then◌else◌}
 use Rattle.std.specs.Str.{chars}
@@ -9,7 +9,6 @@ use Rattle.std.proofs.lemmas.List.{drop_all, length-map}
 use Rattle.miette_newlines.specs.rules.Lines.{Line}
 use Rattle.miette_protocol.specs.views.Meaning.{Label}
 use Rattle.miette_protocol.specs.rules.Reading.{Span, Source, Contents}
-use Rattle.miette_style.specs.declared.style.Style.{Style}
 use Rattle.miette_style.specs.rules.Asked.{Call, Leads, restarted}
 use Rattle.miette_lines.specs.declared.grouping.Group.{Group}
 use Rattle.miette_lines.specs.declared.primary.Place.{Place as Found}
@@ -29,10 +28,10 @@ use Rattle.miette_lines.specs.views.Given.{drawn_of, label_at}
 use Rattle.miette_snippets.specs.rules.Gutters.{gutter_columns}
 use Rattle.miette_lines.specs.rules.Groups.{in_order, refusal, groups_of, some_fails, AreAccepted}
 use Rattle.miette_snippets.specs.rules.Highlighted.{EachHasPieces, SnippetsHavePieces, texts_of, line_calls, group_calls, snippet_calls}
-use Rattle.miette_lines.specs.rules.Labels.{DrawnLabel, drawn_from}
-use Rattle.miette_snippets.specs.rules.SnippetLayout.{snippet, all_snippets, line_rows, settings_around, rows_unless, place_of, body_rows}
+use Rattle.miette_lines.specs.rules.Labels.{DrawnLabel, drawn_from, some_shows_end}
+use Rattle.miette_snippets.specs.rules.SnippetLayout.{snippet, all_snippets, drawn_labels, line_rows, settings_around, rows_unless, place_of, body_rows}
 use Rattle.miette_drawing.specs.steps.Lent.{cells_in, lent_rows, lent_snippet, PutsRows}
-use Rattle.miette_lines.specs.views.Placing.{placed_from}
+use Rattle.miette_lines.specs.views.Placing.{told_end, placed_from}
 use Rattle.miette_lines.specs.views.Primary.{chosen, PointsTo, is_unread}
 use Rattle.miette_lines.specs.views.Read.{IsRead, IsLent, AreGroups, AreGrouped, IsUnread, AreRead, name_of}
 use Rattle.miette_page.specs.views.Told.{Token, told_rows}
@@ -40,8 +39,10 @@ use Rattle.miette_snippets.proofs.Bodies.{none_refused}
 use Rattle.miette_lines.proofs.Bodies.{some_none}
 use Rattle.miette_layout.proofs.Choosing.{framed_place, place_is, unread_fails}
 use Rattle.miette_snippets.proofs.Ends.{placed_drawn}
+use Rattle.miette_snippets.proofs.Endings.{told_is, drawn_around}
 use Rattle.miette_drawing.proofs.Styling.{none_have, snippets_plain, calls_plain}
-use Rattle.miette_drawing.proofs.Lending.{told_rows-append, lent_body, lent_texts, lent_texts_are}
+use Rattle.miette_lines.specs.views.Sweeping.{AreSorted}
+use Rattle.miette_drawing.proofs.Lending.{placed_sorted, told_rows-append, lent_body, lent_texts, lent_texts_are}
 use Rattle.miette_lines.proofs.Owning.{own_ordered}
 use Rattle.miette_lines.proofs.Refusing.{read_of, all_accepted}
 use Rattle.miette_lines.proofs.Sorting.{label_got}
@@ -62,7 +63,7 @@ pub none_drawn : (s : SnippetSettings) (source : Source) (labels : List Label) (
 none_drawn s source labels blank begun groups page = λ more h. (more, h, (λ later k. k), refl)
 
 snippet_same : (s : SnippetSettings) (source : Source) (labels : List Label) (span : Span) (drawn : List DrawnLabel) (lent : Contents) (place : Option Place) (pieces : List (List Highlight)) →
-    drawn ≡ drawn_from s.styles.highlights (length source.bytes) 0 labels → lent ≡ contents s.context source span → place ≡ place_of source span labels →
+    drawn ≡ drawn_labels s (length source.bytes) labels → lent ≡ contents s.context source span → place ≡ place_of source span labels →
     lent_snippet s drawn lent place pieces ≡ snippet s source labels span pieces
 snippet_same s source labels span drawn lent place pieces d l p =
     ap (λ c. lent_snippet s drawn c place pieces) l
@@ -99,7 +100,7 @@ drop_at (x ∷ xs) (suc i) d lt = let e : suc i + 1 ≡ suc (i + 1) = omega arit
 -- the rows of one group more
 group_step : (s : SnippetSettings) (source : Source) (labels : List Label) (groups : List Group) (i : ℕ) (group : Group) (pieces : List (List Highlight)) (later : List (List (List Highlight))) (page more : Printout) (drawn : List DrawnLabel) (place : Option Place) →
     spans_grouped (drop i groups) ≡ group.span ∷ spans_grouped (drop (i + 1) groups) → IsLent s.context source group.span group.contents →
-    drawn ≡ drawn_from s.styles.highlights (length source.bytes) 0 (in_order labels) → place ≡ place_of source group.span (in_order labels) →
+    drawn ≡ drawn_labels s (length source.bytes) (in_order labels) → place ≡ place_of source group.span (in_order labels) →
     more ≡ page ⊕ told_rows (lent_snippet s drawn group.contents place pieces) →
     more ⊕ told_rows (all_snippets s source (in_order labels) later (spans_grouped (drop (i + 1) groups))) ≡ page ⊕ told_rows (all_snippets s source (in_order labels) (pieces ∷ later) (spans_grouped (drop i groups)))
 group_step s source labels groups i group pieces later page more drawn place front lent d p e =
@@ -114,7 +115,7 @@ group_step s source labels groups i group pieces later page more drawn place fro
 
 pub drawn_more : (s : SnippetSettings) (source : Source) (labels : List Label) (blank : Bool) (begun was now : List Call → Type 0) (groups : List Group) (i : ℕ) (group : Group) (before page more : Printout) (drawn : List DrawnLabel) (place : Option Place) →
     AreDrawn s source labels blank begun was groups i before page → i < length groups → group ≡ get_or groups i group → IsLent s.context source group.span group.contents →
-    drawn ≡ drawn_from s.styles.highlights (length source.bytes) 0 (in_order labels) → place ≡ place_of source group.span (in_order labels) →
+    drawn ≡ drawn_labels s (length source.bytes) (in_order labels) → place ≡ place_of source group.span (in_order labels) →
     PutsRows blank (λ calls. Leads was (restarted group.contents ∷ calls) now) (lent_texts group.contents) (lent_snippet s drawn group.contents place) page more → AreDrawn s source labels blank begun now groups (i + 1) before more
 drawn_more s source labels blank begun was now groups i group before page more drawn place h lt is lent d p e = λ later own.
     let front : spans_grouped (drop i groups) ≡ group.span ∷ spans_grouped (drop (i + 1) groups) = ap spans_grouped (drop_at groups i group lt) ∙ ap (λ (g : Group). g.span ∷ spans_grouped (drop (i + 1) groups)) (sym is) in
@@ -241,10 +242,23 @@ gives_unread s source labels blank happen reads before order h g =
     }
 
 -- the labels as they are drawn, in order
-pub drawn_is : (styles : List Style) (context : ℕ) (source : Source) (labels : List Label) (reads : List ReadLabel) (placed : List Placed) → map (read_of labels) reads ≡ in_order labels →
-    All (IsRead context source labels) reads → placed ≡ placed_from styles 0 reads → map (drawn_of labels) placed ≡ drawn_from styles (length source.bytes) 0 (in_order labels)
-drawn_is styles context source labels reads placed order h e =
-    ap (map (drawn_of labels)) e ∙ placed_drawn styles context source labels 0 reads h ∙ ap (drawn_from styles (length source.bytes) 0) order
+pub drawn_is : (s : SnippetSettings) (source : Source) (labels : List Label) (reads : List ReadLabel) (end : Option ℕ) (placed : List Placed) → map (read_of labels) reads ≡ in_order labels →
+    All (IsRead s.context source labels) reads → end ≡ cond s.end_labels (told_end reads) None → placed ≡ placed_from end s.styles.highlights 0 reads →
+    map (drawn_of labels) placed ≡ drawn_labels (settings_around s (in_order labels)) (length source.bytes) (in_order labels)
+drawn_is s source labels reads end placed order h told e =
+    let n : ℕ = length source.bytes in
+    let ends : Bool = s.end_labels && some_shows_end s.context n (in_order labels) in
+    ap (map (drawn_of labels)) e
+    ∙ ap (λ x. map (drawn_of labels) (placed_from x s.styles.highlights 0 reads)) (told ∙ told_is s.end_labels s.context source labels reads h order)
+    ∙ placed_drawn ends s.styles.highlights s.context source labels 0 reads h ∙ ap (drawn_from ends s.styles.highlights n 0) order
+    ∙ sym (drawn_around s n (in_order labels))
+
+-- they come by offset
+pub placed_rise : (s : SnippetSettings) (source : Source) (labels : List Label) (reads : List ReadLabel) (end : Option ℕ) (placed : List Placed) → map (read_of labels) reads ≡ in_order labels →
+    All (IsRead s.context source labels) reads → end ≡ cond s.end_labels (told_end reads) None → placed ≡ placed_from end s.styles.highlights 0 reads → AreSorted placed
+placed_rise s source labels reads end placed order h told e =
+    subst (λ (ps : List Placed). AreSorted ps) (sym (e ∙ ap (λ x. placed_from x s.styles.highlights 0 reads) (told ∙ told_is s.end_labels s.context source labels reads h order)))
+    (placed_sorted (s.end_labels && some_shows_end s.context (length source.bytes) (in_order labels)) s.styles.highlights s.context source labels reads h order)
 
 pub place_ordered : (context : ℕ) (source : Source) (labels : List Label) (own : Bool) (group : Span) (reads : List ReadLabel) (found : Found) → own ≡ has_own labels → map (read_of labels) reads ≡ in_order labels →
     All (IsRead context source labels) reads → PointsTo source (chosen own group None reads) found → is_unread found ≡ false → framed_place found ≡ place_of source group (in_order labels)

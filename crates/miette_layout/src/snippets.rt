@@ -1,17 +1,18 @@
 //! The rows of a diagnostic's snippets.
 
-ghost use Rattle.std.specs.Prelude.{◌≡◌, [], List, Some, map, IfOk, MatchResult};
+ghost use Rattle.std.specs.Prelude.{◌≡◌, [], List, Some, None, map, IfOk, MatchResult, if◌then◌else◌};
 ghost use Rattle.std.specs.List.{All};
 ghost use Rattle.miette_layout.specs.views.Drawn.{MayGive, RefusesWith};
 ghost use Rattle.miette_snippets.specs.views.ThemeSettings.{settings_of};
 ghost use Rattle.miette_lines.specs.views.Given.{label_at};
 ghost use Rattle.miette_lines.specs.rules.Groups.{in_order};
 ghost use Rattle.miette_snippets.specs.rules.Highlighted.{AreCallsOn, leaves_plain};
+ghost use Rattle.miette_lines.specs.views.Placing.{told_end};
 ghost use Rattle.miette_lines.specs.views.Read.{IsRead, name_of as name_of_reason};
 
 use miette_drawing::frame::{Frame, push_refused_row};
 use miette_drawing::snippet::{Drawing, Passage, push_snippet};
-use miette_lines::drawn_labels::placed_labels;
+use miette_lines::drawn_labels::{placed_labels, told_end};
 use miette_lines::grouping::groups;
 use miette_lines::order::by_offset;
 use miette_lines::primary::{near, place_of};
@@ -36,6 +37,16 @@ fn name_of(refusal: Refusal) -> &'static str
     }
 }
 
+// Where the source ends, if that is wanted and the labels' reads tell.
+fn end_wanted(wanted: bool, reads: &[ReadLabel<'_>]) -> Result<Option<usize>, AllocError>
+    ensures { IfOk result (λ end. end ≡ (if wanted then told_end reads.now else None)) }
+{
+    if !wanted {
+        return Ok(None);
+    }
+    told_end(reads)
+}
+
 // The snippets of labels that were read, or none where the read of a group or of some place failed.
 fn read_snippets<'a, 'b, S: SourceCode, H: Highlighter, O: Canvas + Drop>(
     highlighter: &mut Option<H>,
@@ -53,7 +64,8 @@ fn read_snippets<'a, 'b, S: SourceCode, H: Highlighter, O: Canvas + Drop>(
     ensures stays { leaves_plain H.is_blank highlighter.new ≡ leaves_plain H.is_blank highlighter.old }
 {
     let alloc = look.alloc;
-    let placed = placed_labels(alloc, &look.theme.styles.highlights, reads)?;
+    let end = end_wanted(look.options.end_labels, reads)?;
+    let placed = placed_labels(alloc, &look.theme.styles.highlights, end, reads)?;
     let Some(groups) = groups(alloc, source, look.options.context_lines, labels, reads)? else {
         return Ok(None);
     };

@@ -1,6 +1,5 @@
 use Rattle.std.proofs.Common.{rules, refl, ap, sym, ◌∙◌, ◌∷◌, map, List, Option, subst}
 use Rattle.std.specs.Option.{option_map}
-use Rattle.miette_lines.specs.declared.sweep.Placed.{Placed}
 use Rattle.miette_protocol.specs.rules.Reading.{Span}
 use Rattle.miette_drawing.specs.steps.Framed.{place_at}
 use Rattle.miette_lines.specs.rules.Around.{group_context}
@@ -13,11 +12,10 @@ use Rattle.miette_drawing.specs.steps.Lent.{PutsRows, lent_snippet}
 use Rattle.miette_lines.specs.views.Placing.{placed_from}
 use Rattle.miette_lines.specs.views.Primary.{PointsTo}
 use Rattle.miette_lines.specs.views.Read.{AreGroups}
-use Rattle.miette_lines.specs.views.Sweeping.{AreSorted}
-use Rattle.miette_drawing.proofs.Lending.{placed_sorted, lent_texts}
+use Rattle.miette_drawing.proofs.Lending.{lent_texts}
 use Rattle.miette_style.specs.rules.Asked.{Call, Leads, restarted}
 use Rattle.miette_layout.proofs.Nearing.{reads_rise}
-use Rattle.miette_layout.proofs.Progressing.{none_drawn, drawn_more, all_drawn, gives_rows, gives_none, drawn_is, place_ordered, groups_lent, puts_around, are_grouped, none_grouped, gives_unread}
+use Rattle.miette_layout.proofs.Progressing.{none_drawn, drawn_more, all_drawn, gives_rows, gives_none, drawn_is, placed_rise, place_ordered, groups_lent, puts_around, are_grouped, none_grouped, gives_unread}
 use Rattle.miette_layout.proofs.snippets.read_snippets.Goals as goal
 
 pub near-requires : goal.near-requires
@@ -37,8 +35,8 @@ returns-in_default-clause-gives g c =
 
 pub push_snippet-requires-clause-sorted : goal.push_snippet-requires-clause-sorted
 push_snippet-requires-clause-sorted g c =
-    subst (λ (ps : List Placed). AreSorted ps) (sym (c.deref-2.ensures.value ∙ c.in_ok-placed.ensures))
-    (placed_sorted c.deref.result.now c.args.look.now.options.context_lines (g.S.SourceCode.source c.args.source.now) c.args.labels.now c.args.reads.now c.requires.each c.requires.order)
+    placed_rise (settings_of c.args.look.now.theme.now c.args.look.now.options) (g.S.SourceCode.source c.args.source.now) c.args.labels.now c.args.reads.now c.in_ok-end.end c.deref-2.result.now c.requires.order c.requires.each c.in_ok-end.ensures
+    (c.deref-2.ensures.value ∙ c.in_ok-placed.ensures ∙ ap (λ styles. placed_from c.in_ok-end.end styles 0 c.args.reads.now) c.deref.ensures.value)
 
 pub loop-group-init : goal.loop-group-init
 loop-group-init g c = record {
@@ -63,8 +61,8 @@ loop-group-preserved g c =
       drawn = drawn_more (settings_around (settings_of c.args.look.now.theme.now c.args.look.now.options) (in_order c.args.labels.now)) (g.S.SourceCode.source c.args.source.now) c.args.labels.now blank (follows g.H.Highlighter.may_follow c.args.highlighter.now) was now c.deref-group-items.result.now c.loop-group.group-index c.group-item.result c.args.page c.loop-group.page c.push_snippet.new.page
           (map (drawn_of c.args.labels.now) c.deref-2.result.now) (option_map place_at c.begins.result)
           c.loop-group.invariant.drawn c.loop-group-test.true c.group-item.is (groups_lent c.args.look.now.options.context_lines (g.S.SourceCode.source c.args.source.now) (in_order c.args.labels.now) c.deref-group-items.result.now c.loop-group.group-index c.group-item.result grouped c.loop-group-test.true c.group-item.is)
-          (drawn_is c.args.look.now.theme.now.styles.highlights.items c.args.look.now.options.context_lines (g.S.SourceCode.source c.args.source.now) c.args.labels.now c.args.reads.now c.deref-2.result.now c.requires.order c.requires.each
-          (c.deref-2.ensures.value ∙ c.in_ok-placed.ensures ∙ ap (λ styles. placed_from styles 0 c.args.reads.now) c.deref.ensures.value))
+          (drawn_is (settings_of c.args.look.now.theme.now c.args.look.now.options) (g.S.SourceCode.source c.args.source.now) c.args.labels.now c.args.reads.now c.in_ok-end.end c.deref-2.result.now c.requires.order c.requires.each c.in_ok-end.ensures
+          (c.deref-2.ensures.value ∙ c.in_ok-placed.ensures ∙ ap (λ styles. placed_from c.in_ok-end.end styles 0 c.args.reads.now) c.deref.ensures.value))
           (ap (option_map place_at) c.begins.ensures ∙ place_ordered c.args.look.now.options.context_lines (g.S.SourceCode.source c.args.source.now) c.args.labels.now c.some_own-own.result c.group-item.result.span c.args.reads.now c.in_ok-place.place c.some_own-own.ensures c.requires.order c.requires.each (subst (λ (o : Option Span). PointsTo (g.S.SourceCode.source c.args.source.now) o c.in_ok-place.place) c.in_ok-near.ensures c.in_ok-place.ensures)
           (sym c.is_unread.ensures ∙ c.if-is_unread.false))
           around;
