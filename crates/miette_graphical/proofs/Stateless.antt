@@ -12,12 +12,12 @@ use Rattle.miette_lines.specs.rules.Answers.{Highlight, first_of, later_of}
 use Rattle.miette_lines.specs.rules.Around.{group_context}
 use Rattle.miette_lines.specs.rules.Contexts.{contents, lines_of_contents}
 use Rattle.miette_lines.specs.rules.Groups.{Refusal, refusal, groups_of, in_order}
-use Rattle.miette_lines.specs.rules.Labels.{DrawnLabel, drawn_from}
+use Rattle.miette_lines.specs.rules.Labels.{DrawnLabel}
 use Rattle.miette_snippets.specs.rules.Frames as frames
 use Rattle.miette_snippets.specs.rules.Frames.{refused_row, top_row, bottom_row, number_width}
 use Rattle.miette_snippets.specs.rules.Gutters.{gutter_columns}
 use Rattle.miette_snippets.specs.rules.Highlighted.{group_calls, highlight_of, line_calls, piece_of, pieces_by, texts_of}
-use Rattle.miette_snippets.specs.rules.SnippetLayout.{all_snippets, cells_of, line_rows, place_of, rows_of_lines, rows_unless, settings_around, snippet_rows}
+use Rattle.miette_snippets.specs.rules.SnippetLayout.{all_snippets, cells_of, drawn_labels, line_rows, place_of, rows_of_lines, rows_unless, settings_around, snippet_rows}
 use Rattle.miette_tree.specs.rules.DiagnosticParts.{given_labels}
 use Rattle.miette_tree.specs.rules.Tree.{Tree, tree, Cause, diagnostic, texts, Trees, no_trees, more_trees, effective}
 use Rattle.miette_tree.specs.views.Handler.{AppendsOne}
@@ -60,7 +60,7 @@ snippets_by : (f : List ℕ → List Piece) (s : frames.SnippetSettings) (source
 snippets_by f s source labels pieces [] h = refl
 snippets_by f s source labels pieces (group ∷ groups) h =
     let lent : Contents = contents s.context source group in
-    let drawn : List DrawnLabel = drawn_from s.styles.highlights (length source.bytes) 0 labels in
+    let drawn : List DrawnLabel = drawn_labels s (length source.bytes) labels in
     let k = parts_by f (line_calls (texts_of source.bytes (lines_of_contents lent)) (first_of pieces)) (group_calls s.context source groups (later_of pieces)) h in
     ap₂ (λ rows more. (top_row s lent (place_of source group labels) ∷ rows ++ bottom_row s (number_width lent) ∷ []) ++ more)
     (lines_by f s (number_width lent) (gutter_columns drawn (lines_of_contents lent)) drawn source.bytes (lent.line + 1) (first_of pieces) (lines_of_contents lent) k.0)

@@ -27,6 +27,7 @@ pub struct GraphicalReportHandler<H = Box<dyn Highlighter>> {
     tab_width: usize,
     context_lines: usize,
     primary_span_start: bool,
+    end_labels: bool,
     urls: UrlMode,
     link_display_text: Option<String>,
     cause_chain: bool,
@@ -56,6 +57,7 @@ impl<H> Model for GraphicalReportHandler<H> {
         tab = it.tab_width;
         context = it.context_lines;
         primary_start = it.primary_span_start;
+        end_labels = it.end_labels;
         urls = urls_of it.urls;
         link_text = chars (option_map_or string_bytes it.link_display_text (codes "(link)"));
         chain = it.cause_chain;
@@ -85,8 +87,8 @@ impl GraphicalReportHandler {
     }
 
     /// A handler with this theme: links on, 200 columns wide, one line of context, tabs to each fourth column, with
-    /// causes, wrapped rows, words broken where they are too wide, the place of the primary label in a frame, and
-    /// related reports one after another.
+    /// causes, wrapped rows, words broken where they are too wide, the place of the primary label in a frame, no labels
+    /// at the end of a source, and related reports one after another.
     pub fn new_themed(theme: GraphicalTheme) -> Self
         ensures { result
             ≡ without_highlighter (default_settings (characters_of theme.characters) (styles_of theme.styles)) }
@@ -107,6 +109,7 @@ impl<H: Highlighter> GraphicalReportHandler<H> {
             tab_width: 4,
             context_lines: 1,
             primary_span_start: true,
+            end_labels: false,
             urls: UrlMode::Links,
             link_display_text: None,
             cause_chain: true,
@@ -195,6 +198,23 @@ impl<H: Highlighter> GraphicalReportHandler<H> {
             primary_span_start,
             ..self
         }
+    }
+
+    /// A label at the end of a source that isn't empty is drawn, behind the text of the last line, where it or another
+    /// label there has at least one line of context.
+    pub fn with_end_labels(self) -> Self
+        ensures { result ≡ record self { settings = record self.settings { end_labels = true } } }
+    {
+        let end_labels = true;
+        GraphicalReportHandler { end_labels, ..self }
+    }
+
+    /// A label at the end of a source isn't drawn.
+    pub fn without_end_labels(self) -> Self
+        ensures { result ≡ record self { settings = record self.settings { end_labels = false } } }
+    {
+        let end_labels = false;
+        GraphicalReportHandler { end_labels, ..self }
     }
 
     /// Draws with this theme.

@@ -9,7 +9,7 @@ ghost use Rattle.miette_graphical.specs.laws.Alike.{AreAnsweredAlike, AreDrawnAl
 ghost use Rattle.miette_graphical.specs.laws.Colourless.{AreSnippets, IsColouredText, IsRestyledText};
 ghost use Rattle.miette_graphical.specs.laws.Colourless.{colourless, unhighlighted};
 ghost use Rattle.std.specs.List.{AllByRecursion, Contains};
-ghost use Rattle.miette_graphical.specs.laws.Headline.{LinesAreShown, MarksAreApart, TextsHang};
+ghost use Rattle.miette_graphical.specs.laws.Headline.{EndsAreDrawn, LinesAreShown, MarksAreApart, TextsHang};
 ghost use Rattle.miette_graphical.specs.rules.DiagnosticText.{SnippetRows};
 ghost use Rattle.miette_graphical.specs.laws.Paths.{HasPath, Step, printed_at};
 ghost use Rattle.miette_graphical.specs.laws.Shipped.{AreNarrow, AreShipped};
@@ -24,8 +24,8 @@ ghost use Rattle.miette_runs.specs.rules.Sequences.{erase};
 ghost use Rattle.miette_text.specs.rules.Tame.{IsTame};
 
 use miette_layout::laws::{
-    groups_are_runs, marks_are_apart, rows_fade, rows_hold_no_escape, runs_are_maximal,
-    snippets_draw_runs, texts_hang,
+    ends_are_drawn, groups_are_runs, marks_are_apart, rows_fade, rows_hold_no_escape,
+    runs_are_maximal, snippets_draw_runs, texts_hang,
 };
 use miette_text::wrap::laws::{
     columns_law, cutting_law, encoding_law, joining_law, printing_law, wrapping_law,
@@ -83,18 +83,20 @@ pub fn erasing_law()
     rows_fade();
 }
 
-/// The snippets of each printed diagnostic show the lines in the context of its labels, its marks are apart, and each
-/// text hangs from its own mark.
+/// The snippets of each printed diagnostic show the lines in the context of its labels, its marks are apart, each text
+/// hangs from its own mark, and labels at the end of a source stand behind its last line where they are drawn.
 pub fn snippets_law()
     ensures lines { (s : Settings) (t : Tree) → AllByRecursion (LinesAreShown s) (printed s t) }
     ensures marks { (s : Settings) (t : Tree) → AllByRecursion (MarksAreApart s) (printed s t) }
     ensures texts { (s : Settings) (t : Tree) → AllByRecursion (TextsHang s) (printed s t) }
+    ensures ends { (s : Settings) (t : Tree) → AllByRecursion (EndsAreDrawn s) (printed s t) }
 {
     snippets_draw_runs();
     groups_are_runs();
     runs_are_maximal();
     marks_are_apart();
     texts_hang();
+    ends_are_drawn();
 }
 
 /// The printed diagnostics are those that stand at a path from the outermost one: by steps to a cause where causes

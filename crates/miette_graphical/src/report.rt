@@ -105,6 +105,7 @@ fn push_drawn<S: SourceCode, H: Highlighter>(
             tab_width: layout.tab,
             context_lines: layout.context,
             primary_start: layout.primary_start,
+            end_labels: layout.end_labels,
         },
     };
     let page = Page::over(mem::replace(out, Output::for_text(pen.alloc)));

@@ -28,6 +28,7 @@ pub struct Layout<'a> {
     pub tab: usize,
     pub context: usize,
     pub primary_start: bool,
+    pub end_labels: bool,
     pub urls: UrlMode,
     pub link_text: &'a str,
     pub chain: bool,

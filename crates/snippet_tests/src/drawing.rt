@@ -19,6 +19,7 @@ pub(crate) const OPTIONS: LayoutOptions = LayoutOptions {
     tab_width: 4,
     context_lines: 1,
     primary_start: true,
+    end_labels: false,
 };
 
 /// Nine lines of a digit each.

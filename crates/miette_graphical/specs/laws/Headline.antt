@@ -10,10 +10,12 @@ use Rattle.miette_lines.specs.rules.Contexts.{contents}
 use Rattle.miette_snippets.specs.rules.Frames as frames
 use Rattle.miette_lines.specs.rules.Groups as grouping
 use Rattle.miette_lines.specs.rules.Groups.{AreAccepted, in_order, lines_of_groups}
-use Rattle.miette_lines.specs.rules.Labels.{DrawnLabel, drawn_from}
+use Rattle.miette_lines.specs.rules.Labels.{DrawnLabel, some_shows_end}
+use Rattle.miette_snippets.specs.rules.SnippetLayout as layout
 use Rattle.miette_snippets.specs.rules.SnippetLayout.{cells_of, settings_around}
 use Rattle.miette_snippets.specs.rules.Marks.{Mark, anchor, marks_at, AreApart}
 use Rattle.miette_snippets.specs.rules.Numbers.{runs, IsRun, AreParted}
+use Rattle.miette_snippet_laws.specs.laws.Ends.{EndsStandBehind}
 use Rattle.miette_snippet_laws.specs.laws.Pictures.{BodyShows, marks_of_line}
 use Rattle.miette_snippets.specs.rules.Shown.{framed_runs, line_at}
 use Rattle.miette_snippets.specs.rules.Snippets.{shown, snippets}
@@ -63,7 +65,8 @@ LinesAreShown s p =
 
 -- the labels as they are drawn, by offset
 abbrev pub drawn_labels : Settings → Source → List Label → List DrawnLabel
-drawn_labels s source labels = drawn_from s.styles.highlights (length source.bytes) 0 (in_order labels)
+drawn_labels s source labels =
+    layout.drawn_labels (group_settings s labels) (length source.bytes) (in_order labels)
 
 -- the marks of line k: of the labels that lie on it alone
 abbrev pub marks_under : Settings → Source → List Label → ℕ → List Mark
@@ -98,3 +101,15 @@ TextsHang s p =
     IfSome p.source (λ source.
     AreNarrow s.characters → AllByRecursion (SnippetHangs s source (given_labels p.meaning.labels))
     (groups_of s source (given_labels p.meaning.labels)))
+
+-- ---- labels at the end of the source
+
+-- where labels at the end are drawn, and one of them has a line of context, just these stand behind the text of the
+-- last line
+abbrev pub EndsAreDrawn : Settings → Printed → Type 0
+EndsAreDrawn s p =
+    IfSome p.source (λ source. s.end_labels ≡ true →
+    some_shows_end (group_settings s (given_labels p.meaning.labels)).context (length source.bytes)
+    (in_order (given_labels p.meaning.labels)) ≡ true →
+    EndsStandBehind (group_settings s (given_labels p.meaning.labels)) source.bytes
+    (in_order (given_labels p.meaning.labels)))

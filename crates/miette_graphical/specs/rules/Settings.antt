@@ -18,6 +18,7 @@ pub record Settings : Type 0 where
   pub tab : ℕ
   pub context : ℕ
   pub primary_start : Bool
+  pub end_labels : Bool
   pub urls : Urls
   pub link_text : List ℕ
   pub chain : Bool
@@ -55,6 +56,7 @@ default_settings characters styles = record {
   tab = 4;
   context = 1;
   primary_start = true;
+  end_labels = false;
   urls = AsLinks;
   link_text = chars (codes "(link)");
   chain = true;

@@ -23,6 +23,7 @@ layout_settings s = record {
   tab = s.tab;
   context = s.context;
   primary_start = s.primary_start;
+  end_labels = s.end_labels;
 }
 
 -- a run's characters, as their bytes read

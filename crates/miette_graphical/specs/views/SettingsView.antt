@@ -13,6 +13,7 @@ settings_of l = record {
   tab = l.tab;
   context = l.context;
   primary_start = l.primary_start;
+  end_labels = l.end_labels;
   urls = urls_of l.urls;
   link_text = chars l.link_text.now;
   chain = l.chain;

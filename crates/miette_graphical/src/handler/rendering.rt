@@ -10,7 +10,7 @@ ghost use Rattle.miette_graphical.specs.laws.Clean.{AreCleanSettings, IsCleanTre
 ghost use Rattle.miette_graphical.specs.laws.Colourless.{IsColouredText, IsRestyledText, colourless};
 ghost use Rattle.miette_tree.specs.views.Handler.{AppendsOne};
 ghost use Rattle.miette_graphical.specs.views.Handling.{AreCallsOf, draws_plain, follows_of};
-ghost use Rattle.miette_graphical.specs.laws.Headline.{LinesAreShown, MarksAreApart, TextsHang};
+ghost use Rattle.miette_graphical.specs.laws.Headline.{EndsAreDrawn, LinesAreShown, MarksAreApart, TextsHang};
 ghost use Rattle.miette_graphical.specs.rules.Printed.{all_read, printed};
 ghost use Rattle.miette_graphical.specs.rules.Snippets.{drawn_rows};
 ghost use Rattle.miette_graphical.specs.rules.Text.{report_text};
@@ -62,6 +62,7 @@ impl<H: Highlighter> GraphicalReportHandler<H> {
             tab: self.tab_width,
             context: self.context_lines,
             primary_start: self.primary_span_start,
+            end_labels: self.end_labels,
             urls: self.urls,
             link_text: self.link_text(),
             chain: self.cause_chain,
@@ -161,10 +162,14 @@ impl<H: Highlighter> GraphicalReportHandler<H> {
         ensures marks { let tree = tree_of ⟦<Box<dyn Diagnostic> as Diagnostic>⟧.meaning
             ⟦<Box<dyn SourceCode> as SourceCode>⟧.source report.now in
             OnOk result (AllByRecursion (MarksAreApart self.old.settings) (printed self.old.settings tree)) }
-        // and each text of a label on one line hangs from its own mark
+        // each text of a label on one line hangs from its own mark,
         ensures texts { let tree = tree_of ⟦<Box<dyn Diagnostic> as Diagnostic>⟧.meaning
             ⟦<Box<dyn SourceCode> as SourceCode>⟧.source report.now in
             OnOk result (AllByRecursion (TextsHang self.old.settings) (printed self.old.settings tree)) }
+        // and where labels at the end of its source are drawn, just these stand behind the text of the last line
+        ensures ends { let tree = tree_of ⟦<Box<dyn Diagnostic> as Diagnostic>⟧.meaning
+            ⟦<Box<dyn SourceCode> as SourceCode>⟧.source report.now in
+            OnOk result (AllByRecursion (EndsAreDrawn self.old.settings) (printed self.old.settings tree)) }
         ensures refused { let tree = tree_of ⟦<Box<dyn Diagnostic> as Diagnostic>⟧.meaning
             ⟦<Box<dyn SourceCode> as SourceCode>⟧.source report.now in
             (result ≡ Err RenderError.Refused) → all_read (printed self.old.settings tree) ≡ false }

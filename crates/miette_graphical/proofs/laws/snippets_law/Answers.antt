@@ -1,8 +1,9 @@
 use Rattle.std.proofs.Common.{List, [], ◌∷◌, Option, Some, None, IfSome, ap}
 use Rattle.std.specs.List.{AllByRecursion}
 use Rattle.miette_lines.specs.rules.Contexts.{contents}
+use Rattle.miette_lines.specs.rules.Groups.{in_order}
 use Rattle.miette_graphical.specs.rules.Answers.{pieces_listed}
-use Rattle.miette_graphical.specs.laws.Headline.{LinesAreShown, MarksAreApart, TextsHang, SnippetHangs, drawn_labels, groups_of, group_settings, shown_lines}
+use Rattle.miette_graphical.specs.laws.Headline.{EndsAreDrawn, LinesAreShown, MarksAreApart, TextsHang, SnippetHangs, drawn_labels, groups_of, group_settings, shown_lines}
 use Rattle.miette_tree.specs.rules.DiagnosticParts.{given_labels}
 use Rattle.miette_graphical.specs.rules.Printed.{printed}
 use Rattle.miette_graphical.specs.rules.Snippets.{layout_settings, shown_rows}
@@ -43,3 +44,8 @@ returns-clause-texts c = λ s t. each (TextsHang s) (λ p.
     if_some _ (λ source narrow. each (SnippetHangs s source labels)
     (λ group pieces. c.texts_hang.ensures (group_settings s labels) (drawn_labels s source labels) source.bytes (contents (group_settings s labels).context source group) pieces (is_narrow s.characters narrow))
     (groups_of s source labels)) p.source) (printed s t)
+
+pub returns-clause-ends : goal.returns-clause-ends
+returns-clause-ends c = λ s t. each (EndsAreDrawn s) (λ p.
+    let labels = given_labels p.meaning.labels in
+    if_some _ (λ source on shows. c.ends_are_drawn.ensures.lines (group_settings s labels) source.bytes (in_order labels) on shows) p.source) (printed s t)
