@@ -43,7 +43,7 @@ text_there None = refl
 text_there (Some label) = refl
 
 told_one : (context : ℕ) (source : Source) (labels : List Label) (i : ℕ) (r : ReadLabel) → Reaches → IsRead context source labels r →
-    told_of labels (placed_one [] i r) ≡ told (length source.bytes) (label_of_read labels r)
+    told_of labels (placed_one None [] i r) ≡ told (length source.bytes) (label_of_read labels r)
 told_one context source labels i r law h =
     let l = label_of_read labels r in
     let n = length source.bytes in
@@ -63,14 +63,14 @@ All-head : {X : Type 0} (P : X → Type 0) (x : X) (xs : List X) → All P (x �
 All-head P x xs h = h 0 x (omega arith)
 
 told_reads : (context : ℕ) (source : Source) (labels : List Label) (i : ℕ) (rs : List ReadLabel) → Reaches → All (IsRead context source labels) rs →
-    all_told labels (placed_from [] i rs) ≡ map (told (length source.bytes)) (map (label_of_read labels) rs)
+    all_told labels (placed_from None [] i rs) ≡ map (told (length source.bytes)) (map (label_of_read labels) rs)
 told_reads context source labels i [] law h = refl
 told_reads context source labels i (r ∷ rs) law h =
     ap₂ (λ x xs. x ∷ xs) (told_one context source labels i r law (All-head (IsRead context source labels) r rs h))
     (told_reads context source labels (i + 1) rs law (All-tail (IsRead context source labels) r rs h))
 
 pub told_in_order : (context : ℕ) (source : Source) (labels : List Label) (rs : List ReadLabel) (ps : List Placed) → Reaches → All (IsRead context source labels) rs → map (label_of_read labels) rs ≡ in_order labels →
-    ps ≡ placed_from [] 0 rs → all_told labels ps ≡ map (told (length source.bytes)) (in_order labels)
+    ps ≡ placed_from None [] 0 rs → all_told labels ps ≡ map (told (length source.bytes)) (in_order labels)
 told_in_order context source labels rs ps law h order e =
     ap (all_told labels) e ∙ told_reads context source labels 0 rs law h ∙ ap (map (told (length source.bytes))) order
 
@@ -92,7 +92,7 @@ order_rises [] = tt
 order_rises (l ∷ ls) = put_rises 0 l (in_order ls) (omega arith) (order_rises ls)
 
 ordered_reads : (context : ℕ) (source : Source) (labels : List Label) (i from : ℕ) (rs : List ReadLabel) → All (IsRead context source labels) rs → Rises from (map (label_of_read labels) rs) →
-    AreOrdered (placed_from [] i rs) × BeginsFrom from (placed_from [] i rs)
+    AreOrdered (placed_from None [] i rs) × BeginsFrom from (placed_from None [] i rs)
 ordered_reads context source labels i from [] h up = (tt, tt)
 ordered_reads context source labels i from (r ∷ rs) h up =
     let start : r.span.offset ≡ (label_of_read labels r).span.offset = ap (λ s. s.offset) (All-head (IsRead context source labels) r rs h).span in
@@ -101,7 +101,7 @@ ordered_reads context source labels i from (r ∷ rs) h up =
     ((omega arith, more.1, more.0), omega (arith, start, up.0))
 
 pub placed_ordered : (context : ℕ) (source : Source) (labels : List Label) (rs : List ReadLabel) (ps : List Placed) → All (IsRead context source labels) rs → map (label_of_read labels) rs ≡ in_order labels →
-    ps ≡ placed_from [] 0 rs → AreOrdered ps
+    ps ≡ placed_from None [] 0 rs → AreOrdered ps
 placed_ordered context source labels rs ps h order e =
     subst (λ (xs : List Placed). AreOrdered xs) (sym e)
     (ordered_reads context source labels 0 0 rs h (subst (λ (ls : List Label). Rises 0 ls) (sym order) (order_rises labels))).0
@@ -135,7 +135,7 @@ groups_end context source labels gs i out goal le h =
     sym (append-nil out) ∙ ap (λ xs. out ++ snippets_of context source labels (map (λ g. g.span) xs)) (sym (drop_all i gs le)) ∙ h
 
 pub snippets_told : (context : ℕ) (source : Source) (labels : List Label) (rs : List ReadLabel) (ps : List Placed) (gs : List Group) (old new : List ℕ) → Reaches → All (IsRead context source labels) rs →
-    map (label_of_read labels) rs ≡ in_order labels → ps ≡ placed_from [] 0 rs → AreGroups context source (in_order labels) gs →
+    map (label_of_read labels) rs ≡ in_order labels → ps ≡ placed_from None [] 0 rs → AreGroups context source (in_order labels) gs →
     new ≡ old ++ snippets_of (group_context context (in_order labels)) source (all_told labels ps) (map (λ g. g.span) gs) → AppendsSnippets context (Some source) labels old new
 snippets_told context source labels rs ps gs old new law h order e are text =
     let fails = are.fails in

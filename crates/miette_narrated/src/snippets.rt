@@ -99,7 +99,7 @@ fn push_read<'a, S: SourceCode>(
     ensures refused { (result ≡ Err RenderError.Refused) → accepts (Some (S.source source.now)) labels.now ≡ false }
 {
     data_reach_the_span();
-    let placed = placed_labels(alloc, &[], reads)?;
+    let placed = placed_labels(alloc, &[], None, reads)?;
     let Some(groups) = groups(alloc, source, context, labels, reads)? else {
         return Err(RenderError::Refused);
     };
