@@ -60,6 +60,7 @@ pub struct MietteHandlerOpts<H = Box<dyn Highlighter>> {
     break_words: Option<bool>,
     word_separator: Option<WordSeparator>,
     word_splitter: Option<WordSplitter>,
+    end_labels: Option<bool>,
     highlighter: Option<H>,
 }
 
@@ -89,6 +90,7 @@ impl<H> Model for MietteHandlerOpts<H> {
       wraps = it.wrap_lines;
       breaks = it.break_words;
       hyphens = option_map splits it.word_splitter;
+      end_labels = it.end_labels;
       highlighter = it.highlighter;
     } };
 
@@ -121,6 +123,7 @@ impl<H> Default for MietteHandlerOpts<H> {
             break_words: None,
             word_separator: None,
             word_splitter: None,
+            end_labels: None,
             highlighter: None,
         }
     }
@@ -303,6 +306,15 @@ impl<H: Highlighter> MietteHandlerOpts<H> {
         ensures { result ≡ record self { context = Some lines } }
     {
         self.context_lines = Some(lines);
+        self
+    }
+
+    /// Whether a label at the end of a source that isn't empty is drawn in pictures, behind the text of the last line;
+    /// else it isn't.
+    pub fn end_labels(mut self, drawn: bool) -> Self
+        ensures { result ≡ record self { end_labels = Some drawn } }
+    {
+        self.end_labels = Some(drawn);
         self
     }
 

@@ -135,6 +135,7 @@ fn options_with(
         OptionAsked::Hyphens(false) => options.word_splitter(WordSplitter::NoHyphenation),
         OptionAsked::Nested(true) => options.show_related_errors_as_nested(),
         OptionAsked::Nested(false) => options.show_related_errors_as_siblings(),
+        OptionAsked::EndLabels(drawn) => options.end_labels(drawn),
         OptionAsked::Rgb(colors) => options.rgb_colors(colors),
         OptionAsked::Footer(text) => options.footer(String::from_str(alloc, text)?),
         OptionAsked::Highlight(language) => {

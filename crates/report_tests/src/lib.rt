@@ -14,6 +14,8 @@ mod drops;
 #[cfg(test)]
 mod edges;
 #[cfg(test)]
+mod end_labels;
+#[cfg(test)]
 mod first_chapter;
 #[cfg(test)]
 mod highlighting;

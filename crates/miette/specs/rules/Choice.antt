@@ -70,6 +70,7 @@ drawn o t =
       wraps = unwrap_or o.wraps default.wraps;
       breaks = unwrap_or o.breaks default.breaks;
       hyphens = unwrap_or o.hyphens default.hyphens;
+      end_labels = unwrap_or o.end_labels default.end_labels;
       footer = option_or (option_map chars o.footer) default.footer;
     }
 

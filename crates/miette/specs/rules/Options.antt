@@ -22,6 +22,7 @@ pub record Options (H : Type 0) : Type 0 where
   pub wraps : Option Bool
   pub breaks : Option Bool
   pub hyphens : Option Bool
+  pub end_labels : Option Bool
   pub highlighter : Option H
 
 abbrev pub no_options : {H : Type 0} → Options H
@@ -43,5 +44,6 @@ no_options = record {
   wraps = None;
   breaks = None;
   hyphens = None;
+  end_labels = None;
   highlighter = None;
 }

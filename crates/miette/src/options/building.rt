@@ -69,6 +69,7 @@ impl<H: Highlighter> MietteHandlerOpts<H> {
             .with_width(self.chosen_width(terminal))
             .with_links(self.shows_links(terminal));
         let handler = self.with_tabs_and_related(handler);
+        let handler = self.with_end_labels(handler);
         let handler = self.with_wrapping(handler);
         let handler = self.with_highlighter(handler, terminal);
         Ok(self.with_parts(handler))
@@ -189,6 +190,20 @@ impl<H: Highlighter> MietteHandlerOpts<H> {
         };
         match self.related_as_nested {
             Some(nested) => handler.with_show_related_as_nested(nested),
+            None => handler,
+        }
+    }
+
+    fn with_end_labels(&self, handler: GraphicalReportHandler<H>) -> GraphicalReportHandler<H>
+        ensures { result ≡ record handler {
+          settings = record handler.settings {
+            end_labels = unwrap_or self.now.end_labels handler.settings.end_labels;
+          };
+        } }
+    {
+        match self.end_labels {
+            Some(true) => handler.with_end_labels(),
+            Some(false) => handler.without_end_labels(),
             None => handler,
         }
     }

@@ -35,6 +35,7 @@ pub data OptionAsk : Type 0 where
   Wrap : Bool → OptionAsk
   Hyphens : Bool → OptionAsk
   Nested : Bool → OptionAsk
+  EndLabels : Bool → OptionAsk
   Rgb : RgbColors → OptionAsk
   Footer : List ℕ → OptionAsk
   Highlighted : Language → OptionAsk
@@ -88,8 +89,9 @@ answer_ask word on =
     else (if bytes_eq word (codes "--wrap") then Some (OfOptions (Wrap on))
     else (if bytes_eq word (codes "--hyphens") then Some (OfOptions (Hyphens on))
     else (if bytes_eq word (codes "--nested") then Some (OfOptions (Nested on))
+    else (if bytes_eq word (codes "--end-labels") then Some (OfOptions (EndLabels on))
     else (if bytes_eq word (codes "--term-unicode") then Some (OfTerminal (DrawsUnicode on))
-    else (if bytes_eq word (codes "--term-links") then Some (OfTerminal (ShowsLinks on)) else None)))))))))
+    else (if bytes_eq word (codes "--term-links") then Some (OfTerminal (ShowsLinks on)) else None))))))))))
 
 -- the themes by their names
 abbrev pub theme_ask : List ℕ → Option Ask
@@ -222,6 +224,7 @@ by_language o = record {
   wraps = o.wraps;
   breaks = o.breaks;
   hyphens = o.hyphens;
+  end_labels = o.end_labels;
   highlighter = option_map (λ it. it.language) o.highlighter;
 }
 
@@ -250,6 +253,7 @@ options_with (Break on) o = record o { breaks = Some on }
 options_with (Wrap on) o = record o { wraps = Some on }
 options_with (Hyphens on) o = record o { hyphens = Some on }
 options_with (Nested on) o = record o { nested = Some on }
+options_with (EndLabels on) o = record o { end_labels = Some on }
 options_with (Rgb colors) o = record o { rgb = colors }
 options_with (Footer text) o = record o { footer = Some text }
 options_with (Highlighted it) o = record o { highlighter = Some it }

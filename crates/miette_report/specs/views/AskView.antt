@@ -12,7 +12,7 @@ use Rattle.miette_report.specs.declared.option_words.ThemeAsked.{ThemeAsked}
 use Rattle.miette_report.specs.declared.option_words.ThemeAsked.TheVariants as theme
 use Rattle.miette_report.specs.rules.Wanted.{Ask, OfHandler, OfOptions, OfTerminal}
 use Rattle.miette_report.specs.rules.Wanted.{OptionAsk, Brief, Narrated, Graphical, Width, Context, Tab, Drawn}
-use Rattle.miette_report.specs.rules.Wanted.{Unicode, Color, Links, Chain, Break, Wrap, Hyphens, Nested}
+use Rattle.miette_report.specs.rules.Wanted.{Unicode, Color, Links, Chain, Break, Wrap, Hyphens, Nested, EndLabels}
 use Rattle.miette_report.specs.rules.Wanted.{Rgb, Footer, Highlighted}
 use Rattle.miette_report.specs.rules.Wanted.{TerminalAsk, Columns, Colours, DrawsUnicode, ShowsLinks, NoGraphics}
 
@@ -38,6 +38,7 @@ option_ask (option.Break on) = Break on
 option_ask (option.Wrap on) = Wrap on
 option_ask (option.Hyphens on) = Hyphens on
 option_ask (option.Nested on) = Nested on
+option_ask (option.EndLabels on) = EndLabels on
 option_ask (option.Rgb colors) = Rgb colors
 option_ask (option.Footer text) = Footer text.now
 option_ask (option.Highlight it) = Highlighted it
