@@ -58,8 +58,6 @@ fn report_of(alloc: Global, text: &str, fault: Fault) -> Result<Report, AllocErr
 struct Cyan;
 
 impl Highlighter for Cyan {
-    fn restart(&mut self, _contents: &MietteSpanContents<'_>) {}
-
     fn highlight_line(
         &mut self,
         alloc: Global,
@@ -68,4 +66,6 @@ impl Highlighter for Cyan {
         let cyan = Style::new().color(Color::Cyan);
         Ok(vec![in alloc; (line.len(), cyan)]?)
     }
+
+    fn restart(&mut self, _contents: &MietteSpanContents<'_>) {}
 }

@@ -137,8 +137,8 @@ impl Highlighter for PatternHighlighter {
         alloc: Global,
         line: &str,
     ) -> Result<Vec<(usize, Style)>, AllocError>
-        ensures cuts { IfOk result (λ pieces. CutsLine line.now pieces.items) }
         ensures blank { IsTrue false → IfOk result (λ pieces. pieces.items ≡ plain_pieces line.now) }
+        ensures cuts { IfOk result (λ pieces. CutsLine line.now pieces.items) }
         ensures stays { false ≡ false }
         ensures tokens { IfOk result (λ pieces.
             AreTokens self.old.rules.items self.old.left_open line.now pieces.items self.new.left_open) }

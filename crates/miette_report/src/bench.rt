@@ -53,12 +53,12 @@ fn run<R: Read + Drop, W: Write + Drop>(
     reader: R,
     writer: W,
 ) -> Result<(), Fault>
+    ensures narrated { (result ≡ Err Fault.Refused) →
+        choice_in Choice.Build (map string_bytes (drop 1 words.now)) ≡ Choice.Build }
     ensures described { OnOk result (IfSome (R.remaining reader) IsDescription) }
     ensures description { (result ≡ Err Fault.Description) →
         IfSome (R.remaining reader) (λ bytes. IsUtf8 bytes → tree_for bytes ≡ None) }
     ensures refused { (result ≡ Err Fault.Refused) → IfSome (R.remaining reader) IsRefused }
-    ensures narrated { (result ≡ Err Fault.Refused) →
-        choice_in Choice.Build (map string_bytes (drop 1 words.now)) ≡ Choice.Build }
 {
     let (times, settings) = read_words(alloc, words)?;
     measure(alloc, reader, writer, times, settings)

@@ -105,10 +105,10 @@ impl<H: Highlighter> Chosen<H> {
         ensures ok { IfOk result (λ text. IsGiven H.is_blank self.old
             (tree_of ⟦<Box<dyn Diagnostic> as Diagnostic>⟧.meaning ⟦<Box<dyn SourceCode> as SourceCode>⟧.source
             report.now) (string_bytes text)) }
+        ensures others { OnErr result ((result ≡ Err Fault.Refused) ⊎ (result ≡ Err Fault.Memory)) }
         ensures refused { (result ≡ Err Fault.Refused) →
             MayRefuse self.old (tree_of ⟦<Box<dyn Diagnostic> as Diagnostic>⟧.meaning
             ⟦<Box<dyn SourceCode> as SourceCode>⟧.source report.now) }
-        ensures others { OnErr result ((result ≡ Err Fault.Refused) ⊎ (result ≡ Err Fault.Memory)) }
     {
         for _ in 1..times {
             self.render(alloc, report)?;

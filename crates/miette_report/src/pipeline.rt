@@ -66,11 +66,11 @@ pub(crate) fn rendered_length(
         Writes ⟦<LanguageHighlighter as Highlighter>⟧.is_blank settings.choice settings.options settings.terminal
         bytes.now (λ text. n ≡ length text)) }
     ensures described { OnOk result (IsDescription bytes.now) }
+    ensures others { OnErr result ((result ≡ Err Fault.Description) ⊎ (result ≡ Err Fault.Refused)
+        ⊎ (result ≡ Err Fault.Memory)) }
     ensures description { (result ≡ Err Fault.Description) → IsUtf8 bytes.now → tree_for bytes.now ≡ None }
     ensures refused { (result ≡ Err Fault.Refused) →
         IsTelling settings.choice settings.options settings.terminal × IsRefused bytes.now }
-    ensures others { OnErr result ((result ≡ Err Fault.Description) ⊎ (result ≡ Err Fault.Refused)
-        ⊎ (result ≡ Err Fault.Memory)) }
 {
     let report = report_of(alloc, bytes)?;
     let mut handler = Chosen::new(alloc, settings)?;
