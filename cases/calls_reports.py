@@ -89,12 +89,13 @@ WORDS = {
     "chosen wanting": [*DRAWN, "--width", "30"],
     "chosen narrated": ["--narrated"],
     "narrated": ["--narrated"],
+    "brief": ["--brief"],
     "json": ["--json"],
     "debug": ["--debug"],
 }
 # what colours the lines of sources, what is refused memory at the second one
 NARRATED = ("chosen narrated", "narrated")
-HIGHLIGHTING = [it for it in WORDS if it not in ("graphical", *NARRATED, "json", "debug")]
+HIGHLIGHTING = [it for it in WORDS if it not in ("graphical", *NARRATED, "brief", "json", "debug")]
 WANTING = [it for it in WORDS if it.endswith("wanting")]
 RED_TEXT = re.compile(re.escape(RED) + "(.*?)" + re.escape(END))
 NUMBER = re.compile(r"\x1b\[2m *\d+\x1b\[0m │ .")
@@ -133,7 +134,9 @@ IN_30 = indented(
     "        time?",
     "",
 )
-UNREAD = {"graphical": IN_40, **dict.fromkeys(HIGHLIGHTING, IN_30)}
+# a cause that can't be read lies where its diagnostic does, here nowhere
+UNPLACED = "error: m\nnote: caused by: oops!\n"
+UNREAD = {"graphical": IN_40, "brief": UNPLACED, **dict.fromkeys(HIGHLIGHTING, IN_30)}
 
 
 def job(description, handler, lines=1):

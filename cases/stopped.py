@@ -18,12 +18,12 @@ from calls_reports import BEFORE, HIGHLIGHTING, NARRATED, STOPPED, indented, is_
 from devices import SHOWN
 from refusals import ROOT
 
-HANDLERS = ("graphical", "nested", "chosen", "chosen narrated", "narrated", "json", "debug")
+HANDLERS = ("graphical", "nested", "chosen", "chosen narrated", "narrated", "brief", "json", "debug")
 DRAWING = ("graphical", "nested", "chosen")
 LINES = (0, 1, 2)
 WAYS = ("at", "from")
 # what comes of a fault, beside the label that wasn't read
-WHOLE, REFUSED, APART = "whole", "refused", "apart"
+WHOLE, REFUSED, APART, UNPLACED = "whole", "refused", "apart", "unplaced"
 
 
 class Reads:
@@ -47,14 +47,30 @@ def shown_labels(name, handler):
     """The labels that a handler draws or tells, in order. Those of causes are not told, and those over no source aren't drawn."""
     report = STOPPED[name]
     if "cause" in report:
-        return report["cause"]["labels"] if handler in DRAWING else []
+        return report["cause"]["labels"] if handler in (*DRAWING, "brief") else []
     return (report["related"][0] if "related" in report else report)["labels"]
 
 
-def outcome(labels, handler, lines, reads):
+def brief_outcome(name, labels, reads):
+    """What a brief report comes to, over these reads."""
+    if "cause" in STOPPED[name]:
+        # where the cause lies is read, and its diagnostic lies nowhere
+        return WHOLE if reads.is_read() else UNPLACED
+    if not labels:
+        # the source's name is read, and these sources have none
+        reads.is_read()
+        return WHOLE
+    # where the diagnostic lies, and then each label
+    return WHOLE if all(reads.is_read() for _ in (labels[0], *labels)) else REFUSED
+
+
+def outcome(name, handler, lines, reads):
     """What a report by a handler comes to, over these reads."""
+    labels = shown_labels(name, handler)
     if handler == "debug":
         return WHOLE
+    if handler == "brief":
+        return brief_outcome(name, labels, reads)
     if handler == "json":
         # the first label is read for the source's name, and these sources have none
         if labels:
@@ -159,6 +175,8 @@ def is_expected(name, handler, lines, came_to, columns):
         return False
     if came_to == REFUSED:
         return columns[1] == f"not read: {BEFORE}"
+    if came_to == UNPLACED:
+        return is_drawn(columns[1], "error: m\nnote: a\nnote: b\nnote: caused by: m\n", False)
     if came_to == APART:
         text = (TOLD_APART if handler in NARRATED else DRAWN_APART)[lines]
     else:
@@ -175,7 +193,7 @@ def rows():
                 for way in WAYS:
                     for fails_at in count(1):
                         reads = Reads(fails_at, way == "from")
-                        came_to = outcome(shown_labels(name, handler), handler, lines, reads)
+                        came_to = outcome(name, handler, lines, reads)
                         yield (name, handler, lines, f"{way} {fails_at}"), came_to
                         if reads.count < fails_at:
                             break

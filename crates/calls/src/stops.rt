@@ -18,12 +18,13 @@ const NAMES: [&str; 7] = [
     "a cause",
 ];
 
-const HANDLERS: [&str; 7] = [
+const HANDLERS: [&str; 8] = [
     "graphical",
     "nested",
     "chosen",
     "chosen narrated",
     "narrated",
+    "brief",
     "json",
     "debug",
 ];

@@ -6,8 +6,8 @@ use crate::stopping::{Reads, Red, Stopping};
 use crate::themes::terminal;
 use crate::written::{Label, M, Made, Written, beside, over, report_of, stopping_report, told_why};
 use miette::handlers::{
-    DebugReportHandler, GraphicalReportHandler, JSONReportHandler, NarratableReportHandler,
-    ReportHandler,
+    BriefReportHandler, DebugReportHandler, GraphicalReportHandler, JSONReportHandler,
+    NarratableReportHandler, ReportHandler,
 };
 use miette::options::MietteHandlerOpts;
 use miette::protocol::Severity;
@@ -35,7 +35,7 @@ pub const NAMES: [&str; 14] = [
 ];
 
 /// The handlers.
-pub const HANDLERS: [&str; 11] = [
+pub const HANDLERS: [&str; 12] = [
     "graphical",
     "nested",
     "highlighted",
@@ -45,6 +45,7 @@ pub const HANDLERS: [&str; 11] = [
     "chosen wanting",
     "chosen narrated",
     "narrated",
+    "brief",
     "json",
     "debug",
 ];
@@ -236,6 +237,7 @@ pub fn rendered<W: Write>(
             let mut telling = NarratableReportHandler::new().with_context_lines(lines);
             behind(alloc, out, &mut telling, report)
         }
+        "brief" => behind(alloc, out, &mut BriefReportHandler::new(), report),
         "json" => behind(alloc, out, &mut JSONReportHandler::new(), report),
         "debug" => behind(alloc, out, &mut DebugReportHandler::new(), report),
         "wanting" => drawn(alloc, out, Red(2), false, (report, lines)),

@@ -84,7 +84,8 @@ pub fn erasing_law()
 }
 
 /// The snippets of each printed diagnostic show the lines in the context of its labels, its marks are apart, each text
-/// hangs from its own mark, and labels at the end of a source stand behind its last line where they are drawn.
+/// hangs from its own mark, and labels at the end of a source stand behind its last line, with their marks, where they
+/// are drawn.
 pub fn snippets_law()
     ensures lines { (s : Settings) (t : Tree) → AllByRecursion (LinesAreShown s) (printed s t) }
     ensures marks { (s : Settings) (t : Tree) → AllByRecursion (MarksAreApart s) (printed s t) }

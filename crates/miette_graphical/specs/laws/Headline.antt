@@ -10,13 +10,13 @@ use Rattle.miette_lines.specs.rules.Contexts.{contents}
 use Rattle.miette_snippets.specs.rules.Frames as frames
 use Rattle.miette_lines.specs.rules.Groups as grouping
 use Rattle.miette_lines.specs.rules.Groups.{AreAccepted, in_order, lines_of_groups}
-use Rattle.miette_lines.specs.rules.Labels.{DrawnLabel, some_shows_end}
+use Rattle.miette_lines.specs.rules.Labels.{DrawnLabel, one_line, some_shows_end}
 use Rattle.miette_snippets.specs.rules.SnippetLayout as layout
-use Rattle.miette_snippets.specs.rules.SnippetLayout.{cells_of, settings_around}
-use Rattle.miette_snippets.specs.rules.Marks.{Mark, anchor, marks_at, AreApart}
+use Rattle.miette_snippets.specs.rules.SnippetLayout.{cells_of, settings_around, text_of_cells}
+use Rattle.miette_snippets.specs.rules.Marks.{Mark, Text, anchor, marks, marks_at, AreApart}
 use Rattle.miette_snippets.specs.rules.Numbers.{runs, IsRun, AreParted}
-use Rattle.miette_snippet_laws.specs.laws.Ends.{EndsStandBehind}
-use Rattle.miette_snippet_laws.specs.laws.Pictures.{BodyShows, marks_of_line}
+use Rattle.miette_snippet_laws.specs.laws.Ends.{AreBehindText, EndsStandBehind}
+use Rattle.miette_snippet_laws.specs.laws.Pictures.{BodyShows}
 use Rattle.miette_snippets.specs.rules.Shown.{framed_runs, line_at}
 use Rattle.miette_snippets.specs.rules.Snippets.{shown, snippets}
 use Rattle.miette_graphical.specs.rules.Answers.{pieces_listed}
@@ -68,11 +68,19 @@ abbrev pub drawn_labels : Settings → Source → List Label → List DrawnLabel
 drawn_labels s source labels =
     layout.drawn_labels (group_settings s labels) (length source.bytes) (in_order labels)
 
--- the marks of line k: of the labels that lie on it alone
+-- the text of line k
+abbrev pub text_under : Settings → Source → ℕ → Text
+text_under s source k =
+    text_of_cells (cells_of (layout_settings s) source.bytes (line_at (lines_of source.bytes) k))
+    (line_at (lines_of source.bytes) k).text_end
+
+-- the labels that lie on line k alone
+abbrev pub labels_under : Settings → Source → List Label → ℕ → List DrawnLabel
+labels_under s source labels k = one_line (line_at (lines_of source.bytes) k) (drawn_labels s source labels)
+
+-- their marks
 abbrev pub marks_under : Settings → Source → List Label → ℕ → List Mark
-marks_under s source labels k =
-    marks_of_line (drawn_labels s source labels) (line_at (lines_of source.bytes) k)
-    (cells_of (layout_settings s) source.bytes (line_at (lines_of source.bytes) k))
+marks_under s source labels k = marks (text_under s source k) (labels_under s source labels k)
 
 -- no mark is empty, each begins where the one before it ends or later, and each anchor lies in its own mark and in no
 -- other
@@ -104,12 +112,16 @@ TextsHang s p =
 
 -- ---- labels at the end of the source
 
--- where labels at the end are drawn, and one of them has a line of context, just these stand behind the text of the
--- last line
+-- Just these labels stand behind the text of the last line, and under each line the marks of such labels begin behind
+-- the columns of its text.
+pub record EndsBehind (s : Settings) (source : Source) (labels : List Label) : Type 0 where
+  pub lines : EndsStandBehind (group_settings s labels) source.bytes (in_order labels)
+  pub marks : (k : ℕ) → AreBehindText (text_under s source k) (labels_under s source labels k)
+
+-- where labels at the end are drawn, and one of them has a line of context
 abbrev pub EndsAreDrawn : Settings → Printed → Type 0
 EndsAreDrawn s p =
     IfSome p.source (λ source. s.end_labels ≡ true →
     some_shows_end (group_settings s (given_labels p.meaning.labels)).context (length source.bytes)
     (in_order (given_labels p.meaning.labels)) ≡ true →
-    EndsStandBehind (group_settings s (given_labels p.meaning.labels)) source.bytes
-    (in_order (given_labels p.meaning.labels)))
+    EndsBehind s source (given_labels p.meaning.labels))

@@ -166,7 +166,8 @@ impl<H: Highlighter> GraphicalReportHandler<H> {
         ensures texts { let tree = tree_of ⟦<Box<dyn Diagnostic> as Diagnostic>⟧.meaning
             ⟦<Box<dyn SourceCode> as SourceCode>⟧.source report.now in
             OnOk result (AllByRecursion (TextsHang self.old.settings) (printed self.old.settings tree)) }
-        // and where labels at the end of its source are drawn, just these stand behind the text of the last line
+        // and where labels at the end of its source are drawn, just these stand behind the text of the last line,
+        // and their marks behind its columns
         ensures ends { let tree = tree_of ⟦<Box<dyn Diagnostic> as Diagnostic>⟧.meaning
             ⟦<Box<dyn SourceCode> as SourceCode>⟧.source report.now in
             OnOk result (AllByRecursion (EndsAreDrawn self.old.settings) (printed self.old.settings tree)) }

@@ -3,7 +3,7 @@ use Rattle.std.specs.List.{AllByRecursion}
 use Rattle.miette_lines.specs.rules.Contexts.{contents}
 use Rattle.miette_lines.specs.rules.Groups.{in_order}
 use Rattle.miette_graphical.specs.rules.Answers.{pieces_listed}
-use Rattle.miette_graphical.specs.laws.Headline.{EndsAreDrawn, LinesAreShown, MarksAreApart, TextsHang, SnippetHangs, drawn_labels, groups_of, group_settings, shown_lines}
+use Rattle.miette_graphical.specs.laws.Headline.{EndsAreDrawn, LinesAreShown, MarksAreApart, TextsHang, SnippetHangs, drawn_labels, groups_of, group_settings, labels_under, shown_lines, text_under}
 use Rattle.miette_tree.specs.rules.DiagnosticParts.{given_labels}
 use Rattle.miette_graphical.specs.rules.Printed.{printed}
 use Rattle.miette_graphical.specs.rules.Snippets.{layout_settings, shown_rows}
@@ -48,4 +48,7 @@ returns-clause-texts c = λ s t. each (TextsHang s) (λ p.
 pub returns-clause-ends : goal.returns-clause-ends
 returns-clause-ends c = λ s t. each (EndsAreDrawn s) (λ p.
     let labels = given_labels p.meaning.labels in
-    if_some _ (λ source on shows. c.ends_are_drawn.ensures.lines (group_settings s labels) source.bytes (in_order labels) on shows) p.source) (printed s t)
+    if_some _ (λ source on shows. record {
+      lines = c.ends_are_drawn.ensures.lines (group_settings s labels) source.bytes (in_order labels) on shows;
+      marks = λ k. c.ends_are_drawn.ensures.marks (text_under s source k) (labels_under s source labels k);
+    }) p.source) (printed s t)
