@@ -4,5 +4,6 @@
 pub mod characters;
 pub mod highlight;
 pub mod patterns;
+mod rule;
 mod sets;
 mod tokens;

@@ -8,7 +8,7 @@ ghost use Rattle.miette_highlight.specs.rules.Patterns.{inside, match_of, word_e
 ghost use Rattle.miette_highlight.specs.rules.Tokens.{AreTokens, IsToken, first_match, running, token_at, token_of};
 ghost use Rattle.miette_style.specs.rules.Pieces.{CutsLine};
 
-use crate::patterns::{Marks, Pattern, Rule};
+use crate::rule::{Marks, Pattern, Rule};
 use miette_style::style::Style;
 use std::alloc::{AllocError, Global};
 

@@ -5,9 +5,9 @@ use Rattle.std.specs.Char.{is_ascii_alphanumeric}
 use Rattle.std.specs.List.{starts_with}
 use Rattle.std.specs.Str.{bytes_eq}
 use Rattle.std.specs.declared.alloc.Global.{Global}
-use Rattle.miette_highlight.specs.declared.patterns.Marks.{Marks}
-use Rattle.miette_highlight.specs.declared.patterns.Pattern.{Pattern}
-use Rattle.miette_highlight.specs.declared.patterns.Pattern.TheVariants.{Words, From, Between}
+use Rattle.miette_highlight.specs.declared.rule.Marks.{Marks}
+use Rattle.miette_highlight.specs.declared.rule.Pattern.{Pattern}
+use Rattle.miette_highlight.specs.declared.rule.Pattern.TheVariants.{Words, From, Between}
 
 -- a byte of a letter or a digit of ASCII, of `_`, or of a character beyond ASCII
 abbrev pub is_word_byte : ℕ → Bool

@@ -7,9 +7,9 @@ use Rattle.miette_style.specs.rules.Pieces.{Piece}
 use Rattle.miette_style.specs.rules.Styles.{plain}
 use Rattle.miette_style.specs.declared.style.Style.{Style}
 use Rattle.miette_highlight.specs.rules.Patterns.{inside, match_of, word_end}
-use Rattle.miette_highlight.specs.declared.patterns.Pattern.{Pattern}
-use Rattle.miette_highlight.specs.declared.patterns.Pattern.TheVariants.{Words, From, Between}
-use Rattle.miette_highlight.specs.declared.patterns.Rule.{Rule}
+use Rattle.miette_highlight.specs.declared.rule.Pattern.{Pattern}
+use Rattle.miette_highlight.specs.declared.rule.Pattern.TheVariants.{Words, From, Between}
+use Rattle.miette_highlight.specs.declared.rule.Rule.{Rule}
 use Rattle.miette_highlight.specs.declared.tokens.Token.{Token}
 
 -- what the rule of this number found: so many bytes, which stay open or not
