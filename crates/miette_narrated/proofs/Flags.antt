@@ -22,8 +22,8 @@ use Rattle.unicode_width.specs.Kind.{kind, is_ligature_transparent, is_text_pres
 use Rattle.unicode_width.specs.Width.{before, plain, is_indicator, is_nothing, is_joined_emoji, of_kind, alone, before_alef, is_lam, joins, joined_or, Reading, if_kept, skips_marks, is_plain, past_selectors, in_context, past_emoji, step, read_before, str_width}
 use Rattle.unicode_width.proofs.KindLemmas.{kind_stepped, is_ligature_transparent_stepped, is_text_presentation_base_stepped}
 use Rattle.unicode_width.proofs.Computing.{unicode_width}
-use Rattle.miette_narrated.specs.declared.places.Held.{Held}
-use Rattle.miette_narrated.specs.declared.places.Held.TheVariants.{Nothing, One, Selected}
+use Rattle.miette_narrated.specs.declared.overlap.Held.{Held}
+use Rattle.miette_narrated.specs.declared.overlap.Held.TheVariants.{Nothing, One, Selected}
 use Rattle.miette_narrated.specs.steps.Parting.{may_part_flags}
 use Rattle.miette_narrated.specs.steps.Places.{held, IsHeld}
 use Rattle.miette_narrated.proofs.Lone.{read_append, shifted, from_not, or_false}

@@ -9,8 +9,8 @@ use Rattle.unicode_width.specs.Width.{str_width}
 use Rattle.miette_lines.specs.rules.Cells.{characters}
 use Rattle.miette_lines.specs.views.Given.{width_of}
 use Rattle.miette_lines.proofs.Stepping.{IsFirst, characters_step}
-use Rattle.miette_narrated.specs.declared.places.Held.{Held}
-use Rattle.miette_narrated.specs.declared.places.Held.TheVariants.{Nothing}
+use Rattle.miette_narrated.specs.declared.overlap.Held.{Held}
+use Rattle.miette_narrated.specs.declared.overlap.Held.TheVariants.{Nothing}
 use Rattle.miette_narrated.specs.declared.places.Place.{Place}
 use Rattle.miette_narrated.specs.rules.Columns.{begun, is_boundary, column}
 use Rattle.miette_narrated.specs.steps.Parting.{may_part, may_part_flags, opens, end_held, held_between}

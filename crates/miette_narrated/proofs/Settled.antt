@@ -10,8 +10,8 @@ use Rattle.unicode_width.specs.declared.state.After.TheVariants as afters
 use Rattle.unicode_width.specs.declared.state.State.{State}
 use Rattle.unicode_width.specs.Width.{before, plain, alone, Reading, added, is_plain, past_emoji, in_context, step, read_before, str_width}
 use Rattle.unicode_width.proofs.Computing.{unicode_width}
-use Rattle.miette_narrated.specs.declared.places.Held.{Held}
-use Rattle.miette_narrated.specs.declared.places.Held.TheVariants.{Nothing, One, Selected}
+use Rattle.miette_narrated.specs.declared.overlap.Held.{Held}
+use Rattle.miette_narrated.specs.declared.overlap.Held.TheVariants.{Nothing, One, Selected}
 use Rattle.miette_narrated.specs.steps.Parting.{is_closing, is_keeping, opens, end_held}
 use Rattle.miette_narrated.specs.steps.Places.{held, IsHeld}
 use Rattle.miette_narrated.proofs.Lone.{shifted, read_append}

@@ -8,6 +8,7 @@ mod label_order;
 mod label_rows;
 mod line_text;
 mod lines;
+mod overlap;
 mod parting;
 mod places;
 mod report;

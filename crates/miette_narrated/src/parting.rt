@@ -6,7 +6,7 @@ ghost use Rattle.miette_narrated.specs.steps.Parting.{is_lone, is_joining, is_cl
 ghost use Rattle.miette_narrated.specs.steps.Parting.{is_keeping, opens, end_held, held_between};
 ghost use Rattle.unicode_width.specs.Width.{is_indicator};
 
-use crate::places::Held;
+use crate::overlap::Held;
 use miette_lines::cells::columns_of;
 use ucd_emoji::is_emoji_variation_base;
 

@@ -6,19 +6,11 @@ ghost use Rattle.std.specs.List.{All};
 ghost use Rattle.unicode_width.specs.Width.{str_width};
 ghost use Rattle.miette_narrated.specs.steps.Places.{IsPlace, held};
 
+use crate::overlap::Held;
 use crate::parting::{held_between, is_indicator};
 use miette_lines::cells::{columns_of, first_character};
 use std::alloc::{AllocError, Global};
 use unicode_width::UnicodeWidthStr;
-
-/// What a walk from a place begins with, of the characters before it.
-#[derive(Clone, Copy)]
-pub(crate) enum Held {
-    Nothing,
-    One(char),
-    /// An emoji, and U+FE0F behind it.
-    Selected(char),
-}
 
 /// How many bytes of the text lie before a place, how many columns they have, and how many their characters have each
 /// by itself.

@@ -4,8 +4,8 @@ use Rattle.std.specs.Int.{is_in_range}
 use Rattle.ucd_emoji.specs.Binary.{is_emoji_variation_base}
 use Rattle.unicode_width.specs.Width.{is_indicator}
 use Rattle.miette_lines.specs.views.Given.{width_of}
-use Rattle.miette_narrated.specs.declared.places.Held.{Held}
-use Rattle.miette_narrated.specs.declared.places.Held.TheVariants.{Nothing, One, Selected}
+use Rattle.miette_narrated.specs.declared.overlap.Held.{Held}
+use Rattle.miette_narrated.specs.declared.overlap.Held.TheVariants.{Nothing, One, Selected}
 
 -- ASCII characters and letters of scripts that join nothing that stands behind them
 abbrev pub is_lone : ℕ → Bool

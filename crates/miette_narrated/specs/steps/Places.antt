@@ -3,8 +3,8 @@ use Rattle.std.specs.Prelude.{ℕ, Bool, ◌+◌, ◌≤◌, ◌≡◌, List, []
 use Rattle.std.specs.Prelude.{if◌then◌else◌}
 use Rattle.unicode_width.specs.Width.{str_width, is_indicator}
 use Rattle.miette_lines.specs.rules.Cells.{Character, characters}
-use Rattle.miette_narrated.specs.declared.places.Held.{Held}
-use Rattle.miette_narrated.specs.declared.places.Held.TheVariants.{Nothing, One, Selected}
+use Rattle.miette_narrated.specs.declared.overlap.Held.{Held}
+use Rattle.miette_narrated.specs.declared.overlap.Held.TheVariants.{Nothing, One, Selected}
 use Rattle.miette_narrated.specs.declared.places.Place.{Place}
 use Rattle.miette_narrated.specs.rules.Columns.{begun, is_boundary, widths, column}
 

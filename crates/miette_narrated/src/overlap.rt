@@ -1,0 +1,10 @@
+//! What is read again at a place of a text.
+
+/// What a walk from a place begins with, of the characters before it.
+#[derive(Clone, Copy)]
+pub(crate) enum Held {
+    Nothing,
+    One(char),
+    /// An emoji, and U+FE0F behind it.
+    Selected(char),
+}
