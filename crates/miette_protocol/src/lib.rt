@@ -13,4 +13,5 @@ mod named;
 mod named_traits;
 pub mod protocol;
 pub mod source;
+mod source_code;
 mod span;

@@ -5,7 +5,7 @@ ghost use Rattle.std.specs.Prelude.{◌≡◌, Some, None, IfOk};
 use crate::contents::MietteSpanContents;
 use crate::error::MietteError;
 use crate::protocol::SourceSpan;
-use crate::source::SourceCode;
+use crate::source_code::SourceCode;
 use std::alloc::{AllocError, Global};
 
 /// A source with a name, and with a language where one is given. All else is the inner source's, its

@@ -7,7 +7,7 @@ ghost use Rattle.std.specs.Cmp.Lexicographic.{slice_cmp};
 ghost use Rattle.std.specs.Option.{option_cmp};
 ghost use Rattle.miette_protocol.specs.views.Named.{inner_of, name_of, given_language};
 
-use crate::source::NamedSource;
+use crate::named::NamedSource;
 use std::alloc::AllocError;
 use std::fmt;
 use std::hash::Hash;

@@ -1,0 +1,128 @@
+//! What a source is: bytes of which a span can be read.
+
+ghost use Rattle.std.specs.Prelude.{ℕ, string_bytes};
+ghost use Rattle.miette_protocol.specs.rules.Reading.{Source, plain_source};
+ghost use Rattle.miette_protocol.specs.rules.Outcome.{Answers};
+
+use crate::contents::MietteSpanContents;
+use crate::error::MietteError;
+use crate::find;
+use crate::protocol::SourceSpan;
+use miette_newlines::indexed::IndexedSource;
+use miette_newlines::scan::Scan;
+
+/// A source of bytes. Its meaning is its bytes, its name and language, and whether it always reads.
+pub trait SourceCode: Drop {
+    ghost source: { Self → Source };
+
+    /// Reads a span with so many lines of context before and after it. The contents lend the source's own
+    /// bytes at the span that they report.
+    ///
+    /// A line ends with LF, CRLF or a CR that no LF follows. On a side without context the data begin or end
+    /// as the span does, a CRLF at its end whole, and an empty span at 0 as one byte. On a side with context
+    /// they begin or end where a line does; with context on both sides they are whole lines.
+    ///
+    /// # Errors
+    /// `OutOfBounds` only for a span that begins after the end of the source or ends more than one byte past
+    /// it; such a span is always refused. `IoError` only from a source that doesn't always read, which may
+    /// answer it for any span.
+    fn read_span(
+        &self,
+        span: &SourceSpan,
+        before: usize,
+        after: usize,
+    ) -> Result<MietteSpanContents<'_>, MietteError>
+        ensures { Answers (source self.now) span.now before after result };
+}
+
+/// Reads a span of bytes, whose lines are found by a scan.
+fn read_bytes<'a>(
+    bytes: &'a [u8],
+    span: &SourceSpan,
+    before: usize,
+    after: usize,
+) -> Result<MietteSpanContents<'a>, MietteError>
+    ensures { Answers (plain_source bytes.now) span.now before after result }
+{
+    find::read(&Scan(bytes), bytes, span, before, after)
+}
+
+impl SourceCode for &[u8] {
+    ghost source = { λ it. plain_source it.now };
+
+    fn read_span(
+        &self,
+        span: &SourceSpan,
+        before: usize,
+        after: usize,
+    ) -> Result<MietteSpanContents<'_>, MietteError> {
+        read_bytes(self, span, before, after)
+    }
+}
+
+impl SourceCode for Vec<u8> {
+    ghost source = { λ it. plain_source it.items };
+
+    fn read_span(
+        &self,
+        span: &SourceSpan,
+        before: usize,
+        after: usize,
+    ) -> Result<MietteSpanContents<'_>, MietteError> {
+        read_bytes(self.as_slice(), span, before, after)
+    }
+}
+
+impl SourceCode for &str {
+    ghost source = { λ it. plain_source it.now };
+
+    fn read_span(
+        &self,
+        span: &SourceSpan,
+        before: usize,
+        after: usize,
+    ) -> Result<MietteSpanContents<'_>, MietteError> {
+        read_bytes(self.as_bytes(), span, before, after)
+    }
+}
+
+impl SourceCode for String {
+    ghost source = { λ it. plain_source (string_bytes it) };
+
+    fn read_span(
+        &self,
+        span: &SourceSpan,
+        before: usize,
+        after: usize,
+    ) -> Result<MietteSpanContents<'_>, MietteError> {
+        read_bytes(self.as_str().as_bytes(), span, before, after)
+    }
+}
+
+/// It has no name and no language, and always reads.
+impl SourceCode for IndexedSource {
+    ghost source = { λ it. plain_source it };
+
+    fn read_span(
+        &self,
+        span: &SourceSpan,
+        before: usize,
+        after: usize,
+    ) -> Result<MietteSpanContents<'_>, MietteError> {
+        find::read(self, self.bytes(), span, before, after)
+    }
+}
+
+/// A boxed source is read as the source inside.
+impl SourceCode for Box<dyn SourceCode> {
+    ghost source = { λ it. (SourceCode-box it).source it.value };
+
+    fn read_span(
+        &self,
+        span: &SourceSpan,
+        before: usize,
+        after: usize,
+    ) -> Result<MietteSpanContents<'_>, MietteError> {
+        (**self).read_span(span, before, after)
+    }
+}
