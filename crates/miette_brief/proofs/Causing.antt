@@ -5,9 +5,9 @@ use Rattle.miette_protocol.specs.views.Meaning.{Label, Meaning}
 use Rattle.miette_tree.specs.rules.Tree.{Tree, tree, Cause, diagnostic, texts, effective, head, source_of, cause_of}
 use Rattle.miette_tree.specs.rules.Chain.{texts_below}
 use Rattle.miette_tree.specs.views.Report.{cause_shown}
-use Rattle.miette_tree.specs.declared.report.Report.{Report}
-use Rattle.miette_tree.specs.declared.report.Cause as shown
-use Rattle.miette_tree.specs.declared.report.Cause.TheVariants as seen
+use Rattle.miette_tree.specs.declared.tree.Report.{Report}
+use Rattle.miette_tree.specs.declared.tree.Cause as shown
+use Rattle.miette_tree.specs.declared.tree.Cause.TheVariants as seen
 use Rattle.miette_tree.specs.rules.DiagnosticParts.{given_labels}
 use Rattle.miette_lines.specs.rules.Groups.{in_order}
 use Rattle.miette_brief.specs.rules.Rows.{Place, rows_text}

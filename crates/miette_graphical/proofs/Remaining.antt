@@ -6,9 +6,9 @@ use Rattle.miette_protocol.specs.rules.Reading.{Source}
 use Rattle.miette_protocol.specs.declared.protocol.Severity.{Severity}
 use Rattle.miette_tree.specs.rules.Tree.{Tree, Cause, diagnostic, texts, Trees, more_trees, trees, cause_of, source_of, effective}
 use Rattle.miette_tree.specs.views.Report.{cause_shown}
-use Rattle.miette_tree.specs.declared.report.Report.{Report}
-use Rattle.miette_tree.specs.declared.report.Cause as shown
-use Rattle.miette_tree.specs.declared.report.Cause.TheVariants as seen
+use Rattle.miette_tree.specs.declared.tree.Report.{Report}
+use Rattle.miette_tree.specs.declared.tree.Cause as shown
+use Rattle.miette_tree.specs.declared.tree.Cause.TheVariants as seen
 use Rattle.miette_style.specs.rules.Asked.{Call, Leads}
 use Rattle.miette_graphical.specs.rules.Answered.{AreCauseAnswers, AreRelatedAnswers, AreCauses, AreRelated, IsOneCause, IsOneRelated}
 use Rattle.miette_graphical.specs.rules.Calls.{cause_calls, related_calls}

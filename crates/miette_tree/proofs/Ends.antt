@@ -10,9 +10,9 @@ use Rattle.miette_protocol.specs.views.Meaning.{Meaning}
 use Rattle.miette_protocol.specs.rules.Reading.{Source}
 use Rattle.miette_tree.specs.rules.Chain.{spine, spine_below, tail, tail_below, texts_below}
 use Rattle.miette_tree.specs.views.Report.{cause_shown}
-use Rattle.miette_tree.specs.declared.report.Report.{Report}
-use Rattle.miette_tree.specs.declared.report.Cause as shown
-use Rattle.miette_tree.specs.declared.report.Cause.TheVariants as seen
+use Rattle.miette_tree.specs.declared.tree.Report.{Report}
+use Rattle.miette_tree.specs.declared.tree.Cause as shown
+use Rattle.miette_tree.specs.declared.tree.Cause.TheVariants as seen
 use Rattle.std.proofs.lemmas.Option.{slice_get_within, get_or_from_slice_get}
 
 take_last : (xs : List (List ℕ)) (n : ℕ) (x : List ℕ) → 0 < n → slice_get xs (n - 1) ≡ Some x → take n xs ≡ take (n - 1) xs ++ x ∷ []

@@ -5,7 +5,7 @@ use Rattle.std.specs.declared.alloc.Global.{Global}
 use Rattle.miette_protocol.specs.views.Meaning.{Meaning}
 use Rattle.miette_protocol.specs.rules.Reading.{Source}
 use Rattle.miette_tree.specs.rules.WrapErr.{IsFronted, Tells, TellsMade}
-use Rattle.miette_tree.specs.declared.report.Report.{Report}
+use Rattle.miette_tree.specs.declared.tree.Report.{Report}
 
 -- a copy that was made tells what the text does
 pub tells_copied : {D S : Type 0} (means : D → Meaning) (is : S → Source) (made : Result (String Global) AllocError) (text : List ℕ) (below : Option (Report D S)) (r : Report D S)

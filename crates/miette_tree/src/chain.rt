@@ -8,7 +8,7 @@ ghost use Rattle.miette_tree.specs.rules.Tree.{chain_of, cause_of};
 ghost use Rattle.miette_tree.specs.rules.Chain.{spine, spine_below, spine_from, tail, texts_below};
 ghost use Rattle.miette_tree.specs.views.Report.{tree_of};
 
-use crate::report::{Cause, Report};
+use crate::tree::{Cause, Report};
 use miette_protocol::protocol::Diagnostic;
 use miette_protocol::source::SourceCode;
 use std::alloc::AllocError;

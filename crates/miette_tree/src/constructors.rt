@@ -2,7 +2,7 @@
 ghost use Rattle.std.specs.Prelude.{◌≡◌, Some, IfOk};
 
 use crate::innermost::Innermost;
-use crate::report::Report;
+use crate::tree::Report;
 use miette_protocol::diagnostic::MietteDiagnostic;
 use miette_protocol::error::RenderError;
 use miette_protocol::protocol::Diagnostic;

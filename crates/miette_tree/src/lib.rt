@@ -11,4 +11,5 @@ mod owned;
 pub mod parts;
 pub mod report;
 pub mod report_handler;
+mod tree;
 mod wrap;

@@ -3,10 +3,10 @@ ghost use Rattle.std.specs.Prelude.{◌≡◌, ◌⊎◌, ℕ, List, Option, IsN
 ghost use Rattle.std.specs.Option.{option_and_then};
 ghost use Rattle.std.specs.Result.{result_ok, result_err};
 ghost use Rattle.miette_tree.specs.rules.WrapErr.{IsRefused, Tells, TellsMade, Prints};
-ghost use Rattle.miette_tree.specs.declared.report.Report.{Report};
+ghost use Rattle.miette_tree.specs.declared.tree.Report.{Report};
 
 use crate::constructors::UsualBoxes;
-use crate::report::Report;
+use crate::tree::Report;
 use miette_protocol::protocol::Diagnostic;
 use miette_protocol::source::SourceCode;
 use std::alloc::{AllocError, Global};

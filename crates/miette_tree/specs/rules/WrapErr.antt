@@ -11,7 +11,7 @@ use Rattle.miette_protocol.specs.declared.error.RenderError.TheVariants as unwri
 use Rattle.miette_tree.specs.rules.Tree.{alone, wrapped}
 use Rattle.miette_tree.specs.views.Kind.{kind_of, message, out_of_memory}
 use Rattle.miette_tree.specs.views.Report.{tree_of, out_of_memory_alone}
-use Rattle.miette_tree.specs.declared.report.Report.{Report}
+use Rattle.miette_tree.specs.declared.tree.Report.{Report}
 
 module _ {D S : Type 0} (means : D → Meaning) (is : S → Source) where
   -- the report of refused memory

@@ -4,7 +4,7 @@ use Rattle.miette_tree.specs.declared.innermost.Innermost.{Innermost}
 use Rattle.miette_tree.specs.declared.innermost.Innermost.TheVariants as inside
 use Rattle.miette_tree.specs.declared.innermost.ReportKind.{ReportKind}
 use Rattle.miette_tree.specs.declared.innermost.ReportKind.TheVariants as shown
-use Rattle.miette_tree.specs.declared.report.Report.{Report, out-Report}
+use Rattle.miette_tree.specs.declared.tree.Report.{Report, out-Report}
 
 -- a message, a plain diagnostic, a boxed one, or refused memory
 pub data Kind (D : Type 0) : Type 0 where

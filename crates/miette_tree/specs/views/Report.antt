@@ -9,13 +9,13 @@ use Rattle.miette_tree.specs.views.Owned.{kept_source}
 use Rattle.miette_tree.specs.rules.Tree.{Tree, tree, Cause, diagnostic, texts, Trees, no_trees, trees}
 use Rattle.miette_tree.specs.declared.innermost.Innermost.{Innermost}
 use Rattle.miette_tree.specs.declared.innermost.Innermost.TheVariants.{Message, Built, Boxed, Unwritten, OutOfMemory}
-use Rattle.miette_tree.specs.declared.report.KeptCause.{KeptCause}
-use Rattle.miette_tree.specs.declared.report.KeptCause.TheVariants as kept
-use Rattle.miette_tree.specs.declared.report.Cause as shown
-use Rattle.miette_tree.specs.declared.report.Cause.TheVariants as seen
-use Rattle.miette_tree.specs.declared.report.Report.{Report}
-use Rattle.miette_tree.specs.declared.report.Report.TheOpen.{Report-F}
-use Rattle.miette_tree.specs.declared.report.Report.TheFolds.{fold-Report}
+use Rattle.miette_tree.specs.declared.tree.KeptCause.{KeptCause}
+use Rattle.miette_tree.specs.declared.tree.KeptCause.TheVariants as kept
+use Rattle.miette_tree.specs.declared.tree.Cause as shown
+use Rattle.miette_tree.specs.declared.tree.Cause.TheVariants as seen
+use Rattle.miette_tree.specs.declared.tree.Report.{Report}
+use Rattle.miette_tree.specs.declared.tree.Report.TheOpen.{Report-F}
+use Rattle.miette_tree.specs.declared.tree.Report.TheFolds.{fold-Report}
 
 -- what the report of refused memory answers
 abbrev pub out_of_memory_alone : Meaning

@@ -3,7 +3,7 @@ use Rattle.std.proofs.lemmas.List.{map-append}
 use Rattle.miette_tree.specs.rules.Tree.{cause_of}
 use Rattle.miette_tree.specs.views.Report.{tree_of}
 use Rattle.miette_tree.proofs.Ends.{no_diagnostic, last_text}
-use Rattle.miette_tree.proofs.report.Report.root_cause.Goals as goal
+use Rattle.miette_tree.proofs.tree.Report.root_cause.Goals as goal
 
 pub returns-in-Some : goal.returns-in-Some
 returns-in-Some g c =

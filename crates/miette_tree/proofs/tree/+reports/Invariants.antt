@@ -1,6 +1,6 @@
 use Rattle.std.proofs.Common.{◌≤◌}
-use Rattle.miette_tree.proofs.report.Report.TheLaws.{the_size}
-use Rattle.miette_tree.proofs.report.+reports.Given as goal
+use Rattle.miette_tree.proofs.tree.Report.TheLaws.{the_size}
+use Rattle.miette_tree.proofs.tree.+reports.Given as goal
 
 -- the report that was reached is no deeper than the first
 abbrev pub invariant-Report::drop-loop-self : goal.invariant-Report::drop-loop-self

@@ -1,8 +1,8 @@
 use Rattle.std.proofs.Common.{ap, ◌∙◌, map, rules}
 use Rattle.miette_tree.specs.rules.Tree.{trees}
 use Rattle.miette_tree.specs.views.Report.{tree_of}
-use Rattle.miette_tree.specs.declared.report.Report.{the_lemmas}
-use Rattle.miette_tree.proofs.report.Report.related.Goals as goal
+use Rattle.miette_tree.specs.declared.tree.Report.{the_lemmas}
+use Rattle.miette_tree.proofs.tree.Report.related.Goals as goal
 
 pub returns-in-Some : goal.returns-in-Some
 returns-in-Some g c =

@@ -4,7 +4,7 @@ use Rattle.miette_tree.specs.rules.Tree.{cause_of}
 use Rattle.miette_tree.specs.rules.Chain.{spine, tail}
 use Rattle.miette_tree.specs.views.Report.{tree_of}
 use Rattle.miette_tree.proofs.Ends.{spine_down, tail_down, cut_chain, whole_chain, no_diagnostic}
-use Rattle.miette_tree.proofs.report.Report.chain.Goals as goal
+use Rattle.miette_tree.proofs.tree.Report.chain.Goals as goal
 
 pub returns-then-count : goal.returns-then-count
 returns-then-count g c =

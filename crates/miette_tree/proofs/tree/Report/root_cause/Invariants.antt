@@ -3,7 +3,7 @@ use Rattle.std.specs.List.{last_or}
 use Rattle.miette_tree.specs.rules.Tree.{chain_of}
 use Rattle.miette_tree.specs.rules.Chain.{spine}
 use Rattle.miette_tree.specs.views.Report.{tree_of}
-use Rattle.miette_tree.proofs.report.Report.root_cause.Given as goal
+use Rattle.miette_tree.proofs.tree.Report.root_cause.Given as goal
 
 -- the chain of the report that was reached has the same last text
 abbrev pub invariant-loop-next : goal.invariant-loop-next

@@ -1,7 +1,7 @@
 use Rattle.std.proofs.Common.{◌≡◌, ◌++◌, map, drop, string_bytes}
 use Rattle.miette_tree.specs.rules.Tree.{cause_of, causes_of, chain_of}
 use Rattle.miette_tree.specs.views.Report.{tree_of}
-use Rattle.miette_tree.proofs.report.Report.chain_texts.Given as goal
+use Rattle.miette_tree.proofs.tree.Report.chain_texts.Given as goal
 
 -- the texts so far and the causes of the report that was reached are the chain
 abbrev pub invariant-loop-at : goal.invariant-loop-at
