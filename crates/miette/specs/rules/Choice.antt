@@ -13,8 +13,8 @@ use Rattle.miette_narrated.specs.rules.Report as narrated
 use Rattle.miette_graphical.specs.views.Handling.{Handling}
 use Rattle.miette_graphical.specs.rules.Settings.{Settings, Urls, default_settings, links_shown}
 use Rattle.miette.specs.rules.Options.{Options}
-use Rattle.miette.specs.declared.options.RgbColors.{RgbColors}
-use Rattle.miette.specs.declared.options.RgbColors.TheVariants.{Always, Preferred, Never}
+use Rattle.miette.specs.declared.options.builder.RgbColors.{RgbColors}
+use Rattle.miette.specs.declared.options.builder.RgbColors.TheVariants.{Always, Preferred, Never}
 use Rattle.miette.specs.declared.options.handler.MietteHandler.{MietteHandler}
 use Rattle.miette.specs.declared.options.handler.MietteHandler.TheVariants.{Graphical, Narrated, Brief}
 

@@ -1,8 +1,8 @@
 -- What a user may ask for: each option as it was set last, or nothing. The parameter is the type of highlighters.
 use Rattle.std.specs.Prelude.{ℕ, Bool, false, List, Option, None}
 use Rattle.miette_style.specs.rules.Themes.{Theme}
-use Rattle.miette.specs.declared.options.RgbColors.{RgbColors}
-use Rattle.miette.specs.declared.options.RgbColors.TheVariants.{Never}
+use Rattle.miette.specs.declared.options.builder.RgbColors.{RgbColors}
+use Rattle.miette.specs.declared.options.builder.RgbColors.TheVariants.{Never}
 
 pub record Options (H : Type 0) : Type 0 where
   pub brief : Bool

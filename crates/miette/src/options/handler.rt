@@ -4,7 +4,7 @@ ghost use Rattle.std.specs.Prelude.{IfOk};
 ghost use Rattle.miette.specs.rules.Choice.{IsChosen};
 ghost use Rattle.miette.specs.rules.Options.{no_options};
 
-use crate::options::{MietteHandlerOpts, Terminal};
+use crate::options::builder::MietteHandlerOpts;
 use miette_handlers::handlers::{
     BriefReportHandler, GraphicalReportHandler, NarratableReportHandler, ReportHandler,
 };
@@ -12,6 +12,7 @@ use miette_protocol::error::RenderError;
 use miette_protocol::protocol::Diagnostic;
 use miette_protocol::source::SourceCode;
 use miette_style::highlight::Highlighter;
+use miette_style::theme::Terminal;
 use miette_tree::report::Report;
 use std::alloc::{AllocError, Global};
 

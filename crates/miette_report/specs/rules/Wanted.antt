@@ -8,8 +8,8 @@ use Rattle.std.specs.Str.Parse.{digits_value}
 use Rattle.miette_style.specs.rules.Themes.{Theme, ansi_styles, ascii_characters, no_styles, unicode_characters}
 use Rattle.miette_style.specs.declared.theme.Terminal.{Terminal}
 use Rattle.miette.specs.rules.Options.{Options, no_options}
-use Rattle.miette.specs.declared.options.RgbColors.{RgbColors}
-use Rattle.miette.specs.declared.options.RgbColors.TheVariants.{Always, Preferred, Never}
+use Rattle.miette.specs.declared.options.builder.RgbColors.{RgbColors}
+use Rattle.miette.specs.declared.options.builder.RgbColors.TheVariants.{Always, Preferred, Never}
 use Rattle.miette_report.specs.declared.language.Language.{Language}
 use Rattle.miette_report.specs.declared.language.Language.TheVariants as language
 use Rattle.miette_report.specs.declared.language.LanguageHighlighter.{LanguageHighlighter}

@@ -6,12 +6,13 @@ ghost use Rattle.miette_style.specs.rules.Themes.{characters_of, styles_of, them
 ghost use Rattle.miette.specs.rules.Choice.{IsChosen, IsDrawing, chosen_highlighter, chosen_theme, chosen_width};
 ghost use Rattle.miette.specs.rules.Choice.{briefly, coloured_styles, fitting_theme, is_graphical, takes_colours, told};
 
-use crate::options::{MietteHandler, MietteHandlerOpts, RgbColors, Terminal};
+use crate::options::builder::{MietteHandlerOpts, RgbColors};
+use crate::options::handler::MietteHandler;
 use miette_handlers::handlers::{
     BriefReportHandler, GraphicalReportHandler, NarratableReportHandler,
 };
 use miette_style::highlight::Highlighter;
-use miette_style::theme::{GraphicalTheme, ThemeCharacters, ThemeStyles};
+use miette_style::theme::{GraphicalTheme, Terminal, ThemeCharacters, ThemeStyles};
 use std::alloc::{AllocError, Global};
 
 /// A graphical or a narrating handler with the causes, the context and the footer of options.

@@ -1,0 +1,326 @@
+//! What a user may ask of a handler.
+
+ghost use Rattle.std.specs.Prelude.{◌≡◌, ◌↔◌, ◌≤◌, IsTrue, None, Some, false, string_bytes, true};
+ghost use Rattle.miette_graphical.specs.views.Modes.{splits};
+ghost use Rattle.miette_style.specs.rules.Themes.{theme_of};
+ghost use Rattle.miette.specs.rules.Options.{no_options};
+
+mod choice;
+
+use miette_style::highlight::Highlighter;
+use miette_style::theme::GraphicalTheme;
+use miette_text::wrap::{WordSeparator, WordSplitter};
+use std::marker::Model;
+
+/// Which colours a report takes, where it takes any.
+#[derive(Clone, Copy, Debug, PartialEq, Eq, Default)]
+pub enum RgbColors {
+    /// Colours by their red, green and blue parts, whatever the terminal has.
+    Always,
+    /// The same where the terminal has 16 million colours; else its own colours.
+    Preferred,
+    /// The terminal's own colours.
+    #[default]
+    Never,
+}
+
+/// What comparing, cloning and the default of `RgbColors` say: equal where they are the same, a clone is the same,
+/// and the default is `Never`.
+pub fn rgb_colors_law()
+    ensures equal { (a b : RgbColors) → IsTrue (⟦<RgbColors as PartialEq>⟧.eq a b) ↔ (a ≡ b) }
+    ensures cloned { (a b : RgbColors) → ⟦<RgbColors as Clone>⟧.is_clone a b → b ≡ a }
+    ensures default { (it : RgbColors) → ⟦<RgbColors as Default>⟧.is_default it → it ≡ RgbColors.Never }
+{}
+
+/// What a user asks of a handler. An option that is set twice counts as it was set last; of one that isn't set the
+/// terminal decides, or the handler's own default stays.
+///
+/// Users write `MietteHandlerOpts`; the parameter is the type of the highlighter that is used. All calls but `build`
+/// take no memory.
+#[derive(Drop)]
+pub struct MietteHandlerOpts<H = Box<dyn Highlighter>> {
+    force_brief: bool,
+    force_narrated: Option<bool>,
+    force_graphical: Option<bool>,
+    width: Option<usize>,
+    links: Option<bool>,
+    theme: Option<GraphicalTheme>,
+    unicode: Option<bool>,
+    color: Option<bool>,
+    rgb_colors: RgbColors,
+    footer: Option<String>,
+    context_lines: Option<usize>,
+    cause_chain: Option<bool>,
+    tab_width: Option<usize>,
+    related_as_nested: Option<bool>,
+    wrap_lines: Option<bool>,
+    break_words: Option<bool>,
+    word_separator: Option<WordSeparator>,
+    word_splitter: Option<WordSplitter>,
+    end_labels: Option<bool>,
+    highlighter: Option<H>,
+}
+
+impl<H> Model for MietteHandlerOpts<H> {
+    ghost use Rattle.std.specs.Prelude.{◌≤◌, option_map, string_bytes, unwrap_or};
+    ghost use Rattle.miette_graphical.specs.views.Modes.{splits};
+    ghost use Rattle.miette_style.specs.rules.Themes.{theme_of};
+    ghost use Rattle.miette.specs.rules.Options.{Options};
+
+    ghost Value = { Options H };
+
+    ghost view = { λ it. record {
+      brief = it.force_brief;
+      narrated = it.force_narrated;
+      graphical = it.force_graphical;
+      width = it.width;
+      links = it.links;
+      theme = option_map theme_of it.theme;
+      unicode = it.unicode;
+      color = it.color;
+      rgb = it.rgb_colors;
+      footer = option_map string_bytes it.footer;
+      context = it.context_lines;
+      chain = it.cause_chain;
+      tab = it.tab_width;
+      nested = it.related_as_nested;
+      wraps = it.wrap_lines;
+      breaks = it.break_words;
+      hyphens = option_map splits it.word_splitter;
+      end_labels = it.end_labels;
+      highlighter = it.highlighter;
+    } };
+
+    ghost invariant = { λ it. 1 ≤ unwrap_or it.tab_width 1 };
+}
+
+impl<H> Default for MietteHandlerOpts<H> {
+    ghost use Rattle.std.specs.Prelude.{◌≡◌};
+    ghost use Rattle.miette.specs.rules.Options.{no_options};
+
+    ghost is_default = { λ it. it ≡ no_options };
+
+    fn default() -> Self {
+        MietteHandlerOpts {
+            force_brief: false,
+            force_narrated: None,
+            force_graphical: None,
+            width: None,
+            links: None,
+            theme: None,
+            unicode: None,
+            color: None,
+            rgb_colors: RgbColors::Never,
+            footer: None,
+            context_lines: None,
+            cause_chain: None,
+            tab_width: None,
+            related_as_nested: None,
+            wrap_lines: None,
+            break_words: None,
+            word_separator: None,
+            word_splitter: None,
+            end_labels: None,
+            highlighter: None,
+        }
+    }
+}
+
+impl MietteHandlerOpts {
+    /// Nothing is asked for.
+    pub fn new() -> Self
+        ensures { result ≡ no_options }
+    {
+        Self::default()
+    }
+}
+
+impl<H: Highlighter> MietteHandlerOpts<H> {
+    /// Whether a url becomes a link around the code, or a text behind it; else as the terminal shows links.
+    pub fn terminal_links(mut self, links: bool) -> Self
+        ensures { result ≡ record self { links = Some links } }
+    {
+        self.links = Some(links);
+        self
+    }
+
+    /// Pictures are drawn with this theme, whatever is said of colours and characters.
+    pub fn graphical_theme(mut self, theme: GraphicalTheme) -> Self
+        ensures { result ≡ record self { theme = Some (theme_of theme) } }
+    {
+        self.theme = Some(theme);
+        self
+    }
+
+    /// Styles the lines of sources in pictures by this highlighter, where pictures have colours.
+    pub fn with_syntax_highlighting(mut self, highlighter: H) -> Self
+        ensures { result ≡ record self { highlighter = Some highlighter } }
+    {
+        self.highlighter = Some(highlighter);
+        self
+    }
+
+    /// Leaves the lines of sources plain.
+    pub fn without_syntax_highlighting(mut self) -> Self
+        ensures { result ≡ record self { highlighter = None } }
+    {
+        self.highlighter = None;
+        self
+    }
+
+    /// How many columns a wrapped row may have; else as many as the terminal has, or 80.
+    pub fn width(mut self, width: usize) -> Self
+        ensures { result ≡ record self { width = Some width } }
+    {
+        self.width = Some(width);
+        self
+    }
+
+    /// Whether rows are wrapped to the width.
+    pub fn wrap_lines(mut self, wrap_lines: bool) -> Self
+        ensures { result ≡ record self { wraps = Some wrap_lines } }
+    {
+        self.wrap_lines = Some(wrap_lines);
+        self
+    }
+
+    /// Whether a word that is wider than its row is broken.
+    pub fn break_words(mut self, break_words: bool) -> Self
+        ensures { result ≡ record self { breaks = Some break_words } }
+    {
+        self.break_words = Some(break_words);
+        self
+    }
+
+    /// How words are told apart. There is one way.
+    pub fn word_separator(mut self, word_separator: WordSeparator) -> Self
+        ensures { result ≡ self }
+    {
+        self.word_separator = Some(word_separator);
+        self
+    }
+
+    /// Where words may be cut.
+    pub fn word_splitter(mut self, word_splitter: WordSplitter) -> Self
+        ensures { result ≡ record self { hyphens = Some (splits word_splitter) } }
+    {
+        self.word_splitter = Some(word_splitter);
+        self
+    }
+
+    /// The causes of the report are shown, by each handler.
+    pub fn with_cause_chain(mut self) -> Self
+        ensures { result ≡ record self { chain = Some true } }
+    {
+        self.cause_chain = Some(true);
+        self
+    }
+
+    /// The causes of the report are not shown, by any handler.
+    pub fn without_cause_chain(mut self) -> Self
+        ensures { result ≡ record self { chain = Some false } }
+    {
+        self.cause_chain = Some(false);
+        self
+    }
+
+    /// Related reports stand one after another.
+    pub fn show_related_errors_as_siblings(mut self) -> Self
+        ensures { result ≡ record self { nested = Some false } }
+    {
+        self.related_as_nested = Some(false);
+        self
+    }
+
+    /// Related reports stand under arrows, as causes do.
+    pub fn show_related_errors_as_nested(mut self) -> Self
+        ensures { result ≡ record self { nested = Some true } }
+    {
+        self.related_as_nested = Some(true);
+        self
+    }
+
+    /// Whether pictures have colours, whatever the terminal has; else where it has some.
+    pub fn color(mut self, color: bool) -> Self
+        ensures { result ≡ record self { color = Some color } }
+    {
+        self.color = Some(color);
+        self
+    }
+
+    /// Which colours pictures have, where they have any.
+    pub fn rgb_colors(mut self, colors: RgbColors) -> Self
+        ensures { result ≡ record self { rgb = colors } }
+    {
+        self.rgb_colors = colors;
+        self
+    }
+
+    /// Whether pictures have characters of Unicode, or of ASCII alone; else as the terminal draws them.
+    pub fn unicode(mut self, unicode: bool) -> Self
+        ensures { result ≡ record self { unicode = Some unicode } }
+    {
+        self.unicode = Some(unicode);
+        self
+    }
+
+    /// Whether reports are pictures or narrated, whatever the terminal's user says of graphics.
+    pub fn force_graphical(mut self, force: bool) -> Self
+        ensures { result ≡ record self { graphical = Some force } }
+    {
+        self.force_graphical = Some(force);
+        self
+    }
+
+    /// Whether reports are brief, a row for each part. Where they are, this counts before all that is said of pictures
+    /// and narration; where they are not, nothing changes.
+    pub fn force_brief(mut self, force: bool) -> Self
+        ensures { result ≡ record self { brief = force } }
+    {
+        self.force_brief = force;
+        self
+    }
+
+    /// Whether reports are narrated or pictures. This counts before all else that is said of it, but `force_brief`.
+    pub fn force_narrated(mut self, force: bool) -> Self
+        ensures { result ≡ record self { narrated = Some force } }
+    {
+        self.force_narrated = Some(force);
+        self
+    }
+
+    /// A text under each outermost report, in pictures and narrated.
+    pub fn footer(mut self, footer: String) -> Self
+        ensures { result ≡ record self { footer = Some (string_bytes footer) } }
+    {
+        self.footer = Some(footer);
+        self
+    }
+
+    /// How many lines of context are shown around a label that has no number of its own, in pictures and
+    /// narrated.
+    pub fn context_lines(mut self, lines: usize) -> Self
+        ensures { result ≡ record self { context = Some lines } }
+    {
+        self.context_lines = Some(lines);
+        self
+    }
+
+    /// Whether a label at the end of a source that isn't empty is drawn in pictures, behind the text of the last line;
+    /// else it isn't.
+    pub fn end_labels(mut self, drawn: bool) -> Self
+        ensures { result ≡ record self { end_labels = Some drawn } }
+    {
+        self.end_labels = Some(drawn);
+        self
+    }
+
+    /// Tabs go on to the next multiple of so many columns. At least 1 is the caller's condition.
+    pub fn tab_width(mut self, width: usize) -> Self
+        requires { 1 ≤ width }
+        ensures { result ≡ record self { tab = Some width } }
+    {
+        self.tab_width = Some(width);
+        self
+    }
+}
