@@ -10,7 +10,7 @@ use Rattle.miette_lines.specs.rules.Contexts.{is_accepted}
 use Rattle.miette_brief.specs.rules.Rows.{Place}
 use Rattle.miette_brief.specs.rules.Places.{marked_span, primary_span, span_place, own_place}
 use Rattle.miette_brief.specs.rules.Answered.{accepts}
-use Rattle.miette_brief.specs.views.Read.{IsUnread, IsBegin, IsCausePlace}
+use Rattle.miette_brief.specs.steps.Read.{IsUnread, IsBegin, IsCausePlace}
 use Rattle.miette_brief.proofs.Noting.{accepted_true, true_accepted}
 
 -- ---- of labels, the first that is marked

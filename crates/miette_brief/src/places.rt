@@ -10,9 +10,9 @@ ghost use Rattle.miette_brief.specs.rules.Rows.{nowhere};
 ghost use Rattle.miette_brief.specs.rules.Places.{span_place as begin_of_span, primary_span as primary_of};
 ghost use Rattle.miette_brief.specs.rules.Places.{label_place as place_of_label};
 ghost use Rattle.miette_brief.specs.rules.Answered.{accepts};
-ghost use Rattle.miette_brief.specs.views.Given.{place_of};
-ghost use Rattle.miette_brief.specs.views.Read.{IsUnread, IsReadAt, IsBegin, IsNamePlace, IsDiagnosticPlace};
-ghost use Rattle.miette_brief.specs.views.Read.{IsCausePlace};
+ghost use Rattle.miette_brief.specs.steps.Given.{place_of};
+ghost use Rattle.miette_brief.specs.steps.Read.{IsUnread, IsReadAt, IsBegin, IsNamePlace, IsDiagnosticPlace};
+ghost use Rattle.miette_brief.specs.steps.Read.{IsCausePlace};
 
 use crate::rows::{Place, Position};
 use miette_lines::order::{Turn, by_offset};

@@ -16,8 +16,8 @@ ghost use Rattle.miette_brief.specs.rules.Report.{finding_row, note_rows_of, not
 ghost use Rattle.miette_brief.specs.rules.Answered.{HasAccepted, accepts, accepts_report, accepts_related};
 ghost use Rattle.miette_brief.specs.rules.Answered.{report_accepted, AppendsCauses, AppendsOwn, AppendsReport};
 ghost use Rattle.miette_brief.specs.rules.Answered.{AppendsRelated, IsBrief};
-ghost use Rattle.miette_brief.specs.views.Given.{place_of};
-ghost use Rattle.miette_brief.specs.views.Read.{IsUnread, IsReadAt};
+ghost use Rattle.miette_brief.specs.steps.Given.{place_of};
+ghost use Rattle.miette_brief.specs.steps.Read.{IsUnread, IsReadAt};
 
 use crate::places::{cause_place, diagnostic_place, label_of, label_place};
 use crate::rows::{Kind, Place, push_row};

@@ -3,7 +3,7 @@ use Rattle.std.proofs.Common.{Global, ◌≡◌, ℕ, suc, zero, ◌+◌, ◌<�
 use Rattle.std.proofs.Math.Seq.{drop-cons}
 use Rattle.std.proofs.lemmas.List.{map-append}
 use Rattle.serde_json.specs.Data.{Data, item}
-use Rattle.miette_description.specs.views.Seen.{seen, items_seen}
+use Rattle.miette_description.specs.steps.Seen.{seen, items_seen}
 use Rattle.json.specs.declared.value.Value.{Value}
 use Rattle.miette_description.specs.rules.Members.{given, all_of}
 

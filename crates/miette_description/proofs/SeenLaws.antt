@@ -13,7 +13,7 @@ use Rattle.serde_json.specs.Find.{get, get_member, as_null, as_bool, as_str, as_
 use Rattle.serde_json.specs.Read.{number_of, of_json, of_items, of_members}
 use Rattle.serde_json.specs.Written.{has_float, items_have_float, members_have_float}
 use Rattle.serde_json.proofs.Views.{get_member-put, get_member-put_other}
-use Rattle.miette_description.specs.views.Seen.{number_data, data_of, items_data, members_data, is_integral, are_integral, have_integral, seen}
+use Rattle.miette_description.specs.steps.Seen.{number_data, data_of, items_data, members_data, is_integral, are_integral, have_integral, seen}
 
 -- ---- the value of a text, where it has one
 

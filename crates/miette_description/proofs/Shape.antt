@@ -5,7 +5,7 @@ use Rattle.std.specs.Ordering.{match_ordering}
 use Rattle.std.specs.Cmp.Lexicographic.{slice_cmp}
 use Rattle.serde_json.specs.Data.{Data, null, boolean, number, string, array, object, Items, no_items, item, Members, no_members, member, depth, items_depth, members_depth}
 use Rattle.serde_json.specs.Find.{get, get_member, as_null, as_array, as_str}
-use Rattle.miette_description.specs.views.Seen.{seen, items_seen}
+use Rattle.miette_description.specs.steps.Seen.{seen, items_seen}
 use Rattle.json.specs.declared.value.Value.{Value}
 use Rattle.miette_tree.specs.rules.Tree.{Tree, Trees, trees}
 use Rattle.miette_description.specs.rules.Members.{given, present, at_key, typed, all_of, list_of, source_of, meaning_in}

@@ -3,7 +3,7 @@
 ghost use Rattle.std.specs.Prelude.{◌≡◌, ◌≤◌, ℕ, Option, Some, None, option_map};
 ghost use Rattle.std.specs.Option.{option_copied};
 ghost use Rattle.serde_json.specs.Find.{as_bool, as_str};
-ghost use Rattle.miette_description.specs.views.Seen.{seen};
+ghost use Rattle.miette_description.specs.steps.Seen.{seen};
 ghost use Rattle.miette_description.specs.rules.Members.{given, at_key, typed, whole, lines_of};
 
 use crate::parsed::{member_at, text_in, truth_in, whole_in};

@@ -4,7 +4,7 @@ ghost use Rattle.std.specs.Prelude.{◌≡◌, option_map};
 ghost use Rattle.std.specs.Option.{option_copied};
 ghost use Rattle.serde_json.specs.Find.{as_bool, as_str, as_array, get};
 ghost use Rattle.miette_description.specs.rules.Members.{at_key, whole};
-ghost use Rattle.miette_description.specs.views.Seen.{seen, items_seen};
+ghost use Rattle.miette_description.specs.steps.Seen.{seen, items_seen};
 
 use crate::numbers::natural;
 use json::Value;

@@ -5,7 +5,7 @@ ghost use Rattle.std.specs.Prelude.{option_and_then, option_map, unwrap_or, map,
 ghost use Rattle.json.specs.Value.{value_view};
 ghost use Rattle.serde_json.specs.Read.{read, of_json};
 ghost use Rattle.serde_json.specs.Written.{has_float};
-ghost use Rattle.miette_description.specs.views.Seen.{seen, items_seen};
+ghost use Rattle.miette_description.specs.steps.Seen.{seen, items_seen};
 ghost use Rattle.miette_tree.specs.rules.Tree.{tree, head, source_of, cause_of, related_of, texts, no_trees, trees};
 ghost use Rattle.miette_tree.specs.rules.Tree.{with_source, with_cause, with_related};
 ghost use Rattle.miette_tree.specs.views.Report.{tree_of};

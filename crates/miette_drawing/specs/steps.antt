@@ -1,6 +1,5 @@
 -- The code's own steps, which no rule names.
 pub mod Framed
-pub mod Lent
 pub mod Made
 pub mod Sheets
 pub mod TellingCells

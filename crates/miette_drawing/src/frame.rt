@@ -9,7 +9,8 @@ ghost use Rattle.miette_page.specs.views.Told.{told, told_rows, run_told, text_t
 ghost use Rattle.miette_snippets.specs.rules.Frames.{top_row_of, bottom_row, location, location_of, place_text};
 ghost use Rattle.miette_snippets.specs.rules.Frames.{refused_row, text_or_none};
 ghost use Rattle.miette_snippets.specs.views.ThemeSettings.{settings_of};
-ghost use Rattle.miette_drawing.specs.steps.Framed.{corner_row, place_at, refused_front};
+ghost use Rattle.miette_drawing.specs.steps.Framed.{corner_row, refused_front};
+ghost use Rattle.miette_drawing.specs.views.Lent.{place_at};
 
 use crate::sheet::Outcome;
 use miette_page::canvas::Canvas;

@@ -24,8 +24,8 @@ ghost use Rattle.miette_snippets.specs.views.ThemeSettings.{settings_of};
 ghost use Rattle.miette_lines.specs.views.Given.{drawn_of};
 ghost use Rattle.miette_snippets.specs.rules.Highlighted.{AreCallsOn, leaves_plain};
 ghost use Rattle.miette_style.specs.rules.Asked.{restarted};
-ghost use Rattle.miette_drawing.specs.steps.Lent.{PutsRows, PutsSnippet, texts_in, lent_rows};
-ghost use Rattle.miette_drawing.specs.steps.Lent.{width_of_count, gutter_of};
+ghost use Rattle.miette_drawing.specs.views.Lent.{PutsRows, PutsSnippet, texts_in, lent_rows};
+ghost use Rattle.miette_drawing.specs.views.Lent.{width_of_count, gutter_of};
 ghost use Rattle.miette_lines.specs.views.Sweeping.{IsAt, AreSorted};
 
 use crate::frame::{Frame, push_bottom_row, push_top_row};

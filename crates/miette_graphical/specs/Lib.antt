@@ -1,3 +1,4 @@
 pub mod rules
 pub mod views
 pub mod laws
+pub mod steps

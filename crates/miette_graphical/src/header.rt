@@ -5,7 +5,7 @@ ghost use Rattle.miette_runs.specs.rules.Runs.{print, printed_run};
 ghost use Rattle.miette_style.specs.rules.Codes.{is_nil};
 ghost use Rattle.miette_graphical.specs.rules.DiagnosticText as parts;
 ghost use Rattle.miette_graphical.specs.views.Modes.{urls_of};
-ghost use Rattle.miette_graphical.specs.views.SettingsView.{settings_of};
+ghost use Rattle.miette_graphical.specs.steps.SettingsView.{settings_of};
 
 use crate::settings::{Layout, UrlMode};
 use miette_page::page::PLAIN;

@@ -2,7 +2,7 @@
 
 ghost use Rattle.std.specs.Prelude.{◌≡◌, ◌++◌, ◌-◌, ℕ, List, IfOk, OnOk, chars, false, option_map, true};
 ghost use Rattle.miette_graphical.specs.views.Modes.{splits};
-ghost use Rattle.miette_graphical.specs.views.SettingsView.{settings_of};
+ghost use Rattle.miette_graphical.specs.steps.SettingsView.{settings_of};
 ghost use Rattle.miette_graphical.specs.rules.Indents as indents;
 ghost use Rattle.miette_graphical.specs.rules.DiagnosticText as parts;
 ghost use Rattle.miette_text.specs.views.Plans.{printed_plan};

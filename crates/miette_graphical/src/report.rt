@@ -11,7 +11,7 @@ ghost use Rattle.miette_snippets.specs.rules.Highlighted.{AreCallsOn, leaves_pla
 ghost use Rattle.miette_tree.specs.views.Owned.{shown_source};
 ghost use Rattle.miette_graphical.specs.rules.Snippets.{drawn_rows};
 ghost use Rattle.miette_graphical.specs.rules.Text as texts;
-ghost use Rattle.miette_graphical.specs.views.SettingsView.{settings_of};
+ghost use Rattle.miette_graphical.specs.steps.SettingsView.{settings_of};
 ghost use Rattle.miette_tree.specs.views.Report.{tree_of};
 ghost use Rattle.miette_tree.specs.rules.Tree.{cause_of, effective, head, source_of, trees};
 ghost use Rattle.miette_runs.specs.rules.Sequences.{spell};

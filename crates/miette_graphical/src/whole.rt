@@ -6,7 +6,7 @@ ghost use Rattle.miette_tree.specs.views.Handler.{AppendsOne};
 ghost use Rattle.miette_graphical.specs.rules.Printed.{all_read, printed, printed_root_causes};
 ghost use Rattle.miette_snippets.specs.rules.Highlighted.{AreCallsOn, leaves_plain};
 ghost use Rattle.miette_graphical.specs.rules.Snippets.{drawn_rows};
-ghost use Rattle.miette_graphical.specs.views.SettingsView.{settings_of};
+ghost use Rattle.miette_graphical.specs.steps.SettingsView.{settings_of};
 ghost use Rattle.miette_tree.specs.views.Report.{tree_of};
 
 use crate::diagnostic::{push_header_of, push_message_of};

@@ -8,7 +8,6 @@ pub use Rattle.miette_graphical.specs.rules.DiagnosticText
 pub use Rattle.miette_graphical.specs.rules.Text
 pub use Rattle.miette_graphical.specs.laws.Clean
 pub use Rattle.miette_graphical.specs.laws.Colourless
-pub use Rattle.miette_graphical.specs.views.SettingsView
 pub use Rattle.miette_graphical.specs.rules.Printed
 pub use Rattle.miette_graphical.specs.laws.Paths
 pub use Rattle.miette_graphical.specs.laws.Alike

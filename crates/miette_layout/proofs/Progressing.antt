@@ -30,7 +30,7 @@ use Rattle.miette_lines.specs.rules.Groups.{in_order, refusal, groups_of, some_f
 use Rattle.miette_snippets.specs.rules.Highlighted.{EachHasPieces, SnippetsHavePieces, texts_of, line_calls, group_calls, snippet_calls}
 use Rattle.miette_lines.specs.rules.Labels.{DrawnLabel, drawn_from, some_shows_end}
 use Rattle.miette_snippets.specs.rules.SnippetLayout.{snippet, all_snippets, drawn_labels, line_rows, settings_around, rows_unless, place_of, body_rows}
-use Rattle.miette_drawing.specs.steps.Lent.{cells_in, lent_rows, lent_snippet, PutsRows}
+use Rattle.miette_drawing.specs.views.Lent.{cells_in, lent_rows, lent_snippet, PutsRows}
 use Rattle.miette_lines.specs.views.Placing.{told_end, placed_from}
 use Rattle.miette_lines.specs.views.Primary.{chosen, PointsTo, is_unread}
 use Rattle.miette_lines.specs.views.Read.{IsRead, IsLent, AreGroups, AreGrouped, IsUnread, AreRead, name_of}

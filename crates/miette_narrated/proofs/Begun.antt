@@ -8,7 +8,7 @@ use Rattle.miette_newlines.specs.rules.Lines.{Line}
 use Rattle.miette_lines.specs.declared.sweep.Placed.{Placed}
 use Rattle.miette_narrated.specs.rules.Labels.{Shown, label_row, label_rows}
 use Rattle.miette_narrated.specs.steps.Ends.{is_ended, is_begun}
-use Rattle.miette_narrated.specs.views.Made.{told_of, all_told}
+use Rattle.miette_narrated.specs.steps.Made.{told_of, all_told}
 use Rattle.miette_narrated.specs.steps.Sweeping.{BeginsFrom, AreOrdered}
 use Rattle.miette_narrated.proofs.Sweeps.{by_cases, lower, row_beyond}
 

@@ -22,7 +22,7 @@ use Rattle.miette_lines.specs.rules.Groups as groups
 use Rattle.miette_lines.specs.views.Placing.{placed_one, placed_from}
 use Rattle.miette_lines.specs.views.Read.{IsRead, AreRead, IsLent, AreGroups, AreGrouped, IsUnread}
 use Rattle.miette_narrated.specs.rules.Labels.{Told, told}
-use Rattle.miette_narrated.specs.views.Made.{told_of, all_told}
+use Rattle.miette_narrated.specs.steps.Made.{told_of, all_told}
 use Rattle.miette_narrated.specs.rules.Snippets.{snippet, snippets_of}
 use Rattle.miette_narrated.specs.rules.Answered.{AppendsSnippets, accepts, is_nil}
 use Rattle.miette_narrated.specs.steps.Sweeping.{BeginsFrom, AreOrdered}

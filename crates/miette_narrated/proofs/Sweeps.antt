@@ -6,7 +6,7 @@ use Rattle.std.proofs.lemmas.Bool.{leb-false, lt-leb}
 use Rattle.miette_protocol.specs.views.Meaning.{Label}
 use Rattle.miette_lines.specs.declared.sweep.Placed.{Placed}
 use Rattle.miette_narrated.specs.rules.Labels.{Shown, ends_before, whole_row, start_row, end_row, label_row, label_rows}
-use Rattle.miette_narrated.specs.views.Made.{told_of, all_told}
+use Rattle.miette_narrated.specs.steps.Made.{told_of, all_told}
 use Rattle.miette_narrated.specs.steps.Sweeping.{reaches, IsAt, BeginsFrom, AreOrdered, last_start}
 
 pub by_cases : {C : Type 0} (b : Bool) → (b ≡ true → C) → (b ≡ false → C) → C

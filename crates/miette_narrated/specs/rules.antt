@@ -5,4 +5,3 @@ pub mod Lines
 pub mod Snippets
 pub mod Report
 pub mod Answered
-pub mod NarrationSettings

@@ -4,7 +4,7 @@ ghost use Rattle.std.specs.Prelude.{◌≡◌, ◌++◌, true, false, Some, OnOk
 ghost use Rattle.miette_tree.specs.views.Report.{tree_of};
 ghost use Rattle.miette_narrated.specs.rules.Report.{default_settings, narrated as narrated_text, unlisted};
 ghost use Rattle.miette_narrated.specs.rules.Answered.{Appends, report_reads, report_accepted};
-ghost use Rattle.miette_narrated.specs.rules.NarrationSettings.{settings_of};
+ghost use Rattle.miette_narrated.specs.steps.NarrationSettings.{settings_of};
 
 use crate::report::narration_of;
 use crate::settings::NarrationSettings;

@@ -7,7 +7,7 @@ ghost use Rattle.miette_narrated.specs.rules.Labels.{column_row, start_row, end_
 ghost use Rattle.miette_narrated.specs.rules.Labels.{label_rows};
 ghost use Rattle.std.specs.List.{All};
 ghost use Rattle.miette_narrated.specs.steps.Ends.{labels_of};
-ghost use Rattle.miette_narrated.specs.views.Made.{told_of, all_told, shown_of};
+ghost use Rattle.miette_narrated.specs.steps.Made.{told_of, all_told, shown_of};
 ghost use Rattle.miette_narrated.specs.steps.Places.{IsPlace};
 ghost use Rattle.miette_narrated.specs.steps.Trails.{IsTrail};
 

@@ -3,7 +3,7 @@
 ghost use Rattle.std.specs.Prelude.{◌≡◌, false, ◌++◌, ◌+◌, ◌<◌, ◌≤◌, ◌^◌, length, OnOk, string_bytes};
 ghost use Rattle.miette_lines.specs.rules.Contexts.{lines_of_contents};
 ghost use Rattle.miette_newlines.specs.views.Walking.{line_of_text};
-ghost use Rattle.miette_narrated.specs.views.Made.{all_told, shown_of};
+ghost use Rattle.miette_narrated.specs.steps.Made.{all_told, shown_of};
 ghost use Rattle.miette_narrated.specs.rules.Lines.{shown, line_row, rows_of_line, rows_of_lines};
 ghost use Rattle.miette_narrated.specs.steps.Ends.{IsOrder};
 ghost use Rattle.miette_narrated.specs.rules.Labels.{label_rows};

@@ -9,7 +9,7 @@ ghost use Rattle.miette_narrated.specs.rules.Report.{title, severity_row, head_r
 ghost use Rattle.miette_narrated.specs.rules.Report.{causes_if, advice_rows, url_rows, blank_before};
 ghost use Rattle.miette_narrated.specs.rules.Answered.{AppendsSnippets, AppendsReport, AppendsRelated, IsNarrated};
 ghost use Rattle.miette_narrated.specs.rules.Answered.{accepts, holds_of, holds_of_all, report_accepted};
-ghost use Rattle.miette_narrated.specs.rules.NarrationSettings.{settings_of};
+ghost use Rattle.miette_narrated.specs.steps.NarrationSettings.{settings_of};
 
 use crate::settings::NarrationSettings;
 use crate::snippets::push_snippets;

@@ -2,7 +2,7 @@
 
 ghost use Rattle.std.specs.Prelude.{◌≡◌};
 ghost use Rattle.std.specs.List.{All};
-ghost use Rattle.miette_narrated.specs.views.Made.{shown_of};
+ghost use Rattle.miette_narrated.specs.steps.Made.{shown_of};
 ghost use Rattle.miette_narrated.specs.steps.Places.{IsPlace};
 ghost use Rattle.miette_narrated.specs.steps.Trails.{IsTrail};
 

@@ -6,7 +6,7 @@ ghost use Rattle.std.specs.List.{All};
 ghost use Rattle.miette_lines.specs.rules.Groups.{in_order};
 ghost use Rattle.miette_lines.specs.views.Given.{label_at};
 ghost use Rattle.miette_lines.specs.views.Read.{IsRead};
-ghost use Rattle.miette_narrated.specs.views.Made.{all_told};
+ghost use Rattle.miette_narrated.specs.steps.Made.{all_told};
 ghost use Rattle.miette_narrated.specs.rules.Answered.{AppendsSnippets, accepts};
 ghost use Rattle.miette_narrated.specs.rules.Snippets.{name_text, begin_rows, snippet};
 ghost use Rattle.miette_narrated.specs.steps.Ends.{IsOrder};

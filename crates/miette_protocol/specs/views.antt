@@ -1,6 +1,5 @@
 -- What the code's values stand for.
 pub mod Named
 pub mod Meaning
-pub mod ContextLines
 pub mod Diagnostic
 pub use Rattle.miette_newlines.specs.views.Walking

@@ -3,7 +3,7 @@
 ghost use Rattle.std.specs.Prelude.{◌≡◌, IfOk, OnOk};
 ghost use Rattle.std.specs.Option.{option_map};
 ghost use Rattle.std.specs.Int.NonZero.{non_zero_usize_get};
-ghost use Rattle.miette_protocol.specs.views.ContextLines.{ReadsLines, WritesLines};
+ghost use Rattle.miette_protocol.specs.steps.ContextLines.{ReadsLines, WritesLines};
 ghost use Rattle.miette_protocol.specs.views.Meaning.{counted};
 
 use serde::{Deserialize, Deserializer, Format, Serialize, Serializer};

@@ -22,7 +22,7 @@ use Rattle.miette_graphical.specs.rules.Answered as drawn
 use Rattle.miette_graphical.specs.views.Handling.{Handling, draws_plain}
 use Rattle.miette_graphical.specs.rules.Snippets.{drawn_rows}
 use Rattle.miette_graphical.specs.rules.Text.{report_text}
-use Rattle.miette_report.specs.rules.Chosen.{IsAsked, IsGiven, MayRefuse, Stays}
+use Rattle.miette_report.specs.steps.Chosen.{IsAsked, IsGiven, MayRefuse, Stays}
 use Rattle.miette_description.specs.rules.Description.{tree_for}
 use Rattle.miette_report.specs.rules.Job.{IsBuiltText, IsJobText, IsTelling, IsRefused, Writes}
 use Rattle.miette_report.specs.declared.chosen.Chosen.{Chosen}

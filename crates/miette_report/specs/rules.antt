@@ -3,6 +3,5 @@ pub mod Words
 pub mod Asked
 pub mod Wanted
 pub mod Job
-pub mod Chosen
 pub mod Faults
 pub mod Findings

@@ -3,4 +3,3 @@ pub mod Marked
 pub mod Device
 pub mod Drawn
 pub mod Linted
-pub mod AskView

@@ -6,7 +6,7 @@ ghost use Rattle.miette_style.specs.rules.Themes.{theme_of as theme_value};
 ghost use Rattle.miette_report.specs.rules.Asked.{chosen_by, choice_in};
 ghost use Rattle.miette_report.specs.rules.Wanted.{AreWanted, asked_by, by_language, facts_of, facts_with};
 ghost use Rattle.miette_report.specs.rules.Wanted.{nothing_asked, options_with as with_option, wanted, with_ask};
-ghost use Rattle.miette_report.specs.views.AskView.{ask_of, option_ask, terminal_ask, theme_named};
+ghost use Rattle.miette_report.specs.steps.AskView.{ask_of, option_ask, terminal_ask, theme_named};
 
 use crate::fault::Fault;
 use crate::language::LanguageHighlighter;

@@ -3,7 +3,7 @@
 ghost use Rattle.std.specs.Prelude.{◌≡◌, ◌⊎◌, IfOk, OnErr, string_bytes};
 ghost use Rattle.miette_tree.specs.views.Report.{tree_of};
 ghost use Rattle.miette_json.specs.rules.Reads.{AlwaysReads};
-ghost use Rattle.miette_report.specs.rules.Chosen.{IsAsked, IsGiven, MayRefuse, Stays};
+ghost use Rattle.miette_report.specs.steps.Chosen.{IsAsked, IsGiven, MayRefuse, Stays};
 
 use crate::arguments::Arguments;
 use crate::fault::Fault;

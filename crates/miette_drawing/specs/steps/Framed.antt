@@ -3,14 +3,11 @@ use Rattle.std.specs.Prelude.{ℕ, ◌+◌, [], ◌∷◌, replicate, codes}
 use Rattle.miette_protocol.specs.views.Meaning.{Label}
 use Rattle.miette_page.specs.rules.Rows.{Row, styled, unstyled}
 use Rattle.miette_snippets.specs.rules.Drawing.{blank}
-use Rattle.miette_snippets.specs.rules.Frames.{SnippetSettings, Place, text_or_none}
+use Rattle.miette_snippets.specs.rules.Frames.{SnippetSettings, text_or_none}
 
 -- a corner behind the columns of line numbers, and so many bars
 abbrev pub corner_row : SnippetSettings → ℕ → ℕ → ℕ → Row
 corner_row s w corner many = blank s.width (w + 2) ∷ unstyled s.width (corner ∷ replicate many s.characters.hbar) ∷ []
-
-abbrev pub place_at : ℕ × ℕ → Place
-place_at p = record { line = p.0; column = p.1 }
 
 -- the row of a refused label up to its offset
 abbrev pub refused_front : SnippetSettings → Label → Row

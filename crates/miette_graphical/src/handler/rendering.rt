@@ -13,7 +13,7 @@ ghost use Rattle.miette_graphical.specs.laws.Clean.{AreCleanSettings, IsCleanTre
 ghost use Rattle.miette_graphical.specs.laws.Colourless.{IsColouredText, IsRestyledText, colourless};
 ghost use Rattle.miette_graphical.specs.laws.Headline.{EndsAreDrawn, LinesAreShown, MarksAreApart, TextsHang};
 ghost use Rattle.miette_graphical.specs.views.Handling.{AreCallsOf, draws_plain, follows_of};
-ghost use Rattle.miette_graphical.specs.views.SettingsView.{settings_of};
+ghost use Rattle.miette_graphical.specs.steps.SettingsView.{settings_of};
 ghost use Rattle.miette_tree.specs.views.Handler.{AppendsOne};
 ghost use Rattle.miette_runs.specs.rules.Sequences.{erase};
 ghost use Rattle.miette_text.specs.rules.Tame.{AppendsErasing};

@@ -8,8 +8,8 @@ use Rattle.miette_lines.specs.declared.order.Turn.{Turn}
 use Rattle.miette_brief.specs.rules.Rows.{rows_text}
 use Rattle.miette_brief.specs.rules.Report.{note_rows}
 use Rattle.miette_brief.specs.rules.Answered.{accepts, HasAccepted}
-use Rattle.miette_brief.specs.views.Given.{place_of}
-use Rattle.miette_brief.specs.views.Read.{IsDiagnosticPlace}
+use Rattle.miette_brief.specs.steps.Given.{place_of}
+use Rattle.miette_brief.specs.steps.Read.{IsDiagnosticPlace}
 use Rattle.miette_brief.proofs.Telling.{own_told}
 use Rattle.miette_brief.proofs.report.push_own.Goals as goal
 

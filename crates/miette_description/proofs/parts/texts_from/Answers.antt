@@ -1,6 +1,6 @@
 use Rattle.std.proofs.Common.{rules, ◌≡◌, Some, string_bytes, [], ◌∷◌, ◌++◌}
 use Rattle.serde_json.specs.Find.{as_str}
-use Rattle.miette_description.specs.views.Seen.{seen}
+use Rattle.miette_description.specs.steps.Seen.{seen}
 use Rattle.miette_description.proofs.Lists.{one_read_as}
 use Rattle.miette_description.proofs.parts.texts_from.Goals as goal
 

@@ -1,7 +1,7 @@
 use Rattle.std.proofs.Common.{rules, ◌≡◌, ◌<◌, ◌+◌, ◌*◌, ◌++◌, [], ◌∷◌, ap, sym, ◌∙◌, Some, Result, Ok, Err, IfOk, option_map, arith}
 use Rattle.miette_description.proofs.Lists.{one_fails, one_read_as}
 use Rattle.serde_json.specs.Data.{depth, items_depth}
-use Rattle.miette_description.specs.views.Seen.{seen, items_seen}
+use Rattle.miette_description.specs.steps.Seen.{seen, items_seen}
 use Rattle.miette_tree.specs.rules.Tree.{trees}
 use Rattle.miette_tree.specs.views.Report.{tree_of}
 use Rattle.miette_description.specs.rules.Members.{at_key}

@@ -1,6 +1,6 @@
 use Rattle.std.proofs.Common.{◌+◌, ◌*◌, map}
 use Rattle.serde_json.specs.Data.{depth, items_depth}
-use Rattle.miette_description.specs.views.Seen.{seen, items_seen}
+use Rattle.miette_description.specs.steps.Seen.{seen, items_seen}
 use Rattle.miette_tree.specs.views.Report.{tree_of}
 use Rattle.miette_description.specs.rules.Description.{report_in}
 use Rattle.miette_description.proofs.Lists.{ReadSoFar}

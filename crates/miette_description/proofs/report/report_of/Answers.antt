@@ -2,7 +2,7 @@ use Rattle.std.proofs.Common.{rules, ◌≡◌, Some, sym, subst}
 use Rattle.miette_json.specs.rules.Reads.{AlwaysReads}
 use Rattle.miette_tree.specs.views.Report.{tree_of}
 use Rattle.miette_description.specs.rules.Description.{described}
-use Rattle.miette_description.specs.views.Seen.{seen}
+use Rattle.miette_description.specs.steps.Seen.{seen}
 use Rattle.miette_description.proofs.Sources.{described_reads}
 use Rattle.miette_description.proofs.report.report_of.Goals as goal
 

@@ -4,7 +4,7 @@ use Rattle.std.specs.Prelude.{codes, ◌&&◌}
 use Rattle.miette_page.specs.rules.Rows.{styled}
 use Rattle.miette_style.specs.rules.Styles.{plain}
 use Rattle.miette_snippets.specs.rules.Frames.{place_text}
-use Rattle.miette_drawing.specs.steps.Framed.{place_at}
+use Rattle.miette_drawing.specs.views.Lent.{place_at}
 use Rattle.miette_lines.specs.views.Given.{width_of}
 use Rattle.miette_page.specs.views.Told.{told}
 use Rattle.miette_drawing.proofs.Framing.{bare_put}

@@ -2,7 +2,7 @@ use Rattle.miette_page.specs.views.Printouts.{◌⊕◌}
 use Rattle.std.proofs.Common.{◌++◌, ◌≡◌, ◌∙◌, cond, true, ap, sym, rules}
 use Rattle.std.specs.Prelude.{chars, codes}
 use Rattle.miette_snippets.specs.rules.Frames.{place_text}
-use Rattle.miette_drawing.specs.steps.Framed.{place_at}
+use Rattle.miette_drawing.specs.views.Lent.{place_at}
 use Rattle.miette_page.specs.views.Told.{run_told}
 use Rattle.miette_drawing.proofs.Framing.{link_put}
 use Rattle.miette_drawing.proofs.frame.push_link.Goals as goal

@@ -1,6 +1,6 @@
 use Rattle.std.proofs.Common.{ap, ◌∙◌}
 use Rattle.std.specs.Option.{option_map}
-use Rattle.miette_drawing.specs.steps.Framed.{place_at}
+use Rattle.miette_drawing.specs.views.Lent.{place_at}
 use Rattle.miette_snippets.specs.views.ThemeSettings.{settings_of}
 use Rattle.miette_snippets.specs.rules.Highlighted.{leaves_plain, follows}
 use Rattle.miette_style.specs.rules.Asked.{Leads}

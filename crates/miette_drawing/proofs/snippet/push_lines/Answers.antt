@@ -3,7 +3,7 @@ use Rattle.miette_lines.specs.declared.sweep.Placed.{Placed}
 use Rattle.miette_snippets.specs.views.ThemeSettings.{settings_of}
 use Rattle.miette_lines.specs.views.Given.{drawn_of}
 use Rattle.miette_snippets.specs.rules.Highlighted.{leaves_plain, decoded_text, ArePieces, follows, highlight_of}
-use Rattle.miette_drawing.specs.steps.Lent.{text_in}
+use Rattle.miette_drawing.specs.views.Lent.{text_in}
 use Rattle.miette_newlines.specs.views.Walking.{line_of_text}
 use Rattle.miette_lines.specs.views.Sweeping.{IsAt}
 use Rattle.miette_lines.proofs.Firsts.{state_more}

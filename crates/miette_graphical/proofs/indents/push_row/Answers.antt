@@ -1,7 +1,7 @@
 use Rattle.std.proofs.Common.{rules, ◌≡◌, ◌++◌, ◌∷◌, [], ◌∙◌, ap, sym, refl, true, ◌-◌, append_assoc}
 use Rattle.std.specs.Prelude.{chars}
 use Rattle.miette_runs.specs.rules.Sequences.{spell}
-use Rattle.miette_graphical.specs.views.SettingsView.{settings_of}
+use Rattle.miette_graphical.specs.steps.SettingsView.{settings_of}
 use Rattle.miette_graphical.specs.rules.Indents.{wrapped_behind}
 use Rattle.miette_graphical.proofs.indents.push_row.Goals as goal
 

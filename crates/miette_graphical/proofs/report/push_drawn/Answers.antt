@@ -6,7 +6,7 @@ use Rattle.miette_tree.specs.views.Owned.{shown_source}
 use Rattle.miette_layout.specs.views.Drawn.{MayGive, RefusesWith}
 use Rattle.miette_snippets.specs.rules.Highlighted.{AreCallsOn, leaves_plain}
 use Rattle.miette_graphical.specs.rules.Snippets.{layout_settings}
-use Rattle.miette_graphical.specs.views.SettingsView.{settings_of}
+use Rattle.miette_graphical.specs.steps.SettingsView.{settings_of}
 use Rattle.miette_graphical.proofs.DrawnRows.{drawn_page, refused_page}
 use Rattle.miette_graphical.proofs.report.push_drawn.Goals as goal
 

@@ -8,7 +8,7 @@ use Rattle.miette_graphical.specs.rules.Answered.{IsBelow}
 use Rattle.miette_tree.specs.views.Handler.{AppendsOne}
 use Rattle.miette_graphical.specs.rules.Printed.{all_read, printed_inner}
 use Rattle.miette_graphical.specs.rules.Snippets.{drawn_rows}
-use Rattle.miette_graphical.specs.views.SettingsView.{settings_of}
+use Rattle.miette_graphical.specs.steps.SettingsView.{settings_of}
 use Rattle.miette_graphical.proofs.Steps.{report_whole, root_causes_fail, root_below_fails}
 use Rattle.miette_graphical.proofs.whole.report_output.Goals as goal
 

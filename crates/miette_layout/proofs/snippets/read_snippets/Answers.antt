@@ -1,14 +1,14 @@
 use Rattle.std.proofs.Common.{rules, refl, ap, sym, ◌∙◌, ◌∷◌, map, List, Option, subst}
 use Rattle.std.specs.Option.{option_map}
 use Rattle.miette_protocol.specs.rules.Reading.{Span}
-use Rattle.miette_drawing.specs.steps.Framed.{place_at}
+use Rattle.miette_drawing.specs.views.Lent.{place_at}
 use Rattle.miette_lines.specs.rules.Around.{group_context}
 use Rattle.miette_lines.specs.rules.Groups.{in_order}
 use Rattle.miette_snippets.specs.rules.SnippetLayout.{settings_around}
 use Rattle.miette_snippets.specs.views.ThemeSettings.{settings_of}
 use Rattle.miette_lines.specs.views.Given.{drawn_of}
 use Rattle.miette_snippets.specs.rules.Highlighted.{leaves_plain, follows}
-use Rattle.miette_drawing.specs.steps.Lent.{PutsRows, lent_snippet}
+use Rattle.miette_drawing.specs.views.Lent.{PutsRows, lent_snippet}
 use Rattle.miette_lines.specs.views.Placing.{placed_from}
 use Rattle.miette_lines.specs.views.Primary.{PointsTo}
 use Rattle.miette_lines.specs.views.Read.{AreGroups}

@@ -2,7 +2,7 @@ use Rattle.std.proofs.Common.{ℕ, List, ap, ap₂, sym, ◌∙◌, ◌++◌, ap
 use Rattle.miette_lines.specs.declared.sweep.Placed.{Placed}
 use Rattle.miette_narrated.specs.steps.Ends.{labels_of}
 use Rattle.miette_narrated.specs.rules.Labels.{label_rows}
-use Rattle.miette_narrated.specs.views.Made.{all_told, shown_of}
+use Rattle.miette_narrated.specs.steps.Made.{all_told, shown_of}
 use Rattle.miette_narrated.proofs.Begun.{rows_apart}
 use Rattle.miette_narrated.proofs.lines.push_inner.Goals as goal
 

@@ -1,7 +1,7 @@
 use Rattle.std.proofs.Common.{string_bytes, codes}
 use Rattle.std.specs.Prelude.{decimal}
 use Rattle.miette_narrated.specs.rules.Lines.{decoded_text}
-use Rattle.miette_narrated.specs.views.Made.{shown_of}
+use Rattle.miette_narrated.specs.steps.Made.{shown_of}
 use Rattle.miette_narrated.proofs.Putting.{line_put}
 use Rattle.miette_narrated.proofs.lines.push_line.Goals as goal
 

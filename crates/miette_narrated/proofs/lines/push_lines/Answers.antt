@@ -1,7 +1,7 @@
 use Rattle.std.proofs.Common.{◌≡◌, ◌+◌, ◌++◌, Option, Some, None, length, refl, ap, subst, string_bytes, rules, eqb, arith}
 use Rattle.miette_newlines.specs.declared.lines.LineOfText.{LineOfText}
 use Rattle.miette_newlines.specs.views.Walking.{GivesLine}
-use Rattle.miette_narrated.specs.views.Made.{all_told, shown_of}
+use Rattle.miette_narrated.specs.steps.Made.{all_told, shown_of}
 use Rattle.miette_narrated.proofs.Lining.{left_first, left_more, left_none}
 use Rattle.miette_narrated.proofs.lines.push_lines.Goals as goal
 

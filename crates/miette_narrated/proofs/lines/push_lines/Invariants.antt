@@ -1,6 +1,6 @@
 use Rattle.std.proofs.Common.{◌+◌, ◌++◌, string_bytes}
 use Rattle.miette_lines.specs.rules.Contexts.{lines_of_contents}
-use Rattle.miette_narrated.specs.views.Made.{all_told}
+use Rattle.miette_narrated.specs.steps.Made.{all_told}
 use Rattle.miette_narrated.specs.rules.Lines.{rows_of_lines}
 use Rattle.miette_narrated.specs.steps.Sweeping.{IsAt}
 use Rattle.miette_narrated.proofs.Lining.{AreLeft}

@@ -1,7 +1,7 @@
 use Rattle.std.proofs.Common.{ap, ◌∙◌, ◌++◌, string_bytes, subst, suc, drop}
 use Rattle.miette_narrated.specs.rules.Labels.{label_rows}
 use Rattle.miette_narrated.specs.rules.Lines.{line_row}
-use Rattle.miette_narrated.specs.views.Made.{all_told, shown_of}
+use Rattle.miette_narrated.specs.steps.Made.{all_told, shown_of}
 use Rattle.miette_narrated.specs.steps.Sweeping.{BeginsFrom}
 use Rattle.miette_narrated.proofs.Putting.{then}
 use Rattle.miette_narrated.proofs.Sweeps.{rows_swept}

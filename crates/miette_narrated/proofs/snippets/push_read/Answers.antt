@@ -6,7 +6,7 @@ use Rattle.miette_lines.specs.declared.sweep.Placed.{Placed}
 use Rattle.miette_lines.specs.views.Read.{AreGroups}
 use Rattle.miette_narrated.specs.steps.Ends.{AreEnds}
 use Rattle.miette_narrated.specs.declared.label_order.Ranked.{Ranked}
-use Rattle.miette_narrated.specs.views.Made.{all_told}
+use Rattle.miette_narrated.specs.steps.Made.{all_told}
 use Rattle.miette_narrated.proofs.Reading.{placed_ordered, groups_more, groups_end, snippets_told, are_grouped, unread_group}
 use Rattle.miette_narrated.proofs.snippets.push_read.Goals as goal
 

@@ -1,7 +1,7 @@
 use Rattle.miette_lines.specs.rules.Around.{group_context}
 use Rattle.miette_lines.specs.rules.Groups.{in_order}
 use Rattle.std.proofs.Common.{◌≡◌, ◌++◌, string_bytes, drop, map}
-use Rattle.miette_narrated.specs.views.Made.{all_told}
+use Rattle.miette_narrated.specs.steps.Made.{all_told}
 use Rattle.miette_narrated.specs.rules.Snippets.{snippets_of}
 use Rattle.miette_narrated.specs.steps.Sweeping.{IsAt}
 use Rattle.miette_narrated.proofs.snippets.push_read.Given as goal

@@ -1,7 +1,7 @@
 use Rattle.std.proofs.Common.{◌+◌, string_bytes}
 use Rattle.miette_lines.specs.rules.Contexts.{lines_of_contents}
 use Rattle.miette_narrated.specs.rules.Lines.{rows_of_lines}
-use Rattle.miette_narrated.specs.views.Made.{all_told}
+use Rattle.miette_narrated.specs.steps.Made.{all_told}
 use Rattle.miette_narrated.specs.rules.Snippets.{begin_rows}
 use Rattle.miette_narrated.proofs.Putting.{then}
 use Rattle.miette_narrated.proofs.snippets.push_snippet.Goals as goal

@@ -3,7 +3,7 @@ use Rattle.miette_snippets.specs.rules.Highlighted.{AreCallsOn, leaves_plain}
 use Rattle.miette_tree.specs.views.Report.{tree_of}
 use Rattle.miette_graphical.specs.rules.Answered.{IsAskedReport}
 use Rattle.miette_graphical.specs.rules.Snippets.{drawn_rows}
-use Rattle.miette_graphical.specs.views.SettingsView.{settings_of}
+use Rattle.miette_graphical.specs.steps.SettingsView.{settings_of}
 use Rattle.miette_graphical.proofs.handler.GraphicalReportHandler.draw.Goals as goal
 
 pub returns-clause-calls : goal.returns-clause-calls

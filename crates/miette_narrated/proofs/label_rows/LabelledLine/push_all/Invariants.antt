@@ -1,6 +1,6 @@
 use Rattle.std.proofs.Common.{◌≡◌, ◌++◌, string_bytes, drop}
 use Rattle.miette_narrated.specs.rules.Labels.{label_rows}
-use Rattle.miette_narrated.specs.views.Made.{all_told, shown_of}
+use Rattle.miette_narrated.specs.steps.Made.{all_told, shown_of}
 use Rattle.miette_narrated.proofs.label_rows.LabelledLine.push_all.Given as goal
 
 abbrev pub invariant-loop-label : goal.invariant-loop-label

@@ -1,7 +1,7 @@
 use Rattle.std.proofs.Common.{ap, ◌∙◌, ◌++◌, string_bytes, codes}
 use Rattle.std.specs.Prelude.{decimal}
 use Rattle.miette_narrated.specs.rules.Labels.{row, text_behind}
-use Rattle.miette_narrated.specs.views.Made.{told_of, shown_of}
+use Rattle.miette_narrated.specs.steps.Made.{told_of, shown_of}
 use Rattle.miette_narrated.proofs.Putting.{label_put_at}
 use Rattle.miette_narrated.proofs.label_rows.LabelledLine.push_column.Goals as goal
 

@@ -1,7 +1,7 @@
 use Rattle.std.proofs.Common.{ap, ◌∙◌, ◌++◌, string_bytes, codes}
 use Rattle.std.proofs.lemmas.Result.{on_ok_weaker}
 use Rattle.miette_narrated.specs.rules.Labels.{column_row}
-use Rattle.miette_narrated.specs.views.Made.{told_of, shown_of}
+use Rattle.miette_narrated.specs.steps.Made.{told_of, shown_of}
 use Rattle.miette_narrated.proofs.label_rows.LabelledLine.push_start.Goals as goal
 
 pub returns : goal.returns

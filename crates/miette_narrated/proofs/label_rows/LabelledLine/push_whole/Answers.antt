@@ -1,7 +1,7 @@
 use Rattle.std.proofs.Common.{ap, ap₂, ◌∙◌, ◌++◌, string_bytes, codes}
 use Rattle.std.specs.Prelude.{decimal}
 use Rattle.miette_narrated.specs.rules.Labels.{row, columns_text, text_behind, first_number, last_number}
-use Rattle.miette_narrated.specs.views.Made.{told_of, shown_of}
+use Rattle.miette_narrated.specs.steps.Made.{told_of, shown_of}
 use Rattle.miette_narrated.proofs.Putting.{label_put}
 use Rattle.miette_narrated.proofs.label_rows.LabelledLine.push_whole.Goals as goal
 

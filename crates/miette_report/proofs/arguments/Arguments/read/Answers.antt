@@ -1,7 +1,7 @@
 use Rattle.std.proofs.Common.{◌∙◌, ap, sym, map, option_map, string_bytes}
 use Rattle.miette_report.specs.rules.Asked.{choice_in}
 use Rattle.miette_report.specs.rules.Wanted.{nothing_asked, wanted}
-use Rattle.miette_report.specs.views.AskView.{ask_of}
+use Rattle.miette_report.specs.steps.AskView.{ask_of}
 use Rattle.miette_report.proofs.WantedSteps.{all_done, none_asked, one_more}
 use Rattle.miette_report.proofs.arguments.Arguments.read.Goals as goal
 

@@ -1,4 +1,4 @@
-use Rattle.miette_report.specs.rules.Chosen.{Stays}
+use Rattle.miette_report.specs.steps.Chosen.{Stays}
 use Rattle.miette_report.proofs.chosen.Chosen.render_times.Given as goal
 
 -- the handler stays, but for a state of its highlighter

@@ -10,7 +10,6 @@ use Rattle.miette_lines.specs.rules.Answers.{Highlight, first_of, later_of}
 use Rattle.miette_lines.specs.rules.Cells.{Cell, characters, cells_from}
 use Rattle.miette_lines.specs.rules.Contexts.{lines_of_contents}
 use Rattle.miette_drawing.specs.declared.snippet.Drawing.{Drawing}
-use Rattle.miette_drawing.specs.steps.Framed.{place_at}
 use Rattle.miette_snippets.specs.views.ThemeSettings.{settings_of}
 use Rattle.miette_lines.specs.views.Given.{drawn_of}
 use Rattle.miette_snippets.specs.rules.Frames.{SnippetSettings, Place, top_row, bottom_row, number_width}
@@ -56,6 +55,10 @@ width_of_count before many = if many == 0 then 1 else length (decimal (before + 
 -- the columns of a gutter with room for so many labels
 abbrev pub gutter_of : ℕ → ℕ
 gutter_of most = if most == 0 then 0 else most + 3
+
+-- a line and a column as a place
+abbrev pub place_at : ℕ × ℕ → Place
+place_at p = record { line = p.0; column = p.1 }
 
 -- A page has got rows with some pieces, which a highlighter answered for these texts by calls that happen.
 pub record PutsRows (blank : Bool) (happen : List Call → Type 0) (texts : List (List ℕ))
