@@ -1,8 +1,6 @@
 -- Steps of making a picture and of writing it.
 use Rattle.std.proofs.Common.{◌≡◌, ℕ, Bool, List, [], ◌++◌, Option, Some, None, ◌↔◌, Result, Ok, Err, true, false, IfOk, OnOk, IfSome, refl, sym, ◌∙◌, ap, ap₂, subst, encode_utf8_all, string_bytes, String}
 use Rattle.miette_protocol.specs.views.Meaning.{Meaning}
-use Rattle.miette_protocol.specs.declared.error.RenderError.{RenderError}
-use Rattle.miette_protocol.specs.declared.error.RenderError.TheVariants.{Refused}
 use Rattle.miette_tree.specs.rules.Tree.{Tree}
 use Rattle.miette_style.specs.rules.Themes.{characters_of, no_styles, styles_of, theme_of, unicode_characters}
 use Rattle.miette_style.specs.declared.theme.GraphicalTheme.{GraphicalTheme}
@@ -38,12 +36,9 @@ pictured is_blank theme h t old new is same none only reads =
     only (ap (draws_plain is_blank) same) (reads-whole theme h t same reads)
     ∙ ap₂ (λ o u. o ++ encode_utf8_all (report_text drawn_rows u.settings t unlisted)) none same
 
-pub unrefused : {H A B : Type 0} (theme : GraphicalTheme) (h : Handling H) (t : Tree) (r : Result A RenderError) (q : Result B RenderError) (e : RenderError)
-    → h ≡ without_highlighter draw_settings
-    → r ≡ Err e → q ≡ Err e → (r ≡ Err Refused → all_read (printed h.settings t) ≡ false) → IsReadWhole t → q ≡ Err Refused → ⊥
-unrefused theme h t r q e same is kept refused reads p =
-    let refusal : e ≡ Refused = cc in
-    let k : true ≡ false = sym (reads-whole theme h t same reads) ∙ refused (is ∙ ap Err refusal) in cc
+pub unrefused : {H : Type 0} (theme : GraphicalTheme) (h : Handling H) (t : Tree) → h ≡ without_highlighter draw_settings
+    → all_read (printed h.settings t) ≡ false → IsReadWhole t → ⊥
+unrefused theme h t same refused reads = let k : true ≡ false = sym (reads-whole theme h t same reads) ∙ refused in cc
 
 -- of a diagnostic over an input every label is read
 pub reads-over : (t : Tree) (name : List ℕ) (m : Meaning) (input : List ℕ) → t ≡ over_input name m input → IsReadWhole t

@@ -47,10 +47,8 @@ fn draw(alloc: Global, report: &Report) -> Result<String, RenderError>
     };
     let mut text = String::new(alloc);
     let mut handler = GraphicalReportHandler::new_themed(theme).with_width(WIDTH);
-    match handler.render_report(report, &mut text) {
-        Ok(()) => Ok(text),
-        Err(error) => Err(error),
-    }
+    handler.render_report(report, &mut text)?;
+    Ok(text)
 }
 
 /// The picture of a diagnostic over the input under its name, in plain characters: what the programs `draw` and
