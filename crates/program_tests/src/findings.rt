@@ -35,8 +35,8 @@ const TAB: &str = "tab after space";
 const UNENDED: &str = "no final terminator";
 
 #[test]
-fn twenty_sources(rt: HostRuntime) -> Result<(), Fail> {
-    let rows: [((&[u8], usize), &[Told<'_>]); 20] = [
+fn lines_without_terminators_and_with_tabs(rt: HostRuntime) -> Result<(), Fail> {
+    let rows: [((&[u8], usize), &[Told<'_>]); 10] = [
         (
             (b"x = 1 \n \ty\nend", 80),
             &[(TRAILING, 5, 1), (TAB, 8, 1), (UNENDED, 13, 1)],
@@ -50,6 +50,16 @@ fn twenty_sources(rt: HostRuntime) -> Result<(), Fail> {
         ((b"  \t\ta\n", 80), &[(TAB, 2, 1)]),
         ((b"\t a\tb\n", 80), &[]),
         ((b"x \tb\n", 80), &[]),
+    ];
+    for (row, wanted) in rows {
+        expect(&rt, rt.alloc(), row, wanted)?;
+    }
+    Ok(())
+}
+
+#[test]
+fn lines_that_are_too_wide_or_broken(rt: HostRuntime) -> Result<(), Fail> {
+    let rows: [((&[u8], usize), &[Told<'_>]); 10] = [
         ((b"\ta\n", 4), &[("wider than 4 columns", 1, 1)]),
         ((b"\ta\n", 3), &[("wider than 3 columns", 0, 2)]),
         (

@@ -22,6 +22,26 @@ const LONG: &[u8] =
     678901234567890123456789012345678901234567890123456789\xf0\x9f\x87\xa9\xf0\x9f\x87\xaa\xc3\
     \xa9 then a tail of plain words that goes on well past all of that, end\n";
 
+/// What is narrated of it.
+const LONG_ROWS: &str =
+    "m\n    Diagnostic severity: error\nBegin snippet starting at line 1, column 1\n\n\
+    snippet line 1: \t漢字e\u{301}the quick brown fox jumps over the lazy dog, \
+    \u{FFFD}\u{1F468}\u{200D}\u{1F469}\u{200D}\u{1F467}0123456789012345678901234567890123456\
+    789012345678901234567890123456789\u{1F1E9}\u{1F1EA}é then a tail of plain words that \
+    goes on well past all of that, end\n    label at line 1, columns 1 to 194: whole\n    \
+    label at line 1, columns 2 to 5: wide\n    \
+    label at line 1, columns 3 to 4: inside both\n    \
+    label at line 1, columns 7 to 6: the accent\n    \
+    label at line 1, column 6: inside it\n    label at line 1, columns 23 to 25: fox\n    \
+    label at line 1, column 52: no text\n    label at line 1, columns 53 to 54: people\n    \
+    label at line 1, columns 54 to 55: inside two of them\n    \
+    label at line 1, columns 55 to 54: one of them\n    \
+    label at line 1, columns 81 to 90: digits\n    \
+    label at line 1, column 126: half a flag\n    \
+    label at line 1, column 127: a letter\n    \
+    label at line 1, columns 192 to 194: end\n    \
+    label at line 1, columns 195 to 197: the line feed\n";
+
 #[test]
 fn labels_on_a_long_line(rt: HostRuntime) -> Result<(), Fail> {
     let labels: &[Label<'_>] = &[
@@ -41,30 +61,13 @@ fn labels_on_a_long_line(rt: HostRuntime) -> Result<(), Fail> {
         (218, 3, "end"),
         (221, 1, "the line feed"),
     ];
-    let wanted = "m\n    Diagnostic severity: error\nBegin snippet starting at line 1, column 1\n\n\
-        snippet line 1: \t漢字e\u{301}the quick brown fox jumps over the lazy dog, \
-        \u{FFFD}\u{1F468}\u{200D}\u{1F469}\u{200D}\u{1F467}0123456789012345678901234567890123456\
-        789012345678901234567890123456789\u{1F1E9}\u{1F1EA}é then a tail of plain words that \
-        goes on well past all of that, end\n    label at line 1, columns 1 to 194: whole\n    \
-        label at line 1, columns 2 to 5: wide\n    \
-        label at line 1, columns 3 to 4: inside both\n    \
-        label at line 1, columns 7 to 6: the accent\n    \
-        label at line 1, column 6: inside it\n    label at line 1, columns 23 to 25: fox\n    \
-        label at line 1, column 52: no text\n    label at line 1, columns 53 to 54: people\n    \
-        label at line 1, columns 54 to 55: inside two of them\n    \
-        label at line 1, columns 55 to 54: one of them\n    \
-        label at line 1, columns 81 to 90: digits\n    \
-        label at line 1, column 126: half a flag\n    \
-        label at line 1, column 127: a letter\n    \
-        label at line 1, columns 192 to 194: end\n    \
-        label at line 1, columns 195 to 197: the line feed\n";
     let written = Written {
         labels,
         source: Some(LONG),
         ..M
     };
     let report = report_of(rt.alloc(), &written)?;
-    assert_eq!(rt; told(rt.alloc(), &report)?.as_str(), wanted);
+    assert_eq!(rt; told(rt.alloc(), &report)?.as_str(), LONG_ROWS);
     Ok(())
 }
 
