@@ -84,8 +84,8 @@ def named_source(language):
     return struct("NamedSource", name=quoted("bad_file.rs"), source=quoted("<redacted>"), language=language)
 
 
-def marks(opens, closes, escape="None", over_lines="false"):
-    return struct("Marks", opens=quoted(opens), closes=quoted(closes), escape=escape, over_lines=over_lines)
+def delimiters(opens, closes, escape="None", over_lines="false"):
+    return struct("Delimiters", opens=quoted(opens), closes=quoted(closes), escape=escape, over_lines=over_lines)
 
 
 def by_rule(left_open):
@@ -191,7 +191,7 @@ SHOWN = (
     f'labels: {quoted(listed([HERE]))}, caused by: "b" }}\n'
 )
 
-RULE = struct("Rule", pattern=f"Between({marks('/*', '*/', some(92), 'true')})", style=style(None, "dimmed"))
+RULE = struct("Rule", pattern=f"Between({delimiters('/*', '*/', some(92), 'true')})", style=style(None, "dimmed"))
 LET_IN = f"Words({listed(map(quoted, ('let', 'in')))})"
 GREEN, COMMENT = style("Green"), style(None, "dimmed")
 
@@ -257,8 +257,8 @@ ROWS = {
     "Highlighter::highlight_line for BlankHighlighter": [f"[(10, {style()})]"],
     "Highlighter::highlight_line for Box": [f"[(10, {style()})]"],
     "by_char": [pieces("a", ("1", style("Cyan")))],
-    "Marks::new": [marks("/*", "*/")],
-    "Marks::clone": [marks("/*", "*/")] * 3,
+    "Delimiters::new": [delimiters("/*", "*/")],
+    "Delimiters::clone": [delimiters("/*", "*/")] * 3,
     "Pattern::words": [LET_IN],
     "Pattern::clone": [LET_IN] * 3,
     "Rule::clone": [RULE] * 3,

@@ -3,15 +3,15 @@
 use crate::rows::{Done, answered, cloned, given, kept};
 use miette::highlight::Highlighter;
 use miette::style::{Color, Style};
-use miette_highlight::highlight::{Marks, Pattern, PatternHighlighter, Rule, by_char};
+use miette_highlight::highlight::{Delimiters, Pattern, PatternHighlighter, Rule, by_char};
 use std::alloc::{AllocError, Global};
 use std::io::Write;
 
 /// The calls of this module.
 pub const NAMES: [&str; 11] = [
     "by_char",
-    "Marks::new",
-    "Marks::clone",
+    "Delimiters::new",
+    "Delimiters::clone",
     "Pattern::words",
     "Pattern::clone",
     "Rule::clone",
@@ -29,8 +29,8 @@ pub const NAMES: [&str; 11] = [
 pub fn make<W: Write>(alloc: Global, name: &str, out: &mut W) -> Done {
     match name {
         "by_char" => digits(alloc, out),
-        "Marks::new" => answered(out, Marks::new(alloc, "/*", "*/")),
-        "Marks::clone" => cloned(out, &Marks::new(alloc, "/*", "*/")?),
+        "Delimiters::new" => answered(out, Delimiters::new(alloc, "/*", "*/")),
+        "Delimiters::clone" => cloned(out, &Delimiters::new(alloc, "/*", "*/")?),
         "Pattern::words" => answered(out, Pattern::words(alloc, &["let", "in"])),
         "Pattern::clone" => cloned(out, &Pattern::words(alloc, &["let", "in"])?),
         "PatternHighlighter::json" => {
@@ -77,9 +77,9 @@ fn painted<W: Write>(
 
 /// Comments that go on over lines, dimmed.
 fn rule(alloc: Global) -> Result<Rule, AllocError> {
-    let marks = Marks::new(alloc, "/*", "*/")?.escaped_by(b'\\');
+    let delimiters = Delimiters::new(alloc, "/*", "*/")?.escaped_by(b'\\');
     Ok(Rule {
-        pattern: Pattern::Between(marks.over_lines()),
+        pattern: Pattern::Between(delimiters.over_lines()),
         style: Style::new().dimmed(),
     })
 }

@@ -1,5 +1,5 @@
 -- What users rely on, in the words of docs/RULES.md.
 pub mod Options
 pub mod Choice
-pub mod Detected
-pub mod Printed
+pub mod Detection
+pub mod Printing

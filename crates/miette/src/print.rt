@@ -5,7 +5,7 @@ ghost use Rattle.std.specs.Process.{exit_status};
 ghost use Rattle.miette_tree.specs.views.Report.{tree_of};
 ghost use Rattle.miette.specs.declared.print.PrintError.TheVariants.{Memory};
 ghost use Rattle.miette.specs.rules.Options.{no_options};
-ghost use Rattle.miette.specs.rules.Printed.{IsPrinted, WritesOne};
+ghost use Rattle.miette.specs.rules.Printing.{IsPrinted, WritesOne};
 
 use crate::options::MietteHandlerOpts;
 use crate::terminal::{Stream, Streams, detect};
@@ -51,7 +51,7 @@ impl From<AllocError> for PrintError {
 }
 
 impl From<RenderError> for PrintError {
-    ghost use Rattle.miette.specs.rules.Printed.{print_error};
+    ghost use Rattle.miette.specs.rules.Printing.{print_error};
 
     ghost from_gives = { λ error it. it ≡ print_error error };
 

@@ -12,8 +12,8 @@ use Rattle.miette_tree.specs.rules.DiagnosticParts.{given_labels}
 use Rattle.miette_lines.specs.rules.Groups.{in_order}
 use Rattle.miette_brief.specs.rules.Rows.{Place, rows_text}
 use Rattle.miette_brief.specs.rules.Report.{Answers, unlisted, listed, no_more, cause_row, cause_rows}
-use Rattle.miette_brief.specs.rules.Answered.{CausePossible, AppendsCauses}
-use Rattle.miette_brief.specs.steps.Read.{IsCausePlace}
+use Rattle.miette_brief.specs.rules.PossibleAnswers.{CausePossible, AppendsCauses}
+use Rattle.miette_brief.specs.steps.Reads.{IsCausePlace}
 use Rattle.miette_brief.proofs.Putting.{rows_joined}
 
 -- Some causes are told, and these are left: whatever answers these have, the whole has some.

@@ -9,8 +9,8 @@ use Rattle.miette_protocol.specs.views.Meaning.{Label}
 use Rattle.miette_lines.specs.rules.Contexts.{is_accepted}
 use Rattle.miette_brief.specs.rules.Rows.{Place}
 use Rattle.miette_brief.specs.rules.Places.{marked_span, primary_span, span_place, own_place}
-use Rattle.miette_brief.specs.rules.Answered.{accepts}
-use Rattle.miette_brief.specs.steps.Read.{IsUnread, IsBegin, IsCausePlace}
+use Rattle.miette_brief.specs.rules.PossibleAnswers.{accepts}
+use Rattle.miette_brief.specs.steps.Reads.{IsUnread, IsBegin, IsCausePlace}
 use Rattle.miette_brief.proofs.Noting.{accepted_true, true_accepted}
 
 -- ---- of labels, the first that is marked

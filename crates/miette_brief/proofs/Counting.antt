@@ -17,10 +17,10 @@ use Rattle.miette_tree.specs.rules.Tree.{Tree, tree, Cause, diagnostic, texts, c
 use Rattle.miette_tree.specs.rules.DiagnosticParts.{given_labels, severity_text}
 use Rattle.miette_lines.specs.rules.Groups.{in_order, put_label}
 use Rattle.miette_brief.specs.declared.rows.Position.{Position}
-use Rattle.miette_brief.specs.rules.Rows.{Place, Kind, finding, note, cause, help, Row, gap, shown_for, spaced, one_row, position_text, behind_colon, place_text, code_text, kind_text, row_text, rows_text}
+use Rattle.miette_brief.specs.rules.Rows.{Place, Kind, finding, note, cause, help, Row, gap, shown_for, spaced_text, one_row, position_text, behind_colon, place_text, code_text, kind_text, row_text, rows_text}
 use Rattle.miette_brief.specs.rules.Places.{label_place, diagnostic_place}
 use Rattle.miette_brief.specs.rules.Report.{BriefSettings, Answers, RelatedAnswers, own_fault, cause_answers, related_answers, first_answers, later_answers, note_rows_of, note_rows, cause_row, cause_rows, caused_rows, cause_rows_if, help_rows, own_rows, report_rows, related_rows, brief}
-use Rattle.miette_brief.specs.laws.Parts.{one_if, texts_in, told_causes, parts, all_parts, ended, IsRows}
+use Rattle.miette_brief.specs.laws.Parts.{one_if, texts_in, told_causes, parts, all_parts, text_of_rows, IsRows}
 use Rattle.miette_brief.proofs.Noting.{by_cases}
 
 -- ---- no control character
@@ -29,15 +29,15 @@ none_in_gap : (b : Bool) (cs : List ℕ) → NonePass is_control cs → NonePass
 none_in_gap true cs h = h
 none_in_gap false cs h = (refl, h)
 
-none_spaced : (b : Bool) (cs : List ℕ) → NonePass is_control (spaced b cs)
+none_spaced : (b : Bool) (cs : List ℕ) → NonePass is_control (spaced_text b cs)
 none_spaced b [] = tt
 none_spaced b (c ∷ cs) =
-    by_cases {C = NonePass is_control (shown_for b c ++ spaced (is_control c) cs)} (is_control c)
-    (λ t. rw t (none_in_gap b (spaced true cs) (none_spaced true cs)))
+    by_cases {C = NonePass is_control (shown_for b c ++ spaced_text (is_control c) cs)} (is_control c)
+    (λ t. rw t (none_in_gap b (spaced_text true cs) (none_spaced true cs)))
     (λ f. rw f (f, none_spaced false cs))
 
 pub row_clean : (text : List ℕ) → NoCharPasses is_control (one_row text)
-row_clean text = (spaced false (chars text), refl, none_spaced false (chars text))
+row_clean text = (spaced_text false (chars text), refl, none_spaced false (chars text))
 
 -- printable ASCII
 abbrev pub is_plain : ℕ → Bool
@@ -63,7 +63,7 @@ pub plain_clean : (bs : List ℕ) → list_all is_plain bs ≡ true → NoCharPa
 plain_clean bs h = (let p = plain_none bs h in (bs, p.0, p.1))
 
 -- a text that shows as printable ASCII
-pub shown_plain : (text shown : List ℕ) → spaced false (chars text) ≡ shown → list_all is_plain shown ≡ true → one_row text ≡ shown
+pub shown_plain : (text shown : List ℕ) → spaced_text false (chars text) ≡ shown → list_all is_plain shown ≡ true → one_row text ≡ shown
 shown_plain text shown e h = ap encode_utf8_all e ∙ (plain_none shown h).0
 
 -- ---- digits
@@ -169,7 +169,7 @@ text_nonempty row =
 
 -- ---- rows of a text
 
-ended_rows : (rows : List Row) → rows_text rows ≡ ended (map row_text rows)
+ended_rows : (rows : List Row) → rows_text rows ≡ text_of_rows (map row_text rows)
 ended_rows [] = refl
 ended_rows (row ∷ rows) = ap (λ l. row_text row ++ (10 ∷ l)) (ended_rows rows)
 

@@ -3,12 +3,12 @@ use Rattle.std.proofs.Common.{◌≡◌, List, [], ◌∷◌, ◌++◌, ℕ, Opt
 use Rattle.std.specs.Fmt.{digits}
 use Rattle.std.specs.Str.{chars}
 use Rattle.miette_protocol.specs.views.Meaning.{Label}
-use Rattle.miette_protocol.specs.rules.Reading.{plain_source, named}
+use Rattle.miette_protocol.specs.rules.Reading.{plain_source, named_source}
 use Rattle.miette_protocol.specs.declared.protocol.Severity.TheVariants.{Warning}
 use Rattle.miette_tree.specs.rules.Tree.{tree, texts, no_trees, more_trees}
 use Rattle.miette_brief.specs.rules.Rows.{finding, one_row, row_text}
 use Rattle.miette_brief.specs.rules.Report.{default_settings, brief, unlisted}
-use Rattle.miette_brief.specs.laws.Parts.{ended}
+use Rattle.miette_brief.specs.laws.Parts.{text_of_rows}
 use Rattle.miette_brief.proofs.Counting.{shown_plain}
 
 -- a stretch of line terminators and tabs is one space
@@ -76,7 +76,7 @@ label_at offset text = record { text = text; span = record { offset = offset; le
 report_example : brief default_settings
     (tree (record { message = codes "m"; code = None; severity = None; help = Some (codes "h"); url = None; labels = Some (label_at 4 (Some (codes "x")) ∷ label_at 2 None ∷ label_at 0 (Some (codes "y")) ∷ []) })
     None (texts (codes "c" ∷ []))
-    (more_trees (tree (record { message = codes "r"; code = None; severity = Some Warning; help = None; url = None; labels = None }) (Some (named (plain_source []) (codes "f") None)) (texts []) no_trees) no_trees))
+    (more_trees (tree (record { message = codes "r"; code = None; severity = Some Warning; help = None; url = None; labels = None }) (Some (named_source (plain_source []) (codes "f") None)) (texts []) no_trees) no_trees))
     unlisted
-    ≡ ended (codes "error: m" ∷ codes "note: y" ∷ codes "note: x" ∷ codes "note: caused by: c" ∷ codes "help: h" ∷ codes "f: warning: r" ∷ [])
+    ≡ text_of_rows (codes "error: m" ∷ codes "note: y" ∷ codes "note: x" ∷ codes "note: caused by: c" ∷ codes "help: h" ∷ codes "f: warning: r" ∷ [])
 report_example = rw (f_shown, m_shown, x_shown, y_shown, c_shown, h_shown, r_shown) refl

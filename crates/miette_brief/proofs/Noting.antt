@@ -11,8 +11,8 @@ use Rattle.miette_brief.specs.rules.Rows.{rows_text}
 use Rattle.miette_brief.specs.rules.Places.{label_place}
 use Rattle.miette_brief.specs.rules.Report.{note_rows_of, note_rows}
 use Rattle.miette_brief.proofs.Putting.{rows_more}
-use Rattle.miette_brief.specs.rules.Answered.{accepts, is_nil, HasAccepted}
-use Rattle.miette_brief.specs.steps.Read.{IsUnread, IsReadAt}
+use Rattle.miette_brief.specs.rules.PossibleAnswers.{accepts, is_nil, HasAccepted}
+use Rattle.miette_brief.specs.steps.Reads.{IsUnread, IsReadAt}
 
 pub by_cases : {C : Type 0} (b : Bool) → (b ≡ true → C) → (b ≡ false → C) → C
 by_cases true t f = t refl

@@ -2,4 +2,4 @@
 pub mod Rows
 pub mod Places
 pub mod Report
-pub mod Answered
+pub mod PossibleAnswers

@@ -1,3 +1,3 @@
 -- The code's own steps, which no rule names.
-pub mod Read
-pub mod Given
+pub mod Reads
+pub mod Conversions

@@ -1,7 +1,7 @@
 //! The brief report, as a handler among the others.
 
 ghost use Rattle.std.specs.Prelude.{◌≡◌, false};
-ghost use Rattle.miette_brief.specs.rules.Answered.{IsBrief, report_accepted};
+ghost use Rattle.miette_brief.specs.rules.PossibleAnswers.{IsBrief, report_accepted};
 
 use crate::handler::BriefReportHandler;
 use miette_protocol::error::RenderError;

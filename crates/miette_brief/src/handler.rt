@@ -4,7 +4,7 @@ ghost use Rattle.std.specs.Prelude.{◌≡◌, ◌++◌, true, false, OnOk, OnEr
 ghost use Rattle.miette_tree.specs.views.Report.{tree_of};
 ghost use Rattle.miette_tree.specs.views.Handler.{AppendsOne};
 ghost use Rattle.miette_brief.specs.rules.Report.{default_settings, brief, unlisted};
-ghost use Rattle.miette_brief.specs.rules.Answered.{IsBrief, AlwaysReads, report_accepted};
+ghost use Rattle.miette_brief.specs.rules.PossibleAnswers.{IsBrief, AlwaysReads, report_accepted};
 
 use crate::report::brief_of;
 use miette_protocol::error::RenderError;

@@ -3,7 +3,7 @@
 ghost use Rattle.std.specs.Prelude.{◌≡◌, ◌++◌, ◌∷◌, [], Some, None, OnOk, string_bytes, option_copied};
 ghost use Rattle.miette_brief.specs.rules.Rows.{position_text, behind_colon, place_text, code_text, kind_text};
 ghost use Rattle.miette_brief.specs.rules.Rows.{finding, rows_text};
-ghost use Rattle.miette_brief.specs.steps.Given.{place_of, kind_of};
+ghost use Rattle.miette_brief.specs.steps.Conversions.{place_of, kind_of};
 
 use crate::words::{push_number, push_one_row};
 use miette_protocol::protocol::Severity;

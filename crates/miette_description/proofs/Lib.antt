@@ -1,6 +1,6 @@
 pub mod Shape
 pub mod Lists
 pub mod Sources
-pub mod SeenLaws
+pub mod ParsedValueLaws
 pub mod NumberSteps
-pub mod Fronted
+pub mod FrontTexts

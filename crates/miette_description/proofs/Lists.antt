@@ -3,40 +3,40 @@ use Rattle.std.proofs.Common.{Global, ◌≡◌, ℕ, suc, zero, ◌+◌, ◌<�
 use Rattle.std.proofs.Math.Seq.{drop-cons}
 use Rattle.std.proofs.lemmas.List.{map-append}
 use Rattle.serde_json.specs.Data.{Data, item}
-use Rattle.miette_description.specs.steps.Seen.{seen, items_seen}
+use Rattle.miette_description.specs.steps.ParsedValues.{value_data, list_data}
 use Rattle.json.specs.declared.value.Value.{Value}
-use Rattle.miette_description.specs.rules.Members.{given, all_of}
+use Rattle.miette_description.specs.rules.Members.{and_then, all_of}
 
-carried : {A : Type 0} (old : List A) (x : A) (o : Option (List A)) → option_map (λ r. old ++ r) (given o (λ xs. Some (x ∷ xs))) ≡ option_map (λ r. (old ++ x ∷ []) ++ r) o
+carried : {A : Type 0} (old : List A) (x : A) (o : Option (List A)) → option_map (λ r. old ++ r) (and_then o (λ xs. Some (x ∷ xs))) ≡ option_map (λ r. (old ++ x ∷ []) ++ r) o
 carried old x None = refl
 carried old x (Some xs) = ap Some (sym (append_assoc old (x ∷ []) xs))
 
-item_here : (vs : List (Value Global)) (i : ℕ) (v : Value Global) → i < length vs → v ≡ get_or vs i v → items_seen (drop i vs) ≡ item (seen v) (items_seen (drop (i + 1) vs))
+item_here : (vs : List (Value Global)) (i : ℕ) (v : Value Global) → i < length vs → v ≡ get_or vs i v → list_data (drop i vs) ≡ item (value_data v) (list_data (drop (i + 1) vs))
 item_here vs i v h is =
-    ap items_seen (drop-cons vs i v h ∙ ap (λ x. x ∷ drop (suc i) vs) (sym is) ∙ ap (λ n. v ∷ drop n vs) (sym (add-one i)))
+    ap list_data (drop-cons vs i v h ∙ ap (λ x. x ∷ drop (suc i) vs) (sym is) ∙ ap (λ n. v ∷ drop n vs) (sym (add-one i)))
 
 -- what is read so far, and what is left
 abbrev pub ReadSoFar : {A : Type 0} → (Data → Option A) → List (Value Global) → List A → ℕ → Type 0
-ReadSoFar reads vs old i = all_of reads (items_seen vs) ≡ option_map (λ r. old ++ r) (all_of reads (items_seen (drop i vs)))
+ReadSoFar reads vs old i = all_of reads (list_data vs) ≡ option_map (λ r. old ++ r) (all_of reads (list_data (drop i vs)))
 
 pub none_read : {A : Type 0} (reads : Data → Option A) (vs : List (Value Global)) → ReadSoFar reads vs [] 0
-none_read reads vs = same (all_of reads (items_seen vs)) where
+none_read reads vs = same (all_of reads (list_data vs)) where
   same : {A : Type 0} (o : Option (List A)) → o ≡ option_map (λ r. [] ++ r) o
   same None = refl
   same (Some xs) = refl
 
 pub one_read : {A : Type 0} (reads : Data → Option A) (vs : List (Value Global)) (old : List A) (i : ℕ) (v : Value Global) (x : A)
-    → i < length vs → v ≡ get_or vs i v → reads (seen v) ≡ Some x → ReadSoFar reads vs old i → ReadSoFar reads vs (old ++ x ∷ []) (i + 1)
+    → i < length vs → v ≡ get_or vs i v → reads (value_data v) ≡ Some x → ReadSoFar reads vs old i → ReadSoFar reads vs (old ++ x ∷ []) (i + 1)
 one_read reads vs old i v x h is e inv =
     inv ∙ ap (λ l. option_map (λ r. old ++ r) (all_of reads l)) (item_here vs i v h is)
-    ∙ ap (λ o. option_map (λ r. old ++ r) (given o (λ y. given (all_of reads (items_seen (drop (i + 1) vs))) (λ ys. Some (y ∷ ys))))) e
-    ∙ carried old x (all_of reads (items_seen (drop (i + 1) vs)))
+    ∙ ap (λ o. option_map (λ r. old ++ r) (and_then o (λ y. and_then (all_of reads (list_data (drop (i + 1) vs))) (λ ys. Some (y ∷ ys))))) e
+    ∙ carried old x (all_of reads (list_data (drop (i + 1) vs)))
 
 pub one_fails : {A : Type 0} (reads : Data → Option A) (vs : List (Value Global)) (old : List A) (i : ℕ) (v : Value Global)
-    → i < length vs → v ≡ get_or vs i v → reads (seen v) ≡ None → ReadSoFar reads vs old i → all_of reads (items_seen vs) ≡ None
+    → i < length vs → v ≡ get_or vs i v → reads (value_data v) ≡ None → ReadSoFar reads vs old i → all_of reads (list_data vs) ≡ None
 one_fails reads vs old i v h is e inv =
     inv ∙ ap (λ l. option_map (λ r. old ++ r) (all_of reads l)) (item_here vs i v h is)
-    ∙ ap (λ o. option_map (λ r. old ++ r) (given o (λ y. given (all_of reads (items_seen (drop (i + 1) vs))) (λ ys. Some (y ∷ ys))))) e
+    ∙ ap (λ o. option_map (λ r. old ++ r) (and_then o (λ y. and_then (all_of reads (list_data (drop (i + 1) vs))) (λ ys. Some (y ∷ ys))))) e
 
 drop_past : {A : Type 0} (vs : List A) (i : ℕ) → length vs ≤ i → drop i vs ≡ []
 drop_past [] zero h = refl
@@ -44,12 +44,12 @@ drop_past [] (suc i) h = refl
 drop_past (v ∷ vs) zero h = absurd (omega arith)
 drop_past (v ∷ vs) (suc i) h = drop_past vs i (omega arith)
 
-pub all_read : {A : Type 0} (reads : Data → Option A) (vs : List (Value Global)) (old : List A) (i : ℕ) → length vs ≤ i → ReadSoFar reads vs old i → all_of reads (items_seen vs) ≡ Some old
-all_read reads vs old i h inv = inv ∙ ap (λ l. option_map (λ r. old ++ r) (all_of reads (items_seen l))) (drop_past vs i h) ∙ ap Some (append-nil old)
+pub all_read : {A : Type 0} (reads : Data → Option A) (vs : List (Value Global)) (old : List A) (i : ℕ) → length vs ≤ i → ReadSoFar reads vs old i → all_of reads (list_data vs) ≡ Some old
+all_read reads vs old i h inv = inv ∙ ap (λ l. option_map (λ r. old ++ r) (all_of reads (list_data l))) (drop_past vs i h) ∙ ap Some (append-nil old)
 
 -- the same with what is made of each item
 pub one_read_as : {A B : Type 0} (reads : Data → Option B) (value : A → B) (vs : List (Value Global)) (old new : List A) (i : ℕ) (v : Value Global) (x : A)
-    → new ≡ old ++ x ∷ [] → i < length vs → v ≡ get_or vs i v → reads (seen v) ≡ Some (value x) → ReadSoFar reads vs (map value old) i → ReadSoFar reads vs (map value new) (i + 1)
+    → new ≡ old ++ x ∷ [] → i < length vs → v ≡ get_or vs i v → reads (value_data v) ≡ Some (value x) → ReadSoFar reads vs (map value old) i → ReadSoFar reads vs (map value new) (i + 1)
 one_read_as {A} {B} reads value vs old new i v x pushed h is e inv =
     let P : List B → Type 0 = λ xs. ReadSoFar reads vs xs (i + 1) in
     subst P (sym (ap (map value) pushed ∙ map-append value old (x ∷ []))) (one_read reads vs (map value old) i v (value x) h is e inv)

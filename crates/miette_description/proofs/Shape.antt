@@ -5,42 +5,42 @@ use Rattle.std.specs.Ordering.{match_ordering}
 use Rattle.std.specs.Cmp.Lexicographic.{slice_cmp}
 use Rattle.serde_json.specs.Data.{Data, null, boolean, number, string, array, object, Items, no_items, item, Members, no_members, member, depth, items_depth, members_depth}
 use Rattle.serde_json.specs.Find.{get, get_member, as_null, as_array, as_str}
-use Rattle.miette_description.specs.steps.Seen.{seen, items_seen}
+use Rattle.miette_description.specs.steps.ParsedValues.{value_data, list_data}
 use Rattle.json.specs.declared.value.Value.{Value}
 use Rattle.miette_tree.specs.rules.Tree.{Tree, Trees, trees}
-use Rattle.miette_description.specs.rules.Members.{given, present, at_key, typed, all_of, list_of, source_of, meaning_in}
+use Rattle.miette_description.specs.rules.Members.{and_then, present, at_key, optional_value, all_of, list_of, source_of, meaning_in}
 use Rattle.miette_description.specs.rules.Description.{nullable, report_from, report_in, cause_in, related_in, reports_in, each_in}
 
-typed_here : {A : Type 0} (b : Bool) (reads : Data → Option A) (d : Data) → is_some (as_null d) ≡ b → nullable d (reads d) ≡ typed reads (present (Some d))
+typed_here : {A : Type 0} (b : Bool) (reads : Data → Option A) (d : Data) → is_some (as_null d) ≡ b → nullable d (reads d) ≡ optional_value reads (present (Some d))
 typed_here true reads d e = simp e
 typed_here false reads d e = simp e
 
 there : {A : Type 0} (o : Ordering) (reads : Data → Option A) (here : Option (Option A)) (d : Data) (later : Option (Option A)) (rest : Option Data)
-    → here ≡ typed reads (present (Some d)) → later ≡ typed reads (present rest)
-    → match_ordering o later here later ≡ typed reads (present (match_ordering o rest (Some d) rest))
+    → here ≡ optional_value reads (present (Some d)) → later ≡ optional_value reads (present rest)
+    → match_ordering o later here later ≡ optional_value reads (present (match_ordering o rest (Some d) rest))
 there Less reads here d later rest p q = q
 there Equal reads here d later rest p q = p
 there Greater reads here d later rest p q = q
 
-pub cause_there : (ms : Members) → cause_in ms ≡ typed report_in (present (get_member (codes "cause") ms))
+pub cause_there : (ms : Members) → cause_in ms ≡ optional_value report_in (present (get_member (codes "cause") ms))
 cause_there no_members = refl
 cause_there (member k d ms) = there (slice_cmp nat_cmp (codes "cause") k) report_in (nullable d (report_in d)) d (cause_in ms) (get_member (codes "cause") ms) (typed_here _ report_in d refl) (cause_there ms)
 
-pub related_there : (ms : Members) → related_in ms ≡ typed reports_in (present (get_member (codes "related") ms))
+pub related_there : (ms : Members) → related_in ms ≡ optional_value reports_in (present (get_member (codes "related") ms))
 related_there no_members = refl
 related_there (member k d ms) = there (slice_cmp nat_cmp (codes "related") k) reports_in (nullable d (reports_in d)) d (related_in ms) (get_member (codes "related") ms) (typed_here _ reports_in d refl) (related_there ms)
 
 -- a description by what stands at its keys
-pub report_parts : (d : Data) → report_in d ≡ report_from (typed report_in (at_key (codes "cause") d)) (typed reports_in (at_key (codes "related") d)) d
+pub report_parts : (d : Data) → report_in d ≡ report_from (optional_value report_in (at_key (codes "cause") d)) (optional_value reports_in (at_key (codes "related") d)) d
 report_parts null = refl
 report_parts (boolean b) = refl
 report_parts (number n) = refl
 report_parts (string s) = refl
 report_parts (array ds) = refl
-report_parts (object ms) = ap (λ c. report_from c (related_in ms) (object ms)) (cause_there ms) ∙ ap (λ r. report_from (typed report_in (present (get_member (codes "cause") ms))) r (object ms)) (related_there ms)
+report_parts (object ms) = ap (λ c. report_from c (related_in ms) (object ms)) (cause_there ms) ∙ ap (λ r. report_from (optional_value report_in (present (get_member (codes "cause") ms))) r (object ms)) (related_there ms)
 
 trees_of_all : (a : Option Tree) (b : Option Trees) (c : Option (List Tree)) → b ≡ option_map trees c
-    → given a (λ t. given b (λ ts. Some (Trees.more_trees t ts))) ≡ option_map trees (given a (λ x. given c (λ xs. Some (x ∷ xs))))
+    → and_then a (λ t. and_then b (λ ts. Some (Trees.more_trees t ts))) ≡ option_map trees (and_then a (λ x. and_then c (λ xs. Some (x ∷ xs))))
 trees_of_all None b c e = refl
 trees_of_all (Some t) b None e = simp e
 trees_of_all (Some t) b (Some ts) e = simp e
@@ -87,36 +87,36 @@ array-depth (string s) ds is = cc
 array-depth (array es) ds is = let same : es ≡ ds = cc in omega (arith, ap items_depth same)
 array-depth (object ms) ds is = cc
 
-pub item-depth : (vs : List (Value Global)) (i : ℕ) (v : Value Global) → i < length vs → depth (seen (get_or vs i v)) ≤ items_depth (items_seen vs)
+pub item-depth : (vs : List (Value Global)) (i : ℕ) (v : Value Global) → i < length vs → depth (value_data (get_or vs i v)) ≤ items_depth (list_data vs)
 item-depth [] i v h = absurd (omega arith)
 item-depth (w ∷ vs) zero v h = omega arith
 item-depth (w ∷ vs) (suc i) v h = omega (arith, item-depth vs i v (omega arith))
 
-pub given_some : {A B : Type 0} {t : Option A} (x : A) (f : A → Option B) → t ≡ Some x → given t f ≡ f x
-given_some x f e = ap (λ o. given o f) e
+pub given_some : {A B : Type 0} {t : Option A} (x : A) (f : A → Option B) → t ≡ Some x → and_then t f ≡ f x
+given_some x f e = ap (λ o. and_then o f) e
 
-pub given_none : {A B : Type 0} {t : Option A} (f : A → Option B) → t ≡ None → given t f ≡ None
-given_none f e = ap (λ o. given o f) e
+pub given_none : {A B : Type 0} {t : Option A} (f : A → Option B) → t ≡ None → and_then t f ≡ None
+given_none f e = ap (λ o. and_then o f) e
 
-given_never : {A B : Type 0} (o : Option A) (f : A → Option B) → ((x : A) → f x ≡ None) → given o f ≡ None
+given_never : {A B : Type 0} (o : Option A) (f : A → Option B) → ((x : A) → f x ≡ None) → and_then o f ≡ None
 given_never None f never = refl
 given_never (Some x) f never = never x
 
 -- where a nested part is none, the description is none
 pub without_cause : (c : Option (Option Tree)) (r : Option (Option Trees)) (d : Data) → c ≡ None → report_from c r d ≡ None
 without_cause c r d none =
-    given_never (meaning_in d) _ (λ m. given_never (typed source_of (at_key (codes "source") d)) _ (λ s. given_none _ none))
+    given_never (meaning_in d) _ (λ m. given_never (optional_value source_of (at_key (codes "source") d)) _ (λ s. given_none _ none))
 
 pub without_related : (c : Option (Option Tree)) (r : Option (Option Trees)) (d : Data) → r ≡ None → report_from c r d ≡ None
 without_related c r d none =
-    given_never (meaning_in d) _ (λ m. given_never (typed source_of (at_key (codes "source") d)) _ (λ s. given_never c _ (λ one.
-    given_never (typed (list_of as_str) (at_key (codes "causes") d)) _ (λ several. given_none _ none))))
+    given_never (meaning_in d) _ (λ m. given_never (optional_value source_of (at_key (codes "source") d)) _ (λ s. given_never c _ (λ one.
+    given_never (optional_value (list_of as_str) (at_key (codes "causes") d)) _ (λ several. given_none _ none))))
 
 -- a description whose nested parts are these
-pub with_nested : (d : Data) (c : Option Tree) (r : Option Trees) → typed report_in (at_key (codes "cause") d) ≡ Some c
-    → typed reports_in (at_key (codes "related") d) ≡ Some r → report_in d ≡ report_from (Some c) (Some r) d
+pub with_nested : (d : Data) (c : Option Tree) (r : Option Trees) → optional_value report_in (at_key (codes "cause") d) ≡ Some c
+    → optional_value reports_in (at_key (codes "related") d) ≡ Some r → report_in d ≡ report_from (Some c) (Some r) d
 with_nested d c r cause related =
-    report_parts d ∙ ap (λ o. report_from o (typed reports_in (at_key (codes "related") d)) d) cause
+    report_parts d ∙ ap (λ o. report_from o (optional_value reports_in (at_key (codes "related") d)) d) cause
     ∙ ap (λ o. report_from (Some c) o d) related
 
 list_read : (d : Data) (ds : Items) → as_array d ≡ Some ds → reports_in d ≡ option_map trees (all_of report_in ds)
@@ -128,5 +128,5 @@ list_read (array es) ds is = let same : es ≡ ds = cc in ap each_in same ∙ ea
 list_read (object ms) ds is = cc
 
 -- what a list of descriptions at a key is
-pub related_read : (o : Option Data) (d : Data) (ds : Items) → Some d ≡ o → Some ds ≡ as_array d → typed reports_in o ≡ option_map Some (option_map trees (all_of report_in ds))
-related_read o d ds is list = ap (typed reports_in) (sym is) ∙ ap (option_map Some) (list_read d ds (sym list))
+pub related_read : (o : Option Data) (d : Data) (ds : Items) → Some d ≡ o → Some ds ≡ as_array d → optional_value reports_in o ≡ option_map Some (option_map trees (all_of report_in ds))
+related_read o d ds is list = ap (optional_value reports_in) (sym is) ∙ ap (option_map Some) (list_read d ds (sym list))

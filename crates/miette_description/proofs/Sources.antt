@@ -8,18 +8,18 @@ use Rattle.serde_json.specs.Find.{as_null, as_str}
 use Rattle.serde_json.specs.Written.{has_float}
 use Rattle.miette_protocol.specs.rules.Reading.{Source}
 use Rattle.miette_protocol.specs.views.Meaning.{Meaning}
-use Rattle.miette_tree.specs.rules.Tree.{Tree, tree, Trees, no_trees, wrapped}
+use Rattle.miette_tree.specs.rules.Tree.{Tree, tree, Trees, no_trees, wrapped_tree}
 use Rattle.miette_json.specs.rules.Reads.{AlwaysReads, CauseAlwaysReads, AllAlwaysRead}
-use Rattle.miette_description.specs.rules.Members.{given, at_key, typed, list_of, source_named, source_of, meaning_in}
-use Rattle.miette_description.specs.rules.Description.{one_cause, wrapped_in, assembled, report_from, nullable, report_in, cause_in, related_in, reports_in, each_in, described}
+use Rattle.miette_description.specs.rules.Members.{and_then, at_key, optional_value, list_of, source_named, source_of, meaning_in}
+use Rattle.miette_description.specs.rules.Description.{one_cause, wrapped_in, tree_of_parts, report_from, nullable, report_in, cause_in, related_in, reports_in, each_in, described_tree}
 
 -- ---- through options
 
-any_given : {A B : Type 0} (Q : B → Type 0) (o : Option A) (f : A → Option B) → ((x : A) → IfSome (f x) Q) → IfSome (given o f) Q
+any_given : {A B : Type 0} (Q : B → Type 0) (o : Option A) (f : A → Option B) → ((x : A) → IfSome (f x) Q) → IfSome (and_then o f) Q
 any_given Q None f h = tt
 any_given Q (Some x) f h = h x
 
-given_with : {A B : Type 0} (P : A → Type 0) (Q : B → Type 0) (o : Option A) (f : A → Option B) → IfSome o P → ((x : A) → P x → IfSome (f x) Q) → IfSome (given o f) Q
+given_with : {A B : Type 0} (P : A → Type 0) (Q : B → Type 0) (o : Option A) (f : A → Option B) → IfSome o P → ((x : A) → P x → IfSome (f x) Q) → IfSome (and_then o f) Q
 given_with P Q None f p h = tt
 given_with P Q (Some x) f p h = h x p
 
@@ -31,7 +31,7 @@ mapped P Q (Some x) f p h = h x p
 abbrev Maybe : {A : Type 0} → (A → Type 0) → Option (Option A) → Type 0
 Maybe P o = IfSome o (λ x. IfSome x P)
 
-typed_with : {A : Type 0} (P : A → Type 0) (reads : Data → Option A) (o : Option Data) → ((d : Data) → IfSome (reads d) P) → Maybe P (typed reads o)
+typed_with : {A : Type 0} (P : A → Type 0) (reads : Data → Option A) (o : Option Data) → ((d : Data) → IfSome (reads d) P) → Maybe P (optional_value reads o)
 typed_with P reads None h = tt
 typed_with P reads (Some d) h = mapped P (λ x. IfSome x P) (reads d) Some (h d) (λ x p. p)
 
@@ -55,28 +55,28 @@ named_reads bytes (Some name) language = refl
 
 source_reads : (d : Data) → IfSome (source_of d) Reads
 source_reads d =
-    any_given Reads (given (at_key (codes "text") d) as_str) _ (λ bytes.
-    any_given Reads (typed as_str (at_key (codes "name") d)) _ (λ name.
-    any_given Reads (typed as_str (at_key (codes "language") d)) _ (λ language. named_reads bytes name language)))
+    any_given Reads (and_then (at_key (codes "text") d) as_str) _ (λ bytes.
+    any_given Reads (optional_value as_str (at_key (codes "name") d)) _ (λ name.
+    any_given Reads (optional_value as_str (at_key (codes "language") d)) _ (λ language. named_reads bytes name language)))
 
 one_cause_reads : (one : Option Tree) (several : Option (List (List ℕ))) → IfSome one AlwaysReads → IfSome (one_cause one several) CauseAlwaysReads
 one_cause_reads None several r = tt
 one_cause_reads (Some t) None r = r
 one_cause_reads (Some t) (Some ts) r = tt
 
-wrapped_reads : (message : List ℕ) (t : Tree) → AlwaysReads t → AlwaysReads (wrapped message t)
+wrapped_reads : (message : List ℕ) (t : Tree) → AlwaysReads t → AlwaysReads (wrapped_tree message t)
 wrapped_reads message (tree m s c r) reads = (reads.0, tt, reads.2)
 
 wrapped_in_reads : (ms : List (List ℕ)) (t : Tree) → AlwaysReads t → AlwaysReads (wrapped_in ms t)
 wrapped_in_reads [] t r = r
-wrapped_in_reads (m ∷ ms) t r = wrapped_in_reads ms (wrapped m t) (wrapped_reads m t r)
+wrapped_in_reads (m ∷ ms) t r = wrapped_in_reads ms (wrapped_tree m t) (wrapped_reads m t r)
 
 related_reads : (related : Option Trees) → IfSome related AllAlwaysRead → AllAlwaysRead (unwrap_or related no_trees)
 related_reads None r = tt
 related_reads (Some ts) r = r
 
 assembled_reads : (m : Meaning) (s : Option Source) (one : Option Tree) (several : Option (List (List ℕ))) (related : Option Trees) (contexts : Option (List (List ℕ)))
-    → IfSome s Reads → IfSome one AlwaysReads → IfSome related AllAlwaysRead → IfSome (assembled m s one several related contexts) AlwaysReads
+    → IfSome s Reads → IfSome one AlwaysReads → IfSome related AllAlwaysRead → IfSome (tree_of_parts m s one several related contexts) AlwaysReads
 assembled_reads m s one several related contexts a b c =
     mapped CauseAlwaysReads AlwaysReads (one_cause one several) (λ cause. wrapped_in (unwrap_or contexts []) (tree m s cause (unwrap_or related no_trees))) (one_cause_reads one several b)
     (λ cause p. wrapped_in_reads (unwrap_or contexts []) (tree m s cause (unwrap_or related no_trees)) (a, p, related_reads related c))
@@ -84,11 +84,11 @@ assembled_reads m s one several related contexts a b c =
 parts_read : (cause : Option (Option Tree)) (related : Option (Option Trees)) (d : Data) → Maybe AlwaysReads cause → Maybe AllAlwaysRead related → IfSome (report_from cause related d) AlwaysReads
 parts_read cause related d c r =
     any_given AlwaysReads (meaning_in d) _ (λ m.
-    given_with (λ s. IfSome s Reads) AlwaysReads (typed source_of (at_key (codes "source") d)) _ (typed_with Reads source_of (at_key (codes "source") d) source_reads) (λ s a.
+    given_with (λ s. IfSome s Reads) AlwaysReads (optional_value source_of (at_key (codes "source") d)) _ (typed_with Reads source_of (at_key (codes "source") d) source_reads) (λ s a.
     given_with (λ one. IfSome one AlwaysReads) AlwaysReads cause _ c (λ one b.
-    any_given AlwaysReads (typed (list_of as_str) (at_key (codes "causes") d)) _ (λ several.
+    any_given AlwaysReads (optional_value (list_of as_str) (at_key (codes "causes") d)) _ (λ several.
     given_with (λ list. IfSome list AllAlwaysRead) AlwaysReads related _ r (λ list e.
-    any_given AlwaysReads (typed (list_of as_str) (at_key (codes "contexts") d)) _ (λ contexts. assembled_reads m s one several list contexts a b e))))))
+    any_given AlwaysReads (optional_value (list_of as_str) (at_key (codes "contexts") d)) _ (λ contexts. assembled_reads m s one several list contexts a b e))))))
 
 -- ---- the whole
 
@@ -129,5 +129,5 @@ unless_float : (b : Bool) (o : Option Tree) → IfSome o AlwaysReads → IfSome 
 unless_float true o r = tt
 unless_float false o r = r
 
-pub described_reads : (d : Data) (t : Tree) → described d ≡ Some t → AlwaysReads t
+pub described_reads : (d : Data) (t : Tree) → described_tree d ≡ Some t → AlwaysReads t
 described_reads d t e = subst (λ o. IfSome o AlwaysReads) e (unless_float (has_float d) (report_in d) (report_reads d))

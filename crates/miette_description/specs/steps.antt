@@ -1,3 +1,3 @@
 -- The code's own steps, which no rule names.
-pub mod Built
-pub mod Seen
+pub mod OptionalParts
+pub mod ParsedValues

@@ -4,16 +4,16 @@ ghost use Rattle.std.specs.Prelude.{◌≡◌, Some, codes};
 ghost use Rattle.serde_json.specs.Data.{Data};
 ghost use Rattle.miette_tree.specs.rules.Tree.{Tree};
 ghost use Rattle.miette_json.specs.rules.Reads.{AlwaysReads};
-ghost use Rattle.miette_description.specs.rules.Members.{typed, at_key};
-ghost use Rattle.miette_description.specs.rules.Description.{report_from, report_in, reports_in, described};
+ghost use Rattle.miette_description.specs.rules.Members.{optional_value, at_key};
+ghost use Rattle.miette_description.specs.rules.Description.{report_from, report_in, reports_in, described_tree};
 
 /// A description is read by what stands at its keys, and each of its cause and related reports is a description.
 pub fn a_description_is_read_by_its_keys()
-    ensures { (d : Data) → report_in d ≡ report_from (typed report_in (at_key (codes "cause") d))
-        (typed reports_in (at_key (codes "related") d)) d }
+    ensures { (d : Data) → report_in d ≡ report_from (optional_value report_in (at_key (codes "cause") d))
+        (optional_value reports_in (at_key (codes "related") d)) d }
 {}
 
 /// The sources of a described report always read, so that its text is determined.
 pub fn a_described_report_always_reads()
-    ensures { (d : Data) (t : Tree) → described d ≡ Some t → AlwaysReads t }
+    ensures { (d : Data) (t : Tree) → described_tree d ≡ Some t → AlwaysReads t }
 {}

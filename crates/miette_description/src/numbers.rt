@@ -5,7 +5,7 @@ ghost use Rattle.json.specs.Value.{value_view, items_view, members_view};
 ghost use Rattle.serde_json.specs.Find.{as_u64};
 ghost use Rattle.serde_json.specs.View.{view, items_view as list_view, members_view as map_view};
 ghost use Rattle.serde_json.specs.Written.{has_float, items_have_float, members_have_float};
-ghost use Rattle.miette_description.specs.steps.Seen.{number_data, is_integral, are_integral, have_integral};
+ghost use Rattle.miette_description.specs.steps.ParsedValues.{number_data, is_integral, are_integral, have_integral};
 
 use fast_float::Numeral;
 use serde_json::Map;

@@ -3,10 +3,11 @@
 ghost use Rattle.std.specs.Prelude.{◌≡◌, ◌++◌, Option, Some, None, IfOk, OnOk, option_map, map, string_bytes};
 ghost use Rattle.std.specs.Option.{option_copied};
 ghost use Rattle.serde_json.specs.Find.{as_str};
-ghost use Rattle.miette_description.specs.steps.Seen.{seen};
+ghost use Rattle.miette_description.specs.steps.ParsedValues.{value_data};
 ghost use Rattle.miette_protocol.specs.views.Diagnostic.{meaning_of};
 ghost use Rattle.miette_tree.specs.views.Owned.{owned_source};
-ghost use Rattle.miette_description.specs.rules.Members.{given, at_key, typed, list_of, severity_of, label_of};
+ghost use Rattle.miette_description.specs.rules.Members.{and_then, at_key, optional_value, list_of, severity_of};
+ghost use Rattle.miette_description.specs.rules.Members.{label_of};
 ghost use Rattle.miette_description.specs.rules.Members.{source_of, meaning_in};
 
 use crate::error::BuildError;
@@ -28,8 +29,8 @@ fn copy_of(alloc: Global, text: Option<&str>) -> Result<Option<String>, AllocErr
 }
 
 fn label_from(alloc: Global, value: &Value<'_>) -> Result<LabeledSpan, BuildError>
-    ensures ok { IfOk result (λ l. label_of (seen value.now) ≡ Some l) }
-    ensures description { (result ≡ Err BuildError.Description) → label_of (seen value.now) ≡ None }
+    ensures ok { IfOk result (λ l. label_of (value_data value.now) ≡ Some l) }
+    ensures description { (result ≡ Err BuildError.Description) → label_of (value_data value.now) ≡ None }
 {
     let offset = whole_at(value, "offset").ok_or(BuildError::Description)?;
     let length = whole_at(value, "length").ok_or(BuildError::Description)?;
@@ -52,8 +53,8 @@ fn label_from(alloc: Global, value: &Value<'_>) -> Result<LabeledSpan, BuildErro
 }
 
 fn labels_from(alloc: Global, value: &Value<'_>) -> Result<Vec<LabeledSpan>, BuildError>
-    ensures ok { IfOk result (λ v. list_of label_of (seen value.now) ≡ Some v.items) }
-    ensures description { (result ≡ Err BuildError.Description) → list_of label_of (seen value.now) ≡ None }
+    ensures ok { IfOk result (λ v. list_of label_of (value_data value.now) ≡ Some v.items) }
+    ensures description { (result ≡ Err BuildError.Description) → list_of label_of (value_data value.now) ≡ None }
 {
     let list = list_in(value).ok_or(BuildError::Description)?;
     let mut labels = Vec::new(alloc);
@@ -69,10 +70,10 @@ fn labels_at(
     value: &Value<'_>,
     key: &str,
 ) -> Result<Option<Vec<LabeledSpan>>, BuildError>
-    ensures ok { IfOk result (λ o. typed (list_of label_of) (at_key key.now (seen value.now))
+    ensures ok { IfOk result (λ o. optional_value (list_of label_of) (at_key key.now (value_data value.now))
         ≡ Some (option_map (λ v. v.items) o)) }
     ensures description { (result ≡ Err BuildError.Description) →
-        typed (list_of label_of) (at_key key.now (seen value.now)) ≡ None }
+        optional_value (list_of label_of) (at_key key.now (value_data value.now)) ≡ None }
 {
     match member_at(value, key) {
         None => Ok(None),
@@ -81,8 +82,8 @@ fn labels_at(
 }
 
 fn texts_from(alloc: Global, value: &Value<'_>) -> Result<Vec<String>, BuildError>
-    ensures ok { IfOk result (λ v. list_of as_str (seen value.now) ≡ Some (map string_bytes v.items)) }
-    ensures description { (result ≡ Err BuildError.Description) → list_of as_str (seen value.now) ≡ None }
+    ensures ok { IfOk result (λ v. list_of as_str (value_data value.now) ≡ Some (map string_bytes v.items)) }
+    ensures description { (result ≡ Err BuildError.Description) → list_of as_str (value_data value.now) ≡ None }
 {
     let list = list_in(value).ok_or(BuildError::Description)?;
     let mut texts = Vec::new(alloc);
@@ -99,10 +100,10 @@ pub(crate) fn texts_at(
     value: &Value<'_>,
     key: &str,
 ) -> Result<Option<Vec<String>>, BuildError>
-    ensures ok { IfOk result (λ o. typed (list_of as_str) (at_key key.now (seen value.now))
+    ensures ok { IfOk result (λ o. optional_value (list_of as_str) (at_key key.now (value_data value.now))
         ≡ Some (option_map (λ v. map string_bytes v.items) o)) }
     ensures description { (result ≡ Err BuildError.Description) →
-        typed (list_of as_str) (at_key key.now (seen value.now)) ≡ None }
+        optional_value (list_of as_str) (at_key key.now (value_data value.now)) ≡ None }
 {
     match member_at(value, key) {
         None => Ok(None),
@@ -128,7 +129,7 @@ pub(crate) fn push_texts(
 }
 
 fn severity_named(value: &Value<'_>) -> Option<Severity>
-    ensures { result ≡ severity_of (seen value.now) }
+    ensures { result ≡ severity_of (value_data value.now) }
 {
     let text = text_in(value)?;
     if text == "advice" {
@@ -143,7 +144,7 @@ fn severity_named(value: &Value<'_>) -> Option<Severity>
 }
 
 fn severity_at(value: &Value<'_>, key: &str) -> Option<Option<Severity>>
-    ensures { result ≡ typed severity_of (at_key key.now (seen value.now)) }
+    ensures { result ≡ optional_value severity_of (at_key key.now (value_data value.now)) }
 {
     match member_at(value, key) {
         None => Some(None),
@@ -152,8 +153,8 @@ fn severity_at(value: &Value<'_>, key: &str) -> Option<Option<Severity>>
 }
 
 fn source_from(alloc: Global, value: &Value<'_>) -> Result<OwnedSource, BuildError>
-    ensures ok { IfOk result (λ s. source_of (seen value.now) ≡ Some (owned_source s)) }
-    ensures description { (result ≡ Err BuildError.Description) → source_of (seen value.now) ≡ None }
+    ensures ok { IfOk result (λ s. source_of (value_data value.now) ≡ Some (owned_source s)) }
+    ensures description { (result ≡ Err BuildError.Description) → source_of (value_data value.now) ≡ None }
 {
     let text = needed_text_at(value, "text").ok_or(BuildError::Description)?;
     let name = text_at(value, "name").ok_or(BuildError::Description)?;
@@ -170,10 +171,10 @@ pub(crate) fn source_at(
     value: &Value<'_>,
     key: &str,
 ) -> Result<Option<OwnedSource>, BuildError>
-    ensures ok { IfOk result (λ o. typed source_of (at_key key.now (seen value.now))
+    ensures ok { IfOk result (λ o. optional_value source_of (at_key key.now (value_data value.now))
         ≡ Some (option_map owned_source o)) }
     ensures description { (result ≡ Err BuildError.Description) →
-        typed source_of (at_key key.now (seen value.now)) ≡ None }
+        optional_value source_of (at_key key.now (value_data value.now)) ≡ None }
 {
     let Some(found) = member_at(value, key) else {
         return Ok(None);
@@ -185,8 +186,8 @@ pub(crate) fn diagnostic_from(
     alloc: Global,
     value: &Value<'_>,
 ) -> Result<MietteDiagnostic, BuildError>
-    ensures ok { IfOk result (λ d. meaning_in (seen value.now) ≡ Some (meaning_of d)) }
-    ensures description { (result ≡ Err BuildError.Description) → meaning_in (seen value.now) ≡ None }
+    ensures ok { IfOk result (λ d. meaning_in (value_data value.now) ≡ Some (meaning_of d)) }
+    ensures description { (result ≡ Err BuildError.Description) → meaning_in (value_data value.now) ≡ None }
 {
     let message = needed_text_at(value, "message").ok_or(BuildError::Description)?;
     let code = text_at(value, "code").ok_or(BuildError::Description)?;

@@ -5,17 +5,18 @@ ghost use Rattle.std.specs.Prelude.{option_and_then, option_map, unwrap_or, map,
 ghost use Rattle.json.specs.Value.{value_view};
 ghost use Rattle.serde_json.specs.Read.{read, of_json};
 ghost use Rattle.serde_json.specs.Written.{has_float};
-ghost use Rattle.miette_description.specs.steps.Seen.{seen, items_seen};
+ghost use Rattle.miette_description.specs.steps.ParsedValues.{value_data, list_data};
 ghost use Rattle.miette_tree.specs.rules.Tree.{tree, head, source_of, cause_of, related_of, texts, no_trees, trees};
 ghost use Rattle.miette_tree.specs.rules.Tree.{with_source, with_cause, with_related};
 ghost use Rattle.miette_tree.specs.views.Report.{tree_of};
 ghost use Rattle.miette_json.specs.rules.Reads.{AlwaysReads};
-ghost use Rattle.miette_description.specs.rules.Members.{given, typed, at_key, all_of};
+ghost use Rattle.miette_description.specs.rules.Members.{and_then, optional_value, at_key, all_of};
 ghost use Rattle.miette_protocol.specs.views.Diagnostic.{meaning_of};
 ghost use Rattle.miette_tree.specs.views.Owned.{owned_source};
-ghost use Rattle.miette_description.specs.rules.Description.{one_cause, wrapped_in, assembled, report_in, reports_in};
-ghost use Rattle.miette_description.specs.rules.Description.{described, report_from, tree_for};
-ghost use Rattle.miette_description.specs.steps.Built.{maybe_sourced, maybe_related};
+ghost use Rattle.miette_description.specs.rules.Description.{one_cause, wrapped_in, tree_of_parts, report_in};
+ghost use Rattle.miette_description.specs.rules.Description.{reports_in};
+ghost use Rattle.miette_description.specs.rules.Description.{described_tree, report_from, tree_for};
+ghost use Rattle.miette_description.specs.steps.OptionalParts.{maybe_sourced, maybe_related};
 
 use crate::error::BuildError;
 use crate::numbers::{is_whole, value_has_float};
@@ -73,8 +74,10 @@ fn text_has_float(alloc: Global, text: &str) -> Result<bool, BuildError>
 /// parsed text there may be numbers that a later value of their key hides.
 fn refuse_float(alloc: Global, text: &str, value: &Value<'_>) -> Result<(), BuildError>
     requires { read text.now ≡ of_json (value_view value.now) }
-    ensures ok { OnOk result ((read text.now ≡ Some (seen value.now)) × (has_float (seen value.now) ≡ false)) }
-    ensures description { (result ≡ Err BuildError.Description) → option_and_then described (read text.now) ≡ None }
+    ensures ok { OnOk result ((read text.now ≡ Some (value_data value.now))
+        × (has_float (value_data value.now) ≡ false)) }
+    ensures description { (result ≡ Err BuildError.Description) →
+        option_and_then described_tree (read text.now) ≡ None }
 {
     if is_whole(value) {
         return Ok(());
@@ -212,13 +215,13 @@ fn report_of_parts<D: Diagnostic, S: SourceCode>(
     contexts: Option<Vec<String>>,
 ) -> Result<Report<D, S>, BuildError>
     ensures ok { IfOk result (λ r.
-        assembled (meaning_of diagnostic) (option_map owned_source source)
+        tree_of_parts (meaning_of diagnostic) (option_map owned_source source)
         (option_map (λ b. tree_of D.meaning S.source b.value) causes.one)
         (option_map (λ v. map string_bytes v.items) causes.several)
         (option_map (λ v. trees (map (tree_of D.meaning S.source) v.items)) list)
         (option_map (λ v. map string_bytes v.items) contexts) ≡ Some (tree_of D.meaning S.source r)) }
     ensures description { (result ≡ Err BuildError.Description) →
-        assembled (meaning_of diagnostic) (option_map owned_source source)
+        tree_of_parts (meaning_of diagnostic) (option_map owned_source source)
         (option_map (λ b. tree_of D.meaning S.source b.value) causes.one)
         (option_map (λ v. map string_bytes v.items) causes.several)
         (option_map (λ v. trees (map (tree_of D.meaning S.source) v.items)) list)
@@ -254,11 +257,11 @@ fn report_with<D: Diagnostic, S: SourceCode>(
 ) -> Result<Box<Report<D, S>>, BuildError>
     ensures ok { IfOk result (λ made.
         report_from (Some (option_map (λ b. tree_of D.meaning S.source b.value) one))
-        (Some (option_map (λ v. trees (map (tree_of D.meaning S.source) v.items)) list)) (seen value.now)
+        (Some (option_map (λ v. trees (map (tree_of D.meaning S.source) v.items)) list)) (value_data value.now)
         ≡ Some (tree_of D.meaning S.source made.value)) }
     ensures description { (result ≡ Err BuildError.Description) →
         report_from (Some (option_map (λ b. tree_of D.meaning S.source b.value) one))
-        (Some (option_map (λ v. trees (map (tree_of D.meaning S.source) v.items)) list)) (seen value.now) ≡ None }
+        (Some (option_map (λ v. trees (map (tree_of D.meaning S.source) v.items)) list)) (value_data value.now) ≡ None }
 {
     let diagnostic = diagnostic_from(alloc, value)?;
     let source = source_at(alloc, value, "source")?;
@@ -276,8 +279,8 @@ fn report_from<D: Diagnostic, S: SourceCode>(
     alloc: Global,
     value: &Value<'_>,
 ) -> Result<Box<Report<D, S>>, BuildError>
-    ensures ok { IfOk result (λ b. report_in (seen value.now) ≡ Some (tree_of D.meaning S.source b.value)) }
-    ensures description { (result ≡ Err BuildError.Description) → report_in (seen value.now) ≡ None }
+    ensures ok { IfOk result (λ b. report_in (value_data value.now) ≡ Some (tree_of D.meaning S.source b.value)) }
+    ensures description { (result ≡ Err BuildError.Description) → report_in (value_data value.now) ≡ None }
 {
     let one = cause_at(alloc, value, "cause")?;
     let list = related_at(alloc, value, "related")?;
@@ -291,10 +294,10 @@ fn cause_at<D: Diagnostic, S: SourceCode>(
     value: &Value<'_>,
     key: &str,
 ) -> Result<Option<Box<Report<D, S>>>, BuildError>
-    ensures ok { IfOk result (λ o. typed report_in (at_key key.now (seen value.now))
+    ensures ok { IfOk result (λ o. optional_value report_in (at_key key.now (value_data value.now))
         ≡ Some (option_map (λ b. tree_of D.meaning S.source b.value) o)) }
     ensures description { (result ≡ Err BuildError.Description) →
-        typed report_in (at_key key.now (seen value.now)) ≡ None }
+        optional_value report_in (at_key key.now (value_data value.now)) ≡ None }
 {
     let Some(found) = member_at(value, key) else {
         return Ok(None);
@@ -310,10 +313,10 @@ fn related_at<D: Diagnostic, S: SourceCode>(
     key: &str,
 ) -> Result<Option<Vec<Report<D, S>>>, BuildError>
     ensures ok { IfOk result (λ o.
-        typed reports_in (at_key key.now (seen value.now))
+        optional_value reports_in (at_key key.now (value_data value.now))
         ≡ Some (option_map (λ v. trees (map (tree_of D.meaning S.source) v.items)) o)) }
     ensures description { (result ≡ Err BuildError.Description) →
-        typed reports_in (at_key key.now (seen value.now)) ≡ None }
+        optional_value reports_in (at_key key.now (value_data value.now)) ≡ None }
 {
     let Some(found) = member_at(value, key) else {
         return Ok(None);
@@ -329,9 +332,9 @@ fn reports_from<D: Diagnostic, S: SourceCode>(
     alloc: Global,
     list: &[Value<'_>],
 ) -> Result<Vec<Report<D, S>>, BuildError>
-    ensures ok { IfOk result (λ v. all_of report_in (items_seen list.now)
+    ensures ok { IfOk result (λ v. all_of report_in (list_data list.now)
         ≡ Some (map (tree_of D.meaning S.source) v.items)) }
-    ensures description { (result ≡ Err BuildError.Description) → all_of report_in (items_seen list.now) ≡ None }
+    ensures description { (result ≡ Err BuildError.Description) → all_of report_in (list_data list.now) ≡ None }
 {
     let mut reports = Vec::new(alloc);
     for value in list {

@@ -8,34 +8,34 @@ use Rattle.miette_newlines.specs.rules.Lines.{Line}
 use Rattle.miette_protocol.specs.views.Meaning.{Label}
 use Rattle.miette_lines.specs.declared.sweep.Placed.{Placed}
 use Rattle.miette_page.specs.rules.Rows.{Row}
-use Rattle.miette_lines.specs.rules.Labels.{DrawnLabel, starts_on, ends_on, cut_at_lf, closing}
+use Rattle.miette_lines.specs.rules.Labels.{DrawnLabel, starts_on, ends_on, cut_at_lf, closing_labels}
 use Rattle.miette_snippets.specs.rules.Gutters.{other_gutter, open_gutter, part_run, closing_parts, closing_rows}
 use Rattle.miette_snippets.specs.rules.SnippetLayout.{before_each}
-use Rattle.miette_lines.specs.views.Given.{drawn_of}
+use Rattle.miette_lines.specs.views.GivenLabels.{drawn_of}
 use Rattle.miette_lines.specs.views.Sweeping.{nothing}
-use Rattle.miette_page.specs.views.Told.{Token, row_end, told, told_rows, run_told, text_told}
+use Rattle.miette_page.specs.views.Tokens.{Token, row_end, row_tokens, rows_tokens, styled_tokens, text_tokens}
 use Rattle.miette_snippets.proofs.Telling.{then, told_as, run_more, styled_row}
 use Rattle.miette_drawing.proofs.Texting.{row_done, rows_then, parts_then}
 use Rattle.miette_drawing.proofs.Parting.{cut_some}
 use Rattle.miette_style.specs.rules.Themes.{Characters}
 
-pub part_put : (l : DrawnLabel) (bar : ℕ) (part : List ℕ) (p q r n : Printout) → q ≡ p ⊕ run_told l.style (bar ∷ 32 ∷ []) → r ≡ q ⊕ text_told part → n ≡ r ⊕ row_end ∷ [] → n ≡ p ⊕ (run_told l.style (bar ∷ 32 ∷ part) ++ row_end ∷ [])
+pub part_put : (l : DrawnLabel) (bar : ℕ) (part : List ℕ) (p q r n : Printout) → q ≡ p ⊕ styled_tokens l.style (bar ∷ 32 ∷ []) → r ≡ q ⊕ text_tokens part → n ≡ r ⊕ row_end ∷ [] → n ≡ p ⊕ (styled_tokens l.style (bar ∷ 32 ∷ part) ++ row_end ∷ [])
 part_put l bar part p q r n hq hr hn =
-    then p (run_told l.style (bar ∷ 32 ∷ part)) (row_end ∷ [])
-    (told_as p (run_told l.style (bar ∷ 32 ∷ []) ++ text_told part) (run_told l.style (bar ∷ 32 ∷ part)) (then p (run_told l.style (bar ∷ 32 ∷ [])) (text_told part) hq hr) (run_more l.style (bar ∷ 32 ∷ []) part)) hn
+    then p (styled_tokens l.style (bar ∷ 32 ∷ part)) (row_end ∷ [])
+    (told_as p (styled_tokens l.style (bar ∷ 32 ∷ []) ++ text_tokens part) (styled_tokens l.style (bar ∷ 32 ∷ part)) (then p (styled_tokens l.style (bar ∷ 32 ∷ [])) (text_tokens part) hq hr) (run_more l.style (bar ∷ 32 ∷ []) part)) hn
 
 -- a row: what stands before the gutter, the gutter, a part of the text
-pub closed_put : (w : ℕ → ℕ) (start gutter : Row) (l : DrawnLabel) (bar : ℕ) (part : List ℕ) (p b g n : Printout) → b ≡ p ⊕ told start → g ≡ b ⊕ told gutter → n ≡ g ⊕ (run_told l.style (bar ∷ 32 ∷ part) ++ row_end ∷ []) →
-    n ≡ p ⊕ told_rows ((start ++ (gutter ++ part_run w l bar part ∷ [])) ∷ [])
+pub closed_put : (w : ℕ → ℕ) (start gutter : Row) (l : DrawnLabel) (bar : ℕ) (part : List ℕ) (p b g n : Printout) → b ≡ p ⊕ row_tokens start → g ≡ b ⊕ row_tokens gutter → n ≡ g ⊕ (styled_tokens l.style (bar ∷ 32 ∷ part) ++ row_end ∷ []) →
+    n ≡ p ⊕ rows_tokens ((start ++ (gutter ++ part_run w l bar part ∷ [])) ∷ [])
 closed_put w start gutter l bar part p b g n hb hg hn =
     let own : Row = part_run w l bar part ∷ [] in
-    row_done (start ++ (gutter ++ own)) p (g ⊕ told own) n
-    (parts_then start (gutter ++ own) p b (g ⊕ told own) hb (parts_then gutter own b g (g ⊕ told own) hg refl))
-    (hn ∙ sym (put_append g (run_told l.style (bar ∷ 32 ∷ part)) (row_end ∷ [])) ∙ ap (λ x. (g ⊕ x) ⊕ row_end ∷ []) (sym (styled_row w l.style (bar ∷ 32 ∷ part))))
+    row_done (start ++ (gutter ++ own)) p (g ⊕ row_tokens own) n
+    (parts_then start (gutter ++ own) p b (g ⊕ row_tokens own) hb (parts_then gutter own b g (g ⊕ row_tokens own) hg refl))
+    (hn ∙ sym (put_append g (styled_tokens l.style (bar ∷ 32 ∷ part)) (row_end ∷ [])) ∙ ap (λ x. (g ⊕ x) ⊕ row_end ∷ []) (sym (styled_row w l.style (bar ∷ 32 ∷ part))))
 
 pub one_closing : (w : ℕ → ℕ) (t : Characters) (line : Line) (columns : ℕ) (multi : List DrawnLabel) (l : DrawnLabel) (start : Row) (parts : List (List ℕ)) (part : List ℕ) (p q : Printout) → parts ≡ part ∷ [] →
-    q ≡ p ⊕ told_rows ((start ++ (other_gutter w t line columns multi ++ part_run w l t.hbar part ∷ [])) ∷ []) → q ≡ p ⊕ told_rows (before_each start (closing_parts w t line columns multi l parts))
-one_closing w t line columns multi l start parts part p q e h = h ∙ ap (λ xs. p ⊕ told_rows (before_each start (closing_parts w t line columns multi l xs))) (sym e)
+    q ≡ p ⊕ rows_tokens ((start ++ (other_gutter w t line columns multi ++ part_run w l t.hbar part ∷ [])) ∷ []) → q ≡ p ⊕ rows_tokens (before_each start (closing_parts w t line columns multi l parts))
+one_closing w t line columns multi l start parts part p q e h = h ∙ ap (λ xs. p ⊕ rows_tokens (before_each start (closing_parts w t line columns multi l xs))) (sym e)
 
 before_mapped : (before : Row) (g : List ℕ → Row) (parts : List (List ℕ)) → before_each before (map g parts) ≡ map (λ p. before ++ g p) parts
 before_mapped before g [] = refl
@@ -50,36 +50,36 @@ several_at w t line columns multi l part more next others e =
     ap (λ xs. (other_gutter w t line (columns - 1) multi ++ part_run w l t.rcross part ∷ []) ∷ map (open_row w t line (columns - 1) multi l) xs) e ∙ ap (λ xs. closing_parts w t line columns multi l (part ∷ xs)) (sym e)
 
 pub several_closing : (w : ℕ → ℕ) (t : Characters) (line : Line) (columns less : ℕ) (multi : List DrawnLabel) (l : DrawnLabel) (start : Row) (parts : List (List ℕ)) (part codes : List ℕ) (p q r : Printout) → less ≡ columns - 1 → parts ≡ part ∷ cut_at_lf codes →
-    q ≡ p ⊕ told_rows ((start ++ (other_gutter w t line less multi ++ part_run w l t.rcross part ∷ [])) ∷ []) →
-    r ≡ q ⊕ told_rows (map (λ x. start ++ (open_gutter w t line less multi ++ part_run w l t.vbar x ∷ [])) (cut_at_lf codes)) →
-    r ≡ p ⊕ told_rows (before_each start (closing_parts w t line columns multi l parts))
+    q ≡ p ⊕ rows_tokens ((start ++ (other_gutter w t line less multi ++ part_run w l t.rcross part ∷ [])) ∷ []) →
+    r ≡ q ⊕ rows_tokens (map (λ x. start ++ (open_gutter w t line less multi ++ part_run w l t.vbar x ∷ [])) (cut_at_lf codes)) →
+    r ≡ p ⊕ rows_tokens (before_each start (closing_parts w t line columns multi l parts))
 several_closing w t line columns less multi l start parts part codes p q r z e hq hr =
     let more = cut_some codes in
     let first : ℕ → Row = λ k. start ++ (other_gutter w t line k multi ++ part_run w l t.rcross part ∷ []) in
     rows_then (first less ∷ []) (map (λ x. start ++ open_row w t line less multi l x) (cut_at_lf codes)) p q r hq hr
-    ∙ ap (λ k. p ⊕ told_rows (first k ∷ map (λ x. start ++ open_row w t line k multi l x) (cut_at_lf codes))) z
-    ∙ ap (λ xs. p ⊕ told_rows (first (columns - 1) ∷ xs)) (sym (before_mapped start (open_row w t line (columns - 1) multi l) (cut_at_lf codes)))
-    ∙ ap (λ xs. p ⊕ told_rows (before_each start xs)) (several_at w t line columns multi l part (cut_at_lf codes) more.0 more.1.0 more.1.1)
-    ∙ ap (λ xs. p ⊕ told_rows (before_each start (closing_parts w t line columns multi l xs))) (sym e)
+    ∙ ap (λ k. p ⊕ rows_tokens (first k ∷ map (λ x. start ++ open_row w t line k multi l x) (cut_at_lf codes))) z
+    ∙ ap (λ xs. p ⊕ rows_tokens (first (columns - 1) ∷ xs)) (sym (before_mapped start (open_row w t line (columns - 1) multi l) (cut_at_lf codes)))
+    ∙ ap (λ xs. p ⊕ rows_tokens (before_each start xs)) (several_at w t line columns multi l part (cut_at_lf codes) more.0 more.1.0 more.1.1)
+    ∙ ap (λ xs. p ⊕ rows_tokens (before_each start (closing_parts w t line columns multi l xs))) (sym e)
 
 -- one more label
 abbrev pub rest_of : (ℕ → ℕ) → Characters → Line → ℕ → List DrawnLabel → Row → List DrawnLabel → List Token
-rest_of w t line columns multi start ls = told_rows (before_each start (closing_rows w t line columns multi (closing line ls)))
+rest_of w t line columns multi start ls = rows_tokens (before_each start (closing_rows w t line columns multi (closing_labels line ls)))
 
 abbrev chosen : (ℕ → ℕ) → Characters → Line → ℕ → List DrawnLabel → Row → DrawnLabel → List DrawnLabel → Bool → List Token
-chosen w t line columns multi start l ls b = told_rows (before_each start (closing_rows w t line columns multi (cond b (l ∷ closing line ls) (closing line ls))))
+chosen w t line columns multi start l ls b = rows_tokens (before_each start (closing_rows w t line columns multi (cond b (l ∷ closing_labels line ls) (closing_labels line ls))))
 
 pub closing_more : (w : ℕ → ℕ) (t : Characters) (line : Line) (columns : ℕ) (multi : List DrawnLabel) (start : Row) (ls : List Label) (placed : List Placed) (i : ℕ) (p q whole : Printout) → i < length placed →
     (ends_on line (drawn_of ls (get_or placed i nothing)) && not (starts_on line (drawn_of ls (get_or placed i nothing)))) ≡ true →
-    q ≡ p ⊕ told_rows (before_each start (closing_parts w t line columns multi (drawn_of ls (get_or placed i nothing)) (drawn_of ls (get_or placed i nothing)).parts)) →
+    q ≡ p ⊕ rows_tokens (before_each start (closing_parts w t line columns multi (drawn_of ls (get_or placed i nothing)) (drawn_of ls (get_or placed i nothing)).parts)) →
     p ⊕ rest_of w t line columns multi start (map (drawn_of ls) (drop i placed)) ≡ whole → q ⊕ rest_of w t line columns multi start (map (drawn_of ls) (drop (i + 1) placed)) ≡ whole
 closing_more w t line columns multi start ls placed i p q whole lt e hq h =
     let l : DrawnLabel = drawn_of ls (get_or placed i nothing) in
     let later : List DrawnLabel = map (drawn_of ls) (drop (i + 1) placed) in
     let own : List Row = closing_parts w t line columns multi l l.parts in
-    let rest : List Row = closing_rows w t line columns multi (closing line later) in
-    rows_then (before_each start own) (before_each start rest) p q (q ⊕ told_rows (before_each start rest)) hq refl
-    ∙ ap (λ xs. p ⊕ told_rows xs) (sym (map-append _ own rest))
+    let rest : List Row = closing_rows w t line columns multi (closing_labels line later) in
+    rows_then (before_each start own) (before_each start rest) p q (q ⊕ rows_tokens (before_each start rest)) hq refl
+    ∙ ap (λ xs. p ⊕ rows_tokens xs) (sym (map-append _ own rest))
     ∙ ap (λ b. p ⊕ chosen w t line columns multi start l later b) (sym e)
     ∙ ap (λ xs. p ⊕ rest_of w t line columns multi start xs) (sym (at_drop_more (map (drawn_of ls)) placed i nothing lt)) ∙ h
 

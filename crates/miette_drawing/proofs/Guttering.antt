@@ -8,14 +8,14 @@ use Rattle.miette_newlines.specs.rules.Lines.{Line}
 use Rattle.miette_protocol.specs.views.Meaning.{Label}
 use Rattle.miette_style.specs.declared.style.Style.{Style}
 use Rattle.miette_lines.specs.declared.sweep.Placed.{Placed}
-use Rattle.miette_page.specs.rules.Rows.{Row, styled}
+use Rattle.miette_page.specs.rules.Rows.{Row, styled_run}
 use Rattle.miette_style.specs.rules.Styles.{plain}
 use Rattle.miette_lines.specs.rules.Labels.{DrawnLabel, starts_on, ends_on, parts_of, cut_at_lf, onto_part}
 use Rattle.miette_snippets.specs.rules.Drawing.{blank}
 use Rattle.miette_snippets.specs.rules.Gutters.{number_gutter, other_gutter, open_gutter, ending_corner, arrow}
-use Rattle.miette_lines.specs.views.Given.{drawn_of}
+use Rattle.miette_lines.specs.views.GivenLabels.{drawn_of}
 use Rattle.miette_lines.specs.views.Sweeping.{nothing}
-use Rattle.miette_page.specs.views.Told.{Token, told, run_told, text_told}
+use Rattle.miette_page.specs.views.Tokens.{Token, row_tokens, styled_tokens, text_tokens}
 use Rattle.miette_lines.proofs.Numbers.{by_cases}
 use Rattle.miette_snippets.proofs.Telling.{styled_told, styled_row, blank_row, then, run_one}
 use Rattle.miette_style.specs.rules.Themes.{Characters}
@@ -25,79 +25,79 @@ abbrev Gutter : Type 0
 Gutter = List DrawnLabel → Row
 
 pub at_end : (f : Gutter) (ls : List Label) (placed : List Placed) (i : ℕ) (row new whole : Printout) (own : List Token) → length placed ≤ i →
-    told (f []) ≡ own → new ≡ row ⊕ own → row ⊕ told (f (map (drawn_of ls) (drop i placed))) ≡ whole → new ≡ whole
+    row_tokens (f []) ≡ own → new ≡ row ⊕ own → row ⊕ row_tokens (f (map (drawn_of ls) (drop i placed))) ≡ whole → new ≡ whole
 at_end f ls placed i row new whole own le e n h =
-    n ∙ ap (λ r. row ⊕ r) (sym e) ∙ ap (λ r. row ⊕ told (f r)) (sym (at_drop_all (map (drawn_of ls)) placed i le)) ∙ h
+    n ∙ ap (λ r. row ⊕ r) (sym e) ∙ ap (λ r. row ⊕ row_tokens (f r)) (sym (at_drop_all (map (drawn_of ls)) placed i le)) ∙ h
 
 pub at_last : (f : Gutter) (ls : List Label) (placed : List Placed) (i : ℕ) (row new whole : Printout) (own : List Token) → i < length placed →
-    told (f (drawn_of ls (get_or placed i nothing) ∷ map (drawn_of ls) (drop (i + 1) placed))) ≡ own → new ≡ row ⊕ own → row ⊕ told (f (map (drawn_of ls) (drop i placed))) ≡ whole → new ≡ whole
+    row_tokens (f (drawn_of ls (get_or placed i nothing) ∷ map (drawn_of ls) (drop (i + 1) placed))) ≡ own → new ≡ row ⊕ own → row ⊕ row_tokens (f (map (drawn_of ls) (drop i placed))) ≡ whole → new ≡ whole
 at_last f ls placed i row new whole own lt e n h =
-    n ∙ ap (λ r. row ⊕ r) (sym e) ∙ ap (λ r. row ⊕ told (f r)) (sym (at_drop_more (map (drawn_of ls)) placed i nothing lt)) ∙ h
+    n ∙ ap (λ r. row ⊕ r) (sym e) ∙ ap (λ r. row ⊕ row_tokens (f r)) (sym (at_drop_more (map (drawn_of ls)) placed i nothing lt)) ∙ h
 
 pub at_more : (f g : Gutter) (ls : List Label) (placed : List Placed) (i : ℕ) (row new whole : Printout) (own : List Token) → i < length placed →
-    told (f (drawn_of ls (get_or placed i nothing) ∷ map (drawn_of ls) (drop (i + 1) placed))) ≡ own ++ told (g (map (drawn_of ls) (drop (i + 1) placed))) → new ≡ row ⊕ own →
-    row ⊕ told (f (map (drawn_of ls) (drop i placed))) ≡ whole → new ⊕ told (g (map (drawn_of ls) (drop (i + 1) placed))) ≡ whole
+    row_tokens (f (drawn_of ls (get_or placed i nothing) ∷ map (drawn_of ls) (drop (i + 1) placed))) ≡ own ++ row_tokens (g (map (drawn_of ls) (drop (i + 1) placed))) → new ≡ row ⊕ own →
+    row ⊕ row_tokens (f (map (drawn_of ls) (drop i placed))) ≡ whole → new ⊕ row_tokens (g (map (drawn_of ls) (drop (i + 1) placed))) ≡ whole
 at_more f g ls placed i row new whole own lt e n h =
-    let rest : List Token = told (g (map (drawn_of ls) (drop (i + 1) placed))) in
-    ap (λ r. r ⊕ rest) n ∙ put_append row own rest ∙ ap (λ r. row ⊕ r) (sym e) ∙ ap (λ r. row ⊕ told (f r)) (sym (at_drop_more (map (drawn_of ls)) placed i nothing lt)) ∙ h
+    let rest : List Token = row_tokens (g (map (drawn_of ls) (drop (i + 1) placed))) in
+    ap (λ r. r ⊕ rest) n ∙ put_append row own rest ∙ ap (λ r. row ⊕ r) (sym e) ∙ ap (λ r. row ⊕ row_tokens (f r)) (sym (at_drop_more (map (drawn_of ls)) placed i nothing lt)) ∙ h
 
 -- a gutter goes on behind a label's bar
-pub bar_told : (w : ℕ → ℕ) (t : Characters) (style : Style) (rest : Row) → told (styled w style (t.vbar ∷ []) ∷ rest) ≡ run_told style (t.vbar ∷ []) ++ told rest
-bar_told w t style rest = ap (λ r. r ++ told rest) (styled_told w style (t.vbar ∷ []))
+pub bar_told : (w : ℕ → ℕ) (t : Characters) (style : Style) (rest : Row) → row_tokens (styled_run w style (t.vbar ∷ []) ∷ rest) ≡ styled_tokens style (t.vbar ∷ []) ++ row_tokens rest
+bar_told w t style rest = ap (λ r. r ++ row_tokens rest) (styled_told w style (t.vbar ∷ []))
 
 abbrev more_of_other : (ℕ → ℕ) → Characters → Line → ℕ → DrawnLabel → List DrawnLabel → Bool → Row
-more_of_other w t line left l ls b = cond b (styled w l.style (t.lbot ∷ replicate (left - 1) t.hbar) ∷ []) (styled w l.style (t.vbar ∷ []) ∷ other_gutter w t line (left - 1) ls)
+more_of_other w t line left l ls b = cond b (styled_run w l.style (t.lbot ∷ replicate (left - 1) t.hbar) ∷ []) (styled_run w l.style (t.vbar ∷ []) ∷ other_gutter w t line (left - 1) ls)
 
 pub other_more : (w : ℕ → ℕ) (t : Characters) (line : Line) (left less : ℕ) (l : DrawnLabel) (ls : List DrawnLabel) → ends_on line l ≡ false → less ≡ left - 1 →
-    told (other_gutter w t line left (l ∷ ls)) ≡ run_told l.style (t.vbar ∷ []) ++ told (other_gutter w t line less ls)
+    row_tokens (other_gutter w t line left (l ∷ ls)) ≡ styled_tokens l.style (t.vbar ∷ []) ++ row_tokens (other_gutter w t line less ls)
 other_more w t line left less l ls e z =
-    ap (λ b. told (more_of_other w t line left l ls b)) e ∙ bar_told w t l.style (other_gutter w t line (left - 1) ls) ∙ ap (λ k. run_told l.style (t.vbar ∷ []) ++ told (other_gutter w t line k ls)) (sym z)
+    ap (λ b. row_tokens (more_of_other w t line left l ls b)) e ∙ bar_told w t l.style (other_gutter w t line (left - 1) ls) ∙ ap (λ k. styled_tokens l.style (t.vbar ∷ []) ++ row_tokens (other_gutter w t line k ls)) (sym z)
 
 pub other_last : (w : ℕ → ℕ) (t : Characters) (line : Line) (left less : ℕ) (l : DrawnLabel) (ls : List DrawnLabel) → ends_on line l ≡ true → less ≡ left - 1 →
-    told (other_gutter w t line left (l ∷ ls)) ≡ run_told l.style (t.lbot ∷ replicate less t.hbar)
+    row_tokens (other_gutter w t line left (l ∷ ls)) ≡ styled_tokens l.style (t.lbot ∷ replicate less t.hbar)
 other_last w t line left less l ls e z =
-    ap (λ b. told (more_of_other w t line left l ls b)) e ∙ styled_row w l.style (t.lbot ∷ replicate (left - 1) t.hbar) ∙ ap (λ k. run_told l.style (t.lbot ∷ replicate k t.hbar)) (sym z)
+    ap (λ b. row_tokens (more_of_other w t line left l ls b)) e ∙ styled_row w l.style (t.lbot ∷ replicate (left - 1) t.hbar) ∙ ap (λ k. styled_tokens l.style (t.lbot ∷ replicate k t.hbar)) (sym z)
 
 abbrev more_of_open : (ℕ → ℕ) → Characters → Line → ℕ → DrawnLabel → List DrawnLabel → Bool → Row
-more_of_open w t line left l ls b = cond b (blank w left ∷ []) (styled w l.style (t.vbar ∷ []) ∷ open_gutter w t line (left - 1) ls)
+more_of_open w t line left l ls b = cond b (blank w left ∷ []) (styled_run w l.style (t.vbar ∷ []) ∷ open_gutter w t line (left - 1) ls)
 
 pub open_more : (w : ℕ → ℕ) (t : Characters) (line : Line) (left less : ℕ) (l : DrawnLabel) (ls : List DrawnLabel) → ends_on line l ≡ false → less ≡ left - 1 →
-    told (open_gutter w t line left (l ∷ ls)) ≡ run_told l.style (t.vbar ∷ []) ++ told (open_gutter w t line less ls)
+    row_tokens (open_gutter w t line left (l ∷ ls)) ≡ styled_tokens l.style (t.vbar ∷ []) ++ row_tokens (open_gutter w t line less ls)
 open_more w t line left less l ls e z =
-    ap (λ b. told (more_of_open w t line left l ls b)) e ∙ bar_told w t l.style (open_gutter w t line (left - 1) ls) ∙ ap (λ k. run_told l.style (t.vbar ∷ []) ++ told (open_gutter w t line k ls)) (sym z)
+    ap (λ b. row_tokens (more_of_open w t line left l ls b)) e ∙ bar_told w t l.style (open_gutter w t line (left - 1) ls) ∙ ap (λ k. styled_tokens l.style (t.vbar ∷ []) ++ row_tokens (open_gutter w t line k ls)) (sym z)
 
 pub open_last : (w : ℕ → ℕ) (t : Characters) (line : Line) (left : ℕ) (l : DrawnLabel) (ls : List DrawnLabel) → ends_on line l ≡ true →
-    told (open_gutter w t line left (l ∷ ls)) ≡ run_told plain (replicate left 32)
-open_last w t line left l ls e = ap (λ b. told (more_of_open w t line left l ls b)) e ∙ blank_row w left
+    row_tokens (open_gutter w t line left (l ∷ ls)) ≡ styled_tokens plain (replicate left 32)
+open_last w t line left l ls e = ap (λ b. row_tokens (more_of_open w t line left l ls b)) e ∙ blank_row w left
 
 -- an arrow and a space
 abbrev pub arrow_told : Characters → Style → ℕ → ℕ → List Token
-arrow_told t style corner left = run_told style (corner ∷ replicate (left - 3) t.hbar ++ t.rarrow ∷ []) ++ run_told plain (32 ∷ [])
+arrow_told t style corner left = styled_tokens style (corner ∷ replicate (left - 3) t.hbar ++ t.rarrow ∷ []) ++ styled_tokens plain (32 ∷ [])
 
-arrow_row : (w : ℕ → ℕ) (t : Characters) (l : DrawnLabel) (corner left : ℕ) → told (arrow w t l corner left ∷ blank w 1 ∷ []) ≡ arrow_told t l.style corner left
+arrow_row : (w : ℕ → ℕ) (t : Characters) (l : DrawnLabel) (corner left : ℕ) → row_tokens (arrow w t l corner left ∷ blank w 1 ∷ []) ≡ arrow_told t l.style corner left
 arrow_row w t l corner left =
-    ap (λ r. r ++ told (blank w 1 ∷ [])) (styled_told w l.style (corner ∷ replicate (left - 3) t.hbar ++ t.rarrow ∷ []))
-    ∙ ap (λ r. run_told l.style (corner ∷ replicate (left - 3) t.hbar ++ t.rarrow ∷ []) ++ r) (blank_row w 1)
+    ap (λ r. r ++ row_tokens (blank w 1 ∷ [])) (styled_told w l.style (corner ∷ replicate (left - 3) t.hbar ++ t.rarrow ∷ []))
+    ∙ ap (λ r. styled_tokens l.style (corner ∷ replicate (left - 3) t.hbar ++ t.rarrow ∷ []) ++ r) (blank_row w 1)
 
 abbrev unless_starts : (ℕ → ℕ) → Characters → Line → ℕ → DrawnLabel → List DrawnLabel → Bool → Row
-unless_starts w t line left l ls b = cond b (arrow w t l (ending_corner t l.parts) left ∷ blank w 1 ∷ []) (styled w l.style (t.vbar ∷ []) ∷ number_gutter w t line (left - 1) ls)
+unless_starts w t line left l ls b = cond b (arrow w t l (ending_corner t l.parts) left ∷ blank w 1 ∷ []) (styled_run w l.style (t.vbar ∷ []) ∷ number_gutter w t line (left - 1) ls)
 
 abbrev more_of_number : (ℕ → ℕ) → Characters → Line → ℕ → DrawnLabel → List DrawnLabel → Bool → Row
 more_of_number w t line left l ls b = cond b (arrow w t l t.ltop left ∷ blank w 1 ∷ []) (unless_starts w t line left l ls (ends_on line l))
 
-pub number_starts : (w : ℕ → ℕ) (t : Characters) (line : Line) (left : ℕ) (l : DrawnLabel) (ls : List DrawnLabel) → starts_on line l ≡ true → told (number_gutter w t line left (l ∷ ls)) ≡ arrow_told t l.style t.ltop left
-number_starts w t line left l ls s = ap (λ b. told (more_of_number w t line left l ls b)) s ∙ arrow_row w t l t.ltop left
+pub number_starts : (w : ℕ → ℕ) (t : Characters) (line : Line) (left : ℕ) (l : DrawnLabel) (ls : List DrawnLabel) → starts_on line l ≡ true → row_tokens (number_gutter w t line left (l ∷ ls)) ≡ arrow_told t l.style t.ltop left
+number_starts w t line left l ls s = ap (λ b. row_tokens (more_of_number w t line left l ls b)) s ∙ arrow_row w t l t.ltop left
 
 pub number_ends : (w : ℕ → ℕ) (t : Characters) (line : Line) (left corner : ℕ) (l : DrawnLabel) (ls : List DrawnLabel) → starts_on line l ≡ false → ends_on line l ≡ true → corner ≡ ending_corner t l.parts →
-    told (number_gutter w t line left (l ∷ ls)) ≡ arrow_told t l.style corner left
+    row_tokens (number_gutter w t line left (l ∷ ls)) ≡ arrow_told t l.style corner left
 number_ends w t line left corner l ls s e k =
-    ap (λ b. told (more_of_number w t line left l ls b)) s ∙ ap (λ b. told (unless_starts w t line left l ls b)) e ∙ arrow_row w t l (ending_corner t l.parts) left ∙ ap (λ c. arrow_told t l.style c left) (sym k)
+    ap (λ b. row_tokens (more_of_number w t line left l ls b)) s ∙ ap (λ b. row_tokens (unless_starts w t line left l ls b)) e ∙ arrow_row w t l (ending_corner t l.parts) left ∙ ap (λ c. arrow_told t l.style c left) (sym k)
 
 pub number_more : (w : ℕ → ℕ) (t : Characters) (line : Line) (left less : ℕ) (l : DrawnLabel) (ls : List DrawnLabel) → starts_on line l ≡ false → ends_on line l ≡ false → less ≡ left - 1 →
-    told (number_gutter w t line left (l ∷ ls)) ≡ run_told l.style (t.vbar ∷ []) ++ told (number_gutter w t line less ls)
+    row_tokens (number_gutter w t line left (l ∷ ls)) ≡ styled_tokens l.style (t.vbar ∷ []) ++ row_tokens (number_gutter w t line less ls)
 number_more w t line left less l ls s e z =
-    ap (λ b. told (more_of_number w t line left l ls b)) s ∙ ap (λ b. told (unless_starts w t line left l ls b)) e ∙ bar_told w t l.style (number_gutter w t line (left - 1) ls)
-    ∙ ap (λ k. run_told l.style (t.vbar ∷ []) ++ told (number_gutter w t line k ls)) (sym z)
+    ap (λ b. row_tokens (more_of_number w t line left l ls b)) s ∙ ap (λ b. row_tokens (unless_starts w t line left l ls b)) e ∙ bar_told w t l.style (number_gutter w t line (left - 1) ls)
+    ∙ ap (λ k. styled_tokens l.style (t.vbar ∷ []) ++ row_tokens (number_gutter w t line k ls)) (sym z)
 
 corner_onto : (t : Characters) (code : ℕ) (parts : List (List ℕ)) → t.lcross ≡ ending_corner t (onto_part code parts)
 corner_onto t code [] = refl
@@ -111,12 +111,12 @@ corner_of_cut t (c ∷ cs) = by_cases (c == 10) (λ e. ap (λ b. ending_corner t
 pub corner_of_some : (t : Characters) (text : Option (List ℕ)) (bytes : List ℕ) → text ≡ Some bytes → t.lcross ≡ ending_corner t (parts_of text)
 corner_of_some t text bytes e = corner_of_cut t (chars bytes) ∙ ap (λ x. ending_corner t (parts_of x)) (sym e)
 
-pub arrow_put : (t : Characters) (style : Style) (corner left less : ℕ) (p q r n : Printout) → less ≡ left - 3 → q ≡ p ⊕ run_told style (corner ∷ replicate less t.hbar) → r ≡ q ⊕ text_told (t.rarrow ∷ []) → n ≡ r ⊕ run_told plain (32 ∷ []) →
+pub arrow_put : (t : Characters) (style : Style) (corner left less : ℕ) (p q r n : Printout) → less ≡ left - 3 → q ≡ p ⊕ styled_tokens style (corner ∷ replicate less t.hbar) → r ≡ q ⊕ text_tokens (t.rarrow ∷ []) → n ≡ r ⊕ styled_tokens plain (32 ∷ []) →
     n ≡ p ⊕ arrow_told t style corner left
 arrow_put t style corner left less p q r n z e f g =
     let bars : List ℕ = corner ∷ replicate less t.hbar in
-    let space : List Token = run_told plain (32 ∷ []) in
-    g ∙ ap (λ x. x ⊕ space) (then p (run_told style bars) (text_told (t.rarrow ∷ [])) e f)
-    ∙ put_append p (run_told style bars ++ text_told (t.rarrow ∷ [])) space
+    let space : List Token = styled_tokens plain (32 ∷ []) in
+    g ∙ ap (λ x. x ⊕ space) (then p (styled_tokens style bars) (text_tokens (t.rarrow ∷ [])) e f)
+    ∙ put_append p (styled_tokens style bars ++ text_tokens (t.rarrow ∷ [])) space
     ∙ ap (λ x. p ⊕ (x ++ space)) (run_one style bars t.rarrow)
-    ∙ ap (λ k. p ⊕ (run_told style (corner ∷ replicate k t.hbar ++ t.rarrow ∷ []) ++ space)) z
+    ∙ ap (λ k. p ⊕ (styled_tokens style (corner ∷ replicate k t.hbar ++ t.rarrow ∷ []) ++ space)) z

@@ -12,7 +12,7 @@ use Rattle.miette_newlines.specs.rules.Lines.{Line}
 use Rattle.miette_protocol.specs.views.Meaning.{Label}
 use Rattle.miette_protocol.specs.rules.Reading.{Span, Source, Contents, data_start, data_end}
 use Rattle.miette_style.specs.declared.style.Style.{Style}
-use Rattle.miette_style.specs.rules.Asked.{Call, Leads, asked, restarted}
+use Rattle.miette_style.specs.rules.HighlighterCalls.{Call, Leads, asked, restarted}
 use Rattle.miette_lines.specs.declared.reading.ReadLabel.{ReadLabel}
 use Rattle.miette_newlines.specs.declared.lines.LineOfText.{LineOfText}
 use Rattle.miette_lines.specs.declared.sweep.Placed.{Placed}
@@ -21,19 +21,19 @@ use Rattle.miette_page.specs.rules.Rows.{Row}
 use Rattle.miette_lines.specs.rules.Cells.{Cell, characters, cells_from}
 use Rattle.miette_lines.specs.rules.Contexts.{contents, lines_of_contents}
 use Rattle.miette_snippets.specs.rules.Frames.{SnippetSettings, Place, top_row, top_row_of, bottom_row, number_width, width_of_lines}
-use Rattle.miette_lines.specs.views.Given.{drawn_of, label_at}
+use Rattle.miette_lines.specs.views.GivenLabels.{drawn_of, label_at}
 use Rattle.miette_lines.specs.rules.Groups.{in_order, spans_of}
 use Rattle.miette_snippets.specs.rules.Gutters.{gutter_columns, most_labels}
 use Rattle.miette_lines.specs.rules.Labels.{DrawnLabel, is_one_line, is_multi_line, one_line, multi_line}
 use Rattle.miette_snippets.specs.rules.SnippetLayout.{cells_of, line_rows, line_rows_of, rows_of_lines, body_rows}
-use Rattle.miette_snippets.specs.rules.Highlighted.{EachHasPieces, ArePieces, decoded_text, texts_of, line_calls, piece_of}
-use Rattle.miette_drawing.specs.views.Lent.{cells_in, text_in, texts_in, lent_rows, lent_snippet, width_of_count, gutter_of, PutsRows}
+use Rattle.miette_snippets.specs.rules.Highlighting.{EachHasPieces, ArePieces, decoded_text, texts_of, line_calls, piece_of}
+use Rattle.miette_drawing.specs.views.SnippetRows.{cells_in, text_in, texts_in, lent_rows, lent_snippet, width_of_count, gutter_of, PutsRows}
 use Rattle.miette_lines.specs.views.Placing.{end_drawn, is_told, placed_from}
-use Rattle.miette_lines.specs.views.Read.{IsRead}
+use Rattle.miette_lines.specs.views.Reads.{IsRead}
 use Rattle.miette_newlines.specs.views.Walking.{line_of_text}
 use Rattle.miette_lines.specs.views.Sweeping.{is_one, is_multi, nothing, start_at, AreSorted, IsAt}
-use Rattle.miette_lines.specs.views.Swept.{most_multi}
-use Rattle.miette_page.specs.views.Told.{Token, told, told_rows, row_end}
+use Rattle.miette_lines.specs.views.LabelCounts.{most_multi}
+use Rattle.miette_page.specs.views.Tokens.{Token, row_tokens, rows_tokens, row_end}
 use Rattle.miette_lines.proofs.Numbers.{by_cases}
 use Rattle.miette_lines.proofs.Sources.{IsCut, lines_from}
 use Rattle.miette_lines.proofs.Lines.{cut_lines, cut-le}
@@ -46,10 +46,10 @@ use Rattle.miette_lines.proofs.Merging.{IsAscending}
 use Rattle.miette_lines.proofs.Refusing.{read_of}
 
 -- what rows tell, one after the other
-pub told_rows-append : (a b : List Row) → told_rows (a ++ b) ≡ told_rows a ++ told_rows b
+pub told_rows-append : (a b : List Row) → rows_tokens (a ++ b) ≡ rows_tokens a ++ rows_tokens b
 told_rows-append [] b = refl
 told_rows-append (row ∷ a) b =
-    ap (λ r. told row ++ row_end ∷ r) (told_rows-append a b) ∙ sym (append_assoc (told row) (row_end ∷ told_rows a) (told_rows b))
+    ap (λ r. row_tokens row ++ row_end ∷ r) (told_rows-append a b) ∙ sym (append_assoc (row_tokens row) (row_end ∷ rows_tokens a) (rows_tokens b))
 
 -- a part of a part
 pub slices : (bytes : List ℕ) (from to a b : ℕ) → from ≤ a → a ≤ b → b ≤ from + (to - from) → slice_range (slice_range bytes from to) (a - from) (b - from) ≡ slice_range bytes a b
@@ -143,11 +143,11 @@ width_is line [] = refl
 width_is line (l ∷ ls) = let no : eqb (length (l ∷ ls)) 0 ≡ false = ne_eqb (length (l ∷ ls)) 0 (λ e. omega (arith, e)) in rw no refl
 
 -- what the page holds after the three parts of a snippet
-pub told_snippet : (before : Printout) (top bottom : Row) (body : List Row) → ((before ⊕ told_rows (top ∷ [])) ⊕ told_rows body) ⊕ told_rows (bottom ∷ []) ≡ before ⊕ told_rows (top ∷ body ++ bottom ∷ [])
+pub told_snippet : (before : Printout) (top bottom : Row) (body : List Row) → ((before ⊕ rows_tokens (top ∷ [])) ⊕ rows_tokens body) ⊕ rows_tokens (bottom ∷ []) ≡ before ⊕ rows_tokens (top ∷ body ++ bottom ∷ [])
 told_snippet before top bottom body =
-    put_append (before ⊕ told_rows (top ∷ [])) (told_rows body) (told_rows (bottom ∷ []))
-    ∙ ap (λ r. (before ⊕ told_rows (top ∷ [])) ⊕ r) (sym (told_rows-append body (bottom ∷ [])))
-    ∙ put_append before (told_rows (top ∷ [])) (told_rows (body ++ bottom ∷ []))
+    put_append (before ⊕ rows_tokens (top ∷ [])) (rows_tokens body) (rows_tokens (bottom ∷ []))
+    ∙ ap (λ r. (before ⊕ rows_tokens (top ∷ [])) ⊕ r) (sym (told_rows-append body (bottom ∷ [])))
+    ∙ put_append before (rows_tokens (top ∷ [])) (rows_tokens (body ++ bottom ∷ []))
     ∙ ap (λ r. before ⊕ r) (sym (told_rows-append (top ∷ []) (body ++ bottom ∷ [])))
 
 -- placed labels come by offset
@@ -213,10 +213,10 @@ placed_sorted ends styles context source labels reads h e =
 pub at_start : (labels : List Placed) → IsAt labels 0 0 []
 at_start labels = record { count = omega arith; before = λ k lt. absurd (omega (arith, lt)); later = λ k le lt. omega arith; carried = refl }
 
-pub told_parts : (p0 p1 p2 p3 : Printout) (top bottom : Row) (body : List Row) → p1 ≡ p0 ⊕ told_rows (top ∷ []) → p2 ≡ p1 ⊕ told_rows body → p3 ≡ p2 ⊕ told_rows (bottom ∷ []) →
-    p3 ≡ p0 ⊕ told_rows (top ∷ body ++ bottom ∷ [])
+pub told_parts : (p0 p1 p2 p3 : Printout) (top bottom : Row) (body : List Row) → p1 ≡ p0 ⊕ rows_tokens (top ∷ []) → p2 ≡ p1 ⊕ rows_tokens body → p3 ≡ p2 ⊕ rows_tokens (bottom ∷ []) →
+    p3 ≡ p0 ⊕ rows_tokens (top ∷ body ++ bottom ∷ [])
 told_parts p0 p1 p2 p3 top bottom body a b c =
-    c ∙ ap (λ p. p ⊕ told_rows (bottom ∷ [])) (b ∙ ap (λ p. p ⊕ told_rows body) a) ∙ told_snippet p0 top bottom body
+    c ∙ ap (λ p. p ⊕ rows_tokens (bottom ∷ [])) (b ∙ ap (λ p. p ⊕ rows_tokens body) a) ∙ told_snippet p0 top bottom body
 
 -- the loop over a snippet's lines
 
@@ -233,12 +233,12 @@ AreLined s w columns drawn start bytes first blank begun now at number before pa
     (more : List (List Highlight)) → EachHasPieces blank (texts_in start bytes (P.lines_from (start + at) (drop at bytes))) more →
     (all : List (List Highlight)) × EachHasPieces blank (texts_in start bytes (P.lines_from start bytes)) all
     × ((later : List Call) → now (line_calls (texts_in start bytes (P.lines_from (start + at) (drop at bytes))) more ++ later) → begun (line_calls (texts_in start bytes (P.lines_from start bytes)) all ++ later))
-    × (page ⊕ told_rows (lent_rows s w columns drawn start bytes number more (P.lines_from (start + at) (drop at bytes))) ≡ before ⊕ told_rows (lent_rows s w columns drawn start bytes first all (P.lines_from start bytes)))
+    × (page ⊕ rows_tokens (lent_rows s w columns drawn start bytes number more (P.lines_from (start + at) (drop at bytes))) ≡ before ⊕ rows_tokens (lent_rows s w columns drawn start bytes first all (P.lines_from start bytes)))
 
 pub lines_first : (s : SnippetSettings) (w columns : ℕ) (drawn : List DrawnLabel) (start : ℕ) (bytes : List ℕ) (first : ℕ) (blank : Bool) (begun : List Call → Type 0) (page : Printout) → AreLined s w columns drawn start bytes first blank begun begun 0 first page page
 lines_first s w columns drawn start bytes first blank begun page = λ more h.
     let e : start + 0 ≡ start = omega arith in
-    (more, subst (λ (n : ℕ). EachHasPieces blank (texts_in start bytes (P.lines_from n bytes)) more) e h, (λ later k. subst (λ (n : ℕ). begun (line_calls (texts_in start bytes (P.lines_from n bytes)) more ++ later)) e k), ap (λ n. page ⊕ told_rows (lent_rows s w columns drawn start bytes first more (P.lines_from n bytes))) e)
+    (more, subst (λ (n : ℕ). EachHasPieces blank (texts_in start bytes (P.lines_from n bytes)) more) e h, (λ later k. subst (λ (n : ℕ). begun (line_calls (texts_in start bytes (P.lines_from n bytes)) more ++ later)) e k), ap (λ n. page ⊕ rows_tokens (lent_rows s w columns drawn start bytes first more (P.lines_from n bytes))) e)
 
 -- the rows of one line more
 lines_more_of : (s : SnippetSettings) (w columns : ℕ) (drawn : List DrawnLabel) (start : ℕ) (bytes : List ℕ) (first : ℕ) (blank : Bool) (begun was now : List Call → Type 0) (at number : ℕ) (line : LineOfText) (pieces : List Highlight) (before page more : Printout) →
@@ -246,7 +246,7 @@ lines_more_of : (s : SnippetSettings) (w columns : ℕ) (drawn : List DrawnLabel
     P.lines_from (start + at) (drop at bytes) ≡ line_of_text line ∷ P.lines_from line.end (drop (line.end - start) bytes) → start ≤ line.end →
     ArePieces blank (decoded_text (text_in start bytes (line_of_text line))) pieces →
     Leads was (asked (decoded_text (text_in start bytes (line_of_text line))) (map piece_of pieces) ∷ []) now →
-    more ≡ page ⊕ told_rows (line_rows s w columns drawn (line_of_text line) number (cells_in s start bytes (line_of_text line)) pieces) →
+    more ≡ page ⊕ rows_tokens (line_rows s w columns drawn (line_of_text line) number (cells_in s start bytes (line_of_text line)) pieces) →
     AreLined s w columns drawn start bytes first blank begun now (line.end - start) (number + 1) before more
 lines_more_of s w columns drawn start bytes first blank begun was now at number line pieces before page more h part low p call e = λ later own.
     let sums : start + (line.end - start) ≡ line.end = omega (arith, low) in
@@ -259,11 +259,11 @@ lines_more_of s w columns drawn start bytes first blank begun was now at number 
       rest.1,
       (λ calls k. rest.2 calls (subst (λ (ls : List Line). was (line_calls (texts_in start bytes ls) (pieces ∷ later) ++ calls)) (sym part)
           (call (line_calls (texts_in start bytes behind) later ++ calls) (subst (λ (n : ℕ). now (line_calls (texts_in start bytes (P.lines_from n (drop (line.end - start) bytes))) later ++ calls)) sums k)))),
-      ap (λ n. more ⊕ told_rows (lent_rows s w columns drawn start bytes (number + 1) later (P.lines_from n (drop (line.end - start) bytes)))) sums
-          ∙ ap (λ m. m ⊕ told_rows there) e
-          ∙ put_append page (told_rows here) (told_rows there)
+      ap (λ n. more ⊕ rows_tokens (lent_rows s w columns drawn start bytes (number + 1) later (P.lines_from n (drop (line.end - start) bytes)))) sums
+          ∙ ap (λ m. m ⊕ rows_tokens there) e
+          ∙ put_append page (rows_tokens here) (rows_tokens there)
           ∙ ap (λ t. page ⊕ t) (sym (told_rows-append here there))
-          ∙ ap (λ ls. page ⊕ told_rows (lent_rows s w columns drawn start bytes number (pieces ∷ later) ls)) (sym part)
+          ∙ ap (λ ls. page ⊕ rows_tokens (lent_rows s w columns drawn start bytes number (pieces ∷ later) ls)) (sym part)
           ∙ rest.3,
     )
 
@@ -273,14 +273,14 @@ pub lines_more : (s : SnippetSettings) (w columns : ℕ) (labels : List Label) (
     one ≡ filter (is_one (line_of_text line)) placed → multi ≡ filter (is_multi (line_of_text line)) placed →
     ArePieces blank (decoded_text (text_in start bytes (line_of_text line))) pieces →
     Leads was (asked (decoded_text (text_in start bytes (line_of_text line))) (map piece_of pieces) ∷ []) now →
-    more ≡ page ⊕ told_rows (line_rows_of s w columns (map (drawn_of labels) one) (map (drawn_of labels) multi) (line_of_text line) number (cells_in s start bytes (line_of_text line)) pieces) →
+    more ≡ page ⊕ rows_tokens (line_rows_of s w columns (map (drawn_of labels) one) (map (drawn_of labels) multi) (line_of_text line) number (cells_in s start bytes (line_of_text line)) pieces) →
     AreLined s w columns (map (drawn_of labels) placed) start bytes first blank begun now (line.end - start) (number + 1) before more
 lines_more s w columns labels placed start bytes first blank begun was now at number line one multi pieces before page more h part low a b p call e =
     let drawn : List DrawnLabel = map (drawn_of labels) placed in
     let cells : List Cell = cells_in s start bytes (line_of_text line) in
     lines_more_of s w columns drawn start bytes first blank begun was now at number line pieces before page more h part low p call
-    (e ∙ ap (λ x. page ⊕ told_rows (line_rows_of s w columns x (map (drawn_of labels) multi) (line_of_text line) number cells pieces)) (ap (map (drawn_of labels)) a ∙ one_same labels placed (line_of_text line))
-    ∙ ap (λ x. page ⊕ told_rows (line_rows_of s w columns (one_line (line_of_text line) drawn) x (line_of_text line) number cells pieces)) (ap (map (drawn_of labels)) b ∙ multi_same labels placed (line_of_text line)))
+    (e ∙ ap (λ x. page ⊕ rows_tokens (line_rows_of s w columns x (map (drawn_of labels) multi) (line_of_text line) number cells pieces)) (ap (map (drawn_of labels)) a ∙ one_same labels placed (line_of_text line))
+    ∙ ap (λ x. page ⊕ rows_tokens (line_rows_of s w columns (one_line (line_of_text line) drawn) x (line_of_text line) number cells pieces)) (ap (map (drawn_of labels)) b ∙ multi_same labels placed (line_of_text line)))
 
 -- all lines are drawn
 pub lines_all : (s : SnippetSettings) (w columns : ℕ) (drawn : List DrawnLabel) (start : ℕ) (bytes : List ℕ) (first : ℕ) (blank : Bool) (begun now : List Call → Type 0) (at number : ℕ) (before page : Printout) →
@@ -293,32 +293,32 @@ lines_all s w columns drawn start bytes first blank begun now at number before p
       pieces = all.0;
       are = all.1;
       calls = λ later k. all.2 later (subst (λ (xs : List ℕ). now (line_calls (texts_in start bytes (P.lines_from (start + at) xs)) [] ++ later)) (sym none) k);
-      is = sym (put_nil page) ∙ ap (λ xs. page ⊕ told_rows (lent_rows s w columns drawn start bytes number [] (P.lines_from (start + at) xs))) (sym none) ∙ all.3;
+      is = sym (put_nil page) ∙ ap (λ xs. page ⊕ rows_tokens (lent_rows s w columns drawn start bytes number [] (P.lines_from (start + at) xs))) (sym none) ∙ all.3;
     }
 
 -- the rows of a snippet whose lines are counted
 told_counted : (s : SnippetSettings) (labels : List Label) (placed : List Placed) (lent : Contents) (place : Option Place) (pieces : List (List Highlight)) (w columns lines most : ℕ) (p0 p1 p2 p3 : Printout) →
     lines ≡ length (lines_of_contents lent) → most ≡ most_multi placed (lines_of_contents lent) → w ≡ width_of_count lent.line lines → columns ≡ gutter_of most →
-    p1 ≡ p0 ⊕ told_rows (top_row_of s w lent.name (ltb 1 lines) place ∷ []) →
-    p2 ≡ p1 ⊕ told_rows (lent_rows s w columns (map (drawn_of labels) placed) lent.span.offset lent.bytes (lent.line + 1) pieces (lines_of_contents lent)) →
-    p3 ≡ p2 ⊕ told_rows (bottom_row s w ∷ []) → p3 ≡ p0 ⊕ told_rows (lent_snippet s (map (drawn_of labels) placed) lent place pieces)
+    p1 ≡ p0 ⊕ rows_tokens (top_row_of s w lent.name (ltb 1 lines) place ∷ []) →
+    p2 ≡ p1 ⊕ rows_tokens (lent_rows s w columns (map (drawn_of labels) placed) lent.span.offset lent.bytes (lent.line + 1) pieces (lines_of_contents lent)) →
+    p3 ≡ p2 ⊕ rows_tokens (bottom_row s w ∷ []) → p3 ≡ p0 ⊕ rows_tokens (lent_snippet s (map (drawn_of labels) placed) lent place pieces)
 told_counted s labels placed lent place pieces w columns lines most p0 p1 p2 p3 many widest width gutter a b c =
     let drawn : List DrawnLabel = map (drawn_of labels) placed in
     let real : List Line = lines_of_contents lent in
     let whole : w ≡ number_width lent = width ∙ ap (width_of_count lent.line) many ∙ sym (width_is lent.line real) in
     let room : columns ≡ gutter_columns drawn real = gutter ∙ ap gutter_of (widest ∙ most_is labels placed real) in
     told_parts p0 p1 p2 p3 (top_row_of s w lent.name (ltb 1 lines) place) (bottom_row s w) (lent_rows s w columns drawn lent.span.offset lent.bytes (lent.line + 1) pieces real) a b c
-    ∙ ap (λ n. p0 ⊕ told_rows (top_row_of s n lent.name (ltb 1 lines) place ∷ lent_rows s n columns drawn lent.span.offset lent.bytes (lent.line + 1) pieces real ++ bottom_row s n ∷ [])) whole
-    ∙ ap (λ n. p0 ⊕ told_rows (top_row_of s (number_width lent) lent.name (ltb 1 n) place ∷ lent_rows s (number_width lent) columns drawn lent.span.offset lent.bytes (lent.line + 1) pieces real ++ bottom_row s (number_width lent) ∷ [])) many
-    ∙ ap (λ n. p0 ⊕ told_rows (top_row s lent place ∷ lent_rows s (number_width lent) n drawn lent.span.offset lent.bytes (lent.line + 1) pieces real ++ bottom_row s (number_width lent) ∷ [])) room
+    ∙ ap (λ n. p0 ⊕ rows_tokens (top_row_of s n lent.name (ltb 1 lines) place ∷ lent_rows s n columns drawn lent.span.offset lent.bytes (lent.line + 1) pieces real ++ bottom_row s n ∷ [])) whole
+    ∙ ap (λ n. p0 ⊕ rows_tokens (top_row_of s (number_width lent) lent.name (ltb 1 n) place ∷ lent_rows s (number_width lent) columns drawn lent.span.offset lent.bytes (lent.line + 1) pieces real ++ bottom_row s (number_width lent) ∷ [])) many
+    ∙ ap (λ n. p0 ⊕ rows_tokens (top_row s lent place ∷ lent_rows s (number_width lent) n drawn lent.span.offset lent.bytes (lent.line + 1) pieces real ++ bottom_row s (number_width lent) ∷ [])) room
 
 -- what the getters of a read gave stands for its parts
 pub told_lent : (s : SnippetSettings) (labels : List Label) (placed : List Placed) (lent : Contents) (place : Option Place) (blank : Bool) (happen : List Call → Type 0) (w columns lines most line start : ℕ) (name : Option (List ℕ)) (bytes : List ℕ) (p0 p1 p2 p3 : Printout) →
     line ≡ lent.line → start ≡ lent.span.offset → name ≡ lent.name → bytes ≡ lent.bytes →
     lines ≡ length (P.lines_from start bytes) → most ≡ most_multi placed (P.lines_from start bytes) → w ≡ width_of_count line lines → columns ≡ gutter_of most →
-    p1 ≡ p0 ⊕ told_rows (top_row_of s w name (ltb 1 lines) place ∷ []) →
+    p1 ≡ p0 ⊕ rows_tokens (top_row_of s w name (ltb 1 lines) place ∷ []) →
     PutsRows blank happen (texts_in start bytes (P.lines_from start bytes)) (λ pieces. lent_rows s w columns (map (drawn_of labels) placed) start bytes (line + 1) pieces (P.lines_from start bytes)) p1 p2 →
-    p3 ≡ p2 ⊕ told_rows (bottom_row s w ∷ []) →
+    p3 ≡ p2 ⊕ rows_tokens (bottom_row s w ∷ []) →
     PutsRows blank happen (lent_texts lent) (lent_snippet s (map (drawn_of labels) placed) lent place) p0 p3
 told_lent s labels placed lent place blank happen w columns lines most line start name bytes p0 p1 p2 p3 la at named data' many widest width gutter a b c =
     let drawn : List DrawnLabel = map (drawn_of labels) placed in
@@ -330,11 +330,11 @@ told_lent s labels placed lent place blank happen w columns lines most line star
       are = subst (λ (ls : List Line). EachHasPieces blank (texts_in lent.span.offset lent.bytes ls) b.pieces) same
           (subst (λ (n : ℕ). EachHasPieces blank (texts_in n lent.bytes (P.lines_from start bytes)) b.pieces) at (subst (λ (bs : List ℕ). EachHasPieces blank (texts_in start bs (P.lines_from start bytes)) b.pieces) data' b.are));
       is = told_counted s labels placed lent place b.pieces w columns lines most p0 p1 p2 p3 (many ∙ ap length same) (widest ∙ ap (most_multi placed) same) (width ∙ ap (λ n. width_of_count n lines) la) gutter
-          (a ∙ ap (λ n. p0 ⊕ told_rows (top_row_of s w n (ltb 1 lines) place ∷ [])) named)
-          (b.is ∙ ap (λ ls. p1 ⊕ told_rows (lent_rows s w columns drawn start bytes (line + 1) b.pieces ls)) same
-          ∙ ap (λ n. p1 ⊕ told_rows (lent_rows s w columns drawn n bytes (line + 1) b.pieces (lines_of_contents lent))) at
-          ∙ ap (λ n. p1 ⊕ told_rows (lent_rows s w columns drawn lent.span.offset n (line + 1) b.pieces (lines_of_contents lent))) data'
-          ∙ ap (λ n. p1 ⊕ told_rows (lent_rows s w columns drawn lent.span.offset lent.bytes (n + 1) b.pieces (lines_of_contents lent))) la)
+          (a ∙ ap (λ n. p0 ⊕ rows_tokens (top_row_of s w n (ltb 1 lines) place ∷ [])) named)
+          (b.is ∙ ap (λ ls. p1 ⊕ rows_tokens (lent_rows s w columns drawn start bytes (line + 1) b.pieces ls)) same
+          ∙ ap (λ n. p1 ⊕ rows_tokens (lent_rows s w columns drawn n bytes (line + 1) b.pieces (lines_of_contents lent))) at
+          ∙ ap (λ n. p1 ⊕ rows_tokens (lent_rows s w columns drawn lent.span.offset n (line + 1) b.pieces (lines_of_contents lent))) data'
+          ∙ ap (λ n. p1 ⊕ rows_tokens (lent_rows s w columns drawn lent.span.offset lent.bytes (n + 1) b.pieces (lines_of_contents lent))) la)
           c;
     }
 

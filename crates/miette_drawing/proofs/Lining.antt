@@ -6,36 +6,36 @@ use Rattle.std.proofs.lemmas.Bool.Decides.{nat_tests}
 use Rattle.std.proofs.lemmas.List.{at_drop_more, at_drop_all, map-append}
 use Rattle.miette_style.specs.declared.style.Style.{Style}
 use Rattle.miette_lines.specs.rules.Answers.{Highlight}
-use Rattle.miette_page.specs.rules.Rows.{Row, Piece, styled}
+use Rattle.miette_page.specs.rules.Rows.{Row, Piece, styled_run}
 use Rattle.miette_style.specs.rules.Styles.{plain}
-use Rattle.miette_snippets.specs.rules.PrintedCells.{printed, printed_cells, cells_within, cells_beyond, text_bytes, line_runs}
+use Rattle.miette_snippets.specs.rules.PrintedCells.{printed_pieces, printed_cells, cells_within, cells_beyond, text_bytes, line_runs}
 use Rattle.miette_lines.specs.rules.Cells.{Cell}
 use Rattle.miette_drawing.specs.declared.marks.Mark.{Mark as MadeMark}
 use Rattle.miette_snippets.specs.rules.Marks.{Mark}
 use Rattle.miette_snippets.specs.rules.Drawing.{blank, mark_runs, rows_below, marked_rows}
 use Rattle.miette_snippets.specs.rules.Frames.{SnippetSettings, number_start}
 use Rattle.miette_snippets.specs.rules.SnippetLayout.{before_each}
-use Rattle.miette_page.specs.views.Told.{Token, begins, row_end, told, told_rows, run_told, text_told}
-use Rattle.miette_drawing.specs.steps.TellingCells.{cells_told}
-use Rattle.miette_snippets.specs.rules.Highlighted.{highlight_of}
+use Rattle.miette_page.specs.views.Tokens.{Token, begins, row_end, row_tokens, rows_tokens, styled_tokens, text_tokens}
+use Rattle.miette_drawing.specs.steps.CellTokens.{cells_tokens}
+use Rattle.miette_snippets.specs.rules.Highlighting.{highlight_of}
 use Rattle.miette_page.proofs.Paging.{told_append, put_append, put_nil}
 use Rattle.miette_snippets.proofs.Telling.{then, told_as, run_one, blank_told, styled_row}
 use Rattle.miette_drawing.proofs.Texting.{row_done, rows_then, parts_then}
 use Rattle.miette_style.specs.rules.Themes.{Characters}
 
-pub number_put : (s : SnippetSettings) (w number : ℕ) (p b l d v n : Printout) → b ≡ p ⊕ run_told plain (replicate 1 32) → l ≡ b ⊕ begins s.styles.linum ∷ [] → d ≡ l ⊕ text_told (replicate (w - length (decimal number)) 32 ++ decimal number) →
-    v ≡ d ⊕ run_told plain (32 ∷ s.characters.vbar ∷ []) → n ≡ v ⊕ text_told (32 ∷ []) → n ≡ p ⊕ told (number_start s w number)
+pub number_put : (s : SnippetSettings) (w number : ℕ) (p b l d v n : Printout) → b ≡ p ⊕ styled_tokens plain (replicate 1 32) → l ≡ b ⊕ begins s.styles.linum ∷ [] → d ≡ l ⊕ text_tokens (replicate (w - length (decimal number)) 32 ++ decimal number) →
+    v ≡ d ⊕ styled_tokens plain (32 ∷ s.characters.vbar ∷ []) → n ≡ v ⊕ text_tokens (32 ∷ []) → n ≡ p ⊕ row_tokens (number_start s w number)
 number_put s w number p b l d v n hb hl hd hv hn =
     let digits : List ℕ = replicate (w - length (decimal number)) 32 ++ decimal number in
     let bar : List ℕ = 32 ∷ s.characters.vbar ∷ 32 ∷ [] in
-    let numbered : d ≡ b ⊕ told (styled s.width s.styles.linum digits ∷ []) =
-    told_as b (run_told s.styles.linum digits) (told (styled s.width s.styles.linum digits ∷ [])) (then b (begins s.styles.linum ∷ []) (text_told digits) hl hd) (sym (styled_row s.width s.styles.linum digits)) in
-    let barred : n ≡ d ⊕ told (styled s.width plain bar ∷ []) =
-    told_as d (run_told plain (32 ∷ s.characters.vbar ∷ []) ++ text_told (32 ∷ [])) (told (styled s.width plain bar ∷ [])) (then d (run_told plain (32 ∷ s.characters.vbar ∷ [])) (text_told (32 ∷ [])) hv hn)
+    let numbered : d ≡ b ⊕ row_tokens (styled_run s.width s.styles.linum digits ∷ []) =
+    told_as b (styled_tokens s.styles.linum digits) (row_tokens (styled_run s.width s.styles.linum digits ∷ [])) (then b (begins s.styles.linum ∷ []) (text_tokens digits) hl hd) (sym (styled_row s.width s.styles.linum digits)) in
+    let barred : n ≡ d ⊕ row_tokens (styled_run s.width plain bar ∷ []) =
+    told_as d (styled_tokens plain (32 ∷ s.characters.vbar ∷ []) ++ text_tokens (32 ∷ [])) (row_tokens (styled_run s.width plain bar ∷ [])) (then d (styled_tokens plain (32 ∷ s.characters.vbar ∷ [])) (text_tokens (32 ∷ [])) hv hn)
     (run_one plain (32 ∷ s.characters.vbar ∷ []) 32 ∙ sym (styled_row s.width plain bar)) in
-    let blanked : b ≡ p ⊕ told (blank s.width 1 ∷ []) = told_as p (run_told plain (replicate 1 32)) (told (blank s.width 1 ∷ [])) hb (sym (append-nil _ ∙ blank_told s.width 1)) in
-    parts_then (blank s.width 1 ∷ []) (styled s.width s.styles.linum digits ∷ styled s.width plain bar ∷ []) p b n blanked
-    (parts_then (styled s.width s.styles.linum digits ∷ []) (styled s.width plain bar ∷ []) b d n numbered barred)
+    let blanked : b ≡ p ⊕ row_tokens (blank s.width 1 ∷ []) = told_as p (styled_tokens plain (replicate 1 32)) (row_tokens (blank s.width 1 ∷ [])) hb (sym (append-nil _ ∙ blank_told s.width 1)) in
+    parts_then (blank s.width 1 ∷ []) (styled_run s.width s.styles.linum digits ∷ styled_run s.width plain bar ∷ []) p b n blanked
+    (parts_then (styled_run s.width s.styles.linum digits ∷ []) (styled_run s.width plain bar ∷ []) b d n numbered barred)
 
 -- a cell
 pub codes_of_tab : (n : ℕ) → replicate n 32 ≡ map (λ (p : Piece). p.code) (replicate n (record { code = 32; columns = 1 }))
@@ -43,17 +43,17 @@ codes_of_tab zero = refl
 codes_of_tab (suc n) = ap (λ r. 32 ∷ r) (codes_of_tab n)
 
 abbrev print_by : Cell → Bool → List Token
-print_by cell b = text_told (map (λ (p : Piece). p.code) (cond b (replicate (cell.until - cell.from) (record { code = 32; columns = 1 })) (record { code = cell.code; columns = cell.until - cell.from } ∷ [])))
+print_by cell b = text_tokens (map (λ (p : Piece). p.code) (cond b (replicate (cell.until - cell.from) (record { code = 32; columns = 1 })) (record { code = cell.code; columns = cell.until - cell.from } ∷ [])))
 
-pub tab_put : (cell : Cell) (n : ℕ) (p q : Printout) → cell.code ≡ 9 → n ≡ cell.until - cell.from → q ≡ p ⊕ text_told (replicate n 32) → q ≡ p ⊕ text_told (map (λ p. p.code) (printed cell))
+pub tab_put : (cell : Cell) (n : ℕ) (p q : Printout) → cell.code ≡ 9 → n ≡ cell.until - cell.from → q ≡ p ⊕ text_tokens (replicate n 32) → q ≡ p ⊕ text_tokens (map (λ p. p.code) (printed_pieces cell))
 tab_put cell n p q e z h =
-    h ∙ ap (λ k. p ⊕ text_told (replicate k 32)) z ∙ ap (λ cs. p ⊕ text_told cs) (codes_of_tab (cell.until - cell.from))
+    h ∙ ap (λ k. p ⊕ text_tokens (replicate k 32)) z ∙ ap (λ cs. p ⊕ text_tokens cs) (codes_of_tab (cell.until - cell.from))
     ∙ ap (λ b. p ⊕ print_by cell b) (sym (same cell.code 9 e))
   where
     same : (a b : ℕ) → a ≡ b → eqb a b ≡ true
     same a b h = grind (arith, nat_tests)
 
-pub code_put : (cell : Cell) (p q : Printout) → (cell.code ≡ 9 → ⊥) → q ≡ p ⊕ text_told (cell.code ∷ []) → q ≡ p ⊕ text_told (map (λ p. p.code) (printed cell))
+pub code_put : (cell : Cell) (p q : Printout) → (cell.code ≡ 9 → ⊥) → q ≡ p ⊕ text_tokens (cell.code ∷ []) → q ≡ p ⊕ text_tokens (map (λ p. p.code) (printed_pieces cell))
 code_put cell p q e h =
     h ∙ ap (λ b. p ⊕ print_by cell b) (sym (apart cell.code 9 e))
   where
@@ -61,15 +61,15 @@ code_put cell p q e h =
     apart a b h = grind (arith, nat_tests)
 
 -- cells
-cells_told-cons : (cell : Cell) (cells : List Cell) → cells_told (cell ∷ cells) ≡ text_told (map (λ p. p.code) (printed cell)) ++ cells_told cells
-cells_told-cons cell cells = ap text_told (map-append _ (printed cell) (printed_cells cells)) ∙ told_append (map (λ p. p.code) (printed cell)) (map (λ p. p.code) (printed_cells cells))
+cells_told-cons : (cell : Cell) (cells : List Cell) → cells_tokens (cell ∷ cells) ≡ text_tokens (map (λ p. p.code) (printed_pieces cell)) ++ cells_tokens cells
+cells_told-cons cell cells = ap text_tokens (map-append _ (printed_pieces cell) (printed_cells cells)) ∙ told_append (map (λ p. p.code) (printed_pieces cell)) (map (λ p. p.code) (printed_cells cells))
 
-pub cells_more : (cell : Cell) (cells later : List Cell) (p q whole : Printout) → cells ≡ cell ∷ later → q ≡ p ⊕ text_told (map (λ p. p.code) (printed cell)) → p ⊕ cells_told cells ≡ whole → q ⊕ cells_told later ≡ whole
+pub cells_more : (cell : Cell) (cells later : List Cell) (p q whole : Printout) → cells ≡ cell ∷ later → q ≡ p ⊕ text_tokens (map (λ p. p.code) (printed_pieces cell)) → p ⊕ cells_tokens cells ≡ whole → q ⊕ cells_tokens later ≡ whole
 cells_more cell cells later p q whole e hq h =
-    ap (λ x. x ⊕ cells_told later) hq ∙ put_append p (text_told (map (λ p. p.code) (printed cell))) (cells_told later) ∙ ap (λ x. p ⊕ x) (sym (cells_told-cons cell later)) ∙ ap (λ x. p ⊕ cells_told x) (sym e) ∙ h
+    ap (λ x. x ⊕ cells_tokens later) hq ∙ put_append p (text_tokens (map (λ p. p.code) (printed_pieces cell))) (cells_tokens later) ∙ ap (λ x. p ⊕ x) (sym (cells_told-cons cell later)) ∙ ap (λ x. p ⊕ cells_tokens x) (sym e) ∙ h
 
-pub cells_end : (cells : List Cell) (p whole : Printout) → cells ≡ [] → p ⊕ cells_told cells ≡ whole → p ≡ whole
-cells_end cells p whole e h = sym (put_nil p) ∙ ap (λ x. p ⊕ cells_told x) (sym e) ∙ h
+pub cells_end : (cells : List Cell) (p whole : Printout) → cells ≡ [] → p ⊕ cells_tokens cells ≡ whole → p ≡ whole
+cells_end cells p whole e h = sym (put_nil p) ∙ ap (λ x. p ⊕ cells_tokens x) (sym e) ∙ h
 
 -- the cells that fill so many bytes
 unequal : (n : ℕ) → 0 < n → eqb n 0 ≡ false
@@ -89,10 +89,10 @@ pub beyond_none : (cells : List Cell) → cells_beyond 0 cells ≡ cells
 beyond_none [] = refl
 beyond_none (c ∷ cs) = refl
 
-pub within_more : (bytes less : ℕ) (cell : Cell) (cells later : List Cell) (p q whole : Printout) → 0 < bytes → less ≡ bytes - text_bytes cell.code → cells ≡ cell ∷ later → q ≡ p ⊕ text_told (map (λ p. p.code) (printed cell)) →
-    p ⊕ cells_told (cells_within bytes cells) ≡ whole → q ⊕ cells_told (cells_within less later) ≡ whole
+pub within_more : (bytes less : ℕ) (cell : Cell) (cells later : List Cell) (p q whole : Printout) → 0 < bytes → less ≡ bytes - text_bytes cell.code → cells ≡ cell ∷ later → q ≡ p ⊕ text_tokens (map (λ p. p.code) (printed_pieces cell)) →
+    p ⊕ cells_tokens (cells_within bytes cells) ≡ whole → q ⊕ cells_tokens (cells_within less later) ≡ whole
 within_more bytes less cell cells later p q whole some z e hq h =
-    ap (λ k. q ⊕ cells_told (cells_within k later)) z
+    ap (λ k. q ⊕ cells_tokens (cells_within k later)) z
     ∙ cells_more cell (cells_within bytes cells) (cells_within (bytes - text_bytes cell.code) later) p q whole (ap (cells_within bytes) e ∙ within_cons bytes cell later some) hq h
 
 pub beyond_more : (bytes less : ℕ) (cell : Cell) (cells later whole : List Cell) → 0 < bytes → less ≡ bytes - text_bytes cell.code → cells ≡ cell ∷ later → cells_beyond bytes cells ≡ whole → cells_beyond less later ≡ whole
@@ -101,32 +101,32 @@ beyond_more bytes less cell cells later whole some z e h =
 
 -- one more of a highlighter's pieces
 pub piece_more : (pieces : List (ℕ × Style)) (i bytes : ℕ) (d : ℕ × Style) (style : Style) (cells later : List Cell) (p q r whole : Printout) → i < length pieces → bytes ≡ (get_or pieces i d).0 → style ≡ (get_or pieces i d).1 →
-    q ≡ p ⊕ begins style ∷ [] → r ≡ q ⊕ cells_told (cells_within bytes cells) → later ≡ cells_beyond bytes cells →
-    p ⊕ told (line_runs (map highlight_of (drop i pieces)) cells) ≡ whole → r ⊕ told (line_runs (map highlight_of (drop (i + 1) pieces)) later) ≡ whole
+    q ≡ p ⊕ begins style ∷ [] → r ≡ q ⊕ cells_tokens (cells_within bytes cells) → later ≡ cells_beyond bytes cells →
+    p ⊕ row_tokens (line_runs (map highlight_of (drop i pieces)) cells) ≡ whole → r ⊕ row_tokens (line_runs (map highlight_of (drop (i + 1) pieces)) later) ≡ whole
 piece_more pieces i bytes d style cells later p q r whole lt eb es hq hr l h =
     let hs : List Highlight = map highlight_of (drop (i + 1) pieces) in
     let n : ℕ = (get_or pieces i d).0 in
-    ap (λ x. r ⊕ told (line_runs hs x)) l
-    ∙ ap (λ x. x ⊕ told (line_runs hs (cells_beyond bytes cells))) (then p (begins style ∷ []) (cells_told (cells_within bytes cells)) hq hr)
-    ∙ put_append p (begins style ∷ cells_told (cells_within bytes cells)) (told (line_runs hs (cells_beyond bytes cells)))
-    ∙ ap (λ x. p ⊕ (begins style ∷ cells_told (cells_within x cells) ++ told (line_runs hs (cells_beyond x cells)))) eb
-    ∙ ap (λ x. p ⊕ (begins x ∷ cells_told (cells_within n cells) ++ told (line_runs hs (cells_beyond n cells)))) es
-    ∙ ap (λ xs. p ⊕ told (line_runs xs cells)) (sym (at_drop_more (map highlight_of) pieces i d lt)) ∙ h
+    ap (λ x. r ⊕ row_tokens (line_runs hs x)) l
+    ∙ ap (λ x. x ⊕ row_tokens (line_runs hs (cells_beyond bytes cells))) (then p (begins style ∷ []) (cells_tokens (cells_within bytes cells)) hq hr)
+    ∙ put_append p (begins style ∷ cells_tokens (cells_within bytes cells)) (row_tokens (line_runs hs (cells_beyond bytes cells)))
+    ∙ ap (λ x. p ⊕ (begins style ∷ cells_tokens (cells_within x cells) ++ row_tokens (line_runs hs (cells_beyond x cells)))) eb
+    ∙ ap (λ x. p ⊕ (begins x ∷ cells_tokens (cells_within n cells) ++ row_tokens (line_runs hs (cells_beyond n cells)))) es
+    ∙ ap (λ xs. p ⊕ row_tokens (line_runs xs cells)) (sym (at_drop_more (map highlight_of) pieces i d lt)) ∙ h
 
-pub piece_end : (pieces : List (ℕ × Style)) (i : ℕ) (cells : List Cell) (p q r whole : Printout) → length pieces ≤ i → q ≡ p ⊕ begins plain ∷ [] → r ≡ q ⊕ cells_told cells →
-    p ⊕ told (line_runs (map highlight_of (drop i pieces)) cells) ≡ whole → r ≡ whole
+pub piece_end : (pieces : List (ℕ × Style)) (i : ℕ) (cells : List Cell) (p q r whole : Printout) → length pieces ≤ i → q ≡ p ⊕ begins plain ∷ [] → r ≡ q ⊕ cells_tokens cells →
+    p ⊕ row_tokens (line_runs (map highlight_of (drop i pieces)) cells) ≡ whole → r ≡ whole
 piece_end pieces i cells p q r whole le hq hr h =
-    then p (begins plain ∷ []) (cells_told cells) hq hr ∙ ap (λ x. p ⊕ x) (sym (append-nil (begins plain ∷ cells_told cells)))
-    ∙ ap (λ xs. p ⊕ told (line_runs xs cells)) (sym (at_drop_all (map highlight_of) pieces i le)) ∙ h
+    then p (begins plain ∷ []) (cells_tokens cells) hq hr ∙ ap (λ x. p ⊕ x) (sym (append-nil (begins plain ∷ cells_tokens cells)))
+    ∙ ap (λ xs. p ⊕ row_tokens (line_runs xs cells)) (sym (at_drop_all (map highlight_of) pieces i le)) ∙ h
 
 -- the number row: its start, its gutter, its text
-pub number_row_put : (start gutter text : Row) (p a g t n : Printout) → a ≡ p ⊕ told start → g ≡ a ⊕ told gutter → t ≡ g ⊕ told text → n ≡ t ⊕ row_end ∷ [] → n ≡ p ⊕ told_rows ((start ++ gutter ++ text) ∷ [])
+pub number_row_put : (start gutter text : Row) (p a g t n : Printout) → a ≡ p ⊕ row_tokens start → g ≡ a ⊕ row_tokens gutter → t ≡ g ⊕ row_tokens text → n ≡ t ⊕ row_end ∷ [] → n ≡ p ⊕ rows_tokens ((start ++ gutter ++ text) ∷ [])
 number_row_put start gutter text p a g t n ha hg ht hn =
     row_done (start ++ gutter ++ text) p t n (parts_then (start ++ gutter) text p g t (parts_then start gutter p a g ha hg) ht) hn
 
 -- the mark row and the texts
-pub marked_put : (before row : Row) (below : List Row) (p a m e n : Printout) → a ≡ p ⊕ told before → m ≡ a ⊕ told row → e ≡ m ⊕ row_end ∷ [] → n ≡ e ⊕ told_rows (before_each before below) →
-    n ≡ p ⊕ told_rows (before_each before (row ∷ below))
+pub marked_put : (before row : Row) (below : List Row) (p a m e n : Printout) → a ≡ p ⊕ row_tokens before → m ≡ a ⊕ row_tokens row → e ≡ m ⊕ row_end ∷ [] → n ≡ e ⊕ rows_tokens (before_each before below) →
+    n ≡ p ⊕ rows_tokens (before_each before (row ∷ below))
 marked_put before row below p a m e n ha hm he hn =
     rows_then ((before ++ row) ∷ []) (before_each before below) p e n (row_done (before ++ row) p m e (parts_then before row p a m ha hm) he) hn
 
@@ -135,10 +135,10 @@ marked_some w t f [] h = absurd (omega arith)
 marked_some w t f (m ∷ ms) h = refl
 
 -- nothing is left to fill
-pub within_end : (left : ℕ) (cells : List Cell) (p whole : Printout) → left ≤ 0 → p ⊕ cells_told (cells_within left cells) ≡ whole → p ≡ whole
+pub within_end : (left : ℕ) (cells : List Cell) (p whole : Printout) → left ≤ 0 → p ⊕ cells_tokens (cells_within left cells) ≡ whole → p ≡ whole
 within_end left cells p whole le h =
     let z : left ≡ 0 = omega arith in
-    sym (put_nil p) ∙ ap (λ xs. p ⊕ cells_told xs) (sym (within_none cells)) ∙ ap (λ n. p ⊕ cells_told (cells_within n cells)) (sym z) ∙ h
+    sym (put_nil p) ∙ ap (λ xs. p ⊕ cells_tokens xs) (sym (within_none cells)) ∙ ap (λ n. p ⊕ cells_tokens (cells_within n cells)) (sym z) ∙ h
 
 pub beyond_end : (left : ℕ) (cells whole : List Cell) → left ≤ 0 → cells_beyond left cells ≡ whole → cells ≡ whole
 beyond_end left cells whole le h =
@@ -146,5 +146,5 @@ beyond_end left cells whole le h =
     sym (beyond_none cells) ∙ ap (λ n. cells_beyond n cells) (sym z) ∙ h
 
 -- all rows of a line
-pub line_put : (first : Row) (marked closed : List Row) (p a b n : Printout) → a ≡ p ⊕ told_rows (first ∷ []) → b ≡ a ⊕ told_rows marked → n ≡ b ⊕ told_rows closed → n ≡ p ⊕ told_rows (first ∷ marked ++ closed)
+pub line_put : (first : Row) (marked closed : List Row) (p a b n : Printout) → a ≡ p ⊕ rows_tokens (first ∷ []) → b ≡ a ⊕ rows_tokens marked → n ≡ b ⊕ rows_tokens closed → n ≡ p ⊕ rows_tokens (first ∷ marked ++ closed)
 line_put first marked closed p a b n ha hb hn = rows_then (first ∷ marked) closed p b n (rows_then (first ∷ []) marked p a b ha hb) hn

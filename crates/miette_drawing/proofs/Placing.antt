@@ -7,8 +7,8 @@ use Rattle.miette_drawing.specs.declared.marks.Mark.{Mark as MadeMark}
 use Rattle.miette_lines.specs.rules.Labels.{DrawnLabel}
 use Rattle.miette_snippets.specs.rules.Marks.{Text, Mark, mark_from, mark_until, marks_from}
 use Rattle.miette_lines.specs.views.Sweeping.{label_of, nothing}
-use Rattle.miette_lines.specs.views.Given.{drawn_of}
-use Rattle.miette_drawing.specs.steps.Made.{mark_of}
+use Rattle.miette_lines.specs.views.GivenLabels.{drawn_of}
+use Rattle.miette_drawing.specs.steps.Marks.{mark_of}
 
 abbrev pub no_mark : MadeMark
 no_mark = record { from = 0; until = 0; label = nothing }

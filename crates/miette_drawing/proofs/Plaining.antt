@@ -6,7 +6,7 @@ use Rattle.std.proofs.lemmas.Bool.Decides.{nat_tests}
 use Rattle.bstr.specs.Utf8.{or_replacement}
 use Rattle.miette_snippets.specs.rules.PrintedCells.{first_column, last_column, cells_width}
 use Rattle.miette_lines.specs.rules.Cells.{Cell, cells_from, characters, width_at, hides_next}
-use Rattle.miette_lines.specs.views.Given.{width_of}
+use Rattle.miette_lines.specs.views.GivenLabels.{width_of}
 use Rattle.miette_snippets.specs.rules.SnippetLayout.{text_of_cells}
 use Rattle.miette_snippets.specs.rules.Marks.{Text}
 use Rattle.miette_lines.specs.views.Printable.{is_printable, plain_cells}

@@ -6,7 +6,7 @@ use Rattle.bstr.specs.Utf8.{decoded, pieces, or_replacement, Decoded}
 use Rattle.bstr.proofs.lemmas.PieceLemmas.{pieces-step, pieces-nil, piece-bounds}
 use Rattle.miette_snippets.specs.rules.PrintedCells.{first_column, last_column, cells_width}
 use Rattle.miette_lines.specs.rules.Cells.{Cell, cells_from, characters, hides_next, width_at}
-use Rattle.miette_drawing.specs.steps.Made.{ComeFrom}
+use Rattle.miette_drawing.specs.steps.Marks.{ComeFrom}
 
 first_later : (cell : Cell) (left : List Cell) (e w o : ℕ) → cell.after ≤ o → first_column left e w o ≡ first_column (cell ∷ left) e w o
 first_later cell left e w o le = let f : ltb o cell.after ≡ false = le-ltb o cell.after le in rw f refl

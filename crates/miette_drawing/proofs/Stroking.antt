@@ -9,19 +9,19 @@ use Rattle.std.specs.List.{range_with_len}
 use Rattle.miette_protocol.specs.views.Meaning.{Label}
 use Rattle.miette_style.specs.declared.style.Style.{Style}
 use Rattle.miette_drawing.specs.declared.marks.Mark.{Mark as MadeMark}
-use Rattle.miette_page.specs.rules.Rows.{drawn}
+use Rattle.miette_page.specs.rules.Rows.{code_piece}
 use Rattle.miette_style.specs.rules.Styles.{plain}
 use Rattle.miette_lines.specs.rules.Labels.{parts_of, cut_at_lf, onto_part, is_empty}
 use Rattle.miette_snippets.specs.rules.Marks.{Mark, anchor}
 use Rattle.miette_snippets.specs.rules.Drawing.{mark_code, mark_run, mark_runs, code_with_parts}
-use Rattle.miette_drawing.specs.steps.Made.{mark_of}
-use Rattle.miette_page.specs.views.Told.{Token, begins, told, told_run, run_told, text_told}
+use Rattle.miette_drawing.specs.steps.Marks.{mark_of}
+use Rattle.miette_page.specs.views.Tokens.{Token, begins, row_tokens, run_tokens, styled_tokens, text_tokens}
 use Rattle.miette_snippets.proofs.Numbers.{range_with_len-append}
 use Rattle.miette_lines.proofs.Numbers.{by_cases}
 use Rattle.miette_snippets.proofs.Telling.{then, told_as, run_one, run_more, blank_told}
 use Rattle.miette_style.specs.rules.Themes.{Characters}
 
-mapped_codes : (w f : ℕ → ℕ) (ks : List ℕ) → map (λ p. p.code) (map (λ k. drawn w (f k)) ks) ≡ map f ks
+mapped_codes : (w f : ℕ → ℕ) (ks : List ℕ) → map (λ p. p.code) (map (λ k. code_piece w (f k)) ks) ≡ map f ks
 mapped_codes w f [] = refl
 mapped_codes w f (k ∷ ks) = ap (λ r. f k ∷ r) (mapped_codes w f ks)
 
@@ -57,37 +57,37 @@ codes_by t m x y e =
     here t m k h = ap (λ b. cond b (middle t m) t.underline) (same k (anchor m) h)
 
 pub mark_put : (w : ℕ → ℕ) (t : Characters) (m : Mark) (at x y c : ℕ) (p q r s n : Printout) → at ≡ anchor m → m.from ≤ at → at < m.until → x ≡ at - m.from → y ≡ m.until - at - 1 → c ≡ middle t m →
-    q ≡ p ⊕ begins m.label.style ∷ [] → r ≡ q ⊕ text_told (replicate x t.underline) → s ≡ r ⊕ text_told (c ∷ []) → n ≡ s ⊕ text_told (replicate y t.underline) → n ≡ p ⊕ told_run (mark_run w t m)
+    q ≡ p ⊕ begins m.label.style ∷ [] → r ≡ q ⊕ text_tokens (replicate x t.underline) → s ≡ r ⊕ text_tokens (c ∷ []) → n ≡ s ⊕ text_tokens (replicate y t.underline) → n ≡ p ⊕ run_tokens (mark_run w t m)
 mark_put w t m at x y c p q r s n a le lt ex ey ec hq hr hs hn =
     let style : Style = m.label.style in
     let xs : List ℕ = replicate x t.underline in
     let ys : List ℕ = replicate y t.underline in
     let many : m.until - m.from ≡ x + suc y = omega arith in
-    let begun : r ≡ p ⊕ run_told style xs = then p (begins style ∷ []) (text_told xs) hq hr in
-    let middled : s ≡ p ⊕ run_told style (xs ++ c ∷ []) = told_as p (run_told style xs ++ text_told (c ∷ [])) (run_told style (xs ++ c ∷ [])) (then p (run_told style xs) (text_told (c ∷ [])) begun hs) (run_one style xs c) in
-    told_as p (run_told style (xs ++ c ∷ []) ++ text_told ys) (told_run (mark_run w t m)) (then p (run_told style (xs ++ c ∷ [])) (text_told ys) middled hn)
+    let begun : r ≡ p ⊕ styled_tokens style xs = then p (begins style ∷ []) (text_tokens xs) hq hr in
+    let middled : s ≡ p ⊕ styled_tokens style (xs ++ c ∷ []) = told_as p (styled_tokens style xs ++ text_tokens (c ∷ [])) (styled_tokens style (xs ++ c ∷ [])) (then p (styled_tokens style xs) (text_tokens (c ∷ [])) begun hs) (run_one style xs c) in
+    told_as p (styled_tokens style (xs ++ c ∷ []) ++ text_tokens ys) (run_tokens (mark_run w t m)) (then p (styled_tokens style (xs ++ c ∷ [])) (text_tokens ys) middled hn)
     (run_more style (xs ++ c ∷ []) ys
-    ∙ ap (λ k. run_told style ((xs ++ k ∷ []) ++ ys)) ec
-    ∙ ap (run_told style) (sym (codes_by t m x y (omega arith)))
-    ∙ ap (λ k. run_told style (map (mark_code t m) (range_with_len m.from k))) (sym many)
-    ∙ ap (run_told style) (sym (mapped_codes w (mark_code t m) (range_with_len m.from (m.until - m.from)))))
+    ∙ ap (λ k. styled_tokens style ((xs ++ k ∷ []) ++ ys)) ec
+    ∙ ap (styled_tokens style) (sym (codes_by t m x y (omega arith)))
+    ∙ ap (λ k. styled_tokens style (map (mark_code t m) (range_with_len m.from k))) (sym many)
+    ∙ ap (styled_tokens style) (sym (mapped_codes w (mark_code t m) (range_with_len m.from (m.until - m.from)))))
 
 -- one more mark
 pub mark_more : (w : ℕ → ℕ) (t : Characters) (ls : List Label) (marks : List MadeMark) (i reached gap : ℕ) (d : MadeMark) (row spaced new whole : Printout) → i < length marks → gap ≡ (get_or marks i d).from - reached →
-    spaced ≡ row ⊕ run_told plain (replicate gap 32) → new ≡ spaced ⊕ told_run (mark_run w t (mark_of ls (get_or marks i d))) →
-    row ⊕ told (mark_runs w t reached (map (mark_of ls) (drop i marks))) ≡ whole → new ⊕ told (mark_runs w t (get_or marks i d).until (map (mark_of ls) (drop (i + 1) marks))) ≡ whole
+    spaced ≡ row ⊕ styled_tokens plain (replicate gap 32) → new ≡ spaced ⊕ run_tokens (mark_run w t (mark_of ls (get_or marks i d))) →
+    row ⊕ row_tokens (mark_runs w t reached (map (mark_of ls) (drop i marks))) ≡ whole → new ⊕ row_tokens (mark_runs w t (get_or marks i d).until (map (mark_of ls) (drop (i + 1) marks))) ≡ whole
 mark_more w t ls marks i reached gap d row spaced new whole lt z s n h =
     let m : Mark = mark_of ls (get_or marks i d) in
-    let rest : List Token = told (mark_runs w t m.until (map (mark_of ls) (drop (i + 1) marks))) in
-    ap (λ r. r ⊕ rest) (n ∙ ap (λ r. r ⊕ told_run (mark_run w t m)) (s ∙ ap (λ k. row ⊕ run_told plain (replicate k 32)) z))
-    ∙ put_append (row ⊕ run_told plain (replicate (m.from - reached) 32)) (told_run (mark_run w t m)) rest
-    ∙ put_append row (run_told plain (replicate (m.from - reached) 32)) (told_run (mark_run w t m) ++ rest)
-    ∙ ap (λ r. row ⊕ (r ++ (told_run (mark_run w t m) ++ rest))) (sym (blank_told w (m.from - reached)))
-    ∙ ap (λ xs. row ⊕ told (mark_runs w t reached xs)) (sym (at_drop_more (map (mark_of ls)) marks i d lt)) ∙ h
+    let rest : List Token = row_tokens (mark_runs w t m.until (map (mark_of ls) (drop (i + 1) marks))) in
+    ap (λ r. r ⊕ rest) (n ∙ ap (λ r. r ⊕ run_tokens (mark_run w t m)) (s ∙ ap (λ k. row ⊕ styled_tokens plain (replicate k 32)) z))
+    ∙ put_append (row ⊕ styled_tokens plain (replicate (m.from - reached) 32)) (run_tokens (mark_run w t m)) rest
+    ∙ put_append row (styled_tokens plain (replicate (m.from - reached) 32)) (run_tokens (mark_run w t m) ++ rest)
+    ∙ ap (λ r. row ⊕ (r ++ (run_tokens (mark_run w t m) ++ rest))) (sym (blank_told w (m.from - reached)))
+    ∙ ap (λ xs. row ⊕ row_tokens (mark_runs w t reached xs)) (sym (at_drop_more (map (mark_of ls)) marks i d lt)) ∙ h
 
-pub mark_end : (w : ℕ → ℕ) (t : Characters) (ls : List Label) (marks : List MadeMark) (i reached : ℕ) (row whole : Printout) → length marks ≤ i → row ⊕ told (mark_runs w t reached (map (mark_of ls) (drop i marks))) ≡ whole → row ≡ whole
+pub mark_end : (w : ℕ → ℕ) (t : Characters) (ls : List Label) (marks : List MadeMark) (i reached : ℕ) (row whole : Printout) → length marks ≤ i → row ⊕ row_tokens (mark_runs w t reached (map (mark_of ls) (drop i marks))) ≡ whole → row ≡ whole
 mark_end w t ls marks i reached row whole le h =
-    sym (put_nil row) ∙ ap (λ xs. row ⊕ told (mark_runs w t reached xs)) (sym (at_drop_all (map (mark_of ls)) marks i le)) ∙ h
+    sym (put_nil row) ∙ ap (λ xs. row ⊕ row_tokens (mark_runs w t reached xs)) (sym (at_drop_all (map (mark_of ls)) marks i le)) ∙ h
 
 -- the character of a label with a text
 middle_onto : (t : Characters) (code : ℕ) (parts : List (List ℕ)) → t.underbar ≡ code_with_parts t (onto_part code parts)

@@ -7,14 +7,14 @@ use Rattle.miette_newlines.specs.rules.Lines.{Line}
 use Rattle.miette_protocol.specs.views.Meaning.{Label}
 use Rattle.miette_protocol.specs.rules.Reading.{Span, Source, Contents}
 use Rattle.miette_style.specs.rules.Pieces.{CutsLine, Piece}
-use Rattle.miette_style.specs.rules.Asked.{Call, asked, restarted, Leads, listed, is_unset}
+use Rattle.miette_style.specs.rules.HighlighterCalls.{Call, asked, restarted, Leads, listed_pieces, is_unset}
 use Rattle.miette_style.specs.rules.Styles.{plain}
 use Rattle.miette_style.specs.declared.style.Style.{Style}
 use Rattle.miette_lines.specs.rules.Answers.{Highlight, first_of, later_of}
 use Rattle.miette_lines.specs.rules.Contexts.{contents, lines_of_contents}
 use Rattle.miette_snippets.specs.rules.Frames.{SnippetSettings, top_row, bottom_row, number_width}
 use Rattle.miette_snippets.specs.rules.Gutters.{gutter_columns}
-use Rattle.miette_snippets.specs.rules.Highlighted.{ArePieces, EachHasPieces, SnippetsHavePieces, highlight_of, piece_of, texts_of, follows, line_calls, group_calls}
+use Rattle.miette_snippets.specs.rules.Highlighting.{ArePieces, EachHasPieces, SnippetsHavePieces, highlight_of, piece_of, texts_of, follows, line_calls, group_calls}
 use Rattle.miette_lines.specs.rules.Labels.{DrawnLabel}
 use Rattle.miette_snippets.specs.rules.SnippetLayout.{line_rows, rows_of_lines, cells_of, drawn_labels, all_snippets, place_of}
 
@@ -109,20 +109,20 @@ kept_if : (u : Bool) (ps : List Piece) → u ≢ true → (if u then [] else ps)
 kept_if true ps h = absurd (h refl)
 kept_if false ps h = refl
 
-kept : (p : Piece) → is_unset p.1 ≢ true → listed (p ∷ []) ≡ p ∷ []
+kept : (p : Piece) → is_unset p.1 ≢ true → listed_pieces (p ∷ []) ≡ p ∷ []
 kept p h = kept_if (is_unset p.1) (p ∷ []) h
 
-pub listed_one : (ps : List Piece) (p : Piece) (b : Bool) → ps ≡ p ∷ [] → (IsTrue b ↔ (p.1 ≡ plain)) → listed ps ≡ (if b then [] else ps)
-listed_one ps p true e h = let unset : is_unset p.1 ≡ true = ap is_unset (h.0 refl) in ap listed e ∙ ap (λ (u : Bool). if u then [] else p ∷ []) unset
-listed_one ps p false e h = ap listed e ∙ kept p (λ u. false≢true (h.1 (unset_plain p.1 u))) ∙ sym e
+pub listed_one : (ps : List Piece) (p : Piece) (b : Bool) → ps ≡ p ∷ [] → (IsTrue b ↔ (p.1 ≡ plain)) → listed_pieces ps ≡ (if b then [] else ps)
+listed_one ps p true e h = let unset : is_unset p.1 ≡ true = ap is_unset (h.0 refl) in ap listed_pieces e ∙ ap (λ (u : Bool). if u then [] else p ∷ []) unset
+listed_one ps p false e h = ap listed_pieces e ∙ kept p (λ u. false≢true (h.1 (unset_plain p.1 u))) ∙ sym e
 
-pub listed_others : (ps : List Piece) → length ps ≢ 1 → listed ps ≡ ps
+pub listed_others : (ps : List Piece) → length ps ≢ 1 → listed_pieces ps ≡ ps
 listed_others [] h = refl
 listed_others (p ∷ []) h = absurd (h refl)
 listed_others (p ∷ q ∷ ps) h = refl
 
 -- where there is but one
-pub listed_single : (ps : List Piece) (p : Piece) (b : Bool) → 1 ≤ length ps → length ps < 2 → p ≡ get_or ps 0 p → (IsTrue b ↔ (p.1 ≡ plain)) → listed ps ≡ (if b then [] else ps)
+pub listed_single : (ps : List Piece) (p : Piece) (b : Bool) → 1 ≤ length ps → length ps < 2 → p ≡ get_or ps 0 p → (IsTrue b ↔ (p.1 ≡ plain)) → listed_pieces ps ≡ (if b then [] else ps)
 listed_single [] p b some few is h = absurd (omega (arith, some))
 listed_single (q ∷ []) p b some few is h = listed_one (q ∷ []) p b (ap (λ x. x ∷ []) (sym is)) h
 listed_single (q ∷ r ∷ ps) p b some few is h = absurd (omega (arith, few))

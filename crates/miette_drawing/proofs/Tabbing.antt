@@ -11,19 +11,19 @@ use Rattle.memchr.specs.Find.{Nowhere, Passes, is_byte}
 use Rattle.miette_style.specs.declared.style.Style.{Style}
 use Rattle.miette_style.specs.rules.Styles.{plain}
 use Rattle.miette_page.specs.rules.Rows.{Piece}
-use Rattle.miette_page.specs.views.Told.{begins, told, text_told}
+use Rattle.miette_page.specs.views.Tokens.{begins, row_tokens, text_tokens}
 use Rattle.miette_page.proofs.Paging.{told_append, put_append}
 use Rattle.miette_lines.specs.rules.Cells.{Cell, cells_from, characters, width_at}
-use Rattle.miette_lines.specs.views.Given.{width_of}
+use Rattle.miette_lines.specs.views.GivenLabels.{width_of}
 use Rattle.miette_lines.specs.views.Printable.{is_printable}
 use Rattle.miette_lines.proofs.Stepping.{cells_step, cells_end}
 use Rattle.miette_lines.proofs.Numbers.{by_cases}
 use Rattle.miette_lines.proofs.Plaining.{ascii_decoded, one_column, plain_byte}
-use Rattle.miette_snippets.specs.rules.PrintedCells.{printed, printed_cells, line_runs}
-use Rattle.miette_snippets.specs.rules.Highlighted.{highlight_of}
+use Rattle.miette_snippets.specs.rules.PrintedCells.{printed_pieces, printed_cells, line_runs}
+use Rattle.miette_snippets.specs.rules.Highlighting.{highlight_of}
 use Rattle.miette_snippets.proofs.Telling.{then}
-use Rattle.miette_drawing.specs.steps.TellingCells.{cells_told}
-use Rattle.miette_drawing.specs.steps.Untabbed.{is_tabbed, tabbed_codes}
+use Rattle.miette_drawing.specs.steps.CellTokens.{cells_tokens}
+use Rattle.miette_drawing.specs.steps.Tabs.{is_tabbed, tabbed_codes}
 use Rattle.miette_drawing.proofs.Lining.{codes_of_tab}
 use Rattle.miette_drawing.proofs.Untabbing.{printed_code}
 
@@ -38,14 +38,14 @@ cell b offset column until = record { code = b; start = offset; after = offset +
 
 -- one byte
 step : (tab offset column w b : ℕ) (bs : List ℕ) → b < 128 → eqb b 27 ≡ false → w ≡ width_at width_of tab false column b →
-    codes (cells tab offset column (b ∷ bs)) ≡ map (λ (p : Piece). p.code) (printed (cell b offset column (column + w))) ++ codes (cells tab (offset + 1) (column + w) bs)
+    codes (cells tab offset column (b ∷ bs)) ≡ map (λ (p : Piece). p.code) (printed_pieces (cell b offset column (column + w))) ++ codes (cells tab (offset + 1) (column + w) bs)
 step tab offset column w b bs low escape width =
     let is = ascii_decoded b bs low in
     ap codes (cells_step width_of tab false false offset column (b ∷ bs) bs b 1 w (column + w) (omega arith) refl
     (sym (ap (λ d. or_replacement d.char) is)) (sym (ap (λ d. d.size) is)) width refl (rw escape refl))
-    ∙ map-append (λ (p : Piece). p.code) (printed (cell b offset column (column + w))) (printed_cells (cells tab (offset + 1) (column + w) bs))
+    ∙ map-append (λ (p : Piece). p.code) (printed_pieces (cell b offset column (column + w))) (printed_cells (cells tab (offset + 1) (column + w) bs))
 
-printed_tab : (b offset column w : ℕ) → eqb b 9 ≡ true → map (λ (p : Piece). p.code) (printed (cell b offset column (column + w))) ≡ replicate w 32
+printed_tab : (b offset column w : ℕ) → eqb b 9 ≡ true → map (λ (p : Piece). p.code) (printed_pieces (cell b offset column (column + w))) ≡ replicate w 32
 printed_tab b offset column w h =
     let same : column + w - column ≡ w = omega arith in
     rw h (sym (codes_of_tab (column + w - column)) ∙ ap (λ n. replicate n 32) same)
@@ -139,32 +139,32 @@ pub shorter : (n : ℕ) (bs : List ℕ) → length (take (length bs - n) (drop n
 shorter n bs = omega (arith, ap length (take_behind n bs), length-drop n bs)
 
 pub stretch_put : (tab size column until spaces later : ℕ) (rest left : List ℕ) (p q r whole : Printout) → size < length rest → Nowhere (Passes (is_byte 9) rest) 0 size → Passes (is_byte 9) rest size →
-    q ≡ p ⊕ text_told (take size rest) → until ≡ column + size → spaces ≡ tab - until % tab → r ≡ q ⊕ text_told (replicate spaces 32) → later ≡ until + spaces → left ≡ drop (size + 1) rest →
-    p ⊕ text_told (tabbed_codes tab column rest) ≡ whole → r ⊕ text_told (tabbed_codes tab later left) ≡ whole
+    q ≡ p ⊕ text_tokens (take size rest) → until ≡ column + size → spaces ≡ tab - until % tab → r ≡ q ⊕ text_tokens (replicate spaces 32) → later ≡ until + spaces → left ≡ drop (size + 1) rest →
+    p ⊕ text_tokens (tabbed_codes tab column rest) ≡ whole → r ⊕ text_tokens (tabbed_codes tab later left) ≡ whole
 stretch_put tab size column until spaces later rest left p q r whole lt none is hq hu hs hr hl hd h =
     let n : ℕ = tab - until % tab in
     let behind : List ℕ = drop size rest in
     let last : List ℕ = tabbed_codes tab (until + n) (drop (size + 1) rest) in
-    ap (λ x. r ⊕ text_told (tabbed_codes tab later x)) hd
-    ∙ ap (λ x. r ⊕ text_told (tabbed_codes tab x (drop (size + 1) rest))) (hl ∙ ap (λ k. until + k) hs)
-    ∙ ap (λ x. x ⊕ text_told last) (hr ∙ ap (λ k. q ⊕ text_told (replicate k 32)) hs)
-    ∙ put_append q (text_told (replicate n 32)) (text_told last)
+    ap (λ x. r ⊕ text_tokens (tabbed_codes tab later x)) hd
+    ∙ ap (λ x. r ⊕ text_tokens (tabbed_codes tab x (drop (size + 1) rest))) (hl ∙ ap (λ k. until + k) hs)
+    ∙ ap (λ x. x ⊕ text_tokens last) (hr ∙ ap (λ k. q ⊕ text_tokens (replicate k 32)) hs)
+    ∙ put_append q (text_tokens (replicate n 32)) (text_tokens last)
     ∙ ap (λ x. q ⊕ x) (sym (told_append (replicate n 32) last))
-    ∙ ap (λ x. q ⊕ text_told x) (sym (tab_at tab size until rest lt is))
-    ∙ ap (λ x. x ⊕ text_told (tabbed_codes tab until behind)) hq
-    ∙ put_append p (text_told (take size rest)) (text_told (tabbed_codes tab until behind))
+    ∙ ap (λ x. q ⊕ text_tokens x) (sym (tab_at tab size until rest lt is))
+    ∙ ap (λ x. x ⊕ text_tokens (tabbed_codes tab until behind)) hq
+    ∙ put_append p (text_tokens (take size rest)) (text_tokens (tabbed_codes tab until behind))
     ∙ ap (λ x. p ⊕ x) (sym (told_append (take size rest) (tabbed_codes tab until behind)))
-    ∙ ap (λ x. p ⊕ text_told (take size rest ++ tabbed_codes tab x behind)) hu
-    ∙ ap (λ x. p ⊕ text_told x) (sym (stretch tab size column rest (omega (arith, lt)) none))
+    ∙ ap (λ x. p ⊕ text_tokens (take size rest ++ tabbed_codes tab x behind)) hu
+    ∙ ap (λ x. p ⊕ text_tokens x) (sym (stretch tab size column rest (omega (arith, lt)) none))
     ∙ h
 
-pub rest_put : (tab column : ℕ) (rest : List ℕ) (p q whole : Printout) → Nowhere (Passes (is_byte 9) rest) 0 (length rest) → q ≡ p ⊕ text_told rest → p ⊕ text_told (tabbed_codes tab column rest) ≡ whole → q ≡ whole
-rest_put tab column rest p q whole none hq h = hq ∙ ap (λ x. p ⊕ text_told x) (sym (stretch_all tab column rest none)) ∙ h
+pub rest_put : (tab column : ℕ) (rest : List ℕ) (p q whole : Printout) → Nowhere (Passes (is_byte 9) rest) 0 (length rest) → q ≡ p ⊕ text_tokens rest → p ⊕ text_tokens (tabbed_codes tab column rest) ≡ whole → q ≡ whole
+rest_put tab column rest p q whole none hq h = hq ∙ ap (λ x. p ⊕ text_tokens x) (sym (stretch_all tab column rest none)) ∙ h
 
 pub tabbed_put : (tab offset : ℕ) (bs : List ℕ) (pieces : List (ℕ × Style)) (p q r : Printout) → length pieces ≡ 0 → list_all is_tabbed bs ≡ true →
-    q ≡ p ⊕ begins plain ∷ [] → r ≡ q ⊕ text_told (tabbed_codes tab 0 bs) → r ≡ p ⊕ told (line_runs (map highlight_of pieces) (cells_from width_of tab false offset 0 (characters bs)))
+    q ≡ p ⊕ begins plain ∷ [] → r ≡ q ⊕ text_tokens (tabbed_codes tab 0 bs) → r ≡ p ⊕ row_tokens (line_runs (map highlight_of pieces) (cells_from width_of tab false offset 0 (characters bs)))
 tabbed_put tab offset bs pieces p q r none h hq hr =
-    then p (begins plain ∷ []) (text_told (tabbed_codes tab 0 bs)) hq hr
-    ∙ ap (λ x. p ⊕ begins plain ∷ text_told x) (sym (tabbed_cells tab offset 0 bs h))
-    ∙ ap (λ x. p ⊕ x) (sym (append-nil (begins plain ∷ cells_told (cells_from width_of tab false offset 0 (characters bs)))))
-    ∙ ap (λ ps. p ⊕ told (line_runs (map highlight_of ps) (cells_from width_of tab false offset 0 (characters bs)))) (sym (nil_from_length pieces none))
+    then p (begins plain ∷ []) (text_tokens (tabbed_codes tab 0 bs)) hq hr
+    ∙ ap (λ x. p ⊕ begins plain ∷ text_tokens x) (sym (tabbed_cells tab offset 0 bs h))
+    ∙ ap (λ x. p ⊕ x) (sym (append-nil (begins plain ∷ cells_tokens (cells_from width_of tab false offset 0 (characters bs)))))
+    ∙ ap (λ ps. p ⊕ row_tokens (line_runs (map highlight_of ps) (cells_from width_of tab false offset 0 (characters bs)))) (sym (nil_from_length pieces none))

@@ -15,16 +15,16 @@ use Rattle.memchr.specs.Find.{Nowhere, Passes, IsFirstByte, is_byte}
 use Rattle.miette_style.specs.declared.style.Style.{Style}
 use Rattle.miette_style.specs.rules.Styles.{plain}
 use Rattle.miette_page.specs.rules.Rows.{Piece}
-use Rattle.miette_page.specs.views.Told.{begins, told, text_told}
+use Rattle.miette_page.specs.views.Tokens.{begins, row_tokens, text_tokens}
 use Rattle.miette_lines.specs.rules.Cells.{Character, Cell, cells_from, characters, width_at, hides_next}
-use Rattle.miette_lines.specs.views.Given.{width_of}
+use Rattle.miette_lines.specs.views.GivenLabels.{width_of}
 use Rattle.miette_lines.proofs.Stepping.{made}
 use Rattle.miette_lines.proofs.Numbers.{by_cases}
-use Rattle.miette_snippets.specs.rules.PrintedCells.{printed, printed_cells, line_runs}
-use Rattle.miette_snippets.specs.rules.Highlighted.{highlight_of}
+use Rattle.miette_snippets.specs.rules.PrintedCells.{printed_pieces, printed_cells, line_runs}
+use Rattle.miette_snippets.specs.rules.Highlighting.{highlight_of}
 use Rattle.miette_snippets.proofs.Telling.{then}
-use Rattle.miette_drawing.specs.steps.TellingCells.{cells_told}
-use Rattle.miette_drawing.specs.steps.Untabbed.{is_untabbed}
+use Rattle.miette_drawing.specs.steps.CellTokens.{cells_tokens}
+use Rattle.miette_drawing.specs.steps.Tabs.{is_untabbed}
 
 abbrev codes : List Character → List ℕ
 codes cs = map (λ (c : Character). c.code) cs
@@ -68,7 +68,7 @@ characters_untabbed (c ∷ cs) h =
     rw (character_untabbed c parts.0) (characters_untabbed cs parts.1)
 
 -- characters print as they are
-pub printed_code : (cell : Cell) → eqb cell.code 9 ≡ false → map (λ (p : Piece). p.code) (printed cell) ≡ cell.code ∷ []
+pub printed_code : (cell : Cell) → eqb cell.code 9 ≡ false → map (λ (p : Piece). p.code) (printed_pieces cell) ≡ cell.code ∷ []
 printed_code cell h = rw h refl
 
 untabbed_codes : (tab offset column : ℕ) (hidden : Bool) (cs : List Character) → list_all is_untabbed (codes cs) ≡ true →
@@ -79,24 +79,24 @@ untabbed_codes tab offset column hidden (c ∷ cs) h =
     let until : ℕ = column + width_at width_of tab hidden column c.code in
     let cell : Cell = record { code = c.code; start = offset; after = offset + c.bytes; from = column; until = until } in
     let cells : List Cell = cells_from width_of tab (hides_next hidden c.code) (offset + c.bytes) until cs in
-    map-append (λ (p : Piece). p.code) (printed cell) (printed_cells cells)
+    map-append (λ (p : Piece). p.code) (printed_pieces cell) (printed_cells cells)
     ∙ ap (λ r. r ++ map (λ (p : Piece). p.code) (printed_cells cells)) (printed_code cell (no_tab c.code parts.0))
     ∙ ap (λ r. c.code ∷ r) (untabbed_codes tab (offset + c.bytes) until (hides_next hidden c.code) cs parts.1)
 
-untabbed_told : (tab offset : ℕ) (bs : List ℕ) → IsUtf8 bs → list_all is_untabbed bs ≡ true → text_told (chars bs) ≡ cells_told (cells_from width_of tab false offset 0 (characters bs))
+untabbed_told : (tab offset : ℕ) (bs : List ℕ) → IsUtf8 bs → list_all is_untabbed bs ≡ true → text_tokens (chars bs) ≡ cells_tokens (cells_from width_of tab false offset 0 (characters bs))
 untabbed_told tab offset bs u h =
     let spelled_untabbed : list_all is_untabbed (chars bs) ≡ true = characters_untabbed (chars bs) (ap (list_all is_untabbed) (encodes-chars bs u) ∙ h) in
-    ap text_told (sym (untabbed_codes tab offset 0 false (characters bs) (ap (list_all is_untabbed) (spelled bs u) ∙ spelled_untabbed) ∙ spelled bs u))
+    ap text_tokens (sym (untabbed_codes tab offset 0 false (characters bs) (ap (list_all is_untabbed) (spelled bs u) ∙ spelled_untabbed) ∙ spelled bs u))
 
 -- a text without tabs
 pub untabbed_put : (tab offset : ℕ) (bs text : List ℕ) (pieces : List (ℕ × Style)) (p q r : Printout) → length pieces ≡ 0 → text ≡ bs → IsUtf8 bs → list_all is_untabbed bs ≡ true →
-    q ≡ p ⊕ begins plain ∷ [] → r ≡ q ⊕ text_told (chars text) → r ≡ p ⊕ told (line_runs (map highlight_of pieces) (cells_from width_of tab false offset 0 (characters bs)))
+    q ≡ p ⊕ begins plain ∷ [] → r ≡ q ⊕ text_tokens (chars text) → r ≡ p ⊕ row_tokens (line_runs (map highlight_of pieces) (cells_from width_of tab false offset 0 (characters bs)))
 untabbed_put tab offset bs text pieces p q r none same u h hq hr =
-    then p (begins plain ∷ []) (text_told (chars text)) hq hr
-    ∙ ap (λ x. p ⊕ begins plain ∷ text_told (chars x)) same
+    then p (begins plain ∷ []) (text_tokens (chars text)) hq hr
+    ∙ ap (λ x. p ⊕ begins plain ∷ text_tokens (chars x)) same
     ∙ ap (λ x. p ⊕ begins plain ∷ x) (untabbed_told tab offset bs u h)
-    ∙ ap (λ x. p ⊕ x) (sym (append-nil (begins plain ∷ cells_told (cells_from width_of tab false offset 0 (characters bs)))))
-    ∙ ap (λ ps. p ⊕ told (line_runs (map highlight_of ps) (cells_from width_of tab false offset 0 (characters bs)))) (sym (nil_from_length pieces none))
+    ∙ ap (λ x. p ⊕ x) (sym (append-nil (begins plain ∷ cells_tokens (cells_from width_of tab false offset 0 (characters bs)))))
+    ∙ ap (λ ps. p ⊕ row_tokens (line_runs (map highlight_of ps) (cells_from width_of tab false offset 0 (characters bs)))) (sym (nil_from_length pieces none))
 
 -- the search for a tab that finds none
 nowhere_untabbed : (bs : List ℕ) → Nowhere (Passes (is_byte 9) bs) 0 (length bs) → list_all is_untabbed bs ≡ true

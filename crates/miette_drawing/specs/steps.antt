@@ -1,6 +1,6 @@
 -- The code's own steps, which no rule names.
-pub mod Framed
-pub mod Made
+pub mod FrameParts
+pub mod Marks
 pub mod Sheets
-pub mod TellingCells
-pub mod Untabbed
+pub mod CellTokens
+pub mod Tabs

@@ -2,18 +2,18 @@
 
 ghost use Rattle.std.specs.Prelude.{◌≡◌, ◌++◌, ◌∷◌, [], not, ◌&&◌, chars, map, OnOk};
 ghost use Rattle.miette_page.specs.views.Printouts.{◌⊕◌};
-ghost use Rattle.miette_page.specs.views.Told.{row_end, told_rows, run_told};
-ghost use Rattle.miette_lines.specs.rules.Labels.{starts_on, ends_on, cut_at_lf, closing};
+ghost use Rattle.miette_page.specs.views.Tokens.{row_end, rows_tokens, styled_tokens};
+ghost use Rattle.miette_lines.specs.rules.Labels.{starts_on, ends_on, cut_at_lf, closing_labels};
 ghost use Rattle.miette_snippets.specs.rules.Gutters.{closing_parts, closing_rows};
 ghost use Rattle.miette_snippets.specs.rules.Frames.{other_start};
 ghost use Rattle.miette_snippets.specs.rules.SnippetLayout.{before_each};
 ghost use Rattle.miette_lines.specs.views.Sweeping.{label_of};
-ghost use Rattle.miette_lines.specs.views.Given.{drawn_of};
+ghost use Rattle.miette_lines.specs.views.GivenLabels.{drawn_of};
 ghost use Rattle.miette_drawing.specs.steps.Sheets.{settings, multi_labels, closed_line, open_line};
 ghost use Rattle.miette_newlines.specs.views.Walking.{line_of_text};
 
 use crate::gutters::{ends, push_open_gutter, push_other_gutter, starts};
-use crate::parts::first_part;
+use crate::label_text::first_part;
 use crate::sheet::{Outcome, Sheet};
 use crate::texts::push_other_start;
 use miette_lines::drawn_labels::text_of;
@@ -33,7 +33,7 @@ fn closes(line: &LineOfText, label: &Placed) -> bool
 
 // The end of a row: `─ a label's text`.
 fn push_part<O: Canvas>(page: &mut Page<O>, style: Style, bar: char, part: &str) -> Outcome
-    ensures { OnOk result (page.new ≡ page.old ⊕ (run_told style (bar ∷ 32 ∷ chars part.now) ++ row_end ∷ [])) }
+    ensures { OnOk result (page.new ≡ page.old ⊕ (styled_tokens style (bar ∷ 32 ∷ chars part.now) ++ row_end ∷ [])) }
 {
     page.push_line(style, bar, ' ', 1)?;
     page.push_str(part)?;
@@ -51,7 +51,7 @@ fn push_closed_row<O: Canvas>(
     part: &str,
 ) -> Outcome
     ensures { OnOk result (page.new ≡ page.old
-        ⊕ told_rows (closed_line sheet.now columns (drawn_of sheet.now.labels.now label.now) bar (chars part.now)
+        ⊕ rows_tokens (closed_line sheet.now columns (drawn_of sheet.now.labels.now label.now) bar (chars part.now)
         ∷ [])) }
 {
     push_other_start(page, sheet)?;
@@ -69,7 +69,7 @@ fn push_open_row<O: Canvas>(
     part: &str,
 ) -> Outcome
     ensures { OnOk result (page.new ≡ page.old
-        ⊕ told_rows (open_line sheet.now columns (drawn_of sheet.now.labels.now label.now) (chars part.now) ∷ [])) }
+        ⊕ rows_tokens (open_line sheet.now columns (drawn_of sheet.now.labels.now label.now) (chars part.now) ∷ [])) }
 {
     push_other_start(page, sheet)?;
     push_open_gutter(page, sheet, columns)?;
@@ -86,7 +86,7 @@ fn push_open_rows<O: Canvas>(
     text: &str,
 ) -> Outcome
     ensures { OnOk result (page.new ≡ page.old
-        ⊕ told_rows (map (open_line sheet.now columns (drawn_of sheet.now.labels.now label.now))
+        ⊕ rows_tokens (map (open_line sheet.now columns (drawn_of sheet.now.labels.now label.now))
         (cut_at_lf (chars text.now)))) }
 {
     let mut left = Some(text);
@@ -101,7 +101,7 @@ fn push_open_rows<O: Canvas>(
 // The rows of a label's text: `╰──── text`, or `╰───┤ text` and a row for each further part.
 fn push_closing<O: Canvas>(page: &mut Page<O>, sheet: &Sheet, label: &Placed) -> Outcome
     ensures { OnOk result (page.new ≡ page.old
-        ⊕ told_rows (before_each (other_start (settings sheet.now) sheet.now.number_width)
+        ⊕ rows_tokens (before_each (other_start (settings sheet.now) sheet.now.number_width)
         (closing_parts (settings sheet.now).width (settings sheet.now).characters (line_of_text sheet.now.line)
         sheet.now.gutter (multi_labels sheet.now)
         (drawn_of sheet.now.labels.now label.now) (drawn_of sheet.now.labels.now label.now).parts))) }
@@ -125,10 +125,10 @@ fn push_closing<O: Canvas>(page: &mut Page<O>, sheet: &Sheet, label: &Placed) ->
 /// memory is refused, or `number_width + 2` is past the largest `usize`.
 pub(crate) fn push_closings<O: Canvas>(page: &mut Page<O>, sheet: &Sheet) -> Outcome
     ensures { OnOk result (page.new ≡ page.old
-        ⊕ told_rows (before_each (other_start (settings sheet.now) sheet.now.number_width)
+        ⊕ rows_tokens (before_each (other_start (settings sheet.now) sheet.now.number_width)
         (closing_rows (settings sheet.now).width (settings sheet.now).characters (line_of_text sheet.now.line)
         sheet.now.gutter (multi_labels sheet.now)
-        (closing (line_of_text sheet.now.line) (multi_labels sheet.now))))) }
+        (closing_labels (line_of_text sheet.now.line) (multi_labels sheet.now))))) }
 {
     for label in sheet.multi {
         if closes(&sheet.line, label) {

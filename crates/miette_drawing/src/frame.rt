@@ -5,12 +5,12 @@ ghost use Rattle.std.specs.Prelude.{if◌then◌else◌, false, OnOk};
 ghost use Rattle.std.specs.List.{list_all};
 ghost use Rattle.std.specs.Option.{option_map};
 ghost use Rattle.miette_page.specs.views.Printouts.{◌⊕◌};
-ghost use Rattle.miette_page.specs.views.Told.{told, told_rows, run_told, text_told};
+ghost use Rattle.miette_page.specs.views.Tokens.{row_tokens, rows_tokens, styled_tokens, text_tokens};
 ghost use Rattle.miette_snippets.specs.rules.Frames.{top_row_of, bottom_row, location, location_of, place_text};
 ghost use Rattle.miette_snippets.specs.rules.Frames.{refused_row, text_or_none};
 ghost use Rattle.miette_snippets.specs.views.ThemeSettings.{settings_of};
-ghost use Rattle.miette_drawing.specs.steps.Framed.{corner_row, refused_front};
-ghost use Rattle.miette_drawing.specs.views.Lent.{place_at};
+ghost use Rattle.miette_drawing.specs.steps.FrameParts.{corner_row, refused_front};
+ghost use Rattle.miette_drawing.specs.views.SnippetRows.{place_at};
 
 use crate::sheet::Outcome;
 use miette_page::canvas::Canvas;
@@ -35,7 +35,7 @@ pub struct Frame<'a> {
 // A run of ASCII characters.
 fn push_ascii<O: Canvas>(page: &mut Page<O>, style: Style, text: &str) -> Outcome
     requires { IsTrue (list_all (λ b. nat_lt b 128) text.now) }
-    ensures { OnOk result (page.new ≡ page.old ⊕ run_told style text.now) }
+    ensures { OnOk result (page.new ≡ page.old ⊕ styled_tokens style text.now) }
 {
     page.begin(style)?;
     page.push_str(text)?;
@@ -44,7 +44,7 @@ fn push_ascii<O: Canvas>(page: &mut Page<O>, style: Style, text: &str) -> Outcom
 
 // A run of a text.
 fn push_styled<O: Canvas>(page: &mut Page<O>, style: Style, text: &str) -> Outcome
-    ensures { OnOk result (page.new ≡ page.old ⊕ run_told style (chars text.now)) }
+    ensures { OnOk result (page.new ≡ page.old ⊕ styled_tokens style (chars text.now)) }
 {
     page.begin(style)?;
     page.push_str(text)?;
@@ -53,7 +53,7 @@ fn push_styled<O: Canvas>(page: &mut Page<O>, style: Style, text: &str) -> Outco
 
 // A run of a number.
 fn push_count<O: Canvas>(page: &mut Page<O>, style: Style, number: usize) -> Outcome
-    ensures { OnOk result (page.new ≡ page.old ⊕ run_told style (decimal number)) }
+    ensures { OnOk result (page.new ≡ page.old ⊕ styled_tokens style (decimal number)) }
 {
     page.begin(style)?;
     page.push_number(number)?;
@@ -63,7 +63,8 @@ fn push_count<O: Canvas>(page: &mut Page<O>, style: Style, number: usize) -> Out
 // The spaces before a corner, the corner, and what follows it: `   ╭─`.
 fn push_corner<O: Canvas>(page: &mut Page<O>, frame: &Frame, corner: char, many: usize) -> Outcome
     ensures { OnOk result (page.new ≡ page.old
-        ⊕ told (corner_row (settings_of frame.now.theme.now frame.now.options) frame.now.number_width corner many)) }
+        ⊕ row_tokens (corner_row (settings_of frame.now.theme.now frame.now.options) frame.now.number_width corner
+        many)) }
 {
     let Some(columns) = frame.number_width.checked_add(2) else {
         return Err(AllocError);
@@ -75,7 +76,7 @@ fn push_corner<O: Canvas>(page: &mut Page<O>, frame: &Frame, corner: char, many:
 
 // A line's and a column's number, counted from 1 where they are given from 0: `2:3`.
 fn push_place<O: Canvas>(page: &mut Page<O>, place: (usize, usize)) -> Outcome
-    ensures { OnOk result (page.new ≡ page.old ⊕ text_told (place_text (place_at place))) }
+    ensures { OnOk result (page.new ≡ page.old ⊕ text_tokens (place_text (place_at place))) }
 {
     let Some(line) = place.0.checked_add(1) else {
         return Err(AllocError);
@@ -96,7 +97,7 @@ fn push_link<O: Canvas>(
     name: &str,
     place: (usize, usize),
 ) -> Outcome
-    ensures { OnOk result (page.new ≡ page.old ⊕ run_told frame.now.theme.now.styles.link
+    ensures { OnOk result (page.new ≡ page.old ⊕ styled_tokens frame.now.theme.now.styles.link
         (if frame.now.options.primary_start then chars name.now ++ codes ":" ++ place_text (place_at place)
         else chars name.now)) }
 {
@@ -117,7 +118,8 @@ fn push_named_place<O: Canvas>(
     place: (usize, usize),
 ) -> Outcome
     ensures { OnOk result (page.new ≡ page.old
-        ⊕ told (location (settings_of frame.now.theme.now frame.now.options) (Some name.now) false (place_at place))) }
+        ⊕ row_tokens (location (settings_of frame.now.theme.now frame.now.options) (Some name.now) false
+        (place_at place))) }
 {
     push_ascii(page, PLAIN, "[")?;
     push_link(page, frame, name, place)?;
@@ -133,7 +135,7 @@ fn push_bare_place<O: Canvas>(
     place: (usize, usize),
 ) -> Outcome
     ensures { OnOk result (page.new ≡ page.old
-        ⊕ told (location (settings_of frame.now.theme.now frame.now.options) None several (place_at place))) }
+        ⊕ row_tokens (location (settings_of frame.now.theme.now frame.now.options) None several (place_at place))) }
 {
     if several && frame.options.primary_start {
         page.push_line(PLAIN, '[', ' ', 0)?;
@@ -155,7 +157,7 @@ fn push_location<O: Canvas>(
     place: Option<(usize, usize)>,
 ) -> Outcome
     ensures { OnOk result (page.new ≡ page.old
-        ⊕ told (location_of (settings_of frame.now.theme.now frame.now.options) (option_copied name.entry) several
+        ⊕ row_tokens (location_of (settings_of frame.now.theme.now frame.now.options) (option_copied name.entry) several
         (option_map place_at place))) }
 {
     let Some(place) = place else {
@@ -186,7 +188,7 @@ pub(crate) fn push_top_row<O: Canvas>(
     place: Option<(usize, usize)>,
 ) -> Outcome
     ensures { OnOk result (page.new ≡ page.old
-        ⊕ told_rows (top_row_of (settings_of frame.now.theme.now frame.now.options) frame.now.number_width
+        ⊕ rows_tokens (top_row_of (settings_of frame.now.theme.now frame.now.options) frame.now.number_width
         (option_copied name.entry) several (option_map place_at place) ∷ [])) }
 {
     push_corner(page, frame, frame.theme.characters.ltop, 1)?;
@@ -199,7 +201,7 @@ pub(crate) fn push_top_row<O: Canvas>(
 /// the largest `usize`.
 pub(crate) fn push_bottom_row<O: Canvas>(page: &mut Page<O>, frame: &Frame) -> Outcome
     ensures { OnOk result (page.new ≡ page.old
-        ⊕ told_rows (bottom_row (settings_of frame.now.theme.now frame.now.options) frame.now.number_width ∷ [])) }
+        ⊕ rows_tokens (bottom_row (settings_of frame.now.theme.now frame.now.options) frame.now.number_width ∷ [])) }
 {
     push_corner(page, frame, frame.theme.characters.lbot, 4)?;
     page.end_row()?;
@@ -208,7 +210,7 @@ pub(crate) fn push_bottom_row<O: Canvas>(page: &mut Page<O>, frame: &Frame) -> O
 
 // A label's text, or that it has none.
 fn push_label_text<O: Canvas>(page: &mut Page<O>, style: Style, label: &LabeledSpan) -> Outcome
-    ensures { OnOk result (page.new ≡ page.old ⊕ run_told style (text_or_none label.now.text)) }
+    ensures { OnOk result (page.new ≡ page.old ⊕ styled_tokens style (text_or_none label.now.text)) }
 {
     match label.label() {
         Some(text) => {
@@ -225,7 +227,7 @@ fn push_label_text<O: Canvas>(page: &mut Page<O>, style: Style, label: &LabeledS
 // What stands before a refused label's offset: "  [Failed to read contents for label `TEXT` (offset: ".
 fn push_refused_text<O: Canvas>(page: &mut Page<O>, frame: &Frame, label: &LabeledSpan) -> Outcome
     ensures { OnOk result (page.new ≡ page.old
-        ⊕ told (refused_front (settings_of frame.now.theme.now frame.now.options) label.now)) }
+        ⊕ row_tokens (refused_front (settings_of frame.now.theme.now frame.now.options) label.now)) }
 {
     let styles = &frame.theme.styles;
     push_ascii(page, PLAIN, "  [")?;
@@ -245,7 +247,7 @@ pub fn push_refused_row<O: Canvas>(
     name: &str,
 ) -> Outcome
     ensures { OnOk result (page.new ≡ page.old
-        ⊕ told_rows (refused_row (settings_of frame.now.theme.now frame.now.options)
+        ⊕ rows_tokens (refused_row (settings_of frame.now.theme.now frame.now.options)
         (record { label = label.now; name = chars name.now }) ∷ [])) }
 {
     let styles = &frame.theme.styles;

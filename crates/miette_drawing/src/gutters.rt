@@ -2,11 +2,11 @@
 
 ghost use Rattle.std.specs.Prelude.{◌≡◌, ◌++◌, ◌-◌, ◌∷◌, [], replicate, map, OnOk};
 ghost use Rattle.miette_page.specs.views.Printouts.{◌⊕◌};
-ghost use Rattle.miette_page.specs.views.Told.{told, run_told};
+ghost use Rattle.miette_page.specs.views.Tokens.{row_tokens, styled_tokens};
 ghost use Rattle.miette_lines.specs.rules.Labels.{starts_on, ends_on};
 ghost use Rattle.miette_lines.specs.views.Sweeping.{label_of};
 ghost use Rattle.miette_snippets.specs.rules.Gutters.{number_gutter, other_gutter, open_gutter, ending_corner};
-ghost use Rattle.miette_lines.specs.views.Given.{drawn_of};
+ghost use Rattle.miette_lines.specs.views.GivenLabels.{drawn_of};
 ghost use Rattle.miette_drawing.specs.steps.Sheets.{settings, multi_labels};
 ghost use Rattle.miette_newlines.specs.views.Walking.{line_of_text};
 
@@ -54,8 +54,8 @@ pub(crate) fn push_other_gutter<O: Canvas>(
     columns: usize,
 ) -> Outcome
     ensures { OnOk result (page.new ≡ page.old
-        ⊕ told (other_gutter (settings sheet.now).width (settings sheet.now).characters (line_of_text sheet.now.line)
-        columns (multi_labels sheet.now))) }
+        ⊕ row_tokens (other_gutter (settings sheet.now).width (settings sheet.now).characters
+        (line_of_text sheet.now.line) columns (multi_labels sheet.now))) }
 {
     let characters = &sheet.theme.characters;
     let mut left = columns;
@@ -83,8 +83,8 @@ pub(crate) fn push_open_gutter<O: Canvas>(
     columns: usize,
 ) -> Outcome
     ensures { OnOk result (page.new ≡ page.old
-        ⊕ told (open_gutter (settings sheet.now).width (settings sheet.now).characters (line_of_text sheet.now.line)
-        columns (multi_labels sheet.now))) }
+        ⊕ row_tokens (open_gutter (settings sheet.now).width (settings sheet.now).characters
+        (line_of_text sheet.now.line) columns (multi_labels sheet.now))) }
 {
     let characters = &sheet.theme.characters;
     let mut left = columns;
@@ -109,8 +109,8 @@ fn push_arrow<O: Canvas>(
     left: usize,
 ) -> Outcome
     ensures { OnOk result (page.new ≡ page.old
-        ⊕ (run_told style (corner ∷ replicate (left - 3) (settings sheet.now).characters.hbar
-        ++ (settings sheet.now).characters.rarrow ∷ []) ++ run_told PLAIN (32 ∷ []))) }
+        ⊕ (styled_tokens style (corner ∷ replicate (left - 3) (settings sheet.now).characters.hbar
+        ++ (settings sheet.now).characters.rarrow ∷ []) ++ styled_tokens PLAIN (32 ∷ []))) }
 {
     let characters = &sheet.theme.characters;
     page.push_line(style, corner, characters.hbar, left.saturating_sub(3))?;
@@ -123,8 +123,8 @@ fn push_arrow<O: Canvas>(
 /// ends on the line: `│╭─▶ `. `AllocError` where memory is refused.
 pub(crate) fn push_number_gutter<O: Canvas>(page: &mut Page<O>, sheet: &Sheet) -> Outcome
     ensures { OnOk result (page.new ≡ page.old
-        ⊕ told (number_gutter (settings sheet.now).width (settings sheet.now).characters (line_of_text sheet.now.line)
-        sheet.now.gutter (multi_labels sheet.now))) }
+        ⊕ row_tokens (number_gutter (settings sheet.now).width (settings sheet.now).characters
+        (line_of_text sheet.now.line) sheet.now.gutter (multi_labels sheet.now))) }
 {
     let characters = &sheet.theme.characters;
     let mut left = sheet.gutter;

@@ -1,9 +1,9 @@
 //! What a highlighter answers for the lines of a snippet.
 
 ghost use Rattle.std.specs.Prelude.{◌≡◌, ℕ, List, [], ◌∷◌, true, map, IfOk, if◌then◌else◌};
-ghost use Rattle.miette_snippets.specs.rules.Highlighted.{AreCallsOn, ArePieces, decoded_text};
-ghost use Rattle.miette_snippets.specs.rules.Highlighted.{highlight_of, leaves_plain};
-ghost use Rattle.miette_style.specs.rules.Asked.{Leads, asked, listed, restarted};
+ghost use Rattle.miette_snippets.specs.rules.Highlighting.{AreCallsOn, ArePieces, decoded_text};
+ghost use Rattle.miette_snippets.specs.rules.Highlighting.{highlight_of, leaves_plain};
+ghost use Rattle.miette_style.specs.rules.HighlighterCalls.{Leads, asked, listed_pieces, restarted};
 ghost use Rattle.miette_style.specs.rules.Pieces.{CutsLine, plain_pieces};
 
 use bstr::ByteSlice;
@@ -35,7 +35,7 @@ fn line_pieces<H: Highlighter>(
     ensures plain { H.is_blank highlighter.old ≡ true →
         IfOk result (λ pieces. pieces.items ≡ plain_pieces (decoded_text text.now)) }
     ensures calls { IfOk result (λ pieces. Leads (H.may_follow highlighter.old)
-        (asked (decoded_text text.now) (listed pieces.items) ∷ []) (H.may_follow highlighter.new)) }
+        (asked (decoded_text text.now) (listed_pieces pieces.items) ∷ []) (H.may_follow highlighter.new)) }
     ensures stays { H.is_blank highlighter.new ≡ H.is_blank highlighter.old }
 {
     let line = text.to_str_lossy(alloc)?;
@@ -45,7 +45,7 @@ fn line_pieces<H: Highlighter>(
 // Whether a line is left in one plain piece.
 fn is_plain(pieces: &[(usize, Style)]) -> bool
     ensures plain { (line : List ℕ) → pieces.now ≡ plain_pieces line → result ≡ true }
-    ensures counts { listed pieces.now ≡ (if result then [] else pieces.now) }
+    ensures counts { listed_pieces pieces.now ≡ (if result then [] else pieces.now) }
 {
     comparison_laws();
     match pieces {

@@ -2,17 +2,17 @@
 
 ghost use Rattle.std.specs.Prelude.{◌≡◌, ◌++◌, ◌+◌, ◌^◌, ◌<◌, ◌∷◌, [], map, length, IfOk, OnOk};
 ghost use Rattle.std.specs.List.{All};
-ghost use Rattle.miette_snippets.specs.rules.PrintedCells.{printed, cells_within, cells_beyond, line_runs};
+ghost use Rattle.miette_snippets.specs.rules.PrintedCells.{printed_pieces, cells_within, cells_beyond, line_runs};
 ghost use Rattle.miette_snippets.specs.rules.Marks.{marks};
 ghost use Rattle.miette_snippets.specs.rules.Drawing.{marked_rows};
 ghost use Rattle.miette_snippets.specs.rules.Frames.{number_start};
 ghost use Rattle.miette_snippets.specs.rules.SnippetLayout.{before_each, line_rows_of, text_of_cells};
 ghost use Rattle.miette_page.specs.views.Printouts.{◌⊕◌};
-ghost use Rattle.miette_page.specs.views.Told.{told, told_rows, text_told};
-ghost use Rattle.miette_drawing.specs.steps.TellingCells.{cells_told};
-ghost use Rattle.miette_snippets.specs.rules.Highlighted.{highlight_of};
+ghost use Rattle.miette_page.specs.views.Tokens.{row_tokens, rows_tokens, text_tokens};
+ghost use Rattle.miette_drawing.specs.steps.CellTokens.{cells_tokens};
+ghost use Rattle.miette_snippets.specs.rules.Highlighting.{highlight_of};
 ghost use Rattle.miette_lines.specs.views.Walking.{cell_of};
-ghost use Rattle.miette_drawing.specs.steps.Made.{mark_of};
+ghost use Rattle.miette_drawing.specs.steps.Marks.{mark_of};
 ghost use Rattle.miette_drawing.specs.steps.Sheets.{settings, multi_labels, before_marks, number_row, shown_cells};
 ghost use Rattle.miette_drawing.specs.steps.Sheets.{labels_alone};
 ghost use Rattle.miette_newlines.specs.views.Walking.{line_of_text};
@@ -33,7 +33,7 @@ use std::alloc::{AllocError, Global};
 // The number of a line: ` 12 │ `.
 fn push_number_start<O: Canvas>(page: &mut Page<O>, sheet: &Sheet, number: usize) -> Outcome
     ensures { OnOk result (page.new ≡ page.old
-        ⊕ told (number_start (settings sheet.now) sheet.now.number_width number)) }
+        ⊕ row_tokens (number_start (settings sheet.now) sheet.now.number_width number)) }
 {
     page.push_blank(1)?;
     page.begin(sheet.theme.styles.linum)?;
@@ -45,7 +45,7 @@ fn push_number_start<O: Canvas>(page: &mut Page<O>, sheet: &Sheet, number: usize
 
 // A character as it prints, a tab as spaces.
 fn push_cell<O: Canvas>(page: &mut Page<O>, cell: &Cell) -> Outcome
-    ensures { OnOk result (page.new ≡ page.old ⊕ text_told (map (λ p. p.code) (printed (cell_of cell.now)))) }
+    ensures { OnOk result (page.new ≡ page.old ⊕ text_tokens (map (λ p. p.code) (printed_pieces (cell_of cell.now)))) }
 {
     if cell.code == '\t' {
         page.push_copies(' ', cell.until.saturating_sub(cell.from))?;
@@ -57,7 +57,7 @@ fn push_cell<O: Canvas>(page: &mut Page<O>, cell: &Cell) -> Outcome
 
 // The characters that fill so many bytes.
 fn push_cells_within<O: Canvas>(page: &mut Page<O>, walk: &mut Walk, bytes: usize) -> Outcome
-    ensures within { OnOk result (page.new ≡ page.old ⊕ cells_told (cells_within bytes walk.old)) }
+    ensures within { OnOk result (page.new ≡ page.old ⊕ cells_tokens (cells_within bytes walk.old)) }
     ensures beyond { OnOk result (walk.new ≡ cells_beyond bytes walk.old) }
 {
     let mut left = bytes;
@@ -73,7 +73,7 @@ fn push_cells_within<O: Canvas>(page: &mut Page<O>, walk: &mut Walk, bytes: usiz
 
 // All characters that are left.
 fn push_cells<O: Canvas>(page: &mut Page<O>, walk: &mut Walk) -> Outcome
-    ensures { OnOk result (page.new ≡ page.old ⊕ cells_told walk.old) }
+    ensures { OnOk result (page.new ≡ page.old ⊕ cells_tokens walk.old) }
 {
     while let Some(cell) = walk.next()? {
         push_cell(page, &cell)?;
@@ -87,7 +87,7 @@ fn push_line_text<O: Canvas>(
     walk: &mut Walk,
     pieces: &[(usize, Style)],
 ) -> Outcome
-    ensures { OnOk result (page.new ≡ page.old ⊕ told (line_runs (map highlight_of pieces.now) walk.old)) }
+    ensures { OnOk result (page.new ≡ page.old ⊕ row_tokens (line_runs (map highlight_of pieces.now) walk.old)) }
 {
     for piece in pieces {
         page.begin(piece.1)?;
@@ -103,7 +103,7 @@ fn push_line_text<O: Canvas>(
 fn push_text<O: Canvas>(page: &mut Page<O>, sheet: &Sheet, shown: &ShownLine) -> Outcome
     requires { sheet.now.line.start + length shown.now.text.now < 2 ^ 64 }
     ensures { OnOk result (page.new ≡ page.old
-        ⊕ told (line_runs (map highlight_of shown.now.pieces.now) (shown_cells sheet.now shown.now))) }
+        ⊕ row_tokens (line_runs (map highlight_of shown.now.pieces.now) (shown_cells sheet.now shown.now))) }
 {
     if shown.pieces.is_empty() {
         if let Some(text) = untabbed(shown.text) {
@@ -125,7 +125,7 @@ fn push_text<O: Canvas>(page: &mut Page<O>, sheet: &Sheet, shown: &ShownLine) ->
 // The number row: ` 12 │ ╭─▶ the line's text`.
 fn push_number_row<O: Canvas>(page: &mut Page<O>, sheet: &Sheet, shown: &ShownLine) -> Outcome
     requires { sheet.now.line.start + length shown.now.text.now < 2 ^ 64 }
-    ensures { OnOk result (page.new ≡ page.old ⊕ told_rows (number_row sheet.now shown.now ∷ [])) }
+    ensures { OnOk result (page.new ≡ page.old ⊕ rows_tokens (number_row sheet.now shown.now ∷ [])) }
 {
     push_number_start(page, sheet, shown.number)?;
     push_number_gutter(page, sheet)?;
@@ -137,7 +137,7 @@ fn push_number_row<O: Canvas>(page: &mut Page<O>, sheet: &Sheet, shown: &ShownLi
 // The mark row and the rows of texts under it, where there is a mark.
 fn push_marked_rows<O: Canvas>(page: &mut Page<O>, sheet: &Sheet, marks: &[Mark]) -> Outcome
     requires { All (λ mark. mark.from < mark.until) marks.now }
-    ensures { OnOk result (page.new ≡ page.old ⊕ told_rows (before_each (before_marks sheet.now)
+    ensures { OnOk result (page.new ≡ page.old ⊕ rows_tokens (before_each (before_marks sheet.now)
         (marked_rows (settings sheet.now).width (settings sheet.now).characters
         (map (mark_of sheet.now.labels.now) marks.now)))) }
 {
@@ -182,7 +182,7 @@ pub(crate) fn push_line_rows<O: Canvas>(
 ) -> Outcome
     requires { sheet.now.line.start + length shown.now.text.now < 2 ^ 64 }
     ensures { OnOk result (page.new ≡ page.old
-        ⊕ told_rows (line_rows_of (settings sheet.now) sheet.now.number_width sheet.now.gutter
+        ⊕ rows_tokens (line_rows_of (settings sheet.now) sheet.now.number_width sheet.now.gutter
         (labels_alone sheet.now shown.now) (multi_labels sheet.now) (line_of_text sheet.now.line) shown.now.number
         (shown_cells sheet.now shown.now) (map highlight_of shown.now.pieces.now))) }
 {

@@ -9,8 +9,8 @@ ghost use Rattle.miette_lines.specs.rules.Cells.{cells_from, characters};
 ghost use Rattle.miette_snippets.specs.rules.Marks.{label_from, mark_from, mark_until, marks};
 ghost use Rattle.miette_snippets.specs.rules.SnippetLayout.{text_of_cells};
 ghost use Rattle.miette_lines.specs.views.Sweeping.{label_of};
-ghost use Rattle.miette_lines.specs.views.Given.{drawn_of, width_of};
-ghost use Rattle.miette_drawing.specs.steps.Made.{mark_of, ComeFrom, IsStop};
+ghost use Rattle.miette_lines.specs.views.GivenLabels.{drawn_of, width_of};
+ghost use Rattle.miette_drawing.specs.steps.Marks.{mark_of, ComeFrom, IsStop};
 
 use miette_lines::cells::Walk;
 use miette_lines::plain::all_printable;
@@ -45,7 +45,7 @@ impl<'a> Model for Columns<'a> {
     ghost use Rattle.std.specs.Prelude.{◌++◌};
     ghost use Rattle.std.specs.List.{All};
     ghost use Rattle.miette_snippets.specs.rules.Marks.{Text};
-    ghost use Rattle.miette_drawing.specs.steps.Made.{IsStop};
+    ghost use Rattle.miette_drawing.specs.steps.Marks.{IsStop};
     ghost use Rattle.miette_lines.specs.views.Printable.{plain_cells};
 
     ghost Value = { Text };

@@ -21,11 +21,11 @@
 ghost use Rattle.std.specs.Prelude.{◌≡◌, ◌∷◌, ◌+◌, ◌<◌, ◌^◌, map, length, decimal, IfOk, OnOk};
 ghost use Rattle.miette_newlines.specs.rules.Lines.{lines_from};
 ghost use Rattle.miette_snippets.specs.views.ThemeSettings.{settings_of};
-ghost use Rattle.miette_lines.specs.views.Given.{drawn_of};
-ghost use Rattle.miette_snippets.specs.rules.Highlighted.{AreCallsOn, leaves_plain};
-ghost use Rattle.miette_style.specs.rules.Asked.{restarted};
-ghost use Rattle.miette_drawing.specs.views.Lent.{PutsRows, PutsSnippet, texts_in, lent_rows};
-ghost use Rattle.miette_drawing.specs.views.Lent.{width_of_count, gutter_of};
+ghost use Rattle.miette_lines.specs.views.GivenLabels.{drawn_of};
+ghost use Rattle.miette_snippets.specs.rules.Highlighting.{AreCallsOn, leaves_plain};
+ghost use Rattle.miette_style.specs.rules.HighlighterCalls.{restarted};
+ghost use Rattle.miette_drawing.specs.views.SnippetRows.{PutsRows, PutsSnippet, texts_in, lent_rows};
+ghost use Rattle.miette_drawing.specs.views.SnippetRows.{width_of_count, gutter_of};
 ghost use Rattle.miette_lines.specs.views.Sweeping.{IsAt, AreSorted};
 
 use crate::frame::{Frame, push_bottom_row, push_top_row};

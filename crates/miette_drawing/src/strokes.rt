@@ -3,11 +3,11 @@
 ghost use Rattle.std.specs.Prelude.{◌≡◌, ◌++◌, ◌+◌, ◌/◌, ◌^◌, ◌<◌, ◌≤◌, if◌then◌else◌, map, OnOk};
 ghost use Rattle.std.specs.List.{All};
 ghost use Rattle.miette_page.specs.views.Printouts.{◌⊕◌};
-ghost use Rattle.miette_page.specs.views.Told.{told, told_run};
+ghost use Rattle.miette_page.specs.views.Tokens.{row_tokens, run_tokens};
 ghost use Rattle.miette_lines.specs.rules.Labels.{is_empty};
-ghost use Rattle.miette_lines.specs.views.Given.{drawn_of};
+ghost use Rattle.miette_lines.specs.views.GivenLabels.{drawn_of};
 ghost use Rattle.miette_snippets.specs.rules.Drawing.{code_with_parts, mark_run, mark_runs};
-ghost use Rattle.miette_drawing.specs.steps.Made.{mark_of};
+ghost use Rattle.miette_drawing.specs.steps.Marks.{mark_of};
 ghost use Rattle.miette_drawing.specs.steps.Sheets.{settings};
 
 use crate::marks::Mark;
@@ -47,7 +47,7 @@ fn middle_of(sheet: &Sheet, mark: &Mark) -> char
 fn push_mark<O: Canvas>(page: &mut Page<O>, sheet: &Sheet, mark: &Mark) -> Outcome
     requires { mark.now.from < mark.now.until }
     ensures { OnOk result (page.new ≡ page.old
-        ⊕ told_run (mark_run (settings sheet.now).width (settings sheet.now).characters
+        ⊕ run_tokens (mark_run (settings sheet.now).width (settings sheet.now).characters
         (mark_of sheet.now.labels.now mark.now))) }
 {
     let line = sheet.theme.characters.underline;
@@ -63,7 +63,7 @@ fn push_mark<O: Canvas>(page: &mut Page<O>, sheet: &Sheet, mark: &Mark) -> Outco
 pub(crate) fn push_marks<O: Canvas>(page: &mut Page<O>, sheet: &Sheet, marks: &[Mark]) -> Outcome
     requires { All (λ mark. mark.from < mark.until) marks.now }
     ensures { OnOk result (page.new ≡ page.old
-        ⊕ told (mark_runs (settings sheet.now).width (settings sheet.now).characters 0
+        ⊕ row_tokens (mark_runs (settings sheet.now).width (settings sheet.now).characters 0
         (map (mark_of sheet.now.labels.now) marks.now))) }
 {
     let mut reached: usize = 0;

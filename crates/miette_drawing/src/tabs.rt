@@ -4,8 +4,8 @@ ghost use Rattle.std.specs.Prelude.{◌≡◌, ◌-◌, ◌%◌, true, false, If
 ghost use Rattle.std.specs.Str.{IsUtf8, IsAscii};
 ghost use Rattle.std.specs.List.{list_all};
 ghost use Rattle.miette_page.specs.views.Printouts.{◌⊕◌};
-ghost use Rattle.miette_page.specs.views.Told.{text_told};
-ghost use Rattle.miette_drawing.specs.steps.Untabbed.{is_untabbed, is_tabbed, tabbed_codes};
+ghost use Rattle.miette_page.specs.views.Tokens.{text_tokens};
+ghost use Rattle.miette_drawing.specs.steps.Tabs.{is_untabbed, is_tabbed, tabbed_codes};
 
 use crate::sheet::Outcome;
 use memchr::memchr;
@@ -49,7 +49,7 @@ fn tab_columns(tab: usize, column: usize) -> usize
 // Bytes that are ASCII, as they are.
 fn push_stretch<O: Canvas>(page: &mut Page<O>, bytes: &[u8]) -> Outcome
     requires { IsAscii bytes.now }
-    ensures { OnOk result (page.new ≡ page.old ⊕ text_told bytes.now) }
+    ensures { OnOk result (page.new ≡ page.old ⊕ text_tokens bytes.now) }
 {
     if bytes.is_empty() {
         return Ok(());
@@ -65,7 +65,7 @@ fn push_stretch<O: Canvas>(page: &mut Page<O>, bytes: &[u8]) -> Outcome
 /// the tab width. `AllocError` where memory is refused, or a column is past the largest `usize`.
 pub(crate) fn push_tabbed<O: Canvas>(page: &mut Page<O>, text: &[u8], tab: usize) -> Outcome
     requires { IsAscii text.now }
-    ensures { OnOk result (page.new ≡ page.old ⊕ text_told (tabbed_codes tab 0 text.now)) }
+    ensures { OnOk result (page.new ≡ page.old ⊕ text_tokens (tabbed_codes tab 0 text.now)) }
 {
     let mut rest = text;
     let mut column: usize = 0;

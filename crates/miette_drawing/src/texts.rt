@@ -3,18 +3,18 @@
 ghost use Rattle.std.specs.Prelude.{◌≡◌, ◌++◌, ◌+◌, ◌∷◌, [], ◌<◌, List, chars, map, replicate, OnOk};
 ghost use Rattle.std.specs.List.{All};
 ghost use Rattle.miette_page.specs.views.Printouts.{◌⊕◌};
-ghost use Rattle.miette_page.specs.views.Told.{told, told_rows};
+ghost use Rattle.miette_page.specs.views.Tokens.{row_tokens, rows_tokens};
 ghost use Rattle.miette_lines.specs.rules.Labels.{cut_at_lf};
 ghost use Rattle.miette_snippets.specs.rules.Drawing.{lead_runs, beside, rows_of_parts, rows_below};
 ghost use Rattle.miette_snippets.specs.rules.Frames.{other_start};
 ghost use Rattle.miette_snippets.specs.rules.SnippetLayout.{before_each};
-ghost use Rattle.miette_lines.specs.views.Given.{drawn_of};
-ghost use Rattle.miette_drawing.specs.steps.Made.{mark_of};
+ghost use Rattle.miette_lines.specs.views.GivenLabels.{drawn_of};
+ghost use Rattle.miette_drawing.specs.steps.Marks.{mark_of};
 ghost use Rattle.miette_drawing.specs.steps.Sheets.{settings, before_marks, text_line};
 
 use crate::gutters::push_other_gutter;
+use crate::label_text::first_part;
 use crate::marks::Mark;
-use crate::parts::first_part;
 use crate::sheet::{Outcome, Sheet};
 use crate::strokes::anchor_of;
 use miette_lines::drawn_labels::text_of;
@@ -25,7 +25,7 @@ use std::alloc::AllocError;
 /// What stands before the gutter of a row that isn't the number row: `   · `. `AllocError` where memory is refused, or
 /// `number_width + 2` is past the largest `usize`.
 pub(crate) fn push_other_start<O: Canvas>(page: &mut Page<O>, sheet: &Sheet) -> Outcome
-    ensures { OnOk result (page.new ≡ page.old ⊕ told (other_start (settings sheet.now) sheet.now.number_width)) }
+    ensures { OnOk result (page.new ≡ page.old ⊕ row_tokens (other_start (settings sheet.now) sheet.now.number_width)) }
 {
     let Some(columns) = sheet.number_width.checked_add(2) else {
         return Err(AllocError);
@@ -37,7 +37,7 @@ pub(crate) fn push_other_start<O: Canvas>(page: &mut Page<O>, sheet: &Sheet) -> 
 
 /// What stands before the marks and the texts under a line: `   · │╰──`. It fails as `push_other_start` does.
 pub(crate) fn push_before_marks<O: Canvas>(page: &mut Page<O>, sheet: &Sheet) -> Outcome
-    ensures { OnOk result (page.new ≡ page.old ⊕ told (before_marks sheet.now)) }
+    ensures { OnOk result (page.new ≡ page.old ⊕ row_tokens (before_marks sheet.now)) }
 {
     push_other_start(page, sheet)?;
     push_other_gutter(page, sheet, sheet.gutter)?;
@@ -53,7 +53,7 @@ fn push_leads<O: Canvas>(
 ) -> Outcome
     requires { All (λ mark. mark.from < mark.until) earlier.now }
     ensures { OnOk result (page.new ≡ page.old
-        ⊕ told (lead_runs (settings sheet.now).width (settings sheet.now).characters 0
+        ⊕ row_tokens (lead_runs (settings sheet.now).width (settings sheet.now).characters 0
         (map (mark_of sheet.now.labels.now) earlier.now) column)) }
 {
     let bar = sheet.theme.characters.vbar;
@@ -84,7 +84,7 @@ fn push_text_row<O: Canvas>(
     requires earlier { All (λ mark. mark.from < mark.until) earlier.now }
     requires own { mark.now.from < mark.now.until }
     ensures { OnOk result (page.new ≡ page.old
-        ⊕ told_rows (text_line sheet.now (map (mark_of sheet.now.labels.now) earlier.now)
+        ⊕ rows_tokens (text_line sheet.now (map (mark_of sheet.now.labels.now) earlier.now)
         (mark_of sheet.now.labels.now mark.now) (front.0 ∷ front.1 ∷ front.2 ∷ 32 ∷ []) (chars part.now) ∷ [])) }
 {
     let anchor = anchor_of(mark);
@@ -108,7 +108,7 @@ fn push_more_parts<O: Canvas>(
 ) -> Outcome
     requires earlier { All (λ mark. mark.from < mark.until) earlier.now }
     requires own { mark.now.from < mark.now.until }
-    ensures { OnOk result (page.new ≡ page.old ⊕ told_rows (map
+    ensures { OnOk result (page.new ≡ page.old ⊕ rows_tokens (map
         (text_line sheet.now (map (mark_of sheet.now.labels.now) earlier.now) (mark_of sheet.now.labels.now mark.now)
         (beside (settings sheet.now).characters))
         (cut_at_lf (chars text.now)))) }
@@ -128,7 +128,7 @@ fn push_more_parts<O: Canvas>(
 fn push_text<O: Canvas>(page: &mut Page<O>, sheet: &Sheet, earlier: &[Mark], mark: &Mark) -> Outcome
     requires earlier { All (λ mark. mark.from < mark.until) earlier.now }
     requires own { mark.now.from < mark.now.until }
-    ensures { OnOk result (page.new ≡ page.old ⊕ told_rows (before_each (before_marks sheet.now)
+    ensures { OnOk result (page.new ≡ page.old ⊕ rows_tokens (before_each (before_marks sheet.now)
         (rows_of_parts (settings sheet.now).width (settings sheet.now).characters
         (map (mark_of sheet.now.labels.now) earlier.now) (mark_of sheet.now.labels.now mark.now)
         (drawn_of sheet.now.labels.now mark.now.label).parts))) }
@@ -152,7 +152,7 @@ fn push_text<O: Canvas>(page: &mut Page<O>, sheet: &Sheet, earlier: &[Mark], mar
 /// The rows of the texts of all marks, the last one's first. It fails as `push_other_start` does.
 pub(crate) fn push_texts<O: Canvas>(page: &mut Page<O>, sheet: &Sheet, marks: &[Mark]) -> Outcome
     requires { All (λ mark. mark.from < mark.until) marks.now }
-    ensures { OnOk result (page.new ≡ page.old ⊕ told_rows (before_each (before_marks sheet.now)
+    ensures { OnOk result (page.new ≡ page.old ⊕ rows_tokens (before_each (before_marks sheet.now)
         (rows_below (settings sheet.now).width (settings sheet.now).characters []
         (map (mark_of sheet.now.labels.now) marks.now)))) }
 {

@@ -8,9 +8,9 @@ use Rattle.miette_protocol.specs.declared.protocol.Severity.{Severity}
 use Rattle.miette_tree.specs.rules.DiagnosticParts.{given_labels}
 use Rattle.miette_tree.specs.rules.Tree.{effective, Tree, tree, Cause, diagnostic, texts, Trees, no_trees, more_trees}
 use Rattle.miette_graphical.specs.rules.Answers.{Answer, Answers, RelatedAnswers, own_answer, cause_answers, related_answers, first_answers, later_answers}
-use Rattle.miette_graphical.specs.rules.Indents.{narrowed}
+use Rattle.miette_graphical.specs.rules.Indents.{narrow_settings}
 use Rattle.miette_graphical.specs.rules.DiagnosticText.{SnippetRows, rows_text, under_arrow, title_text}
-use Rattle.miette_graphical.specs.rules.Printed.{Printed, over}
+use Rattle.miette_graphical.specs.rules.PrintedDiagnostics.{PrintedDiagnostic, over}
 use Rattle.miette_graphical.specs.rules.Settings.{Settings}
 use Rattle.miette_graphical.specs.rules.Text.{are_last, body_over, causes_text, ends_there, inner_over, only_if, related_text, report_text}
 use Rattle.miette_graphical.specs.laws.Alike.{answer_at, numbered_answers}
@@ -19,7 +19,7 @@ use Rattle.miette_graphical.proofs.Outermost.{report_over}
 use Rattle.miette_graphical.proofs.Paths.{first_or_later, none}
 
 -- what holds of each of a list holds of one that is in it
-pub holds_there : (P : Printed → Type 0) (ps : List Printed) (p : Printed) → AllByRecursion P ps → Contains ps p → P p
+pub holds_there : (P : PrintedDiagnostic → Type 0) (ps : List PrintedDiagnostic) (p : PrintedDiagnostic) → AllByRecursion P ps → Contains ps p → P p
 holds_there P [] p all h = absurd (none p h)
 holds_there P (q ∷ ps) p all h = elim (first_or_later q ps p h) [ inl same ↦ subst P same all.0 | inr there ↦ holds_there P ps p all.1 there ]
 
@@ -29,7 +29,7 @@ if_same false x u y v p q = q refl
 
 module _ (rows others : SnippetRows) where
   -- the rows of a printed diagnostic, under an answer and under another one
-  abbrev AreSame : Printed → Answer → Answer → Type 0
+  abbrev AreSame : PrintedDiagnostic → Answer → Answer → Type 0
   AreSame p a b = (u : Settings) → rows u p.source (given_labels p.meaning.labels) a ≡ others u p.source (given_labels p.meaning.labels) b
 
   same_drawn : (u : Settings) (source : Option Source) (m : Meaning) (a b : Answer) → AreSame (over source m) a b →
@@ -38,12 +38,12 @@ module _ (rows others : SnippetRows) where
 
   mutual
     causes_alike : (s : Settings) (outer : Option Severity) (inherited : Option Source) (c : Cause) (a b : Answers) (nested : Bool) → s.nested ≡ nested →
-        ((path : List Step) (p : Printed) → at_cause nested inherited c path ≡ Some p → AreSame p (answer_at a path) (answer_at b path)) →
+        ((path : List Step) (p : PrintedDiagnostic) → at_cause nested inherited c path ≡ Some p → AreSame p (answer_at a path) (answer_at b path)) →
         causes_text rows s outer inherited c a ≡ causes_text others s outer inherited c b
     causes_alike s outer inherited (texts ts) a b nested w h = refl
     causes_alike s outer inherited (diagnostic (tree m own c r)) a b nested w h =
         let source = effective own inherited in
-        let n = narrowed s outer (ends_there c) in
+        let n = narrow_settings s outer (ends_there c) in
         ap₂ (λ x y. x ++ y)
         (ap (under_arrow s outer (ends_there c))
         (ap₂ (inner_over n m) (same_drawn n source m (own_answer a) (own_answer b) (h [] (over source m) refl))
@@ -51,12 +51,12 @@ module _ (rows others : SnippetRows) where
         (causes_alike s outer inherited c (cause_answers a) (cause_answers b) nested w (λ path. h (to_cause ∷ path)))
 
     related_alike : (s : Settings) (outer : Option Severity) (inherited : Option Source) (ts : Trees) (a b : RelatedAnswers) (nested : Bool) → s.nested ≡ nested →
-        ((k : ℕ) (path : List Step) (p : Printed) → at_related nested inherited ts k path ≡ Some p → AreSame p (answer_at (numbered_answers a k) path) (answer_at (numbered_answers b k) path)) →
+        ((k : ℕ) (path : List Step) (p : PrintedDiagnostic) → at_related nested inherited ts k path ≡ Some p → AreSame p (answer_at (numbered_answers a k) path) (answer_at (numbered_answers b k) path)) →
         related_text rows s outer inherited ts a ≡ related_text others s outer inherited ts b
     related_alike s outer inherited no_trees a b nested w h = refl
     related_alike s outer inherited (more_trees (tree m own c r) ts) a b true w h =
         let source = effective own inherited in
-        let n = narrowed s outer (are_last ts) in
+        let n = narrow_settings s outer (are_last ts) in
         ap₂ (λ x y. x ++ y)
         (if_same s.nested _ _ _ _
         (λ y. ap (λ x. under_arrow s outer (are_last ts) (without_trailing x))
@@ -77,13 +77,13 @@ module _ (rows others : SnippetRows) where
         (related_alike s outer inherited ts (later_answers a) (later_answers b) false w (λ k path. h (suc k) path))
 
   root_alike : (chain : Bool) (s : Settings) (m : Meaning) (own : Option Source) (c : Cause) (a b : Answers) →
-      ((path : List Step) (p : Printed) → (if chain then at_cause s.nested own c path else None) ≡ Some p → AreSame p (answer_at a path) (answer_at b path)) →
+      ((path : List Step) (p : PrintedDiagnostic) → (if chain then at_cause s.nested own c path else None) ≡ Some p → AreSame p (answer_at a path) (answer_at b path)) →
       only_if chain (causes_text rows s m.severity own c a) ≡ only_if chain (causes_text others s m.severity own c b)
   root_alike true s m own c a b h = causes_alike s m.severity own c a b s.nested refl h
   root_alike false s m own c a b h = refl
 
   pub report_alike : (s : Settings) (t : Tree) (a b : Answers) →
-      ((path : List Step) (p : Printed) → printed_at s t path ≡ Some p → AreSame p (answer_at a path) (answer_at b path)) → report_text rows s t a ≡ report_text others s t b
+      ((path : List Step) (p : PrintedDiagnostic) → printed_at s t path ≡ Some p → AreSame p (answer_at a path) (answer_at b path)) → report_text rows s t a ≡ report_text others s t b
   report_alike s (tree m own c r) a b h =
       ap (λ x. report_over s m x (only_if s.chain (causes_text rows s m.severity own c (cause_answers a))) (related_text rows s m.severity own r (related_answers a)))
       (same_drawn s own m (own_answer a) (own_answer b) (h [] (over own m) refl))

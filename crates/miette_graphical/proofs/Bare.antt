@@ -11,13 +11,13 @@ use Rattle.miette_style.specs.rules.Themes.{Styles}
 use Rattle.miette_graphical.specs.rules.Settings.{Settings}
 use Rattle.miette_graphical.specs.rules.Answers.{Answers, unlisted, listed, RelatedAnswers, no_more, and_more, nothing_listed, own_answer, cause_answers, related_answers, first_answers, later_answers}
 use Rattle.miette_graphical.specs.laws.Colourless.{colourless, unhighlighted_answer, unhighlighted, unhighlighted_related}
-use Rattle.miette_graphical.specs.rules.Indents.{narrowed}
+use Rattle.miette_graphical.specs.rules.Indents.{narrow_settings}
 use Rattle.miette_graphical.specs.rules.DiagnosticText.{SnippetRows, rows_text, under_arrow, title_text}
 use Rattle.miette_tree.specs.rules.DiagnosticParts.{given_labels}
-use Rattle.miette_graphical.specs.rules.Printed.{always_reads, all_read, printed, printed_causes, printed_related, printed_inner, printed_sibling}
+use Rattle.miette_graphical.specs.rules.PrintedDiagnostics.{always_reads, all_read, diagnostics_of, printed_causes, printed_related, printed_inner, printed_sibling}
 use Rattle.miette_graphical.specs.rules.Snippets.{layout_settings}
 use Rattle.miette_graphical.specs.rules.Text.{ends_there, are_last, only_if, body, inner_text, causes_text, related_text, report_text}
-use Rattle.miette_graphical.specs.rules.Answered.{IsAnswer, AreCauseAnswers, AreRelatedAnswers, AreAnswers}
+use Rattle.miette_graphical.specs.rules.PossibleAnswers.{IsAnswer, AreCauseAnswers, AreRelatedAnswers, AreAnswers}
 use Rattle.miette_graphical.proofs.Lists.{both_read}
 use Rattle.miette_graphical.proofs.Outermost.{report_over}
 
@@ -61,7 +61,7 @@ mutual
   bare-causes l blank rows s outer inherited (texts ts) a nested w h e = refl
   bare-causes l blank rows s outer inherited (diagnostic (tree m own c r)) a nested w h e =
       let source = effective own inherited in
-      let n = narrowed s outer (ends_there c) in
+      let n = narrow_settings s outer (ends_there c) in
       let p = both_read (printed_inner nested source (tree m own c r)) (printed_causes nested inherited c) e in
       let q = and_parts (always_reads source m) (all_read (printed_related nested source r)) p.0 in
       ap₂ (λ x y. x ++ y)
@@ -77,7 +77,7 @@ mutual
   bare-related l blank rows s outer inherited (more_trees t ts) no_more nested w h e = refl
   bare-related l blank rows s outer inherited (more_trees (tree m own c r) ts) (and_more a later) true w h e =
       let source = effective own inherited in
-      let n = narrowed s outer (are_last ts) in
+      let n = narrow_settings s outer (are_last ts) in
       let p = both_read (printed_inner true source (tree m own c r)) (printed_related true inherited ts) e in
       let q = and_parts (always_reads source m) (all_read (printed_related true source r)) p.0 in
       ap₂ (λ x y. x ++ y)
@@ -107,7 +107,7 @@ bare-root : (l : frames.SnippetSettings) (blank : Bool) (rows : SnippetRows) (s 
 bare-root l blank rows s m own c a true nested w h e = bare-causes l blank rows s m.severity own c a nested w (h refl) e
 bare-root l blank rows s m own c a false nested w h e = refl
 
-pub bare-report : (rows : SnippetRows) (s : Settings) (blank : Bool) (t : Tree) (a : Answers) → AreAnswers s blank t a → all_read (printed s t) ≡ true →
+pub bare-report : (rows : SnippetRows) (s : Settings) (blank : Bool) (t : Tree) (a : Answers) → AreAnswers s blank t a → all_read (diagnostics_of s t) ≡ true →
     report_text rows (colourless s) t (unhighlighted a) ≡ report_text rows (colourless s) t unlisted
 bare-report rows s blank (tree m own c r) a h e =
     let l = layout_settings s in
@@ -121,5 +121,5 @@ bare-report rows s blank (tree m own c r) a h e =
     (ap (related_text rows u m.severity own r) (sym (related-bare a)) ∙ bare-related l blank rows u m.severity own r (related_answers a) s.nested refl h.2 q.1)
 
 -- which diagnostics are printed is the same in any styles
-pub restyled-printed : (s : Settings) (styles : Styles) (t : Tree) → printed (record s { styles = styles }) t ≡ printed s t
+pub restyled-printed : (s : Settings) (styles : Styles) (t : Tree) → diagnostics_of (record s { styles = styles }) t ≡ diagnostics_of s t
 restyled-printed s styles (tree m own c r) = refl

@@ -5,26 +5,26 @@ use Rattle.miette_protocol.specs.rules.Reading.{Source, Span}
 use Rattle.miette_style.specs.rules.Codes.{is_nil}
 use Rattle.miette_lines.specs.rules.Answers.{Highlight, NoneFails, AlwaysReads, next_answer, later_answers}
 use Rattle.miette_lines.specs.rules.Contexts.{is_accepted, contents, lines_of_contents}
-use Rattle.miette_style.specs.rules.Asked.{Call, Leads}
-use Rattle.miette_layout.specs.views.Drawn.{MayGive}
+use Rattle.miette_style.specs.rules.HighlighterCalls.{Call, Leads}
+use Rattle.miette_layout.specs.views.Outcomes.{MayGive}
 use Rattle.miette_snippets.specs.rules.Frames as frames
 use Rattle.miette_snippets.specs.rules.Frames.{refused_row}
 use Rattle.miette_lines.specs.rules.Around.{has_own, group_context}
-use Rattle.miette_lines.specs.rules.Groups.{refusal, joins_before, joined, groups_from, groups_answered, own_groups, groups_of, some_fails, groups_fail, in_order, spans_of}
-use Rattle.miette_snippets.specs.rules.Highlighted.{EachHasPieces, SnippetsHavePieces, texts_of, group_calls, snippet_calls}
+use Rattle.miette_lines.specs.rules.Groups.{refusal, joins_before, joined_span, groups_from, groups_answered, own_groups, groups_of, some_fails, groups_fail, in_order, spans_of}
+use Rattle.miette_snippets.specs.rules.Highlighting.{EachHasPieces, SnippetsHavePieces, texts_of, group_calls, snippet_calls}
 use Rattle.miette_snippets.specs.rules.SnippetLayout.{snippet_rows, rows_unless, rows_of_groups, settings_around, all_snippets}
 use Rattle.miette_page.specs.rules.Rows.{Row}
-use Rattle.miette_page.specs.views.Told.{told_rows}
-use Rattle.miette_page.specs.views.Printouts.{Printout, printout_of, ended, ◌⊕◌}
+use Rattle.miette_page.specs.views.Tokens.{rows_tokens}
+use Rattle.miette_page.specs.views.Printouts.{Printout, printout_of, ended_text, ◌⊕◌}
 use Rattle.miette_tree.specs.views.Handler.{AppendsOne}
 use Rattle.miette_graphical.specs.rules.Answers.{Answer, nothing_listed, pieces_listed}
-use Rattle.miette_graphical.specs.rules.Answered.{HasRows, HasPieces, IsAnswerOf, AreDrawn, IsDrawn}
-use Rattle.miette_graphical.specs.rules.Printed.{always_reads}
+use Rattle.miette_graphical.specs.rules.PossibleAnswers.{HasRows, HasPieces, IsAnswerOf, AreDrawn, IsDrawn}
+use Rattle.miette_graphical.specs.rules.PrintedDiagnostics.{always_reads}
 use Rattle.miette_graphical.specs.rules.DiagnosticText.{rows_text}
 use Rattle.miette_tree.specs.rules.DiagnosticParts.{given_labels}
 use Rattle.miette_graphical.specs.rules.Settings.{Settings}
 use Rattle.miette_graphical.specs.rules.Snippets.{layout_settings, shown_rows, drawn_rows}
-use Rattle.miette_graphical.proofs.Printed.{rows_printed}
+use Rattle.miette_graphical.proofs.PrintedRows.{rows_printed}
 
 next_none : (fails : List Bool) → NoneFails fails → next_answer fails ≡ false
 next_none [] h = refl
@@ -46,10 +46,10 @@ groups_none : (context : ℕ) (source : Source) (before : Span) (fails : List Bo
 groups_none context source before fails [] h = refl
 groups_none context source before fails (span ∷ spans) h =
     ap (λ b. if joins_before context source before span then
-    (if b then before ∷ groups_from context source span (later_answers fails) spans else groups_from context source (joined before span) (later_answers fails) spans)
+    (if b then before ∷ groups_from context source span (later_answers fails) spans else groups_from context source (joined_span before span) (later_answers fails) spans)
     else before ∷ groups_from context source span fails spans) (next_none fails h)
     ∙ ap₂ (λ x y. if joins_before context source before span then x else before ∷ y)
-    (groups_none context source (joined before span) (later_answers fails) spans (later_none fails h))
+    (groups_none context source (joined_span before span) (later_answers fails) spans (later_none fails h))
     (groups_none context source span fails spans h)
 
 answered_none : (context : ℕ) (source : Source) (fails : List Bool) (spans : List Span) → NoneFails fails →
@@ -136,15 +136,15 @@ decide : (b : Bool) → (b ≡ true) ⊎ (b ≡ false)
 decide true = inl refl
 decide false = inr refl
 
-page_given : (text : List ℕ) (rows : Option (List Row)) (page : Printout) → Some page ≡ option_map (λ rows. printout_of text ⊕ told_rows rows) rows → ended page ≡ text ++ rows_text (shown_rows rows)
+page_given : (text : List ℕ) (rows : Option (List Row)) (page : Printout) → Some page ≡ option_map (λ rows. printout_of text ⊕ rows_tokens rows) rows → ended_text page ≡ text ++ rows_text (shown_rows rows)
 page_given text None page e = absurd (cc)
-page_given text (Some rows) page e = let same : page ≡ printout_of text ⊕ told_rows rows = cc in ap ended same ∙ rows_printed text rows
+page_given text (Some rows) page e = let same : page ≡ printout_of text ⊕ rows_tokens rows = cc in ap ended_text same ∙ rows_printed text rows
 
-rows_some : (before : Printout) (rows : Option (List Row)) (page : Printout) → Some page ≡ option_map (λ rows. before ⊕ told_rows rows) rows → is_some rows ≡ true
+rows_some : (before : Printout) (rows : Option (List Row)) (page : Printout) → Some page ≡ option_map (λ rows. before ⊕ rows_tokens rows) rows → is_some rows ≡ true
 rows_some before None page e = absurd (cc)
 rows_some before (Some rows) page e = refl
 
-rows_none : (before : Printout) (rows : Option (List Row)) → None ≡ option_map (λ rows. before ⊕ told_rows rows) rows → rows ≡ None
+rows_none : (before : Printout) (rows : Option (List Row)) → None ≡ option_map (λ rows. before ⊕ rows_tokens rows) rows → rows ≡ None
 rows_none before None e = refl
 rows_none before (Some rows) e = absurd (cc)
 
@@ -180,7 +180,7 @@ drawn_text {happen} s source labels blank before page g =
     ]
 
 pub drawn_page : {happen : List Call → Type 0} (s : Settings) (source : Source) (labels : List Label) (blank : Bool) (before : List ℕ) (page : Printout) →
-    MayGive (layout_settings s) source labels blank happen (printout_of before) (Some page) → AppendsOne (AreDrawn s blank happen source labels) before (ended page)
+    MayGive (layout_settings s) source labels blank happen (printout_of before) (Some page) → AppendsOne (AreDrawn s blank happen source labels) before (ended_text page)
 drawn_page {happen} s source labels blank before page g =
     let l = layout_settings s in
     let a = g.answers in

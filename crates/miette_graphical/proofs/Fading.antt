@@ -4,7 +4,7 @@ use Rattle.miette_runs.specs.rules.Sequences.{tokens, erase}
 use Rattle.miette_text.specs.rules.Tame.{IsTame, AllTame}
 use Rattle.miette_runs.specs.rules.Runs.{Fragment, HaveNoEscape, plain_run, print}
 use Rattle.miette_runs.specs.rules.Cutting.{without_leading, without_trailing}
-use Rattle.miette_text.specs.rules.Wrapping.{Plan, wrapped}
+use Rattle.miette_text.specs.rules.Wrapping.{Plan, wrapped_text}
 use Rattle.miette_runs.specs.rules.Cells.{columns_of}
 use Rattle.miette_graphical.proofs.TextLaws.{TextLaws, plain-tame, plain-erase}
 use Rattle.miette_graphical.specs.rules.Settings.{Settings}
@@ -65,9 +65,9 @@ module _ (laws : TextLaws) where
         tame = laws.wrapped-tame (plan s (print f) (print g)) x all;
         same =
             laws.erase-wrapped (plan s (print f) (print g)) x all
-            ∙ ap (λ t. wrapped (plan s t (erase (print g))) (erase x)) p.same
-            ∙ ap (λ t. wrapped (plan s (print f2) t) (erase x)) q.same
-            ∙ ap (λ t. wrapped (plan s (print f2) (print g2)) t) h.same;
+            ∙ ap (λ t. wrapped_text (plan s t (erase (print g))) (erase x)) p.same
+            ∙ ap (λ t. wrapped_text (plan s (print f2) t) (erase x)) q.same
+            ∙ ap (λ t. wrapped_text (plan s (print f2) (print g2)) t) h.same;
       }
 
   -- Colours have no columns.

@@ -10,12 +10,12 @@ pub mod Steps
 pub mod Remaining
 pub mod TextLaws
 pub mod Only
-pub mod Printed
+pub mod PrintedRows
 pub mod Paths
 pub mod Alike
 pub mod DrawnRows
 pub mod SnippetsFading
-pub mod Styled
+pub mod Styling
 pub mod Themes
-pub mod Rendered
+pub mod RenderedBytes
 pub mod Stateless

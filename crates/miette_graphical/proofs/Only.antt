@@ -9,13 +9,13 @@ use Rattle.miette_tree.specs.rules.Tree.{Tree, tree, Cause, diagnostic, texts, T
 use Rattle.miette_snippets.specs.rules.Frames as frames
 use Rattle.miette_graphical.specs.rules.Settings.{Settings}
 use Rattle.miette_graphical.specs.rules.Answers.{Answer, pieces_listed, Answers, unlisted, RelatedAnswers, no_more, nothing_listed, cause_answers, related_answers, first_answers, later_answers}
-use Rattle.miette_graphical.specs.rules.Indents.{narrowed}
+use Rattle.miette_graphical.specs.rules.Indents.{narrow_settings}
 use Rattle.miette_graphical.specs.rules.DiagnosticText.{SnippetRows, rows_text, under_arrow, title_text}
 use Rattle.miette_tree.specs.rules.DiagnosticParts.{given_labels}
-use Rattle.miette_graphical.specs.rules.Printed.{always_reads, all_read, printed, printed_causes, printed_related, printed_inner, printed_sibling}
+use Rattle.miette_graphical.specs.rules.PrintedDiagnostics.{always_reads, all_read, diagnostics_of, printed_causes, printed_related, printed_inner, printed_sibling}
 use Rattle.miette_graphical.specs.rules.Snippets.{layout_settings}
 use Rattle.miette_graphical.specs.rules.Text.{ends_there, are_last, only_if, body, inner_text, causes_text, related_text, report_text}
-use Rattle.miette_graphical.specs.rules.Answered.{IsAnswerOf, AreCauseAnswers, AreRelatedAnswers, AreAnswers}
+use Rattle.miette_graphical.specs.rules.PossibleAnswers.{IsAnswerOf, AreCauseAnswers, AreRelatedAnswers, AreAnswers}
 use Rattle.miette_graphical.proofs.Lists.{both_read}
 use Rattle.miette_graphical.proofs.Outermost.{report_over}
 
@@ -33,7 +33,7 @@ mutual
   same-causes l rows s outer inherited (texts ts) a nested w h e = refl
   same-causes l rows s outer inherited (diagnostic (tree m own c r)) a nested w h e =
       let source = effective own inherited in
-      let n = narrowed s outer (ends_there c) in
+      let n = narrow_settings s outer (ends_there c) in
       let p = both_read (printed_inner nested source (tree m own c r)) (printed_causes nested inherited c) e in
       let q = and_parts (always_reads source m) (all_read (printed_related nested source r)) p.0 in
       ap₂ (λ x y. x ++ y)
@@ -47,7 +47,7 @@ mutual
   same-related l rows s outer inherited no_trees more nested w h e = refl
   same-related l rows s outer inherited (more_trees (tree m own c r) ts) more true w h e =
       let source = effective own inherited in
-      let n = narrowed s outer (are_last ts) in
+      let n = narrow_settings s outer (are_last ts) in
       let a = first_answers more in
       let p = both_read (printed_inner true source (tree m own c r)) (printed_related true inherited ts) e in
       let q = and_parts (always_reads source m) (all_read (printed_related true source r)) p.0 in
@@ -78,7 +78,7 @@ same-root : (l : frames.SnippetSettings) (rows : SnippetRows) (s : Settings) (m 
 same-root l rows s m own c a true h e = same-causes l rows s m.severity own c a s.nested refl (h refl) e
 same-root l rows s m own c a false h e = refl
 
-pub same-report : (rows : SnippetRows) (s : Settings) (t : Tree) (a : Answers) → AreAnswers s true t a → all_read (printed s t) ≡ true →
+pub same-report : (rows : SnippetRows) (s : Settings) (t : Tree) (a : Answers) → AreAnswers s true t a → all_read (diagnostics_of s t) ≡ true →
     report_text rows s t a ≡ report_text rows s t unlisted
 same-report rows s (tree m own c r) a h e =
     let l = layout_settings s in

@@ -14,7 +14,7 @@ use Rattle.miette_graphical.specs.rules.Settings.{Settings, Urls, AsLinks, AsTex
 use Rattle.miette_style.specs.rules.Themes.{Characters, Styles}
 use Rattle.miette_graphical.proofs.TextLaws.{TextLaws}
 use Rattle.miette_graphical.specs.rules.Answers.{Answer}
-use Rattle.miette_graphical.specs.rules.Indents.{bare, spaces, wrapped_under, icon_indent, bar_indent, arrow_text, stem_text, arrow_indent, stem_indent, help_indent, further_help_indent, footer_indent, narrowed}
+use Rattle.miette_graphical.specs.rules.Indents.{bare_text, spaces, wrapped_under, icon_indent, bar_indent, arrow_text, stem_text, arrow_indent, stem_indent, help_indent, further_help_indent, footer_indent, narrow_settings}
 use Rattle.miette_graphical.specs.rules.DiagnosticText.{footer_of, line_feed, header, header_by, message_text, help_text, footer_text, under_arrow, severity_title, header_or_end, title_text, SnippetRows, rows_text}
 use Rattle.miette_tree.specs.rules.DiagnosticParts.{given_labels}
 use Rattle.miette_graphical.specs.rules.Text.{cause_texts, body, inner_text}
@@ -22,7 +22,7 @@ use Rattle.miette_tree.specs.rules.Tree.{effective}
 use Rattle.std.specs.List.{AllByRecursion}
 use Rattle.miette_snippet_laws.specs.laws.Clean.{IsClean, IsCleanCode, IsCleanText, IsCleanLabel, IsCleanSource}
 use Rattle.miette_graphical.specs.laws.Clean.{AreCleanCharacters, AreCleanSettings, AreCleanLabels, IsCleanMeaning}
-use Rattle.miette_graphical.specs.laws.Colourless.{faded, colourless, unhighlighted_answer, AreSnippets}
+use Rattle.miette_graphical.specs.laws.Colourless.{faded_styles, colourless, unhighlighted_answer, AreSnippets}
 use Rattle.miette_graphical.proofs.Fading.{Fades, Pales, fades-to, fades-append, fades-clean, fades-print, fades-leading, fades-under, fades-feed, fades-rows, columns-pale}
 
 module _ (laws : TextLaws) where
@@ -37,7 +37,7 @@ module _ (laws : TextLaws) where
 
   -- ---- styles and characters
 
-  style-faded : (s : Styles) (v : Option Severity) → plain ≡ style_in (faded s) v
+  style-faded : (s : Styles) (v : Option Severity) → plain ≡ style_in (faded_styles s) v
   style-faded s None = refl
   style-faded s (Some Error) = refl
   style-faded s (Some Warning) = refl
@@ -66,13 +66,13 @@ module _ (laws : TextLaws) where
   pale-icon : (s : Settings) (v : Option Severity) → AreCleanSettings s → Pales (icon_indent s v) (icon_indent (colourless s) v)
   pale-icon s v h = record {
     clean = (refl, (icon-clean s.characters v h.0, (refl, tt)));
-    same = ap (λ st. bare (spaces 2) ∷ Styled st (icon s v) ∷ bare (spaces 1) ∷ []) (style-faded s.styles v);
+    same = ap (λ st. bare_text (spaces 2) ∷ Styled st (icon s v) ∷ bare_text (spaces 1) ∷ []) (style-faded s.styles v);
   }
 
   pale-bar : (s : Settings) (v : Option Severity) → AreCleanSettings s → Pales (bar_indent s v) (bar_indent (colourless s) v)
   pale-bar s v h = let k = h.0.drawings in record {
     clean = (refl, (clean-cons s.characters.vbar [] k.vbar refl, (refl, tt)));
-    same = ap (λ st. bare (spaces 2) ∷ Styled st (s.characters.vbar ∷ []) ∷ bare (spaces 1) ∷ []) (style-faded s.styles v);
+    same = ap (λ st. bare_text (spaces 2) ∷ Styled st (s.characters.vbar ∷ []) ∷ bare_text (spaces 1) ∷ []) (style-faded s.styles v);
   }
 
   -- what an arrow draws is the same in all styles
@@ -97,7 +97,7 @@ module _ (laws : TextLaws) where
   }
 
   -- Colours change no inner width.
-  pub narrowed-faded : (s : Settings) (v : Option Severity) (b : Bool) → AreCleanSettings s → colourless (narrowed s v b) ≡ narrowed (colourless s) v b
+  pub narrowed-faded : (s : Settings) (v : Option Severity) (b : Bool) → AreCleanSettings s → colourless (narrow_settings s v b) ≡ narrow_settings (colourless s) v b
   narrowed-faded s v b h = ap (λ n. record (colourless s) { width = s.width - n }) (sym (columns-pale laws (stem_indent s v b) (stem_indent (colourless s) v b) (pale-stem s v b h)))
 
   -- ---- header

@@ -5,24 +5,24 @@ use Rattle.std.proofs.lemmas.List.Elements.{Contains-append_left, Contains-appen
 use Rattle.miette_protocol.specs.rules.Reading.{Source}
 use Rattle.miette_tree.specs.rules.Tree.{effective, Tree, tree, Cause, diagnostic, texts, Trees, no_trees, more_trees}
 use Rattle.miette_graphical.specs.rules.Settings.{Settings}
-use Rattle.miette_graphical.specs.rules.Printed.{Printed, over, printed, printed_causes, printed_related}
+use Rattle.miette_graphical.specs.rules.PrintedDiagnostics.{PrintedDiagnostic, over, diagnostics_of, printed_causes, printed_related}
 use Rattle.miette_graphical.specs.laws.Paths.{Step, to_cause, to_related, at_cause, at_related, printed_at, HasPath}
 
 -- ---- lists
 
-pub none : (p : Printed) → Contains [] p → ⊥
+pub none : (p : PrintedDiagnostic) → Contains [] p → ⊥
 none p h = let below = h.1 in omega arith
 
-only_one : (q p : Printed) → Contains (q ∷ []) p → q ≡ p
+only_one : (q p : PrintedDiagnostic) → Contains (q ∷ []) p → q ≡ p
 only_one q p h = elim (Contains-push_cases [] q p h) [ inl nowhere ↦ absurd (none p nowhere) | inr same ↦ same ]
 
-pub first_or_later : (q : Printed) (ps : List Printed) (p : Printed) → Contains (q ∷ ps) p → (q ≡ p) ⊎ Contains ps p
+pub first_or_later : (q : PrintedDiagnostic) (ps : List PrintedDiagnostic) (p : PrintedDiagnostic) → Contains (q ∷ ps) p → (q ≡ p) ⊎ Contains ps p
 first_or_later q ps p h = elim (Contains-append_cases (q ∷ []) ps p h) [ inl here ↦ inl (only_one q p here) | inr later ↦ inr later ]
 
-first : (q : Printed) (ps : List Printed) (p : Printed) → q ≡ p → Contains (q ∷ ps) p
+first : (q : PrintedDiagnostic) (ps : List PrintedDiagnostic) (p : PrintedDiagnostic) → q ≡ p → Contains (q ∷ ps) p
 first q ps p e = subst (λ x. Contains (q ∷ ps) x) e (zero, omega arith, refl)
 
-later : (q : Printed) (ps : List Printed) (p : Printed) → Contains ps p → Contains (q ∷ ps) p
+later : (q : PrintedDiagnostic) (ps : List PrintedDiagnostic) (p : PrintedDiagnostic) → Contains ps p → Contains (q ∷ ps) p
 later q ps p h = Contains-append_right (q ∷ []) ps p h
 
 given : {A : Type 0} (x y : A) → Some x ≡ Some y → x ≡ y
@@ -30,14 +30,14 @@ given x y e = cc
 
 -- ---- each has a path
 
-abbrev IsAt : (List Step → Option Printed) → Printed → Type 0
+abbrev IsAt : (List Step → Option PrintedDiagnostic) → PrintedDiagnostic → Type 0
 IsAt at p = (path : List Step) × (at path ≡ Some p)
 
-abbrev IsAmong : (ℕ → List Step → Option Printed) → Printed → Type 0
+abbrev IsAmong : (ℕ → List Step → Option PrintedDiagnostic) → PrintedDiagnostic → Type 0
 IsAmong at p = (k : ℕ) × IsAt (at k) p
 
 mutual
-  cause_named : (nested : Bool) (inherited : Option Source) (c : Cause) (p : Printed) → Contains (printed_causes nested inherited c) p → IsAt (at_cause nested inherited c) p
+  cause_named : (nested : Bool) (inherited : Option Source) (c : Cause) (p : PrintedDiagnostic) → Contains (printed_causes nested inherited c) p → IsAt (at_cause nested inherited c) p
   cause_named nested inherited (texts ts) p h = absurd (none p h)
   cause_named nested inherited (diagnostic (tree m own c r)) p h =
       let source = effective own inherited in
@@ -49,7 +49,7 @@ mutual
         | inr further ↦ (let n = cause_named nested inherited c p further in (to_cause ∷ n.0, n.1))
       ]
 
-  related_named : (nested : Bool) (inherited : Option Source) (ts : Trees) (p : Printed) → Contains (printed_related nested inherited ts) p → IsAmong (at_related nested inherited ts) p
+  related_named : (nested : Bool) (inherited : Option Source) (ts : Trees) (p : PrintedDiagnostic) → Contains (printed_related nested inherited ts) p → IsAmong (at_related nested inherited ts) p
   related_named nested inherited no_trees p h = absurd (none p h)
   related_named true inherited (more_trees (tree m own c r) ts) p h =
       let source = effective own inherited in
@@ -73,12 +73,12 @@ mutual
         | inr further ↦ (let n = related_named false inherited ts p further in (suc n.0, (n.1.0, n.1.1)))
       ]
 
-root_named : (chain nested : Bool) (own : Option Source) (c : Cause) (p : Printed) → Contains (if chain then printed_causes nested own c else []) p →
+root_named : (chain nested : Bool) (own : Option Source) (c : Cause) (p : PrintedDiagnostic) → Contains (if chain then printed_causes nested own c else []) p →
     IsAt (λ path. if chain then at_cause nested own c path else None) p
 root_named true nested own c p h = cause_named nested own c p h
 root_named false nested own c p h = absurd (none p h)
 
-pub named : (s : Settings) (t : Tree) (p : Printed) → Contains (printed s t) p → HasPath s t p
+pub named : (s : Settings) (t : Tree) (p : PrintedDiagnostic) → Contains (diagnostics_of s t) p → HasPath s t p
 named s (tree m own c r) p h =
     let causes = if s.chain then printed_causes s.nested own c else [] in
     elim (first_or_later (over own m) (causes ++ printed_related s.nested own r) p h) [
@@ -92,7 +92,7 @@ named s (tree m own c r) p h =
 -- ---- what stands at a path is printed
 
 mutual
-  cause_printed : (nested : Bool) (inherited : Option Source) (c : Cause) (path : List Step) (p : Printed) → at_cause nested inherited c path ≡ Some p → Contains (printed_causes nested inherited c) p
+  cause_printed : (nested : Bool) (inherited : Option Source) (c : Cause) (path : List Step) (p : PrintedDiagnostic) → at_cause nested inherited c path ≡ Some p → Contains (printed_causes nested inherited c) p
   cause_printed nested inherited (texts ts) path p h = absurd (cc)
   cause_printed nested inherited (diagnostic (tree m own c r)) [] p h =
       let source = effective own inherited in
@@ -104,7 +104,7 @@ mutual
       Contains-append_left (over source m ∷ printed_related nested source r) (printed_causes nested inherited c) p
       (later (over source m) (printed_related nested source r) p (related_printed nested source r k path p h))
 
-  related_printed : (nested : Bool) (inherited : Option Source) (ts : Trees) (k : ℕ) (path : List Step) (p : Printed) → at_related nested inherited ts k path ≡ Some p →
+  related_printed : (nested : Bool) (inherited : Option Source) (ts : Trees) (k : ℕ) (path : List Step) (p : PrintedDiagnostic) → at_related nested inherited ts k path ≡ Some p →
       Contains (printed_related nested inherited ts) p
   related_printed nested inherited no_trees k path p h = absurd (cc)
   related_printed nested inherited (more_trees (tree m own c r) ts) zero [] p h =
@@ -127,12 +127,12 @@ mutual
       Contains-append_right (over source m ∷ ((if nested then [] else printed_causes nested source c) ++ printed_related nested source r)) (printed_related nested inherited ts) p
       (related_printed nested inherited ts k path p h)
 
-root_printed : (chain nested : Bool) (own : Option Source) (c : Cause) (path : List Step) (p : Printed) → (if chain then at_cause nested own c path else None) ≡ Some p →
+root_printed : (chain nested : Bool) (own : Option Source) (c : Cause) (path : List Step) (p : PrintedDiagnostic) → (if chain then at_cause nested own c path else None) ≡ Some p →
     Contains (if chain then printed_causes nested own c else []) p
 root_printed true nested own c path p h = cause_printed nested own c path p h
 root_printed false nested own c path p h = absurd (cc)
 
-pub printed_there : (s : Settings) (t : Tree) (path : List Step) (p : Printed) → printed_at s t path ≡ Some p → Contains (printed s t) p
+pub printed_there : (s : Settings) (t : Tree) (path : List Step) (p : PrintedDiagnostic) → printed_at s t path ≡ Some p → Contains (diagnostics_of s t) p
 printed_there s (tree m own c r) [] p h = first (over own m) _ p (given _ _ h)
 printed_there s (tree m own c r) (to_cause ∷ path) p h =
     let causes = if s.chain then printed_causes s.nested own c else [] in

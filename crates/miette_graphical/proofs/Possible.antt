@@ -14,8 +14,8 @@ use Rattle.miette_page.specs.rules.Rows.{Row, pieces_of}
 use Rattle.miette_graphical.specs.rules.Settings.{Settings}
 use Rattle.miette_graphical.specs.rules.Snippets.{layout_settings}
 use Rattle.miette_graphical.specs.rules.Answers.{Answer, Answers, unlisted, RelatedAnswers, no_more, and_more, own_answer, cause_answers, related_answers}
-use Rattle.miette_graphical.specs.rules.Answered.{AreAnswers, AreCauseAnswers, AreRelatedAnswers, HasPieces, HasRows, IsAnswer, IsAnswerOf}
-use Rattle.miette_graphical.specs.rules.Printed.{always_reads}
+use Rattle.miette_graphical.specs.rules.PossibleAnswers.{AreAnswers, AreCauseAnswers, AreRelatedAnswers, HasPieces, HasRows, IsAnswer, IsAnswerOf}
+use Rattle.miette_graphical.specs.rules.PrintedDiagnostics.{always_reads}
 use Rattle.miette_graphical.specs.laws.Colourless.{colourless, unhighlighted, unhighlighted_answer, unhighlighted_related}
 use Rattle.miette_graphical.proofs.Bare.{own-bare, cause-bare, related-bare}
 use Rattle.miette_graphical.proofs.DrawnRows.{none_have}
@@ -23,7 +23,7 @@ use Rattle.miette_graphical.proofs.DrawnRows.{none_have}
 -- in plain styles the rows have the same characters, which the layer of snippets promises
 abbrev pub AreRowsKept : Type 0
 AreRowsKept = (s : frames.SnippetSettings) (source : Source) (labels : List Label) (answers : layout.Answers) →
-    option_map (map pieces_of) (snippet_rows (fading.colourless s) source labels (fading.unhighlighted answers)) ≡ option_map (map pieces_of) (snippet_rows s source labels answers)
+    option_map (map pieces_of) (snippet_rows (fading.colourless s) source labels (fading.unhighlighted_answers answers)) ≡ option_map (map pieces_of) (snippet_rows s source labels answers)
 
 some_kept : (plain rows : Option (List Row)) → option_map (map pieces_of) plain ≡ option_map (map pieces_of) rows → is_some rows ≡ true → is_some plain ≡ true
 some_kept None None e h = h

@@ -9,13 +9,13 @@ use Rattle.miette_tree.specs.views.Report.{cause_shown}
 use Rattle.miette_tree.specs.declared.tree.Report.{Report}
 use Rattle.miette_tree.specs.declared.tree.Cause as shown
 use Rattle.miette_tree.specs.declared.tree.Cause.TheVariants as seen
-use Rattle.miette_style.specs.rules.Asked.{Call, Leads}
-use Rattle.miette_graphical.specs.rules.Answered.{AreCauseAnswers, AreRelatedAnswers, AreCauses, AreRelated, IsOneCause, IsOneRelated}
+use Rattle.miette_style.specs.rules.HighlighterCalls.{Call, Leads}
+use Rattle.miette_graphical.specs.rules.PossibleAnswers.{AreCauseAnswers, AreRelatedAnswers, AreCauses, AreRelated, IsOneCause, IsOneRelated}
 use Rattle.miette_graphical.specs.rules.Calls.{cause_calls, related_calls}
 use Rattle.miette_tree.specs.views.Handler.{AppendsOne}
 use Rattle.miette_tree.specs.rules.Chain.{texts_below}
 use Rattle.miette_graphical.specs.rules.DiagnosticText.{SnippetRows}
-use Rattle.miette_graphical.specs.rules.Printed.{Printed, all_read, printed_causes, printed_related}
+use Rattle.miette_graphical.specs.rules.PrintedDiagnostics.{PrintedDiagnostic, all_read, printed_causes, printed_related}
 use Rattle.miette_graphical.specs.rules.Settings.{Settings}
 use Rattle.miette_graphical.specs.rules.Snippets.{layout_settings}
 use Rattle.miette_graphical.specs.rules.Text.{are_last, causes_text, related_text}
@@ -23,7 +23,7 @@ use Rattle.miette_graphical.proofs.Sizes.{cause_size, tree_size, trees_size, cau
 use Rattle.miette_graphical.proofs.Steps.{cause_step, later_cause_fails, related_step, later_related_fails}
 
 -- Whatever answers there are for what remains, there are answers for all: the texts stand behind what is there, and the calls bring a highlighter from its first state over the state now. What remains reads where all reads, and is no larger.
-pub record Remains {X A : Type 0} (are : X → A → Type 0) (calls : X → A → List Call) (shows : X → A → List ℕ) (prints : X → List Printed) (size : X → ℕ)
+pub record Remains {X A : Type 0} (are : X → A → Type 0) (calls : X → A → List Call) (shows : X → A → List ℕ) (prints : X → List PrintedDiagnostic) (size : X → ℕ)
     (begun state : List Call → Type 0) (all left : X) (old now : List ℕ) : Type 0 where
   pub whole : (a : A) → are left a → (b : A) × are all b × ((later : List Call) → state (calls left a ++ later) → begun (calls all b ++ later)) × (now ++ shows left a ≡ old ++ shows all b)
   pub fails : all_read (prints left) ≡ false → all_read (prints all) ≡ false
@@ -37,12 +37,12 @@ abbrev pub RelatedRemain : SnippetRows → Settings → Bool → (List Call → 
 RelatedRemain rows s blank begun state outer inherited all left old now =
     Remains (AreRelatedAnswers (layout_settings s) blank inherited) (related_calls s.context s.nested inherited) (related_text rows s outer inherited) (printed_related s.nested inherited) trees_size begun state all left old now
 
-pub all_remain : {X A : Type 0} (are : X → A → Type 0) (calls : X → A → List Call) (shows : X → A → List ℕ) (prints : X → List Printed) (size : X → ℕ) (begun : List Call → Type 0) (all : X) (old : List ℕ) →
+pub all_remain : {X A : Type 0} (are : X → A → Type 0) (calls : X → A → List Call) (shows : X → A → List ℕ) (prints : X → List PrintedDiagnostic) (size : X → ℕ) (begun : List Call → Type 0) (all : X) (old : List ℕ) →
     Remains are calls shows prints size begun begun all all old old
 all_remain are calls shows prints size begun all old = record { whole = λ a h. (a, h, (λ later k. k), refl); fails = λ h. h; fits = omega arith }
 
 -- what remains is appended
-rest_appended : {X A : Type 0} (are : X → A → Type 0) (calls : X → A → List Call) (shows : X → A → List ℕ) (prints : X → List Printed) (size : X → ℕ) (begun state end : List Call → Type 0) (all left : X) (old now new : List ℕ) →
+rest_appended : {X A : Type 0} (are : X → A → Type 0) (calls : X → A → List Call) (shows : X → A → List ℕ) (prints : X → List PrintedDiagnostic) (size : X → ℕ) (begun state end : List Call → Type 0) (all left : X) (old now new : List ℕ) →
     Remains are calls shows prints size begun state all left old now →
     AppendsOne (λ text. (a : A) × are left a × Leads state (calls left a) end × (text ≡ shows left a)) now new →
     AppendsOne (λ text. (a : A) × are all a × Leads begun (calls all a) end × (text ≡ shows all a)) old new

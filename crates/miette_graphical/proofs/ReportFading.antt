@@ -9,7 +9,7 @@ use Rattle.miette_protocol.specs.declared.protocol.Severity.{Severity}
 use Rattle.miette_graphical.proofs.TextLaws.{TextLaws}
 use Rattle.miette_graphical.specs.rules.Settings.{Settings}
 use Rattle.miette_graphical.specs.rules.Answers.{Answer, Answers, RelatedAnswers, own_answer, cause_answers, related_answers, first_answers, later_answers}
-use Rattle.miette_graphical.specs.rules.Indents.{narrowed}
+use Rattle.miette_graphical.specs.rules.Indents.{narrow_settings}
 use Rattle.miette_graphical.specs.rules.DiagnosticText.{SnippetRows, header, footer_text, under_arrow, title_text}
 use Rattle.miette_graphical.specs.rules.Text.{ends_there, are_last, only_if, body, inner_text, causes_text, related_text, report_text}
 use Rattle.miette_tree.specs.rules.Tree.{effective}
@@ -28,14 +28,14 @@ module _ (laws : TextLaws) where
     inner : (s : Settings) (v : Option Severity) (b : Bool) (m : Meaning) (source : Option Source) (a : Answers)
         (related : Settings → RelatedAnswers → List ℕ) →
         AreCleanSettings s → IsCleanMeaning m → IfSome source IsCleanSource →
-        Fades (related (narrowed s v b) (related_answers a)) (related (colourless (narrowed s v b)) (unhighlighted_related (related_answers a))) →
-        Fades (inner_text rows (narrowed s v b) m source (own_answer a) (related (narrowed s v b) (related_answers a)))
-        (inner_text rows (narrowed (colourless s) v b) m source (own_answer (unhighlighted a)) (related (narrowed (colourless s) v b) (related_answers (unhighlighted a))))
+        Fades (related (narrow_settings s v b) (related_answers a)) (related (colourless (narrow_settings s v b)) (unhighlighted_related (related_answers a))) →
+        Fades (inner_text rows (narrow_settings s v b) m source (own_answer a) (related (narrow_settings s v b) (related_answers a)))
+        (inner_text rows (narrow_settings (colourless s) v b) m source (own_answer (unhighlighted a)) (related (narrow_settings (colourless s) v b) (related_answers (unhighlighted a))))
     inner s v b m source a related h k j q =
         fades-to
-        (fades-inner laws rows law (narrowed s v b) m source (own_answer a) (related (narrowed s v b) (related_answers a)) (related (colourless (narrowed s v b)) (unhighlighted_related (related_answers a))) h k j q)
+        (fades-inner laws rows law (narrow_settings s v b) m source (own_answer a) (related (narrow_settings s v b) (related_answers a)) (related (colourless (narrow_settings s v b)) (unhighlighted_related (related_answers a))) h k j q)
         (ap (λ n. inner_text rows n m source (unhighlighted_answer (own_answer a)) (related n (unhighlighted_related (related_answers a)))) (narrowed-faded laws s v b h)
-        ∙ ap₂ (λ o r. inner_text rows (narrowed (colourless s) v b) m source o (related (narrowed (colourless s) v b) r)) (own-bare a) (related-bare a))
+        ∙ ap₂ (λ o r. inner_text rows (narrow_settings (colourless s) v b) m source o (related (narrow_settings (colourless s) v b) r)) (own-bare a) (related-bare a))
 
   -- ---- what is printed without colours, over the answers without pieces
 
@@ -57,16 +57,16 @@ module _ (laws : TextLaws) where
   related-end : (rows : SnippetRows) (s : Settings) (m : Meaning) (outer : Option Severity) (source inherited : Option Source) (c : Cause) (r ts : Trees) (more : RelatedAnswers) →
       (if s.nested then
       under_arrow (colourless s) outer (are_last ts)
-      (without_trailing (inner_text rows (narrowed (colourless s) outer (are_last ts)) m source (own_answer (unhighlighted (first_answers more)))
-      (related_text rows (narrowed (colourless s) outer (are_last ts)) m.severity source r (related_answers (unhighlighted (first_answers more))))))
+      (without_trailing (inner_text rows (narrow_settings (colourless s) outer (are_last ts)) m source (own_answer (unhighlighted (first_answers more)))
+      (related_text rows (narrow_settings (colourless s) outer (are_last ts)) m.severity source r (related_answers (unhighlighted (first_answers more))))))
       else title_text (colourless s) m ++ body rows (colourless s) m source (unhighlighted_answer (own_answer (first_answers more)))
       (causes_text rows (colourless s) m.severity source c (unhighlighted (cause_answers (first_answers more))))
       (related_text rows (colourless s) m.severity source r (unhighlighted_related (related_answers (first_answers more)))))
       ++ related_text rows (colourless s) outer inherited ts (unhighlighted_related (later_answers more))
       ≡ (if s.nested then
       under_arrow (colourless s) outer (are_last ts)
-      (without_trailing (inner_text rows (narrowed (colourless s) outer (are_last ts)) m source (own_answer (first_answers (unhighlighted_related more)))
-      (related_text rows (narrowed (colourless s) outer (are_last ts)) m.severity source r (related_answers (first_answers (unhighlighted_related more))))))
+      (without_trailing (inner_text rows (narrow_settings (colourless s) outer (are_last ts)) m source (own_answer (first_answers (unhighlighted_related more)))
+      (related_text rows (narrow_settings (colourless s) outer (are_last ts)) m.severity source r (related_answers (first_answers (unhighlighted_related more))))))
       else title_text (colourless s) m ++ body rows (colourless s) m source (own_answer (first_answers (unhighlighted_related more)))
       (causes_text rows (colourless s) m.severity source c (cause_answers (first_answers (unhighlighted_related more))))
       (related_text rows (colourless s) m.severity source r (related_answers (first_answers (unhighlighted_related more)))))
@@ -75,8 +75,8 @@ module _ (laws : TextLaws) where
       let f = λ (o : Answer) (below : Answers) (beside : RelatedAnswers) (nested : Answers) (later : RelatedAnswers).
       (if s.nested then
       under_arrow (colourless s) outer (are_last ts)
-      (without_trailing (inner_text rows (narrowed (colourless s) outer (are_last ts)) m source (own_answer nested)
-      (related_text rows (narrowed (colourless s) outer (are_last ts)) m.severity source r (related_answers nested))))
+      (without_trailing (inner_text rows (narrow_settings (colourless s) outer (are_last ts)) m source (own_answer nested)
+      (related_text rows (narrow_settings (colourless s) outer (are_last ts)) m.severity source r (related_answers nested))))
       else title_text (colourless s) m ++ body rows (colourless s) m source o
       (causes_text rows (colourless s) m.severity source c below)
       (related_text rows (colourless s) m.severity source r beside))
@@ -102,7 +102,7 @@ module _ (laws : TextLaws) where
         fades-append laws _ _ _ _
         (fades-under_arrow laws s outer b _ _ h
         (inner rows law s outer b m source a (λ n d. related_text rows n m.severity source r d) h k.0 clean
-        (fades-related rows law (narrowed s outer b) m.severity source r (related_answers a) h clean k.3)))
+        (fades-related rows law (narrow_settings s outer b) m.severity source r (related_answers a) h clean k.3)))
         (fades-to (fades-causes rows law s outer inherited c (cause_answers a) h j k.2)
         (ap (causes_text rows (colourless s) outer inherited c) (cause-bare a)))
 
@@ -122,7 +122,7 @@ module _ (laws : TextLaws) where
         (fades-under_arrow laws s outer b _ _ h
         (fades-trailing laws _ _
         (inner rows law s outer b m source a (λ n d. related_text rows n m.severity source r d) h t.0 clean
-        (fades-related rows law (narrowed s outer b) m.severity source r (related_answers a) h clean t.3))))
+        (fades-related rows law (narrow_settings s outer b) m.severity source r (related_answers a) h clean t.3))))
         (fades-append laws _ _ _ _
         (fades-title laws s m h t.0)
         (fades-body laws rows law s m source (own_answer a) _ _ _ _ h t.0 clean

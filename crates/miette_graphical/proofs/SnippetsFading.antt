@@ -28,9 +28,9 @@ use Rattle.miette_graphical.specs.rules.Snippets.{drawn_rows, layout_settings, r
 -- the clauses of the laws of that layer
 pub record LayoutLaws : Type 0 where
   pub same : (s : frames.SnippetSettings) (source : Source) (labels : List Label) (answers : layout.Answers) →
-      option_map (map pieces_of) (snippet_rows (fading.colourless s) source labels (fading.unhighlighted answers)) ≡ option_map (map pieces_of) (snippet_rows s source labels answers)
+      option_map (map pieces_of) (snippet_rows (fading.colourless s) source labels (fading.unhighlighted_answers answers)) ≡ option_map (map pieces_of) (snippet_rows s source labels answers)
   pub plain : (s : frames.SnippetSettings) (source : Source) (labels : List Label) (answers : layout.Answers) →
-      IfSome (snippet_rows (fading.colourless s) source labels (fading.unhighlighted answers)) (AllByRecursion IsPlainRow)
+      IfSome (snippet_rows (fading.colourless s) source labels (fading.unhighlighted_answers answers)) (AllByRecursion IsPlainRow)
   pub clean : (s : frames.SnippetSettings) (source : Source) (labels : List Label) (answers : layout.Answers) →
       AreCleanDrawings s.characters → IsCleanSource source → AllByRecursion IsCleanLabel labels → IfSome (snippet_rows s source labels answers) (AllByRecursion IsCleanRow)
 
@@ -154,7 +154,7 @@ drawn_fade : LayoutLaws → (s : Settings) (source : Option Source) (labels : Li
 drawn_fade laws s None labels a = refl
 drawn_fade laws s (Some source) labels a =
     let l = layout_settings s in
-    plain_shown (snippet_rows (fading.colourless l) source labels (fading.unhighlighted a)) (laws.plain l source labels a)
+    plain_shown (snippet_rows (fading.colourless l) source labels (fading.unhighlighted_answers a)) (laws.plain l source labels a)
     ∙ ap shown_text (laws.same l source labels a) ∙ sym (bare_shown (snippet_rows l source labels a))
 
 drawn_clean : LayoutLaws → (s : Settings) (source : Option Source) (labels : List Label) (a : Answer) →

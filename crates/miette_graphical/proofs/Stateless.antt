@@ -6,7 +6,7 @@ use Rattle.miette_runs.specs.rules.Cutting.{without_trailing}
 use Rattle.miette_protocol.specs.views.Meaning.{Meaning, Label}
 use Rattle.miette_protocol.specs.rules.Reading.{Source, Span, Contents}
 use Rattle.miette_protocol.specs.declared.protocol.Severity.{Severity}
-use Rattle.miette_style.specs.rules.Asked.{Call, Leads, AnsweredBy, asked, restarted, listed as counted}
+use Rattle.miette_style.specs.rules.HighlighterCalls.{Call, Leads, AnsweredBy, asked, restarted, listed_pieces as counted}
 use Rattle.miette_style.specs.rules.Pieces.{Piece}
 use Rattle.miette_lines.specs.rules.Answers.{Highlight, first_of, later_of}
 use Rattle.miette_lines.specs.rules.Around.{group_context}
@@ -16,18 +16,18 @@ use Rattle.miette_lines.specs.rules.Labels.{DrawnLabel}
 use Rattle.miette_snippets.specs.rules.Frames as frames
 use Rattle.miette_snippets.specs.rules.Frames.{refused_row, top_row, bottom_row, number_width}
 use Rattle.miette_snippets.specs.rules.Gutters.{gutter_columns}
-use Rattle.miette_snippets.specs.rules.Highlighted.{group_calls, highlight_of, line_calls, piece_of, pieces_by, texts_of}
+use Rattle.miette_snippets.specs.rules.Highlighting.{group_calls, highlight_of, line_calls, piece_of, pieces_by, texts_of}
 use Rattle.miette_snippets.specs.rules.SnippetLayout.{all_snippets, cells_of, drawn_labels, line_rows, place_of, rows_of_lines, rows_unless, settings_around, snippet_rows}
 use Rattle.miette_tree.specs.rules.DiagnosticParts.{given_labels}
 use Rattle.miette_tree.specs.rules.Tree.{Tree, tree, Cause, diagnostic, texts, Trees, no_trees, more_trees, effective}
 use Rattle.miette_tree.specs.views.Handler.{AppendsOne}
-use Rattle.miette_graphical.specs.rules.Answered.{AppendsAsked, AreAnswers, AreCauseAnswers, AreRelatedAnswers}
+use Rattle.miette_graphical.specs.rules.PossibleAnswers.{AppendsAsked, AreAnswers, AreCauseAnswers, AreRelatedAnswers}
 use Rattle.miette_graphical.specs.rules.Answers.{Answer, Answers, RelatedAnswers, pieces_listed, own_answer, cause_answers, related_answers, first_answers, later_answers}
 use Rattle.miette_graphical.specs.rules.ByLine.{answers_by, causes_by, labels_by, own_by, related_by}
 use Rattle.miette_graphical.specs.rules.Calls.{cause_calls, own_calls, related_calls, report_calls}
-use Rattle.miette_graphical.specs.rules.Indents.{narrowed}
+use Rattle.miette_graphical.specs.rules.Indents.{narrow_settings}
 use Rattle.miette_graphical.specs.rules.DiagnosticText.{rows_text, title_text, under_arrow}
-use Rattle.miette_graphical.specs.rules.Printed.{all_read, always_reads, printed, printed_causes, printed_inner, printed_related, printed_sibling}
+use Rattle.miette_graphical.specs.rules.PrintedDiagnostics.{all_read, always_reads, diagnostics_of, printed_causes, printed_inner, printed_related, printed_sibling}
 use Rattle.miette_graphical.specs.rules.Settings.{Settings}
 use Rattle.miette_graphical.specs.rules.Snippets.{drawn_rows, layout_settings, shown_rows}
 use Rattle.miette_graphical.specs.rules.Text.{are_last, body_over, causes_text, ends_there, inner_over, only_if, related_text, report_text}
@@ -100,7 +100,7 @@ mutual
   cause_text_by f l blank s outer inherited (texts ts) a nested w h e b = refl
   cause_text_by f l blank s outer inherited (diagnostic (tree m own c r)) a nested w h e b =
       let source = effective own inherited in
-      let n = narrowed s outer (ends_there c) in
+      let n = narrow_settings s outer (ends_there c) in
       let p = both_read (printed_inner nested source (tree m own c r)) (printed_causes nested inherited c) e in
       let q = and_parts (always_reads source m) (all_read (printed_related nested source r)) p.0 in
       let more = related_calls s.context nested source r (related_answers a) in
@@ -117,7 +117,7 @@ mutual
   related_text_by f l blank s outer inherited no_trees more nested w h e b = refl
   related_text_by f l blank s outer inherited (more_trees (tree m own c r) ts) more true w h e b =
       let source = effective own inherited in
-      let n = narrowed s outer (are_last ts) in
+      let n = narrow_settings s outer (are_last ts) in
       let a = first_answers more in
       let p = both_read (printed_inner true source (tree m own c r)) (printed_related true inherited ts) e in
       let q = and_parts (always_reads source m) (all_read (printed_related true source r)) p.0 in
@@ -158,7 +158,7 @@ root_text_by : (f : List ℕ → List Piece) (l : frames.SnippetSettings) (blank
 root_text_by f l blank s m own c a true h e b = cause_text_by f l blank s m.severity own c a s.nested refl (h refl) e b
 root_text_by f l blank s m own c a false h e b = refl
 
-report_text_by : (f : List ℕ → List Piece) (s : Settings) (blank : Bool) (t : Tree) (a : Answers) → AreAnswers s blank t a → all_read (printed s t) ≡ true → AnsweredBy f (report_calls s t a) →
+report_text_by : (f : List ℕ → List Piece) (s : Settings) (blank : Bool) (t : Tree) (a : Answers) → AreAnswers s blank t a → all_read (diagnostics_of s t) ≡ true → AnsweredBy f (report_calls s t a) →
     report_text drawn_rows s t a ≡ report_text drawn_rows s t (answers_by f s.context t)
 report_text_by f s blank (tree m own c r) a h e b =
     let l = layout_settings s in
@@ -178,7 +178,7 @@ report_text_by f s blank (tree m own c r) a h e b =
 -- ---- what was appended
 
 stateless-text : (s : Settings) (blank : Bool) (before after : List Call → Type 0) (t : Tree) (old new : List ℕ) → AppendsAsked drawn_rows s blank (λ calls. Leads before calls after) t old new
-    → (f : List ℕ → List Piece) → ((calls : List Call) → before calls → AnsweredBy f calls) → after [] → all_read (printed s t) ≡ true
+    → (f : List ℕ → List Piece) → ((calls : List Call) → before calls → AnsweredBy f calls) → after [] → all_read (diagnostics_of s t) ≡ true
     → new ≡ old ++ encode_utf8_all (report_text drawn_rows s t (answers_by f s.context t))
 stateless-text s blank before after t old new ok f by over reads =
     let given = ok.is_given.1 in
@@ -188,7 +188,7 @@ stateless-text s blank before after t old new ok f by over reads =
 
 pub rendered-stateless : {A E : Type 0} (r : Result A E) (s : Settings) (blank : Bool) (before after : List Call → Type 0) (t : Tree) (old new : List ℕ)
     → OnOk r (AppendsAsked drawn_rows s blank (λ calls. Leads before calls after) t old new)
-    → OnOk r ((f : List ℕ → List Piece) → ((calls : List Call) → before calls → AnsweredBy f calls) → after [] → all_read (printed s t) ≡ true
+    → OnOk r ((f : List ℕ → List Piece) → ((calls : List Call) → before calls → AnsweredBy f calls) → after [] → all_read (diagnostics_of s t) ≡ true
     → new ≡ old ++ encode_utf8_all (report_text drawn_rows s t (answers_by f s.context t)))
 rendered-stateless (Err e) s blank before after t old new ok = tt
 rendered-stateless (Ok x) s blank before after t old new ok = stateless-text s blank before after t old new ok

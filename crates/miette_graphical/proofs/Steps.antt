@@ -9,21 +9,21 @@ use Rattle.miette_tree.specs.rules.Tree.{Tree, tree, Cause, diagnostic, texts, T
 use Rattle.miette_protocol.specs.declared.protocol.Severity.{Severity}
 use Rattle.miette_graphical.specs.rules.Settings.{Settings}
 use Rattle.miette_graphical.specs.rules.Answers.{Answers, unlisted, listed, no_more, and_more, own_answer, cause_answers, related_answers}
-use Rattle.miette_graphical.specs.rules.Indents.{narrowed}
+use Rattle.miette_graphical.specs.rules.Indents.{narrow_settings}
 use Rattle.miette_graphical.specs.rules.DiagnosticText.{SnippetRows, rows_text, under_arrow, header, message_text, help_text, footer_text, title_text}
 use Rattle.miette_tree.specs.rules.DiagnosticParts.{given_labels}
 use Rattle.miette_graphical.specs.rules.Text.{cause_texts, ends_there, are_last, body, body_over, inner_over, inner_text, causes_text, related_text, only_if}
 use Rattle.miette_tree.specs.rules.Tree.{effective}
 use Rattle.miette_snippets.specs.rules.Frames as frames
-use Rattle.miette_graphical.specs.rules.Printed.{all_read, always_reads, over, printed, printed_causes, printed_related, printed_inner, printed_sibling, printed_one, printed_root_causes}
+use Rattle.miette_graphical.specs.rules.PrintedDiagnostics.{all_read, always_reads, over, diagnostics_of, printed_causes, printed_related, printed_inner, printed_sibling, printed_one, printed_root_causes}
 use Rattle.miette_graphical.specs.rules.Snippets.{layout_settings}
 use Rattle.miette_graphical.proofs.DrawnRows.{unlisted_is}
 use Rattle.miette_graphical.proofs.Lists.{first_fails, later_fails}
 use Rattle.miette_graphical.proofs.Outermost.{report_over}
 use Rattle.miette_tree.specs.views.Handler.{AppendsOne}
-use Rattle.miette_graphical.specs.rules.Answered.{IsAnswer, AreCauseAnswers, AreRelatedAnswers, IsDrawn, AreCauses, AreRelated, IsInner, IsSibling, IsOneCause, IsNested, IsOneRelated, AreRootCauses, IsBelow, IsAskedReport}
+use Rattle.miette_graphical.specs.rules.PossibleAnswers.{IsAnswer, AreCauseAnswers, AreRelatedAnswers, IsDrawn, AreCauses, AreRelated, IsInner, IsSibling, IsOneCause, IsNested, IsOneRelated, AreRootCauses, IsBelow, IsAskedReport}
 use Rattle.miette_graphical.specs.rules.Calls.{own_calls, cause_calls, related_calls}
-use Rattle.miette_style.specs.rules.Asked.{Call, Leads}
+use Rattle.miette_style.specs.rules.HighlighterCalls.{Call, Leads}
 
 pub not_last : {R : Type 0} (value : R → Tree) (rs : List R) → 1 ≤ length rs → false ≡ are_last (trees (map value rs))
 not_last value [] h = absurd (omega arith)
@@ -115,7 +115,7 @@ one_by : (rows : SnippetRows) (s : Settings) (blank : Bool) (happen : List Call 
     (a : Answers) × IsAnswer (layout_settings s) blank source m (own_answer a) × AreCauseAnswers (layout_settings s) blank source c (cause_answers a) × AreRelatedAnswers (layout_settings s) blank source r (related_answers a)
     × happen ((if nested then [] else cause_calls s.context s.nested source c (cause_answers a)) ++ (own_calls s.context source m (own_answer a) ++ related_calls s.context s.nested source r (related_answers a)))
     × (text ≡ (if nested then
-    under_arrow s outer last (without_trailing (inner_text rows (narrowed s outer last) m source (own_answer a) (related_text rows (narrowed s outer last) m.severity source r (related_answers a))))
+    under_arrow s outer last (without_trailing (inner_text rows (narrow_settings s outer last) m source (own_answer a) (related_text rows (narrow_settings s outer last) m.severity source r (related_answers a))))
     else title_text s m ++ body rows s m source (own_answer a) (causes_text rows s m.severity source c (cause_answers a)) (related_text rows s m.severity source r (related_answers a))))
 one_by rows s blank happen outer source last m own c r text true p =
     (listed p.1.0 unlisted p.1.1, p.1.2, causes-unlisted (layout_settings s) blank source c, p.1.3, p.1.4, p.2 ∙ ap (λ x. under_arrow s outer last (without_trailing x)) p.1.5)
@@ -253,7 +253,7 @@ pub sibling_below_fails : (nested : Bool) (source : Option Source) (t : Tree) �
 sibling_below_fails nested source (tree m own c r) h =
     and_later (always_reads source m) (all_read (printed_related nested source r)) (all_read (printed_causes nested source c ++ printed_related nested source r)) (later_fails (printed_causes nested source c) (printed_related nested source r)) h
 
-pub root_below_fails : (s : Settings) (t : Tree) → all_read (printed_inner s.nested (source_of t) t) ≡ false → all_read (printed s t) ≡ false
+pub root_below_fails : (s : Settings) (t : Tree) → all_read (printed_inner s.nested (source_of t) t) ≡ false → all_read (diagnostics_of s t) ≡ false
 root_below_fails s (tree m own c r) h =
     let causes = printed_root_causes s.chain s.nested (tree m own c r) in
     and_later (always_reads own m) (all_read (printed_related s.nested own r)) (all_read (causes ++ printed_related s.nested own r)) (later_fails causes (printed_related s.nested own r)) h
@@ -273,7 +273,7 @@ pub later_related_fails : (nested : Bool) (inherited : Option Source) (t : Tree)
 later_related_fails true inherited (tree m own c r) ts h = later_fails (printed_inner true (effective own inherited) (tree m own c r)) (printed_related true inherited ts) h
 later_related_fails false inherited (tree m own c r) ts h = later_fails (printed_sibling false (effective own inherited) (tree m own c r)) (printed_related false inherited ts) h
 
-pub root_causes_fail : (s : Settings) (t : Tree) → all_read (printed_root_causes s.chain s.nested t) ≡ false → all_read (printed s t) ≡ false
+pub root_causes_fail : (s : Settings) (t : Tree) → all_read (printed_root_causes s.chain s.nested t) ≡ false → all_read (diagnostics_of s t) ≡ false
 root_causes_fail s (tree m own c r) h =
     later_fails (over own m ∷ []) (printed_root_causes s.chain s.nested (tree m own c r) ++ printed_related s.nested own r)
     (first_fails (printed_root_causes s.chain s.nested (tree m own c r)) (printed_related s.nested own r) h)

@@ -3,5 +3,5 @@ pub mod Clean
 pub mod Colourless
 pub mod Paths
 pub mod Alike
-pub mod Shipped
+pub mod CharacterSets
 pub mod Headline

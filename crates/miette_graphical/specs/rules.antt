@@ -4,8 +4,8 @@ pub mod Answers
 pub mod Indents
 pub mod DiagnosticText
 pub mod Text
-pub mod Printed
-pub mod Answered
+pub mod PrintedDiagnostics
+pub mod PossibleAnswers
 pub mod Snippets
 pub mod Calls
 pub mod ByLine

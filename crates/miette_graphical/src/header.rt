@@ -115,7 +115,7 @@ pub fn push_header(
 }
 
 /// What names a severity; that of an error where there is none.
-#[tactic(auto, using(crate::proofs::Styled::advice, crate::proofs::Styled::warning, crate::proofs::Styled::error))]
+#[tactic(auto, using(crate::proofs::Styling::advice, crate::proofs::Styling::warning, crate::proofs::Styling::error))]
 pub fn severity_title(severity: Option<Severity>) -> &'static str
     ensures { chars result.now ≡ parts.severity_title severity }
 {

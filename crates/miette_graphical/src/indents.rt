@@ -8,7 +8,7 @@ ghost use Rattle.miette_graphical.specs.rules.DiagnosticText as parts;
 ghost use Rattle.miette_text.specs.views.Plans.{printed_plan};
 ghost use Rattle.miette_runs.specs.rules.Runs.{print};
 ghost use Rattle.miette_runs.specs.rules.Sequences.{spell};
-ghost use Rattle.miette_text.specs.rules.Wrapping.{wrapped};
+ghost use Rattle.miette_text.specs.rules.Wrapping.{wrapped_text};
 
 use crate::settings::{Layout, icon, severity_style};
 use miette_protocol::protocol::Severity;
@@ -53,7 +53,7 @@ fn push_wrapped(
     text: &Runs,
     out: &mut Output,
 ) -> Result<(), AllocError>
-    ensures { OnOk result (out.new ≡ out.old ++ (wrapped (printed_plan plan.entry) (spell text.now)
+    ensures { OnOk result (out.new ≡ out.old ++ (wrapped_text (printed_plan plan.entry) (spell text.now)
         ++ parts.line_feed)) }
 {
     wrap(alloc, plan, text, out)?;
@@ -150,7 +150,7 @@ pub fn layout_under<'a>(
     branch: Branch,
 ) -> Result<Layout<'a>, AllocError>
     ensures { IfOk result (λ l. settings_of l
-        ≡ indents.narrowed (settings_of layout.entry) branch.outer branch.is_last) }
+        ≡ indents.narrow_settings (settings_of layout.entry) branch.outer branch.is_last) }
 {
     let columns = columns_of(alloc, &stem_indent(alloc, layout, branch)?)?;
     Ok(Layout {

@@ -2,7 +2,7 @@
 //! prints.
 
 ghost use Rattle.std.specs.Prelude.{◌≡◌, ℕ, Bool, List, Some, encode_utf8_all, true};
-ghost use Rattle.miette_graphical.specs.rules.Answered.{IsTextOf};
+ghost use Rattle.miette_graphical.specs.rules.PossibleAnswers.{IsTextOf};
 ghost use Rattle.miette_graphical.specs.rules.Answers.{Answers, unlisted};
 ghost use Rattle.miette_graphical.specs.laws.Clean.{AreCleanCharacters, AreCleanSettings, IsCleanTree};
 ghost use Rattle.miette_graphical.specs.laws.Alike.{AreAnsweredAlike, AreDrawnAlike};
@@ -12,8 +12,8 @@ ghost use Rattle.std.specs.List.{AllByRecursion, Contains};
 ghost use Rattle.miette_graphical.specs.laws.Headline.{EndsAreDrawn, LinesAreShown, MarksAreApart, TextsHang};
 ghost use Rattle.miette_graphical.specs.rules.DiagnosticText.{SnippetRows};
 ghost use Rattle.miette_graphical.specs.laws.Paths.{HasPath, Step, printed_at};
-ghost use Rattle.miette_graphical.specs.laws.Shipped.{AreNarrow, AreShipped};
-ghost use Rattle.miette_graphical.specs.rules.Printed.{Printed, all_read, printed};
+ghost use Rattle.miette_graphical.specs.laws.CharacterSets.{AreNarrow, AreShipped};
+ghost use Rattle.miette_graphical.specs.rules.PrintedDiagnostics.{PrintedDiagnostic, all_read, diagnostics_of};
 ghost use Rattle.miette_graphical.specs.rules.Settings.{Settings, default_settings};
 ghost use Rattle.miette_graphical.specs.rules.Snippets.{drawn_rows};
 ghost use Rattle.miette_graphical.specs.rules.Text.{report_text};
@@ -24,8 +24,8 @@ ghost use Rattle.miette_runs.specs.rules.Sequences.{erase};
 ghost use Rattle.miette_text.specs.rules.Tame.{IsTame};
 
 use miette_layout::laws::{
-    ends_are_drawn, groups_are_runs, marks_are_apart, rows_fade, rows_hold_no_escape,
-    runs_are_maximal, snippets_draw_runs, texts_hang,
+    ends_are_drawn, groups_are_ranges, marks_are_apart, ranges_are_maximal, rows_fade,
+    rows_hold_no_escape, snippets_draw_ranges, texts_hang,
 };
 use miette_text::wrap::laws::{
     columns_law, cutting_law, encoding_law, joining_law, printing_law, wrapping_law,
@@ -71,10 +71,10 @@ pub fn erasing_law()
     ensures possible { (s : Settings) (blank : Bool) (t : Tree) (bytes : List ℕ) → AreCleanSettings s → IsCleanTree t →
         IsTextOf drawn_rows s blank t bytes → IsTextOf drawn_rows (colourless s) true t (erase bytes) }
     ensures only { (s : Settings) (blank : Bool) (t : Tree) (bytes : List ℕ) → AreCleanSettings s → IsCleanTree t →
-        IsTextOf drawn_rows s blank t bytes → all_read (printed s t) ≡ true →
+        IsTextOf drawn_rows s blank t bytes → all_read (diagnostics_of s t) ≡ true →
         erase bytes ≡ encode_utf8_all (report_text drawn_rows (colourless s) t unlisted) }
     ensures themes { (s : Settings) (blank : Bool) (t : Tree) (bytes others : List ℕ) → AreCleanSettings s →
-        IsCleanTree t → IsTextOf drawn_rows s blank t bytes → all_read (printed s t) ≡ true →
+        IsCleanTree t → IsTextOf drawn_rows s blank t bytes → all_read (diagnostics_of s t) ≡ true →
         IsRestyledText drawn_rows s t others → erase bytes ≡ erase others }
 {
     colours_law();
@@ -87,14 +87,14 @@ pub fn erasing_law()
 /// hangs from its own mark, and labels at the end of a source stand behind its last line, with their marks, where they
 /// are drawn.
 pub fn snippets_law()
-    ensures lines { (s : Settings) (t : Tree) → AllByRecursion (LinesAreShown s) (printed s t) }
-    ensures marks { (s : Settings) (t : Tree) → AllByRecursion (MarksAreApart s) (printed s t) }
-    ensures texts { (s : Settings) (t : Tree) → AllByRecursion (TextsHang s) (printed s t) }
-    ensures ends { (s : Settings) (t : Tree) → AllByRecursion (EndsAreDrawn s) (printed s t) }
+    ensures lines { (s : Settings) (t : Tree) → AllByRecursion (LinesAreShown s) (diagnostics_of s t) }
+    ensures marks { (s : Settings) (t : Tree) → AllByRecursion (MarksAreApart s) (diagnostics_of s t) }
+    ensures texts { (s : Settings) (t : Tree) → AllByRecursion (TextsHang s) (diagnostics_of s t) }
+    ensures ends { (s : Settings) (t : Tree) → AllByRecursion (EndsAreDrawn s) (diagnostics_of s t) }
 {
-    snippets_draw_runs();
-    groups_are_runs();
-    runs_are_maximal();
+    snippets_draw_ranges();
+    groups_are_ranges();
+    ranges_are_maximal();
     marks_are_apart();
     texts_hang();
     ends_are_drawn();
@@ -103,9 +103,10 @@ pub fn snippets_law()
 /// The printed diagnostics are those that stand at a path from the outermost one: by steps to a cause where causes
 /// are shown, and to a related report by its number.
 pub fn paths_law()
-    ensures named { (s : Settings) (t : Tree) (p : Printed) → Contains (printed s t) p → HasPath s t p }
-    ensures only { (s : Settings) (t : Tree) (path : List Step) (p : Printed) → printed_at s t path ≡ Some p →
-        Contains (printed s t) p }
+    ensures named { (s : Settings) (t : Tree) (p : PrintedDiagnostic) → Contains (diagnostics_of s t) p →
+        HasPath s t p }
+    ensures only { (s : Settings) (t : Tree) (path : List Step) (p : PrintedDiagnostic) → printed_at s t path ≡ Some p →
+        Contains (diagnostics_of s t) p }
 {}
 
 /// Of no diagnostic but the printed ones does a report's text hold a snippet: rows that are the same for each of them
@@ -113,7 +114,8 @@ pub fn paths_law()
 /// path at which a diagnostic is printed.
 pub fn printed_law()
     ensures rows { (rows others : SnippetRows) (s : Settings) (t : Tree) (a : Answers) →
-        AllByRecursion (AreDrawnAlike rows others) (printed s t) → report_text rows s t a ≡ report_text others s t a }
+        AllByRecursion (AreDrawnAlike rows others) (diagnostics_of s t) →
+        report_text rows s t a ≡ report_text others s t a }
     ensures answers { (rows : SnippetRows) (s : Settings) (t : Tree) (a b : Answers) → AreAnsweredAlike s t a b →
         report_text rows s t a ≡ report_text rows s t b }
 {}

@@ -1,10 +1,10 @@
 //! The outermost report, from its header to its footer.
 
 ghost use Rattle.std.specs.Prelude.{◌≡◌, IfOk, OnOk, false};
-ghost use Rattle.miette_graphical.specs.rules.Answered.{AreRootCauses, IsAskedReport};
+ghost use Rattle.miette_graphical.specs.rules.PossibleAnswers.{AreRootCauses, IsAskedReport};
 ghost use Rattle.miette_tree.specs.views.Handler.{AppendsOne};
-ghost use Rattle.miette_graphical.specs.rules.Printed.{all_read, printed, printed_root_causes};
-ghost use Rattle.miette_snippets.specs.rules.Highlighted.{AreCallsOn, leaves_plain};
+ghost use Rattle.miette_graphical.specs.rules.PrintedDiagnostics.{all_read, diagnostics_of, printed_root_causes};
+ghost use Rattle.miette_snippets.specs.rules.Highlighting.{AreCallsOn, leaves_plain};
 ghost use Rattle.miette_graphical.specs.rules.Snippets.{drawn_rows};
 ghost use Rattle.miette_graphical.specs.steps.SettingsView.{settings_of};
 ghost use Rattle.miette_tree.specs.views.Report.{tree_of};
@@ -57,7 +57,7 @@ pub fn report_output<D: Diagnostic, S: SourceCode, H: Highlighter>(
         (leaves_plain H.is_blank pen.old.highlighter)
         (AreCallsOn H.may_follow pen.old.highlighter pen.new.highlighter) (tree_of D.meaning S.source report.now) o) }
     ensures refused { (result ≡ Err RenderError.Refused) →
-        all_read (printed (settings_of layout.entry) (tree_of D.meaning S.source report.now)) ≡ false }
+        all_read (diagnostics_of (settings_of layout.entry) (tree_of D.meaning S.source report.now)) ≡ false }
     ensures stays { leaves_plain H.is_blank pen.new.highlighter ≡ leaves_plain H.is_blank pen.old.highlighter }
 {
     let mut text = Output::for_text(pen.alloc);

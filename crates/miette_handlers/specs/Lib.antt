@@ -8,11 +8,11 @@ pub use Rattle.miette_graphical.specs.rules.DiagnosticText
 pub use Rattle.miette_graphical.specs.rules.Text
 pub use Rattle.miette_graphical.specs.laws.Clean
 pub use Rattle.miette_graphical.specs.laws.Colourless
-pub use Rattle.miette_graphical.specs.rules.Printed
+pub use Rattle.miette_graphical.specs.rules.PrintedDiagnostics
 pub use Rattle.miette_graphical.specs.laws.Paths
 pub use Rattle.miette_graphical.specs.laws.Alike
-pub use Rattle.miette_graphical.specs.laws.Shipped
-pub use Rattle.miette_graphical.specs.rules.Answered
+pub use Rattle.miette_graphical.specs.laws.CharacterSets
+pub use Rattle.miette_graphical.specs.rules.PossibleAnswers
 pub use Rattle.miette_graphical.specs.rules.Calls
 pub use Rattle.miette_graphical.specs.rules.ByLine
 pub use Rattle.miette_graphical.specs.rules.Snippets
@@ -22,5 +22,5 @@ pub use Rattle.miette_json.specs.rules.Denotes
 pub use Rattle.miette_json.specs.rules.Reads
 pub use Rattle.miette_json.specs.rules.JsonReport
 pub use Rattle.miette_json.specs.rules.JsonText
-pub use Rattle.miette_tree.specs.rules.Displayed
+pub use Rattle.miette_tree.specs.rules.Display
 pub use Rattle.miette_tree.specs.views.Handler

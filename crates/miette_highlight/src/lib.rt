@@ -1,4 +1,4 @@
-//! Highlighters of source lines: a piece for each character, and rules for words and for what lies between marks.
+//! Highlighters of source lines: a piece for each character, and rules for words and for what lies between delimiters.
 #![tactic(auto)]
 
 pub mod characters;

@@ -4,7 +4,7 @@ ghost use Rattle.std.specs.Prelude.{◌≡◌, false, IsTrue, IfOk, None};
 ghost use Rattle.miette_highlight.specs.rules.Tokens.{AreTokens};
 ghost use Rattle.miette_style.specs.rules.Pieces.{CutsLine, plain_pieces};
 
-pub use crate::rule::{Marks, Pattern, Rule};
+pub use crate::rule::{Delimiters, Delimiters as Marks, Pattern, Rule};
 use crate::tokens::pieces_of;
 use miette_protocol::source::MietteSpanContents;
 use miette_style::highlight::Highlighter;

@@ -1,34 +1,34 @@
 //! What rules look for, and what they style.
 
 ghost use Rattle.std.specs.Prelude.{◌≡◌, true, false, IfOk, None, Some, map};
-ghost use Rattle.miette_highlight.specs.rules.Patterns.{IsWords, HasMarks};
+ghost use Rattle.miette_highlight.specs.rules.Patterns.{IsWords, AreDelimiters};
 
 use miette_style::style::Style;
 use std::alloc::{AllocError, Global};
 
-/// The marks that a part of a text begins and ends with.
+/// The delimiters that a part of a text begins and ends with.
 #[derive(Clone, Debug, Drop)]
-pub struct Marks {
+pub struct Delimiters {
     /// What it begins with.
     pub opens: String,
     /// What it ends with; a part that never ends goes on to the end of its line.
     pub closes: String,
-    /// A byte, as a backslash, behind which no mark is one.
+    /// A byte, as a backslash, behind which no delimiter is one.
     pub escape: Option<u8>,
     /// Whether a part that has no end on its line goes on in the next one.
     pub over_lines: bool,
 }
 
-impl Marks {
-    /// Marks of parts that end on their line, without an escape. A part whose closing mark is empty is its opening mark
-    /// alone.
+impl Delimiters {
+    /// Delimiters of parts that end on their line, without an escape. A part whose closing delimiter is empty is its
+    /// opening delimiter alone.
     ///
     /// # Errors
     /// Where no memory is found for the texts.
     pub fn new(alloc: Global, opens: &str, closes: &str) -> Result<Self, AllocError>
-        ensures { IfOk result (λ it. HasMarks opens.now closes.now None false it) }
+        ensures { IfOk result (λ it. AreDelimiters opens.now closes.now None false it) }
     {
-        Ok(Marks {
+        Ok(Delimiters {
             opens: String::from_str(alloc, opens)?,
             closes: String::from_str(alloc, closes)?,
             escape: None,
@@ -36,21 +36,21 @@ impl Marks {
         })
     }
 
-    /// These marks, with a byte behind which no mark is one.
+    /// These delimiters, with a byte behind which no delimiter is one.
     pub fn escaped_by(self, escape: u8) -> Self
         ensures { result ≡ record self { escape = Some escape } }
     {
-        Marks {
+        Delimiters {
             escape: Some(escape),
             ..self
         }
     }
 
-    /// These marks, of parts that go on over lines.
+    /// These delimiters, of parts that go on over lines.
     pub fn over_lines(self) -> Self
         ensures { result ≡ record self { over_lines = true } }
     {
-        Marks {
+        Delimiters {
             over_lines: true,
             ..self
         }
@@ -65,8 +65,8 @@ pub enum Pattern {
     Words(Vec<String>),
     /// A word, or another character, that begins with a byte from the first up to the second.
     From(u8, u8),
-    /// What lies between two marks, with them.
-    Between(Marks),
+    /// What lies between two delimiters, with them.
+    Between(Delimiters),
 }
 
 impl Pattern {

@@ -1,6 +1,6 @@
 //! Rules for languages: texts green, numbers cyan, values yellow, words of the language magenta, comments dimmed.
 
-use crate::patterns::{Marks, Pattern, PatternHighlighter, Rule};
+use crate::patterns::{Delimiters, Pattern, PatternHighlighter, Rule};
 use miette_style::style::{Color, Style};
 use std::alloc::{AllocError, Global};
 
@@ -11,7 +11,10 @@ impl PatternHighlighter {
     /// Where no memory is found for its rules.
     pub fn json(alloc: Global) -> Result<Self, AllocError> {
         let mut rules = Vec::new(alloc);
-        push_text(&mut rules, Marks::new(alloc, "\"", "\"")?.escaped_by(b'\\'))?;
+        push_text(
+            &mut rules,
+            Delimiters::new(alloc, "\"", "\"")?.escaped_by(b'\\'),
+        )?;
         push_values(&mut rules, alloc, &["true", "false", "null"])?;
         Ok(PatternHighlighter::new(rules))
     }
@@ -22,31 +25,43 @@ impl PatternHighlighter {
     /// Where no memory is found for its rules.
     pub fn toml(alloc: Global) -> Result<Self, AllocError> {
         let mut rules = Vec::new(alloc);
-        push_comment(&mut rules, Marks::new(alloc, "#", "\n")?)?;
-        let long = Marks::new(alloc, "\"\"\"", "\"\"\"")?.escaped_by(b'\\');
+        push_comment(&mut rules, Delimiters::new(alloc, "#", "\n")?)?;
+        let long = Delimiters::new(alloc, "\"\"\"", "\"\"\"")?.escaped_by(b'\\');
         push_text(&mut rules, long.over_lines())?;
-        push_text(&mut rules, Marks::new(alloc, "'''", "'''")?.over_lines())?;
-        push_text(&mut rules, Marks::new(alloc, "\"", "\"")?.escaped_by(b'\\'))?;
-        push_text(&mut rules, Marks::new(alloc, "'", "'")?)?;
+        push_text(
+            &mut rules,
+            Delimiters::new(alloc, "'''", "'''")?.over_lines(),
+        )?;
+        push_text(
+            &mut rules,
+            Delimiters::new(alloc, "\"", "\"")?.escaped_by(b'\\'),
+        )?;
+        push_text(&mut rules, Delimiters::new(alloc, "'", "'")?)?;
         push_values(&mut rules, alloc, &["true", "false", "inf", "nan"])?;
         Ok(PatternHighlighter::new(rules))
     }
 
     /// The highlighter of Rust. A block comment ends at the first `*/`, and characters in quotes are plain, but for a
-    /// quotation mark.
+    /// quotation delimiter.
     ///
     /// # Errors
     /// Where no memory is found for its rules.
     pub fn rust(alloc: Global) -> Result<Self, AllocError> {
         let mut rules = Vec::new(alloc);
-        push_comment(&mut rules, Marks::new(alloc, "//", "\n")?)?;
-        push_comment(&mut rules, Marks::new(alloc, "/*", "*/")?.over_lines())?;
-        push_text(&mut rules, Marks::new(alloc, "'\"'", "")?)?;
-        push_text(&mut rules, Marks::new(alloc, "'\\\"'", "")?)?;
-        push_text(&mut rules, Marks::new(alloc, "r#\"", "\"#")?.over_lines())?;
-        push_text(&mut rules, Marks::new(alloc, "r\"", "\"")?.over_lines())?;
+        push_comment(&mut rules, Delimiters::new(alloc, "//", "\n")?)?;
+        push_comment(&mut rules, Delimiters::new(alloc, "/*", "*/")?.over_lines())?;
+        push_text(&mut rules, Delimiters::new(alloc, "'\"'", "")?)?;
+        push_text(&mut rules, Delimiters::new(alloc, "'\\\"'", "")?)?;
+        push_text(
+            &mut rules,
+            Delimiters::new(alloc, "r#\"", "\"#")?.over_lines(),
+        )?;
+        push_text(
+            &mut rules,
+            Delimiters::new(alloc, "r\"", "\"")?.over_lines(),
+        )?;
         for opens in &["\"", "b\"", "c\""] {
-            let text = Marks::new(alloc, opens, "\"")?.escaped_by(b'\\');
+            let text = Delimiters::new(alloc, opens, "\"")?.escaped_by(b'\\');
             push_text(&mut rules, text.over_lines())?;
         }
         let style = Style::new().color(Color::Magenta);
@@ -64,21 +79,21 @@ const RUST_WORDS: [&str; 37] = [
     "where", "while", "yield",
 ];
 
-// What lies between these marks is a text.
-fn push_text(rules: &mut Vec<Rule>, marks: Marks) -> Result<(), AllocError> {
+// What lies between these delimiters is a text.
+fn push_text(rules: &mut Vec<Rule>, delimiters: Delimiters) -> Result<(), AllocError> {
     let style = Style::new().color(Color::Green);
     rules.push(Rule {
-        pattern: Pattern::Between(marks),
+        pattern: Pattern::Between(delimiters),
         style,
     })?;
     Ok(())
 }
 
-// What lies between these marks is a comment.
-fn push_comment(rules: &mut Vec<Rule>, marks: Marks) -> Result<(), AllocError> {
+// What lies between these delimiters is a comment.
+fn push_comment(rules: &mut Vec<Rule>, delimiters: Delimiters) -> Result<(), AllocError> {
     let style = Style::new().dimmed();
     rules.push(Rule {
-        pattern: Pattern::Between(marks),
+        pattern: Pattern::Between(delimiters),
         style,
     })?;
     Ok(())

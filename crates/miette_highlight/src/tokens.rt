@@ -5,10 +5,11 @@ ghost use Rattle.std.specs.Prelude.{length, take, drop, string_bytes};
 ghost use Rattle.std.specs.List.{starts_with};
 ghost use Rattle.miette_highlight.specs.rules.Patterns.{begins_within, close_end, is_among, is_escape, is_word_byte};
 ghost use Rattle.miette_highlight.specs.rules.Patterns.{inside, match_of, word_end};
-ghost use Rattle.miette_highlight.specs.rules.Tokens.{AreTokens, IsToken, first_match, running, token_at, token_of};
+ghost use Rattle.miette_highlight.specs.rules.Tokens.{AreTokens, IsToken, first_match, running_token, token_at};
+ghost use Rattle.miette_highlight.specs.rules.Tokens.{token_of};
 ghost use Rattle.miette_style.specs.rules.Pieces.{CutsLine};
 
-use crate::rule::{Marks, Pattern, Rule};
+use crate::rule::{Delimiters, Pattern, Rule};
 use miette_style::style::Style;
 use std::alloc::{AllocError, Global};
 
@@ -81,41 +82,41 @@ fn is_escape(escape: Option<u8>, byte: u8) -> bool
     }
 }
 
-// Whether the closing mark stands here.
-fn closes_here(marks: &Marks, escaped: bool, text: &[u8]) -> bool
-    ensures closes { result ≡ (not escaped && starts_with nat_eq text.now (string_bytes marks.now.closes)) }
-    ensures bound { IsTrue result → length (string_bytes marks.now.closes) ≤ length text.now }
+// Whether the closing delimiter stands here.
+fn closes_here(delimiters: &Delimiters, escaped: bool, text: &[u8]) -> bool
+    ensures closes { result ≡ (not escaped && starts_with nat_eq text.now (string_bytes delimiters.now.closes)) }
+    ensures bound { IsTrue result → length (string_bytes delimiters.now.closes) ≤ length text.now }
 {
-    !escaped && text.starts_with(marks.closes.as_bytes())
+    !escaped && text.starts_with(delimiters.closes.as_bytes())
 }
 
-// Where the first closing mark ends that isn't escaped, the text beginning at a place.
-fn close_end(marks: &Marks, start: usize, text: &[u8]) -> Option<usize>
+// Where the first closing delimiter ends that isn't escaped, the text beginning at a place.
+fn close_end(delimiters: &Delimiters, start: usize, text: &[u8]) -> Option<usize>
     requires { start + length text.now < 2 ^ 64 }
-    ensures { result ≡ close_end marks.now false start text.now }
+    ensures { result ≡ close_end delimiters.now false start text.now }
 {
     let mut escaped = false;
     let mut at = start;
     let mut rest = text;
     while let Some((byte, tail)) = rest.split_first() {
-        if closes_here(marks, escaped, rest) {
-            return Some(at + marks.closes.as_bytes().len());
+        if closes_here(delimiters, escaped, rest) {
+            return Some(at + delimiters.closes.as_bytes().len());
         }
-        escaped = !escaped && is_escape(marks.escape, *byte);
+        escaped = !escaped && is_escape(delimiters.escape, *byte);
         rest = tail;
         at += 1;
     }
     None
 }
 
-// Where what lies behind an opening mark ends, the text beginning at a place, and whether it stays open.
-fn inside(marks: &Marks, start: usize, text: &[u8]) -> (usize, bool)
+// Where what lies behind an opening delimiter ends, the text beginning at a place, and whether it stays open.
+fn inside(delimiters: &Delimiters, start: usize, text: &[u8]) -> (usize, bool)
     requires { start + length text.now < 2 ^ 64 }
-    ensures { result ≡ inside marks.now start text.now }
+    ensures { result ≡ inside delimiters.now start text.now }
 {
-    match close_end(marks, start, text) {
+    match close_end(delimiters, start, text) {
         Some(end) => (end, false),
-        None => (start + text.len(), marks.over_lines),
+        None => (start + text.len(), delimiters.over_lines),
     }
 }
 
@@ -127,9 +128,9 @@ fn match_of(pattern: &Pattern, text: &[u8]) -> Option<(usize, bool)>
     match pattern {
         Pattern::Words(words) if is_among(words, &text[..word]) => Some((word, false)),
         Pattern::From(first, last) if begins_within(*first, *last, text) => Some((word, false)),
-        Pattern::Between(marks) if text.starts_with(marks.opens.as_bytes()) => {
-            let start = marks.opens.as_bytes().len();
-            Some(inside(marks, start, &text[start..]))
+        Pattern::Between(delimiters) if text.starts_with(delimiters.opens.as_bytes()) => {
+            let start = delimiters.opens.as_bytes().len();
+            Some(inside(delimiters, start, &text[start..]))
         }
         _ => None,
     }
@@ -164,12 +165,12 @@ fn first_match(rules: &[Rule], text: &[u8]) -> Option<Token>
 
 // The rest of what the open rule found before.
 fn running(rules: &[Rule], left_open: Option<usize>, text: &[u8]) -> Option<Token>
-    ensures { result ≡ running rules.now left_open text.now }
+    ensures { result ≡ running_token rules.now left_open text.now }
 {
     let at = left_open?;
     let rule = rules.get(at)?;
     match &rule.pattern {
-        Pattern::Between(marks) => Some(token_of(at, rule.style, inside(marks, 0, text))),
+        Pattern::Between(delimiters) => Some(token_of(at, rule.style, inside(delimiters, 0, text))),
         _ => None,
     }
 }

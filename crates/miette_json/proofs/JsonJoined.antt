@@ -1,7 +1,7 @@
 -- The parts that are written make up the text of the value.
 use Rattle.std.proofs.Common.{◌≡◌, ℕ, List, [], ◌∷◌, ◌++◌, Option, Some, None, refl, sym, ap, ◌∙◌, append_assoc, append-nil, Bool, true, false, codes, option_map}
 use Rattle.std.specs.Prelude.{if◌then◌else◌}
-use Rattle.miette_json.specs.rules.Json.{Json, string, array, object, Items, item, Members, no_members, member, quoted, json_text, items_text, more_members_text}
+use Rattle.miette_json.specs.rules.Json.{Json, string, array, object, Items, item, Members, no_members, member, quoted_text, json_text, items_text, more_members_text}
 use Rattle.miette_protocol.specs.rules.Reading.{Source}
 use Rattle.miette_tree.specs.rules.Tree.{Tree, tree, head, source_of, cause_of, causes_of, related_of, effective}
 use Rattle.miette_json.specs.rules.JsonReport.{NameAnswers, own_fault, related_answers, maybe, strings, labels_json, file_name, report_json, reports_json}
@@ -22,17 +22,17 @@ append_parts out a b c new w x z e f g h =
 
 pub maybe_member : (key : List ℕ) (o : Option (List ℕ)) (more : Members) → more_members_text (maybe key o more) ≡ maybe_text key o ++ more_members_text more
 maybe_member key None more = refl
-maybe_member key (Some s) more = ap (λ l. 44 ∷ l) (sym (append_assoc (quoted key ++ (58 ∷ 32 ∷ [])) (quoted s) (more_members_text more) ∙ append_assoc (quoted key) (58 ∷ 32 ∷ []) (quoted s ++ more_members_text more)))
+maybe_member key (Some s) more = ap (λ l. 44 ∷ l) (sym (append_assoc (quoted_text key ++ (58 ∷ 32 ∷ [])) (quoted_text s) (more_members_text more) ∙ append_assoc (quoted_text key) (58 ∷ 32 ∷ []) (quoted_text s ++ more_members_text more)))
 
 pub one_member : (key : List ℕ) (v : Json) (more : Members) → more_members_text (member key v more) ≡ key_text key ++ (json_text v ++ more_members_text more)
-one_member key v more = ap (λ l. 44 ∷ l) (sym (append_assoc (quoted key) (58 ∷ 32 ∷ []) (json_text v ++ more_members_text more)))
+one_member key v more = ap (λ l. 44 ∷ l) (sym (append_assoc (quoted_text key) (58 ∷ 32 ∷ []) (json_text v ++ more_members_text more)))
 
 module _ (message_key code_key severity_key causes_key url_key help_key name_key labels_key related_key : List ℕ)
     (message severity : List ℕ) (code url help name : Option (List ℕ)) (causes labels related : Items) where
   pub parts :
       json_text (object (member message_key (string message) (maybe code_key code (member severity_key (string severity) (member causes_key (array causes)
       (maybe url_key url (maybe help_key help (maybe name_key name (member labels_key (array labels) (member related_key (array related) no_members))))))))))
-      ≡ (123 ∷ (quoted message_key ++ (58 ∷ 32 ∷ (quoted message ++ (maybe_text code_key code ++ (key_text severity_key ++ quoted severity))))))
+      ≡ (123 ∷ (quoted_text message_key ++ (58 ∷ 32 ∷ (quoted_text message ++ (maybe_text code_key code ++ (key_text severity_key ++ quoted_text severity))))))
       ++ ((key_text causes_key ++ (91 ∷ (items_text causes ++ (maybe_text url_key url ++ maybe_text help_key help))))
       ++ ((maybe_text name_key name ++ (key_text labels_key ++ (91 ∷ items_text labels)))
       ++ (key_text related_key ++ (91 ∷ (items_text related ++ 125 ∷ [])))))

@@ -10,8 +10,8 @@ use Rattle.std.proofs.lemmas.Fmt.{decimal_by_steps}
 use Rattle.std.proofs.lemmas.Bool.{ltb-true, ltb-false, lt-ltb, le-ltb}
 use Rattle.std.proofs.lemmas.Bool.Decides.{eqb_tells, nat_tests}
 use Rattle.std.proofs.lemmas.Str.{encode_ascii, digit_value-digit_char}
-use Rattle.miette_json.specs.rules.Json.{Json, number, string, array, object, Items, no_items, item, Members, no_members, member, digits_within, numeral, is_escaped, escape_letter, escaped_byte, escaped, quoted, json_text, items_text, more_items_text, members_text, more_members_text}
-use Rattle.miette_json.specs.rules.Denotes.{Token, mark, text, whole, tokens_then, items_then, more_items_then, members_then, more_members_then, Piece, plain, short, unit, short_for, IsPiece, hex, written, meant, ArePieces, all_written, all_meant, IsDigit, AreDigits, value_after, NoLeadingZero, NoDigitNext, IsMark, IsString, IsNumber, Begins, Next, AreTokens, HasTokensOf}
+use Rattle.miette_json.specs.rules.Json.{Json, number, string, array, object, Items, no_items, item, Members, no_members, member, digits_within, numeral, is_escaped, escape_letter, escaped_byte, escaped_text, quoted_text, json_text, items_text, more_items_text, members_text, more_members_text}
+use Rattle.miette_json.specs.rules.Denotes.{Token, mark, text, whole, tokens_then, items_then, more_items_then, members_then, more_members_then, Piece, plain, short, unit, short_for, IsPiece, hex, piece_text, piece_value, ArePieces, all_written, all_meant, IsDigit, AreDigits, value_after, NoLeadingZero, NoDigitNext, IsMark, IsString, IsNumber, Begins, Next, AreTokens, HasTokensOf}
 
 -- ---- numbers
 
@@ -174,11 +174,11 @@ pub escaped_is_ascii : (x : ℕ) → is_escaped x ≡ true → x < 128
 escaped_is_ascii x e = grind (arith, nat_tests)
 
 -- bytes that stand for themselves, in front of others
-escaped_run : (xs : List ℕ) (i : ℕ) → i ≤ length xs → ((k : ℕ) → k < i → is_escaped (get_or xs k 0) ≡ false) → escaped xs ≡ take i xs ++ escaped (drop i xs)
+escaped_run : (xs : List ℕ) (i : ℕ) → i ≤ length xs → ((k : ℕ) → k < i → is_escaped (get_or xs k 0) ≡ false) → escaped_text xs ≡ take i xs ++ escaped_text (drop i xs)
 escaped_run xs zero h f = refl
 escaped_run [] (suc i) h f = absurd (omega arith)
 escaped_run (x ∷ xs) (suc i) h f =
-    ap (λ l. l ++ escaped xs) (byte_itself x (f 0 (omega arith))) ∙ ap (λ l. x ∷ l) (escaped_run xs i (omega arith) (λ k l. f (suc k) (omega arith)))
+    ap (λ l. l ++ escaped_text xs) (byte_itself x (f 0 (omega arith))) ∙ ap (λ l. x ∷ l) (escaped_run xs i (omega arith) (λ k l. f (suc k) (omega arith)))
 
 -- the first byte that may not stand for itself
 pub record NextEscape (xs : List ℕ) (i : ℕ) : Type 0 where
@@ -193,30 +193,30 @@ next_escape xs i e =
     record { inside = found.0; here = found.1; low = escaped_is_ascii (get_or xs i 0) found.1; before = found.2 }
 
 -- what is written up to it and with it
-pub run_written : (start mid new xs goal : List ℕ) (i : ℕ) → NextEscape xs i → start ++ escaped xs ≡ goal
-    → mid ≡ start ++ take i xs → new ≡ mid ++ escaped_byte (get_or xs i 0) → new ++ escaped (drop (i + 1) xs) ≡ goal
+pub run_written : (start mid new xs goal : List ℕ) (i : ℕ) → NextEscape xs i → start ++ escaped_text xs ≡ goal
+    → mid ≡ start ++ take i xs → new ≡ mid ++ escaped_byte (get_or xs i 0) → new ++ escaped_text (drop (i + 1) xs) ≡ goal
 run_written start mid new xs goal i n e f g =
     let x = get_or xs i 0 in
-    let after = escaped (drop (i + 1) xs) in
-    let cut : escaped (drop i xs) ≡ escaped_byte x ++ after = ap escaped (drop-cons xs i 0 n.inside ∙ ap (λ k. x ∷ drop k xs) (sym (add-one i))) in
-    let split : escaped xs ≡ take i xs ++ (escaped_byte x ++ after) = escaped_run xs i (omega (arith, n.inside)) n.before ∙ ap (λ l. take i xs ++ l) cut in
+    let after = escaped_text (drop (i + 1) xs) in
+    let cut : escaped_text (drop i xs) ≡ escaped_byte x ++ after = ap escaped_text (drop-cons xs i 0 n.inside ∙ ap (λ k. x ∷ drop k xs) (sym (add-one i))) in
+    let split : escaped_text xs ≡ take i xs ++ (escaped_byte x ++ after) = escaped_run xs i (omega (arith, n.inside)) n.before ∙ ap (λ l. take i xs ++ l) cut in
     ap (λ l. l ++ after) g ∙ (append_assoc mid (escaped_byte x) after ∙ (ap (λ l. l ++ (escaped_byte x ++ after)) f ∙ (append_assoc start (take i xs) (escaped_byte x ++ after) ∙ (ap (λ l. start ++ l) (sym split) ∙ e))))
 
 -- no byte is escaped where none is found
 one_plain : (x : ℕ) (xs : List ℕ) (b : Bool) → is_escaped x ≡ b → suc (length xs) ≤ cond (not b) (1 + prefix_len (λ y. not (is_escaped y)) xs) 0
-    → (length xs ≤ prefix_len (λ y. not (is_escaped y)) xs → escaped xs ≡ xs) → escaped (x ∷ xs) ≡ x ∷ xs
+    → (length xs ≤ prefix_len (λ y. not (is_escaped y)) xs → escaped_text xs ≡ xs) → escaped_text (x ∷ xs) ≡ x ∷ xs
 one_plain x xs true e l f = absurd (omega arith)
-one_plain x xs false e l f = ap (λ b. b ++ escaped xs) (byte_itself x e) ∙ ap (λ b. x ∷ b) (f (omega arith))
+one_plain x xs false e l f = ap (λ b. b ++ escaped_text xs) (byte_itself x e) ∙ ap (λ b. x ∷ b) (f (omega arith))
 
-all_plain : (xs : List ℕ) → length xs ≤ prefix_len (λ x. not (is_escaped x)) xs → escaped xs ≡ xs
+all_plain : (xs : List ℕ) → length xs ≤ prefix_len (λ x. not (is_escaped x)) xs → escaped_text xs ≡ xs
 all_plain [] h = refl
 all_plain (x ∷ xs) h = one_plain x xs (is_escaped x) refl h (all_plain xs)
 
-none_found : (xs : List ℕ) (b : Bool) → nat_lt (position_or_len is_escaped xs) (length xs) ≡ b → None ≡ cond b (Some (position_or_len is_escaped xs)) None → escaped xs ≡ xs
+none_found : (xs : List ℕ) (b : Bool) → nat_lt (position_or_len is_escaped xs) (length xs) ≡ b → None ≡ cond b (Some (position_or_len is_escaped xs)) None → escaped_text xs ≡ xs
 none_found xs true f g = cc
 none_found xs false f g = all_plain xs (ltb-false (position_or_len is_escaped xs) (length xs) f)
 
-pub none_escaped : (xs : List ℕ) → None ≡ position is_escaped xs → escaped xs ≡ xs
+pub none_escaped : (xs : List ℕ) → None ≡ position is_escaped xs → escaped_text xs ≡ xs
 none_escaped xs e = none_found xs (nat_lt (position_or_len is_escaped xs) (length xs)) refl e
 
 no_letter : (x : ℕ) → 128 ≤ x → escape_letter x ≡ 0
@@ -251,8 +251,8 @@ control_written out front mid new x h l is e i k f j m g =
 record SpellsByte (x : ℕ) : Type 0 where
   piece : Piece
   right : IsPiece piece
-  spelled : (rest : List ℕ) → escaped_byte x ++ rest ≡ written piece rest
-  means : meant piece ≡ x ∷ []
+  spelled : (rest : List ℕ) → escaped_byte x ++ rest ≡ piece_text piece rest
+  means : piece_value piece ≡ x ∷ []
 
 low_byte : (x : ℕ) → escape_letter x ≡ 0 → x < 32 → SpellsByte x
 low_byte x e h =
@@ -288,7 +288,7 @@ spells_byte x = elim (letter_cases x) [
 record SpellsAll (s : List ℕ) : Type 0 where
   pieces : List Piece
   right : ArePieces pieces
-  spelled : (rest : List ℕ) → escaped s ++ rest ≡ all_written pieces rest
+  spelled : (rest : List ℕ) → escaped_text s ++ rest ≡ all_written pieces rest
   means : all_meant pieces ≡ s
 
 spells_all : (s : List ℕ) → SpellsAll s
@@ -299,17 +299,17 @@ spells_all (x ∷ s) =
     record {
       pieces = b.piece ∷ r.pieces;
       right = (b.right, r.right);
-      spelled = λ rest. append_assoc (escaped_byte x) (escaped s) rest ∙ (b.spelled (escaped s ++ rest) ∙ ap (written b.piece) (r.spelled rest));
+      spelled = λ rest. append_assoc (escaped_byte x) (escaped_text s) rest ∙ (b.spelled (escaped_text s ++ rest) ∙ ap (piece_text b.piece) (r.spelled rest));
       means = ap (λ l. l ++ all_meant r.pieces) b.means ∙ ap (λ l. x ∷ l) r.means;
     }
 
-string_spelled : (s rest : List ℕ) → IsString s (quoted s ++ rest) rest
+string_spelled : (s rest : List ℕ) → IsString s (quoted_text s ++ rest) rest
 string_spelled s rest =
     let r = spells_all s in
     record {
       pieces = r.pieces;
       right = r.right;
-      spelled = ap (λ l. 34 ∷ l) (append_assoc (escaped s) (34 ∷ []) rest ∙ r.spelled (34 ∷ rest));
+      spelled = ap (λ l. 34 ∷ l) (append_assoc (escaped_text s) (34 ∷ []) rest ∙ r.spelled (34 ∷ rest));
       means = r.means;
     }
 
@@ -337,18 +337,18 @@ more_members_end (member k v more) rest = inl (omega arith)
 
 -- a key, a colon, a space and a value
 key_spelled : (k : List ℕ) (v : Json) (more : Members) (ts : List Token) (rest : List ℕ) → AreTokens (tokens_then v (more_members_then more ts)) (json_text v ++ (more_members_text more ++ rest))
-    → AreTokens (text k ∷ mark 58 ∷ tokens_then v (more_members_then more ts)) ((quoted k ++ (58 ∷ 32 ∷ (json_text v ++ more_members_text more))) ++ rest)
+    → AreTokens (text k ∷ mark 58 ∷ tokens_then v (more_members_then more ts)) ((quoted_text k ++ (58 ∷ 32 ∷ (json_text v ++ more_members_text more))) ++ rest)
 key_spelled k v more ts rest r =
     let us : List Token = tokens_then v (more_members_then more ts) in
     let tail : List ℕ = (json_text v ++ more_members_text more) ++ rest in
     let colon : AreTokens (mark 58 ∷ us) (58 ∷ 32 ∷ tail) = put 58 us (32 ∷ tail) (inr (inl refl)) (after_space us tail (subst (AreTokens us) (sym (append_assoc (json_text v) (more_members_text more) rest)) r)) in
-    let key : AreTokens (text k ∷ mark 58 ∷ us) (quoted k ++ (58 ∷ 32 ∷ tail)) = (58 ∷ 32 ∷ tail, at_once (text k) (quoted k ++ (58 ∷ 32 ∷ tail)) (58 ∷ 32 ∷ tail) (string_spelled k (58 ∷ 32 ∷ tail)), colon) in
-    subst (AreTokens (text k ∷ mark 58 ∷ us)) (sym (append_assoc (quoted k) (58 ∷ 32 ∷ (json_text v ++ more_members_text more)) rest)) key
+    let key : AreTokens (text k ∷ mark 58 ∷ us) (quoted_text k ++ (58 ∷ 32 ∷ tail)) = (58 ∷ 32 ∷ tail, at_once (text k) (quoted_text k ++ (58 ∷ 32 ∷ tail)) (58 ∷ 32 ∷ tail) (string_spelled k (58 ∷ 32 ∷ tail)), colon) in
+    subst (AreTokens (text k ∷ mark 58 ∷ us)) (sym (append_assoc (quoted_text k) (58 ∷ 32 ∷ (json_text v ++ more_members_text more)) rest)) key
 
 mutual
   value_spelled : (v : Json) (ts : List Token) (rest : List ℕ) → NoDigitNext rest → AreTokens ts rest → AreTokens (tokens_then v ts) (json_text v ++ rest)
   value_spelled (number n) ts rest h r = (rest, at_once (whole n) (numeral n ++ rest) rest (number_spelled n rest h), r)
-  value_spelled (string s) ts rest h r = (rest, at_once (text s) (quoted s ++ rest) rest (string_spelled s rest), r)
+  value_spelled (string s) ts rest h r = (rest, at_once (text s) (quoted_text s ++ rest) rest (string_spelled s rest), r)
   value_spelled (array is) ts rest h r = put 91 (items_then is ts) (items_text is ++ rest) (inr (inr (inl refl))) (items_spelled is ts rest r)
   value_spelled (object ms) ts rest h r = put 123 (members_then ms ts) (members_text ms ++ rest) (inr (inr (inr (inr (inl refl))))) (members_spelled ms ts rest r)
 

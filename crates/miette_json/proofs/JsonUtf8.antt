@@ -5,7 +5,7 @@ use Rattle.std.specs.Char.{digit_char, digit_value, IsScalar}
 use Rattle.std.proofs.lemmas.Bool.{le-ltb}
 use Rattle.std.proofs.lemmas.Bool.Decides.{nat_tests}
 use Rattle.std.proofs.lemmas.Str.{encode_ascii, digit_value-digit_char, IsUtf8-nil, IsUtf8-append, IsUtf8-encode, IsUtf8-take, IsUtf8-drop, IsCharBoundary-before_ascii, IsCharBoundary-after_ascii}
-use Rattle.miette_json.specs.rules.Json.{Json, number, string, array, object, Items, no_items, item, Members, no_members, member, numeral, is_escaped, escape_letter, escaped_byte, escaped, quoted, json_text, items_text, more_items_text, members_text, more_members_text}
+use Rattle.miette_json.specs.rules.Json.{Json, number, string, array, object, Items, no_items, item, Members, no_members, member, numeral, is_escaped, escape_letter, escaped_byte, escaped_text, quoted_text, json_text, items_text, more_items_text, members_text, more_members_text}
 use Rattle.miette_json.specs.rules.Denotes.{Token, mark, text, whole, tokens_then, items_then, more_items_then, members_then, more_members_then, Piece, plain, short, unit, pair, short_for, IsHex, AreHex, hex, ArePieces, all_written, all_meant, AreDigits, IsMark, AreBlank, IsBlank, IsString, Next, AreTokens, TextsAreUtf8, HasUtf8Texts}
 use Rattle.miette_json.proofs.JsonSpelled.{letter_cases, ltb_cases, byte_short, byte_low, byte_itself, escaped_is_ascii, number_spelled}
 
@@ -93,21 +93,21 @@ escape_utf8 x e = elim (letter_cases x) [
 -- ---- the spelling of UTF-8 is UTF-8
 
 -- behind what was written before: bytes of a character need not stand in one write
-escaped_step : (pre : List ℕ) (x : ℕ) (s : List ℕ) (b : Bool) → is_escaped x ≡ b → IsUtf8 (pre ++ x ∷ s) → ((p : List ℕ) → IsUtf8 (p ++ s) → IsUtf8 (p ++ escaped s))
-    → IsUtf8 (pre ++ escaped (x ∷ s))
+escaped_step : (pre : List ℕ) (x : ℕ) (s : List ℕ) (b : Bool) → is_escaped x ≡ b → IsUtf8 (pre ++ x ∷ s) → ((p : List ℕ) → IsUtf8 (p ++ s) → IsUtf8 (p ++ escaped_text s))
+    → IsUtf8 (pre ++ escaped_text (x ∷ s))
 escaped_step pre x s true e u more =
     let c = cut pre s x (escaped_is_ascii x e) u in
-    IsUtf8-append pre (escaped_byte x ++ escaped s) c.0 (IsUtf8-append (escaped_byte x) (escaped s) (escape_utf8 x e) (more [] c.1))
+    IsUtf8-append pre (escaped_byte x ++ escaped_text s) c.0 (IsUtf8-append (escaped_byte x) (escaped_text s) (escape_utf8 x e) (more [] c.1))
 escaped_step pre x s false e u more =
-    let same : (pre ++ x ∷ []) ++ escaped s ≡ pre ++ (escaped_byte x ++ escaped s) = append_assoc pre (x ∷ []) (escaped s) ∙ ap (λ b. pre ++ (b ++ escaped s)) (sym (byte_itself x e)) in
+    let same : (pre ++ x ∷ []) ++ escaped_text s ≡ pre ++ (escaped_byte x ++ escaped_text s) = append_assoc pre (x ∷ []) (escaped_text s) ∙ ap (λ b. pre ++ (b ++ escaped_text s)) (sym (byte_itself x e)) in
     subst IsUtf8 same (more (pre ++ x ∷ []) (subst IsUtf8 (sym (append_assoc pre (x ∷ []) s)) u))
 
-escaped_utf8 : (s pre : List ℕ) → IsUtf8 (pre ++ s) → IsUtf8 (pre ++ escaped s)
+escaped_utf8 : (s pre : List ℕ) → IsUtf8 (pre ++ s) → IsUtf8 (pre ++ escaped_text s)
 escaped_utf8 [] pre u = u
 escaped_utf8 (x ∷ s) pre u = escaped_step pre x s (is_escaped x) refl u (escaped_utf8 s)
 
-quoted_utf8 : (s : List ℕ) → IsUtf8 s → IsUtf8 (quoted s)
-quoted_utf8 s u = behind_low 34 _ (omega arith) (IsUtf8-append (escaped s) (34 ∷ []) (escaped_utf8 s [] u) (one_low 34 (omega arith)))
+quoted_utf8 : (s : List ℕ) → IsUtf8 s → IsUtf8 (quoted_text s)
+quoted_utf8 s u = behind_low 34 _ (omega arith) (IsUtf8-append (escaped_text s) (34 ∷ []) (escaped_utf8 s [] u) (one_low 34 (omega arith)))
 
 digits_utf8 : (ds : List ℕ) → AreDigits ds → IsUtf8 ds
 digits_utf8 [] d = IsUtf8-nil
@@ -119,9 +119,9 @@ numeral_utf8 n =
     let same : r.first ∷ r.others ≡ numeral n = ap (λ l. r.first ∷ l) (sym (append-nil r.others)) ∙ (sym r.spelled ∙ append-nil (numeral n)) in
     subst IsUtf8 same (digits_utf8 (r.first ∷ r.others) r.digits)
 
-member_utf8 : (k value more : List ℕ) → IsUtf8 k → IsUtf8 value → IsUtf8 more → IsUtf8 (quoted k ++ (58 ∷ 32 ∷ (value ++ more)))
+member_utf8 : (k value more : List ℕ) → IsUtf8 k → IsUtf8 value → IsUtf8 more → IsUtf8 (quoted_text k ++ (58 ∷ 32 ∷ (value ++ more)))
 member_utf8 k value more a b c =
-    IsUtf8-append (quoted k) (58 ∷ 32 ∷ (value ++ more)) (quoted_utf8 k a) (behind_low 58 _ (omega arith) (behind_low 32 _ (omega arith) (IsUtf8-append value more b c)))
+    IsUtf8-append (quoted_text k) (58 ∷ 32 ∷ (value ++ more)) (quoted_utf8 k a) (behind_low 58 _ (omega arith) (behind_low 32 _ (omega arith) (IsUtf8-append value more b c)))
 
 mutual
   value_utf8 : (v : Json) (ts : List Token) → TextsAreUtf8 (tokens_then v ts) → IsUtf8 (json_text v) × TextsAreUtf8 ts

@@ -2,7 +2,7 @@
 
 ghost use Rattle.std.specs.Prelude.{◌≡◌, ◌<◌, ◌++◌, true, OnOk, position, string_bytes};
 ghost use Rattle.std.specs.Char.{digit_char};
-ghost use Rattle.miette_json.specs.rules.Json.{numeral, is_escaped, escaped_byte, escaped, quoted};
+ghost use Rattle.miette_json.specs.rules.Json.{numeral, is_escaped, escaped_byte, escaped_text, quoted_text};
 
 use std::alloc::AllocError;
 
@@ -15,7 +15,7 @@ pub(crate) fn push_number(out: &mut String, n: usize) -> Result<(), AllocError>
 
 /// Appends a string in quotes, with its escapes.
 pub(crate) fn push_quoted(out: &mut String, text: &str) -> Result<(), AllocError>
-    ensures { OnOk result (string_bytes out.new ≡ string_bytes out.old ++ quoted text.now) }
+    ensures { OnOk result (string_bytes out.new ≡ string_bytes out.old ++ quoted_text text.now) }
 {
     out.push_str("\"")?;
     push_escaped(out, text)?;
@@ -24,7 +24,7 @@ pub(crate) fn push_quoted(out: &mut String, text: &str) -> Result<(), AllocError
 
 /// Appends a text with its escapes: what needs none is copied at once.
 fn push_escaped(out: &mut String, text: &str) -> Result<(), AllocError>
-    ensures { OnOk result (string_bytes out.new ≡ string_bytes out.old ++ escaped text.now) }
+    ensures { OnOk result (string_bytes out.new ≡ string_bytes out.old ++ escaped_text text.now) }
 {
     let mut rest = text;
     while let Some(at) = first_escape(rest) {

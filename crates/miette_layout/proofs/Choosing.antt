@@ -10,10 +10,10 @@ use Rattle.miette_lines.specs.declared.reading.ReadLabel.{ReadLabel}
 use Rattle.miette_lines.specs.rules.Around.{has_own}
 use Rattle.miette_lines.specs.rules.Contexts.{contents}
 use Rattle.miette_snippets.specs.rules.Frames.{Place}
-use Rattle.miette_lines.specs.views.Given.{label_at}
+use Rattle.miette_lines.specs.views.GivenLabels.{label_at}
 use Rattle.miette_snippets.specs.rules.SnippetLayout.{is_within, first_marked, primary_of, begins_at, place_of}
-use Rattle.miette_lines.specs.views.Primary.{lies_within, or_else, chosen, PointsTo, begins_of, is_unread}
-use Rattle.miette_lines.specs.views.Read.{IsRead}
+use Rattle.miette_lines.specs.views.Primary.{lies_within, or_else, chosen_label, PointsTo, begins_of, is_unread}
+use Rattle.miette_lines.specs.views.Reads.{IsRead}
 use Rattle.miette_lines.proofs.Numbers.{by_cases}
 use Rattle.miette_lines.proofs.Refusing.{read_of}
 
@@ -36,23 +36,23 @@ tail_all : {X : Type 0} (P : X → Type 0) (x : X) (xs : List X) → All P (x �
 tail_all P x xs h = λ k d lt. h (suc k) d (omega arith)
 
 chosen_marked : (context : ℕ) (source : Source) (labels : List Label) (own : Bool) (group : Span) (first : Option Span) (reads : List ReadLabel) → All (IsRead context source labels) reads →
-    chosen own group first reads ≡ marked first (filter (is_within own group) (map (read_of labels) reads))
+    chosen_label own group first reads ≡ marked first (filter (is_within own group) (map (read_of labels) reads))
 chosen_marked context source labels own group first [] h = refl
 chosen_marked context source labels own group first (r ∷ rs) h =
     let mine : IsRead context source labels r = h 0 r (omega arith) in
     let later : All (IsRead context source labels) rs = tail_all (IsRead context source labels) r rs h in
     let l : Label = label_at labels r.index in
     let within : is_within own group l ≡ lies_within own group r.span = ap (lies_within own group) (sym mine.span) in
-    by_cases {C = chosen own group first (r ∷ rs) ≡ marked first (filter (is_within own group) (map (read_of labels) (r ∷ rs)))} (lies_within own group r.span)
+    by_cases {C = chosen_label own group first (r ∷ rs) ≡ marked first (filter (is_within own group) (map (read_of labels) (r ∷ rs)))} (lies_within own group r.span)
     (λ t. let u : is_within own group l ≡ true = within ∙ t in
-    rw (t, u) (ap (λ b. cond b (Some r.span) (chosen own group (Some (or_else first r.span)) rs)) mine.primary
-    ∙ ap (λ s. cond l.primary (Some s) (chosen own group (Some (or_else first s)) rs)) mine.span
+    rw (t, u) (ap (λ b. cond b (Some r.span) (chosen_label own group (Some (or_else first r.span)) rs)) mine.primary
+    ∙ ap (λ s. cond l.primary (Some s) (chosen_label own group (Some (or_else first s)) rs)) mine.span
     ∙ ap (cond l.primary (Some l.span)) (chosen_marked context source labels own group (Some (or_else first l.span)) rs later)))
     (λ f. let u : is_within own group l ≡ false = within ∙ f in rw (f, u) (chosen_marked context source labels own group first rs later))
 
 -- the chosen span is that of the primary label
 pub chosen_is : (context : ℕ) (source : Source) (labels : List Label) (own : Bool) (group : Span) (reads : List ReadLabel) → All (IsRead context source labels) reads →
-    chosen own group None reads ≡ option_map (λ l. l.span) (primary_of (filter (is_within own group) (map (read_of labels) reads)))
+    chosen_label own group None reads ≡ option_map (λ l. l.span) (primary_of (filter (is_within own group) (map (read_of labels) reads)))
 chosen_is context source labels own group reads h =
     chosen_marked context source labels own group None reads h ∙ marked_primary (filter (is_within own group) (map (read_of labels) reads))
 
@@ -65,13 +65,13 @@ accepted_else bytes None span h mine = mine
 accepted_else bytes (Some first) span h mine = h
 
 chosen_accepted : (context : ℕ) (source : Source) (labels : List Label) (own : Bool) (group : Span) (first : Option Span) (reads : List ReadLabel) → IfAccepted source.bytes first → All (IsRead context source labels) reads →
-    IfAccepted source.bytes (chosen own group first reads)
+    IfAccepted source.bytes (chosen_label own group first reads)
 chosen_accepted context source labels own group first [] k h = k
 chosen_accepted context source labels own group first (r ∷ rs) k h =
     let mine : IsRead context source labels r = h 0 r (omega arith) in
     let later : All (IsRead context source labels) rs = tail_all (IsRead context source labels) r rs h in
-    by_cases {C = IfAccepted source.bytes (chosen own group first (r ∷ rs))} (lies_within own group r.span)
-    (λ t. by_cases {C = IfAccepted source.bytes (chosen own group first (r ∷ rs))} r.primary
+    by_cases {C = IfAccepted source.bytes (chosen_label own group first (r ∷ rs))} (lies_within own group r.span)
+    (λ t. by_cases {C = IfAccepted source.bytes (chosen_label own group first (r ∷ rs))} r.primary
     (λ u. rw (t, u) mine.accepted)
     (λ g. rw (t, g) (chosen_accepted context source labels own group (Some (or_else first r.span)) rs (accepted_else source.bytes first r.span k mine.accepted) later)))
     (λ f. rw f (chosen_accepted context source labels own group first rs k later))
@@ -84,9 +84,9 @@ unread_of source (Some span) (places.At line column) k p u = cc
 unread_of source (Some span) places.Unread k p u = p k
 
 pub unread_fails : (context : ℕ) (source : Source) (labels : List Label) (own : Bool) (group : Span) (reads : List ReadLabel) (found : Found) → All (IsRead context source labels) reads →
-    PointsTo source (chosen own group None reads) found → is_unread found ≡ true → source.always_reads ≡ false
+    PointsTo source (chosen_label own group None reads) found → is_unread found ≡ true → source.always_reads ≡ false
 unread_fails context source labels own group reads found h p u =
-    unread_of source (chosen own group None reads) found (chosen_accepted context source labels own group None reads tt h) p u
+    unread_of source (chosen_label own group None reads) found (chosen_accepted context source labels own group None reads tt h) p u
 
 -- a place that was read is that of the definition
 abbrev pub framed_place : Found → Option Place
@@ -100,7 +100,7 @@ place_from source (Some label) (places.At line column) p u =
 place_from source (Some label) places.Unread p u = cc
 
 pub place_is : (context : ℕ) (source : Source) (labels : List Label) (own : Bool) (group : Span) (reads : List ReadLabel) (found : Found) → own ≡ has_own (map (read_of labels) reads) → All (IsRead context source labels) reads →
-    PointsTo source (chosen own group None reads) found → is_unread found ≡ false → framed_place found ≡ place_of source group (map (read_of labels) reads)
+    PointsTo source (chosen_label own group None reads) found → is_unread found ≡ false → framed_place found ≡ place_of source group (map (read_of labels) reads)
 place_is context source labels own group reads found which h p u =
     place_from source (primary_of (filter (is_within own group) (map (read_of labels) reads))) found
     (subst (λ (o : Option Span). PointsTo source o found) (chosen_is context source labels own group reads h) p) u

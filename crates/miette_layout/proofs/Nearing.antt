@@ -5,7 +5,7 @@ use Rattle.miette_protocol.specs.views.Meaning.{Label}
 use Rattle.miette_protocol.specs.rules.Reading.{Span, Source}
 use Rattle.miette_lines.specs.declared.reading.ReadLabel.{ReadLabel}
 use Rattle.miette_lines.specs.rules.Groups.{in_order, spans_of}
-use Rattle.miette_lines.specs.views.Read.{IsRead}
+use Rattle.miette_lines.specs.views.Reads.{IsRead}
 use Rattle.miette_snippets.proofs.Bodies.{order_same}
 use Rattle.miette_snippets.proofs.Merging.{sorted}
 use Rattle.miette_lines.proofs.Merging.{IsAscending}

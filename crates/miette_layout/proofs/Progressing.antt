@@ -9,7 +9,7 @@ use Rattle.std.proofs.lemmas.List.{drop_all, length-map}
 use Rattle.miette_newlines.specs.rules.Lines.{Line}
 use Rattle.miette_protocol.specs.views.Meaning.{Label}
 use Rattle.miette_protocol.specs.rules.Reading.{Span, Source, Contents}
-use Rattle.miette_style.specs.rules.Asked.{Call, Leads, restarted}
+use Rattle.miette_style.specs.rules.HighlighterCalls.{Call, Leads, restarted}
 use Rattle.miette_lines.specs.declared.grouping.Group.{Group}
 use Rattle.miette_lines.specs.declared.primary.Place.{Place as Found}
 use Rattle.miette_lines.specs.declared.reading.ReadLabel.{ReadLabel}
@@ -22,19 +22,19 @@ use Rattle.miette_page.specs.rules.Rows.{Row}
 use Rattle.miette_lines.specs.rules.Answers.{Answers, Highlight, first_of, later_of}
 use Rattle.miette_lines.specs.rules.Around.{has_own, group_context}
 use Rattle.miette_lines.specs.rules.Contexts.{contents, lines_of_contents}
-use Rattle.miette_layout.specs.views.Drawn.{MayGive}
+use Rattle.miette_layout.specs.views.Outcomes.{MayGive}
 use Rattle.miette_snippets.specs.rules.Frames.{SnippetSettings, Place, refused_row, top_row, bottom_row, number_width}
-use Rattle.miette_lines.specs.views.Given.{drawn_of, label_at}
+use Rattle.miette_lines.specs.views.GivenLabels.{drawn_of, label_at}
 use Rattle.miette_snippets.specs.rules.Gutters.{gutter_columns}
 use Rattle.miette_lines.specs.rules.Groups.{in_order, refusal, groups_of, some_fails, AreAccepted}
-use Rattle.miette_snippets.specs.rules.Highlighted.{EachHasPieces, SnippetsHavePieces, texts_of, line_calls, group_calls, snippet_calls}
+use Rattle.miette_snippets.specs.rules.Highlighting.{EachHasPieces, SnippetsHavePieces, texts_of, line_calls, group_calls, snippet_calls}
 use Rattle.miette_lines.specs.rules.Labels.{DrawnLabel, drawn_from, some_shows_end}
 use Rattle.miette_snippets.specs.rules.SnippetLayout.{snippet, all_snippets, drawn_labels, line_rows, settings_around, rows_unless, place_of, body_rows}
-use Rattle.miette_drawing.specs.views.Lent.{cells_in, lent_rows, lent_snippet, PutsRows}
+use Rattle.miette_drawing.specs.views.SnippetRows.{cells_in, lent_rows, lent_snippet, PutsRows}
 use Rattle.miette_lines.specs.views.Placing.{told_end, placed_from}
-use Rattle.miette_lines.specs.views.Primary.{chosen, PointsTo, is_unread}
-use Rattle.miette_lines.specs.views.Read.{IsRead, IsLent, AreGroups, AreGrouped, IsUnread, AreRead, name_of}
-use Rattle.miette_page.specs.views.Told.{Token, told_rows}
+use Rattle.miette_lines.specs.views.Primary.{chosen_label, PointsTo, is_unread}
+use Rattle.miette_lines.specs.views.Reads.{IsRead, IsLent, AreGroups, AreGrouped, IsUnread, AreRead, name_of}
+use Rattle.miette_page.specs.views.Tokens.{Token, rows_tokens}
 use Rattle.miette_snippets.proofs.Bodies.{none_refused}
 use Rattle.miette_lines.proofs.Bodies.{some_none}
 use Rattle.miette_layout.proofs.Choosing.{framed_place, place_is, unread_fails}
@@ -57,7 +57,7 @@ AreDrawn s source labels blank begun now groups i before page =
     (more : List (List (List Highlight))) → SnippetsHavePieces s.context blank source (spans_grouped (drop i groups)) more →
     (all : List (List (List Highlight))) × SnippetsHavePieces s.context blank source (spans_grouped groups) all
     × ((later : List Call) → now (group_calls s.context source (spans_grouped (drop i groups)) more ++ later) → begun (group_calls s.context source (spans_grouped groups) all ++ later))
-    × (page ⊕ told_rows (all_snippets s source (in_order labels) more (spans_grouped (drop i groups))) ≡ before ⊕ told_rows (all_snippets s source (in_order labels) all (spans_grouped groups)))
+    × (page ⊕ rows_tokens (all_snippets s source (in_order labels) more (spans_grouped (drop i groups))) ≡ before ⊕ rows_tokens (all_snippets s source (in_order labels) all (spans_grouped groups)))
 
 pub none_drawn : (s : SnippetSettings) (source : Source) (labels : List Label) (blank : Bool) (begun : List Call → Type 0) (groups : List Group) (page : Printout) → AreDrawn s source labels blank begun begun groups 0 page page
 none_drawn s source labels blank begun groups page = λ more h. (more, h, (λ later k. k), refl)
@@ -89,7 +89,7 @@ puts_around s c blank happen texts drawn lent place page more h = record {
   pieces = h.pieces;
   are = h.are;
   calls = h.calls;
-  is = h.is ∙ ap (λ rows. page ⊕ told_rows rows) (sym (snippet_around s c drawn lent place h.pieces));
+  is = h.is ∙ ap (λ rows. page ⊕ rows_tokens rows) (sym (snippet_around s c drawn lent place h.pieces));
 }
 
 drop_at : {X : Type 0} (xs : List X) (i : ℕ) (d : X) → i < length xs → drop i xs ≡ get_or xs i d ∷ drop (i + 1) xs
@@ -101,17 +101,17 @@ drop_at (x ∷ xs) (suc i) d lt = let e : suc i + 1 ≡ suc (i + 1) = omega arit
 group_step : (s : SnippetSettings) (source : Source) (labels : List Label) (groups : List Group) (i : ℕ) (group : Group) (pieces : List (List Highlight)) (later : List (List (List Highlight))) (page more : Printout) (drawn : List DrawnLabel) (place : Option Place) →
     spans_grouped (drop i groups) ≡ group.span ∷ spans_grouped (drop (i + 1) groups) → IsLent s.context source group.span group.contents →
     drawn ≡ drawn_labels s (length source.bytes) (in_order labels) → place ≡ place_of source group.span (in_order labels) →
-    more ≡ page ⊕ told_rows (lent_snippet s drawn group.contents place pieces) →
-    more ⊕ told_rows (all_snippets s source (in_order labels) later (spans_grouped (drop (i + 1) groups))) ≡ page ⊕ told_rows (all_snippets s source (in_order labels) (pieces ∷ later) (spans_grouped (drop i groups)))
+    more ≡ page ⊕ rows_tokens (lent_snippet s drawn group.contents place pieces) →
+    more ⊕ rows_tokens (all_snippets s source (in_order labels) later (spans_grouped (drop (i + 1) groups))) ≡ page ⊕ rows_tokens (all_snippets s source (in_order labels) (pieces ∷ later) (spans_grouped (drop i groups)))
 group_step s source labels groups i group pieces later page more drawn place front lent d p e =
     let ls : List Label = in_order labels in
     let rest : List Row = all_snippets s source ls later (spans_grouped (drop (i + 1) groups)) in
     let own : List Row = snippet s source ls group.span pieces in
-    ap (λ m. m ⊕ told_rows rest) e
-    ∙ put_append page (told_rows (lent_snippet s drawn group.contents place pieces)) (told_rows rest)
-    ∙ ap (λ rows. page ⊕ (told_rows rows ++ told_rows rest)) (snippet_same s source ls group.span drawn group.contents place pieces d lent.is p)
+    ap (λ m. m ⊕ rows_tokens rest) e
+    ∙ put_append page (rows_tokens (lent_snippet s drawn group.contents place pieces)) (rows_tokens rest)
+    ∙ ap (λ rows. page ⊕ (rows_tokens rows ++ rows_tokens rest)) (snippet_same s source ls group.span drawn group.contents place pieces d lent.is p)
     ∙ ap (λ t. page ⊕ t) (sym (told_rows-append own rest))
-    ∙ ap (λ ss. page ⊕ told_rows (all_snippets s source ls (pieces ∷ later) ss)) (sym front)
+    ∙ ap (λ ss. page ⊕ rows_tokens (all_snippets s source ls (pieces ∷ later) ss)) (sym front)
 
 pub drawn_more : (s : SnippetSettings) (source : Source) (labels : List Label) (blank : Bool) (begun was now : List Call → Type 0) (groups : List Group) (i : ℕ) (group : Group) (before page more : Printout) (drawn : List DrawnLabel) (place : Option Place) →
     AreDrawn s source labels blank begun was groups i before page → i < length groups → group ≡ get_or groups i group → IsLent s.context source group.span group.contents →
@@ -141,17 +141,17 @@ pub record IsWhole (s : SnippetSettings) (source : Source) (labels : List Label)
   pub have : SnippetsHavePieces s.context blank source (spans_grouped groups) pieces
   pub plain : blank ≡ true → pieces ≡ []
   pub calls : happen (group_calls s.context source (spans_grouped groups) pieces)
-  pub is : page ≡ before ⊕ told_rows (all_snippets s source (in_order labels) pieces (spans_grouped groups))
+  pub is : page ≡ before ⊕ rows_tokens (all_snippets s source (in_order labels) pieces (spans_grouped groups))
 
 -- where lines are left plain there are no pieces
 unless_plain : (s : SnippetSettings) (source : Source) (labels : List Label) (blank : Bool) (happen : List Call → Type 0) (groups : List Group) (before page : Printout) (pieces : List (List (List Highlight))) →
-    SnippetsHavePieces s.context blank source (spans_grouped groups) pieces → happen (group_calls s.context source (spans_grouped groups) pieces) → page ≡ before ⊕ told_rows (all_snippets s source (in_order labels) pieces (spans_grouped groups)) → IsWhole s source labels blank happen groups before page
+    SnippetsHavePieces s.context blank source (spans_grouped groups) pieces → happen (group_calls s.context source (spans_grouped groups) pieces) → page ≡ before ⊕ rows_tokens (all_snippets s source (in_order labels) pieces (spans_grouped groups)) → IsWhole s source labels blank happen groups before page
 unless_plain s source labels true happen groups before page pieces h c e = record {
   pieces = [];
   have = none_have s.context true source (spans_grouped groups);
   plain = λ b. refl;
   calls = subst happen (calls_plain s.context source (spans_grouped groups) pieces h) c;
-  is = e ∙ ap (λ rows. before ⊕ told_rows rows) (snippets_plain s source (in_order labels) pieces (spans_grouped groups) h);
+  is = e ∙ ap (λ rows. before ⊕ rows_tokens rows) (snippets_plain s source (in_order labels) pieces (spans_grouped groups) h);
 }
 unless_plain s source labels false happen groups before page pieces h c e = record { pieces = pieces; have = h; plain = λ b. absurd (cc); calls = c; is = e }
 
@@ -162,7 +162,7 @@ all_drawn s source labels blank begun now groups i before page h le =
     let all = h [] (none_have s.context blank source (spans_grouped (drop i groups))) in
     unless_plain s source labels blank (λ calls. Leads begun calls now) groups before page all.0 all.1
     (λ later k. all.2 later (subst (λ (gs : List Group). now (group_calls s.context source (spans_grouped gs) [] ++ later)) (sym none) k))
-    (sym (put_nil page) ∙ ap (λ gs. page ⊕ told_rows (all_snippets s source (in_order labels) [] (spans_grouped gs))) (sym none) ∙ all.3)
+    (sym (put_nil page) ∙ ap (λ gs. page ⊕ rows_tokens (all_snippets s source (in_order labels) [] (spans_grouped gs))) (sym none) ∙ all.3)
 
 -- the labels' groups
 
@@ -187,9 +187,9 @@ gives_rows s source labels blank happen reads groups before page order h g e =
       plain = e.plain;
       calls = subst (λ r. happen (if is_some r then [] else group_calls s'.context source spans e.pieces)) (sym (none_refused_here s.context source labels reads order h))
           (subst (λ (gs : List Span). happen (group_calls s'.context source gs e.pieces)) g.are e.calls);
-      is = ap Some (e.is ∙ ap (λ gs. before ⊕ told_rows (all_snippets s' source ls e.pieces gs)) g.are)
-          ∙ sym (ap₂ (λ a b. option_map (λ rows. before ⊕ told_rows rows) (cond (a || b) None (Some (all_snippets s' source ls e.pieces spans)))) g.read (some_none [] spans tt))
-          ∙ sym (ap (λ r. option_map (λ rows. before ⊕ told_rows rows) (rows_unless s source ls answers (option_map (refused_row s) r))) (none_refused_here s.context source labels reads order h));
+      is = ap Some (e.is ∙ ap (λ gs. before ⊕ rows_tokens (all_snippets s' source ls e.pieces gs)) g.are)
+          ∙ sym (ap₂ (λ a b. option_map (λ rows. before ⊕ rows_tokens rows) (cond (a || b) None (Some (all_snippets s' source ls e.pieces spans)))) g.read (some_none [] spans tt))
+          ∙ sym (ap (λ r. option_map (λ rows. before ⊕ rows_tokens rows) (rows_unless s source ls answers (option_map (refused_row s) r))) (none_refused_here s.context source labels reads order h));
     }
 
 -- the answers up to a place that can't be read
@@ -205,7 +205,7 @@ one_fails (suc i) (g ∷ gs) lt = one_fails i gs (omega (arith, lt))
 -- a place can't be read
 pub gives_none : (s : SnippetSettings) (source : Source) (labels : List Label) (blank : Bool) (happen : List Call → Type 0) (own : Bool) (reads : List ReadLabel) (groups : List Group) (i : ℕ) (span : Span) (found : Found) (before : Printout) → map (read_of labels) reads ≡ in_order labels →
     All (IsRead s.context source labels) reads → AreGroups s.context source (in_order labels) groups → i < length groups →
-    PointsTo source (chosen own span None reads) found → is_unread found ≡ true → MayGive s source labels blank happen before None
+    PointsTo source (chosen_label own span None reads) found → is_unread found ≡ true → MayGive s source labels blank happen before None
 gives_none s source labels blank happen own reads groups i span found before order h g lt p u =
     let ls : List Label = in_order labels in
     let s' : SnippetSettings = settings_around s ls in
@@ -219,8 +219,8 @@ gives_none s source labels blank happen own reads groups i span found before ord
       pieces = none_have s'.context blank source spans;
       plain = λ b. refl;
       calls = tt;
-      is = sym (ap₂ (λ a b. option_map (λ rows. before ⊕ told_rows rows) (cond (a || b) None (Some (all_snippets s' source ls [] spans)))) g.read (one_fails i spans many))
-          ∙ sym (ap (λ r. option_map (λ rows. before ⊕ told_rows rows) (rows_unless s source ls answers (option_map (refused_row s) r))) (none_refused_here s.context source labels reads order h));
+      is = sym (ap₂ (λ a b. option_map (λ rows. before ⊕ rows_tokens rows) (cond (a || b) None (Some (all_snippets s' source ls [] spans)))) g.read (one_fails i spans many))
+          ∙ sym (ap (λ r. option_map (λ rows. before ⊕ rows_tokens rows) (rows_unless s source ls answers (option_map (refused_row s) r))) (none_refused_here s.context source labels reads order h));
     }
 
 -- the read of a group failed
@@ -237,8 +237,8 @@ gives_unread s source labels blank happen reads before order h g =
       pieces = none_have s'.context blank source spans;
       plain = λ b. refl;
       calls = tt;
-      is = sym (ap (λ b. option_map (λ rows. before ⊕ told_rows rows) (cond (b || some_fails [] spans) None (Some (all_snippets s' source ls [] spans)))) g.unread)
-          ∙ sym (ap (λ r. option_map (λ rows. before ⊕ told_rows rows) (rows_unless s source ls answers (option_map (refused_row s) r))) (none_refused_here s.context source labels reads order h));
+      is = sym (ap (λ b. option_map (λ rows. before ⊕ rows_tokens rows) (cond (b || some_fails [] spans) None (Some (all_snippets s' source ls [] spans)))) g.unread)
+          ∙ sym (ap (λ r. option_map (λ rows. before ⊕ rows_tokens rows) (rows_unless s source ls answers (option_map (refused_row s) r))) (none_refused_here s.context source labels reads order h));
     }
 
 -- the labels as they are drawn, in order
@@ -261,7 +261,7 @@ placed_rise s source labels reads end placed order h told e =
     (placed_sorted (s.end_labels && some_shows_end s.context (length source.bytes) (in_order labels)) s.styles.highlights s.context source labels reads h order)
 
 pub place_ordered : (context : ℕ) (source : Source) (labels : List Label) (own : Bool) (group : Span) (reads : List ReadLabel) (found : Found) → own ≡ has_own labels → map (read_of labels) reads ≡ in_order labels →
-    All (IsRead context source labels) reads → PointsTo source (chosen own group None reads) found → is_unread found ≡ false → framed_place found ≡ place_of source group (in_order labels)
+    All (IsRead context source labels) reads → PointsTo source (chosen_label own group None reads) found → is_unread found ≡ false → framed_place found ≡ place_of source group (in_order labels)
 place_ordered context source labels own group reads found which order h p u =
     place_is context source labels own group reads found (which ∙ sym (own_ordered labels) ∙ ap has_own (sym order)) h p u ∙ ap (place_of source group) order
 
@@ -274,7 +274,7 @@ named reasons.OutOfBounds = refl
 -- a label is refused
 pub gives_refused : (s : SnippetSettings) (source : Source) (labels order : List Label) (blank : Bool) (happen : List Call → Type 0) (read : ReadLabels) (index : ℕ) (reason : Refusal) (label : Label) (text : List ℕ) (before page : Printout) →
     AreRead s.context source labels order read → read ≡ reads.Refused index reason → order ≡ in_order labels → label ≡ get_or labels index label → text ≡ name_of reason →
-    page ≡ before ⊕ told_rows (refused_row s (record { label = label; name = chars text }) ∷ []) → happen [] → MayGive s source labels blank happen before (Some page)
+    page ≡ before ⊕ rows_tokens (refused_row s (record { label = label; name = chars text }) ∷ []) → happen [] → MayGive s source labels blank happen before (Some page)
 gives_refused s source labels order blank happen read index reason label text before page h is same at called e nothing =
     let name : List ℕ = chars text in
     let names : name ≡ name_of reason = ap chars called ∙ named reason in
@@ -292,7 +292,7 @@ gives_refused s source labels order blank happen read index reason label text be
       plain = λ b. refl;
       calls = subst (λ r. happen (if is_some r then [] else group_calls (group_context s.context ls) source (groups_of s.context source [] ls) [])) (sym refused) nothing;
       is = ap Some e
-          ∙ sym (ap (λ r. option_map (λ rows. before ⊕ told_rows rows) (rows_unless s source ls answers (option_map (refused_row s) r))) refused);
+          ∙ sym (ap (λ r. option_map (λ rows. before ⊕ rows_tokens rows) (rows_unless s source ls answers (option_map (refused_row s) r))) refused);
     }
 
 pub groups_lent : (context : ℕ) (source : Source) (labels : List Label) (groups : List Group) (i : ℕ) (group : Group) → AreGroups context source labels groups → i < length groups → group ≡ get_or groups i group →

@@ -2,13 +2,13 @@
 
 ghost use Rattle.std.specs.Prelude.{◌≡◌, [], List, Some, None, map, IfOk, MatchResult, if◌then◌else◌};
 ghost use Rattle.std.specs.List.{All};
-ghost use Rattle.miette_layout.specs.views.Drawn.{MayGive, RefusesWith};
+ghost use Rattle.miette_layout.specs.views.Outcomes.{MayGive, RefusesWith};
 ghost use Rattle.miette_snippets.specs.views.ThemeSettings.{settings_of};
-ghost use Rattle.miette_lines.specs.views.Given.{label_at};
+ghost use Rattle.miette_lines.specs.views.GivenLabels.{label_at};
 ghost use Rattle.miette_lines.specs.rules.Groups.{in_order};
-ghost use Rattle.miette_snippets.specs.rules.Highlighted.{AreCallsOn, leaves_plain};
+ghost use Rattle.miette_snippets.specs.rules.Highlighting.{AreCallsOn, leaves_plain};
 ghost use Rattle.miette_lines.specs.views.Placing.{told_end};
-ghost use Rattle.miette_lines.specs.views.Read.{IsRead, name_of as name_of_reason};
+ghost use Rattle.miette_lines.specs.views.Reads.{IsRead, name_of as name_of_reason};
 
 use miette_drawing::frame::{Frame, push_refused_row};
 use miette_drawing::snippet::{Drawing, Passage, push_snippet};

@@ -16,15 +16,15 @@ use Rattle.miette_lines.specs.declared.grouping.Group.{Group}
 use Rattle.miette_lines.specs.declared.reading.ReadLabel.{ReadLabel}
 use Rattle.miette_lines.specs.rules.Around.{has_own, lines_around}
 use Rattle.miette_lines.specs.rules.Contexts.{contents, end_of_span}
-use Rattle.miette_lines.specs.views.Given.{label_at}
-use Rattle.miette_lines.specs.rules.Groups.{in_order, spans_of, joined, stretch, put_stretch, by_begin, stretches_from, joined_stretches, own_groups, groups_answered, groups_of, some_fails}
-use Rattle.miette_lines.specs.views.Read.{IsRead, IsLent, AreJoined, AreGroups, AreGrouped}
+use Rattle.miette_lines.specs.views.GivenLabels.{label_at}
+use Rattle.miette_lines.specs.rules.Groups.{in_order, spans_of, joined_span, stretch, put_stretch, by_begin, stretches_from, joined_stretches, own_groups, groups_answered, groups_of, some_fails}
+use Rattle.miette_lines.specs.views.Reads.{IsRead, IsLent, AreJoined, AreGroups, AreGrouped}
 use Rattle.miette_lines.proofs.Sources.{IsCut, lines}
 use Rattle.miette_lines.proofs.Numbers.{by_cases}
 use Rattle.miette_lines.proofs.Lines.{cut-le, end-in}
 use Rattle.miette_lines.proofs.Data.{cut}
 use Rattle.miette_lines.proofs.Bridge.{lines_same, end_same, some-context}
-use Rattle.miette_lines.proofs.Combined.{none_unread}
+use Rattle.miette_lines.proofs.NoFailures.{none_unread}
 use Rattle.miette_lines.proofs.Gathering.{joined_accepted}
 use Rattle.miette_lines.proofs.Owning.{own_ordered, neither, none_around}
 use Rattle.miette_lines.proofs.Refusing.{read_of}
@@ -86,7 +86,7 @@ from_accepted : (bytes : List ℕ) (before : Span) (spans : List Span) → IsAcc
 from_accepted bytes before [] own h = (own, tt)
 from_accepted bytes before (span ∷ spans) own h =
     by_cases {C = AllByRecursion (IsAccepted bytes) (stretches_from before (span ∷ spans))} (leb span.offset (end_of_span before))
-    (λ t. rw t (from_accepted bytes (joined before span) spans (joined_accepted bytes before span own h.0) h.1)) (λ f. rw f (own, from_accepted bytes span spans h.0 h.1))
+    (λ t. rw t (from_accepted bytes (joined_span before span) spans (joined_accepted bytes before span own h.0) h.1)) (λ f. rw f (own, from_accepted bytes span spans h.0 h.1))
 
 stretches_accepted : (bytes : List ℕ) (spans : List Span) → AllByRecursion (IsAccepted bytes) spans → AllByRecursion (IsAccepted bytes) (joined_stretches spans)
 stretches_accepted bytes [] h = tt

@@ -8,7 +8,7 @@ use Rattle.miette_newlines.specs.declared.lines.LineOfText.{LineOfText}
 use Rattle.miette_newlines.specs.views.Walking.{Rest, IsFirst, behind, line_of_text, lines_left}
 use Rattle.miette_lines.specs.declared.sweep.Placed.{Placed}
 use Rattle.miette_lines.specs.views.Sweeping.{line_of_bounds, passes, is_multi, IsAt, IsOn, AreSorted}
-use Rattle.miette_lines.specs.views.Swept.{most_multi}
+use Rattle.miette_lines.specs.views.LabelCounts.{most_multi}
 use Rattle.miette_lines.proofs.Swept.{left_at}
 
 -- `&bytes[at..]` is what is left after so many

@@ -7,8 +7,8 @@ use Rattle.miette_protocol.specs.rules.Reading.{Span, Source, IsAccepted}
 use Rattle.miette_lines.specs.declared.grouping.Group.{Group}
 use Rattle.miette_lines.specs.declared.reading.ReadLabel.{ReadLabel}
 use Rattle.miette_lines.specs.rules.Answers.{NoneFails, next_answer, later_answers}
-use Rattle.miette_lines.specs.rules.Groups.{joined, joins_before, groups_from, groups_answered}
-use Rattle.miette_lines.specs.views.Read.{IsLent, AreJoined}
+use Rattle.miette_lines.specs.rules.Groups.{joined_span, joins_before, groups_from, groups_answered}
+use Rattle.miette_lines.specs.views.Reads.{IsLent, AreJoined}
 use Rattle.miette_lines.proofs.Numbers.{by_cases}
 
 -- the groups of what is left, in front of which some are done
@@ -19,7 +19,7 @@ pub record AreGathered (context : ℕ) (source : Source) (spans rest : List Span
   pub lent : All (λ group. IsLent context source group.span group.contents) done
   pub own : IsLent context source before.span before.contents
 
-pub joined_accepted : (bytes : List ℕ) (a b : Span) → IsAccepted bytes a → IsAccepted bytes b → IsAccepted bytes (joined a b)
+pub joined_accepted : (bytes : List ℕ) (a b : Span) → IsAccepted bytes a → IsAccepted bytes b → IsAccepted bytes (joined_span a b)
 joined_accepted bytes a b h k = record { begins = h.begins; ends = omega (arith, h.begins, h.ends, k.begins, k.ends) }
 
 none_more : (fails : List Bool) (b : Bool) → b ≡ false → NoneFails fails → NoneFails (fails ++ b ∷ [])
@@ -44,7 +44,7 @@ gathered_first context source span rest done before none at own =
 
 -- a label joins
 pub gathered_join : (context : ℕ) (source : Source) (spans : List Span) (span : Span) (rest : List Span) (done : List Group) (before next : Group) →
-    AreGathered context source spans (span ∷ rest) done before → joins_before context source before.span span ≡ true → next.span ≡ joined before.span span → IsLent context source next.span next.contents →
+    AreGathered context source spans (span ∷ rest) done before → joins_before context source before.span span ≡ true → next.span ≡ joined_span before.span span → IsLent context source next.span next.contents →
     AreGathered context source spans rest done next
 gathered_join context source spans span rest done before next h joins at own = record {
   fails = h.fails ++ false ∷ [];
@@ -52,7 +52,7 @@ gathered_join context source spans span rest done before next h joins at own = r
   are = λ more.
       ap (λ f. groups_answered context source f spans) (more_fails h.fails false more)
       ∙ h.are (false ∷ more)
-      ∙ ap (λ b. map (λ group. group.span) done ++ cond b (groups_from context source (joined before.span span) more rest) (before.span ∷ groups_from context source span (false ∷ more) rest)) joins
+      ∙ ap (λ b. map (λ group. group.span) done ++ cond b (groups_from context source (joined_span before.span span) more rest) (before.span ∷ groups_from context source span (false ∷ more) rest)) joins
       ∙ ap (λ s. map (λ group. group.span) done ++ groups_from context source s more rest) (sym at);
   lent = h.lent;
   own = own;
@@ -70,7 +70,7 @@ gathered_apart context source spans span rest done before next h apart at own = 
   always = h.always;
   are = λ more.
       h.are more
-      ∙ ap (λ b. map (λ group. group.span) done ++ cond b (cond (next_answer more) (before.span ∷ groups_from context source span (later_answers more) rest) (groups_from context source (joined before.span span) (later_answers more) rest)) (before.span ∷ groups_from context source span more rest)) apart
+      ∙ ap (λ b. map (λ group. group.span) done ++ cond b (cond (next_answer more) (before.span ∷ groups_from context source span (later_answers more) rest) (groups_from context source (joined_span before.span span) (later_answers more) rest)) (before.span ∷ groups_from context source span more rest)) apart
       ∙ pushed done before (groups_from context source span more rest)
       ∙ ap (λ s. map (λ group. group.span) (done ++ before ∷ []) ++ groups_from context source s more rest) (sym at);
   lent = All-push (λ group. IsLent context source group.span group.contents) done before h.lent h.own;
@@ -155,7 +155,7 @@ own_step context source labels rest item i done before lt is h =
 
 pub loop_join : (context : ℕ) (source : Source) (labels rest : List ReadLabel) (item : ReadLabel) (i : ℕ) (done : List Group) (before next : Group) → i < length rest → item ≡ get_or rest i item →
     AreGathered context source (spans_read labels) (spans_read (drop i rest)) done before →
-    (joins_before context source before.span item.span ≡ true) × (next.span ≡ joined before.span item.span) × IsLent context source next.span next.contents →
+    (joins_before context source before.span item.span ≡ true) × (next.span ≡ joined_span before.span item.span) × IsLent context source next.span next.contents →
     AreGathered context source (spans_read labels) (spans_read (drop (i + 1) rest)) done next
 loop_join context source labels rest item i done before next lt is h k =
     gathered_join context source (spans_read labels) item.span (spans_read (drop (i + 1) rest)) done before next (own_step context source labels rest item i done before lt is h) k.0 k.1 k.2
@@ -183,7 +183,7 @@ no_groups context source (l ∷ ls) groups none e = absurd (omega (arith, none))
 abbrev pub Extends : ℕ → Source → Group → ReadLabel → Option Group → Type 0
 Extends context source before label r =
     MatchOption r (joins_before context source before.span label.span ≡ true → source.always_reads ≡ false)
-    (λ group. (joins_before context source before.span label.span ≡ true) × (group.span ≡ joined before.span label.span) × IsLent context source group.span group.contents)
+    (λ group. (joins_before context source before.span label.span ≡ true) × (group.span ≡ joined_span before.span label.span) × IsLent context source group.span group.contents)
 
 pub loop_some : (context : ℕ) (source : Source) (labels rest : List ReadLabel) (item : ReadLabel) (i : ℕ) (done more : List Group) (before next group : Group) (r : Option Group) → i < length rest → item ≡ get_or rest i item →
     AreGathered context source (spans_read labels) (spans_read (drop i rest)) done before → Extends context source before item r → r ≡ Some group → more ≡ done → next ≡ group →

@@ -1,7 +1,7 @@
 -- Labels by offset join as their spans do.
 use Rattle.std.specs.Prelude.{ℕ, ◌+◌, List, [], ◌∷◌, Bool, if◌then◌else◌, nat_le}
 use Rattle.miette_protocol.specs.rules.Reading.{Span}
-use Rattle.miette_lines.specs.rules.Groups.{joined}
+use Rattle.miette_lines.specs.rules.Groups.{joined_span}
 use Rattle.miette_lines.proofs.Sources.{read}
 
 -- whether a label joins the snippet before it
@@ -11,7 +11,7 @@ joins c source before label = nat_le (read c source label).line ((read c source 
 abbrev pub groups_from : ℕ → List ℕ → Span → List Span → List Span
 groups_from c source before [] = before ∷ []
 groups_from c source before (label ∷ labels) =
-    if joins c source before label then groups_from c source (joined before label) labels
+    if joins c source before label then groups_from c source (joined_span before label) labels
     else before ∷ groups_from c source label labels
 
 -- the groups of labels by offset

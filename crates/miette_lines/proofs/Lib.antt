@@ -1,7 +1,7 @@
 pub mod Bodies
 pub mod Bridge
 pub mod Collecting
-pub mod Combined
+pub mod NoFailures
 pub mod Data
 pub mod Firsts
 pub mod Gathering

@@ -5,10 +5,10 @@ use Rattle.miette_protocol.specs.views.Meaning.{Label}
 use Rattle.miette_protocol.specs.rules.Reading.{Span, Source}
 use Rattle.miette_lines.specs.declared.reading.ReadLabel.{ReadLabel}
 use Rattle.miette_lines.specs.rules.Contexts.{end_of_span}
-use Rattle.miette_lines.specs.views.Given.{label_at}
+use Rattle.miette_lines.specs.views.GivenLabels.{label_at}
 use Rattle.miette_lines.specs.rules.Groups.{spans_of}
-use Rattle.miette_lines.specs.views.Primary.{end_within, lies_within, or_else, chosen}
-use Rattle.miette_lines.specs.views.Read.{IsRead}
+use Rattle.miette_lines.specs.views.Primary.{end_within, lies_within, or_else, chosen_label}
+use Rattle.miette_lines.specs.views.Reads.{IsRead}
 use Rattle.miette_lines.proofs.Numbers.{by_cases}
 use Rattle.miette_lines.proofs.Merging.{IsAscending}
 use Rattle.miette_lines.proofs.Refusing.{read_of}
@@ -35,24 +35,24 @@ begins_behind own group span h =
 abbrev pub IsOutside : Bool → Span → ReadLabel → Type 0
 IsOutside own group read = lies_within own group read.span ≡ false
 
-pub none_chosen : (own : Bool) (group : Span) (first : Option Span) (reads : List ReadLabel) → ((j : ℕ) (d : ReadLabel) → j < length reads → IsOutside own group (get_or reads j d)) → chosen own group first reads ≡ first
+pub none_chosen : (own : Bool) (group : Span) (first : Option Span) (reads : List ReadLabel) → ((j : ℕ) (d : ReadLabel) → j < length reads → IsOutside own group (get_or reads j d)) → chosen_label own group first reads ≡ first
 none_chosen own group first [] h = refl
 none_chosen own group first (r ∷ rs) h = rw (h 0 r (omega arith)) (none_chosen own group first rs (λ j d lt. h (suc j) d (omega (arith, lt))))
 
 pub front_chosen : (own : Bool) (group : Span) (first : Option Span) (n : ℕ) (reads : List ReadLabel) → ((j : ℕ) (d : ReadLabel) → n ≤ j → j < length reads → IsOutside own group (get_or reads j d)) →
-    chosen own group first (take n reads) ≡ chosen own group first reads
+    chosen_label own group first (take n reads) ≡ chosen_label own group first reads
 front_chosen own group first zero reads h = sym (none_chosen own group first reads (λ j d lt. h j d (omega arith) lt))
 front_chosen own group first (suc n) [] h = refl
 front_chosen own group first (suc n) (r ∷ rs) h =
     let later : (j : ℕ) (d : ReadLabel) → n ≤ j → j < length rs → IsOutside own group (get_or rs j d) = λ j d le lt. h (suc j) d (omega (arith, le)) (omega (arith, lt)) in
-    by_cases {C = chosen own group first (r ∷ take n rs) ≡ chosen own group first (r ∷ rs)} (lies_within own group r.span)
-    (λ t. by_cases {C = chosen own group first (r ∷ take n rs) ≡ chosen own group first (r ∷ rs)} r.primary
+    by_cases {C = chosen_label own group first (r ∷ take n rs) ≡ chosen_label own group first (r ∷ rs)} (lies_within own group r.span)
+    (λ t. by_cases {C = chosen_label own group first (r ∷ take n rs) ≡ chosen_label own group first (r ∷ rs)} r.primary
     (λ u. rw (t, u) refl)
     (λ g. rw (t, g) (front_chosen own group (Some (or_else first r.span)) n rs later)))
     (λ f. rw f (front_chosen own group first n rs later))
 
 pub between_chosen : (own : Bool) (group : Span) (first : Option Span) (m n : ℕ) (reads : List ReadLabel) → ((j : ℕ) (d : ReadLabel) → j < m → j < length reads → IsOutside own group (get_or reads j d)) →
-    ((j : ℕ) (d : ReadLabel) → m + n ≤ j → j < length reads → IsOutside own group (get_or reads j d)) → chosen own group first (take n (drop m reads)) ≡ chosen own group first reads
+    ((j : ℕ) (d : ReadLabel) → m + n ≤ j → j < length reads → IsOutside own group (get_or reads j d)) → chosen_label own group first (take n (drop m reads)) ≡ chosen_label own group first reads
 between_chosen own group first zero n reads low high = front_chosen own group first n reads (λ j d le lt. high j d (omega (arith, le)) lt)
 between_chosen own group first (suc m) n [] low high = front_chosen own group first n [] (λ j d le lt. absurd (omega (arith, lt)))
 between_chosen own group first (suc m) n (r ∷ rs) low high =
@@ -61,7 +61,7 @@ between_chosen own group first (suc m) n (r ∷ rs) low high =
 
 -- the labels from the first one that doesn't begin before a span, up to the first one that begins behind its end
 pub near_chosen : (own : Bool) (group : Span) (a b m : ℕ) (reads : List ReadLabel) → m ≤ a → m ≤ b → b ≤ length reads → ((j : ℕ) (d : ReadLabel) → j < a → ltb (get_or reads j d).span.offset group.offset ≡ true) →
-    ((j : ℕ) (d : ReadLabel) → b ≤ j → j < length reads → leb (get_or reads j d).span.offset (end_of_span group) ≡ false) → chosen own group None (take (b - m) (drop m reads)) ≡ chosen own group None reads
+    ((j : ℕ) (d : ReadLabel) → b ≤ j → j < length reads → leb (get_or reads j d).span.offset (end_of_span group) ≡ false) → chosen_label own group None (take (b - m) (drop m reads)) ≡ chosen_label own group None reads
 near_chosen own group a b m reads ma mb bl low high =
     between_chosen own group None m (b - m) reads
     (λ j d lm lt. begins_before own group (get_or reads j d).span (low j d (omega (arith, lm, ma))))

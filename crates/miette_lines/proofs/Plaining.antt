@@ -8,7 +8,7 @@ use Rattle.unicode_width.specs.Width.{char_width}
 use Rattle.bstr.specs.Utf8.{decoded, good, or_replacement}
 use Rattle.bstr.proofs.lemmas.PieceLemmas.{value-1}
 use Rattle.miette_lines.specs.rules.Cells.{characters}
-use Rattle.miette_lines.specs.views.Given.{width_of}
+use Rattle.miette_lines.specs.views.GivenLabels.{width_of}
 use Rattle.miette_lines.specs.views.Printable.{is_printable}
 use Rattle.miette_lines.proofs.Stepping.{made, characters_step}
 

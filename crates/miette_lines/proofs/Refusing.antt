@@ -15,9 +15,9 @@ use Rattle.miette_lines.specs.declared.reading.ReadLabels.TheVariants as reads
 use Rattle.miette_lines.specs.declared.reading.Refusal.{Refusal}
 use Rattle.miette_lines.specs.rules.Around.{has_own, contents_around}
 use Rattle.miette_lines.specs.rules.Contexts.{contents, is_accepted}
-use Rattle.miette_lines.specs.views.Given.{label_at}
+use Rattle.miette_lines.specs.views.GivenLabels.{label_at}
 use Rattle.miette_lines.specs.rules.Groups.{refusal, AreAccepted}
-use Rattle.miette_lines.specs.views.Read.{IsRead, AreRead, Reason, name_of}
+use Rattle.miette_lines.specs.views.Reads.{IsRead, AreRead, Reason, name_of}
 use Rattle.miette_lines.proofs.Numbers.{by_cases}
 use Rattle.miette_lines.proofs.Bodies.{accepted_is}
 use Rattle.miette_lines.proofs.Sorting.{label_got}

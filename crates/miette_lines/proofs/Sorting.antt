@@ -9,7 +9,7 @@ use Rattle.miette_protocol.specs.views.Meaning.{Label}
 use Rattle.std.proofs.lemmas.List.{map-append}
 use Rattle.std.proofs.lemmas.List.Elements.{All-push}
 use Rattle.miette_lines.specs.declared.order.Turn.{Turn}
-use Rattle.miette_lines.specs.views.Given.{label_at}
+use Rattle.miette_lines.specs.views.GivenLabels.{label_at}
 use Rattle.miette_lines.specs.rules.Groups.{put_label, in_order}
 use Rattle.miette_lines.proofs.Numbers.{by_cases}
 

@@ -1,9 +1,9 @@
 -- What the code's values stand for.
-pub mod Given
+pub mod GivenLabels
 pub mod Placing
 pub mod Primary
 pub mod Printable
-pub mod Read
+pub mod Reads
 pub mod Sweeping
-pub mod Swept
+pub mod LabelCounts
 pub mod Walking

@@ -4,7 +4,7 @@ ghost use Rattle.std.specs.Prelude.{◌≡◌, ◌<◌, ◌≤◌, ◌+◌, ◌-
 ghost use Rattle.std.specs.Prelude.{MatchOption};
 ghost use Rattle.bstr.specs.Utf8.{decoded, or_replacement};
 ghost use Rattle.miette_lines.specs.views.Walking.{cell_of};
-ghost use Rattle.miette_lines.specs.views.Given.{width_of};
+ghost use Rattle.miette_lines.specs.views.GivenLabels.{width_of};
 ghost use Rattle.miette_lines.specs.rules.Cells.{width_at};
 ghost use Rattle.miette_lines.specs.rules.Cells.{Cell as TextCell, cells_from, characters, is_hidden, hides_next};
 

@@ -4,9 +4,9 @@ ghost use Rattle.std.specs.Prelude.{◌≡◌, ◌≢◌, ◌+◌, nat_le, true,
 ghost use Rattle.std.specs.List.{All};
 ghost use Rattle.std.specs.Option.{option_map};
 ghost use Rattle.miette_protocol.specs.rules.Reading.{IsAccepted};
-ghost use Rattle.miette_lines.specs.rules.Groups.{in_order, joined, joins_before, by_begin, joined_stretches};
-ghost use Rattle.miette_lines.specs.views.Given.{label_at};
-ghost use Rattle.miette_lines.specs.views.Read.{IsLent, IsRead, AreJoined, AreGrouped};
+ghost use Rattle.miette_lines.specs.rules.Groups.{in_order, joined_span, joins_before, by_begin, joined_stretches};
+ghost use Rattle.miette_lines.specs.views.GivenLabels.{label_at};
+ghost use Rattle.miette_lines.specs.views.Reads.{IsLent, IsRead, AreJoined, AreGrouped};
 
 use crate::reading::{ReadLabel, some_own};
 pub use crate::spans::{end_of, join};
@@ -45,7 +45,7 @@ fn larger_group<'a, S: SourceCode>(
         (joins_before context (S.source source.now) before.now.span label.now.span ≡ true →
         (S.source source.now).always_reads ≡ false)
         (λ group. (joins_before context (S.source source.now) before.now.span label.now.span ≡ true)
-        × (group.span ≡ joined before.now.span label.now.span)
+        × (group.span ≡ joined_span before.now.span label.now.span)
         × IsLent context (S.source source.now) group.span group.contents)) }
 {
     if !touches(&before.contents, &label.contents) {

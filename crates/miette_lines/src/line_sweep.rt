@@ -4,7 +4,7 @@ ghost use Rattle.std.specs.Prelude.{◌≡◌, ◌+◌, ◌-◌, ◌<◌, ◌≤
 ghost use Rattle.miette_newlines.specs.rules.Lines.{lines_from};
 ghost use Rattle.miette_newlines.specs.views.Walking.{line_of_text};
 ghost use Rattle.miette_lines.specs.views.Sweeping.{IsAt, AreSorted};
-ghost use Rattle.miette_lines.specs.views.Swept.{most_multi};
+ghost use Rattle.miette_lines.specs.views.LabelCounts.{most_multi};
 
 use crate::sweep::{Bounds, Placed, Sweep};
 use miette_newlines::lines::{LineOfText, Lines, first_line};

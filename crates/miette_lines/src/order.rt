@@ -2,7 +2,7 @@
 
 ghost use Rattle.std.specs.Prelude.{◌≡◌, ◌<◌, ℕ, List, map, length, IfOk};
 ghost use Rattle.std.specs.List.{All};
-ghost use Rattle.miette_lines.specs.views.Given.{label_at};
+ghost use Rattle.miette_lines.specs.views.GivenLabels.{label_at};
 ghost use Rattle.miette_lines.specs.rules.Groups.{in_order};
 
 use miette_protocol::protocol::LabeledSpan;

@@ -2,7 +2,7 @@
 
 ghost use Rattle.std.specs.Prelude.{◌≡◌, ℕ, List, None, IfOk};
 ghost use Rattle.std.specs.List.Sorted.{IsNonDecreasingBy};
-ghost use Rattle.miette_lines.specs.views.Primary.{chosen, end_within as end_of_label, PointsTo};
+ghost use Rattle.miette_lines.specs.views.Primary.{chosen_label, end_within as end_of_label, PointsTo};
 
 use crate::reading::ReadLabel;
 use crate::spans::end_of;
@@ -61,7 +61,7 @@ fn primary(
     span: &SourceSpan,
     reads: &[ReadLabel<'_>],
 ) -> Result<Option<SourceSpan>, AllocError>
-    ensures { IfOk result (λ r. r ≡ chosen own span.now None reads.now) }
+    ensures { IfOk result (λ r. r ≡ chosen_label own span.now None reads.now) }
 {
     let start = span.offset();
     let end = end_of(span)?;
@@ -87,7 +87,7 @@ pub fn near<'r, 'a>(
     reads: &'r [ReadLabel<'a>],
 ) -> Result<&'r [ReadLabel<'a>], AllocError>
     requires { IsNonDecreasingBy (λ read. read.span.offset) reads.now }
-    ensures { IfOk result (λ near. chosen own span.now None near.now ≡ chosen own span.now None reads.now) }
+    ensures { IfOk result (λ near. chosen_label own span.now None near.now ≡ chosen_label own span.now None reads.now) }
 {
     let start = span.offset();
     let end = end_of(span)?;
@@ -106,7 +106,7 @@ pub fn place_of<S: SourceCode>(
     span: &SourceSpan,
     reads: &[ReadLabel<'_>],
 ) -> Result<Place, AllocError>
-    ensures { IfOk result (λ place. PointsTo (S.source source.now) (chosen own span.now None reads.now) place) }
+    ensures { IfOk result (λ place. PointsTo (S.source source.now) (chosen_label own span.now None reads.now) place) }
 {
     let Some(label) = primary(own, span, reads)? else {
         return Ok(Place::Nowhere);

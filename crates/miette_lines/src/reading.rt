@@ -3,8 +3,8 @@
 ghost use Rattle.std.specs.Prelude.{◌≡◌, ◌<◌, ℕ, List, map, length, IfOk, unwrap_or, if◌then◌else◌, max};
 ghost use Rattle.std.specs.List.{All};
 ghost use Rattle.miette_lines.specs.rules.Around.{has_own};
-ghost use Rattle.miette_lines.specs.views.Given.{label_at};
-ghost use Rattle.miette_lines.specs.views.Read.{AreRead, Reason};
+ghost use Rattle.miette_lines.specs.views.GivenLabels.{label_at};
+ghost use Rattle.miette_lines.specs.views.Reads.{AreRead, Reason};
 
 use crate::order::Turn;
 use miette_protocol::error::MietteError;

@@ -2,7 +2,7 @@
 
 ghost use Rattle.std.specs.Prelude.{◌≡◌, IfOk};
 ghost use Rattle.miette_lines.specs.rules.Contexts.{end_of_span};
-ghost use Rattle.miette_lines.specs.rules.Groups.{joined};
+ghost use Rattle.miette_lines.specs.rules.Groups.{joined_span};
 
 use miette_protocol::protocol::{SourceOffset, SourceSpan};
 use std::alloc::AllocError;
@@ -19,7 +19,7 @@ pub fn end_of(span: &SourceSpan) -> Result<usize, AllocError>
 
 /// The span from the first one's offset to the greater end; an error where an end is past the largest `usize`.
 pub fn join(before: &SourceSpan, label: &SourceSpan) -> Result<SourceSpan, AllocError>
-    ensures { IfOk result (λ span. span ≡ joined before.now label.now) }
+    ensures { IfOk result (λ span. span ≡ joined_span before.now label.now) }
 {
     let end = end_of(before)?.max(end_of(label)?);
     let start = before.offset();

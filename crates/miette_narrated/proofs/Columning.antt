@@ -7,12 +7,12 @@ use Rattle.std.proofs.lemmas.Str.{chars_from_encodes, encodes-append, encodes-ch
 use Rattle.std.proofs.lemmas.Bool.{ne_eqb, le-ltb, lt-ltb}
 use Rattle.unicode_width.specs.Width.{str_width}
 use Rattle.miette_lines.specs.rules.Cells.{Character, characters}
-use Rattle.miette_lines.specs.views.Given.{width_of}
+use Rattle.miette_lines.specs.views.GivenLabels.{width_of}
 use Rattle.miette_lines.proofs.Stepping.{IsFirst, made, characters_step, characters_end}
-use Rattle.miette_narrated.specs.rules.Columns.{begun, is_boundary, widths, column}
+use Rattle.miette_narrated.specs.rules.Columns.{begun_text, is_boundary, widths, column}
 use Rattle.miette_narrated.specs.rules.Lines.{decoded_text}
 use Rattle.miette_narrated.specs.declared.places.Place.{Place}
-use Rattle.miette_narrated.specs.steps.Places.{held, twice, column_behind}
+use Rattle.miette_narrated.specs.steps.Places.{overlap_text, twice, column_behind}
 
 codes : (ps : List Decoded) → map (λ (c : Character). c.code) (map (λ (p : Decoded). made (or_replacement p.char) p.size) ps) ≡ map (λ (p : Decoded). or_replacement p.char) ps
 codes [] = refl
@@ -35,12 +35,12 @@ decoded_all out rest goal e h = sym (append-nil out) ∙ ap (λ cs. out ++ decod
 
 -- some characters are over, and so many bytes of the rest are left; the characters and the sum of widths began with some
 pub record IsOver (front : List ℕ) (first : ℕ) (text : List ℕ) (bytes : ℕ) (over : List ℕ) (sum : ℕ) (rest : List ℕ) (left : ℕ) : Type 0 where
-  pub all : chars over ++ begun left (characters rest) ≡ front ++ begun bytes (characters text)
+  pub all : chars over ++ begun_text left (characters rest) ≡ front ++ begun_text bytes (characters text)
   pub boundary : is_boundary left (characters rest) ≡ is_boundary bytes (characters text)
-  pub width : sum + widths (begun left (characters rest)) ≡ first + widths (begun bytes (characters text))
+  pub width : sum + widths (begun_text left (characters rest)) ≡ first + widths (begun_text bytes (characters text))
 
 pub none_over : (front : List ℕ) (first : ℕ) (text : List ℕ) (bytes : ℕ) (over : List ℕ) → chars over ≡ front → IsOver front first text bytes over first text bytes
-none_over front first text bytes over e = record { all = ap (λ o. o ++ begun bytes (characters text)) e; boundary = refl; width = refl }
+none_over front first text bytes over e = record { all = ap (λ o. o ++ begun_text bytes (characters text)) e; boundary = refl; width = refl }
 
 pub chars_pushed : (old new : List ℕ) (code : ℕ) → IsUtf8 old → IsUtf8 new → new ≡ old ++ encode_utf8 code → chars new ≡ chars old ++ code ∷ []
 chars_pushed old new code u v e =
@@ -60,7 +60,7 @@ two_held_text old new newer code second u v w e p q = chars_pushed new newer sec
 nonzero : (left : ℕ) → 0 < left → eqb left 0 ≡ false
 nonzero left h = ne_eqb left 0 (λ e. omega arith)
 
-pub begun_more : (left code size : ℕ) (cs : List Character) → 0 < left → begun left (made code size ∷ cs) ≡ code ∷ begun (left - size) cs
+pub begun_more : (left code size : ℕ) (cs : List Character) → 0 < left → begun_text left (made code size ∷ cs) ≡ code ∷ begun_text (left - size) cs
 begun_more left code size cs h = rw (nonzero left h) refl
 
 pub boundary_more : (left code size : ℕ) (cs : List Character) → 0 < left → size ≤ left → is_boundary left (made code size ∷ cs) ≡ is_boundary (left - size) cs
@@ -69,7 +69,7 @@ boundary_more left code size cs h k = rw (nonzero left h, le-ltb left size k) re
 pub boundary_inside : (left code size : ℕ) (cs : List Character) → 0 < left → left < size → is_boundary left (made code size ∷ cs) ≡ false
 boundary_inside left code size cs h k = rw (nonzero left h, lt-ltb left size k) refl
 
-pub begun_zero : (cs : List Character) → begun 0 cs ≡ []
+pub begun_zero : (cs : List Character) → begun_text 0 cs ≡ []
 begun_zero [] = refl
 begun_zero (c ∷ cs) = refl
 
@@ -82,26 +82,26 @@ pub one_over : (front : List ℕ) (first : ℕ) (text : List ℕ) (bytes : ℕ) 
 one_over front first text bytes over new sum wider rest after left code size h is u v e w some fits =
     let cs = characters after in
     let step = characters_step rest after code size is in
-    let more : begun left (characters rest) ≡ code ∷ begun (left - size) cs = ap (begun left) step ∙ begun_more left code size cs some in
-    let sums : widths (begun left (characters rest)) ≡ width_of code + widths (begun (left - size) cs) = ap widths more in
+    let more : begun_text left (characters rest) ≡ code ∷ begun_text (left - size) cs = ap (begun_text left) step ∙ begun_more left code size cs some in
+    let sums : widths (begun_text left (characters rest)) ≡ width_of code + widths (begun_text (left - size) cs) = ap widths more in
     record {
-      all = ap (λ o. o ++ begun (left - size) cs) (chars_pushed over new code u v e) ∙ append_assoc (chars over) (code ∷ []) (begun (left - size) cs) ∙ ap (λ o. chars over ++ o) (sym more) ∙ h.all;
+      all = ap (λ o. o ++ begun_text (left - size) cs) (chars_pushed over new code u v e) ∙ append_assoc (chars over) (code ∷ []) (begun_text (left - size) cs) ∙ ap (λ o. chars over ++ o) (sym more) ∙ h.all;
       boundary = sym (boundary_more left code size cs some fits) ∙ ap (is_boundary left) (sym step) ∙ h.boundary;
       width = omega (arith, w, sums, h.width);
     }
 
-pub at_boundary : (text : List ℕ) (bytes : ℕ) → is_boundary bytes (characters text) ≡ true → column bytes (characters text) ≡ str_width false (begun bytes (characters text))
+pub at_boundary : (text : List ℕ) (bytes : ℕ) → is_boundary bytes (characters text) ≡ true → column bytes (characters text) ≡ str_width false (begun_text bytes (characters text))
 at_boundary text bytes e = rw e refl
 
-pub off_boundary : (text : List ℕ) (bytes : ℕ) → is_boundary bytes (characters text) ≡ false → column bytes (characters text) ≡ widths (begun bytes (characters text))
+pub off_boundary : (text : List ℕ) (bytes : ℕ) → is_boundary bytes (characters text) ≡ false → column bytes (characters text) ≡ widths (begun_text bytes (characters text))
 off_boundary text bytes e = rw e refl
 
 pub behind_boundary : (place : Place) (text : List ℕ) (bytes : ℕ) → is_boundary bytes (characters text) ≡ true →
-    column_behind place bytes (characters text) ≡ place.column + str_width false (held place.held ++ begun bytes (characters text))
+    column_behind place bytes (characters text) ≡ place.column + str_width false (overlap_text place.overlap ++ begun_text bytes (characters text))
 behind_boundary place text bytes e = rw e refl
 
 pub behind_other : (place : Place) (text : List ℕ) (bytes : ℕ) → is_boundary bytes (characters text) ≡ false →
-    column_behind place bytes (characters text) ≡ place.widths + widths (begun bytes (characters text))
+    column_behind place bytes (characters text) ≡ place.widths + widths (begun_text bytes (characters text))
 behind_other place text bytes e = rw e refl
 
 pub twice_boundary : (place : Place) (text : List ℕ) (bytes : ℕ) → is_boundary bytes (characters text) ≡ true → twice place bytes (characters text) ≡ place.twice
@@ -114,7 +114,7 @@ twice_other place text bytes e = rw e refl
 abbrev pub told_column : Place → ℕ → List Character → ℕ
 told_column place bytes cs = column_behind place bytes cs - twice place bytes cs
 
-told_other : (place : Place) (text : List ℕ) (bytes result : ℕ) → is_boundary bytes (characters text) ≡ false → result ≡ place.widths + widths (begun bytes (characters text)) → result ≡ told_column place bytes (characters text)
+told_other : (place : Place) (text : List ℕ) (bytes result : ℕ) → is_boundary bytes (characters text) ≡ false → result ≡ place.widths + widths (begun_text bytes (characters text)) → result ≡ told_column place bytes (characters text)
 told_other place text bytes result e r =
     let none = twice_other place text bytes e in
     let behind = behind_other place text bytes e in
@@ -123,37 +123,37 @@ told_other place text bytes result e r =
 pub boundary_at_zero : (front : List ℕ) (first : ℕ) (text : List ℕ) (bytes : ℕ) (over : List ℕ) (sum : ℕ) (rest : List ℕ) (left : ℕ) → IsOver front first text bytes over sum rest left → left ≡ 0 → is_boundary bytes (characters text) ≡ true
 boundary_at_zero front first text bytes over sum rest left h zero = sym h.boundary ∙ ap (λ k. is_boundary k (characters rest)) zero ∙ boundary_zero (characters rest)
 
-pub all_at_zero : (front : List ℕ) (first : ℕ) (text : List ℕ) (bytes : ℕ) (over : List ℕ) (sum : ℕ) (rest : List ℕ) (left : ℕ) → IsOver front first text bytes over sum rest left → left ≡ 0 → chars over ≡ front ++ begun bytes (characters text)
+pub all_at_zero : (front : List ℕ) (first : ℕ) (text : List ℕ) (bytes : ℕ) (over : List ℕ) (sum : ℕ) (rest : List ℕ) (left : ℕ) → IsOver front first text bytes over sum rest left → left ≡ 0 → chars over ≡ front ++ begun_text bytes (characters text)
 all_at_zero front first text bytes over sum rest left h zero =
-    let none : begun left (characters rest) ≡ [] = ap (λ k. begun k (characters rest)) zero ∙ begun_zero (characters rest) in
+    let none : begun_text left (characters rest) ≡ [] = ap (λ k. begun_text k (characters rest)) zero ∙ begun_zero (characters rest) in
     sym (append-nil (chars over)) ∙ ap (λ o. chars over ++ o) (sym none) ∙ h.all
 
-pub over_at_zero : (place : Place) (text : List ℕ) (bytes : ℕ) (over : List ℕ) (sum : ℕ) (rest : List ℕ) (left result : ℕ) → IsOver (held place.held) place.widths text bytes over sum rest left → left ≡ 0 →
+pub over_at_zero : (place : Place) (text : List ℕ) (bytes : ℕ) (over : List ℕ) (sum : ℕ) (rest : List ℕ) (left result : ℕ) → IsOver (overlap_text place.overlap) place.widths text bytes over sum rest left → left ≡ 0 →
     result ≡ (place.column + str_width false (chars over)) - place.twice → result ≡ told_column place bytes (characters text)
 over_at_zero place text bytes over sum rest left result h zero r =
-    let here = boundary_at_zero (held place.held) place.widths text bytes over sum rest left h zero in
-    let wide = ap (str_width false) (all_at_zero (held place.held) place.widths text bytes over sum rest left h zero) in
+    let here = boundary_at_zero (overlap_text place.overlap) place.widths text bytes over sum rest left h zero in
+    let wide = ap (str_width false) (all_at_zero (overlap_text place.overlap) place.widths text bytes over sum rest left h zero) in
     let more = twice_boundary place text bytes here in
     let behind = behind_boundary place text bytes here in
     omega (arith, r, wide, more, behind)
 
-pub over_past_end : (place : Place) (text : List ℕ) (bytes : ℕ) (over : List ℕ) (sum : ℕ) (rest : List ℕ) (left : ℕ) → IsOver (held place.held) place.widths text bytes over sum rest left → 0 < left → rest ≡ [] →
+pub over_past_end : (place : Place) (text : List ℕ) (bytes : ℕ) (over : List ℕ) (sum : ℕ) (rest : List ℕ) (left : ℕ) → IsOver (overlap_text place.overlap) place.widths text bytes over sum rest left → 0 < left → rest ≡ [] →
     sum ≡ told_column place bytes (characters text)
 over_past_end place text bytes over sum rest left h some e =
     let end = characters_end rest e in
-    let none : widths (begun left (characters rest)) ≡ 0 = ap (λ cs. widths (begun left cs)) end in
+    let none : widths (begun_text left (characters rest)) ≡ 0 = ap (λ cs. widths (begun_text left cs)) end in
     let here : is_boundary bytes (characters text) ≡ false = sym h.boundary ∙ ap (is_boundary left) end ∙ nonzero left some in
-    let sums : sum ≡ place.widths + widths (begun bytes (characters text)) = omega (arith, none, h.width) in
+    let sums : sum ≡ place.widths + widths (begun_text bytes (characters text)) = omega (arith, none, h.width) in
     told_other place text bytes _ here sums
 
-pub over_inside : (place : Place) (text : List ℕ) (bytes : ℕ) (over : List ℕ) (sum wider : ℕ) (rest after : List ℕ) (left code size : ℕ) → IsOver (held place.held) place.widths text bytes over sum rest left → IsFirst rest after code size →
+pub over_inside : (place : Place) (text : List ℕ) (bytes : ℕ) (over : List ℕ) (sum wider : ℕ) (rest after : List ℕ) (left code size : ℕ) → IsOver (overlap_text place.overlap) place.widths text bytes over sum rest left → IsFirst rest after code size →
     wider ≡ sum + width_of code → 0 < left → left < size → wider ≡ told_column place bytes (characters text)
 over_inside place text bytes over sum wider rest after left code size h is w some inside =
     let cs = characters after in
     let step = characters_step rest after code size is in
     let zero : left - size ≡ 0 = omega arith in
-    let more : begun left (characters rest) ≡ code ∷ [] = ap (begun left) step ∙ begun_more left code size cs some ∙ ap (λ k. code ∷ begun k cs) zero ∙ ap (λ o. code ∷ o) (begun_zero cs) in
+    let more : begun_text left (characters rest) ≡ code ∷ [] = ap (begun_text left) step ∙ begun_more left code size cs some ∙ ap (λ k. code ∷ begun_text k cs) zero ∙ ap (λ o. code ∷ o) (begun_zero cs) in
     let here : is_boundary bytes (characters text) ≡ false = sym h.boundary ∙ ap (is_boundary left) step ∙ boundary_inside left code size cs some inside in
-    let one : widths (begun left (characters rest)) ≡ width_of code + 0 = ap widths more in
-    let sums : wider ≡ place.widths + widths (begun bytes (characters text)) = omega (arith, w, one, h.width) in
+    let one : widths (begun_text left (characters rest)) ≡ width_of code + 0 = ap widths more in
+    let sums : wider ≡ place.widths + widths (begun_text bytes (characters text)) = omega (arith, w, one, h.width) in
     told_other place text bytes _ here sums

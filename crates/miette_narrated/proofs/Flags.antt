@@ -22,10 +22,10 @@ use Rattle.unicode_width.specs.Kind.{kind, is_ligature_transparent, is_text_pres
 use Rattle.unicode_width.specs.Width.{before, plain, is_indicator, is_nothing, is_joined_emoji, of_kind, alone, before_alef, is_lam, joins, joined_or, Reading, if_kept, skips_marks, is_plain, past_selectors, in_context, past_emoji, step, read_before, str_width}
 use Rattle.unicode_width.proofs.KindLemmas.{kind_stepped, is_ligature_transparent_stepped, is_text_presentation_base_stepped}
 use Rattle.unicode_width.proofs.Computing.{unicode_width}
-use Rattle.miette_narrated.specs.declared.overlap.Held.{Held}
-use Rattle.miette_narrated.specs.declared.overlap.Held.TheVariants.{Nothing, One, Selected}
+use Rattle.miette_narrated.specs.declared.overlap.Overlap.{Overlap}
+use Rattle.miette_narrated.specs.declared.overlap.Overlap.TheVariants.{Nothing, One, Selected}
 use Rattle.miette_narrated.specs.steps.Parting.{may_part_flags}
-use Rattle.miette_narrated.specs.steps.Places.{held, IsHeld}
+use Rattle.miette_narrated.specs.steps.Places.{overlap_text, IsHeld}
 use Rattle.miette_narrated.proofs.Lone.{read_append, shifted, from_not, or_false}
 use Rattle.miette_narrated.proofs.Sweeps.{by_cases}
 
@@ -381,16 +381,16 @@ pub record EndsInFlags (text : List ℕ) (last : ℕ) (is_half : Bool) : Type 0 
   pub half : is_odd flags ≡ is_half
   pub some : is_indicator last ≡ true → 0 < length flags
 
-free_held : (first : Held) → IsHeld first → IsFree (held first)
+free_held : (first : Overlap) → IsHeld first → IsFree (overlap_text first)
 free_held Nothing h = inl refl
 free_held (One c) h = inr (record { front = []; last = c; is = refl; other = h })
 free_held (Selected c) h = inr (record { front = c ∷ []; last = 0xFE0F; is = refl; other = refl })
 
-pub no_flags : (text : List ℕ) (last : ℕ) (first : Held) → chars text ≡ held first → IsHeld first → is_indicator last ≡ false → EndsInFlags text last false
+pub no_flags : (text : List ℕ) (last : ℕ) (first : Overlap) → chars text ≡ overlap_text first → IsHeld first → is_indicator last ≡ false → EndsInFlags text last false
 no_flags text last first e h n = record {
-  front = held first;
+  front = overlap_text first;
   flags = [];
-  is = e ∙ sym (append-nil (held first));
+  is = e ∙ sym (append-nil (overlap_text first));
   free = free_held first h;
   all = tt;
   half = refl;

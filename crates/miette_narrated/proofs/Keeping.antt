@@ -27,7 +27,7 @@ use Rattle.unicode_width.proofs.Computing.{unicode_width}
 use Rattle.miette_narrated.specs.steps.Parting.{is_keeping}
 use Rattle.miette_narrated.proofs.Lone.{from_not, or_false, or_turn}
 use Rattle.miette_narrated.proofs.Opening.{is_modifier, is_tone, IsOpen}
-use Rattle.miette_narrated.proofs.Held.{JoinsOwn, either, IsApart, step_apart}
+use Rattle.miette_narrated.proofs.Overlaps.{JoinsOwn, either, IsApart, step_apart}
 
 -- ---- what such a character is not
 

@@ -8,18 +8,18 @@ use Rattle.miette_newlines.specs.declared.lines.LineOfText.{LineOfText}
 use Rattle.miette_newlines.specs.views.Walking.{Rest, IsFirst, behind, line_of_text, lines_left}
 use Rattle.miette_protocol.specs.rules.Reading.{Contents}
 use Rattle.miette_lines.specs.rules.Contexts.{lines_of_contents}
-use Rattle.miette_narrated.specs.rules.Labels.{Told, Shown}
+use Rattle.miette_narrated.specs.rules.Labels.{LabelRange, SnippetLine}
 use Rattle.miette_narrated.proofs.Sweeps.{by_cases}
-use Rattle.miette_narrated.specs.rules.Lines.{shown, is_nil, rows_of_line, rows_of_lines}
+use Rattle.miette_narrated.specs.rules.Lines.{snippet_line, is_nil, rows_of_line, rows_of_lines}
 
 -- The lines that are left of what a read lent, with numbers behind this one, have the rows that are left of the goal.
-pub record AreLeft (labels : List Told) (lent : Contents) (before : ℕ) (rest : Rest) (out goal : List ℕ) : Type 0 where
+pub record AreLeft (labels : List LabelRange) (lent : Contents) (before : ℕ) (rest : Rest) (out goal : List ℕ) : Type 0 where
   pub rows : out ++ rows_of_lines labels lent (before + 1) (lines_left rest) ≡ goal
   pub from : lent.span.offset ≤ rest.start
   pub to : rest.start + length rest.bytes ≡ lent.span.offset + length lent.bytes
 
 -- all of them
-pub left_first : (labels : List Told) (lent : Contents) (before : ℕ) (rest : Rest) (out : List ℕ) → rest ≡ record { start = lent.span.offset; bytes = lent.bytes } → before ≡ lent.line →
+pub left_first : (labels : List LabelRange) (lent : Contents) (before : ℕ) (rest : Rest) (out : List ℕ) → rest ≡ record { start = lent.span.offset; bytes = lent.bytes } → before ≡ lent.line →
     AreLeft labels lent before rest out (out ++ rows_of_lines labels lent (lent.line + 1) (lines_of_contents lent))
 left_first labels lent before rest out is n =
     subst (λ (r : Rest). AreLeft labels lent before r out (out ++ rows_of_lines labels lent (lent.line + 1) (lines_of_contents lent))) (sym is)
@@ -48,23 +48,23 @@ last_is rest line end h to =
     (λ t. let e : line.end ≡ end = eqb-true line.end end t in eq-eqb n 0 (omega (arith, left, to, e, h.from, h.some)) ∙ sym t)
     (λ f. ne_eqb n 0 (λ z. eqb-false line.end end f (omega (arith, left, to, z, h.from, h.some, h.to))) ∙ sym f)
 
-pub left_more : (labels : List Told) (lent : Contents) (before number : ℕ) (rest after : Rest) (line : LineOfText) (is_last : Bool) (it : Shown) (out new goal : List ℕ) → AreLeft labels lent before rest out goal →
+pub left_more : (labels : List LabelRange) (lent : Contents) (before number : ℕ) (rest after : Rest) (line : LineOfText) (is_last : Bool) (it : SnippetLine) (out new goal : List ℕ) → AreLeft labels lent before rest out goal →
     IsFirst rest line → after ≡ behind rest line → number ≡ before + 1 → is_last ≡ eqb line.end (lent.span.offset + length lent.bytes) →
-    it ≡ shown lent number is_last (line_of_text line) → new ≡ out ++ rows_of_line labels it → AreLeft labels lent number after new goal
+    it ≡ snippet_line lent number is_last (line_of_text line) → new ≡ out ++ rows_of_line labels it → AreLeft labels lent number after new goal
 left_more labels lent before number rest after line is_last it out new goal h first left n last here put =
     let later : List ℕ = rows_of_lines labels lent (number + 1) (lines_left (behind rest line)) in
     let at_end : is_nil (lines_left (behind rest line)) ≡ is_last = last_is rest line (lent.span.offset + length lent.bytes) first h.to ∙ sym last in
     let size : length (drop (line.end - rest.start) rest.bytes) ≡ length rest.bytes - (line.end - rest.start) = length-drop (line.end - rest.start) rest.bytes in
     subst (λ (r : Rest). AreLeft labels lent number r new goal) (sym left)
     (record {
-      rows = ap (λ o. o ++ later) (put ∙ ap (λ x. out ++ rows_of_line labels x) (here ∙ ap (λ b. shown lent number b (line_of_text line)) (sym at_end)))
-          ∙ append_assoc out (rows_of_line labels (shown lent number (is_nil (lines_left (behind rest line))) (line_of_text line))) later
+      rows = ap (λ o. o ++ later) (put ∙ ap (λ x. out ++ rows_of_line labels x) (here ∙ ap (λ b. snippet_line lent number b (line_of_text line)) (sym at_end)))
+          ∙ append_assoc out (rows_of_line labels (snippet_line lent number (is_nil (lines_left (behind rest line))) (line_of_text line))) later
           ∙ ap (λ ls. out ++ rows_of_lines labels lent number ls) (sym first.lines)
           ∙ ap (λ k. out ++ rows_of_lines labels lent k (lines_left rest)) n ∙ h.rows;
       from = omega (arith, h.from, first.from, first.some);
       to = omega (arith, h.to, size, first.from, first.some, first.to);
     })
 
-pub left_none : (labels : List Told) (lent : Contents) (before : ℕ) (rest : Rest) (out goal : List ℕ) → AreLeft labels lent before rest out goal → rest.bytes ≡ [] → out ≡ goal
+pub left_none : (labels : List LabelRange) (lent : Contents) (before : ℕ) (rest : Rest) (out goal : List ℕ) → AreLeft labels lent before rest out goal → rest.bytes ≡ [] → out ≡ goal
 left_none labels lent before rest out goal h none =
     sym (append-nil out) ∙ ap (λ bs. out ++ rows_of_lines labels lent (before + 1) (lines_from rest.start bs)) (sym none) ∙ h.rows

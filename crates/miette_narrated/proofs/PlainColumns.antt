@@ -7,22 +7,22 @@ use Rattle.std.proofs.lemmas.List.{length-take}
 use Rattle.unicode_width.specs.Width.{str_width}
 use Rattle.unicode_width.proofs.Rules.{str_width-printable}
 use Rattle.miette_lines.specs.rules.Cells.{characters}
-use Rattle.miette_lines.specs.views.Given.{width_of}
+use Rattle.miette_lines.specs.views.GivenLabels.{width_of}
 use Rattle.miette_lines.specs.views.Printable.{is_printable}
 use Rattle.miette_lines.proofs.Plaining.{one_column, printable_character, printable_in_range}
 use Rattle.miette_lines.proofs.Stepping.{characters_end}
-use Rattle.miette_narrated.specs.rules.Columns.{begun, is_boundary, widths, column}
+use Rattle.miette_narrated.specs.rules.Columns.{begun_text, is_boundary, widths, column}
 use Rattle.miette_narrated.proofs.Columning.{begun_more, begun_zero, at_boundary, off_boundary}
 use Rattle.miette_narrated.proofs.Sweeps.{by_cases}
 
-plain_begun : (k : ℕ) (bs : List ℕ) → list_all is_printable bs ≡ true → begun k (characters bs) ≡ take k bs
+plain_begun : (k : ℕ) (bs : List ℕ) → list_all is_printable bs ≡ true → begun_text k (characters bs) ≡ take k bs
 plain_begun zero bs h = begun_zero (characters bs)
-plain_begun (suc k) [] h = ap (begun (suc k)) (characters_end [] refl)
+plain_begun (suc k) [] h = ap (begun_text (suc k)) (characters_end [] refl)
 plain_begun (suc k) (b ∷ bs) h =
     let parts = and_parts (is_printable b) (list_all is_printable bs) h in
     let less : suc k - 1 ≡ k = omega arith in
-    ap (begun (suc k)) (printable_character b bs parts.0) ∙ begun_more (suc k) b 1 (characters bs) (omega arith)
-    ∙ ap (λ j. b ∷ begun j (characters bs)) less ∙ ap (λ r. b ∷ r) (plain_begun k bs parts.1)
+    ap (begun_text (suc k)) (printable_character b bs parts.0) ∙ begun_more (suc k) b 1 (characters bs) (omega arith)
+    ∙ ap (λ j. b ∷ begun_text j (characters bs)) less ∙ ap (λ r. b ∷ r) (plain_begun k bs parts.1)
 
 plain_taken : (k : ℕ) (bs : List ℕ) → list_all is_printable bs ≡ true → list_all is_printable (take k bs) ≡ true
 plain_taken zero bs h = refl

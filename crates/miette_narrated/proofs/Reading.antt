@@ -15,16 +15,16 @@ use Rattle.miette_lines.specs.declared.reading.ReadLabels.{ReadLabels}
 use Rattle.miette_lines.specs.declared.reading.ReadLabels.TheVariants as reads
 use Rattle.miette_lines.specs.rules.Answers.{NoneFails}
 use Rattle.miette_lines.specs.rules.Contexts.{contents, end_of_span, is_accepted}
-use Rattle.miette_lines.specs.views.Given.{label_at}
+use Rattle.miette_lines.specs.views.GivenLabels.{label_at}
 use Rattle.miette_lines.specs.rules.Around.{has_own, lines_around, group_context}
 use Rattle.miette_lines.specs.rules.Groups.{put_label, in_order, refusal, AreAccepted, groups_of, some_fails}
 use Rattle.miette_lines.specs.rules.Groups as groups
 use Rattle.miette_lines.specs.views.Placing.{placed_one, placed_from}
-use Rattle.miette_lines.specs.views.Read.{IsRead, AreRead, IsLent, AreGroups, AreGrouped, IsUnread}
-use Rattle.miette_narrated.specs.rules.Labels.{Told, told}
-use Rattle.miette_narrated.specs.steps.Made.{told_of, all_told}
+use Rattle.miette_lines.specs.views.Reads.{IsRead, AreRead, IsLent, AreGroups, AreGrouped, IsUnread}
+use Rattle.miette_narrated.specs.rules.Labels.{LabelRange, label_range}
+use Rattle.miette_narrated.specs.steps.Conversions.{range_of, ranges_of}
 use Rattle.miette_narrated.specs.rules.Snippets.{snippet, snippets_of}
-use Rattle.miette_narrated.specs.rules.Answered.{AppendsSnippets, accepts, is_nil}
+use Rattle.miette_narrated.specs.rules.PossibleAnswers.{AppendsSnippets, accepts, is_nil}
 use Rattle.miette_narrated.specs.steps.Sweeping.{BeginsFrom, AreOrdered}
 use Rattle.miette_narrated.proofs.Sweeps.{by_cases}
 use Rattle.std.proofs.lemmas.List.{drop_all}
@@ -43,7 +43,7 @@ text_there None = refl
 text_there (Some label) = refl
 
 told_one : (context : ℕ) (source : Source) (labels : List Label) (i : ℕ) (r : ReadLabel) → Reaches → IsRead context source labels r →
-    told_of labels (placed_one None [] i r) ≡ told (length source.bytes) (label_of_read labels r)
+    range_of labels (placed_one None [] i r) ≡ label_range (length source.bytes) (label_of_read labels r)
 told_one context source labels i r law h =
     let l = label_of_read labels r in
     let n = length source.bytes in
@@ -53,7 +53,7 @@ told_one context source labels i r law h =
     ap (min (end_of_span r.span)) ends ∙ sym (law source r.span around around h.accepted) in
     ap₂ (λ e t. the r.span.offset (max r.span.offset e) t) cut (text_there (slice_get labels r.index))
     ∙ ap (λ s. the s.offset (max s.offset (min (end_of_span s) n)) l.text) h.span where
-      the : ℕ → ℕ → Option (List ℕ) → Told
+      the : ℕ → ℕ → Option (List ℕ) → LabelRange
       the a b t = record { start = a; after = b; text = t }
 
 All-tail : {X : Type 0} (P : X → Type 0) (x : X) (xs : List X) → All P (x ∷ xs) → All P xs
@@ -63,16 +63,16 @@ All-head : {X : Type 0} (P : X → Type 0) (x : X) (xs : List X) → All P (x �
 All-head P x xs h = h 0 x (omega arith)
 
 told_reads : (context : ℕ) (source : Source) (labels : List Label) (i : ℕ) (rs : List ReadLabel) → Reaches → All (IsRead context source labels) rs →
-    all_told labels (placed_from None [] i rs) ≡ map (told (length source.bytes)) (map (label_of_read labels) rs)
+    ranges_of labels (placed_from None [] i rs) ≡ map (label_range (length source.bytes)) (map (label_of_read labels) rs)
 told_reads context source labels i [] law h = refl
 told_reads context source labels i (r ∷ rs) law h =
     ap₂ (λ x xs. x ∷ xs) (told_one context source labels i r law (All-head (IsRead context source labels) r rs h))
     (told_reads context source labels (i + 1) rs law (All-tail (IsRead context source labels) r rs h))
 
 pub told_in_order : (context : ℕ) (source : Source) (labels : List Label) (rs : List ReadLabel) (ps : List Placed) → Reaches → All (IsRead context source labels) rs → map (label_of_read labels) rs ≡ in_order labels →
-    ps ≡ placed_from None [] 0 rs → all_told labels ps ≡ map (told (length source.bytes)) (in_order labels)
+    ps ≡ placed_from None [] 0 rs → ranges_of labels ps ≡ map (label_range (length source.bytes)) (in_order labels)
 told_in_order context source labels rs ps law h order e =
-    ap (all_told labels) e ∙ told_reads context source labels 0 rs law h ∙ ap (map (told (length source.bytes))) order
+    ap (ranges_of labels) e ∙ told_reads context source labels 0 rs law h ∙ ap (map (label_range (length source.bytes))) order
 
 -- ---- their order
 
@@ -116,7 +116,7 @@ accepted_reads context source labels (r ∷ rs) h =
 
 -- ---- groups, one after the other
 
-pub groups_more : (handlers : ℕ) (source : Source) (labels : List Told) (ls : List Label) (gs : List Group) (i : ℕ) (d : Group) (out new goal : List ℕ) → AreGroups handlers source ls gs → i < length gs → d ≡ get_or gs i d →
+pub groups_more : (handlers : ℕ) (source : Source) (labels : List LabelRange) (ls : List Label) (gs : List Group) (i : ℕ) (d : Group) (out new goal : List ℕ) → AreGroups handlers source ls gs → i < length gs → d ≡ get_or gs i d →
     new ≡ out ++ snippet labels d.contents → out ++ snippets_of (group_context handlers ls) source labels (map (λ g. g.span) (drop i gs)) ≡ goal →
     new ++ snippets_of (group_context handlers ls) source labels (map (λ g. g.span) (drop (i + 1) gs)) ≡ goal
 groups_more handlers source labels ls gs i d out new goal are lt is e h =
@@ -129,14 +129,14 @@ groups_more handlers source labels ls gs i d out new goal are lt is e h =
     ∙ append_assoc out (snippet labels (contents context source d.span)) later
     ∙ ap (λ xs. out ++ snippets_of context source labels (map (λ g. g.span) xs)) (sym left) ∙ h
 
-pub groups_end : (context : ℕ) (source : Source) (labels : List Told) (gs : List Group) (i : ℕ) (out goal : List ℕ) → length gs ≤ i →
+pub groups_end : (context : ℕ) (source : Source) (labels : List LabelRange) (gs : List Group) (i : ℕ) (out goal : List ℕ) → length gs ≤ i →
     out ++ snippets_of context source labels (map (λ g. g.span) (drop i gs)) ≡ goal → out ≡ goal
 groups_end context source labels gs i out goal le h =
     sym (append-nil out) ∙ ap (λ xs. out ++ snippets_of context source labels (map (λ g. g.span) xs)) (sym (drop_all i gs le)) ∙ h
 
 pub snippets_told : (context : ℕ) (source : Source) (labels : List Label) (rs : List ReadLabel) (ps : List Placed) (gs : List Group) (old new : List ℕ) → Reaches → All (IsRead context source labels) rs →
     map (label_of_read labels) rs ≡ in_order labels → ps ≡ placed_from None [] 0 rs → AreGroups context source (in_order labels) gs →
-    new ≡ old ++ snippets_of (group_context context (in_order labels)) source (all_told labels ps) (map (λ g. g.span) gs) → AppendsSnippets context (Some source) labels old new
+    new ≡ old ++ snippets_of (group_context context (in_order labels)) source (ranges_of labels ps) (map (λ g. g.span) gs) → AppendsSnippets context (Some source) labels old new
 snippets_told context source labels rs ps gs old new law h order e are text =
     let fails = are.fails in
     record {

@@ -9,27 +9,27 @@ use Rattle.miette_lines.specs.rules.Cells.{Character, characters}
 use Rattle.miette_lines.proofs.Stepping.{IsFirst, made, characters_step}
 use Rattle.miette_narrated.specs.declared.places.Place.{Place}
 use Rattle.miette_narrated.specs.declared.trails.Trail.{Trail}
-use Rattle.miette_narrated.specs.rules.Columns.{begun, is_boundary, widths, column}
-use Rattle.miette_narrated.specs.steps.Places.{held, IsPlace}
+use Rattle.miette_narrated.specs.rules.Columns.{begun_text, is_boundary, widths, column}
+use Rattle.miette_narrated.specs.steps.Places.{overlap_text, IsPlace}
 use Rattle.miette_narrated.specs.steps.Trails.{is_faint, AreFaint, IsTrail, first_size}
 use Rattle.miette_narrated.proofs.Columning.{begun_more, begun_zero, boundary_more, boundary_inside, boundary_zero, behind_boundary, behind_other, twice_boundary, twice_other}
-use Rattle.miette_narrated.proofs.Faint.{faint_behind, faint_width}
-use Rattle.miette_narrated.proofs.Settled.{EndsIn}
-use Rattle.miette_narrated.proofs.Placed.{IsSince}
+use Rattle.miette_narrated.proofs.FaintCharacters.{faint_behind, faint_width}
+use Rattle.miette_narrated.proofs.SettledTexts.{EndsIn}
+use Rattle.miette_narrated.proofs.PlaceLaws.{IsSince}
 use Rattle.miette_narrated.proofs.Sweeps.{by_cases}
 
 -- ---- fewer of such characters
 
-begun_some : (n : ℕ) (c : Character) (cs : List Character) → 0 < n → begun n (c ∷ cs) ≡ c.code ∷ begun (n - c.bytes) cs
+begun_some : (n : ℕ) (c : Character) (cs : List Character) → 0 < n → begun_text n (c ∷ cs) ≡ c.code ∷ begun_text (n - c.bytes) cs
 begun_some n c cs h = rw (ne_eqb n 0 (λ e. omega (arith, e, h))) refl
 
-all_fewer : (n m : ℕ) (cs : List Character) → m ≤ n → list_all is_faint (begun n cs) ≡ true → list_all is_faint (begun m cs) ≡ true
+all_fewer : (n m : ℕ) (cs : List Character) → m ≤ n → list_all is_faint (begun_text n cs) ≡ true → list_all is_faint (begun_text m cs) ≡ true
 all_fewer n m [] le h = refl
 all_fewer n zero (c ∷ cs) le h = refl
 all_fewer n (suc m) (c ∷ cs) le h =
     let more = begun_some n c cs (omega (arith, le)) in
     let fewer = begun_some (suc m) c cs (omega arith) in
-    let both = and_parts (is_faint c.code) (list_all is_faint (begun (n - c.bytes) cs)) (sym (ap (list_all is_faint) more) ∙ h) in
+    let both = and_parts (is_faint c.code) (list_all is_faint (begun_text (n - c.bytes) cs)) (sym (ap (list_all is_faint) more) ∙ h) in
     let rest = all_fewer (n - c.bytes) (suc m - c.bytes) cs (omega (arith, le)) both.1 in
     ap (list_all is_faint) fewer ∙ ap₂ (λ a b. a && b) both.0 rest
 
@@ -65,7 +65,7 @@ pub record AreSince (text : List ℕ) (from bytes : ℕ) : Type 0 where
   pub behind : from ≤ bytes
   pub within : bytes ≤ length text
   pub boundary : (more : ℕ) → is_boundary ((bytes - from) + more) (characters (drop from text)) ≡ is_boundary more (characters (drop bytes text))
-  pub faint : (more : ℕ) → list_all is_faint (begun more (characters (drop bytes text))) ≡ true → list_all is_faint (begun ((bytes - from) + more) (characters (drop from text))) ≡ true
+  pub faint : (more : ℕ) → list_all is_faint (begun_text more (characters (drop bytes text))) ≡ true → list_all is_faint (begun_text ((bytes - from) + more) (characters (drop from text))) ≡ true
 
 pub none_faint : (text : List ℕ) (from : ℕ) → from ≤ length text → AreSince text from from
 none_faint text from le =
@@ -73,7 +73,7 @@ none_faint text from le =
       behind = omega arith;
       within = le;
       boundary = λ more. let at : (from - from) + more ≡ more = omega arith in ap (λ k. is_boundary k (characters (drop from text))) at;
-      faint = λ more h. let at : (from - from) + more ≡ more = omega arith in ap (λ k. list_all is_faint (begun k (characters (drop from text)))) at ∙ h;
+      faint = λ more h. let at : (from - from) + more ≡ more = omega arith in ap (λ k. list_all is_faint (begun_text k (characters (drop from text)))) at ∙ h;
     }
 
 pub one_faint : (text : List ℕ) (from bytes later code size : ℕ) → AreSince text from bytes → IsFirst (drop bytes text) (drop size (drop bytes text)) code size → is_faint code ≡ true →
@@ -93,11 +93,11 @@ one_faint text from bytes later code size h is faint some to le =
       faint = λ more all.
           let at : (later - from) + more ≡ (bytes - from) + (size + more) = omega (arith, h.behind, to) in
           let left : (size + more) - size ≡ more = omega arith in
-          let one : begun (size + more) (characters (drop bytes text)) ≡ code ∷ begun more cs =
-          ap (begun (size + more)) step ∙ begun_more (size + more) code size cs (omega (arith, some)) ∙ ap (λ k. code ∷ begun k cs) left in
-          let others : list_all is_faint (begun more cs) ≡ true = ap (λ r. list_all is_faint (begun more (characters r))) rest ∙ all in
-          let every : list_all is_faint (code ∷ begun more cs) ≡ true = ap₂ (λ a b. a && b) faint others in
-          ap (λ k. list_all is_faint (begun k (characters (drop from text)))) at ∙ h.faint (size + more) (ap (list_all is_faint) one ∙ every);
+          let one : begun_text (size + more) (characters (drop bytes text)) ≡ code ∷ begun_text more cs =
+          ap (begun_text (size + more)) step ∙ begun_more (size + more) code size cs (omega (arith, some)) ∙ ap (λ k. code ∷ begun_text k cs) left in
+          let others : list_all is_faint (begun_text more cs) ≡ true = ap (λ r. list_all is_faint (begun_text more (characters r))) rest ∙ all in
+          let every : list_all is_faint (code ∷ begun_text more cs) ≡ true = ap₂ (λ a b. a && b) faint others in
+          ap (λ k. list_all is_faint (begun_text k (characters (drop from text)))) at ∙ h.faint (size + more) (ap (list_all is_faint) one ∙ every);
     }
 
 pub all_faint : (text : List ℕ) (from bytes : ℕ) → AreSince text from bytes → AreFaint text from bytes
@@ -109,7 +109,7 @@ all_faint text from bytes h =
         h.within,
         (
           ap (λ k. is_boundary k (characters (drop from text))) (sym at) ∙ h.boundary 0 ∙ boundary_zero cs,
-          ap (λ k. list_all is_faint (begun k (characters (drop from text)))) (sym at) ∙ h.faint 0 (ap (list_all is_faint) (begun_zero cs)),
+          ap (λ k. list_all is_faint (begun_text k (characters (drop from text)))) (sym at) ∙ h.faint 0 (ap (list_all is_faint) (begun_zero cs)),
         ),
       ),
     )
@@ -128,12 +128,12 @@ first_trail text from over last trail is h ends faint all c = (
       let at : trail.bytes + more ≡ from.bytes + k = omega (arith, h.behind) in
       let same = ap (λ n. column n (characters text)) at in
       let told = is.1.1 k in
-      let few : list_all is_faint (begun more cs) ≡ true = all_fewer (trail.until - trail.bytes) more cs (omega (arith, le)) all.1.1.1 in
+      let few : list_all is_faint (begun_text more cs) ≡ true = all_fewer (trail.until - trail.bytes) more cs (omega (arith, le)) all.1.1.1 in
       by_cases {C = column (trail.bytes + more) (characters text) ≡ cond (is_boundary more cs) trail.column trail.widths} (is_boundary more cs)
       (λ y.
       let here : is_boundary k (characters start) ≡ true = sym it.boundary ∙ y in
       let wide = ap (str_width false) it.all in
-      let only = ends_behind over last (begun more cs) ends faint few in
+      let only = ends_behind over last (begun_text more cs) ends faint few in
       let behind = behind_boundary from start k here in
       let twice = twice_boundary from start k here in
       let value : column (trail.bytes + more) (characters text) ≡ trail.column = omega (arith, same, told, wide, only, behind, twice, c) in
@@ -143,7 +143,7 @@ first_trail text from over last trail is h ends faint all c = (
       let behind = behind_other from start k here in
       let none = twice_other from start k here in
       let sums = it.width in
-      let no_more = no_widths (begun more cs) few in
+      let no_more = no_widths (begun_text more cs) few in
       let value : column (trail.bytes + more) (characters text) ≡ trail.widths = omega (arith, same, told, behind, none, sums, no_more) in
       value ∙ sym (cond-false (is_boundary more cs) trail.column trail.widths n)),
 )
@@ -166,14 +166,14 @@ faint_tail text bytes later until code size h some is to =
     let pos : 0 < n = omega (arith, some) in
     let fit : size ≤ n = fits n code size cs pos here in
     let left : until - later ≡ n - size = omega (arith, to) in
-    let one : begun n (characters (drop bytes text)) ≡ code ∷ begun (n - size) cs = ap (begun n) step ∙ begun_more n code size cs pos in
-    let both = and_parts (is_faint code) (list_all is_faint (begun (n - size) cs)) (sym (ap (list_all is_faint) one) ∙ h.1.1.1) in (
+    let one : begun_text n (characters (drop bytes text)) ≡ code ∷ begun_text (n - size) cs = ap (begun_text n) step ∙ begun_more n code size cs pos in
+    let both = and_parts (is_faint code) (list_all is_faint (begun_text (n - size) cs)) (sym (ap (list_all is_faint) one) ∙ h.1.1.1) in (
       omega (arith, to, some, fit),
       (
         h.1.0,
         (
           subst (λ r. is_boundary (until - later) (characters r) ≡ true) rest (ap (λ k. is_boundary k cs) left ∙ sym (boundary_more n code size cs pos fit) ∙ here),
-          subst (λ r. list_all is_faint (begun (until - later) (characters r)) ≡ true) rest (ap (λ k. list_all is_faint (begun k cs)) left ∙ both.1),
+          subst (λ r. list_all is_faint (begun_text (until - later) (characters r)) ≡ true) rest (ap (λ k. list_all is_faint (begun_text k cs)) left ∙ both.1),
         ),
       ),
     )

@@ -7,12 +7,12 @@ use Rattle.miette_protocol.specs.views.Meaning.{Label}
 use Rattle.miette_tree.specs.rules.Tree.{Tree, tree, Trees, no_trees, more_trees, trees, effective, head, source_of, cause_of, causes_of, related_of}
 use Rattle.miette_lines.specs.rules.Answers.{NoneFails}
 use Rattle.miette_lines.specs.rules.Around.{has_own, group_context}
-use Rattle.miette_lines.specs.rules.Groups.{groups_from, groups_answered, own_groups, groups_of, joins_before, joined, in_order, spans_of}
-use Rattle.miette_narrated.specs.rules.Labels.{told}
+use Rattle.miette_lines.specs.rules.Groups.{groups_from, groups_answered, own_groups, groups_of, joins_before, joined_span, in_order, spans_of}
+use Rattle.miette_narrated.specs.rules.Labels.{label_range}
 use Rattle.miette_narrated.specs.rules.Snippets.{snippets_of}
-use Rattle.miette_narrated.specs.rules.Report.{NarrationSettings, Answers, unlisted, listed, RelatedAnswers, no_more, and_more, own_answer, related_answers, first_answers, later_answers, head_rows, titled_rows, cause_rows, causes_if, advice_rows, row_if, snippet_rows, blank_before, related_report, related_reports, narrated}
+use Rattle.miette_narrated.specs.rules.Report.{NarrationSettings, Answers, unlisted, listed, RelatedAnswers, no_more, and_more, own_answer, related_answers, first_answers, later_answers, head_rows, titled_rows, cause_rows, causes_if, advice_rows, row_if, snippet_rows, blank_before, related_report, related_reports, narration}
 use Rattle.miette_tree.specs.rules.DiagnosticParts.{given_labels}
-use Rattle.miette_narrated.specs.rules.Answered.{holds_of, holds_of_all, always_reads, accepts, report_reads, IsAnswered, AreAnswers, AllAnswers, AppendsSnippets, AppendsReport, AppendsRelated, IsNarrated, Appends}
+use Rattle.miette_narrated.specs.rules.PossibleAnswers.{holds_of, holds_of_all, always_reads, accepts, report_reads, IsAnswered, AreAnswers, AllAnswers, AppendsSnippets, AppendsReport, AppendsRelated, IsNarrated, Appends}
 use Rattle.miette_narrated.proofs.Sweeps.{by_cases}
 use Rattle.std.proofs.lemmas.List.{drop_all}
 
@@ -133,7 +133,7 @@ same_from context source before [] spans none = refl
 same_from context source before (f ∷ fails) [] none = refl
 same_from context source before (f ∷ fails) (span ∷ spans) none =
     by_cases {C = groups_from context source before (f ∷ fails) (span ∷ spans) ≡ groups_from context source before [] (span ∷ spans)} (joins_before context source before span)
-    (λ t. rw (t, none.0) (same_from context source (joined before span) fails spans none.1))
+    (λ t. rw (t, none.0) (same_from context source (joined_span before span) fails spans none.1))
     (λ g. rw g (ap (λ x. before ∷ x) (same_from context source span (f ∷ fails) spans none)))
 
 same_groups : (context : ℕ) (source : Source) (fails : List Bool) (spans : List Span) → NoneFails fails → groups_answered context source fails spans ≡ groups_answered context source [] spans
@@ -148,7 +148,7 @@ same_snippets : (context : ℕ) (source : Option Source) (fails : List Bool) (la
 same_snippets context None fails labels h e = refl
 same_snippets context (Some source) fails [] h e = refl
 same_snippets context (Some source) fails (l ∷ ls) h e =
-    ap (snippets_of (group_context context (in_order (l ∷ ls))) source (map (told (length source.bytes)) (in_order (l ∷ ls)))) (same_of context source fails (in_order (l ∷ ls)) (h.always e))
+    ap (snippets_of (group_context context (in_order (l ∷ ls))) source (map (label_range (length source.bytes)) (in_order (l ∷ ls)))) (same_of context source fails (in_order (l ∷ ls)) (h.always e))
 
 mutual
   same_report : (context : ℕ) (inherited : Option Source) (a : Answers) (t : Tree) → AreAnswers inherited a t → holds_of always_reads inherited t ≡ true → related_report context inherited a t ≡ related_report context inherited unlisted t
@@ -164,7 +164,7 @@ mutual
       let p = and_parts (holds_of always_reads inherited t) (holds_of_all always_reads inherited ts) e in
       ap₂ (λ x y. x ++ y) (same_report context inherited (first_answers more) t h.0 p.0) (same_reports context inherited (later_answers more) ts h.1 p.1)
 
-same_whole : (s : NarrationSettings) (t : Tree) (a : Answers) → AreAnswers None a t → report_reads t ≡ true → narrated s t a ≡ narrated s t unlisted
+same_whole : (s : NarrationSettings) (t : Tree) (a : Answers) → AreAnswers None a t → report_reads t ≡ true → narration s t a ≡ narration s t unlisted
 same_whole s (tree m own c r) a h e =
     let p = and_parts (always_reads (effective own None) (given_labels m.labels)) (holds_of_all always_reads (effective own None) r) e in
     let f = λ (x y : List ℕ). head_rows m ++ (causes_if s.chain (causes_of c) ++ ((x ++ advice_rows m) ++ ((blank_before r ++ y) ++ row_if [] s.footer))) in
@@ -176,5 +176,5 @@ same_whole s (tree m own c r) a h e =
 pub appended_text : (s : NarrationSettings) (t : Tree) (text old new : List ℕ) → IsNarrated s t text → new ≡ old ++ text → Appends s t old new
 appended_text s t text old new h e = record { text = text; is_narrated = h; appended = e }
 
-pub appended_only : (s : NarrationSettings) (t : Tree) (text old new : List ℕ) → IsNarrated s t text → new ≡ old ++ text → report_reads t ≡ true → new ≡ old ++ narrated s t unlisted
+pub appended_only : (s : NarrationSettings) (t : Tree) (text old new : List ℕ) → IsNarrated s t text → new ≡ old ++ text → report_reads t ≡ true → new ≡ old ++ narration s t unlisted
 appended_only s t text old new h e r = e ∙ ap (λ x. old ++ x) (h.is ∙ same_whole s t h.answers h.possible r)

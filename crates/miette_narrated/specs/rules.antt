@@ -4,4 +4,4 @@ pub mod Labels
 pub mod Lines
 pub mod Snippets
 pub mod Report
-pub mod Answered
+pub mod PossibleAnswers

@@ -4,5 +4,5 @@ pub mod Places
 pub mod Trails
 pub mod Sweeping
 pub mod Ends
-pub mod Made
+pub mod Conversions
 pub mod NarrationSettings

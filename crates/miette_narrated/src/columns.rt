@@ -7,7 +7,7 @@ ghost use Rattle.miette_narrated.specs.rules.Lines.{decoded_text};
 ghost use Rattle.miette_narrated.specs.steps.Places.{IsPlace};
 
 use crate::line_text::LineText;
-use crate::places::{Place, column_after, held_text, place_before};
+use crate::places::{Place, column_after, overlap_text, place_before};
 use crate::trails::{column_in, trail_at};
 use miette_lines::cells::{columns_of, first_character};
 use std::alloc::{AllocError, Global};
@@ -64,7 +64,7 @@ fn walked_column(alloc: Global, text: &[u8], from: Place, bytes: usize) -> Resul
     requires before { from.bytes ≤ bytes }
     ensures { IfOk result (λ c. c ≡ column bytes (characters text.now)) }
 {
-    let mut begun = held_text(alloc, from.held)?;
+    let mut begun = overlap_text(alloc, from.overlap)?;
     let mut widths = from.widths;
     let mut rest = &text[from.bytes..];
     let mut left = bytes - from.bytes;

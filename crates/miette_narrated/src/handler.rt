@@ -2,8 +2,8 @@
 
 ghost use Rattle.std.specs.Prelude.{◌≡◌, ◌++◌, true, false, Some, OnOk, OnErr, string_bytes, option_copied};
 ghost use Rattle.miette_tree.specs.views.Report.{tree_of};
-ghost use Rattle.miette_narrated.specs.rules.Report.{default_settings, narrated as narrated_text, unlisted};
-ghost use Rattle.miette_narrated.specs.rules.Answered.{Appends, report_reads, report_accepted};
+ghost use Rattle.miette_narrated.specs.rules.Report.{default_settings, narration, unlisted};
+ghost use Rattle.miette_narrated.specs.rules.PossibleAnswers.{Appends, report_reads, report_accepted};
 ghost use Rattle.miette_narrated.specs.steps.NarrationSettings.{settings_of};
 
 use crate::report::narration_of;
@@ -152,7 +152,7 @@ impl NarratableReportHandler {
             (tree_of ⟦<Box<dyn Diagnostic> as Diagnostic>⟧.meaning ⟦<Box<dyn SourceCode> as SourceCode>⟧.source
             report.now) ≡ true →
             string_bytes out.new ≡ string_bytes out.old
-            ++ narrated_text self.now (tree_of ⟦<Box<dyn Diagnostic> as Diagnostic>⟧.meaning
+            ++ narration self.now (tree_of ⟦<Box<dyn Diagnostic> as Diagnostic>⟧.meaning
             ⟦<Box<dyn SourceCode> as SourceCode>⟧.source report.now) unlisted) }
         ensures refused { (result ≡ Err RenderError.Refused) →
             report_accepted (tree_of ⟦<Box<dyn Diagnostic> as Diagnostic>⟧.meaning
@@ -172,7 +172,7 @@ impl NarratableReportHandler {
             (string_bytes out.new)) }
         ensures only { OnOk result (report_reads (tree_of D.meaning S.source report.now) ≡ true →
             string_bytes out.new ≡ string_bytes out.old
-            ++ narrated_text self.now (tree_of D.meaning S.source report.now) unlisted) }
+            ++ narration self.now (tree_of D.meaning S.source report.now) unlisted) }
         ensures refused { (result ≡ Err RenderError.Refused) →
             report_accepted (tree_of D.meaning S.source report.now) ≡ false }
         ensures err { OnErr result (string_bytes out.new ≡ string_bytes out.old) }

@@ -4,7 +4,7 @@ ghost use Rattle.std.specs.Prelude.{◌≡◌, nat_lt, IfOk};
 ghost use Rattle.std.specs.List.{filter};
 ghost use Rattle.std.specs.List.Sorted.{IsNonDecreasingBy};
 ghost use Rattle.miette_newlines.specs.views.Walking.{line_of_text};
-ghost use Rattle.miette_narrated.specs.steps.Ends.{is_begun, is_ended, ends_within, labels_of, ranked, AreEnds};
+ghost use Rattle.miette_narrated.specs.steps.Ends.{is_begun, is_ended, ends_within, labels_of, ranked_labels, AreEnds};
 ghost use Rattle.miette_narrated.specs.steps.Ends.{IsOrder};
 ghost use Rattle.miette_narrated.specs.steps.Sweeping.{AreOrdered};
 
@@ -30,7 +30,7 @@ pub(crate) struct LabelOrder<'a> {
 
 // Each label with its rank.
 fn with_ranks(alloc: Global, placed: &[Placed]) -> Result<Vec<Ranked>, AllocError>
-    ensures { IfOk result (λ v. v.items ≡ ranked 0 placed.now) }
+    ensures { IfOk result (λ v. v.items ≡ ranked_labels 0 placed.now) }
 {
     let mut made = Vec::new(alloc);
     for (rank, label) in placed.iter().enumerate() {

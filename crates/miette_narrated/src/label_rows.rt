@@ -7,7 +7,7 @@ ghost use Rattle.miette_narrated.specs.rules.Labels.{column_row, start_row, end_
 ghost use Rattle.miette_narrated.specs.rules.Labels.{label_rows};
 ghost use Rattle.std.specs.List.{All};
 ghost use Rattle.miette_narrated.specs.steps.Ends.{labels_of};
-ghost use Rattle.miette_narrated.specs.steps.Made.{told_of, all_told, shown_of};
+ghost use Rattle.miette_narrated.specs.steps.Conversions.{range_of, ranges_of, shown_line};
 ghost use Rattle.miette_narrated.specs.steps.Places.{IsPlace};
 ghost use Rattle.miette_narrated.specs.steps.Trails.{IsTrail};
 
@@ -25,21 +25,21 @@ use std::alloc::{AllocError, Global};
 
 /// Whether a label begins on the line or behind it.
 fn begins(it: &ShownLine<'_, '_>, label: &Placed) -> bool
-    ensures { result ≡ begins (shown_of it.now) label.now.start }
+    ensures { result ≡ begins (shown_line it.now) label.now.start }
 {
     it.line.start <= label.start
 }
 
 /// Whether a label begins before the text's end.
 fn begins_within(it: &ShownLine<'_, '_>, label: &Placed) -> bool
-    ensures { result ≡ begins_within (shown_of it.now) label.now.start }
+    ensures { result ≡ begins_within (shown_line it.now) label.now.start }
 {
     label.start <= it.line.text_end
 }
 
 /// Whether a label reaches the line.
 fn reaches(it: &ShownLine<'_, '_>, label: &Placed) -> bool
-    ensures { result ≡ reaches_line (shown_of it.now) label.now.after }
+    ensures { result ≡ reaches_line (shown_line it.now) label.now.after }
 {
     it.line.start <= label.after
 }
@@ -47,14 +47,14 @@ fn reaches(it: &ShownLine<'_, '_>, label: &Placed) -> bool
 /// Whether a label ends before the text's end; on a snippet's last line also one does that begins in the data or
 /// where they end.
 fn ends_before(it: &ShownLine<'_, '_>, label: &Placed) -> bool
-    ensures { result ≡ ends_before (shown_of it.now) label.now.start label.now.after }
+    ensures { result ≡ ends_before (shown_line it.now) label.now.start label.now.after }
 {
     label.after <= it.line.text_end || it.is_last && label.start <= it.data_end
 }
 
 /// The number of a label's first column.
 fn first_number(alloc: Global, it: &ShownLine<'_, '_>, label: &Placed) -> Result<usize, AllocError>
-    ensures { IfOk result (λ n. n ≡ first_number (shown_of it.now) label.now.start) }
+    ensures { IfOk result (λ n. n ≡ first_number (shown_line it.now) label.now.start) }
 {
     let before = column(alloc, it.text, label.start.saturating_sub(it.line.start))?;
     match before.checked_add(1) {
@@ -65,7 +65,7 @@ fn first_number(alloc: Global, it: &ShownLine<'_, '_>, label: &Placed) -> Result
 
 /// The number of its last column; an empty label has one column.
 fn last_number(alloc: Global, it: &ShownLine<'_, '_>, label: &Placed) -> Result<usize, AllocError>
-    ensures { IfOk result (λ n. n ≡ last_number (shown_of it.now) label.now.start label.now.after) }
+    ensures { IfOk result (λ n. n ≡ last_number (shown_line it.now) label.now.start label.now.after) }
 {
     if label.start == label.after {
         let first = first_number(alloc, it, label)?;
@@ -131,7 +131,8 @@ impl LabelledLine<'_, '_, '_> {
     /// `    label at line 2, columns 3 to 6: This bit here`
     fn push_whole(&self, alloc: Global, out: &mut String, label: &Placed) -> Result<(), AllocError>
         ensures { OnOk result (string_bytes out.new
-            ≡ string_bytes out.old ++ whole_row (shown_of self.now.line.now) (told_of self.now.labels.now label.now)) }
+            ≡ string_bytes out.old
+            ++ whole_row (shown_line self.now.line.now) (range_of self.now.labels.now label.now)) }
     {
         let first = first_number(alloc, self.line, label)?;
         let last = last_number(alloc, self.line, label)?;
@@ -150,7 +151,7 @@ impl LabelledLine<'_, '_, '_> {
         label: &Placed,
     ) -> Result<(), AllocError>
         ensures { OnOk result (string_bytes out.new ≡ string_bytes out.old
-            ++ column_row words.now (shown_of self.now.line.now) column (told_of self.now.labels.now label.now)) }
+            ++ column_row words.now (shown_line self.now.line.now) column (range_of self.now.labels.now label.now)) }
     {
         push_number(out, words, self.line.number)?;
         push_number(out, ", column ", column)?;
@@ -161,7 +162,8 @@ impl LabelledLine<'_, '_, '_> {
     /// `    label starting at line 1, column 1`
     fn push_start(&self, alloc: Global, out: &mut String, label: &Placed) -> Result<(), AllocError>
         ensures { OnOk result (string_bytes out.new
-            ≡ string_bytes out.old ++ start_row (shown_of self.now.line.now) (told_of self.now.labels.now label.now)) }
+            ≡ string_bytes out.old
+            ++ start_row (shown_line self.now.line.now) (range_of self.now.labels.now label.now)) }
     {
         let first = first_number(alloc, self.line, label)?;
         self.push_column(out, "    label starting at line ", first, label)
@@ -170,7 +172,7 @@ impl LabelledLine<'_, '_, '_> {
     /// `    label ending at line 2, column 0`
     fn push_ending(&self, alloc: Global, out: &mut String, label: &Placed) -> Result<(), AllocError>
         ensures { OnOk result (string_bytes out.new
-            ≡ string_bytes out.old ++ end_row (shown_of self.now.line.now) (told_of self.now.labels.now label.now)) }
+            ≡ string_bytes out.old ++ end_row (shown_line self.now.line.now) (range_of self.now.labels.now label.now)) }
     {
         let last = last_number(alloc, self.line, label)?;
         self.push_column(out, "    label ending at line ", last, label)
@@ -179,7 +181,8 @@ impl LabelledLine<'_, '_, '_> {
     /// The row of a label that begins on the line or behind it, where it has one there.
     fn push_begun(&self, alloc: Global, out: &mut String, label: &Placed) -> Result<(), AllocError>
         ensures { OnOk result (string_bytes out.new
-            ≡ string_bytes out.old ++ begun_row (shown_of self.now.line.now) (told_of self.now.labels.now label.now)) }
+            ≡ string_bytes out.old
+            ++ begun_row (shown_line self.now.line.now) (range_of self.now.labels.now label.now)) }
     {
         if ends_before(self.line, label) {
             self.push_whole(alloc, out, label)?;
@@ -192,7 +195,8 @@ impl LabelledLine<'_, '_, '_> {
     /// The row of a label under the line, where it has one there; one that began before the line has one where it ends.
     fn push_label(&self, alloc: Global, out: &mut String, label: &Placed) -> Result<(), AllocError>
         ensures { OnOk result (string_bytes out.new
-            ≡ string_bytes out.old ++ label_row (shown_of self.now.line.now) (told_of self.now.labels.now label.now)) }
+            ≡ string_bytes out.old
+            ++ label_row (shown_line self.now.line.now) (range_of self.now.labels.now label.now)) }
     {
         if begins(self.line, label) {
             self.push_begun(alloc, out, label)?;
@@ -205,7 +209,7 @@ impl LabelledLine<'_, '_, '_> {
     // The rows of labels under the line, in order, where it has the places of its text.
     fn push_all(&self, alloc: Global, out: &mut String, placed: &[Placed]) -> Result<(), AllocError>
         ensures { OnOk result (string_bytes out.new ≡ string_bytes out.old
-            ++ label_rows (shown_of self.now.line.now) (all_told self.now.labels.now placed.now)) }
+            ++ label_rows (shown_line self.now.line.now) (ranges_of self.now.labels.now placed.now)) }
     {
         for label in placed {
             self.push_label(alloc, out, label)?;
@@ -221,7 +225,7 @@ impl LabelledLine<'_, '_, '_> {
         ended: &[Ranked],
     ) -> Result<(), AllocError>
         ensures { OnOk result (string_bytes out.new ≡ string_bytes out.old
-            ++ label_rows (shown_of self.now.line.now) (all_told self.now.labels.now (labels_of ended.now))) }
+            ++ label_rows (shown_line self.now.line.now) (ranges_of self.now.labels.now (labels_of ended.now))) }
     {
         for end in ended {
             self.push_label(alloc, out, &end.label)?;
@@ -237,7 +241,7 @@ impl LabelledLine<'_, '_, '_> {
         placed: &[Placed],
     ) -> Result<(), AllocError>
         ensures { OnOk result (string_bytes out.new ≡ string_bytes out.old
-            ++ label_rows (shown_of self.now.line.now) (all_told self.now.labels.now placed.now)) }
+            ++ label_rows (shown_line self.now.line.now) (ranges_of self.now.labels.now placed.now)) }
     {
         let (places, trails) = places_for(alloc, self.line.text, placed.len())?;
         let line = self.line.with_places(&places, &trails);
@@ -258,8 +262,8 @@ impl LabelledLine<'_, '_, '_> {
         begun: &[Placed],
     ) -> Result<(), AllocError>
         ensures { OnOk result (string_bytes out.new ≡ (string_bytes out.old
-            ++ label_rows (shown_of self.now.line.now) (all_told self.now.labels.now (labels_of ended.now)))
-            ++ label_rows (shown_of self.now.line.now) (all_told self.now.labels.now begun.now)) }
+            ++ label_rows (shown_line self.now.line.now) (ranges_of self.now.labels.now (labels_of ended.now)))
+            ++ label_rows (shown_line self.now.line.now) (ranges_of self.now.labels.now begun.now)) }
     {
         let (places, trails) = places_for(
             alloc,

@@ -3,8 +3,8 @@
 ghost use Rattle.std.specs.Prelude.{◌≡◌, false, ◌++◌, ◌+◌, ◌<◌, ◌≤◌, ◌^◌, length, OnOk, string_bytes};
 ghost use Rattle.miette_lines.specs.rules.Contexts.{lines_of_contents};
 ghost use Rattle.miette_newlines.specs.views.Walking.{line_of_text};
-ghost use Rattle.miette_narrated.specs.steps.Made.{all_told, shown_of};
-ghost use Rattle.miette_narrated.specs.rules.Lines.{shown, line_row, rows_of_line, rows_of_lines};
+ghost use Rattle.miette_narrated.specs.steps.Conversions.{ranges_of, shown_line};
+ghost use Rattle.miette_narrated.specs.rules.Lines.{snippet_line, line_row, rows_of_line, rows_of_lines};
 ghost use Rattle.miette_narrated.specs.steps.Ends.{IsOrder};
 ghost use Rattle.miette_narrated.specs.rules.Labels.{label_rows};
 ghost use Rattle.miette_narrated.specs.steps.Sweeping.{IsAt, last_start};
@@ -22,7 +22,7 @@ use std::alloc::{AllocError, Global};
 
 /// `snippet line 2:   text`
 fn push_line(out: &mut String, it: &ShownLine<'_, '_>) -> Result<(), AllocError>
-    ensures { OnOk result (string_bytes out.new ≡ string_bytes out.old ++ line_row (shown_of it.now)) }
+    ensures { OnOk result (string_bytes out.new ≡ string_bytes out.old ++ line_row (shown_line it.now)) }
 {
     push_number(out, "snippet line ", it.number)?;
     out.push_str(": ")?;
@@ -33,7 +33,7 @@ fn push_line(out: &mut String, it: &ShownLine<'_, '_>) -> Result<(), AllocError>
 
 /// Where the labels begin that may have a row on a line.
 fn last_start(it: &ShownLine<'_, '_>) -> usize
-    ensures { result ≡ last_start (shown_of it.now) }
+    ensures { result ≡ last_start (shown_line it.now) }
 {
     if it.is_last {
         it.data_end.max(it.line.text_end)
@@ -53,7 +53,8 @@ fn push_shown(
     requires order { IsOrder order.now }
     requires at { IsAt order.now.placed.now sweep.old.at sweep.old.next sweep.old.running.items }
     ensures rows { OnOk result (string_bytes out.new
-        ≡ string_bytes out.old ++ rows_of_line (all_told order.now.labels.now order.now.placed.now) (shown_of it.now)) }
+        ≡ string_bytes out.old
+        ++ rows_of_line (ranges_of order.now.labels.now order.now.placed.now) (shown_line it.now)) }
     ensures at { OnOk result (IsAt order.now.placed.now sweep.new.at sweep.new.next sweep.new.running.items) }
 {
     push_line(out, it)?;
@@ -80,7 +81,8 @@ fn push_inner(
     requires order { IsOrder order.now }
     requires inner { it.now.is_last ≡ false }
     ensures { OnOk result (string_bytes out.new
-        ≡ string_bytes out.old ++ label_rows (shown_of it.now) (all_told order.now.labels.now order.now.placed.now)) }
+        ≡ string_bytes out.old
+        ++ label_rows (shown_line it.now) (ranges_of order.now.labels.now order.now.placed.now)) }
 {
     let ended = ended_on(alloc, order, &it.line)?;
     let begun = begun_on(order.placed, &it.line);
@@ -103,7 +105,7 @@ fn shown_line<'a>(
     requires text { line.start ≤ line.text_end }
     requires to { line.text_end ≤ lent.now.span.offset + length lent.now.bytes }
     requires small { lent.now.span.offset + length lent.now.bytes < 2 ^ 64 }
-    ensures { shown_of result ≡ shown lent.now number is_last (line_of_text line) }
+    ensures { shown_line result ≡ snippet_line lent.now number is_last (line_of_text line) }
 {
     let start = lent.span().offset();
     let data = lent.data();
@@ -128,7 +130,7 @@ pub(crate) fn push_lines(
     requires order { IsOrder order.now }
     requires at { IsAt order.now.placed.now sweep.old.at sweep.old.next sweep.old.running.items }
     ensures rows { OnOk result (string_bytes out.new
-        ≡ string_bytes out.old ++ rows_of_lines (all_told order.now.labels.now order.now.placed.now) lent.now
+        ≡ string_bytes out.old ++ rows_of_lines (ranges_of order.now.labels.now order.now.placed.now) lent.now
         (lent.now.line + 1) (lines_of_contents lent.now)) }
     ensures at { OnOk result (IsAt order.now.placed.now sweep.new.at sweep.new.next sweep.new.running.items) }
 {

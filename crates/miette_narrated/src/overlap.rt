@@ -2,7 +2,7 @@
 
 /// What a walk from a place begins with, of the characters before it.
 #[derive(Clone, Copy)]
-pub(crate) enum Held {
+pub(crate) enum Overlap {
     Nothing,
     One(char),
     /// An emoji, and U+FE0F behind it.

@@ -3,10 +3,10 @@
 ghost use Rattle.std.specs.Prelude.{◌≡◌};
 ghost use Rattle.std.specs.Int.{is_in_range};
 ghost use Rattle.miette_narrated.specs.steps.Parting.{is_lone, is_joining, is_closing, may_part, may_part_flags};
-ghost use Rattle.miette_narrated.specs.steps.Parting.{is_keeping, opens, end_held, held_between};
+ghost use Rattle.miette_narrated.specs.steps.Parting.{is_keeping, opens, end_overlap, overlap_between};
 ghost use Rattle.unicode_width.specs.Width.{is_indicator};
 
-use crate::overlap::Held;
+use crate::overlap::Overlap;
 use miette_lines::cells::columns_of;
 use ucd_emoji::is_emoji_variation_base;
 
@@ -117,14 +117,14 @@ fn opens(character: char) -> bool
     !(in_range(code, 0xfe00, 0xfe0f) || in_range(code, 0x1f3fb, 0x1f3ff))
 }
 
-// What is held where a text may be told from its last characters.
-fn end_held(before: char, last: char) -> Option<Held>
-    ensures { result ≡ end_held before last }
+// What is overlap where a text may be told from its last characters.
+fn end_overlap(before: char, last: char) -> Option<Overlap>
+    ensures { result ≡ end_overlap before last }
 {
     if is_closing(last) || is_keeping(last) {
-        Some(Held::One(last))
+        Some(Overlap::One(last))
     } else if last == '\u{fe0f}' && is_emoji_variation_base(before) {
-        Some(Held::Selected(before))
+        Some(Overlap::Selected(before))
     } else {
         None
     }
@@ -132,13 +132,18 @@ fn end_held(before: char, last: char) -> Option<Held>
 
 /// What a place between two neighbours holds, if one may lie there: nothing where the text may be parted, else its last
 /// characters, from whose columns those behind are told.
-pub(crate) fn held_between(before: char, last: char, is_half: bool, next: char) -> Option<Held>
-    ensures { result ≡ held_between before last is_half next }
+pub(crate) fn overlap_between(
+    before: char,
+    last: char,
+    is_half: bool,
+    next: char,
+) -> Option<Overlap>
+    ensures { result ≡ overlap_between before last is_half next }
 {
     if may_part(last, next) || may_part_flags(last, is_half, next) {
-        Some(Held::Nothing)
+        Some(Overlap::Nothing)
     } else if opens(next) {
-        end_held(before, last)
+        end_overlap(before, last)
     } else {
         None
     }

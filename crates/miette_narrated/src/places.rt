@@ -4,10 +4,10 @@
 ghost use Rattle.std.specs.Prelude.{◌≡◌, ◌<◌, ◌≤◌, ◌+◌, ◌-◌, false, chars, string_bytes, IfOk, IfSome};
 ghost use Rattle.std.specs.List.{All};
 ghost use Rattle.unicode_width.specs.Width.{str_width};
-ghost use Rattle.miette_narrated.specs.steps.Places.{IsPlace, held};
+ghost use Rattle.miette_narrated.specs.steps.Places.{IsPlace, overlap_text};
 
-use crate::overlap::Held;
-use crate::parting::{held_between, is_indicator};
+use crate::overlap::Overlap;
+use crate::parting::{is_indicator, overlap_between};
 use miette_lines::cells::{columns_of, first_character};
 use std::alloc::{AllocError, Global};
 use unicode_width::UnicodeWidthStr;
@@ -20,7 +20,7 @@ pub(crate) struct Place {
     pub(crate) column: usize,
     pub(crate) widths: usize,
     /// What a walk begins with, and its columns, which are then counted twice.
-    pub(crate) held: Held,
+    pub(crate) overlap: Overlap,
     pub(crate) twice: usize,
 }
 
@@ -36,21 +36,21 @@ pub(crate) fn start(text: &[u8]) -> Place
         bytes: 0,
         column: 0,
         widths: 0,
-        held: Held::Nothing,
+        overlap: Overlap::Nothing,
         twice: 0,
     }
 }
 
 /// What a walk from a place begins with.
 #[tactic(auto, using(crate::proofs::Columning::none_held_text))]
-pub(crate) fn held_text(alloc: Global, first: Held) -> Result<String, AllocError>
-    ensures { IfOk result (λ text. chars (string_bytes text) ≡ held first) }
+pub(crate) fn overlap_text(alloc: Global, first: Overlap) -> Result<String, AllocError>
+    ensures { IfOk result (λ text. chars (string_bytes text) ≡ overlap_text first) }
 {
     let mut text = String::new(alloc);
     match first {
-        Held::Nothing => {}
-        Held::One(character) => text.push(character)?,
-        Held::Selected(emoji) => {
+        Overlap::Nothing => {}
+        Overlap::One(character) => text.push(character)?,
+        Overlap::Selected(emoji) => {
             text.push(emoji)?;
             text.push('\u{fe0f}')?;
         }
@@ -76,23 +76,23 @@ fn place_at(
     over: &str,
     bytes: usize,
     widths: usize,
-    first: Held,
+    first: Overlap,
 ) -> Result<Place, AllocError>
     ensures bytes { IfOk result (λ place. place.bytes ≡ bytes) }
     ensures column { IfOk result (λ place. place.column
         ≡ (from.column + str_width false (chars over.now)) - from.twice) }
     ensures widths { IfOk result (λ place. place.widths ≡ widths) }
-    ensures held { IfOk result (λ place. place.held ≡ first) }
-    ensures twice { IfOk result (λ place. place.twice ≡ str_width false (held first)) }
+    ensures overlap { IfOk result (λ place. place.overlap ≡ first) }
+    ensures twice { IfOk result (λ place. place.twice ≡ str_width false (overlap_text first)) }
 {
     let column = column_after(from, over)?;
-    let text = held_text(alloc, first)?;
+    let text = overlap_text(alloc, first)?;
     let twice = text.as_str().width();
     Ok(Place {
         bytes,
         column,
         widths,
-        held: first,
+        overlap: first,
         twice,
     })
 }
@@ -102,7 +102,7 @@ fn next_place(alloc: Global, text: &[u8], from: Place) -> Result<Option<Place>, 
     requires { IsPlace text.now from }
     ensures { IfOk result (λ next. IfSome next (λ place. IsPlace text.now place × (from.bytes < place.bytes))) }
 {
-    let mut over = held_text(alloc, from.held)?;
+    let mut over = overlap_text(alloc, from.overlap)?;
     let mut before = '\0';
     let mut last = '\0';
     let mut is_half = false;
@@ -111,7 +111,7 @@ fn next_place(alloc: Global, text: &[u8], from: Place) -> Result<Option<Place>, 
     while bytes < text.len() {
         let (code, size) = first_character(&text[bytes..]);
         if bytes - from.bytes >= APART {
-            if let Some(first) = held_between(before, last, is_half, code) {
+            if let Some(first) = overlap_between(before, last, is_half, code) {
                 let place = place_at(alloc, from, over.as_str(), bytes, widths, first)?;
                 return Ok(Some(place));
             }

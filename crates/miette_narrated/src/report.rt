@@ -7,8 +7,9 @@ ghost use Rattle.miette_tree.specs.views.Report.{tree_of};
 ghost use Rattle.miette_tree.specs.views.Owned.{shown_source};
 ghost use Rattle.miette_narrated.specs.rules.Report.{title, severity_row, head_rows, titled_rows, cause_rows};
 ghost use Rattle.miette_narrated.specs.rules.Report.{causes_if, advice_rows, url_rows, blank_before};
-ghost use Rattle.miette_narrated.specs.rules.Answered.{AppendsSnippets, AppendsReport, AppendsRelated, IsNarrated};
-ghost use Rattle.miette_narrated.specs.rules.Answered.{accepts, holds_of, holds_of_all, report_accepted};
+ghost use Rattle.miette_narrated.specs.rules.PossibleAnswers.{AppendsSnippets, AppendsReport, AppendsRelated};
+ghost use Rattle.miette_narrated.specs.rules.PossibleAnswers.{IsNarrated};
+ghost use Rattle.miette_narrated.specs.rules.PossibleAnswers.{accepts, holds_of, holds_of_all, report_accepted};
 ghost use Rattle.miette_narrated.specs.steps.NarrationSettings.{settings_of};
 
 use crate::settings::NarrationSettings;

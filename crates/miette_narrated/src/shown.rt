@@ -2,7 +2,7 @@
 
 ghost use Rattle.std.specs.Prelude.{◌≡◌};
 ghost use Rattle.std.specs.List.{All};
-ghost use Rattle.miette_narrated.specs.steps.Made.{shown_of};
+ghost use Rattle.miette_narrated.specs.steps.Conversions.{shown_line};
 ghost use Rattle.miette_narrated.specs.steps.Places.{IsPlace};
 ghost use Rattle.miette_narrated.specs.steps.Trails.{IsTrail};
 
@@ -31,7 +31,7 @@ impl<'a, 'p> ShownLine<'a, 'p> {
     ) -> ShownLine<'a, 'q>
         requires places { All (IsPlace self.now.text.bytes.now) places.now }
         requires trails { All (IsTrail self.now.text.bytes.now) trails.now }
-        ensures { shown_of result ≡ shown_of self.now }
+        ensures { shown_line result ≡ shown_line self.now }
     {
         ShownLine {
             line: self.line,

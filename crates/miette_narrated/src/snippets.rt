@@ -4,10 +4,10 @@ ghost use Rattle.std.specs.Prelude.{◌≡◌, ◌++◌, ◌+◌, false, Some, m
 ghost use Rattle.std.specs.Prelude.{string_bytes, option_copied};
 ghost use Rattle.std.specs.List.{All};
 ghost use Rattle.miette_lines.specs.rules.Groups.{in_order};
-ghost use Rattle.miette_lines.specs.views.Given.{label_at};
-ghost use Rattle.miette_lines.specs.views.Read.{IsRead};
-ghost use Rattle.miette_narrated.specs.steps.Made.{all_told};
-ghost use Rattle.miette_narrated.specs.rules.Answered.{AppendsSnippets, accepts};
+ghost use Rattle.miette_lines.specs.views.GivenLabels.{label_at};
+ghost use Rattle.miette_lines.specs.views.Reads.{IsRead};
+ghost use Rattle.miette_narrated.specs.steps.Conversions.{ranges_of};
+ghost use Rattle.miette_narrated.specs.rules.PossibleAnswers.{AppendsSnippets, accepts};
 ghost use Rattle.miette_narrated.specs.rules.Snippets.{name_text, begin_rows, snippet};
 ghost use Rattle.miette_narrated.specs.steps.Ends.{IsOrder};
 ghost use Rattle.miette_narrated.specs.steps.Sweeping.{IsAt};
@@ -70,7 +70,7 @@ fn push_snippet(
     requires order { IsOrder order.now }
     requires at { IsAt order.now.placed.now sweep.old.at sweep.old.next sweep.old.running.items }
     ensures rows { OnOk result (string_bytes out.new
-        ≡ string_bytes out.old ++ snippet (all_told order.now.labels.now order.now.placed.now) lent.now) }
+        ≡ string_bytes out.old ++ snippet (ranges_of order.now.labels.now order.now.placed.now) lent.now) }
     ensures at { OnOk result (IsAt order.now.placed.now sweep.new.at sweep.new.next sweep.new.running.items) }
 {
     let end = lent.span().offset().checked_add(lent.data().len());

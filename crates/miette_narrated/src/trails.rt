@@ -9,7 +9,7 @@ ghost use Rattle.miette_narrated.specs.rules.Columns.{column};
 ghost use Rattle.miette_narrated.specs.steps.Places.{IsPlace};
 ghost use Rattle.miette_narrated.specs.steps.Trails.{is_faint, first_size, AreFaint, IsTrail};
 
-use crate::places::{APART, Place, column_after, held_text, start};
+use crate::places::{APART, Place, column_after, overlap_text, start};
 use miette_lines::cells::{columns_of, first_character};
 use std::alloc::{AllocError, Global};
 
@@ -98,7 +98,7 @@ fn push_trails(
     requires trails { All (IsTrail text.now) trails.old.items }
     ensures { All (IsTrail text.now) trails.new.items }
 {
-    let mut over = held_text(alloc, from.held)?;
+    let mut over = overlap_text(alloc, from.overlap)?;
     let mut widths = from.widths;
     let mut bytes = from.bytes;
     let mut looked = bytes;

@@ -1,3 +1,3 @@
 -- What the code's values stand for.
 pub mod Printouts
-pub mod Told
+pub mod Tokens

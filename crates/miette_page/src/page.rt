@@ -1,8 +1,8 @@
 //! Rows in the making, printed as they come.
 
 ghost use Rattle.std.specs.Prelude.{◌≡◌, ◌-◌, ◌∷◌, ◌++◌, [], chars, decimal, length, replicate, IfOk, OnOk};
-ghost use Rattle.miette_page.specs.views.Printouts.{◌⊕◌, ended, printout_of, started};
-ghost use Rattle.miette_page.specs.views.Told.{begins, row_end, run_told, text_told};
+ghost use Rattle.miette_page.specs.views.Printouts.{◌⊕◌, ended_text, printout_of, started_text};
+ghost use Rattle.miette_page.specs.views.Tokens.{begins, row_end, styled_tokens, text_tokens};
 
 use crate::canvas::Canvas;
 use itoa::Buffer;
@@ -41,7 +41,7 @@ impl<O: Canvas> Model for Page<O> {
 // What stands before the first character of a run.
 fn start_run<O: Canvas>(out: &mut O, style: Style, begun: bool) -> Result<(), AllocError>
     ensures { OnOk result (O.written out.new
-        ≡ started (record { text = O.written out.old; style = style; begun = begun })) }
+        ≡ started_text (record { text = O.written out.old; style = style; begun = begun })) }
 {
     if begun || style.is_plain() {
         return Ok(());
@@ -52,7 +52,7 @@ fn start_run<O: Canvas>(out: &mut O, style: Style, begun: bool) -> Result<(), Al
 // What stands behind the last character of a run.
 fn end_run<O: Canvas>(out: &mut O, style: Style, begun: bool) -> Result<(), AllocError>
     ensures { OnOk result (O.written out.new
-        ≡ ended (record { text = O.written out.old; style = style; begun = begun })) }
+        ≡ ended_text (record { text = O.written out.old; style = style; begun = begun })) }
 {
     if !begun || style.is_plain() {
         return Ok(());
@@ -75,7 +75,7 @@ fn push_each<O: Canvas>(out: &mut O, character: char, many: usize) -> Result<(),
 impl<O: Canvas + Drop> Page<O> {
     /// The output, with what was printed. `AllocError` where memory is refused.
     pub fn into_output(self) -> Result<O, AllocError>
-        ensures { IfOk result (λ out. O.written out ≡ ended self) }
+        ensures { IfOk result (λ out. O.written out ≡ ended_text self) }
     {
         let Page {
             mut out,
@@ -122,7 +122,7 @@ impl<O: Canvas> Page<O> {
 
     /// Puts a character behind the run's text. `AllocError` where memory is refused.
     pub fn push(&mut self, character: char) -> Result<(), AllocError>
-        ensures { OnOk result (self.new ≡ self.old ⊕ text_told (character ∷ [])) }
+        ensures { OnOk result (self.new ≡ self.old ⊕ text_tokens (character ∷ [])) }
     {
         start_run(&mut self.out, self.style, self.begun)?;
         self.begun = true;
@@ -132,7 +132,7 @@ impl<O: Canvas> Page<O> {
 
     /// Puts a text behind the run's text. `AllocError` where memory is refused.
     pub fn push_str(&mut self, text: &str) -> Result<(), AllocError>
-        ensures { OnOk result (self.new ≡ self.old ⊕ text_told (chars text.now)) }
+        ensures { OnOk result (self.new ≡ self.old ⊕ text_tokens (chars text.now)) }
     {
         if text.is_empty() {
             return Ok(());
@@ -145,7 +145,7 @@ impl<O: Canvas> Page<O> {
 
     /// Puts copies of a character behind the run's text. `AllocError` where memory is refused.
     pub fn push_copies(&mut self, character: char, many: usize) -> Result<(), AllocError>
-        ensures { OnOk result (self.new ≡ self.old ⊕ text_told (replicate many character)) }
+        ensures { OnOk result (self.new ≡ self.old ⊕ text_tokens (replicate many character)) }
     {
         if many == 0 {
             return Ok(());
@@ -158,7 +158,7 @@ impl<O: Canvas> Page<O> {
 
     /// A run of spaces: `····`. `AllocError` where memory is refused.
     pub fn push_blank(&mut self, many: usize) -> Result<(), AllocError>
-        ensures { OnOk result (self.new ≡ self.old ⊕ run_told PLAIN (replicate many 32)) }
+        ensures { OnOk result (self.new ≡ self.old ⊕ styled_tokens PLAIN (replicate many 32)) }
     {
         self.begin(PLAIN)?;
         self.push_copies(' ', many)?;
@@ -173,7 +173,7 @@ impl<O: Canvas> Page<O> {
         bar: char,
         many: usize,
     ) -> Result<(), AllocError>
-        ensures { OnOk result (self.new ≡ self.old ⊕ run_told style (first ∷ replicate many bar)) }
+        ensures { OnOk result (self.new ≡ self.old ⊕ styled_tokens style (first ∷ replicate many bar)) }
     {
         self.begin(style)?;
         self.push(first)?;
@@ -183,7 +183,7 @@ impl<O: Canvas> Page<O> {
 
     /// Puts characters behind the run's text. `AllocError` where memory is refused.
     pub fn push_chars(&mut self, characters: &[char]) -> Result<(), AllocError>
-        ensures { OnOk result (self.new ≡ self.old ⊕ text_told characters.now) }
+        ensures { OnOk result (self.new ≡ self.old ⊕ text_tokens characters.now) }
     {
         if characters.is_empty() {
             return Ok(());
@@ -198,7 +198,7 @@ impl<O: Canvas> Page<O> {
     /// `AllocError` where memory is refused.
     pub fn push_right(&mut self, number: usize, columns: usize) -> Result<(), AllocError>
         ensures { OnOk result (self.new ≡ self.old
-            ⊕ text_told (replicate (columns - length (decimal number)) 32 ++ decimal number)) }
+            ⊕ text_tokens (replicate (columns - length (decimal number)) 32 ++ decimal number)) }
     {
         let mut buffer = Buffer::new();
         let digits = buffer.format(number);
@@ -209,7 +209,7 @@ impl<O: Canvas> Page<O> {
 
     /// Puts a number behind the run's text, in decimal digits. `AllocError` where memory is refused.
     pub fn push_number(&mut self, number: usize) -> Result<(), AllocError>
-        ensures { OnOk result (self.new ≡ self.old ⊕ text_told (decimal number)) }
+        ensures { OnOk result (self.new ≡ self.old ⊕ text_tokens (decimal number)) }
     {
         let mut digits = Buffer::new();
         self.push_str(digits.format(number))?;

@@ -4,7 +4,7 @@ ghost use Rattle.std.specs.Prelude.{◌≡◌, IfOk, OnOk};
 ghost use Rattle.std.specs.Option.{option_map};
 ghost use Rattle.std.specs.Int.NonZero.{non_zero_usize_get};
 ghost use Rattle.miette_protocol.specs.steps.ContextLines.{ReadsLines, WritesLines};
-ghost use Rattle.miette_protocol.specs.views.Meaning.{counted};
+ghost use Rattle.miette_protocol.specs.views.Meaning.{context_count};
 
 use serde::{Deserialize, Deserializer, Format, Serialize, Serializer};
 use std::alloc::Global;
@@ -40,7 +40,7 @@ pub(crate) fn deserialize<F: Format>(
 
 /// The number, unless it is 0.
 fn nonzero(number: usize) -> Option<NonZeroUsize>
-    ensures { option_map non_zero_usize_get result ≡ counted (Some number) }
+    ensures { option_map non_zero_usize_get result ≡ context_count (Some number) }
 {
     NonZeroUsize::new(number)
 }

@@ -64,7 +64,7 @@ fn copied_labels(
 }
 
 impl MietteDiagnostic {
-    ghost use Rattle.miette_protocol.specs.views.Diagnostic.{meaning_of, message_alone, appended};
+    ghost use Rattle.miette_protocol.specs.views.Diagnostic.{meaning_of, message_alone, appended_labels};
 
     /// A diagnostic with a copy of a message, and nothing else.
     ///
@@ -192,7 +192,7 @@ impl MietteDiagnostic {
     /// `AllocError` where memory for the list is refused; the value is dropped.
     pub fn and_label(mut self, alloc: Global, label: LabeledSpan) -> Result<Self, AllocError>
         ensures { IfOk result (λ it. meaning_of it ≡ record (meaning_of self) {
-          labels = appended (meaning_of self).labels (label ∷ []);
+          labels = appended_labels (meaning_of self).labels (label ∷ []);
         }) }
     {
         let mut labels = self.labels.take().unwrap_or(Vec::new(alloc));
@@ -210,7 +210,7 @@ impl MietteDiagnostic {
         mut more: Vec<LabeledSpan>,
     ) -> Result<Self, AllocError>
         ensures { IfOk result (λ it. meaning_of it ≡ record (meaning_of self) {
-          labels = appended (meaning_of self).labels more.items;
+          labels = appended_labels (meaning_of self).labels more.items;
         }) }
     {
         let mut labels = self.labels.take().unwrap_or(Vec::new(alloc));

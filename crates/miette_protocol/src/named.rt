@@ -75,10 +75,10 @@ impl<S: SourceCode> NamedSource<S> {
 
 impl<S: SourceCode> SourceCode for NamedSource<S> {
     ghost use Rattle.std.specs.Prelude.{Some};
-    ghost use Rattle.miette_protocol.specs.rules.Reading.{named};
+    ghost use Rattle.miette_protocol.specs.rules.Reading.{named_source};
     ghost use Rattle.miette_protocol.specs.views.Named.{inner_of, name_of, given_language};
 
-    ghost source = { λ it. named (S.source (inner_of it)) (name_of it) (given_language it) };
+    ghost source = { λ it. named_source (S.source (inner_of it)) (name_of it) (given_language it) };
 
     fn read_span(
         &self,

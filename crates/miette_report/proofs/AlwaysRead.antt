@@ -10,12 +10,12 @@ use Rattle.miette_lines.specs.rules.Groups.{in_order, AreAccepted}
 use Rattle.miette_style.specs.rules.Codes.{is_nil}
 use Rattle.miette_tree.specs.rules.Tree.{Tree, tree, Cause, diagnostic, texts, Trees, no_trees, more_trees, effective}
 use Rattle.miette_tree.specs.rules.DiagnosticParts.{given_labels}
-use Rattle.miette_graphical.specs.rules.Printed.{Printed, over, printed, printed_causes, printed_related, source_reads, always_reads, all_read}
+use Rattle.miette_graphical.specs.rules.PrintedDiagnostics.{PrintedDiagnostic, over, diagnostics_of, printed_causes, printed_related, source_reads, always_reads, all_read}
 use Rattle.miette_json.specs.rules.Reads.{AlwaysReads, CauseAlwaysReads, AllAlwaysRead}
 use Rattle.miette_graphical.specs.rules.Settings.{Settings}
-use Rattle.miette_brief.specs.rules.Answered as briefly
+use Rattle.miette_brief.specs.rules.PossibleAnswers as briefly
 use Rattle.miette_brief.specs.rules.Report as brief
-use Rattle.miette_narrated.specs.rules.Answered as told
+use Rattle.miette_narrated.specs.rules.PossibleAnswers as told
 use Rattle.miette_narrated.specs.rules.Report.{Answers, RelatedAnswers, related_answers, first_answers, later_answers}
 
 abbrev Reads : Option Source → Type 0
@@ -45,17 +45,17 @@ parts : (a b : Bool) → (a && b) ≡ true → (a ≡ true) × (b ≡ true)
 parts true b p = (refl, p)
 parts false b p = cc
 
-all_of_both : (ps qs : List Printed) → all_read ps ≡ true → all_read qs ≡ true → all_read (ps ++ qs) ≡ true
+all_of_both : (ps qs : List PrintedDiagnostic) → all_read ps ≡ true → all_read qs ≡ true → all_read (ps ++ qs) ≡ true
 all_of_both [] qs p q = q
 all_of_both (x ∷ ps) qs p q =
     let h = parts (always_reads x.source x.meaning) (all_read ps) p in
     both (always_reads x.source x.meaning) (all_read (ps ++ qs)) h.0 (all_of_both ps qs h.1 q)
 
-unless_nested : (nested : Bool) (ps : List Printed) → all_read ps ≡ true → all_read (if nested then [] else ps) ≡ true
+unless_nested : (nested : Bool) (ps : List PrintedDiagnostic) → all_read ps ≡ true → all_read (if nested then [] else ps) ≡ true
 unless_nested true ps p = refl
 unless_nested false ps p = p
 
-if_shown : (chain : Bool) (ps : List Printed) → all_read ps ≡ true → all_read (if chain then ps else []) ≡ true
+if_shown : (chain : Bool) (ps : List PrintedDiagnostic) → all_read ps ≡ true → all_read (if chain then ps else []) ≡ true
 if_shown true ps p = p
 if_shown false ps p = refl
 
@@ -80,7 +80,7 @@ mutual
       (all_of_both causes (printed_related nested source r) (unless_nested nested (printed_causes nested source c) (causes_read nested source c here q.0.1)) (related_read nested source r here q.0.2)))
       (related_read nested inherited ts p q.1)
 
-pub printed-reads : (s : Settings) (t : Tree) → AlwaysReads t → all_read (printed s t) ≡ true
+pub printed-reads : (s : Settings) (t : Tree) → AlwaysReads t → all_read (diagnostics_of s t) ≡ true
 printed-reads s (tree m own c r) q =
     let causes = if s.chain then printed_causes s.nested own c else [] in
     both (always_reads own m) (all_read (causes ++ printed_related s.nested own r)) (one_read own m q.0)

@@ -2,7 +2,7 @@ pub mod DeviceLemmas
 pub mod FaultStatuses
 pub mod PictureSteps
 pub mod AlwaysRead
-pub mod ChosenSteps
+pub mod JobHandlerSteps
 pub mod FindingSteps
 pub mod LintSteps
-pub mod WantedSteps
+pub mod OptionWordSteps

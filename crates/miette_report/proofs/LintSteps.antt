@@ -3,9 +3,9 @@ use Rattle.std.proofs.Common.{◌≡◌, ℕ, ◌<◌, ◌↔◌, Bool, true, fa
 use Rattle.std.proofs.lemmas.Bool.Decides.{nat_tests}
 use Rattle.std.proofs.lemmas.List.{nil_from_length}
 use Rattle.miette_protocol.specs.views.Meaning.{Label, Meaning}
-use Rattle.miette_report.specs.views.Drawn.{over_input}
+use Rattle.miette_report.specs.views.DrawReports.{over_input}
 use Rattle.miette_report.specs.rules.Findings.{findings_of}
-use Rattle.miette_report.specs.views.Linted.{warning, IsClean, IsShown, CallIsClean, CallLints, IsLinted, Lints, LintsText}
+use Rattle.miette_report.specs.views.LintReports.{warning, IsClean, IsShown, CallIsClean, CallLints, IsLinted, Lints, LintsText}
 use Rattle.miette_report.specs.rules.Words.{brief_word, AreLintWords, IsNoLintCall, IsReadAs}
 use Rattle.miette_report.specs.declared.lint.LintWords.{LintWords}
 

@@ -5,15 +5,15 @@ use Rattle.miette_tree.specs.rules.Tree.{Tree}
 use Rattle.miette_style.specs.rules.Themes.{characters_of, no_styles, styles_of, theme_of, unicode_characters}
 use Rattle.miette_style.specs.declared.theme.GraphicalTheme.{GraphicalTheme}
 use Rattle.miette_graphical.specs.rules.Answers.{unlisted}
-use Rattle.miette_graphical.specs.rules.Printed.{all_read, printed}
+use Rattle.miette_graphical.specs.rules.PrintedDiagnostics.{all_read, diagnostics_of}
 use Rattle.miette_graphical.specs.views.Handling.{Handling, draws_plain, without_highlighter}
 use Rattle.miette_graphical.specs.rules.Settings.{default_settings}
 use Rattle.miette_graphical.specs.rules.Snippets.{drawn_rows}
 use Rattle.miette_graphical.specs.rules.Text.{report_text}
-use Rattle.miette_brief.specs.rules.Answered as briefly
+use Rattle.miette_brief.specs.rules.PossibleAnswers as briefly
 use Rattle.miette_brief.specs.rules.Report as rows
 use Rattle.miette_report.proofs.AlwaysRead.{printed-reads}
-use Rattle.miette_report.specs.views.Drawn.{draw_settings, drawn_tree, over_input, CallPictures, IsPicture, IsReadWhole, Pictures}
+use Rattle.miette_report.specs.views.DrawReports.{draw_settings, drawn_tree, over_input, CallPictures, IsPicture, IsReadWhole, Pictures}
 use Rattle.miette_report.specs.rules.Words.{AreDrawWords, IsNoDrawCall}
 
 abbrev narrow : {H : Type 0} → Handling H → Handling H
@@ -25,24 +25,24 @@ pub plain-settings : {H : Type 0} (theme : GraphicalTheme) (made wide : Handling
     → wide ≡ without_highlighter draw_settings
 plain-settings theme made wide is m w = w ∙ ap narrow (m ∙ ap (λ t. without_highlighter (default_settings t.characters t.styles)) is)
 
-reads-whole : {H : Type 0} (theme : GraphicalTheme) (h : Handling H) (t : Tree) → h ≡ without_highlighter draw_settings → IsReadWhole t → all_read (printed h.settings t) ≡ true
-reads-whole theme h t same reads = ap (λ u. all_read (printed u.settings t)) same ∙ reads
+reads-whole : {H : Type 0} (theme : GraphicalTheme) (h : Handling H) (t : Tree) → h ≡ without_highlighter draw_settings → IsReadWhole t → all_read (diagnostics_of h.settings t) ≡ true
+reads-whole theme h t same reads = ap (λ u. all_read (diagnostics_of u.settings t)) same ∙ reads
 
 pub pictured : {H : Type 0} (is_blank : H → Bool) (theme : GraphicalTheme) (h : Handling H) (t : Tree) (old new : List ℕ) → theme_of theme ≡ record { characters = unicode_characters; styles = no_styles }
     → h ≡ without_highlighter draw_settings → old ≡ []
-    → (draws_plain is_blank h ≡ true → all_read (printed h.settings t) ≡ true → new ≡ old ++ encode_utf8_all (report_text drawn_rows h.settings t unlisted))
+    → (draws_plain is_blank h ≡ true → all_read (diagnostics_of h.settings t) ≡ true → new ≡ old ++ encode_utf8_all (report_text drawn_rows h.settings t unlisted))
     → IsReadWhole t → IsPicture t new
 pictured is_blank theme h t old new is same none only reads =
     only (ap (draws_plain is_blank) same) (reads-whole theme h t same reads)
     ∙ ap₂ (λ o u. o ++ encode_utf8_all (report_text drawn_rows u.settings t unlisted)) none same
 
 pub unrefused : {H : Type 0} (theme : GraphicalTheme) (h : Handling H) (t : Tree) → h ≡ without_highlighter draw_settings
-    → all_read (printed h.settings t) ≡ false → IsReadWhole t → ⊥
+    → all_read (diagnostics_of h.settings t) ≡ false → IsReadWhole t → ⊥
 unrefused theme h t same refused reads = let k : true ≡ false = sym (reads-whole theme h t same reads) ∙ refused in cc
 
 -- of a diagnostic over an input every label is read
 pub reads-over : (t : Tree) (name : List ℕ) (m : Meaning) (input : List ℕ) → t ≡ over_input name m input → IsReadWhole t
-reads-over t name m input same = ap (λ u. all_read (printed draw_settings u)) same ∙ printed-reads draw_settings (over_input name m input) (refl, tt, tt)
+reads-over t name m input same = ap (λ u. all_read (diagnostics_of draw_settings u)) same ∙ printed-reads draw_settings (over_input name m input) (refl, tt, tt)
 
 pub over-same : {E Z : Type 0} (r : Result (String Z) E) (name : List ℕ) (m n : Meaning) (input : List ℕ) → m ≡ n → IfOk r (λ text. IsPicture (over_input name m input) (string_bytes text)) → IfOk r (λ text. IsPicture (over_input name n input) (string_bytes text))
 over-same r name m n input same is = subst (λ v. IfOk r (λ text. IsPicture (over_input name v input) (string_bytes text))) same is

@@ -1,7 +1,7 @@
 -- What users rely on, in the words of docs/RULES.md.
 pub mod Words
-pub mod Asked
-pub mod Wanted
+pub mod HandlerChoice
+pub mod OptionWords
 pub mod Job
 pub mod Faults
 pub mod Findings

@@ -1,3 +1,3 @@
 -- The code's own steps, which no rule names.
-pub mod Chosen
+pub mod JobHandler
 pub mod AskView

@@ -1,5 +1,5 @@
 -- What the code's values stand for.
-pub mod Marked
+pub mod MarkedDevice
 pub mod Device
-pub mod Drawn
-pub mod Linted
+pub mod DrawReports
+pub mod LintReports

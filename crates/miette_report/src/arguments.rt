@@ -3,9 +3,10 @@
 ghost use Rattle.std.specs.Prelude.{◌≡◌, ◌⊎◌, IfOk, OnErr, map, string_bytes};
 ghost use Rattle.std.specs.Prelude.{None};
 ghost use Rattle.miette_style.specs.rules.Themes.{theme_of as theme_value};
-ghost use Rattle.miette_report.specs.rules.Asked.{chosen_by, choice_in};
-ghost use Rattle.miette_report.specs.rules.Wanted.{AreWanted, asked_by, by_language, facts_of, facts_with};
-ghost use Rattle.miette_report.specs.rules.Wanted.{nothing_asked, options_with as with_option, wanted, with_ask};
+ghost use Rattle.miette_report.specs.rules.HandlerChoice.{chosen_by, choice_in};
+ghost use Rattle.miette_report.specs.rules.OptionWords.{AreWanted, asked_by, by_language, facts_of, facts_with};
+ghost use Rattle.miette_report.specs.rules.OptionWords.{nothing_asked, options_with as with_option, request_of};
+ghost use Rattle.miette_report.specs.rules.OptionWords.{with_ask};
 ghost use Rattle.miette_report.specs.steps.AskView.{ask_of, option_ask, terminal_ask, theme_named};
 
 use crate::fault::Fault;
@@ -59,7 +60,7 @@ impl Arguments {
     /// Nothing is asked for, and the terminal has nothing.
     fn empty() -> Arguments
         ensures choice { result.choice ≡ Choice.Build }
-        ensures nothing { wanted result.choice result.options result.terminal ≡ nothing_asked }
+        ensures nothing { request_of result.choice result.options result.terminal ≡ nothing_asked }
     {
         Arguments {
             choice: Choice::Build,
@@ -79,8 +80,8 @@ impl Arguments {
 
     /// The settings with what one word asks for.
     fn with(self, alloc: Global, asked: Asked<'_>) -> Result<Arguments, AllocError>
-        ensures table { IfOk result (λ it. wanted it.choice it.options it.terminal
-            ≡ with_ask (ask_of asked.entry) (wanted self.choice self.options self.terminal)) }
+        ensures table { IfOk result (λ it. request_of it.choice it.options it.terminal
+            ≡ with_ask (ask_of asked.entry) (request_of self.choice self.options self.terminal)) }
         ensures choice { IfOk result (λ it. it.choice ≡ chosen_by asked.entry self.choice) }
     {
         let Arguments {

@@ -1,7 +1,7 @@
 //! The program `bench`, which renders one report many times: speed is measured by it.
 
 ghost use Rattle.std.specs.Prelude.{◌≡◌, ◌⊎◌, ◌<◌, IfOk, IfSome, IsUtf8, OnErr, OnOk, None, drop, map, string_bytes};
-ghost use Rattle.miette_report.specs.rules.Asked.{choice_in};
+ghost use Rattle.miette_report.specs.rules.HandlerChoice.{choice_in};
 ghost use Rattle.miette_description.specs.rules.Description.{tree_for};
 ghost use Rattle.miette_report.specs.rules.Job.{IsDescription, IsTelling, IsRefused};
 ghost use Rattle.miette_report.specs.rules.Faults.{status_of};

@@ -3,7 +3,7 @@
 ghost use Rattle.std.specs.Prelude.{◌≡◌, ◌⊎◌, ◌↔◌, IsTrue, IsErr, false};
 ghost use Rattle.std.specs.Io.{ReadsAtMost, WritesAtMost};
 ghost use Rattle.std.specs.Io.KnownBytes.{ReadConsumes, WriteAppends};
-ghost use Rattle.miette_report.specs.views.Marked.{Marked};
+ghost use Rattle.miette_report.specs.views.MarkedDevice.{MarkedDevice};
 
 use std::io;
 use std::io::{Read, Write};
@@ -20,7 +20,7 @@ pub struct Device<D> {
 }
 
 impl<D> Model for Device<D> {
-    ghost Value = { Marked D };
+    ghost Value = { MarkedDevice D };
 
     ghost view = { λ it. record { inner = it.inner; failed = it.failed } };
 }

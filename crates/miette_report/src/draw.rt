@@ -5,8 +5,9 @@ ghost use Rattle.std.specs.Prelude.{string_bytes};
 ghost use Rattle.std.specs.Io.KnownBytes.{Appends};
 ghost use Rattle.miette.specs.Diagnostic.{meaning_of};
 ghost use Rattle.miette_report.specs.views.Device.{TakesBeginning};
-ghost use Rattle.miette_report.specs.views.Drawn.{drawn_label, drawn_meaning, drawn_tree, CallPictures, IsPicture};
-ghost use Rattle.miette_report.specs.views.Drawn.{Pictures};
+ghost use Rattle.miette_report.specs.views.DrawReports.{drawn_label, drawn_meaning, drawn_tree, CallPictures};
+ghost use Rattle.miette_report.specs.views.DrawReports.{IsPicture};
+ghost use Rattle.miette_report.specs.views.DrawReports.{Pictures};
 ghost use Rattle.miette_report.specs.rules.Faults.{status_of};
 ghost use Rattle.miette_report.specs.rules.Words.{AreDrawWords, IsNoDrawCall};
 

@@ -1,7 +1,7 @@
 //! The program `job`, over any reader and writers.
 
 ghost use Rattle.std.specs.Prelude.{◌≡◌, ◌<◌, IfSome, IsUtf8, OnOk, None, map, string_bytes};
-ghost use Rattle.miette_report.specs.rules.Asked.{choice_in};
+ghost use Rattle.miette_report.specs.rules.HandlerChoice.{choice_in};
 ghost use Rattle.miette_description.specs.rules.Description.{tree_for};
 ghost use Rattle.miette_report.specs.rules.Job.{IsDescription, IsRefused};
 ghost use Rattle.miette_report.specs.rules.Faults.{status_of};

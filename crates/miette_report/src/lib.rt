@@ -3,11 +3,11 @@
 
 mod arguments;
 pub mod bench;
-mod chosen;
 pub mod device;
 pub mod draw;
 pub mod fault;
 pub mod job;
+mod job_handler;
 pub mod language;
 pub mod lint;
 mod lint_lines;

@@ -5,9 +5,9 @@ ghost use Rattle.std.specs.Prelude.{Some, None, string_bytes};
 ghost use Rattle.std.specs.Io.KnownBytes.{Appends};
 ghost use Rattle.miette.specs.Diagnostic.{meaning_of};
 ghost use Rattle.miette_report.specs.views.Device.{TakesBeginning};
-ghost use Rattle.miette_report.specs.views.Drawn.{over_input};
-ghost use Rattle.miette_report.specs.views.Linted.{counted, warning, CallIsClean, CallLints, IsClean, IsLinted};
-ghost use Rattle.miette_report.specs.views.Linted.{IsShown, Lints, LintsText};
+ghost use Rattle.miette_report.specs.views.DrawReports.{over_input};
+ghost use Rattle.miette_report.specs.views.LintReports.{count_text, warning, CallIsClean, CallLints, IsClean, IsLinted};
+ghost use Rattle.miette_report.specs.views.LintReports.{IsShown, Lints, LintsText};
 ghost use Rattle.miette_report.specs.rules.Words.{AreLintWords, IsNoLintCall, IsReadAs};
 
 use crate::device::Device;
@@ -67,7 +67,7 @@ impl<'a> LintWords<'a> {
 
 // `3 findings`
 fn count_text(alloc: Global, count: usize) -> Result<String, AllocError>
-    ensures { IfOk result (λ text. string_bytes text ≡ counted count) }
+    ensures { IfOk result (λ text. string_bytes text ≡ count_text count) }
 {
     let mut text = String::from_str(alloc, Buffer::new().format(count))?;
     text.push_str(" findings")?;

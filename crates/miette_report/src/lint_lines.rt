@@ -9,7 +9,7 @@ ghost use Rattle.miette_newlines.specs.views.Walking.{line_of_text};
 ghost use Rattle.miette_lines.specs.views.Walking.{cell_of};
 ghost use Rattle.miette_report.specs.rules.Findings.{cells_of, ending_blanks, finding, findings_of, is_blank};
 ghost use Rattle.miette_report.specs.rules.Findings.{line_findings, misplaced_tab, overlong, tab_after_space};
-ghost use Rattle.miette_report.specs.rules.Findings.{tab_behind, too_wide, trailing, unended};
+ghost use Rattle.miette_report.specs.rules.Findings.{tab_behind, too_wide, trailing_space, missing_terminator};
 
 use itoa::Buffer;
 use miette_lines::cells::{Cell, Walk};
@@ -144,7 +144,7 @@ fn push_trailing(
     end: usize,
 ) -> Result<(), AllocError>
     requires within { length text.now ≤ end }
-    ensures { OnOk result (found.new.items ≡ found.old.items ++ trailing end text.now) }
+    ensures { OnOk result (found.new.items ≡ found.old.items ++ trailing_space end text.now) }
 {
     let blanks = ending_blanks(text);
     if blanks == 0 {
@@ -209,7 +209,7 @@ fn push_unended(
 ) -> Result<(), AllocError>
     requires within { line.start + length text.now < 2 ^ 64 }
     ensures { OnOk result (found.new.items ≡ found.old.items
-        ++ unended (line_of_text line) (cells_of line.start text.now)) }
+        ++ missing_terminator (line_of_text line) (cells_of line.start text.now)) }
 {
     if line.text_end < line.end {
         return Ok(());

@@ -2,9 +2,9 @@
 
 ghost use Rattle.std.specs.Prelude.{◌≡◌, ◌<◌, length, true, false, IfSome, IsNone, map, string_bytes};
 ghost use Rattle.std.specs.Option.{option_map};
-ghost use Rattle.miette_report.specs.rules.Asked.{chosen_by, choice_in, is_alone, named_choice};
-ghost use Rattle.miette_report.specs.rules.Wanted.{answer_ask, first_ask, name_ask, number_ask, text_ask};
-ghost use Rattle.miette_report.specs.rules.Wanted.{value_ask, word_ask};
+ghost use Rattle.miette_report.specs.rules.HandlerChoice.{chosen_by, choice_in, is_alone, named_choice};
+ghost use Rattle.miette_report.specs.rules.OptionWords.{answer_ask, first_ask, name_ask, number_ask, text_ask};
+ghost use Rattle.miette_report.specs.rules.OptionWords.{value_ask, word_ask};
 ghost use Rattle.miette_report.specs.steps.AskView.{ask_of, built_ask};
 
 use crate::language::Language;

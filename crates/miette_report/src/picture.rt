@@ -4,7 +4,7 @@ ghost use Rattle.std.specs.Prelude.{◌≡◌, string_bytes, IfOk};
 ghost use Rattle.miette.specs.Diagnostic.{meaning_of};
 ghost use Rattle.miette.specs.Report.{tree_of};
 ghost use Rattle.miette_brief.specs.rules.Report.{brief, default_settings, unlisted};
-ghost use Rattle.miette_report.specs.views.Drawn.{over_input, IsPicture, IsReadWhole};
+ghost use Rattle.miette_report.specs.views.DrawReports.{over_input, IsPicture, IsReadWhole};
 
 use miette::diagnostic::MietteDiagnostic;
 use miette::error::RenderError;

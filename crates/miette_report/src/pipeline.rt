@@ -10,9 +10,9 @@ ghost use Rattle.miette_description.specs.rules.Description.{tree_for};
 ghost use Rattle.miette_report.specs.rules.Job.{IsDescription, IsTelling, IsRefused, Writes};
 
 use crate::arguments::Arguments;
-use crate::chosen::Chosen;
 use crate::device::Device;
 use crate::fault::Fault;
+use crate::job_handler::JobHandler;
 use crate::language::LanguageHighlighter;
 use crate::whole::{read_whole, write_whole};
 use miette::highlight::Highlighter;
@@ -51,7 +51,7 @@ fn text_of(alloc: Global, bytes: &[u8], settings: Arguments) -> Result<String, F
         ⊎ (result ≡ Err Fault.Memory)) }
 {
     let report = report_of(alloc, bytes)?;
-    let mut handler = Chosen::new(alloc, settings)?;
+    let mut handler = JobHandler::new(alloc, settings)?;
     handler.render(alloc, &report)
 }
 
@@ -73,7 +73,7 @@ pub(crate) fn rendered_length(
         IsTelling settings.choice settings.options settings.terminal × IsRefused bytes.now }
 {
     let report = report_of(alloc, bytes)?;
-    let mut handler = Chosen::new(alloc, settings)?;
+    let mut handler = JobHandler::new(alloc, settings)?;
     if times == 0 {
         return Ok(0);
     }

@@ -4,7 +4,7 @@ use Rattle.std.proofs.lemmas.Bool.Decides.{nat_tests}
 use Rattle.std.proofs.lemmas.List.{map-append}
 use Rattle.std.proofs.lemmas.List.Elements.{All-head, All-tail, All-weaker}
 use Rattle.miette_runs.specs.rules.Sequences.{Token, Character, Sequence, spell}
-use Rattle.miette_runs.specs.views.Woven.{tag_token, upto, beyond, woven, AreWithin}
+use Rattle.miette_runs.specs.views.Interleaving.{tag_token, upto, beyond, interleaving, AreWithin}
 use Rattle.miette_runs.specs.declared.runs.sign.Tag.{Tag}
 use Rattle.miette_runs.proofs.Appending.{spell-append}
 use Rattle.miette_runs.proofs.Weaving.{woven-none}
@@ -35,16 +35,16 @@ beyond-within n p (m ∷ ms) w =
     ]
 
 -- characters more
-pub woven-more : (p : ℕ) (cs ds : List ℕ) (ms : List Tag) → AreWithin (p + length cs) ms → woven p (cs ++ ds) ms ≡ woven p cs ms ++ map Character ds
+pub woven-more : (p : ℕ) (cs ds : List ℕ) (ms : List Tag) → AreWithin (p + length cs) ms → interleaving p (cs ++ ds) ms ≡ interleaving p cs ms ++ map Character ds
 woven-more p [] [] ms w = sym (append-nil (map tag_token ms))
 woven-more p [] (d ∷ ds) ms w =
     let v : AreWithin p ms = within-more (p + 0) p ms (omega arith) w in
-    ap₂ (λ us vs. map tag_token us ++ Character d ∷ woven (suc p) ds vs) (upto-all p ms v) (beyond-all p ms v)
+    ap₂ (λ us vs. map tag_token us ++ Character d ∷ interleaving (suc p) ds vs) (upto-all p ms v) (beyond-all p ms v)
     ∙ ap (λ ts. map tag_token ms ++ Character d ∷ ts) (woven-none (suc p) ds)
 woven-more p (c ∷ cs) ds ms w =
     let v : AreWithin (suc p + length cs) (beyond p ms) = within-more (p + length (c ∷ cs)) (suc p + length cs) (beyond p ms) (omega arith) (beyond-within (p + length (c ∷ cs)) p ms w) in
     ap (λ ts. map tag_token (upto p ms) ++ Character c ∷ ts) (woven-more (suc p) cs ds (beyond p ms) v)
-    ∙ sym (append_assoc (map tag_token (upto p ms)) (Character c ∷ woven (suc p) cs (beyond p ms)) (map Character ds))
+    ∙ sym (append_assoc (map tag_token (upto p ms)) (Character c ∷ interleaving (suc p) cs (beyond p ms)) (map Character ds))
 
 upto-tag : (p : ℕ) (ms : List Tag) (m : Tag) → p < m.at → upto p (ms ++ m ∷ []) ≡ upto p ms
 upto-tag p [] m h = grind (arith, nat_tests)
@@ -55,13 +55,13 @@ beyond-tag p [] m h = grind (arith, nat_tests)
 beyond-tag p (n ∷ ms) m h = grind (arith, nat_tests, beyond-tag p ms m h)
 
 -- a tag more
-pub woven-tag : (p : ℕ) (cs : List ℕ) (ms : List Tag) (m : Tag) → p + length cs ≤ m.at → woven p cs (ms ++ m ∷ []) ≡ woven p cs ms ++ tag_token m ∷ []
+pub woven-tag : (p : ℕ) (cs : List ℕ) (ms : List Tag) (m : Tag) → p + length cs ≤ m.at → interleaving p cs (ms ++ m ∷ []) ≡ interleaving p cs ms ++ tag_token m ∷ []
 woven-tag p [] ms m h = map-append tag_token ms (m ∷ [])
 woven-tag p (c ∷ cs) ms m h =
     let far : p < m.at = omega arith in
-    ap₂ (λ us vs. map tag_token us ++ Character c ∷ woven (suc p) cs vs) (upto-tag p ms m far) (beyond-tag p ms m far)
+    ap₂ (λ us vs. map tag_token us ++ Character c ∷ interleaving (suc p) cs vs) (upto-tag p ms m far) (beyond-tag p ms m far)
     ∙ ap (λ ts. map tag_token (upto p ms) ++ Character c ∷ ts) (woven-tag (suc p) cs (beyond p ms) m (omega arith))
-    ∙ sym (append_assoc (map tag_token (upto p ms)) (Character c ∷ woven (suc p) cs (beyond p ms)) (tag_token m ∷ []))
+    ∙ sym (append_assoc (map tag_token (upto p ms)) (Character c ∷ interleaving (suc p) cs (beyond p ms)) (tag_token m ∷ []))
 
 pub spell-characters : (cs : List ℕ) → spell (map Character cs) ≡ cs
 spell-characters [] = refl

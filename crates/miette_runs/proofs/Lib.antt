@@ -1,12 +1,12 @@
 pub mod Appending
 pub mod Counting
 pub mod Growing
-pub mod Opened
+pub mod OpenCommands
 pub mod Outputs
 pub mod Painting
 pub mod Parameters
-pub mod Settled
+pub mod SettledRuns
 pub mod Tokens
 pub mod Weaving
-pub mod WovenColumns
-pub mod WovenCuts
+pub mod InterleavedColumns
+pub mod InterleavedCuts

@@ -7,7 +7,7 @@ use Rattle.miette_runs.specs.rules.Colours.{is_colour, is_colour_end}
 use Rattle.miette_style.specs.declared.style.Color.{Color}
 use Rattle.miette_style.specs.declared.style.Color.TheVariants.{Red, Green, Yellow, Blue, Magenta, Cyan, Rgb}
 use Rattle.miette_style.specs.declared.style.Style.{Style}
-use Rattle.miette_style.specs.rules.Codes.{foreground, foreground_codes, flag, style_codes, separated, colour_start, behind_separators}
+use Rattle.miette_style.specs.rules.Codes.{foreground, foreground_codes, flag, style_codes, separated_codes, colour_start, behind_separators}
 use Rattle.std.specs.Fmt.{digit_glyph, digits, digits_onto}
 
 abbrev parameters : List ℕ → Bool
@@ -68,7 +68,7 @@ behind_parameters (x ∷ xs) h =
     let p = and_parts (parameters x) (each_parameters xs) h in
     parameters-append (59 ∷ x) (behind_separators xs) p.0 (behind_parameters xs p.1)
 
-separated_parameters : (xs : List (List ℕ)) → each_parameters xs ≡ true → parameters (separated xs) ≡ true
+separated_parameters : (xs : List (List ℕ)) → each_parameters xs ≡ true → parameters (separated_codes xs) ≡ true
 separated_parameters [] h = refl
 separated_parameters (x ∷ xs) h =
     let p = and_parts (parameters x) (each_parameters xs) h in
@@ -98,4 +98,4 @@ style_parameters s =
 
 -- what begins a style is a colour
 pub start_colour : (s : Style) → is_colour (colour_start s) ≡ true
-start_colour s = parameters_end (separated (style_codes s)) (separated_parameters (style_codes s) (style_parameters s))
+start_colour s = parameters_end (separated_codes (style_codes s)) (separated_parameters (style_codes s) (style_parameters s))

@@ -4,8 +4,8 @@ use Rattle.std.proofs.lemmas.Bool.Decides.{nat_tests}
 use Rattle.std.proofs.lemmas.List.{drop_more}
 use Rattle.miette_runs.specs.steps.Cells.{plain_cell, plain_cells}
 use Rattle.miette_runs.specs.rules.Cells.{tags_text, piece_text, Cell}
-use Rattle.miette_runs.specs.rules.Sequences.{Token, Character, spell, flat}
-use Rattle.miette_runs.specs.views.Woven.{tag_text, tag_token, upto, beyond, woven, cells_at, left_at, tags_spelled}
+use Rattle.miette_runs.specs.rules.Sequences.{Token, Character, spell, concatenation}
+use Rattle.miette_runs.specs.views.Interleaving.{tag_text, tag_token, upto, beyond, interleaving, cells_at, left_at, tags_spelled}
 use Rattle.miette_runs.specs.declared.runs.sign.Tag.{Tag}
 use Rattle.miette_runs.proofs.Appending.{appended}
 
@@ -44,37 +44,37 @@ left-gap (suc k) p (c ∷ cs) m ms h =
     ∙ left-gap k (suc p) cs m ms (omega arith)
     ∙ ap (λ q. left_at q (drop k cs) (m ∷ ms)) next
 
-pub woven-gap : (k p : ℕ) (cs : List ℕ) (m : Tag) (ms : List Tag) → k ≤ m.at - p → woven p cs (m ∷ ms) ≡ map Character (take k cs) ++ woven (p + k) (drop k cs) (m ∷ ms)
-woven-gap zero p cs m ms h = ap (λ q. woven q cs (m ∷ ms)) (omega arith)
+pub woven-gap : (k p : ℕ) (cs : List ℕ) (m : Tag) (ms : List Tag) → k ≤ m.at - p → interleaving p cs (m ∷ ms) ≡ map Character (take k cs) ++ interleaving (p + k) (drop k cs) (m ∷ ms)
+woven-gap zero p cs m ms h = ap (λ q. interleaving q cs (m ∷ ms)) (omega arith)
 woven-gap (suc k) p [] m ms h = refl
 woven-gap (suc k) p (c ∷ cs) m ms h =
     let far : p < m.at = omega arith in
     let next : suc p + k ≡ p + suc k = omega arith in
-    ap₂ (λ us vs. map tag_token us ++ Character c ∷ woven (suc p) cs vs) (upto-far p m ms far) (beyond-far p m ms far)
-    ∙ ap (λ xs. Character c ∷ xs) (woven-gap k (suc p) cs m ms (omega arith) ∙ ap (λ q. map Character (take k cs) ++ woven q (drop k cs) (m ∷ ms)) next)
+    ap₂ (λ us vs. map tag_token us ++ Character c ∷ interleaving (suc p) cs vs) (upto-far p m ms far) (beyond-far p m ms far)
+    ∙ ap (λ xs. Character c ∷ xs) (woven-gap k (suc p) cs m ms (omega arith) ∙ ap (λ q. map Character (take k cs) ++ interleaving q (drop k cs) (m ∷ ms)) next)
 
 -- ---- the tag before the next character
 
 text-near : (p : ℕ) (cs : List ℕ) (m : Tag) (ms : List Tag) → m.at ≤ p → 0 < length cs → piece_text (cells_at p cs (m ∷ ms)) ≡ tag_text m ++ piece_text (cells_at p cs ms)
 text-near p [] m ms h l = absurd (omega arith)
 text-near p (c ∷ cs) m ms h l =
-    ap₂ (λ us vs. (flat (map tag_text us) ++ c ∷ []) ++ piece_text (cells_at (suc p) cs vs)) (upto-near p m ms h) (beyond-near p m ms h)
+    ap₂ (λ us vs. (concatenation (map tag_text us) ++ c ∷ []) ++ piece_text (cells_at (suc p) cs vs)) (upto-near p m ms h) (beyond-near p m ms h)
     ∙ simp append_assoc
 
 tags-near : (p : ℕ) (cs : List ℕ) (m : Tag) (ms : List Tag) → m.at ≤ p → 0 < length cs → tags_text (cells_at p cs (m ∷ ms)) ≡ tag_text m ++ tags_text (cells_at p cs ms)
 tags-near p [] m ms h l = absurd (omega arith)
 tags-near p (c ∷ cs) m ms h l =
-    ap₂ (λ us vs. flat (map tag_text us) ++ tags_text (cells_at (suc p) cs vs)) (upto-near p m ms h) (beyond-near p m ms h)
+    ap₂ (λ us vs. concatenation (map tag_text us) ++ tags_text (cells_at (suc p) cs vs)) (upto-near p m ms h) (beyond-near p m ms h)
     ∙ simp append_assoc
 
 left-near : (p : ℕ) (cs : List ℕ) (m : Tag) (ms : List Tag) → m.at ≤ p → 0 < length cs → left_at p cs (m ∷ ms) ≡ left_at p cs ms
 left-near p [] m ms h l = absurd (omega arith)
 left-near p (c ∷ cs) m ms h l = ap (λ vs. left_at (suc p) cs vs) (beyond-near p m ms h)
 
-pub woven-near : (p : ℕ) (cs : List ℕ) (m : Tag) (ms : List Tag) → m.at ≤ p → woven p cs (m ∷ ms) ≡ tag_token m ∷ woven p cs ms
+pub woven-near : (p : ℕ) (cs : List ℕ) (m : Tag) (ms : List Tag) → m.at ≤ p → interleaving p cs (m ∷ ms) ≡ tag_token m ∷ interleaving p cs ms
 woven-near p [] m ms h = refl
 woven-near p (c ∷ cs) m ms h =
-    ap₂ (λ us vs. map tag_token us ++ Character c ∷ woven (suc p) cs vs) (upto-near p m ms h) (beyond-near p m ms h)
+    ap₂ (λ us vs. map tag_token us ++ Character c ∷ interleaving (suc p) cs vs) (upto-near p m ms h) (beyond-near p m ms h)
 
 -- ---- plain characters
 
@@ -98,7 +98,7 @@ pub left-none : (p : ℕ) (cs : List ℕ) → left_at p cs [] ≡ []
 left-none p [] = refl
 left-none p (c ∷ cs) = left-none (suc p) cs
 
-pub woven-none : (p : ℕ) (cs : List ℕ) → woven p cs [] ≡ map Character cs
+pub woven-none : (p : ℕ) (cs : List ℕ) → interleaving p cs [] ≡ map Character cs
 woven-none p [] = refl
 woven-none p (c ∷ cs) = ap (λ xs. Character c ∷ xs) (woven-none (suc p) cs)
 
@@ -159,38 +159,38 @@ pub tags-next : (ms : List Tag) (n : ℕ) (m : Tag) → n < length ms → m ≡ 
 tags-next ms n m h e = drop_more ms n m h ∙ ap (λ x. x ∷ drop (n + 1) ms) (sym e)
 
 -- The tag is printed next where no character stands before it.
-woven-here : (p : ℕ) (cs : List ℕ) (m : Tag) (ms : List Tag) → (0 < length cs → m.at ≤ p) → woven p cs (m ∷ ms) ≡ tag_token m ∷ woven p cs ms
+woven-here : (p : ℕ) (cs : List ℕ) (m : Tag) (ms : List Tag) → (0 < length cs → m.at ≤ p) → interleaving p cs (m ∷ ms) ≡ tag_token m ∷ interleaving p cs ms
 woven-here p [] m ms h = refl
 woven-here p (c ∷ cs) m ms h = woven-near p (c ∷ cs) m ms (h (omega arith))
 
 pub woven-step : (s n k : ℕ) (cs : List ℕ) (ms : List Tag) (m : Tag) → n < length ms → m ≡ get_or ms n m → k ≡ min (m.at - s) (length (drop s cs)) →
-    woven s (drop s cs) (drop n ms) ≡ map Character (take k (drop s cs)) ++ tag_token m ∷ woven (s + k) (drop (s + k) cs) (drop (n + 1) ms)
+    interleaving s (drop s cs) (drop n ms) ≡ map Character (take k (drop s cs)) ++ tag_token m ∷ interleaving (s + k) (drop (s + k) cs) (drop (n + 1) ms)
 woven-step s n k cs ms m h i e =
     let ds = drop s cs in
     let us = drop (n + 1) ms in
-    ap (λ vs. woven s ds vs) (tags-next ms n m h i)
+    ap (λ vs. interleaving s ds vs) (tags-next ms n m h i)
     ∙ woven-gap k s ds m us (omega arith)
     ∙ ap (λ ts. map Character (take k ds) ++ ts)
     (woven-here (s + k) (drop k ds) m us (λ l. omega (arith, length-drop k ds))
-    ∙ ap (λ xs. tag_token m ∷ woven (s + k) xs us) (drop-drop k s cs))
+    ∙ ap (λ xs. tag_token m ∷ interleaving (s + k) xs us) (drop-drop k s cs))
 
 -- ---- what the whole prints
 
-spell-tags-before : (ms : List Tag) (ts : List Token) → spell (map tag_token ms ++ ts) ≡ flat (map tag_text ms) ++ spell ts
+spell-tags-before : (ms : List Tag) (ts : List Token) → spell (map tag_token ms ++ ts) ≡ concatenation (map tag_text ms) ++ spell ts
 spell-tags-before [] ts = refl
-spell-tags-before (m ∷ ms) ts = ap (λ xs. tag_text m ++ xs) (spell-tags-before ms ts) ∙ sym (append_assoc (tag_text m) (flat (map tag_text ms)) (spell ts))
+spell-tags-before (m ∷ ms) ts = ap (λ xs. tag_text m ++ xs) (spell-tags-before ms ts) ∙ sym (append_assoc (tag_text m) (concatenation (map tag_text ms)) (spell ts))
 
 spell-tags-left : (ms : List Tag) → spell (map tag_token ms) ≡ tags_spelled ms
 spell-tags-left [] = refl
 spell-tags-left (m ∷ ms) = ap (λ xs. tag_text m ++ xs) (spell-tags-left ms)
 
-pub spell-woven : (p : ℕ) (cs : List ℕ) (ms : List Tag) → spell (woven p cs ms) ≡ piece_text (cells_at p cs ms) ++ tags_spelled (left_at p cs ms)
+pub spell-woven : (p : ℕ) (cs : List ℕ) (ms : List Tag) → spell (interleaving p cs ms) ≡ piece_text (cells_at p cs ms) ++ tags_spelled (left_at p cs ms)
 spell-woven p [] ms = spell-tags-left ms
 spell-woven p (c ∷ cs) ms =
-    let us = flat (map tag_text (upto p ms)) in
+    let us = concatenation (map tag_text (upto p ms)) in
     let next = piece_text (cells_at (suc p) cs (beyond p ms)) in
     let left = tags_spelled (left_at (suc p) cs (beyond p ms)) in
-    spell-tags-before (upto p ms) (Character c ∷ woven (suc p) cs (beyond p ms))
+    spell-tags-before (upto p ms) (Character c ∷ interleaving (suc p) cs (beyond p ms))
     ∙ ap (λ xs. us ++ c ∷ xs) (spell-woven (suc p) cs (beyond p ms))
     ∙ sym (append_assoc us (c ∷ []) (next ++ left))
     ∙ sym (append_assoc (us ++ c ∷ []) next left)

@@ -1,4 +1,4 @@
 -- What the code's values stand for.
 pub mod Sinks
-pub mod Woven
+pub mod Interleaving
 pub mod Outputs

@@ -5,7 +5,7 @@ ghost use Rattle.std.specs.Prelude.{◌≡◌, ◌++◌, ◌∷◌, [], List, If
 ghost use Rattle.miette_runs.specs.rules.Runs.{link_start, printed_run};
 ghost use Rattle.miette_style.specs.rules.Codes.{colour_start, colour_stop};
 ghost use Rattle.miette_runs.specs.rules.Sequences.{Character, Sequence, Token, is_whole, spell};
-ghost use Rattle.miette_runs.specs.views.Woven.{sign_text, woven};
+ghost use Rattle.miette_runs.specs.views.Interleaving.{sign_text, interleaving};
 
 pub mod cells;
 pub mod columns;
@@ -39,11 +39,11 @@ pub struct Runs {
 impl Model for Runs {
     ghost use Rattle.std.specs.Prelude.{List, length};
     ghost use Rattle.miette_runs.specs.rules.Sequences.{Token};
-    ghost use Rattle.miette_runs.specs.views.Woven.{AreWithin, woven};
+    ghost use Rattle.miette_runs.specs.views.Interleaving.{AreWithin, interleaving};
 
     ghost Value = { List Token };
 
-    ghost view = { λ r. woven 0 r.codes.items r.tags.items };
+    ghost view = { λ r. interleaving 0 r.codes.items r.tags.items };
 
     ghost invariant = { λ r. AreWithin (length r.codes.items) r.tags.items };
 }
@@ -269,7 +269,7 @@ impl Runs {
 
     /// The characters, and the signs between them.
     pub fn parts(&self) -> RunsSlice<'_>
-        ensures { woven 0 result.codes.now result.tags.now ≡ self.now }
+        ensures { interleaving 0 result.codes.now result.tags.now ≡ self.now }
     {
         RunsSlice {
             codes: self.codes.as_slice(),

@@ -10,7 +10,7 @@ use Rattle.miette_protocol.specs.rules.Reading.{Span, Source, IsAccepted}
 use Rattle.miette_lines.specs.rules.Around.{lines_around}
 use Rattle.miette_snippet_laws.specs.laws.Belonging.{holds, HasOneGroup}
 use Rattle.miette_lines.specs.rules.Contexts.{contents, end_of_span}
-use Rattle.miette_lines.specs.rules.Groups.{AreAccepted, joined, stretch, put_stretch, by_begin, stretches_from, joined_stretches}
+use Rattle.miette_lines.specs.rules.Groups.{AreAccepted, joined_span, stretch, put_stretch, by_begin, stretches_from, joined_stretches}
 use Rattle.miette_lines.proofs.Sources.{IsCut, lines, line_of, start_of}
 use Rattle.miette_lines.proofs.Numbers.{by_cases}
 use Rattle.miette_lines.proofs.Merging.{swap_or}
@@ -47,25 +47,25 @@ none_at : (o : ℕ) (before : Span) (spans : List Span) → o < before.offset �
 none_at o before [] lt h = rw (lt-leb before.offset o lt) refl
 none_at o before (span ∷ spans) lt h =
     by_cases {C = filter (at_place o) (stretches_from before (span ∷ spans)) ≡ []} (leb span.offset (end_of_span before))
-    (λ t. rw t (none_at o (joined before span) spans lt (lower before.offset span.offset spans h.0 h.1)))
+    (λ t. rw t (none_at o (joined_span before span) spans lt (lower before.offset span.offset spans h.0 h.1)))
     (λ f. rw (f, lt-leb before.offset o lt) (none_at o span spans (omega (arith, h.0)) h.1))
 
 none_held : (lent before : Span) (spans : List Span) → lent.offset < before.offset → Ascend before.offset spans → filter (λ g. holds g lent) (stretches_from before spans) ≡ []
 none_held lent before [] lt h = rw (lt-leb before.offset lent.offset lt) refl
 none_held lent before (span ∷ spans) lt h =
     by_cases {C = filter (λ g. holds g lent) (stretches_from before (span ∷ spans)) ≡ []} (leb span.offset (end_of_span before))
-    (λ t. rw t (none_held lent (joined before span) spans lt (lower before.offset span.offset spans h.0 h.1)))
+    (λ t. rw t (none_held lent (joined_span before span) spans lt (lower before.offset span.offset spans h.0 h.1)))
     (λ f. rw (f, lt-leb before.offset lent.offset lt) (none_held lent span spans (omega (arith, h.0)) h.1))
 
 -- what is in a span is in one joined to it
-held_joined : (a b lent : Span) → a.offset ≤ b.offset → (holds a lent || holds b lent) ≡ true → holds (joined a b) lent ≡ true
+held_joined : (a b lent : Span) → a.offset ≤ b.offset → (holds a lent || holds b lent) ≡ true → holds (joined_span a b) lent ≡ true
 held_joined a b lent le h =
-    by_cases {C = holds (joined a b) lent ≡ true} (holds a lent)
+    by_cases {C = holds (joined_span a b) lent ≡ true} (holds a lent)
     (λ t. let p = and_parts (leb a.offset lent.offset) (leb (end_of_span lent) (end_of_span a)) t in
-    and_from _ _ p.0 (le-leb (end_of_span lent) (end_of_span (joined a b)) (omega (arith, leb-true _ _ p.0, leb-true _ _ p.1))))
+    and_from _ _ p.0 (le-leb (end_of_span lent) (end_of_span (joined_span a b)) (omega (arith, leb-true _ _ p.0, leb-true _ _ p.1))))
     (λ f. let t : holds b lent ≡ true = sym (ap (λ x. x || holds b lent) f) ∙ h in
     let p = and_parts (leb b.offset lent.offset) (leb (end_of_span lent) (end_of_span b)) t in
-    and_from _ _ (le-leb a.offset lent.offset (omega (arith, le, leb-true _ _ p.0))) (le-leb (end_of_span lent) (end_of_span (joined a b)) (omega (arith, leb-true _ _ p.0, leb-true _ _ p.1))))
+    and_from _ _ (le-leb a.offset lent.offset (omega (arith, le, leb-true _ _ p.0))) (le-leb (end_of_span lent) (end_of_span (joined_span a b)) (omega (arith, leb-true _ _ p.0, leb-true _ _ p.1))))
 
 still_any : (x y z w : Bool) → (x || (y || z)) ≡ true → ((x || y) ≡ true → w ≡ true) → (w || z) ≡ true
 still_any true y z w h k = ap (λ b. b || z) (k refl)
@@ -102,8 +102,8 @@ same_from o lent before [] low high h any =
     let t : holds before lent ≡ true = alone (holds before lent) any in in_front o lent before [] (at_held o lent before low high t) t refl refl
 same_from o lent before (span ∷ spans) low high h any =
     by_cases {C = Same o lent (stretches_from before (span ∷ spans))} (leb span.offset (end_of_span before))
-    (λ t. rw t (same_from o lent (joined before span) spans low high (lower before.offset span.offset spans h.0 h.1)
-    (still_any (holds before lent) (holds span lent) (list_any (λ m. holds m lent) spans) (holds (joined before span) lent) any (held_joined before span lent h.0))))
+    (λ t. rw t (same_from o lent (joined_span before span) spans low high (lower before.offset span.offset spans h.0 h.1)
+    (still_any (holds before lent) (holds span lent) (list_any (λ m. holds m lent) spans) (holds (joined_span before span) lent) any (held_joined before span lent h.0))))
     (λ f. let gap : end_of_span before < span.offset = leb-false span.offset (end_of_span before) f in
     rw f (by_cases {C = Same o lent (before ∷ stretches_from span spans)} (holds before lent)
     (λ t. let end : end_of_span lent ≤ end_of_span before = leb-true _ _ (and_parts (leb before.offset lent.offset) (leb (end_of_span lent) (end_of_span before)) t).1 in

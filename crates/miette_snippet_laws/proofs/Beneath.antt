@@ -4,13 +4,13 @@ use Rattle.std.specs.Prelude.{decimal}
 use Rattle.std.proofs.lemmas.Bool.{eqb-true}
 use Rattle.std.proofs.lemmas.List.{map-append}
 use Rattle.std.specs.List.{AllByRecursion, range_with_len}
-use Rattle.miette_page.specs.rules.Rows.{Piece, Run, Row, pieces_of, columns_of, code_at, drawn, styled}
+use Rattle.miette_page.specs.rules.Rows.{Piece, Run, Row, pieces_of, columns_of, code_at, code_piece, styled_run}
 use Rattle.miette_style.specs.rules.Styles.{plain}
 use Rattle.miette_newlines.specs.rules.Lines.{Line}
 use Rattle.miette_snippets.specs.rules.PrintedCells.{line_runs}
 use Rattle.miette_lines.specs.rules.Cells.{Cell}
 use Rattle.miette_lines.specs.rules.Answers.{Highlight}
-use Rattle.miette_lines.specs.rules.Labels.{DrawnLabel, starts_on, ends_on, one_line, multi_line, closing}
+use Rattle.miette_lines.specs.rules.Labels.{DrawnLabel, starts_on, ends_on, one_line, multi_line, closing_labels}
 use Rattle.miette_snippets.specs.rules.Marks.{Mark, AreApart}
 use Rattle.miette_snippets.specs.rules.Drawing.{IsNarrow, blank, mark_runs, rows_below, marked_rows}
 use Rattle.miette_snippets.specs.rules.Gutters.{most_labels, gutter_columns, number_gutter, other_gutter, closing_rows, ending_corner, arrow}
@@ -20,7 +20,7 @@ use Rattle.miette_snippet_laws.specs.laws.Pictures.{mark_at, marks_end, Hangs, A
 use Rattle.miette_lines.proofs.Numbers.{by_cases}
 use Rattle.miette_snippet_laws.proofs.Apart.{marks_apart}
 use Rattle.miette_snippet_laws.proofs.Columns.{columns_of-append, code_at-append}
-use Rattle.miette_snippet_laws.proofs.Unstyled.{mark_row, plain_below}
+use Rattle.miette_snippet_laws.proofs.UnstyledRows.{mark_row, plain_below}
 use Rattle.miette_snippet_laws.proofs.Hanging.{mark_row-at, plain_hang, all_beside, all_more}
 use Rattle.miette_snippet_laws.proofs.Numerals.{AreDigits, are_digits}
 use Rattle.miette_snippet_laws.proofs.Flat.{pieces_of-append, flat_marks, flat_below}
@@ -30,11 +30,11 @@ use Rattle.miette_style.specs.rules.Themes.{Characters}
 abbrev pub HasRoom : List DrawnLabel → Line → ℕ → Type 0
 HasRoom labels line columns = length (multi_line line labels) ≤ columns - 2
 
-pub columns_of-copies : (width : ℕ → ℕ) (code many : ℕ) → width code ≡ 1 → columns_of (map (drawn width) (replicate many code)) ≡ many
+pub columns_of-copies : (width : ℕ → ℕ) (code many : ℕ) → width code ≡ 1 → columns_of (map (code_piece width) (replicate many code)) ≡ many
 columns_of-copies width code zero h = refl
 columns_of-copies width code (suc many) h = omega (arith, h, columns_of-copies width code many h)
 
-pub columns_of-blank : (width : ℕ → ℕ) (many : ℕ) → width 32 ≡ 1 → columns_of (replicate many (drawn width 32)) ≡ many
+pub columns_of-blank : (width : ℕ → ℕ) (many : ℕ) → width 32 ≡ 1 → columns_of (replicate many (code_piece width 32)) ≡ many
 columns_of-blank width zero h = refl
 columns_of-blank width (suc many) h = omega (arith, h, columns_of-blank width many h)
 
@@ -50,13 +50,13 @@ pub other_gutter-columns : (width : ℕ → ℕ) (t : Characters) (n : IsNarrow 
 other_gutter-columns width t n line left [] h = alone (blank width left) ∙ columns_of-blank width left n.space
 other_gutter-columns width t n line left (label ∷ labels) h =
     by_cases {C = columns_of (pieces_of (other_gutter width t line left (label ∷ labels))) ≡ left} (ends_on line label)
-    (λ y. rw y (alone (styled width label.style (t.lbot ∷ replicate (left - 1) t.hbar)) ∙ omega (arith, n.lbot, columns_of-copies width t.hbar (left - 1) n.hbar, h)))
-    (λ f. rw f (front (styled width label.style (t.vbar ∷ [])) (other_gutter width t line (left - 1) labels)
+    (λ y. rw y (alone (styled_run width label.style (t.lbot ∷ replicate (left - 1) t.hbar)) ∙ omega (arith, n.lbot, columns_of-copies width t.hbar (left - 1) n.hbar, h)))
+    (λ f. rw f (front (styled_run width label.style (t.vbar ∷ [])) (other_gutter width t line (left - 1) labels)
     ∙ omega (arith, n.vbar, h, other_gutter-columns width t n line (left - 1) labels (omega (arith, h)))))
 
 pub other_start-columns : (s : SnippetSettings) (w : ℕ) → IsNarrow s.width s.characters → columns_of (pieces_of (other_start s w)) ≡ w + 4
 other_start-columns s w n =
-    columns_of-append (replicate (w + 2) (drawn s.width 32)) (drawn s.width s.characters.vbar_break ∷ drawn s.width 32 ∷ [])
+    columns_of-append (replicate (w + 2) (code_piece s.width 32)) (code_piece s.width s.characters.vbar_break ∷ code_piece s.width 32 ∷ [])
     ∙ omega (arith, n.space, n.vbar_break, columns_of-blank s.width (w + 2) n.space)
 
 pub other-columns : (s : SnippetSettings) (w columns : ℕ) (labels : List DrawnLabel) (line : Line) → IsNarrow s.width s.characters → HasRoom labels line columns →
@@ -103,7 +103,7 @@ line_shows s w columns labels line number cells pieces n room =
     subst (λ (start : ℕ). ShowMarks s start (marks_of_line labels line cells) (line_rows s w columns labels line number cells pieces)) (other-columns s w columns labels line n room)
     (shown s n (other_start s w ++ other_gutter s.width s.characters line columns (multi_line line labels))
     (number_start s w number ++ number_gutter s.width s.characters line columns (multi_line line labels) ++ line_runs pieces cells)
-    (before_each (other_start s w) (closing_rows s.width s.characters line columns (multi_line line labels) (closing line (multi_line line labels))))
+    (before_each (other_start s w) (closing_rows s.width s.characters line columns (multi_line line labels) (closing_labels line (multi_line line labels))))
     (marks_of_line labels line cells) (marks_apart (text_of_cells cells line.text_end) (one_line line labels)))
 
 -- the gutters of a snippet have room on each of its lines
@@ -127,25 +127,25 @@ all_room labels lines = room-of labels (most_labels labels lines) lines (most-ge
 
 -- a row of digits
 
-digits-columns : (width : ℕ → ℕ) (t : Characters) (n : IsNarrow width t) (ds : List ℕ) → AreDigits ds → columns_of (map (drawn width) ds) ≡ length ds
+digits-columns : (width : ℕ → ℕ) (t : Characters) (n : IsNarrow width t) (ds : List ℕ) → AreDigits ds → columns_of (map (code_piece width) ds) ≡ length ds
 digits-columns width t n [] h = refl
 digits-columns width t n (d ∷ ds) h =
     omega (arith, n.digits d h.0.0 h.0.1, digits-columns width t n ds h.1)
 
-decimal-columns : (width : ℕ → ℕ) (t : Characters) (n : IsNarrow width t) (number : ℕ) → columns_of (map (drawn width) (decimal number)) ≡ length (decimal number)
+decimal-columns : (width : ℕ → ℕ) (t : Characters) (n : IsNarrow width t) (number : ℕ) → columns_of (map (code_piece width) (decimal number)) ≡ length (decimal number)
 decimal-columns width t n number = digits-columns width t n (decimal number) (are_digits number)
 
 -- a text of spaces and more
-padded : (width : ℕ → ℕ) (t : Characters) (n : IsNarrow width t) (many : ℕ) (text : List ℕ) → columns_of (map (drawn width) (replicate many 32 ++ text)) ≡ many + columns_of (map (drawn width) text)
+padded : (width : ℕ → ℕ) (t : Characters) (n : IsNarrow width t) (many : ℕ) (text : List ℕ) → columns_of (map (code_piece width) (replicate many 32 ++ text)) ≡ many + columns_of (map (code_piece width) text)
 padded width t n many text =
-    ap columns_of (map-append (drawn width) (replicate many 32) text) ∙ columns_of-append (map (drawn width) (replicate many 32)) (map (drawn width) text)
+    ap columns_of (map-append (code_piece width) (replicate many 32) text) ∙ columns_of-append (map (code_piece width) (replicate many 32)) (map (code_piece width) text)
     ∙ omega (arith, columns_of-copies width 32 many n.space)
 
 number_start-columns : (s : SnippetSettings) (w number : ℕ) → IsNarrow s.width s.characters → length (decimal number) ≤ w → columns_of (pieces_of (number_start s w number)) ≡ w + 4
 number_start-columns s w number n fits =
     let width : ℕ → ℕ = s.width in
-    let num : Run = styled width s.styles.linum (replicate (w - length (decimal number)) 32 ++ decimal number) in
-    let bar : Run = styled width plain (32 ∷ s.characters.vbar ∷ 32 ∷ []) in
+    let num : Run = styled_run width s.styles.linum (replicate (w - length (decimal number)) 32 ++ decimal number) in
+    let bar : Run = styled_run width plain (32 ∷ s.characters.vbar ∷ 32 ∷ []) in
     front (blank width 1) (num ∷ bar ∷ [])
     ∙ omega (arith, columns_of-blank width 1 n.space, front num (bar ∷ []), alone bar, n.space, n.vbar, fits, padded width s.characters n (w - length (decimal number)) (decimal number), decimal-columns width s.characters n number)
 
@@ -164,8 +164,8 @@ arrow-columns width t n label corner left one le =
       columns_of-blank width 1 n.space,
       n.rarrow,
       columns_of-copies width t.hbar (left - 3) n.hbar,
-      ap columns_of (map-append (drawn width) (replicate (left - 3) t.hbar) (t.rarrow ∷ [])),
-      columns_of-append (map (drawn width) (replicate (left - 3) t.hbar)) (drawn width t.rarrow ∷ []),
+      ap columns_of (map-append (code_piece width) (replicate (left - 3) t.hbar) (t.rarrow ∷ [])),
+      columns_of-append (map (code_piece width) (replicate (left - 3) t.hbar)) (code_piece width t.rarrow ∷ []),
     )
 
 number_gutter-columns : (width : ℕ → ℕ) (t : Characters) (n : IsNarrow width t) (line : Line) (left : ℕ) (labels : List DrawnLabel) → length labels ≤ left - 2 →
@@ -176,7 +176,7 @@ number_gutter-columns width t n line left (label ∷ labels) h =
     (λ y. rw y (arrow-columns width t n label t.ltop left n.ltop (omega (arith, h))))
     (λ f. by_cases {C = columns_of (pieces_of (number_gutter width t line left (label ∷ labels))) ≡ left} (ends_on line label)
     (λ y. rw (f, y) (arrow-columns width t n label (ending_corner t label.parts) left (corner-narrow width t n label.parts) (omega (arith, h))))
-    (λ g. rw (f, g) (front (styled width label.style (t.vbar ∷ [])) (number_gutter width t line (left - 1) labels)
+    (λ g. rw (f, g) (front (styled_run width label.style (t.vbar ∷ [])) (number_gutter width t line (left - 1) labels)
     ∙ omega (arith, n.vbar, h, number_gutter-columns width t n line (left - 1) labels (omega (arith, h))))))
 
 -- the text of a number row begins where the marks' columns do

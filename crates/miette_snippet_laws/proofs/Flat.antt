@@ -3,13 +3,13 @@ use Rattle.std.proofs.Common.{ℕ, zero, suc, ◌+◌, ◌-◌, ◌<◌, ◌≤�
 use Rattle.std.proofs.lemmas.Bool.{lt-ltb, le-ltb, le-leb, lt-leb, and_right, ne_eqb, eq-eqb}
 use Rattle.std.proofs.lemmas.List.{map-append}
 use Rattle.std.specs.List.{range_with_len}
-use Rattle.miette_page.specs.rules.Rows.{Piece, Row, pieces_of, drawn, styled}
+use Rattle.miette_page.specs.rules.Rows.{Piece, Row, pieces_of, code_piece, styled_run}
 use Rattle.miette_snippets.specs.rules.Marks.{Mark, anchor, AreApart}
 use Rattle.miette_snippets.specs.rules.Drawing.{mark_code, mark_runs, lead_runs, text_row, corner, corner_of_several, beside, rows_of_parts, rows_below}
 use Rattle.miette_snippet_laws.specs.laws.Pictures.{mark_at, marks_end}
 use Rattle.miette_snippets.proofs.Numbers.{range_with_len-append}
 use Rattle.miette_snippet_laws.proofs.Apart.{anchor-within}
-use Rattle.miette_snippet_laws.proofs.Unstyled.{lead_at, lead, corner_pieces, beside_pieces, plain_parts, plain_below}
+use Rattle.miette_snippet_laws.proofs.UnstyledRows.{lead_at, lead, corner_pieces, beside_pieces, plain_parts, plain_below}
 use Rattle.miette_style.specs.rules.Themes.{Characters}
 
 pub pieces_of-append : (a b : Row) → pieces_of (a ++ b) ≡ pieces_of a ++ pieces_of b
@@ -31,7 +31,7 @@ three f from a b c =
     ∙ ap (λ r. map f (range_with_len from a) ++ map f r) (range_with_len-append (from + a) b c)
     ∙ ap (λ r. map f (range_with_len from a) ++ r) (map-append f (range_with_len (from + a) b) (range_with_len (from + a + b) c))
 
-mark-before : (width : ℕ → ℕ) (t : Characters) (reached column : ℕ) (ms : List Mark) → AreApart reached ms → column < reached → mark_at width t ms column ≡ drawn width 32
+mark-before : (width : ℕ → ℕ) (t : Characters) (reached column : ℕ) (ms : List Mark) → AreApart reached ms → column < reached → mark_at width t ms column ≡ code_piece width 32
 mark-before width t reached column [] h lt = refl
 mark-before width t reached column (m ∷ ms) h lt =
     let no : leb m.from column ≡ false = lt-leb m.from column (omega (arith, h.0)) in
@@ -46,7 +46,7 @@ pub flat_marks : (width : ℕ → ℕ) (t : Characters) (reached : ℕ) (ms : Li
 flat_marks width t reached [] h = let z : reached - reached ≡ 0 = omega arith in rw z refl
 flat_marks width t reached (m ∷ ms) h =
     let f : ℕ → Piece = mark_at width t (m ∷ ms) in
-    let own : ℕ → Piece = λ column. drawn width (mark_code t m column) in
+    let own : ℕ → Piece = λ column. code_piece width (mark_code t m column) in
     let end : ℕ = marks_end m.until ms in
     let ge : m.until ≤ end = marks_end-ge m.until ms h.2 in
     let a : ℕ = m.from - reached in
@@ -55,7 +55,7 @@ flat_marks width t reached (m ∷ ms) h =
     let from_is : reached + a ≡ m.from = omega (arith, h.0) in
     let until_is : m.from + b ≡ m.until = omega (arith, h.1) in
     let whole : end - reached ≡ a + (b + c) = omega (arith, h.0, h.1) in
-    let gap : map f (range_with_len reached a) ≡ replicate a (drawn width 32) = map-one f (drawn width 32) reached a (λ k l u.
+    let gap : map f (range_with_len reached a) ≡ replicate a (code_piece width 32) = map-one f (code_piece width 32) reached a (λ k l u.
     let no : leb m.from k ≡ false = lt-leb m.from k (omega (arith, h.0)) in rw no (mark-before width t m.until k ms h.2 (omega (arith, h.0, h.1)))) in
     let mine : map f (range_with_len m.from b) ≡ map own (range_with_len m.from b) = map-same f own m.from b (λ k l u.
     let is : leb m.from k ≡ true = le-leb m.from k l in let is' : ltb k m.until ≡ true = lt-ltb k m.until (omega (arith, h.1)) in rw (is, is') refl) in
@@ -65,8 +65,8 @@ flat_marks width t reached (m ∷ ms) h =
     ∙ ap (λ r. map f (range_with_len reached a) ++ (map f (range_with_len r b) ++ map f (range_with_len (r + b) c))) from_is
     ∙ ap (λ r. map f (range_with_len reached a) ++ (map f (range_with_len m.from b) ++ map f (range_with_len r c))) until_is
     ∙ ap (λ r. r ++ (map f (range_with_len m.from b) ++ map f (range_with_len m.until c))) gap
-    ∙ ap (λ r. replicate a (drawn width 32) ++ (r ++ map f (range_with_len m.until c))) mine
-    ∙ ap (λ r. replicate a (drawn width 32) ++ (map own (range_with_len m.from b) ++ r)) (rest ∙ sym (flat_marks width t m.until ms h.2)))
+    ∙ ap (λ r. replicate a (code_piece width 32) ++ (r ++ map f (range_with_len m.until c))) mine
+    ∙ ap (λ r. replicate a (code_piece width 32) ++ (map own (range_with_len m.from b) ++ r)) (rest ∙ sym (flat_marks width t m.until ms h.2)))
 
 -- anchors one behind the other, before a column
 abbrev pub AreAnchored : ℕ → List Mark → ℕ → Type 0
@@ -77,7 +77,7 @@ anchored-ge : (reached column : ℕ) (ms : List Mark) → AreAnchored reached ms
 anchored-ge reached column [] h = h
 anchored-ge reached column (m ∷ ms) h = omega (arith, h.0, anchored-ge (anchor m + 1) column ms h.1)
 
-lead-before : (width : ℕ → ℕ) (t : Characters) (reached column k : ℕ) (ms : List Mark) → AreAnchored reached ms column → k < reached → lead_at width t ms k ≡ drawn width 32
+lead-before : (width : ℕ → ℕ) (t : Characters) (reached column k : ℕ) (ms : List Mark) → AreAnchored reached ms column → k < reached → lead_at width t ms k ≡ code_piece width 32
 lead-before width t reached column k [] h lt = refl
 lead-before width t reached column k (m ∷ ms) h lt =
     let no : eqb k (anchor m) ≡ false = ne_eqb k (anchor m) (λ e. omega (arith, h.0, e)) in
@@ -86,7 +86,7 @@ lead-before width t reached column k (m ∷ ms) h lt =
 pub flat_lead : (width : ℕ → ℕ) (t : Characters) (reached column : ℕ) (ms : List Mark) → AreAnchored reached ms column →
     pieces_of (lead_runs width t reached ms column) ≡ map (lead_at width t ms) (range_with_len reached (column - reached))
 flat_lead width t reached column [] h =
-    append-nil (replicate (column - reached) (drawn width 32)) ∙ sym (map-one (lead_at width t []) (drawn width 32) reached (column - reached) (λ k l u. refl))
+    append-nil (replicate (column - reached) (code_piece width 32)) ∙ sym (map-one (lead_at width t []) (code_piece width 32) reached (column - reached) (λ k l u. refl))
 flat_lead width t reached column (m ∷ ms) h =
     let f : ℕ → Piece = lead_at width t (m ∷ ms) in
     let at : ℕ = anchor m in
@@ -95,16 +95,16 @@ flat_lead width t reached column (m ∷ ms) h =
     let c : ℕ = column - (at + 1) in
     let at_is : reached + a ≡ at = omega (arith, h.0) in
     let whole : column - reached ≡ a + (1 + c) = omega (arith, h.0) in
-    let gap : map f (range_with_len reached a) ≡ replicate a (drawn width 32) = map-one f (drawn width 32) reached a (λ k l u.
+    let gap : map f (range_with_len reached a) ≡ replicate a (code_piece width 32) = map-one f (code_piece width 32) reached a (λ k l u.
     let no : eqb k at ≡ false = ne_eqb k at (λ e. omega (arith, h.0, e)) in rw no (lead-before width t (at + 1) column k ms h.1 (omega (arith, h.0)))) in
-    let mine : f at ≡ drawn width t.vbar = let yes' : eqb at at ≡ true = eq-eqb at at refl in rw yes' refl in
+    let mine : f at ≡ code_piece width t.vbar = let yes' : eqb at at ≡ true = eq-eqb at at refl in rw yes' refl in
     let rest : map f (range_with_len (at + 1) c) ≡ map (lead_at width t ms) (range_with_len (at + 1) c) = map-same f (lead_at width t ms) (at + 1) c (λ k l u.
     let no : eqb k at ≡ false = ne_eqb k at (λ e. omega (arith, e)) in rw no refl) in
     sym (ap (λ n. map f (range_with_len reached n)) whole ∙ three f reached a 1 c
     ∙ ap (λ r. map f (range_with_len reached a) ++ (map f (range_with_len r 1) ++ map f (range_with_len (r + 1) c))) at_is
     ∙ ap (λ r. r ++ (map f (range_with_len at 1) ++ map f (range_with_len (at + 1) c))) gap
-    ∙ ap (λ p. replicate a (drawn width 32) ++ ((p ∷ []) ++ map f (range_with_len (at + 1) c))) mine
-    ∙ ap (λ r. replicate a (drawn width 32) ++ (drawn width t.vbar ∷ r)) (rest ∙ sym (flat_lead width t (at + 1) column ms h.1)))
+    ∙ ap (λ p. replicate a (code_piece width 32) ++ ((p ∷ []) ++ map f (range_with_len (at + 1) c))) mine
+    ∙ ap (λ r. replicate a (code_piece width 32) ++ (code_piece width t.vbar ∷ r)) (rest ∙ sym (flat_lead width t (at + 1) column ms h.1)))
 
 -- marks that are apart have anchors one behind the other
 apart-weaker : (a b : ℕ) (ms : List Mark) → b ≤ a → AreApart a ms → AreApart b ms
@@ -119,17 +119,17 @@ anchored reached (e ∷ earlier) m later h = (
 )
 
 flat_text : (width : ℕ → ℕ) (t : Characters) (earlier : List Mark) (mark : Mark) (front part : List ℕ) → AreAnchored 0 earlier (anchor mark) →
-    pieces_of (text_row width t earlier mark front part) ≡ lead width t earlier mark ++ map (drawn width) (front ++ part)
+    pieces_of (text_row width t earlier mark front part) ≡ lead width t earlier mark ++ map (code_piece width) (front ++ part)
 flat_text width t earlier mark front part h =
     let z : anchor mark - 0 ≡ anchor mark = omega arith in
-    pieces_of-append (lead_runs width t 0 earlier (anchor mark)) (styled width mark.label.style (front ++ part) ∷ [])
-    ∙ ap (λ r. pieces_of (lead_runs width t 0 earlier (anchor mark)) ++ r) (append-nil (map (drawn width) (front ++ part)))
-    ∙ ap (λ r. r ++ map (drawn width) (front ++ part)) (flat_lead width t 0 (anchor mark) earlier h ∙ ap (λ n. map (lead_at width t earlier) (range_with_len 0 n)) z)
+    pieces_of-append (lead_runs width t 0 earlier (anchor mark)) (styled_run width mark.label.style (front ++ part) ∷ [])
+    ∙ ap (λ r. pieces_of (lead_runs width t 0 earlier (anchor mark)) ++ r) (append-nil (map (code_piece width) (front ++ part)))
+    ∙ ap (λ r. r ++ map (code_piece width) (front ++ part)) (flat_lead width t 0 (anchor mark) earlier h ∙ ap (λ n. map (lead_at width t earlier) (range_with_len 0 n)) z)
 
 flat_rest : (width : ℕ → ℕ) (t : Characters) (earlier : List Mark) (mark : Mark) (parts : List (List ℕ)) → AreAnchored 0 earlier (anchor mark) →
-    map pieces_of (map (text_row width t earlier mark (beside t)) parts) ≡ map (λ p. lead width t earlier mark ++ (beside_pieces width t ++ map (drawn width) p)) parts
+    map pieces_of (map (text_row width t earlier mark (beside t)) parts) ≡ map (λ p. lead width t earlier mark ++ (beside_pieces width t ++ map (code_piece width) p)) parts
 flat_rest width t earlier mark [] h = refl
-flat_rest width t earlier mark (part ∷ parts) h = ap (λ r. r ∷ map pieces_of (map (text_row width t earlier mark (beside t)) parts)) (flat_text width t earlier mark (beside t) part h) ∙ ap (λ r. (lead width t earlier mark ++ (beside_pieces width t ++ map (drawn width) part)) ∷ r) (flat_rest width t earlier mark parts h)
+flat_rest width t earlier mark (part ∷ parts) h = ap (λ r. r ∷ map pieces_of (map (text_row width t earlier mark (beside t)) parts)) (flat_text width t earlier mark (beside t) part h) ∙ ap (λ r. (lead width t earlier mark ++ (beside_pieces width t ++ map (code_piece width) part)) ∷ r) (flat_rest width t earlier mark parts h)
 
 flat_parts : (width : ℕ → ℕ) (t : Characters) (earlier : List Mark) (mark : Mark) (parts : List (List ℕ)) → AreAnchored 0 earlier (anchor mark) →
     map pieces_of (rows_of_parts width t earlier mark parts) ≡ plain_parts width t earlier mark parts
@@ -137,7 +137,7 @@ flat_parts width t earlier mark [] h = refl
 flat_parts width t earlier mark (part ∷ []) h = ap (λ r. r ∷ []) (flat_text width t earlier mark (corner t) part h)
 flat_parts width t earlier mark (part ∷ next ∷ parts) h =
     ap (λ r. r ∷ map pieces_of (map (text_row width t earlier mark (beside t)) (next ∷ parts))) (flat_text width t earlier mark (corner_of_several t) part h)
-    ∙ ap (λ r. (lead width t earlier mark ++ (corner_pieces width t t.rcross ++ map (drawn width) part)) ∷ r) (flat_rest width t earlier mark (next ∷ parts) h)
+    ∙ ap (λ r. (lead width t earlier mark ++ (corner_pieces width t t.rcross ++ map (code_piece width) part)) ∷ r) (flat_rest width t earlier mark (next ∷ parts) h)
 
 pub flat_below : (width : ℕ → ℕ) (t : Characters) (earlier ms : List Mark) → AreApart 0 (earlier ++ ms) → map pieces_of (rows_below width t earlier ms) ≡ plain_below width t earlier ms
 flat_below width t earlier [] h = refl

@@ -2,12 +2,12 @@
 use Rattle.std.proofs.Common.{ℕ, ◌+◌, ◌<◌, ◌≡◌, Bool, true, ltb, leb, eqb, List, [], ◌∷◌, ◌++◌, map, Some, refl, sym, ap, ◌∙◌, inl, inr, ⊎_elim, ◌&&◌, append_assoc, append-nil, arith}
 use Rattle.std.proofs.lemmas.Bool.{eq-eqb, or_right}
 use Rattle.std.specs.List.{AllByRecursion, list_any}
-use Rattle.miette_page.specs.rules.Rows.{Piece, drawn, code_at, columns_of, Begins}
+use Rattle.miette_page.specs.rules.Rows.{Piece, code_piece, code_at, columns_of, Begins}
 use Rattle.miette_lines.specs.rules.Labels.{is_empty}
 use Rattle.miette_snippets.specs.rules.Marks.{Mark, anchor, AreApart}
 use Rattle.miette_snippets.specs.rules.Drawing.{IsNarrow, code_with_parts, mark_code}
 use Rattle.miette_snippet_laws.specs.laws.Pictures.{mark_at, marks_end, HangsFrom, PartHangs, Hangs}
-use Rattle.miette_snippet_laws.proofs.Unstyled.{mark_row, lead_at, lead, corner_pieces, beside_pieces, plain_parts, plain_below}
+use Rattle.miette_snippet_laws.proofs.UnstyledRows.{mark_row, lead_at, lead, corner_pieces, beside_pieces, plain_parts, plain_below}
 use Rattle.miette_lines.proofs.Numbers.{by_cases}
 use Rattle.miette_snippet_laws.proofs.Apart.{anchor-within}
 use Rattle.miette_snippet_laws.proofs.Columns.{code_at-here, code_at-front, code_at-behind, columns_of-map, columns_of-append, code_at-append}
@@ -68,17 +68,17 @@ abbrev HasBar : Characters → ℕ → List Piece → Type 0
 HasBar t column row = code_at row column ≡ Some t.vbar
 
 bars_of_rest : (width : ℕ → ℕ) (t : Characters) (n : IsNarrow width t) (earlier : List Mark) (mark : Mark) (column : ℕ) (parts : List (List ℕ)) → column < anchor mark → has_anchor column earlier ≡ true →
-    AllByRecursion (HasBar t column) (map (λ p. lead width t earlier mark ++ (beside_pieces width t ++ map (drawn width) p)) parts)
+    AllByRecursion (HasBar t column) (map (λ p. lead width t earlier mark ++ (beside_pieces width t ++ map (code_piece width) p)) parts)
 bars_of_rest width t n earlier mark column [] lt h = tt
 bars_of_rest width t n earlier mark column (part ∷ parts) lt h =
-    (led width t n earlier mark column (beside_pieces width t ++ map (drawn width) part) lt h, bars_of_rest width t n earlier mark column parts lt h)
+    (led width t n earlier mark column (beside_pieces width t ++ map (code_piece width) part) lt h, bars_of_rest width t n earlier mark column parts lt h)
 
 bars_of_parts : (width : ℕ → ℕ) (t : Characters) (n : IsNarrow width t) (earlier : List Mark) (mark : Mark) (column : ℕ) (parts : List (List ℕ)) → column < anchor mark → has_anchor column earlier ≡ true →
     AllByRecursion (HasBar t column) (plain_parts width t earlier mark parts)
 bars_of_parts width t n earlier mark column [] lt h = tt
-bars_of_parts width t n earlier mark column (part ∷ []) lt h = (led width t n earlier mark column (corner_pieces width t t.hbar ++ map (drawn width) part) lt h, tt)
+bars_of_parts width t n earlier mark column (part ∷ []) lt h = (led width t n earlier mark column (corner_pieces width t t.hbar ++ map (code_piece width) part) lt h, tt)
 bars_of_parts width t n earlier mark column (part ∷ next ∷ parts) lt h =
-    (led width t n earlier mark column (corner_pieces width t t.rcross ++ map (drawn width) part) lt h, bars_of_rest width t n earlier mark column (next ∷ parts) lt h)
+    (led width t n earlier mark column (corner_pieces width t t.rcross ++ map (code_piece width) part) lt h, bars_of_rest width t n earlier mark column (next ∷ parts) lt h)
 
 all_append : (P : List Piece → Type 0) (xs ys : List (List Piece)) → AllByRecursion P xs → AllByRecursion P ys → AllByRecursion P (xs ++ ys)
 all_append P [] ys h k = k
@@ -129,21 +129,21 @@ cornered width t n earlier mark p q r s part is a b c d = (
 
 -- a mark's first part hangs from its anchor at the top of its own rows
 own_rows : (width : ℕ → ℕ) (t : Characters) (n : IsNarrow width t) (earlier : List Mark) (mark : Mark) (part : List ℕ) (parts : List (List ℕ)) →
-    HangsFrom t (anchor mark) (map (drawn width) part) (plain_parts width t earlier mark (part ∷ parts))
+    HangsFrom t (anchor mark) (map (code_piece width) part) (plain_parts width t earlier mark (part ∷ parts))
 own_rows width t n earlier mark part [] =
-    inl (cornered width t n earlier mark (drawn width t.lbot) (drawn width t.hbar) (drawn width t.hbar) (drawn width 32) (map (drawn width) part) refl n.lbot n.hbar n.hbar n.space)
+    inl (cornered width t n earlier mark (code_piece width t.lbot) (code_piece width t.hbar) (code_piece width t.hbar) (code_piece width 32) (map (code_piece width) part) refl n.lbot n.hbar n.hbar n.space)
 own_rows width t n earlier mark part (next ∷ parts) =
-    inl (cornered width t n earlier mark (drawn width t.lbot) (drawn width t.hbar) (drawn width t.rcross) (drawn width 32) (map (drawn width) part) refl n.lbot n.hbar n.rcross n.space)
+    inl (cornered width t n earlier mark (code_piece width t.lbot) (code_piece width t.hbar) (code_piece width t.rcross) (code_piece width 32) (map (code_piece width) part) refl n.lbot n.hbar n.rcross n.space)
 
 hangs_at_top : (width : ℕ → ℕ) (t : Characters) (n : IsNarrow width t) (earlier : List Mark) (mark : Mark) (above : List (List Piece)) (parts : List (List ℕ)) →
     AllByRecursion (HasBar t (anchor mark)) above → PartHangs width t (above ++ plain_parts width t earlier mark parts) (anchor mark) parts
 hangs_at_top width t n earlier mark above [] bars = tt
 hangs_at_top width t n earlier mark above (part ∷ parts) bars =
-    hang_under t (anchor mark) (map (drawn width) part) above (plain_parts width t earlier mark (part ∷ parts)) bars (own_rows width t n earlier mark part parts)
+    hang_under t (anchor mark) (map (code_piece width) part) above (plain_parts width t earlier mark (part ∷ parts)) bars (own_rows width t n earlier mark part parts)
 
 part_more : (width : ℕ → ℕ) (t : Characters) (rows more : List (List Piece)) (column : ℕ) (parts : List (List ℕ)) → PartHangs width t rows column parts → PartHangs width t (rows ++ more) column parts
 part_more width t rows more column [] h = tt
-part_more width t rows more column (part ∷ parts) h = hang_more t column (map (drawn width) part) rows more h
+part_more width t rows more column (part ∷ parts) h = hang_more t column (map (code_piece width) part) rows more h
 
 pub all_more : (width : ℕ → ℕ) (t : Characters) (start : ℕ) (rows more : List (List Piece)) (ms : List Mark) → AllByRecursion (Hangs width t rows start) ms → AllByRecursion (Hangs width t (rows ++ more) start) ms
 all_more width t start rows more [] h = tt
@@ -183,7 +183,7 @@ hang_beside t gutter column part (row ∷ rows) h =
 
 part_beside : (width : ℕ → ℕ) (t : Characters) (gutter : List Piece) (rows : List (List Piece)) (column : ℕ) (parts : List (List ℕ)) → PartHangs width t rows column parts → PartHangs width t (map (λ row. gutter ++ row) rows) (columns_of gutter + column) parts
 part_beside width t gutter rows column [] h = tt
-part_beside width t gutter rows column (part ∷ parts) h = hang_beside t gutter column (map (drawn width) part) rows h
+part_beside width t gutter rows column (part ∷ parts) h = hang_beside t gutter column (map (code_piece width) part) rows h
 
 pub all_beside : (width : ℕ → ℕ) (t : Characters) (gutter : List Piece) (rows : List (List Piece)) (ms : List Mark) → AllByRecursion (Hangs width t rows 0) ms → AllByRecursion (Hangs width t (map (λ row. gutter ++ row) rows) (columns_of gutter)) ms
 all_beside width t gutter rows [] h = tt

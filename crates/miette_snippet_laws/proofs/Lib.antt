@@ -4,7 +4,7 @@ pub mod Beneath
 pub mod Bleaching
 pub mod CleanTexts
 pub mod Columns
-pub mod Combined
+pub mod MaximalRanges
 pub mod Ending
 pub mod Flat
 pub mod Hanging
@@ -15,5 +15,5 @@ pub mod PaleSnippets
 pub mod Paling
 pub mod Reread
 pub mod Spreading
-pub mod Unstyled
+pub mod UnstyledRows
 pub mod Whole

@@ -18,8 +18,8 @@ use Rattle.miette_lines.specs.rules.Groups.{in_order, put_label, stretch, put_st
 use Rattle.miette_snippets.specs.rules.Gutters.{gutter_columns}
 use Rattle.miette_lines.specs.rules.Labels.{DrawnLabel}
 use Rattle.miette_snippets.specs.rules.SnippetLayout.{rows_of_lines, body_rows}
-use Rattle.miette_snippets.specs.rules.Numbers.{runs}
-use Rattle.miette_snippets.specs.rules.Shown.{run_rows, rows_of_runs, bodies}
+use Rattle.miette_snippets.specs.rules.Numbers.{ranges}
+use Rattle.miette_snippets.specs.rules.ShownLines.{range_rows, rows_of_ranges, bodies}
 use Rattle.miette_snippets.specs.rules.Snippets as N
 use Rattle.miette_lines.proofs.Sources.{lines, first_line, last_line}
 use Rattle.miette_snippets.proofs.Joining as J
@@ -52,7 +52,7 @@ none_shown context bytes k all (label ∷ labels) e h =
     (ap (λ c. N.is_in_context c bytes k label.span) (none_around context all label e both.0) ∙ context_same context bytes k label.span)
     (none_shown context bytes k all labels e both.1)
 
-shown_same : (context : ℕ) (bytes : List ℕ) (labels : List Label) → has_own labels ≡ false → N.shown context bytes labels ≡ J.shown context bytes (map (λ l. l.span) labels)
+shown_same : (context : ℕ) (bytes : List ℕ) (labels : List Label) → has_own labels ≡ false → N.shown_numbers context bytes labels ≡ J.shown context bytes (map (λ l. l.span) labels)
 shown_same context bytes labels e =
     ap (λ ls. filter (N.is_shown context bytes labels) (range_with_len 0 (length ls))) (lines_same 0 bytes)
     ∙ filter_agree (N.is_shown context bytes labels) (J.is_shown context bytes (map (λ l. l.span) labels)) (λ k. none_shown context bytes k labels labels e e) (range_with_len 0 (length (lines bytes)))
@@ -60,7 +60,7 @@ shown_same context bytes labels e =
 pub snippets_same : (context : ℕ) (bytes : List ℕ) (labels : List Label) → has_own labels ≡ false → N.snippets context bytes labels ≡ J.snippets context bytes (map (λ l. l.span) labels)
 snippets_same context [] [] e = refl
 snippets_same context [] (label ∷ labels) e = refl
-snippets_same context (byte ∷ bytes) labels e = ap runs (shown_same context (byte ∷ bytes) labels e)
+snippets_same context (byte ∷ bytes) labels e = ap ranges (shown_same context (byte ∷ bytes) labels e)
 
 -- ---- a label's stretch
 
@@ -119,11 +119,11 @@ in_same context bytes k all (label ∷ labels) =
 
 -- in a source that isn't empty, by labels in any order
 pub block_runs : (context : ℕ) (bytes : List ℕ) (labels : List Label) → Around context labels labels → 0 < length bytes →
-    map (numbers_of (length (lines bytes))) (group_blocks context bytes labels) ≡ runs (N.shown context bytes labels)
+    map (numbers_of (length (lines bytes))) (group_blocks context bytes labels) ≡ ranges (N.shown_numbers context bytes labels)
 block_runs context bytes labels h some =
     blocks_are_runs (length (lines bytes)) (map (block_of context bytes labels) labels) (blocks_there context bytes labels labels h some)
-    ∙ ap runs (filter_agree _ _ (λ k. in_same context bytes k labels labels) (range_with_len 0 (length (lines bytes))))
-    ∙ ap (λ ls. runs (filter (N.is_shown context bytes labels) (range_with_len 0 (length ls)))) (sym (lines_same 0 bytes))
+    ∙ ap ranges (filter_agree _ _ (λ k. in_same context bytes k labels labels) (range_with_len 0 (length (lines bytes))))
+    ∙ ap (λ ls. ranges (filter (N.is_shown context bytes labels) (range_with_len 0 (length ls)))) (sym (lines_same 0 bytes))
 
 pub lines_are : (source : Source) (bs : List Block) → 0 < length source.bytes → AreBlocks (length (lines source.bytes)) bs →
     G.lines_of_groups 0 source (map (span_of source.bytes) bs) ≡ map (numbers_of (length (lines source.bytes))) bs
@@ -133,7 +133,7 @@ lines_are source (b ∷ bs) some h = ap₂ (λ x xs. x ∷ xs) (block_numbers so
 -- ---- their rows
 
 block_body : (s : SnippetSettings) (labels : List DrawnLabel) (source : Source) (b : Block) (pieces : List (List Highlight)) → 0 < length source.bytes → IsBlock (length (lines source.bytes)) b →
-    body_rows s labels source.bytes (contents 0 source (span_of source.bytes b)) pieces ≡ run_rows s labels source.bytes pieces (numbers_of (length (lines source.bytes)) b)
+    body_rows s labels source.bytes (contents 0 source (span_of source.bytes b)) pieces ≡ range_rows s labels source.bytes pieces (numbers_of (length (lines source.bytes)) b)
 block_body s labels source b pieces some h =
     let bytes : List ℕ = source.bytes in
     let ls : List Line = lines_of_contents (contents 0 source (span_of bytes b)) in
@@ -141,7 +141,7 @@ block_body s labels source b pieces some h =
     ∙ body_from s labels bytes pieces b.low (min (b.high + 1) (length (lines bytes)) - b.low) ls (block_lines source b some h)
 
 pub block_bodies : (s : SnippetSettings) (labels : List DrawnLabel) (source : Source) (pieces : List (List (List Highlight))) (bs : List Block) → s.context ≡ 0 → 0 < length source.bytes → AreBlocks (length (lines source.bytes)) bs →
-    bodies s labels source pieces (map (span_of source.bytes) bs) ≡ rows_of_runs s labels source.bytes pieces (map (numbers_of (length (lines source.bytes))) bs)
+    bodies s labels source pieces (map (span_of source.bytes) bs) ≡ rows_of_ranges s labels source.bytes pieces (map (numbers_of (length (lines source.bytes))) bs)
 block_bodies s labels source pieces [] e some h = refl
 block_bodies s labels source pieces (b ∷ bs) e some h =
     ap₂ (λ x xs. x ∷ xs)

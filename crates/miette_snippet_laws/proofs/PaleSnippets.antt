@@ -11,14 +11,14 @@ use Rattle.miette_lines.specs.rules.Cells.{Cell, characters}
 use Rattle.miette_snippet_laws.specs.laws.Clean.{IsClean, IsCleanText, IsCleanRow, IsCleanLabel, IsCleanSource, AreCleanDrawings}
 use Rattle.miette_lines.specs.rules.Contexts.{contents, lines_of_contents, is_accepted}
 use Rattle.miette_snippets.specs.rules.Drawing.{marked_rows}
-use Rattle.miette_snippet_laws.specs.laws.Fading.{colourless, unhighlighted, IsPlainRow}
+use Rattle.miette_snippet_laws.specs.laws.Fading.{colourless, unhighlighted_answers, IsPlainRow}
 use Rattle.miette_snippets.specs.rules.Frames.{SnippetSettings, Place, text_or_none, refused_row, number_start, other_start, place_text, location, location_of, top_row_of, bottom_row, number_width}
 use Rattle.miette_lines.specs.rules.Groups.{Refusal, refusal, in_order, groups_of, some_fails, groups_fail}
 use Rattle.miette_snippets.specs.rules.Gutters.{number_gutter, other_gutter, closing_rows, gutter_columns}
-use Rattle.miette_lines.specs.rules.Labels.{DrawnLabel, some_shows_end, one_line, multi_line, closing, is_one_line, is_multi_line, ends_on, starts_on}
+use Rattle.miette_lines.specs.rules.Labels.{DrawnLabel, some_shows_end, one_line, multi_line, closing_labels, is_one_line, is_multi_line, ends_on, starts_on}
 use Rattle.miette_snippets.specs.rules.SnippetLayout.{text_of_cells, cells_of, before_each, line_rows_of, line_rows, rows_of_lines, body_rows, place_of, drawn_labels, snippet, all_snippets, settings_around, rows_unless, snippet_rows}
 use Rattle.miette_snippets.specs.rules.Marks.{marks}
-use Rattle.miette_page.specs.rules.Rows.{Run, Row, pieces_of, unstyled}
+use Rattle.miette_page.specs.rules.Rows.{Run, Row, pieces_of, plain_run}
 use Rattle.miette_style.specs.rules.Styles.{plain}
 use Rattle.miette_snippet_laws.proofs.Bleaching.{filter_bleached, all_filter, marks_bleached, marks_clean, gutter_bleached, drawn_bleached, drawn_clean, ordered_clean}
 use Rattle.miette_snippet_laws.proofs.CleanTexts.{AreCleanCells, clean_cons, clean_append, clean_replicate, clean_if, clean_range, clean_decimal, clean_characters, clean_cells, clean_line, line_same}
@@ -44,7 +44,7 @@ pub record PaleGiven (P : Type 0) (x y : Option (List Row)) : Type 0 where
   pub clean : P → IfSome y (AllByRecursion IsCleanRow)
 
 module _ (P : Type 0) (s : SnippetSettings) (clean : P → AreCleanDrawings s.characters) where
-  pale_unstyled : (text : List ℕ) → (P → IsClean text) → PaleRow P (unstyled s.width text ∷ []) (unstyled s.width text ∷ [])
+  pale_unstyled : (text : List ℕ) → (P → IsClean text) → PaleRow P (plain_run s.width text ∷ []) (plain_run s.width text ∷ [])
   pale_unstyled text h = pale_cons P (pale_styled P s.width plain text h) (pale_nil P)
 
   -- ---- what stands before gutters
@@ -120,14 +120,14 @@ module _ (P : Type 0) (s : SnippetSettings) (clean : P → AreCleanDrawings s.ch
       let below = pale_append P (other_start (colourless s) w) (other_start s w) (other_gutter s.width t line columns (map bleached multi)) (other_gutter s.width t line columns multi) (pale_other_start w) others in
       let marked : PaleRows P (marked_rows s.width t (marks text (map bleached one))) (marked_rows s.width t found) =
       subst (λ ms. PaleRows P (marked_rows s.width t ms) (marked_rows s.width t found)) (sym (marks_bleached text one)) (pale_marked P s.width t clean found (λ p. marks_clean text one (h p))) in
-      let ends : PaleRows P (closing_rows s.width t line columns (map bleached multi) (closing line (map bleached multi))) (closing_rows s.width t line columns multi (closing line multi)) =
-      subst (λ ls. PaleRows P (closing_rows s.width t line columns (map bleached multi) ls) (closing_rows s.width t line columns multi (closing line multi))) (sym (filter_bleached (λ label. ends_on line label && not (starts_on line label)) (λ label. refl) multi))
-      (pale_closing_rows P s.width t clean line columns multi (closing line multi) (λ p. all_filter HasCleanParts (λ label. ends_on line label && not (starts_on line label)) multi (k p))) in
+      let ends : PaleRows P (closing_rows s.width t line columns (map bleached multi) (closing_labels line (map bleached multi))) (closing_rows s.width t line columns multi (closing_labels line multi)) =
+      subst (λ ls. PaleRows P (closing_rows s.width t line columns (map bleached multi) ls) (closing_rows s.width t line columns multi (closing_labels line multi))) (sym (filter_bleached (λ label. ends_on line label && not (starts_on line label)) (λ label. refl) multi))
+      (pale_closing_rows P s.width t clean line columns multi (closing_labels line multi) (λ p. all_filter HasCleanParts (λ label. ends_on line label && not (starts_on line label)) multi (k p))) in
       rows_cons P first
       (rows_append P (before_each (other_start (colourless s) w ++ other_gutter s.width t line columns (map bleached multi)) (marked_rows s.width t (marks text (map bleached one)))) (before_each (other_start s w ++ other_gutter s.width t line columns multi) (marked_rows s.width t found))
-      (before_each (other_start (colourless s) w) (closing_rows s.width t line columns (map bleached multi) (closing line (map bleached multi)))) (before_each (other_start s w) (closing_rows s.width t line columns multi (closing line multi)))
+      (before_each (other_start (colourless s) w) (closing_rows s.width t line columns (map bleached multi) (closing_labels line (map bleached multi)))) (before_each (other_start s w) (closing_rows s.width t line columns multi (closing_labels line multi)))
       (pale_before (marked_rows s.width t (marks text (map bleached one))) (marked_rows s.width t found) below marked)
-      (pale_before (closing_rows s.width t line columns (map bleached multi) (closing line (map bleached multi))) (closing_rows s.width t line columns multi (closing line multi)) (pale_other_start w) ends))
+      (pale_before (closing_rows s.width t line columns (map bleached multi) (closing_labels line (map bleached multi))) (closing_rows s.width t line columns multi (closing_labels line multi)) (pale_other_start w) ends))
 
   pale_line_rows : (w columns : ℕ) (labels : List DrawnLabel) (line : Line) (number : ℕ) (cells : List Cell) (pieces : List Highlight) →
       (P → AllByRecursion HasCleanParts labels) → (P → AreCleanCells cells) →
@@ -228,7 +228,7 @@ module _ (P : Type 0) (s : SnippetSettings) (clean : P → AreCleanDrawings s.ch
 module _ (P : Type 0) (s : SnippetSettings) (clean : P → AreCleanDrawings s.characters) where
   pale_unless : (source : Source) (labels : List Label) (answers : Answers) (refused : Option Refusal) →
       (P → IsCleanSource source) → (P → AllByRecursion IsCleanLabel labels) → (P → IfSome refused IsCleanRefusal) →
-      PaleGiven P (rows_unless (colourless s) source labels (unhighlighted answers) (option_map (refused_row (colourless s)) refused)) (rows_unless s source labels answers (option_map (refused_row s) refused))
+      PaleGiven P (rows_unless (colourless s) source labels (unhighlighted_answers answers) (option_map (refused_row (colourless s)) refused)) (rows_unless s source labels answers (option_map (refused_row s) refused))
   pale_unless source labels answers (Some refused) h k j = given P s clean (rows_cons P (pale_refused P s clean refused j) (rows_nil P))
   pale_unless source labels answers None h k j =
       let groups = groups_of s.context source answers.join_fails labels in
@@ -236,7 +236,7 @@ module _ (P : Type 0) (s : SnippetSettings) (clean : P → AreCleanDrawings s.ch
       (pale_all P (settings_around s labels) clean source labels answers.pieces groups h k)
 
   pub pale_snippets : (source : Source) (labels : List Label) (answers : Answers) → (P → IsCleanSource source) → (P → AllByRecursion IsCleanLabel labels) →
-      PaleGiven P (snippet_rows (colourless s) source labels (unhighlighted answers)) (snippet_rows s source labels answers)
+      PaleGiven P (snippet_rows (colourless s) source labels (unhighlighted_answers answers)) (snippet_rows s source labels answers)
   pale_snippets source labels answers h k =
       pale_unless source (in_order labels) answers (refusal source.bytes answers.label_fails (in_order labels)) h (λ p. ordered_clean labels (k p))
       (λ p. refusal_clean P s clean source.bytes answers.label_fails (in_order labels) (ordered_clean labels (k p)))

@@ -10,7 +10,7 @@ use Rattle.miette_snippet_laws.specs.laws.Fading.{IsPlainRow}
 use Rattle.miette_snippets.specs.rules.Gutters.{ending_corner, arrow, number_gutter, other_gutter, open_gutter, part_run, closing_parts, closing_rows}
 use Rattle.miette_lines.specs.rules.Labels.{DrawnLabel, is_empty, starts_on, ends_on}
 use Rattle.miette_snippets.specs.rules.Marks.{Mark, anchor}
-use Rattle.miette_page.specs.rules.Rows.{Run, Row, pieces_of, styled}
+use Rattle.miette_page.specs.rules.Rows.{Run, Row, pieces_of, styled_run}
 use Rattle.miette_style.specs.rules.Styles.{plain}
 use Rattle.miette_snippet_laws.proofs.CleanTexts.{AreCleanPieces, clean_cons, clean_append, clean_replicate, clean_code_if, clean_copies, clean_drawn, clean_each}
 use Rattle.miette_snippet_laws.proofs.Flat.{pieces_of-append}
@@ -89,7 +89,7 @@ module _ (P : Type 0) where
 
   -- ---- a text in a style, and spaces
 
-  pub pale_styled : (width : ℕ → ℕ) (style : Style) (text : List ℕ) → (P → IsClean text) → PaleRun P (styled width plain text) (styled width style text)
+  pub pale_styled : (width : ℕ → ℕ) (style : Style) (text : List ℕ) → (P → IsClean text) → PaleRun P (styled_run width plain text) (styled_run width style text)
   pale_styled width style text h = record { plain = refl; same = refl; clean = λ p. clean_drawn width text (h p) }
 
   pub pale_blank : (width : ℕ → ℕ) (many : ℕ) → PaleRun P (blank width many) (blank width many)
@@ -98,7 +98,7 @@ module _ (P : Type 0) where
   module _ (width : ℕ → ℕ) (t : Characters) (clean : P → AreCleanDrawings t) where
     -- ---- gutters
 
-    vbar_run : (style : Style) → PaleRun P (styled width plain (t.vbar ∷ [])) (styled width style (t.vbar ∷ []))
+    vbar_run : (style : Style) → PaleRun P (styled_run width plain (t.vbar ∷ [])) (styled_run width style (t.vbar ∷ []))
     vbar_run style = pale_styled width style (t.vbar ∷ []) (λ p. clean_cons t.vbar [] (clean p).vbar refl)
 
     corner_clean : (parts : List (List ℕ)) → P → IsCleanCode (ending_corner t parts)
@@ -186,7 +186,7 @@ module _ (P : Type 0) where
     pale_text : (earlier : List Mark) (mark : Mark) (front part : List ℕ) → (P → IsClean front) → (P → IsClean part) →
         PaleRow P (text_row width t (map bleached_mark earlier) (bleached_mark mark) front part) (text_row width t earlier mark front part)
     pale_text earlier mark front part h k =
-        pale_append (lead_runs width t 0 (map bleached_mark earlier) (anchor mark)) (lead_runs width t 0 earlier (anchor mark)) (styled width plain (front ++ part) ∷ []) (styled width mark.label.style (front ++ part) ∷ [])
+        pale_append (lead_runs width t 0 (map bleached_mark earlier) (anchor mark)) (lead_runs width t 0 earlier (anchor mark)) (styled_run width plain (front ++ part) ∷ []) (styled_run width mark.label.style (front ++ part) ∷ [])
         (pale_leads 0 earlier (anchor mark)) (pale_cons (pale_styled width mark.label.style (front ++ part) (λ p. clean_append front part (h p) (k p))) pale_nil)
 
     four_clean : (a b c : ℕ) → IsCleanCode a → IsCleanCode b → IsCleanCode c → IsClean (a ∷ b ∷ c ∷ 32 ∷ [])

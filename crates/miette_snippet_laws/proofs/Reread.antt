@@ -9,7 +9,7 @@ use Rattle.miette_protocol.specs.rules.Reading as R
 use Rattle.miette_protocol.specs.rules.Reading.{Span, Source}
 use Rattle.miette_lines.specs.rules.Contexts as C
 use Rattle.miette_lines.specs.rules.Contexts.{contents, lines_of_contents}
-use Rattle.miette_snippets.specs.rules.Shown.{line_at}
+use Rattle.miette_snippets.specs.rules.ShownLines.{line_at}
 use Rattle.miette_snippets.proofs.Numbers.{filter-same}
 use Rattle.miette_lines.proofs.Numbers.{by_cases}
 use Rattle.miette_lines.proofs.Sources.{begins_with_lf, with_text, with_cr, lines_from, lines, IsCut, start_of, end_of, past_lf, reading_end}

@@ -6,8 +6,8 @@ use Rattle.std.proofs.lemmas.List.Elements.{filter_agree}
 use Rattle.std.specs.List.{range_with_len, filter, list_any, AllByRecursion}
 use Rattle.miette_newlines.specs.rules.Lines.{Line}
 use Rattle.miette_protocol.specs.rules.Reading.{Span}
-use Rattle.miette_lines.specs.rules.Groups.{joined, put_stretch, by_begin, stretches_from, joined_stretches}
-use Rattle.miette_snippets.specs.rules.Numbers.{runs}
+use Rattle.miette_lines.specs.rules.Groups.{joined_span, put_stretch, by_begin, stretches_from, joined_stretches}
+use Rattle.miette_snippets.specs.rules.Numbers.{ranges}
 use Rattle.miette_lines.proofs.Sources.{lines, start_of, end_of, end_of_span}
 use Rattle.miette_snippets.proofs.Numbers.{filter-none}
 use Rattle.miette_lines.proofs.Numbers.{by_cases}
@@ -188,7 +188,7 @@ greater_end bytes i k =
     (cases_lt i k)
 
 pub join_same : (bytes : List ℕ) (a b : Block) → IsBlock (length (lines bytes)) a → IsBlock (length (lines bytes)) b →
-    joined (span_of bytes a) (span_of bytes b) ≡ span_of bytes (joined_block a b)
+    joined_span (span_of bytes a) (span_of bytes b) ≡ span_of bytes (joined_block a b)
 join_same bytes a b ha hb =
     ap₂ (λ x y. record { offset = start_of (lines bytes) a.low; len = max x y - start_of (lines bytes) a.low }) (block_end bytes a ha) (block_end bytes b hb)
     ∙ ap (λ x. record { offset = start_of (lines bytes) a.low; len = x - start_of (lines bytes) a.low }) (greater_end bytes a.high b.high)
@@ -224,13 +224,13 @@ none-below from k [] h lt = refl
 none-below from k (b ∷ bs) h lt = let no : leb b.low k ≡ false = lt-leb b.low k (omega (arith, h.0)) in rw no (none-below b.low k bs h.1 (omega (arith, h.0)))
 
 pub merged : (all : ℕ) (before : Block) (bs : List Block) → IsBlock all before → AreBlocks all bs → AreAscending before.low bs →
-    map (numbers_of all) (blocks_from before bs) ≡ runs (filter (in_blocks (before ∷ bs)) (range_with_len 0 all))
+    map (numbers_of all) (blocks_from before bs) ≡ ranges (filter (in_blocks (before ∷ bs)) (range_with_len 0 all))
 merged all before [] own h up =
     sym (span_run before.low before.high all (λ k. false) own.order own.there (λ k a. refl) ∙ rw (filter-none (λ k. false) 0 all (λ k a b. refl)) refl)
 merged all before (b ∷ bs) own h up =
-    by_cases {C = map (numbers_of all) (blocks_from before (b ∷ bs)) ≡ runs (filter (in_blocks (before ∷ b ∷ bs)) (range_with_len 0 all))} (leb b.low (before.high + 1))
+    by_cases {C = map (numbers_of all) (blocks_from before (b ∷ bs)) ≡ ranges (filter (in_blocks (before ∷ b ∷ bs)) (range_with_len 0 all))} (leb b.low (before.high + 1))
     (λ t. rw t (merged all (joined_block before b) bs (join_there all before b own) h.1 (lower before.low b.low bs up.0 up.1)
-    ∙ ap runs (filter_agree _ _ (λ k. sym (or_assoc (is_in_block k before) (is_in_block k b) (in_blocks bs k)
+    ∙ ap ranges (filter_agree _ _ (λ k. sym (or_assoc (is_in_block k before) (is_in_block k b) (in_blocks bs k)
     ∙ ap (λ x. x || in_blocks bs k) (within before.low before.high b.low b.high k up.0 (leb-true b.low (before.high + 1) t)))) (range_with_len 0 all))))
     (λ f. let gap : before.high + 1 < b.low = leb-false b.low (before.high + 1) f in
     rw f (ap (λ r. numbers_of all before ∷ r) (merged all b bs h.0 h.1 up.1)
@@ -238,11 +238,11 @@ merged all before (b ∷ bs) own h up =
     (λ k a. none-below b.low k (b ∷ bs) (omega arith, up.1) (omega arith)))))
 
 -- the blocks joined by where they begin hold the maximal runs of all their numbers
-joined_runs : (all : ℕ) (bs : List Block) → AreBlocks all bs → AreAscending 0 bs → map (numbers_of all) (joined_blocks bs) ≡ runs (filter (in_blocks bs) (range_with_len 0 all))
+joined_runs : (all : ℕ) (bs : List Block) → AreBlocks all bs → AreAscending 0 bs → map (numbers_of all) (joined_blocks bs) ≡ ranges (filter (in_blocks bs) (range_with_len 0 all))
 joined_runs all [] h up = rw (filter-none (λ k. false) 0 all (λ k a b. refl)) refl
 joined_runs all (b ∷ bs) h up = merged all b bs h.0 h.1 up.1
 
-pub blocks_are_runs : (all : ℕ) (bs : List Block) → AreBlocks all bs → map (numbers_of all) (joined_blocks (blocks_by_begin bs)) ≡ runs (filter (in_blocks bs) (range_with_len 0 all))
+pub blocks_are_runs : (all : ℕ) (bs : List Block) → AreBlocks all bs → map (numbers_of all) (joined_blocks (blocks_by_begin bs)) ≡ ranges (filter (in_blocks bs) (range_with_len 0 all))
 blocks_are_runs all bs h =
     joined_runs all (blocks_by_begin bs) (ordered_there all bs h) (ordered_ascends bs)
-    ∙ ap runs (filter_agree _ _ (λ k. ordered_any (is_in_block k) bs) (range_with_len 0 all))
+    ∙ ap ranges (filter_agree _ _ (λ k. ordered_any (is_in_block k) bs) (range_with_len 0 all))

@@ -3,13 +3,13 @@
 ghost use Rattle.std.specs.Prelude.{◌≡◌, ◌≤◌, ℕ, List, ◌∷◌, [], Some, Bool, true, false, map, length, IfSome};
 ghost use Rattle.std.specs.Option.{option_map};
 ghost use Rattle.std.specs.List.{AllByRecursion, concat};
-ghost use Rattle.miette_snippets.specs.rules.Numbers.{runs, IsRun, AreParted};
+ghost use Rattle.miette_snippets.specs.rules.Numbers.{ranges, IsRange, AreParted};
 ghost use Rattle.miette_protocol.specs.views.Meaning.{Label};
 ghost use Rattle.miette_protocol.specs.rules.Reading.{Source, Contents, Span};
 ghost use Rattle.miette_snippet_laws.specs.laws.Belonging.{HasOneGroup};
 ghost use Rattle.miette_snippet_laws.specs.laws.Clean.{AreCleanDrawings, IsCleanLabel, IsCleanRow, IsCleanSource};
 ghost use Rattle.miette_snippet_laws.specs.laws.Ends.{AreBehindText, EndsStandBehind, with_ends};
-ghost use Rattle.miette_snippet_laws.specs.laws.Fading.{IsPlainRow, colourless, unhighlighted};
+ghost use Rattle.miette_snippet_laws.specs.laws.Fading.{IsPlainRow, colourless, unhighlighted_answers};
 ghost use Rattle.miette_page.specs.rules.Rows.{pieces_of};
 ghost use Rattle.miette_lines.specs.rules.Answers.{Answers, AlwaysReads, Highlight, NoneFails};
 ghost use Rattle.miette_lines.specs.rules.Around.{HaveContext, group_context};
@@ -21,20 +21,20 @@ ghost use Rattle.miette_snippets.specs.rules.Drawing.{IsNarrow};
 ghost use Rattle.miette_snippets.specs.rules.Frames.{SnippetSettings};
 ghost use Rattle.miette_snippets.specs.rules.SnippetLayout.{snippet_rows};
 ghost use Rattle.miette_snippet_laws.specs.laws.Pictures.{BodyShows};
-ghost use Rattle.miette_snippets.specs.rules.Shown.{framed_runs};
+ghost use Rattle.miette_snippets.specs.rules.ShownLines.{framed_ranges};
 
 /// Where no read fails, and there is at least one line of context for each label, the lines that the groups of labels
-/// show are the maximal runs of all lines that lie in the context of a label.
-pub fn groups_are_runs()
+/// show are the maximal ranges of all lines that lie in the context of a label.
+pub fn groups_are_ranges()
     ensures { (context : ℕ) (source : Source) (fails : List Bool) (labels : List Label) → HaveContext context labels →
         NoneFails fails →
         lines_of_groups (group_context context (in_order labels)) source
         (groups_of context source fails (in_order labels)) ≡ snippets context source.bytes labels }
 {}
 
-/// The runs of a list hold its numbers, in order and once. Each is consecutive, and none goes on into the next.
-pub fn runs_are_maximal()
-    ensures { (ks : List ℕ) → (concat (runs ks) ≡ ks) × AllByRecursion IsRun (runs ks) × AreParted (runs ks) }
+/// The ranges of a list hold its numbers, in order and once. Each is consecutive, and none goes on into the next.
+pub fn ranges_are_maximal()
+    ensures { (ks : List ℕ) → (concat (ranges ks) ≡ ks) × AllByRecursion IsRange (ranges ks) × AreParted (ranges ks) }
 {}
 
 /// Where labels have their own numbers of context lines, each belongs to the one group that holds the data of its read.
@@ -44,12 +44,12 @@ pub fn labels_have_one_group()
 {}
 
 /// Where the source always reads and accepts the labels, and there is at least one line of context for each label,
-/// the rows of the snippets are those of the maximal runs of the shown lines: each line once, with its number and its
+/// the rows of the snippets are those of the maximal ranges of the shown lines: each line once, with its number and its
 /// own cells, each run in a frame.
-pub fn snippets_draw_runs()
+pub fn snippets_draw_ranges()
     ensures { (s : SnippetSettings) (source : Source) (labels : List Label) (answers : Answers) →
         HaveContext s.context labels → AreAccepted source.bytes labels → AlwaysReads answers →
-        snippet_rows s source labels answers ≡ Some (framed_runs s source labels answers) }
+        snippet_rows s source labels answers ≡ Some (framed_ranges s source labels answers) }
 {}
 
 /// The marks of a line's labels are not empty, and each begins where the one before it ends, or later. So an anchor
@@ -86,10 +86,10 @@ pub fn texts_hang()
 /// same columns, and all of them are plain.
 pub fn rows_fade()
     ensures same { (s : SnippetSettings) (source : Source) (labels : List Label) (answers : Answers) →
-        option_map (map pieces_of) (snippet_rows (colourless s) source labels (unhighlighted answers))
+        option_map (map pieces_of) (snippet_rows (colourless s) source labels (unhighlighted_answers answers))
         ≡ option_map (map pieces_of) (snippet_rows s source labels answers) }
     ensures plain { (s : SnippetSettings) (source : Source) (labels : List Label) (answers : Answers) →
-        IfSome (snippet_rows (colourless s) source labels (unhighlighted answers)) (AllByRecursion IsPlainRow) }
+        IfSome (snippet_rows (colourless s) source labels (unhighlighted_answers answers)) (AllByRecursion IsPlainRow) }
 {}
 
 /// Where the characters that are drawn, the source's name and bytes, and the labels' texts hold no escape, the rows

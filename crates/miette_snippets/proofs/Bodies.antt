@@ -14,13 +14,13 @@ use Rattle.miette_lines.specs.rules.Answers.{Highlight, next_answer, later_answe
 use Rattle.miette_lines.specs.rules.Contexts as C
 use Rattle.miette_lines.specs.rules.Contexts.{contents, lines_of_contents, is_accepted}
 use Rattle.miette_lines.specs.rules.Groups as G
-use Rattle.miette_lines.specs.rules.Groups.{joins_before, joined, groups_from, groups_answered, in_order, spans_of, put_label, refusal, AreAccepted}
+use Rattle.miette_lines.specs.rules.Groups.{joins_before, joined_span, groups_from, groups_answered, in_order, spans_of, put_label, refusal, AreAccepted}
 use Rattle.miette_snippets.specs.rules.Snippets as N
 use Rattle.miette_lines.specs.rules.Labels.{DrawnLabel}
 use Rattle.miette_snippets.specs.rules.Gutters.{gutter_columns}
 use Rattle.miette_snippets.specs.rules.Frames.{SnippetSettings, width_of_lines}
 use Rattle.miette_snippets.specs.rules.SnippetLayout.{rows_of_lines, body_rows, line_rows, cells_of, snippet, all_snippets, drawn_labels}
-use Rattle.miette_snippets.specs.rules.Shown.{line_at, numbered_rows, run_width, run_rows, rows_of_runs, bodies, framed}
+use Rattle.miette_snippets.specs.rules.ShownLines.{line_at, numbered_rows, range_width, range_rows, rows_of_ranges, bodies, framed_rows}
 use Rattle.miette_lines.proofs.Sources.{lines, start_of, end_of, first_line, last_line, read, lines_in}
 use Rattle.miette_snippets.proofs.Joining as J
 use Rattle.miette_snippets.proofs.Joining.{by_offset, put_by_offset, lines_of_groups}
@@ -40,7 +40,7 @@ last_of-range : (low many : ℕ) → last_of low (range_with_len (low + 1) many)
 last_of-range low zero = omega arith
 last_of-range low (suc many) = last_of-range (low + 1) many ∙ omega arith
 
-width_is : (f : ℕ → Line) (low many : ℕ) → width_of_lines low (map f (range_with_len low many)) ≡ run_width (range_with_len low many)
+width_is : (f : ℕ → Line) (low many : ℕ) → width_of_lines low (map f (range_with_len low many)) ≡ range_width (range_with_len low many)
 width_is f low zero = refl
 width_is f low (suc many) =
     let last : low + length (map f (range_with_len low (suc many))) ≡ last_of low (range_with_len (low + 1) many) + 1 =
@@ -105,27 +105,27 @@ pub lines_are : (c : ℕ) (source : Source) (span : Span) → 1 ≤ c →
 lines_are c source span one = lines_by c source span one (none_or_some (length source.bytes))
 
 pub body_from : (s : SnippetSettings) (labels : List DrawnLabel) (source : List ℕ) (pieces : List (List Highlight)) (low many : ℕ) (ls : List Line) → ls ≡ map (line_at (lines_of source)) (range_with_len low many) →
-    rows_of_lines s (width_of_lines low ls) (gutter_columns labels ls) labels source (low + 1) pieces ls ≡ run_rows s labels source pieces (range_with_len low many)
+    rows_of_lines s (width_of_lines low ls) (gutter_columns labels ls) labels source (low + 1) pieces ls ≡ range_rows s labels source pieces (range_with_len low many)
 body_from s labels source pieces low many ls e =
     let mapped : List Line = map (line_at (lines_of source)) (range_with_len low many) in
     ap (λ xs. rows_of_lines s (width_of_lines low xs) (gutter_columns labels xs) labels source (low + 1) pieces xs) e
     ∙ ap (λ w. rows_of_lines s w (gutter_columns labels mapped) labels source (low + 1) pieces mapped) (width_is (line_at (lines_of source)) low many)
-    ∙ rows_are s (run_width (range_with_len low many)) (gutter_columns labels mapped) labels source low many pieces
+    ∙ rows_are s (range_width (range_with_len low many)) (gutter_columns labels mapped) labels source low many pieces
 
 pub body_is : (s : SnippetSettings) (labels : List DrawnLabel) (source : Source) (c : ℕ) (span : Span) (pieces : List (List Highlight)) → 1 ≤ c →
-    body_rows s labels source.bytes (contents c source span) pieces ≡ run_rows s labels source.bytes pieces (lines_in source.bytes (read c source.bytes span))
+    body_rows s labels source.bytes (contents c source span) pieces ≡ range_rows s labels source.bytes pieces (lines_in source.bytes (read c source.bytes span))
 body_is s labels source c span pieces one =
     let ls : List Line = lines_of_contents (contents c source span) in
     ap (λ n. rows_of_lines s (width_of_lines n ls) (gutter_columns labels ls) labels source.bytes (n + 1) pieces ls) (line_same c source span)
     ∙ body_from s labels source.bytes pieces (first_line c source.bytes span) (many_of c source.bytes span) ls (lines_are c source span one)
-    ∙ ap (run_rows s labels source.bytes pieces) (sym (run_of c source.bytes span one))
+    ∙ ap (range_rows s labels source.bytes pieces) (sym (run_of c source.bytes span one))
 
 bodies_are : (s : SnippetSettings) (labels : List DrawnLabel) (source : Source) (pieces : List (List (List Highlight))) (spans : List Span) → 1 ≤ s.context →
-    bodies s labels source pieces spans ≡ rows_of_runs s labels source.bytes pieces (lines_of_groups s.context source.bytes spans)
+    bodies s labels source pieces spans ≡ rows_of_ranges s labels source.bytes pieces (lines_of_groups s.context source.bytes spans)
 bodies_are s labels source pieces [] one = refl
 bodies_are s labels source pieces (span ∷ spans) one =
     ap (λ r. r ∷ bodies s labels source (later_of pieces) spans) (body_is s labels source s.context span (first_of pieces) one)
-    ∙ ap (λ r. run_rows s labels source.bytes (first_of pieces) (lines_in source.bytes (read s.context source.bytes span)) ∷ r) (bodies_are s labels source (later_of pieces) spans one)
+    ∙ ap (λ r. range_rows s labels source.bytes (first_of pieces) (lines_in source.bytes (read s.context source.bytes span)) ∷ r) (bodies_are s labels source (later_of pieces) spans one)
 
 -- groups where no read fails
 
@@ -142,7 +142,7 @@ same_from c source before fails (span ∷ spans) one h =
     let next : next_answer fails ≡ false = next_none fails h in
     let join : joins_before c source before span ≡ joins c source.bytes before span = joins_same c source before span one in
     by_cases {C = groups_from c source before fails (span ∷ spans) ≡ groups c source.bytes (before ∷ span ∷ spans)} (joins c source.bytes before span)
-    (λ t. rw (join, t, next) (same_from c source (joined before span) (later_answers fails) spans one (later_none fails h)))
+    (λ t. rw (join, t, next) (same_from c source (joined_span before span) (later_answers fails) spans one (later_none fails h)))
     (λ f. rw (join, f) (ap (λ r. before ∷ r) (same_from c source span fails spans one h)))
 
 same_groups : (c : ℕ) (source : Source) (fails : List Bool) (spans : List Span) → 1 ≤ c → NoneFails fails → groups_answered c source fails spans ≡ groups c source.bytes spans
@@ -217,15 +217,15 @@ joined_runs c source fails labels one none =
 
 -- the rows between the frames' rows are those of the maximal runs of shown lines, each with its number and its own cells
 pub joined_bodies : (s : SnippetSettings) (source : Source) (labels : List Label) (drawn : List DrawnLabel) (fails : List Bool) (pieces : List (List (List Highlight))) → 1 ≤ s.context → NoneFails fails →
-    bodies s drawn source pieces (groups_answered s.context source fails (spans_of (in_order labels))) ≡ rows_of_runs s drawn source.bytes pieces (J.snippets s.context source.bytes (map (λ l. l.span) labels))
+    bodies s drawn source pieces (groups_answered s.context source fails (spans_of (in_order labels))) ≡ rows_of_ranges s drawn source.bytes pieces (J.snippets s.context source.bytes (map (λ l. l.span) labels))
 joined_bodies s source labels drawn fails pieces one none =
     bodies_are s drawn source pieces (groups_answered s.context source fails (spans_of (in_order labels))) one
-    ∙ ap (rows_of_runs s drawn source.bytes pieces) (runs_answered s.context source fails labels one none)
+    ∙ ap (rows_of_ranges s drawn source.bytes pieces) (runs_answered s.context source fails labels one none)
 
 -- whole snippets
 
 pub all_framed : (s : SnippetSettings) (source : Source) (labels : List Label) (pieces : List (List (List Highlight))) (groups : List Span) →
-    all_snippets s source labels pieces groups ≡ framed s source labels groups (bodies s (drawn_labels s (length source.bytes) labels) source pieces groups)
+    all_snippets s source labels pieces groups ≡ framed_rows s source labels groups (bodies s (drawn_labels s (length source.bytes) labels) source pieces groups)
 all_framed s source labels pieces [] = refl
 all_framed s source labels pieces (group ∷ groups) =
     ap (λ r. snippet s source labels group (first_of pieces) ++ r) (all_framed s source labels (later_of pieces) groups)

@@ -12,8 +12,8 @@ use Rattle.miette_lines.specs.rules.Contexts as C
 use Rattle.miette_lines.specs.rules.Contexts.{contents}
 use Rattle.miette_lines.specs.rules.Groups.{in_order}
 use Rattle.miette_lines.specs.rules.Labels.{drawn_from, shows_end, some_shows_end}
-use Rattle.miette_lines.specs.views.Given.{label_at}
-use Rattle.miette_lines.specs.views.Read.{IsRead}
+use Rattle.miette_lines.specs.views.GivenLabels.{label_at}
+use Rattle.miette_lines.specs.views.Reads.{IsRead}
 use Rattle.miette_lines.specs.views.Placing.{lends_before, told_end}
 use Rattle.miette_snippets.specs.rules.Frames.{SnippetSettings}
 use Rattle.miette_snippets.specs.rules.SnippetLayout.{drawn_labels, settings_around}

@@ -2,7 +2,7 @@
 use Rattle.std.specs.Prelude.{ℕ, List, [], ◌∷◌, length, map, Bool, ◌&&◌, if◌then◌else◌, nat_le}
 use Rattle.std.specs.List.{range_with_len, filter, list_any}
 use Rattle.miette_protocol.specs.rules.Reading.{Span}
-use Rattle.miette_snippets.specs.rules.Numbers.{runs}
+use Rattle.miette_snippets.specs.rules.Numbers.{ranges}
 use Rattle.miette_lines.proofs.Sources.{lines, first_line, last_line, read, lines_in}
 
 -- a span comes before the first one that does not begin before it
@@ -33,4 +33,4 @@ shown c source labels = filter (is_shown c source labels) (range_with_len 0 (len
 abbrev pub snippets : ℕ → List ℕ → List Span → List (List ℕ)
 snippets c [] [] = []
 snippets c [] (label ∷ labels) = [] ∷ []
-snippets c (byte ∷ bytes) labels = runs (shown c (byte ∷ bytes) labels)
+snippets c (byte ∷ bytes) labels = ranges (shown c (byte ∷ bytes) labels)

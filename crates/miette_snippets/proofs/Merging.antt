@@ -4,10 +4,10 @@ use Rattle.std.proofs.lemmas.Bool.{le-leb, lt-leb, leb-true, leb-false, cases_lt
 use Rattle.std.proofs.lemmas.Bool.Decides.{nat_tests}
 use Rattle.std.proofs.lemmas.List.Elements.{filter_agree}
 use Rattle.std.specs.List.{range_with_len, filter, list_any}
-use Rattle.miette_snippets.specs.rules.Numbers.{runs}
+use Rattle.miette_snippets.specs.rules.Numbers.{ranges}
 use Rattle.miette_lines.proofs.Sources.{lines, line_of, reading_end, end_of_span, first_line, last_line, read, lines_in}
 use Rattle.miette_protocol.specs.rules.Reading.{Span}
-use Rattle.miette_lines.specs.rules.Groups.{joined}
+use Rattle.miette_lines.specs.rules.Groups.{joined_span}
 use Rattle.miette_snippets.proofs.Joining.{put_by_offset, by_offset, lines_of_groups, is_in_context, is_shown, shown, snippets}
 use Rattle.miette_lines.proofs.Joining.{joins, groups_from, groups}
 use Rattle.miette_snippets.proofs.Numbers.{filter-none, filter-front, begins-other, runs-block, BeginsOtherThan}
@@ -50,15 +50,15 @@ none-below c source from k (label ∷ labels) h lt =
     let no : leb (first_line c source label) k ≡ false = lt-leb (first_line c source label) k lt' in
     rw no (none-below c source label.offset k labels h.1 lt')
 
-joined-end : (a b : Span) → end_of_span (joined a b) ≡ max (end_of_span a) (end_of_span b)
+joined-end : (a b : Span) → end_of_span (joined_span a b) ≡ max (end_of_span a) (end_of_span b)
 joined-end a b = omega arith
 
-joined-last : (c : ℕ) (source : List ℕ) (a b : Span) → last_line c source (joined a b) ≡ max (last_line c source a) (last_line c source b)
+joined-last : (c : ℕ) (source : List ℕ) (a b : Span) → last_line c source (joined_span a b) ≡ max (last_line c source a) (last_line c source b)
 joined-last c source a b =
     let f : ℕ → ℕ = λ end. line_of (lines source) (reading_end source end) + c in
-    ⊎_elim {C = last_line c source (joined a b) ≡ max (last_line c source a) (last_line c source b)}
-    (λ lt. let e : end_of_span (joined a b) ≡ end_of_span b = omega arith in ap f e ∙ omega (arith, last-mono c source a b (omega arith)))
-    (λ ge. let e : end_of_span (joined a b) ≡ end_of_span a = omega arith in ap f e ∙ omega (arith, last-mono c source b a ge))
+    ⊎_elim {C = last_line c source (joined_span a b) ≡ max (last_line c source a) (last_line c source b)}
+    (λ lt. let e : end_of_span (joined_span a b) ≡ end_of_span b = omega arith in ap f e ∙ omega (arith, last-mono c source a b (omega arith)))
+    (λ ge. let e : end_of_span (joined_span a b) ≡ end_of_span a = omega arith in ap f e ∙ omega (arith, last-mono c source b a ge))
     (cases_lt (end_of_span a) (end_of_span b))
 
 pub within : (a b x y k : ℕ) → a ≤ x → x ≤ b + 1 → ((leb a k && leb k b) || (leb x k && leb k y)) ≡ (leb a k && leb k (max b y))
@@ -80,39 +80,39 @@ span_front low high all many rest q le m whole none =
 
 -- so they are a run of their own
 pub span_run : (low high all : ℕ) (q : ℕ → Bool) → low ≤ high → low < all → ((k : ℕ) → k ≤ high + 1 → q k ≡ false) →
-    runs (filter (λ k. (leb low k && leb k high) || q k) (range_with_len 0 all)) ≡ range_with_len low (min (high + 1) all - low) ∷ runs (filter q (range_with_len 0 all))
+    ranges (filter (λ k. (leb low k && leb k high) || q k) (range_with_len 0 all)) ≡ range_with_len low (min (high + 1) all - low) ∷ ranges (filter q (range_with_len 0 all))
 span_run low high all q le lt none =
     let m : ℕ = min (high + 1) all - low - 1 in
     let e : suc m ≡ min (high + 1) all - low = omega arith in
     let other : BeginsOtherThan (low + suc m) (filter q (range_with_len 0 all)) = begins-other q (low + suc m) (range_with_len 0 all) (none (low + suc m) (omega arith)) in
-    ap runs (span_front low high all (suc m) (all - (low + suc m)) q le (omega arith) (omega arith) none)
+    ap ranges (span_front low high all (suc m) (all - (low + suc m)) q le (omega arith) (omega arith) none)
     ∙ runs-block low m (filter q (range_with_len 0 all)) other
-    ∙ ap (λ w. range_with_len low w ∷ runs (filter q (range_with_len 0 all))) e
+    ∙ ap (λ w. range_with_len low w ∷ ranges (filter q (range_with_len 0 all))) e
 
 -- The lines of a span, and after a gap those of others.
 split : (c : ℕ) (source : List ℕ) (s : Span) (q : ℕ → Bool) → 1 ≤ c → 0 < length source → ((k : ℕ) → k ≤ last_line c source s + 1 → q k ≡ false) →
-    runs (filter (λ k. is_in_context c source k s || q k) (range_with_len 0 (length (lines source)))) ≡ lines_in source (read c source s) ∷ runs (filter q (range_with_len 0 (length (lines source))))
+    ranges (filter (λ k. is_in_context c source k s || q k) (range_with_len 0 (length (lines source)))) ≡ lines_in source (read c source s) ∷ ranges (filter q (range_with_len 0 (length (lines source))))
 split c source s q one some none =
     span_run (first_line c source s) (last_line c source s) (length (lines source)) q (first-le-last c source s) (first-lt c source s one some) none
-    ∙ ap (λ xs. xs ∷ runs (filter q (range_with_len 0 (length (lines source))))) (sym (read-lines c source s one some))
+    ∙ ap (λ xs. xs ∷ ranges (filter q (range_with_len 0 (length (lines source))))) (sym (read-lines c source s one some))
 
 -- a label that joins shows, with those before it, what the joined span shows
 same_shown : (c : ℕ) (source : List ℕ) (before label : Span) (k : ℕ) → before.offset ≤ label.offset → first_line c source label ≤ last_line c source before + 1 →
-    (is_in_context c source k before || is_in_context c source k label) ≡ is_in_context c source k (joined before label)
+    (is_in_context c source k before || is_in_context c source k label) ≡ is_in_context c source k (joined_span before label)
 same_shown c source before label k le touch =
     within (first_line c source before) (last_line c source before) (first_line c source label) (last_line c source label) k (first-mono c source before label le) touch
     ∙ ap (λ b. leb (first_line c source before) k && leb k b) (sym (joined-last c source before label))
 
 pub merged : (c : ℕ) (source : List ℕ) (before : Span) (labels : List Span) → 1 ≤ c → 0 < length source → IsAscending before.offset labels →
-    lines_of_groups c source (groups_from c source before labels) ≡ runs (shown c source (before ∷ labels))
+    lines_of_groups c source (groups_from c source before labels) ≡ ranges (shown c source (before ∷ labels))
 merged c source before [] one some h =
     sym (split c source before (λ k. false) one some (λ k a. refl) ∙ rw (filter-none (λ k. false) 0 (length (lines source)) (λ k a b. refl)) refl)
 merged c source before (label ∷ labels) one some h =
     let sum : (read c source before).line + (read c source before).line_count ≡ min (last_line c source before + 1) (line_of (lines source) (length source)) = read-sum c source before one some in
-    by_cases {C = lines_of_groups c source (groups_from c source before (label ∷ labels)) ≡ runs (shown c source (before ∷ label ∷ labels))} (joins c source before label)
+    by_cases {C = lines_of_groups c source (groups_from c source before (label ∷ labels)) ≡ ranges (shown c source (before ∷ label ∷ labels))} (joins c source before label)
     (λ t. let touch : first_line c source label ≤ last_line c source before + 1 = omega (arith, sum, leb-true _ _ t) in
-    rw t (merged c source (joined before label) labels one some (weaker before.offset label.offset labels h.0 h.1)
-    ∙ ap runs (filter_agree _ _ (λ k. sym (or_assoc (is_in_context c source k before) (is_in_context c source k label) (list_any (is_in_context c source k) labels)
+    rw t (merged c source (joined_span before label) labels one some (weaker before.offset label.offset labels h.0 h.1)
+    ∙ ap ranges (filter_agree _ _ (λ k. sym (or_assoc (is_in_context c source k before) (is_in_context c source k label) (list_any (is_in_context c source k) labels)
     ∙ ap (λ b. b || list_any (is_in_context c source k) labels) (same_shown c source before label k h.0 touch))) (range_with_len 0 (length (lines source))))))
     (λ f. let gap : last_line c source before + 1 < first_line c source label = omega (arith, sum, leb-false _ _ f, first-le c source label) in
     rw f (ap (λ r. lines_in source (read c source before) ∷ r) (merged c source label labels one some h.1)
@@ -121,14 +121,14 @@ merged c source before (label ∷ labels) one some h =
 
 -- of labels in order of their offsets
 ascending : (c : ℕ) (source : List ℕ) (labels : List Span) → 1 ≤ c → 0 < length source → IsAscending 0 labels →
-    lines_of_groups c source (groups c source labels) ≡ runs (shown c source labels)
+    lines_of_groups c source (groups c source labels) ≡ ranges (shown c source labels)
 ascending c source [] one some h = rw (filter-none (λ k. false) 0 (length (lines source)) (λ k a b. refl)) refl
 ascending c source (label ∷ labels) one some h = merged c source label labels one some h.1
 
 -- in an empty source everything is joined
 empty : (c : ℕ) (before : Span) (labels : List Span) → lines_of_groups c [] (groups_from c [] before labels) ≡ [] ∷ []
 empty c before [] = refl
-empty c before (label ∷ labels) = let t : joins c [] before label ≡ true = le-leb _ _ (omega arith) in rw t (empty c (joined before label) labels)
+empty c before (label ∷ labels) = let t : joins c [] before label ≡ true = le-leb _ _ (omega arith) in rw t (empty c (joined_span before label) labels)
 
 empty_sorted : (c : ℕ) (label : Span) (labels : List Span) → lines_of_groups c [] (groups c [] (put_by_offset label labels)) ≡ [] ∷ []
 empty_sorted c label [] = empty c label []
@@ -143,4 +143,4 @@ groups_are_runs c [] [] one = refl
 groups_are_runs c [] (label ∷ labels) one = empty_sorted c label (by_offset labels)
 groups_are_runs c (byte ∷ bytes) labels one =
     ascending c (byte ∷ bytes) (by_offset labels) one (omega arith) (sorted labels)
-    ∙ ap runs (filter_agree _ _ (λ k. sorted_any (is_in_context c (byte ∷ bytes) k) labels) (range_with_len 0 (length (lines (byte ∷ bytes)))))
+    ∙ ap ranges (filter_agree _ _ (λ k. sorted_any (is_in_context c (byte ∷ bytes) k) labels) (range_with_len 0 (length (lines (byte ∷ bytes)))))

@@ -3,7 +3,7 @@ use Rattle.std.proofs.Common.{ℕ, zero, suc, ◌+◌, ◌<◌, ◌≤◌, ◌�
 use Rattle.std.proofs.lemmas.Bool.{eq-eqb, ne_eqb}
 use Rattle.std.proofs.lemmas.List.Elements.{filter-append}
 use Rattle.std.specs.List.{range_with_len, filter}
-use Rattle.miette_snippets.specs.rules.Numbers.{onto_run, runs}
+use Rattle.miette_snippets.specs.rules.Numbers.{onto_range, ranges}
 use Rattle.miette_lines.proofs.Numbers.{by_cases}
 
 pub range_with_len-append : (from x y : ℕ) → range_with_len from (x + y) ≡ range_with_len from x ++ range_with_len (from + x) y
@@ -36,24 +36,24 @@ abbrev pub BeginsOtherThan : ℕ → List ℕ → Type 0
 BeginsOtherThan x [] = Unit {0}
 BeginsOtherThan x (y ∷ ys) = y ≢ x
 
-alone : (k y : ℕ) (rs : List (List ℕ)) → y ≢ k + 1 → onto_run k (onto_run y rs) ≡ (k ∷ []) ∷ onto_run y rs
+alone : (k y : ℕ) (rs : List (List ℕ)) → y ≢ k + 1 → onto_range k (onto_range y rs) ≡ (k ∷ []) ∷ onto_range y rs
 alone k y [] h = rw (ne_eqb y (k + 1) h) refl
 alone k y ([] ∷ later) h = rw (ne_eqb y (k + 1) h) refl
 alone k y ((next ∷ run) ∷ later) h =
-    elim (eqb next (y + 1)) as (λ b. onto_run k (cond b ((y ∷ next ∷ run) ∷ later) ((y ∷ []) ∷ (next ∷ run) ∷ later)) ≡ (k ∷ []) ∷ cond b ((y ∷ next ∷ run) ∷ later) ((y ∷ []) ∷ (next ∷ run) ∷ later))
+    elim (eqb next (y + 1)) as (λ b. onto_range k (cond b ((y ∷ next ∷ run) ∷ later) ((y ∷ []) ∷ (next ∷ run) ∷ later)) ≡ (k ∷ []) ∷ cond b ((y ∷ next ∷ run) ∷ later) ((y ∷ []) ∷ (next ∷ run) ∷ later))
     [ true ↦ rw (ne_eqb y (k + 1) h) refl | false ↦ rw (ne_eqb y (k + 1) h) refl ]
 
-one : (k : ℕ) (ys : List ℕ) → BeginsOtherThan (k + 1) ys → runs (k ∷ ys) ≡ (k ∷ []) ∷ runs ys
+one : (k : ℕ) (ys : List ℕ) → BeginsOtherThan (k + 1) ys → ranges (k ∷ ys) ≡ (k ∷ []) ∷ ranges ys
 one k [] h = refl
-one k (y ∷ ys) h = alone k y (runs ys) h
+one k (y ∷ ys) h = alone k y (ranges ys) h
 
 -- consecutive numbers, and then none that is the next one: a run of its own
-pub runs-block : (from many : ℕ) (ys : List ℕ) → BeginsOtherThan (from + suc many) ys → runs (range_with_len from (suc many) ++ ys) ≡ range_with_len from (suc many) ∷ runs ys
+pub runs-block : (from many : ℕ) (ys : List ℕ) → BeginsOtherThan (from + suc many) ys → ranges (range_with_len from (suc many) ++ ys) ≡ range_with_len from (suc many) ∷ ranges ys
 runs-block from zero ys h = let e : from + 1 ≡ from + suc zero = omega arith in one from ys (rw e h)
 runs-block from (suc many) ys h =
     let e : from + suc (suc many) ≡ from + 1 + suc many = omega arith in
-    let rest : runs (range_with_len (from + 1) (suc many) ++ ys) ≡ range_with_len (from + 1) (suc many) ∷ runs ys = runs-block (from + 1) many ys (rw e at h) in
-    ap (onto_run from) rest ∙ rw (eq-eqb (from + 1) (from + 1) refl) refl
+    let rest : ranges (range_with_len (from + 1) (suc many) ++ ys) ≡ range_with_len (from + 1) (suc many) ∷ ranges ys = runs-block (from + 1) many ys (rw e at h) in
+    ap (onto_range from) rest ∙ rw (eq-eqb (from + 1) (from + 1) refl) refl
 
 -- numbers that pass from one place up to another, and nowhere else
 pub filter-range : (p : ℕ → Bool) (low many rest : ℕ) → ((k : ℕ) → k < low → p k ≡ false) → ((k : ℕ) → low ≤ k → k < low + many → p k ≡ true) → ((k : ℕ) → low + many ≤ k → k < low + many + rest → p k ≡ false) → filter p (range_with_len 0 (low + many + rest)) ≡ range_with_len low many

@@ -6,7 +6,7 @@ use Rattle.std.specs.Prelude.{slice_range}
 use Rattle.std.specs.List.{range_with_len}
 use Rattle.miette_newlines.specs.rules.Lines.{Line}
 use Rattle.miette_lines.proofs.Sources.{begins_with_lf, lines_from, lines, start_of, end_of}
-use Rattle.miette_snippets.specs.rules.Shown.{line_at}
+use Rattle.miette_snippets.specs.rules.ShownLines.{line_at}
 use Rattle.miette_lines.proofs.Numbers.{by_cases}
 use Rattle.miette_lines.proofs.Segments.{drop_drop, first_size, first_text, made, parted}
 

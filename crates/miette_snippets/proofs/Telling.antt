@@ -2,7 +2,7 @@
 use Rattle.miette_page.specs.views.Printouts.{Printout, ◌⊕◌}
 use Rattle.std.proofs.Common.{ℕ, zero, suc, Bool, true, ◌<◌, ◌≡◌, arith, List, [], ◌∷◌, ◌++◌, map, replicate, refl, sym, ap, ◌∙◌, append_assoc, append-nil}
 use Rattle.miette_style.specs.declared.style.Style.{Style}
-use Rattle.miette_page.specs.rules.Rows.{Row, drawn, styled}
+use Rattle.miette_page.specs.rules.Rows.{Row, code_piece, styled_run}
 use Rattle.miette_style.specs.rules.Styles.{plain}
 use Rattle.miette_snippets.specs.rules.Drawing.{blank}
 use Rattle.std.specs.Prelude.{chars}
@@ -11,37 +11,37 @@ use Rattle.std.specs.List.{list_all}
 use Rattle.std.proofs.lemmas.Bool.{and_parts}
 use Rattle.std.proofs.lemmas.Str.{chars-IsAscii}
 use Rattle.std.proofs.lemmas.Str.Ascii.{IsAscii-from_all}
-use Rattle.miette_page.specs.views.Told.{Token, begins, row_end, told, told_run, told_rows, run_told, text_told}
+use Rattle.miette_page.specs.views.Tokens.{Token, begins, row_end, row_tokens, run_tokens, rows_tokens, styled_tokens, text_tokens}
 use Rattle.miette_page.proofs.Paging.{told_append, put_append}
 
-pub codes_drawn : (w : ℕ → ℕ) (text : List ℕ) → map (λ p. p.code) (map (drawn w) text) ≡ text
+pub codes_drawn : (w : ℕ → ℕ) (text : List ℕ) → map (λ p. p.code) (map (code_piece w) text) ≡ text
 codes_drawn w [] = refl
 codes_drawn w (c ∷ text) = ap (λ r. c ∷ r) (codes_drawn w text)
 
-codes_blank : (w : ℕ → ℕ) (many : ℕ) → map (λ p. p.code) (replicate many (drawn w 32)) ≡ replicate many 32
+codes_blank : (w : ℕ → ℕ) (many : ℕ) → map (λ p. p.code) (replicate many (code_piece w 32)) ≡ replicate many 32
 codes_blank w zero = refl
 codes_blank w (suc many) = ap (λ r. 32 ∷ r) (codes_blank w many)
 
-pub styled_told : (w : ℕ → ℕ) (style : Style) (text : List ℕ) → told_run (styled w style text) ≡ run_told style text
-styled_told w style text = ap (run_told style) (codes_drawn w text)
+pub styled_told : (w : ℕ → ℕ) (style : Style) (text : List ℕ) → run_tokens (styled_run w style text) ≡ styled_tokens style text
+styled_told w style text = ap (styled_tokens style) (codes_drawn w text)
 
-pub blank_told : (w : ℕ → ℕ) (many : ℕ) → told_run (blank w many) ≡ run_told plain (replicate many 32)
-blank_told w many = ap (run_told plain) (codes_blank w many)
+pub blank_told : (w : ℕ → ℕ) (many : ℕ) → run_tokens (blank w many) ≡ styled_tokens plain (replicate many 32)
+blank_told w many = ap (styled_tokens plain) (codes_blank w many)
 
 -- a row of one run
-pub styled_row : (w : ℕ → ℕ) (style : Style) (text : List ℕ) → told (styled w style text ∷ []) ≡ run_told style text
-styled_row w style text = append-nil (told_run (styled w style text)) ∙ styled_told w style text
+pub styled_row : (w : ℕ → ℕ) (style : Style) (text : List ℕ) → row_tokens (styled_run w style text ∷ []) ≡ styled_tokens style text
+styled_row w style text = append-nil (run_tokens (styled_run w style text)) ∙ styled_told w style text
 
-pub blank_row : (w : ℕ → ℕ) (many : ℕ) → told (blank w many ∷ []) ≡ run_told plain (replicate many 32)
-blank_row w many = append-nil (told_run (blank w many)) ∙ blank_told w many
+pub blank_row : (w : ℕ → ℕ) (many : ℕ) → row_tokens (blank w many ∷ []) ≡ styled_tokens plain (replicate many 32)
+blank_row w many = append-nil (run_tokens (blank w many)) ∙ blank_told w many
 
-pub told-append : (a b : Row) → told (a ++ b) ≡ told a ++ told b
+pub told-append : (a b : Row) → row_tokens (a ++ b) ≡ row_tokens a ++ row_tokens b
 told-append [] b = refl
-told-append (run ∷ a) b = ap (λ ts. told_run run ++ ts) (told-append a b) ∙ sym (append_assoc (told_run run) (told a) (told b))
+told-append (run ∷ a) b = ap (λ ts. run_tokens run ++ ts) (told-append a b) ∙ sym (append_assoc (run_tokens run) (row_tokens a) (row_tokens b))
 
-pub told_rows-append : (a b : List Row) → told_rows (a ++ b) ≡ told_rows a ++ told_rows b
+pub told_rows-append : (a b : List Row) → rows_tokens (a ++ b) ≡ rows_tokens a ++ rows_tokens b
 told_rows-append [] b = refl
-told_rows-append (row ∷ a) b = ap (λ ts. told row ++ row_end ∷ ts) (told_rows-append a b) ∙ sym (append_assoc (told row) (row_end ∷ told_rows a) (told_rows b))
+told_rows-append (row ∷ a) b = ap (λ ts. row_tokens row ++ row_end ∷ ts) (told_rows-append a b) ∙ sym (append_assoc (row_tokens row) (row_end ∷ rows_tokens a) (rows_tokens b))
 
 -- one thing after another
 pub then : (p : Printout) (a b : List Token) {q r : Printout} → q ≡ p ⊕ a → r ≡ q ⊕ b → r ≡ p ⊕ (a ++ b)
@@ -52,10 +52,10 @@ pub told_as : (p : Printout) (a b : List Token) {q : Printout} → q ≡ p ⊕ a
 told_as p a b {q} e f = e ∙ ap (λ x. p ⊕ x) f
 
 -- more characters of a run
-pub run_more : (style : Style) (xs ys : List ℕ) → run_told style xs ++ text_told ys ≡ run_told style (xs ++ ys)
+pub run_more : (style : Style) (xs ys : List ℕ) → styled_tokens style xs ++ text_tokens ys ≡ styled_tokens style (xs ++ ys)
 run_more style xs ys = ap (λ ts. begins style ∷ ts) (sym (told_append xs ys))
 
-pub run_one : (style : Style) (xs : List ℕ) (c : ℕ) → run_told style xs ++ text_told (c ∷ []) ≡ run_told style (xs ++ c ∷ [])
+pub run_one : (style : Style) (xs : List ℕ) (c : ℕ) → styled_tokens style xs ++ text_tokens (c ∷ []) ≡ styled_tokens style (xs ++ c ∷ [])
 run_one style xs c = run_more style xs (c ∷ [])
 
 -- bytes below 128 are their own characters

@@ -2,10 +2,10 @@
 pub mod Drawing
 pub mod Frames
 pub mod Gutters
-pub mod Highlighted
+pub mod Highlighting
 pub mod Marks
 pub mod Numbers
 pub mod PrintedCells
-pub mod Shown
+pub mod ShownLines
 pub mod SnippetLayout
 pub mod Snippets

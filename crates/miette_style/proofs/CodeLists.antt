@@ -1,6 +1,6 @@
 -- What begins a style, code by code.
 use Rattle.std.proofs.Common.{◌≡◌, ℕ, Bool, true, false, ◌||◌, List, [], ◌∷◌, ◌++◌, codes, refl, sym, ap, ◌∙◌, append_assoc, append-nil, Option, Some, None, is_some}
-use Rattle.miette_style.specs.rules.Codes.{behind_separators, colour_start, flag, foreground, foreground_codes, further_codes, separated, style_codes}
+use Rattle.miette_style.specs.rules.Codes.{behind_separators, colour_start, flag, foreground, foreground_codes, further_codes, separated_codes, style_codes}
 use Rattle.miette_style.specs.declared.style.Color.{Color}
 use Rattle.miette_style.specs.declared.style.Style.{Style}
 
@@ -13,12 +13,12 @@ further-more true false code xs = refl
 further-more false true code xs = ap (λ ys. ys ++ behind_separators xs) (sym (append-nil code))
 further-more false false code xs = refl
 
-first-more : (color : Option Color) (xs : List (List ℕ)) → separated (foreground_codes color ++ xs) ≡ further_codes false (foreground_codes color) ++ further_codes (is_some color) xs
+first-more : (color : Option Color) (xs : List (List ℕ)) → separated_codes (foreground_codes color ++ xs) ≡ further_codes false (foreground_codes color) ++ further_codes (is_some color) xs
 first-more None xs = refl
 first-more (Some c) xs = ap (λ ys. ys ++ behind_separators xs) (sym (append-nil (foreground c)))
 
 style-separated : (s : Style) (v1 v2 v3 v4 : Bool) → v1 ≡ is_some s.fg → v2 ≡ (v1 || s.bold) → v3 ≡ (v2 || s.dimmed) → v4 ≡ (v3 || s.italic) →
-    separated (style_codes s) ≡ further_codes false (foreground_codes s.fg) ++ (further_codes v1 (flag s.bold (codes "1")) ++ (further_codes v2 (flag s.dimmed (codes "2")) ++ (further_codes v3 (flag s.italic (codes "3")) ++ further_codes v4 (flag s.underline (codes "4")))))
+    separated_codes (style_codes s) ≡ further_codes false (foreground_codes s.fg) ++ (further_codes v1 (flag s.bold (codes "1")) ++ (further_codes v2 (flag s.dimmed (codes "2")) ++ (further_codes v3 (flag s.italic (codes "3")) ++ further_codes v4 (flag s.underline (codes "4")))))
 style-separated s v1 v2 v3 v4 e1 e2 e3 e4 =
     let f = foreground_codes s.fg in
     let b = flag s.bold (codes "1") in
@@ -26,7 +26,7 @@ style-separated s v1 v2 v3 v4 e1 e2 e3 e4 =
     let i = flag s.italic (codes "3") in
     let u = flag s.underline (codes "4") in
     let grouped : style_codes s ≡ f ++ (b ++ (d ++ (i ++ u))) = append_assoc (f ++ b ++ d) i u ∙ append_assoc (f ++ b) d (i ++ u) ∙ append_assoc f b (d ++ (i ++ u)) in
-    ap separated grouped
+    ap separated_codes grouped
     ∙ first-more s.fg (b ++ (d ++ (i ++ u)))
     ∙ ap (λ xs. further_codes false f ++ xs)
     (ap (λ v. further_codes v (b ++ (d ++ (i ++ u)))) (sym e1)

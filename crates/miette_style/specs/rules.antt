@@ -4,4 +4,4 @@ pub mod Codes
 pub mod Themes
 pub mod Pieces
 pub mod Escapes
-pub mod Asked
+pub mod HighlighterCalls

@@ -2,7 +2,7 @@
 
 ghost use Rattle.std.specs.Prelude.{◌≡◌, ℕ, Bool, true, false, IsTrue, IfOk, List, [], ◌∷◌, length, All};
 ghost use Rattle.std.specs.Str.{IsCharBoundary};
-ghost use Rattle.miette_style.specs.rules.Asked.{AnsweredBy, Call, Leads, asked, listed, restarted};
+ghost use Rattle.miette_style.specs.rules.HighlighterCalls.{AnsweredBy, Call, Leads, asked, listed_pieces, restarted};
 ghost use Rattle.miette_style.specs.rules.Pieces.{CutsLine, Piece, ends_from, plain_pieces, total_length};
 
 use crate::style::Style;
@@ -39,7 +39,7 @@ pub trait Highlighter: Drop {
         ensures cuts { IfOk result (λ pieces. CutsLine line.now pieces.items) }
         ensures blank { IsTrue (is_blank self.old) → IfOk result (λ pieces. pieces.items ≡ plain_pieces line.now) }
         ensures follows { IfOk result (λ pieces.
-            Leads (may_follow self.old) (asked line.now (listed pieces.items) ∷ []) (may_follow self.new)) }
+            Leads (may_follow self.old) (asked line.now (listed_pieces pieces.items) ∷ []) (may_follow self.new)) }
         ensures stays { is_blank self.new ≡ is_blank self.old };
 }
 

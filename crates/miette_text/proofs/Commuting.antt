@@ -5,9 +5,9 @@ use Rattle.std.proofs.lemmas.Bool.Decides.{nat_tests}
 use Rattle.std.proofs.lemmas.List.{map-append}
 use Rattle.miette_runs.specs.rules.Sequences.{Token, Character, Sequence, is_line_feed}
 use Rattle.miette_runs.specs.rules.Colours.{is_colour}
-use Rattle.miette_text.specs.rules.Wrapping.{Piece, Word, Cuts, Plan, map_indents, on_first, with_tag, with_code, no_characters, pieces, cell_tokens, columns, is_space, with_letter, with_space, words, onto, is_alphanumeric, begins_alphanumeric, hyphen_parts, broken, with_spaces, first_room, further_room, cuts_of, hyphenated, narrowed, parts, cut_words, word_cells, rows_behind, rows, only_spaces, trimmed, row_tokens, with_rest, piece_rows, text_rows, line_feed, joined, filled, all_white, piece_tokens, indented, last_indented, whole_pieces, wrapped_tokens}
+use Rattle.miette_text.specs.rules.Wrapping.{Piece, Word, Cuts, Plan, map_indents, on_first, with_tag, with_code, no_characters, pieces, cell_tokens, columns, is_space, with_letter, with_space, words, onto, is_alphanumeric, begins_alphanumeric, hyphen_parts, broken_parts, with_spaces, first_room, further_room, cuts_of, hyphenated_parts, narrow_parts, parts, cut_words, word_cells, rows_behind, rows, only_spaces, trimmed_row, row_tokens, with_rest, piece_rows, text_rows, line_feed, joined_rows, filled_text, all_white, piece_tokens, indented_row, last_indented, whole_pieces, wrapped_tokens}
 use Rattle.miette_runs.specs.rules.Cells.{Cell, width, token_width, columns_of}
-use Rattle.miette_text.proofs.Erased.{erased}
+use Rattle.miette_text.proofs.ErasedTokens.{erased}
 
 abbrev pub kept : List (List ℕ) → List (List ℕ)
 kept [] = []
@@ -133,12 +133,12 @@ hyphen_parts-strip before (c ∷ cs) =
       | false ↦ ap (onto (strip c)) (hyphen_parts-strip c.code cs) ∙ onto-map strip c (hyphen_parts c.code cs)
     ]
 
-pub broken-strip : (room used : ℕ) (cs : List Cell) → broken room used (map strip cs) ≡ map (map strip) (broken room used cs)
+pub broken-strip : (room used : ℕ) (cs : List Cell) → broken_parts room used (map strip cs) ≡ map (map strip) (broken_parts room used cs)
 broken-strip room used [] = refl
 broken-strip room used (c ∷ cs) =
-    elim (nat_lt 0 used && nat_lt room (used + width c.code)) as (λ b. (if b then [] ∷ onto (strip c) (broken room (width c.code) (map strip cs)) else onto (strip c) (broken room (used + width c.code) (map strip cs))) ≡ map (map strip) (if b then [] ∷ onto c (broken room (width c.code) cs) else onto c (broken room (used + width c.code) cs))) [
-      | true ↦ ap (λ ps. [] ∷ onto (strip c) ps) (broken-strip room (width c.code) cs) ∙ ap (λ ps. [] ∷ ps) (onto-map strip c (broken room (width c.code) cs))
-      | false ↦ ap (onto (strip c)) (broken-strip room (used + width c.code) cs) ∙ onto-map strip c (broken room (used + width c.code) cs)
+    elim (nat_lt 0 used && nat_lt room (used + width c.code)) as (λ b. (if b then [] ∷ onto (strip c) (broken_parts room (width c.code) (map strip cs)) else onto (strip c) (broken_parts room (used + width c.code) (map strip cs))) ≡ map (map strip) (if b then [] ∷ onto c (broken_parts room (width c.code) cs) else onto c (broken_parts room (used + width c.code) cs))) [
+      | true ↦ ap (λ ps. [] ∷ onto (strip c) ps) (broken-strip room (width c.code) cs) ∙ ap (λ ps. [] ∷ ps) (onto-map strip c (broken_parts room (width c.code) cs))
+      | false ↦ ap (onto (strip c)) (broken-strip room (used + width c.code) cs) ∙ onto-map strip c (broken_parts room (used + width c.code) cs)
     ]
 
 pub with_spaces-strip : (spaces : List Cell) (ps : List (List Cell)) → with_spaces (map strip spaces) (map (map strip) ps) ≡ map strip_word (with_spaces spaces ps)
@@ -152,13 +152,13 @@ flat_map_along h k f g e (x ∷ xs) = ap₂ (λ us vs. us ++ vs) (e x) (flat_map
 
 -- ---- rows
 
-narrowed-strip : (cuts : Cuts) (cs : List Cell) → narrowed cuts (map strip cs) ≡ map (map strip) (narrowed cuts cs)
-narrowed-strip cuts cs = elim cuts.breaks as (λ b. (if b then broken cuts.narrow 0 (map strip cs) else map strip cs ∷ []) ≡ map (map strip) (if b then broken cuts.narrow 0 cs else cs ∷ [])) [
+narrowed-strip : (cuts : Cuts) (cs : List Cell) → narrow_parts cuts (map strip cs) ≡ map (map strip) (narrow_parts cuts cs)
+narrowed-strip cuts cs = elim cuts.breaks as (λ b. (if b then broken_parts cuts.narrow 0 (map strip cs) else map strip cs ∷ []) ≡ map (map strip) (if b then broken_parts cuts.narrow 0 cs else cs ∷ [])) [
   | true ↦ broken-strip cuts.narrow 0 cs
   | false ↦ refl
 ]
 
-hyphenated-strip : (cuts : Cuts) (cs : List Cell) → hyphenated cuts (map strip cs) ≡ map (map strip) (hyphenated cuts cs)
+hyphenated-strip : (cuts : Cuts) (cs : List Cell) → hyphenated_parts cuts (map strip cs) ≡ map (map strip) (hyphenated_parts cuts cs)
 hyphenated-strip cuts cs = elim cuts.hyphens as (λ b. (if b then hyphen_parts 0 (map strip cs) else map strip cs ∷ []) ≡ map (map strip) (if b then hyphen_parts 0 cs else cs ∷ [])) [
   | true ↦ hyphen_parts-strip 0 cs
   | false ↦ refl
@@ -166,9 +166,9 @@ hyphenated-strip cuts cs = elim cuts.hyphens as (λ b. (if b then hyphen_parts 0
 
 parts-strip : (cuts : Cuts) (w : Word) → parts cuts (strip_word w) ≡ map strip_word (parts cuts w)
 parts-strip cuts w =
-    ap (λ ps. with_spaces (map strip w.spaces) (flat_map (narrowed cuts) ps)) (hyphenated-strip cuts w.letters)
-    ∙ ap (with_spaces (map strip w.spaces)) (flat_map_along (map strip) (map strip) (narrowed cuts) (narrowed cuts) (narrowed-strip cuts) (hyphenated cuts w.letters))
-    ∙ with_spaces-strip w.spaces (flat_map (narrowed cuts) (hyphenated cuts w.letters))
+    ap (λ ps. with_spaces (map strip w.spaces) (flat_map (narrow_parts cuts) ps)) (hyphenated-strip cuts w.letters)
+    ∙ ap (with_spaces (map strip w.spaces)) (flat_map_along (map strip) (map strip) (narrow_parts cuts) (narrow_parts cuts) (narrowed-strip cuts) (hyphenated_parts cuts w.letters))
+    ∙ with_spaces-strip w.spaces (flat_map (narrow_parts cuts) (hyphenated_parts cuts w.letters))
 
 cut_words-strip : (cuts : Cuts) (cs : List Cell) → cut_words cuts (map strip cs) ≡ map strip_word (cut_words cuts cs)
 cut_words-strip cuts cs =
@@ -204,23 +204,23 @@ only_spaces-erased [] = refl
 only_spaces-erased (Character c ∷ ts) = ap (λ b. is_space c && b) (only_spaces-erased ts)
 only_spaces-erased (Sequence s ∷ ts) = elim (is_colour s) as (λ b. only_spaces (if b then erased ts else Sequence s ∷ erased ts) ≡ only_spaces ts) [ true ↦ only_spaces-erased ts | false ↦ only_spaces-erased ts ]
 
-pub trimmed-erased : (ts : List Token) → trimmed (erased ts) ≡ erased (trimmed ts)
+pub trimmed-erased : (ts : List Token) → trimmed_row (erased ts) ≡ erased (trimmed_row ts)
 trimmed-erased [] = refl
 trimmed-erased (Character c ∷ ts) =
-    ap (λ v. if is_space c && v then trimmed (erased ts) else Character c ∷ trimmed (erased ts)) (only_spaces-erased ts)
-    ∙ elim (is_space c && only_spaces ts) as (λ b. (if b then trimmed (erased ts) else Character c ∷ trimmed (erased ts)) ≡ erased (if b then trimmed ts else Character c ∷ trimmed ts)) [
+    ap (λ v. if is_space c && v then trimmed_row (erased ts) else Character c ∷ trimmed_row (erased ts)) (only_spaces-erased ts)
+    ∙ elim (is_space c && only_spaces ts) as (λ b. (if b then trimmed_row (erased ts) else Character c ∷ trimmed_row (erased ts)) ≡ erased (if b then trimmed_row ts else Character c ∷ trimmed_row ts)) [
       | true ↦ trimmed-erased ts
       | false ↦ ap (λ us. Character c ∷ us) (trimmed-erased ts)
     ]
-trimmed-erased (Sequence s ∷ ts) = elim (is_colour s) as (λ b. trimmed (if b then erased ts else Sequence s ∷ erased ts) ≡ (if b then erased (trimmed ts) else Sequence s ∷ erased (trimmed ts))) [
+trimmed-erased (Sequence s ∷ ts) = elim (is_colour s) as (λ b. trimmed_row (if b then erased ts else Sequence s ∷ erased ts) ≡ (if b then erased (trimmed_row ts) else Sequence s ∷ erased (trimmed_row ts))) [
   | true ↦ trimmed-erased ts
   | false ↦ ap (λ us. Sequence s ∷ us) (trimmed-erased ts)
 ]
 
 pub row_tokens-strip : (ws : List Word) → row_tokens (map strip_word ws) ≡ erased (row_tokens ws)
 row_tokens-strip ws =
-    ap (λ cs. trimmed (flat_map cell_tokens cs)) (flat_map_along strip_word strip word_cells word_cells word_cells-strip ws)
-    ∙ ap trimmed (sym (erased-cells (flat_map word_cells ws)))
+    ap (λ cs. trimmed_row (flat_map cell_tokens cs)) (flat_map_along strip_word strip word_cells word_cells word_cells-strip ws)
+    ∙ ap trimmed_row (sym (erased-cells (flat_map word_cells ws)))
     ∙ trimmed-erased (flat_map cell_tokens (flat_map word_cells ws))
 
 map_along : {A B C D : Type 0} (h : A → B) (f : B → D) (g : A → C) (k : C → D) → ((x : A) → f (h x) ≡ k (g x)) → (xs : List A) → map f (map h xs) ≡ map k (map g xs)
@@ -248,12 +248,12 @@ text_rows-strip cuts room further (p ∷ ps) =
 erased-append_feed : (us vs ws : List Token) → erased (us ++ vs ++ line_feed ∷ ws) ≡ erased us ++ erased vs ++ line_feed ∷ erased ws
 erased-append_feed us vs ws = erased-append (us ++ vs) (line_feed ∷ ws) ∙ ap (λ ts. ts ++ line_feed ∷ erased ws) (erased-append us vs)
 
-pub joined-erased : (indent further : List Token) (rs : List (List Token)) → joined (erased indent) (erased further) (map erased rs) ≡ erased (joined indent further rs)
+pub joined-erased : (indent further : List Token) (rs : List (List Token)) → joined_rows (erased indent) (erased further) (map erased rs) ≡ erased (joined_rows indent further rs)
 joined-erased indent further [] = refl
 joined-erased indent further (r ∷ []) = sym (erased-append indent r)
 joined-erased indent further (r ∷ s ∷ rs) =
     ap (λ ts. erased indent ++ erased r ++ line_feed ∷ ts) (joined-erased further further (s ∷ rs))
-    ∙ sym (erased-append_feed indent r (joined further further (s ∷ rs)))
+    ∙ sym (erased-append_feed indent r (joined_rows further further (s ∷ rs)))
 
 -- ---- without wrapping
 
@@ -264,11 +264,11 @@ all_white-strip (c ∷ cs) = ap (λ b. is_whitespace c.code && b) (all_white-str
 piece_tokens-strip : (p : Piece) → piece_tokens (strip_piece p) ≡ erased (piece_tokens p)
 piece_tokens-strip p = ap₂ (λ us vs. us ++ vs) (sym (erased-cells p.cells)) (sym (erased-tags p.rest)) ∙ sym (erased-append (flat_map cell_tokens p.cells) (map Sequence p.rest))
 
-indented-strip : (indent : List Token) (p : Piece) → indented (erased indent) (strip_piece p) ≡ erased (indented indent p)
+indented-strip : (indent : List Token) (p : Piece) → indented_row (erased indent) (strip_piece p) ≡ erased (indented_row indent p)
 indented-strip indent p =
-    ap₂ (λ (b : Bool) ts. (if b then trimmed (erased indent) else erased indent) ++ ts) (all_white-strip p.cells) (piece_tokens-strip p)
-    ∙ elim (all_white p.cells) as (λ b. (if b then trimmed (erased indent) else erased indent) ++ erased (piece_tokens p) ≡ erased ((if b then trimmed indent else indent) ++ piece_tokens p)) [
-      | true ↦ ap (λ ts. ts ++ erased (piece_tokens p)) (trimmed-erased indent) ∙ sym (erased-append (trimmed indent) (piece_tokens p))
+    ap₂ (λ (b : Bool) ts. (if b then trimmed_row (erased indent) else erased indent) ++ ts) (all_white-strip p.cells) (piece_tokens-strip p)
+    ∙ elim (all_white p.cells) as (λ b. (if b then trimmed_row (erased indent) else erased indent) ++ erased (piece_tokens p) ≡ erased ((if b then trimmed_row indent else indent) ++ piece_tokens p)) [
+      | true ↦ ap (λ ts. ts ++ erased (piece_tokens p)) (trimmed-erased indent) ∙ sym (erased-append (trimmed_row indent) (piece_tokens p))
       | false ↦ sym (erased-append indent (piece_tokens p))
     ]
 
@@ -283,22 +283,22 @@ whole_pieces-strip indent further [] = refl
 whole_pieces-strip indent further (p ∷ []) = last_indented-strip indent p
 whole_pieces-strip indent further (p ∷ q ∷ ps) =
     ap₂ (λ us vs. us ++ line_feed ∷ vs) (indented-strip indent p) (whole_pieces-strip further further (q ∷ ps))
-    ∙ sym (erased-append (indented indent p) (line_feed ∷ whole_pieces further further (q ∷ ps)))
+    ∙ sym (erased-append (indented_row indent p) (line_feed ∷ whole_pieces further further (q ∷ ps)))
 
 -- ---- all of it
 
-filled-erased : (p : Plan (List Token)) (ts : List Token) → filled (map_indents erased p) (erased ts) ≡ erased (filled p ts)
+filled-erased : (p : Plan (List Token)) (ts : List Token) → filled_text (map_indents erased p) (erased ts) ≡ erased (filled_text p ts)
 filled-erased p ts =
-    ap₂ (λ m n. joined (erased p.first) (erased p.further) (text_rows (record { hyphens = p.hyphens; breaks = p.breaks; narrow = min (p.room - m) (p.room - n) }) (p.room - m) (p.room - n) (pieces (erased ts)))) (columns_of-erased p.first) (columns_of-erased p.further)
-    ∙ ap (λ ps. joined (erased p.first) (erased p.further) (text_rows (cuts_of p) (first_room p) (further_room p) ps)) (pieces-erased ts)
-    ∙ ap (joined (erased p.first) (erased p.further)) (text_rows-strip (cuts_of p) (first_room p) (further_room p) (pieces ts))
+    ap₂ (λ m n. joined_rows (erased p.first) (erased p.further) (text_rows (record { hyphens = p.hyphens; breaks = p.breaks; narrow = min (p.room - m) (p.room - n) }) (p.room - m) (p.room - n) (pieces (erased ts)))) (columns_of-erased p.first) (columns_of-erased p.further)
+    ∙ ap (λ ps. joined_rows (erased p.first) (erased p.further) (text_rows (cuts_of p) (first_room p) (further_room p) ps)) (pieces-erased ts)
+    ∙ ap (joined_rows (erased p.first) (erased p.further)) (text_rows-strip (cuts_of p) (first_room p) (further_room p) (pieces ts))
     ∙ joined-erased p.first p.further (text_rows (cuts_of p) (first_room p) (further_room p) (pieces ts))
 
 whole-erased : (p : Plan (List Token)) (ts : List Token) → whole_pieces (erased p.first) (erased p.further) (pieces (erased ts)) ≡ erased (whole_pieces p.first p.further (pieces ts))
 whole-erased p ts = ap (whole_pieces (erased p.first) (erased p.further)) (pieces-erased ts) ∙ whole_pieces-strip p.first p.further (pieces ts)
 
 pub wrapped-erased : (p : Plan (List Token)) (ts : List Token) → wrapped_tokens (map_indents erased p) (erased ts) ≡ erased (wrapped_tokens p ts)
-wrapped-erased p ts = elim p.wraps as (λ b. (if b then filled (map_indents erased p) (erased ts) else whole_pieces (erased p.first) (erased p.further) (pieces (erased ts))) ≡ erased (if b then filled p ts else whole_pieces p.first p.further (pieces ts))) [
+wrapped-erased p ts = elim p.wraps as (λ b. (if b then filled_text (map_indents erased p) (erased ts) else whole_pieces (erased p.first) (erased p.further) (pieces (erased ts))) ≡ erased (if b then filled_text p ts else whole_pieces p.first p.further (pieces ts))) [
   | true ↦ filled-erased p ts
   | false ↦ whole-erased p ts
 ]

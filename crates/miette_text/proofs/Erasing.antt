@@ -3,11 +3,11 @@ use Rattle.std.proofs.Common.{◌≡◌, ℕ, List, [], ◌∷◌, ◌++◌, sym
 use Rattle.std.proofs.lemmas.Bool.Decides.{nat_tests}
 use Rattle.miette_runs.specs.rules.Sequences.{Token, Character, Sequence, tokens, spell, erase}
 use Rattle.miette_text.specs.rules.Tame.{State, Free, Escaped, Opened, Waiting, Broken, step, state_behind, AreTame, IsTame, colourless, AllTame}
-use Rattle.miette_text.specs.rules.Wrapping.{Plan, map_indents, wrapped_tokens, wrapped}
-use Rattle.miette_text.proofs.Erased.{erased}
+use Rattle.miette_text.specs.rules.Wrapping.{Plan, map_indents, wrapped_tokens, wrapped_text}
+use Rattle.miette_text.proofs.ErasedTokens.{erased}
 use Rattle.miette_text.proofs.Parsing.{broken_stays, tokens-spell, erase-spell}
 use Rattle.miette_text.proofs.Commuting.{wrapped-erased, erased-append}
-use Rattle.miette_text.proofs.Closed.{wrapped_tokens-tame, run-append}
+use Rattle.miette_text.proofs.TameResults.{wrapped_tokens-tame, run-append}
 use Rattle.miette_runs.proofs.Appending.{spell-append}
 use Rattle.miette_text.proofs.Simple.{wrapped-read}
 use Rattle.miette_runs.proofs.Tokens.{spell-tokens}
@@ -60,11 +60,11 @@ read-tame : (p : Plan (List ℕ)) (text : List ℕ) → AllTame p text → AreTa
 read-tame p text h = wrapped_tokens-tame (map_indents tokens p) (tokens text) h.first h.further h.inner
 
 -- What is wrapped from tame parts is tame.
-pub wrapped-tame : (p : Plan (List ℕ)) (text : List ℕ) → AllTame p text → IsTame (wrapped p text)
+pub wrapped-tame : (p : Plan (List ℕ)) (text : List ℕ) → AllTame p text → IsTame (wrapped_text p text)
 wrapped-tame p text h = ap (state_behind Free) (tokens-spell Free (wrapped_tokens (map_indents tokens p) (tokens text)) (read-tame p text h)) ∙ read-tame p text h
 
 -- Deleting colours commutes with wrapping.
-pub erase-wrapped : (p : Plan (List ℕ)) (text : List ℕ) → AllTame p text → erase (wrapped p text) ≡ wrapped (colourless p) (erase text)
+pub erase-wrapped : (p : Plan (List ℕ)) (text : List ℕ) → AllTame p text → erase (wrapped_text p text) ≡ wrapped_text (colourless p) (erase text)
 erase-wrapped p text h =
     erase-spell Free (wrapped_tokens (map_indents tokens p) (tokens text)) (read-tame p text h)
     ∙ ap spell (sym (wrapped-erased (map_indents tokens p) (tokens text)))

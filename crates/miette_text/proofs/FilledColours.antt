@@ -2,21 +2,21 @@
 use Rattle.std.proofs.Common.{◌≡◌, ℕ, List, ◌++◌, ap, ◌∙◌, encode_utf8_all, Result, Ok, Err, OnOk}
 use Rattle.miette_runs.specs.rules.Sequences.{erase}
 use Rattle.miette_text.specs.rules.Tame.{AppendsErasing, AreColoured, colourless}
-use Rattle.miette_text.specs.rules.Wrapping.{Plan, wrapped}
+use Rattle.miette_text.specs.rules.Wrapping.{Plan, wrapped_text}
 use Rattle.miette_text.proofs.Encoding.{erase-encode}
 use Rattle.miette_text.proofs.Erasing.{erase-wrapped}
-use Rattle.miette_text.proofs.Coloured.{coloured-tame}
+use Rattle.miette_text.proofs.ColouredTexts.{coloured-tame}
 
-pub erase-coloured : (p : Plan (List ℕ)) (text : List ℕ) → AreColoured p text → erase (wrapped p text) ≡ wrapped (colourless p) (erase text)
+pub erase-coloured : (p : Plan (List ℕ)) (text : List ℕ) → AreColoured p text → erase (wrapped_text p text) ≡ wrapped_text (colourless p) (erase text)
 erase-coloured p text h = erase-wrapped p text (record { first = coloured-tame p.first h.0; further = coloured-tame p.further h.1; inner = coloured-tame text h.2 })
 
-pub appends_erasing : (p : Plan (List ℕ)) (text old new : List ℕ) → new ≡ old ++ encode_utf8_all (wrapped p text) → AreColoured p text → AppendsErasing old new (encode_utf8_all (wrapped (colourless p) (erase text)))
+pub appends_erasing : (p : Plan (List ℕ)) (text old new : List ℕ) → new ≡ old ++ encode_utf8_all (wrapped_text p text) → AreColoured p text → AppendsErasing old new (encode_utf8_all (wrapped_text (colourless p) (erase text)))
 appends_erasing p text old new e h = (
-  encode_utf8_all (wrapped p text),
+  encode_utf8_all (wrapped_text p text),
   e,
-  erase-encode (wrapped p text) ∙ ap encode_utf8_all (erase-coloured p text h),
+  erase-encode (wrapped_text p text) ∙ ap encode_utf8_all (erase-coloured p text h),
 )
 
-pub appends_on_ok : {T E : Type 0} (r : Result T E) (p : Plan (List ℕ)) (text old new : List ℕ) → OnOk r (new ≡ old ++ encode_utf8_all (wrapped p text)) → OnOk r (AreColoured p text → AppendsErasing old new (encode_utf8_all (wrapped (colourless p) (erase text))))
+pub appends_on_ok : {T E : Type 0} (r : Result T E) (p : Plan (List ℕ)) (text old new : List ℕ) → OnOk r (new ≡ old ++ encode_utf8_all (wrapped_text p text)) → OnOk r (AreColoured p text → AppendsErasing old new (encode_utf8_all (wrapped_text (colourless p) (erase text))))
 appends_on_ok (Ok x) p text old new h = appends_erasing p text old new h
 appends_on_ok (Err e) p text old new h = h

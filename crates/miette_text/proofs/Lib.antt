@@ -1,11 +1,11 @@
 pub mod Parsing
 pub mod Commuting
-pub mod Closed
-pub mod Erased
+pub mod TameResults
+pub mod ErasedTokens
 pub mod Erasing
 pub mod Printing
 pub mod Cuts
-pub mod Coloured
+pub mod ColouredTexts
 pub mod Packing
 pub mod RowTexts
 pub mod Joining
@@ -18,8 +18,8 @@ pub mod Ending
 pub mod Parting
 pub mod FirstRow
 pub mod LineWise
-pub mod WovenCells
-pub mod WovenRows
-pub mod WovenWhole
+pub mod InterleavedCells
+pub mod InterleavedRows
+pub mod InterleavedLines
 pub mod SingleRows
 pub mod Fitting

@@ -1,16 +1,16 @@
 -- A text, line by line.
 use Rattle.std.proofs.Common.{◌≡◌, ℕ, suc, ◌+◌, ◌-◌, ◌<◌, ◌≤◌, min, Bool, true, false, List, [], ◌∷◌, ◌++◌, map, length, take, drop, refl, sym, ap, ap₂, ◌∙◌, append_assoc, append-nil, if◌then◌else◌, arith, eqb-true}
 use Rattle.std.proofs.lemmas.List.{length-map}
-use Rattle.miette_runs.specs.rules.Sequences.{Token, Character, Sequence, is_line_feed, flat, spell}
-use Rattle.miette_text.specs.rules.Wrapping.{Cuts, Piece, Plan, Word, cut_words, filled, joined, line_feed, text_rows, on_first, with_tag, with_code, no_characters, pieces, onto, rows, rows_behind, columns, word_cells}
+use Rattle.miette_runs.specs.rules.Sequences.{Token, Character, Sequence, is_line_feed, concatenation, spell}
+use Rattle.miette_text.specs.rules.Wrapping.{Cuts, Piece, Plan, Word, cut_words, filled_text, joined_rows, line_feed, text_rows, on_first, with_tag, with_code, no_characters, pieces, onto, rows, rows_behind, columns, word_cells}
 use Rattle.miette_runs.specs.rules.Cells.{Cell, columns_of}
 use Rattle.miette_text.specs.steps.Ends.{line_len, row_cells}
-use Rattle.miette_runs.specs.views.Woven.{beyond, cells_at, left_at, tag_text, tag_token, tags_spelled, upto, woven}
+use Rattle.miette_runs.specs.views.Interleaving.{beyond, cells_at, left_at, tag_text, tag_token, tags_spelled, upto, interleaving}
 use Rattle.miette_runs.specs.declared.runs.sign.Tag.{Tag}
 use Rattle.miette_text.proofs.RowTexts.{behind, joined_lines, lines_of, shown}
 use Rattle.miette_text.proofs.Joining.{lines_from, piece_lines, spell-text_rows}
 use Rattle.miette_runs.proofs.Appending.{spell-append}
-use Rattle.miette_text.proofs.WovenCells.{spelled-flat}
+use Rattle.miette_text.proofs.InterleavedCells.{spelled-flat}
 
 -- ---- pieces
 
@@ -79,24 +79,24 @@ bare-append further (x ∷ xs) (y ∷ ys) h k =
 abbrev pub text_of : Cuts → List ℕ → ℕ → ℕ → List Token → List ℕ
 text_of cuts further room room' ts = bare_lines further (lines_from cuts room room' (pieces ts))
 
-joined-first : (first further : List Token) (rs : List (List Token)) → 0 < length rs → joined first further rs ≡ first ++ joined [] further rs
+joined-first : (first further : List Token) (rs : List (List Token)) → 0 < length rs → joined_rows first further rs ≡ first ++ joined_rows [] further rs
 joined-first first further [] h = absurd (omega arith)
 joined-first first further (r ∷ []) h = refl
-joined-first first further (r ∷ s ∷ rs) h = append_assoc first r (line_feed ∷ joined further further (s ∷ rs))
+joined-first first further (r ∷ s ∷ rs) h = append_assoc first r (line_feed ∷ joined_rows further further (s ∷ rs))
 
 rows-of-text : (cuts : Cuts) (room room' : ℕ) (ts : List Token) → 0 < length (text_rows cuts room room' (pieces ts))
 rows-of-text cuts room room' ts = omega (arith, lines-some cuts room room' (pieces ts) (pieces-some ts), ap length (spell-text_rows cuts room room' (pieces ts)), length-map (text_rows cuts room room' (pieces ts)) spell)
 
 -- behind the first indent
 pub filled-text : (p : Plan (List Token)) (text : List Token) (narrow room room' : ℕ) (f f' t : List Token) → f ≡ p.first → f' ≡ p.further → t ≡ text → room ≡ p.room - columns_of f → room' ≡ p.room - columns_of f' → narrow ≡ min room room' →
-    spell f ++ spell (joined [] f' (text_rows (record { hyphens = p.hyphens; breaks = p.breaks; narrow = narrow }) room room' (pieces t))) ≡ spell (filled p text)
+    spell f ++ spell (joined_rows [] f' (text_rows (record { hyphens = p.hyphens; breaks = p.breaks; narrow = narrow }) room room' (pieces t))) ≡ spell (filled_text p text)
 filled-text p text narrow room room' f f' t i j k q r e =
-    sym (spell-append f (joined [] f' (text_rows (record { hyphens = p.hyphens; breaks = p.breaks; narrow = narrow }) room room' (pieces t))))
+    sym (spell-append f (joined_rows [] f' (text_rows (record { hyphens = p.hyphens; breaks = p.breaks; narrow = narrow }) room room' (pieces t))))
     ∙ ap spell (sym (joined-first f f' (text_rows (record { hyphens = p.hyphens; breaks = p.breaks; narrow = narrow }) room room' (pieces t)) (rows-of-text (record { hyphens = p.hyphens; breaks = p.breaks; narrow = narrow }) room room' t)))
-    ∙ ap (λ n. spell (joined f f' (text_rows (record { hyphens = p.hyphens; breaks = p.breaks; narrow = n }) room room' (pieces t)))) e
-    ∙ ap₂ (λ m n. spell (joined f f' (text_rows (record { hyphens = p.hyphens; breaks = p.breaks; narrow = min m n }) m n (pieces t)))) q r
-    ∙ ap₂ (λ us vs. spell (joined us vs (text_rows (record { hyphens = p.hyphens; breaks = p.breaks; narrow = min (p.room - columns_of us) (p.room - columns_of vs) }) (p.room - columns_of us) (p.room - columns_of vs) (pieces t)))) i j
-    ∙ ap (λ us. spell (filled p us)) k
+    ∙ ap (λ n. spell (joined_rows f f' (text_rows (record { hyphens = p.hyphens; breaks = p.breaks; narrow = n }) room room' (pieces t)))) e
+    ∙ ap₂ (λ m n. spell (joined_rows f f' (text_rows (record { hyphens = p.hyphens; breaks = p.breaks; narrow = min m n }) m n (pieces t)))) q r
+    ∙ ap₂ (λ us vs. spell (joined_rows us vs (text_rows (record { hyphens = p.hyphens; breaks = p.breaks; narrow = min (p.room - columns_of us) (p.room - columns_of vs) }) (p.room - columns_of us) (p.room - columns_of vs) (pieces t)))) i j
+    ∙ ap (λ us. spell (filled_text p us)) k
 
 -- ---- what stands behind the rows of a piece
 
@@ -104,16 +104,16 @@ rest-rows : (further : List ℕ) (rest : List (List ℕ)) (r s : List Cell) (ss 
 rest-rows further rest r s [] = refl
 rest-rows further rest r s (t ∷ ts) = refl
 
-rest-behind : (further : List ℕ) (rest : List (List ℕ)) (rs : List (List Cell)) → 0 < length rs → bare_lines further (lines_of rest rs) ≡ bare_lines further (lines_of [] rs) ++ flat rest
+rest-behind : (further : List ℕ) (rest : List (List ℕ)) (rs : List (List Cell)) → 0 < length rs → bare_lines further (lines_of rest rs) ≡ bare_lines further (lines_of [] rs) ++ concatenation rest
 rest-behind further rest [] h = absurd (omega arith)
-rest-behind further rest (r ∷ []) h = append-nil (shown r ++ flat rest) ∙ ap (λ us. us ++ flat rest) (sym (append-nil (shown r ++ []) ∙ append-nil (shown r)))
+rest-behind further rest (r ∷ []) h = append-nil (shown r ++ concatenation rest) ∙ ap (λ us. us ++ concatenation rest) (sym (append-nil (shown r ++ []) ∙ append-nil (shown r)))
 rest-behind further rest (r ∷ s ∷ ss) h =
     let more = bare_lines further (lines_of [] (s ∷ ss)) in
     rest-rows further rest r s ss
     ∙ ap (λ us. shown r ++ ((10 ∷ further) ++ us)) (rest-behind further rest (s ∷ ss) (omega arith))
-    ∙ ap (λ us. shown r ++ us) (sym (append_assoc (10 ∷ further) more (flat rest)))
-    ∙ sym (append_assoc (shown r) ((10 ∷ further) ++ more) (flat rest))
-    ∙ ap (λ us. us ++ flat rest) (sym (rest-rows further [] r s ss))
+    ∙ ap (λ us. shown r ++ us) (sym (append_assoc (10 ∷ further) more (concatenation rest)))
+    ∙ sym (append_assoc (shown r) ((10 ∷ further) ++ more) (concatenation rest))
+    ∙ ap (λ us. us ++ concatenation rest) (sym (rest-rows further [] r s ss))
 
 -- ---- the pieces of what is woven
 
@@ -154,10 +154,10 @@ woven-more at c ms p ps ts f e =
     ∙ ap (λ q. q ∷ ps) (tags-code c (map tag_text (upto at ms)) p)
 
 -- at a line's end
-woven-feed : (at : ℕ) (cs : List ℕ) (ms : List Tag) → pieces (woven at (10 ∷ cs) ms) ≡ line_piece at [] ms (map tag_text (upto at ms)) ∷ pieces (woven (suc at) cs (beyond at ms))
+woven-feed : (at : ℕ) (cs : List ℕ) (ms : List Tag) → pieces (interleaving at (10 ∷ cs) ms) ≡ line_piece at [] ms (map tag_text (upto at ms)) ∷ pieces (interleaving (suc at) cs (beyond at ms))
 woven-feed at cs ms =
-    tags-pieces (upto at ms) (Character 10 ∷ woven (suc at) cs (beyond at ms))
-    ∙ ap (λ p. p ∷ pieces (woven (suc at) cs (beyond at ms))) (tags-nothing (map tag_text (upto at ms)))
+    tags-pieces (upto at ms) (Character 10 ∷ interleaving (suc at) cs (beyond at ms))
+    ∙ ap (λ p. p ∷ pieces (interleaving (suc at) cs (beyond at ms))) (tags-nothing (map tag_text (upto at ms)))
 
 -- at the text's end
 tags-end : (ms : List Tag) → pieces (map tag_token ms) ≡ record { cells = []; rest = map tag_text ms } ∷ []
@@ -169,30 +169,30 @@ abbrev rest_of : ℕ → ℕ → List ℕ → List Tag → List (List ℕ)
 rest_of n at cs ms = map tag_text (upto (at + n) (left_at at (take n cs) ms))
 
 abbrev below_of : ℕ → ℕ → List ℕ → List Tag → List Token
-below_of n at cs ms = woven ((at + n) + 1) (drop (suc n) cs) (beyond (at + n) (left_at at (take n cs) ms))
+below_of n at cs ms = interleaving ((at + n) + 1) (drop (suc n) cs) (beyond (at + n) (left_at at (take n cs) ms))
 
 pub line-first : (at : ℕ) (cs : List ℕ) (ms : List Tag) → line_len cs < length cs →
-    pieces (woven at cs ms) ≡ line_piece at (take (line_len cs) cs) ms (rest_of (line_len cs) at cs ms) ∷ pieces (below_of (line_len cs) at cs ms)
+    pieces (interleaving at cs ms) ≡ line_piece at (take (line_len cs) cs) ms (rest_of (line_len cs) at cs ms) ∷ pieces (below_of (line_len cs) at cs ms)
 line-first at [] ms h = absurd (omega arith)
 line-first at (c ∷ cs) ms h = elim (is_line_feed c) as (λ v. is_line_feed c ≡ v → (if v then 0 else suc (line_len cs)) < suc (length cs) →
-    pieces (woven at (c ∷ cs) ms) ≡ line_piece at (take (if v then 0 else suc (line_len cs)) (c ∷ cs)) ms (rest_of (if v then 0 else suc (line_len cs)) at (c ∷ cs) ms) ∷ pieces (below_of (if v then 0 else suc (line_len cs)) at (c ∷ cs) ms)) [
+    pieces (interleaving at (c ∷ cs) ms) ≡ line_piece at (take (if v then 0 else suc (line_len cs)) (c ∷ cs)) ms (rest_of (if v then 0 else suc (line_len cs)) at (c ∷ cs) ms) ∷ pieces (below_of (if v then 0 else suc (line_len cs)) at (c ∷ cs) ms)) [
       | true ↦ λ e l.
-          ap (λ k. pieces (woven at (k ∷ cs) ms)) (eqb-true c 10 e)
+          ap (λ k. pieces (interleaving at (k ∷ cs) ms)) (eqb-true c 10 e)
           ∙ woven-feed at cs ms
-          ∙ ap₂ (λ (i j : ℕ). line_piece at [] ms (map tag_text (upto i ms)) ∷ pieces (woven j cs (beyond i ms))) (omega arith) (omega arith)
+          ∙ ap₂ (λ (i j : ℕ). line_piece at [] ms (map tag_text (upto i ms)) ∷ pieces (interleaving j cs (beyond i ms))) (omega arith) (omega arith)
       | false ↦ λ e l.
           (let n = line_len cs in
           let ms' = beyond at ms in
-          woven-more at c ms (line_piece (suc at) (take n cs) ms' (rest_of n (suc at) cs ms')) (pieces (below_of n (suc at) cs ms')) (woven (suc at) cs ms') e (line-first (suc at) cs ms' (omega arith))
-          ∙ ap₂ (λ (i j : ℕ). line_piece at (c ∷ take n cs) ms (map tag_text (upto i (left_at (suc at) (take n cs) ms'))) ∷ pieces (woven j (drop (suc n) cs) (beyond i (left_at (suc at) (take n cs) ms')))) (omega arith) (omega arith))
+          woven-more at c ms (line_piece (suc at) (take n cs) ms' (rest_of n (suc at) cs ms')) (pieces (below_of n (suc at) cs ms')) (interleaving (suc at) cs ms') e (line-first (suc at) cs ms' (omega arith))
+          ∙ ap₂ (λ (i j : ℕ). line_piece at (c ∷ take n cs) ms (map tag_text (upto i (left_at (suc at) (take n cs) ms'))) ∷ pieces (interleaving j (drop (suc n) cs) (beyond i (left_at (suc at) (take n cs) ms')))) (omega arith) (omega arith))
     ] refl h
 
-pub line-last : (at : ℕ) (cs : List ℕ) (ms : List Tag) → length cs ≤ line_len cs → pieces (woven at cs ms) ≡ line_piece at cs ms (map tag_text (left_at at cs ms)) ∷ []
+pub line-last : (at : ℕ) (cs : List ℕ) (ms : List Tag) → length cs ≤ line_len cs → pieces (interleaving at cs ms) ≡ line_piece at cs ms (map tag_text (left_at at cs ms)) ∷ []
 line-last at [] ms h = tags-end ms
 line-last at (c ∷ cs) ms h = elim (is_line_feed c) as (λ v. is_line_feed c ≡ v → suc (length cs) ≤ (if v then 0 else suc (line_len cs)) →
-    pieces (woven at (c ∷ cs) ms) ≡ line_piece at (c ∷ cs) ms (map tag_text (left_at at (c ∷ cs) ms)) ∷ []) [
+    pieces (interleaving at (c ∷ cs) ms) ≡ line_piece at (c ∷ cs) ms (map tag_text (left_at at (c ∷ cs) ms)) ∷ []) [
       | true ↦ λ e l. absurd (omega arith)
-      | false ↦ λ e l. woven-more at c ms (line_piece (suc at) cs (beyond at ms) (map tag_text (left_at (suc at) cs (beyond at ms)))) [] (woven (suc at) cs (beyond at ms)) e (line-last (suc at) cs (beyond at ms) (omega arith))
+      | false ↦ λ e l. woven-more at c ms (line_piece (suc at) cs (beyond at ms) (map tag_text (left_at (suc at) cs (beyond at ms)))) [] (interleaving (suc at) cs (beyond at ms)) e (line-last (suc at) cs (beyond at ms) (omega arith))
     ] refl h
 
 -- ---- what a line prints
@@ -202,7 +202,7 @@ abbrev pub line_text : Cuts → List ℕ → ℕ → ℕ → ℕ → List ℕ �
 line_text cuts further room room' at line ms = bare_lines further (lines_of [] (map row_cells (rows room room' (cut_words cuts (cells_at at line ms)))))
 
 piece-text : (cuts : Cuts) (room room' at : ℕ) (further line : List ℕ) (ms : List Tag) (rest : List (List ℕ)) →
-    bare_lines further (piece_lines cuts room room' (line_piece at line ms rest)) ≡ line_text cuts further room room' at line ms ++ flat rest
+    bare_lines further (piece_lines cuts room room' (line_piece at line ms rest)) ≡ line_text cuts further room room' at line ms ++ concatenation rest
 piece-text cuts room room' at further line ms rest =
     rest-behind further rest (map row_cells (rows room room' (cut_words cuts (cells_at at line ms)))) (rows-some room room' (cut_words cuts (cells_at at line ms)))
 
@@ -210,22 +210,22 @@ piece-some : (cuts : Cuts) (room room' : ℕ) (p : Piece) → 0 < length (piece_
 piece-some cuts room room' p = lines_of-some p.rest (map row_cells (rows room room' (cut_words cuts p.cells))) (rows-some room room' (cut_words cuts p.cells))
 
 pub line-at : (cuts : Cuts) (further : List ℕ) (room room' n at : ℕ) (cs : List ℕ) (ms : List Tag) → n ≡ line_len cs → n < length cs →
-    text_of cuts further room room' (woven at cs ms)
-    ≡ (line_text cuts further room room' at (take n cs) ms ++ flat (map tag_text (upto (at + n) (left_at at (take n cs) ms))))
-    ++ ((10 ∷ further) ++ text_of cuts further room' room' (woven ((at + n) + 1) (drop (n + 1) cs) (beyond (at + n) (left_at at (take n cs) ms))))
+    text_of cuts further room room' (interleaving at cs ms)
+    ≡ (line_text cuts further room room' at (take n cs) ms ++ concatenation (map tag_text (upto (at + n) (left_at at (take n cs) ms))))
+    ++ ((10 ∷ further) ++ text_of cuts further room' room' (interleaving ((at + n) + 1) (drop (n + 1) cs) (beyond (at + n) (left_at at (take n cs) ms))))
 line-at cuts further room room' n at cs ms e l =
     let p = line_piece at (take n cs) ms (rest_of n at cs ms) in
     let below = below_of n at cs ms in
-    let split : pieces (woven at cs ms) ≡ p ∷ pieces below =
+    let split : pieces (interleaving at cs ms) ≡ p ∷ pieces below =
     line-first at cs ms (omega arith) ∙ ap (λ k. line_piece at (take k cs) ms (rest_of k at cs ms) ∷ pieces (below_of k at cs ms)) (sym e) in
     let next : suc n ≡ n + 1 = omega arith in
     ap (λ ps. bare_lines further (lines_from cuts room room' ps)) split
     ∙ bare-append further (piece_lines cuts room room' p) (lines_from cuts room' room' (pieces below)) (piece-some cuts room room' p) (lines-some cuts room' room' (pieces below) (pieces-some below))
     ∙ ap (λ us. us ++ ((10 ∷ further) ++ text_of cuts further room' room' below)) (piece-text cuts room room' at further (take n cs) ms (rest_of n at cs ms))
-    ∙ ap (λ k. (line_text cuts further room room' at (take n cs) ms ++ flat (rest_of n at cs ms)) ++ ((10 ∷ further) ++ text_of cuts further room' room' (woven ((at + n) + 1) (drop k cs) (beyond (at + n) (left_at at (take n cs) ms))))) next
+    ∙ ap (λ k. (line_text cuts further room room' at (take n cs) ms ++ concatenation (rest_of n at cs ms)) ++ ((10 ∷ further) ++ text_of cuts further room' room' (interleaving ((at + n) + 1) (drop k cs) (beyond (at + n) (left_at at (take n cs) ms))))) next
 
 pub last-line : (cuts : Cuts) (further : List ℕ) (room room' n at : ℕ) (cs : List ℕ) (ms : List Tag) → n ≡ line_len cs → length cs ≤ n →
-    text_of cuts further room room' (woven at cs ms) ≡ line_text cuts further room room' at cs ms ++ tags_spelled (left_at at cs ms)
+    text_of cuts further room room' (interleaving at cs ms) ≡ line_text cuts further room room' at cs ms ++ tags_spelled (left_at at cs ms)
 last-line cuts further room room' n at cs ms e l =
     let p = line_piece at cs ms (map tag_text (left_at at cs ms)) in
     ap (λ ps. bare_lines further (lines_from cuts room room' ps)) (line-last at cs ms (omega arith))

@@ -6,7 +6,7 @@ use Rattle.miette_runs.specs.rules.Sequences.{Token, Character, Sequence, tokens
 use Rattle.miette_style.specs.rules.Escapes.{is_escape}
 use Rattle.miette_text.specs.rules.Tame.{State, Free, Escaped, Opened, Waiting, Broken, step, state_behind}
 use Rattle.miette_runs.specs.rules.Colours.{is_colour, is_colour_end, is_link, is_link_behind, is_link_end, is_backslash}
-use Rattle.miette_text.proofs.Erased.{erased}
+use Rattle.miette_text.proofs.ErasedTokens.{erased}
 use Rattle.miette_runs.proofs.Tokens.{one_more_pos, colour_end_some, nil_of, colour-sequence, tokens_sequence, tokens_character}
 
 pub colour_end-colour : (s r : List ℕ) → is_colour_end s ≡ true → colour_end_len (s ++ r) ≡ length s

@@ -2,7 +2,7 @@
 use Rattle.std.proofs.Common.{◌≡◌, ℕ, zero, suc, ◌+◌, ◌<◌, Bool, true, false, ◌&&◌, ◌==◌, nat_lt, List, [], ◌∷◌, ◌++◌, flat_map, length, take, drop, refl, sym, ap, ap₂, ◌∙◌, if◌then◌else◌, arith, drop-drop, zero-add, eqb-true}
 use Rattle.std.proofs.lemmas.Bool.Decides.{nat_tests}
 use Rattle.std.proofs.lemmas.List.{drop-map}
-use Rattle.miette_text.specs.rules.Wrapping.{Word, onto, words, is_space, is_alphanumeric, begins_alphanumeric, hyphen_parts, broken, with_spaces, Cuts, narrowed, parts, cut_words}
+use Rattle.miette_text.specs.rules.Wrapping.{Word, onto, words, is_space, is_alphanumeric, begins_alphanumeric, hyphen_parts, broken_parts, with_spaces, Cuts, narrow_parts, parts, cut_words}
 use Rattle.miette_runs.specs.rules.Cells.{Cell, width}
 use Rattle.miette_text.specs.steps.Ends.{codes_of, begins_word, part_len, gap_len, code_behind, hyphenated_behind, words_behind}
 use Rattle.miette_text.proofs.Ending.{letters_len, spaces_len, words-first}
@@ -29,7 +29,7 @@ abbrev narrowed_at : Bool → ℕ → ℕ → List Cell → List (List Cell)
 narrowed_at b room used [] = [] ∷ []
 narrowed_at b room used (c ∷ cs) = if wide b room used c then [] ∷ onto c (narrowed_at b room (width c.code) cs) else onto c (narrowed_at b room (used + width c.code) cs)
 
-narrowed_at-true : (room used : ℕ) (cs : List Cell) → broken room used cs ≡ narrowed_at true room used cs
+narrowed_at-true : (room used : ℕ) (cs : List Cell) → broken_parts room used cs ≡ narrowed_at true room used cs
 narrowed_at-true room used [] = refl
 narrowed_at-true room used (c ∷ cs) = ap₂ (λ ps qs. if wide true room used c then [] ∷ onto c ps else onto c qs) (narrowed_at-true room (width c.code) cs) (narrowed_at-true room (used + width c.code) cs)
 
@@ -37,7 +37,7 @@ narrowed_at-false : (room used : ℕ) (cs : List Cell) → cs ∷ [] ≡ narrowe
 narrowed_at-false room used [] = refl
 narrowed_at-false room used (c ∷ cs) = ap (onto c) (narrowed_at-false room (used + width c.code) cs)
 
-narrowed_at-is : (b : Bool) (room : ℕ) (cs : List Cell) → (if b then broken room 0 cs else cs ∷ []) ≡ narrowed_at b room 0 cs
+narrowed_at-is : (b : Bool) (room : ℕ) (cs : List Cell) → (if b then broken_parts room 0 cs else cs ∷ []) ≡ narrowed_at b room 0 cs
 narrowed_at-is true room cs = narrowed_at-true room 0 cs
 narrowed_at-is false room cs = narrowed_at-false room 0 cs
 
@@ -51,11 +51,11 @@ letter_parts cuts before used (c ∷ cs) =
 -- the first is in use already
 abbrev all_narrowed : Cuts → ℕ → List (List Cell) → List (List Cell)
 all_narrowed cuts used [] = []
-all_narrowed cuts used (p ∷ ps) = narrowed_at cuts.breaks cuts.narrow used p ++ flat_map (narrowed cuts) ps
+all_narrowed cuts used (p ∷ ps) = narrowed_at cuts.breaks cuts.narrow used p ++ flat_map (narrow_parts cuts) ps
 
-all_narrowed-none : (cuts : Cuts) (ps : List (List Cell)) → flat_map (narrowed cuts) ps ≡ all_narrowed cuts 0 ps
+all_narrowed-none : (cuts : Cuts) (ps : List (List Cell)) → flat_map (narrow_parts cuts) ps ≡ all_narrowed cuts 0 ps
 all_narrowed-none cuts [] = refl
-all_narrowed-none cuts (p ∷ ps) = ap (λ us. us ++ flat_map (narrowed cuts) ps) (narrowed_at-is cuts.breaks cuts.narrow p)
+all_narrowed-none cuts (p ∷ ps) = ap (λ us. us ++ flat_map (narrow_parts cuts) ps) (narrowed_at-is cuts.breaks cuts.narrow p)
 
 onto-some : {A : Type 0} (x : A) (ps : List (List A)) → 0 < length (onto x ps)
 onto-some x [] = omega arith
@@ -94,7 +94,7 @@ all_narrowed-onto : (cuts : Cuts) (used : ℕ) (c : Cell) (ps : List (List Cell)
     all_narrowed cuts used (onto c ps) ≡ (if wide cuts.breaks cuts.narrow used c then [] ∷ onto c (all_narrowed cuts (width c.code) ps) else onto c (all_narrowed cuts (used + width c.code) ps))
 all_narrowed-onto cuts used c [] h = absurd (omega arith)
 all_narrowed-onto cuts used c (p ∷ ps) h =
-    let more = flat_map (narrowed cuts) ps in
+    let more = flat_map (narrow_parts cuts) ps in
     elim (wide cuts.breaks cuts.narrow used c) as (λ v. (if v then [] ∷ onto c (narrowed_at cuts.breaks cuts.narrow (width c.code) p) else onto c (narrowed_at cuts.breaks cuts.narrow (used + width c.code) p)) ++ more
     ≡ (if v then [] ∷ onto c (narrowed_at cuts.breaks cuts.narrow (width c.code) p ++ more) else onto c (narrowed_at cuts.breaks cuts.narrow (used + width c.code) p ++ more))) [
       | true ↦ ap (λ (us : List (List Cell)). [] ∷ us) (onto-append c (narrowed_at cuts.breaks cuts.narrow (width c.code) p) more (narrowed_at-some cuts.breaks cuts.narrow (width c.code) p))
@@ -108,7 +108,7 @@ parts-are cuts before used (c ∷ cs) =
     ≡ (if wide cuts.breaks cuts.narrow used c then [] ∷ (if v then (c ∷ []) ∷ letter_parts cuts c.code 0 cs else onto c (letter_parts cuts c.code (width c.code) cs))
     else (if v then (c ∷ []) ∷ letter_parts cuts c.code 0 cs else onto c (letter_parts cuts c.code (used + width c.code) cs)))) [
       | true ↦
-          (let t : flat_map (narrowed cuts) (hyphened cuts.hyphens c.code cs) ≡ letter_parts cuts c.code 0 cs = all_narrowed-none cuts (hyphened cuts.hyphens c.code cs) ∙ parts-are cuts c.code 0 cs in
+          (let t : flat_map (narrow_parts cuts) (hyphened cuts.hyphens c.code cs) ≡ letter_parts cuts c.code 0 cs = all_narrowed-none cuts (hyphened cuts.hyphens c.code cs) ∙ parts-are cuts c.code 0 cs in
           ap (λ us. narrowed_at cuts.breaks cuts.narrow used (c ∷ []) ++ us) t
           ∙ elim (wide cuts.breaks cuts.narrow used c) as (λ v. (if v then [] ∷ (c ∷ []) ∷ [] else (c ∷ []) ∷ []) ++ letter_parts cuts c.code 0 cs ≡ (if v then [] ∷ (c ∷ []) ∷ letter_parts cuts c.code 0 cs else (c ∷ []) ∷ letter_parts cuts c.code 0 cs)) [ true ↦ refl | false ↦ refl ])
       | false ↦
@@ -116,8 +116,8 @@ parts-are cuts before used (c ∷ cs) =
           ∙ ap₂ (λ us vs. if wide cuts.breaks cuts.narrow used c then [] ∷ onto c us else onto c vs) (parts-are cuts c.code (width c.code) cs) (parts-are cuts c.code (used + width c.code) cs)
     ]
 
-word-parts : (cuts : Cuts) (before : ℕ) (cs : List Cell) → flat_map (narrowed cuts) (hyphenated_behind cuts before cs) ≡ letter_parts cuts before 0 cs
-word-parts cuts before cs = ap (flat_map (narrowed cuts)) (hyphened-is cuts.hyphens before cs) ∙ all_narrowed-none cuts (hyphened cuts.hyphens before cs) ∙ parts-are cuts before 0 cs
+word-parts : (cuts : Cuts) (before : ℕ) (cs : List Cell) → flat_map (narrow_parts cuts) (hyphenated_behind cuts before cs) ≡ letter_parts cuts before 0 cs
+word-parts cuts before cs = ap (flat_map (narrow_parts cuts)) (hyphened-is cuts.hyphens before cs) ∙ all_narrowed-none cuts (hyphened cuts.hyphens before cs) ∙ parts-are cuts before 0 cs
 
 -- ---- the first part
 
@@ -231,19 +231,19 @@ none-behind false cs = refl
 pub behind-space : (cuts : Cuts) (cs : List Cell) → words_behind cuts 32 cs ≡ words_behind cuts 0 cs
 behind-space cuts cs = elim (words cs) as (λ ws. (elim ws as (λ _. List Word) [
   | [] ↦ []
-  | w ∷ ws ↦ with_spaces w.spaces (flat_map (narrowed cuts) (hyphenated_behind cuts 32 w.letters)) ++ flat_map (parts cuts) ws
+  | w ∷ ws ↦ with_spaces w.spaces (flat_map (narrow_parts cuts) (hyphenated_behind cuts 32 w.letters)) ++ flat_map (parts cuts) ws
 ]) ≡ (elim ws as (λ _. List Word) [
   | [] ↦ []
-  | w ∷ ws ↦ with_spaces w.spaces (flat_map (narrowed cuts) (hyphenated_behind cuts 0 w.letters)) ++ flat_map (parts cuts) ws
+  | w ∷ ws ↦ with_spaces w.spaces (flat_map (narrow_parts cuts) (hyphenated_behind cuts 0 w.letters)) ++ flat_map (parts cuts) ws
 ])) [
   | [] ↦ refl
-  | w ∷ ws ↦ ap (λ ps. with_spaces w.spaces (flat_map (narrowed cuts) ps) ++ flat_map (parts cuts) ws) (none-behind cuts.hyphens w.letters)
+  | w ∷ ws ↦ ap (λ ps. with_spaces w.spaces (flat_map (narrow_parts cuts) ps) ++ flat_map (parts cuts) ws) (none-behind cuts.hyphens w.letters)
 ]
 
 pub words-alone : (cuts : Cuts) (cs : List Cell) → words_behind cuts 0 cs ≡ cut_words cuts cs
 words-alone cuts cs = elim (words cs) as (λ ws. (elim ws as (λ _. List Word) [
   | [] ↦ []
-  | w ∷ ws ↦ with_spaces w.spaces (flat_map (narrowed cuts) (hyphenated_behind cuts 0 w.letters)) ++ flat_map (parts cuts) ws
+  | w ∷ ws ↦ with_spaces w.spaces (flat_map (narrow_parts cuts) (hyphenated_behind cuts 0 w.letters)) ++ flat_map (parts cuts) ws
 ]) ≡ flat_map (parts cuts) ws) [ [] ↦ refl | w ∷ ws ↦ refl ]
 
 -- the parts of a word's letters, and the words behind it
@@ -254,7 +254,7 @@ words-split : (cuts : Cuts) (before : ℕ) (c : Cell) (cs : List Cell) → words
 words-split cuts before c cs =
     ap (λ (ws : List Word). elim ws as (λ _. List Word) [
       | [] ↦ []
-      | w ∷ ws ↦ with_spaces w.spaces (flat_map (narrowed cuts) (hyphenated_behind cuts before w.letters)) ++ flat_map (parts cuts) ws
+      | w ∷ ws ↦ with_spaces w.spaces (flat_map (narrow_parts cuts) (hyphenated_behind cuts before w.letters)) ++ flat_map (parts cuts) ws
     ]) (words-first c cs)
     ∙ ap (λ ps. from_parts cuts ps (drop (letters_len (c ∷ cs)) (c ∷ cs))) (word-parts cuts before (letters (c ∷ cs)))
 

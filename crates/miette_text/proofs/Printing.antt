@@ -9,11 +9,11 @@ use Rattle.miette_runs.specs.rules.Colours.{is_colour, is_link, is_link_end}
 use Rattle.miette_style.specs.rules.Escapes.{no_escape}
 use Rattle.miette_style.specs.rules.Styles.{plain}
 use Rattle.miette_style.specs.declared.style.Style.{Style}
-use Rattle.miette_runs.specs.rules.Runs.{Fragment, Styled, LinkTo, LinkEnd, printed_run, link_start, printed, print, HaveNoEscape, plain_run, HasNoEscape}
+use Rattle.miette_runs.specs.rules.Runs.{Fragment, Styled, LinkTo, LinkEnd, printed_run, link_start, printed_text, print, HaveNoEscape, plain_run, HasNoEscape}
 use Rattle.miette_style.specs.rules.Codes.{style_codes, colour_start, colour_stop}
-use Rattle.miette_text.proofs.Erased.{erased}
+use Rattle.miette_text.proofs.ErasedTokens.{erased}
 use Rattle.miette_text.proofs.Parsing.{tokens-spell, erase-spell}
-use Rattle.miette_text.proofs.Closed.{run-append}
+use Rattle.miette_text.proofs.TameResults.{run-append}
 use Rattle.miette_text.proofs.Erasing.{append-tame, erase-append}
 use Rattle.miette_runs.proofs.Parameters.{start_colour}
 
@@ -175,12 +175,12 @@ styled-erase s (c ∷ cs) k = elim (style_codes s) as (λ xs. erase (elim xs as 
   | y ∷ ys ↦ coloured-erase s (c ∷ cs) k
 ]
 
-pub run-tame : (s : Fragment) → HasNoEscape s → IsTame (printed s)
+pub run-tame : (s : Fragment) → HasNoEscape s → IsTame (printed_text s)
 run-tame (Styled s text) h = styled-tame s text h
 run-tame (LinkTo url) h = link-tame url h
 run-tame LinkEnd h = link-tame [] refl
 
-pub run-erase : (s : Fragment) → HasNoEscape s → erase (printed s) ≡ printed (plain_run s)
+pub run-erase : (s : Fragment) → HasNoEscape s → erase (printed_text s) ≡ printed_text (plain_run s)
 run-erase (Styled s text) h = styled-erase s text h
 run-erase (LinkTo url) h = link-erase url h
 run-erase LinkEnd h = link-erase [] refl
@@ -188,11 +188,11 @@ run-erase LinkEnd h = link-erase [] refl
 -- What runs print is tame.
 pub print-tame : (ss : List Fragment) → HaveNoEscape ss → IsTame (print ss)
 print-tame [] h = refl
-print-tame (s ∷ ss) h = append-tame (printed s) (print ss) (run-tame s h.0) (print-tame ss h.1)
+print-tame (s ∷ ss) h = append-tame (printed_text s) (print ss) (run-tame s h.0) (print-tame ss h.1)
 
 -- Without colours it is what they print in plain styles.
 pub print-erase : (ss : List Fragment) → HaveNoEscape ss → erase (print ss) ≡ print (map plain_run ss)
 print-erase [] h = refl
 print-erase (s ∷ ss) h =
-    erase-append (printed s) (print ss) (run-tame s h.0) (print-tame ss h.1)
+    erase-append (printed_text s) (print ss) (run-tame s h.0) (print-tame ss h.1)
     ∙ ap₂ (λ x y. x ++ y) (run-erase s h.0) (print-erase ss h.1)

@@ -3,8 +3,8 @@ use Rattle.std.proofs.Common.{◌≡◌, ℕ, ◌+◌, Bool, true, false, ◌&&�
 use Rattle.std.proofs.lemmas.Bool.{true≢false, false≢true}
 use Rattle.std.specs.Cmp.{second_so}
 use Rattle.miette_runs.specs.rules.Sequences.{Token, Character, Sequence}
-use Rattle.miette_text.specs.rules.Wrapping.{Word, columns, word_cells, is_space, only_spaces, onto, rows, rows_behind, trimmed}
-use Rattle.miette_text.specs.rules.Filled.{all_words, sequences_of, is_letter, ends_with_letter, IsTrimmed}
+use Rattle.miette_text.specs.rules.Wrapping.{Word, columns, word_cells, is_space, only_spaces, onto, rows, rows_behind, trimmed_row}
+use Rattle.miette_text.specs.rules.FilledRows.{all_words, sequences_of, is_letter, ends_with_letter, IsTrimmed}
 
 -- ---- words
 
@@ -26,13 +26,13 @@ rows-hold room further (w ∷ ws) = words-onto w (rows_behind (columns (word_cel
 
 -- ---- spaces
 
-spaces-dropped : (ts : List Token) → only_spaces ts ≡ true → trimmed ts ≡ sequences_of ts
+spaces-dropped : (ts : List Token) → only_spaces ts ≡ true → trimmed_row ts ≡ sequences_of ts
 spaces-dropped [] h = refl
-spaces-dropped (Character c ∷ ts) h = ap (λ b. if b then trimmed ts else Character c ∷ trimmed ts) h ∙ spaces-dropped ts (second_so (is_space c) (only_spaces ts) h)
+spaces-dropped (Character c ∷ ts) h = ap (λ b. if b then trimmed_row ts else Character c ∷ trimmed_row ts) h ∙ spaces-dropped ts (second_so (is_space c) (only_spaces ts) h)
 spaces-dropped (Sequence s ∷ ts) h = ap (λ us. Sequence s ∷ us) (spaces-dropped ts h)
 
-token-kept : (t : Token) (ts : List Token) → only_spaces (t ∷ ts) ≡ false → trimmed (t ∷ ts) ≡ t ∷ trimmed ts
-token-kept (Character c) ts h = ap (λ b. if b then trimmed ts else Character c ∷ trimmed ts) h
+token-kept : (t : Token) (ts : List Token) → only_spaces (t ∷ ts) ≡ false → trimmed_row (t ∷ ts) ≡ t ∷ trimmed_row ts
+token-kept (Character c) ts h = ap (λ b. if b then trimmed_row ts else Character c ∷ trimmed_row ts) h
 token-kept (Sequence s) ts h = refl
 
 not_false : (b : Bool) → b ≡ false → not b ≡ true
@@ -50,7 +50,7 @@ letter-ends : (t : Token) (ts kept dropped : List Token) → ts ≡ kept ++ drop
 letter-ends t ts [] dropped e l s h = is_letter-last t ts (ap only_spaces e ∙ s) h
 letter-ends t ts (u ∷ us) dropped e l s h = l
 
-one-more : (t : Token) (ts : List Token) → only_spaces (t ∷ ts) ≡ false → IsTrimmed ts (trimmed ts) → IsTrimmed (t ∷ ts) (trimmed (t ∷ ts))
+one-more : (t : Token) (ts : List Token) → only_spaces (t ∷ ts) ≡ false → IsTrimmed ts (trimmed_row ts) → IsTrimmed (t ∷ ts) (trimmed_row (t ∷ ts))
 one-more t ts h r = record {
   kept = t ∷ r.kept;
   dropped = r.dropped;
@@ -60,10 +60,10 @@ one-more t ts h r = record {
   printed = token-kept t ts h ∙ ap (λ us. t ∷ us) r.printed;
 }
 
-pub row-trimmed : (ts : List Token) → IsTrimmed ts (trimmed ts)
+pub row-trimmed : (ts : List Token) → IsTrimmed ts (trimmed_row ts)
 row-trimmed [] = record { kept = []; dropped = []; whole = refl; letter = refl; spaces = refl; printed = refl }
 row-trimmed (t ∷ ts) =
-    elim (only_spaces (t ∷ ts)) as (λ b. only_spaces (t ∷ ts) ≡ b → IsTrimmed (t ∷ ts) (trimmed (t ∷ ts))) [
+    elim (only_spaces (t ∷ ts)) as (λ b. only_spaces (t ∷ ts) ≡ b → IsTrimmed (t ∷ ts) (trimmed_row (t ∷ ts))) [
       | true ↦ λ e. record { kept = []; dropped = t ∷ ts; whole = refl; letter = refl; spaces = e; printed = spaces-dropped (t ∷ ts) e }
       | false ↦ λ e. one-more t ts e (row-trimmed ts)
     ] refl
@@ -88,9 +88,9 @@ ends-behind : (t : Token) (kept : List Token) → ends_with_letter (t ∷ kept) 
 ends-behind t [] h = refl
 ends-behind t (u ∷ us) h = h
 
-trimmed-behind : (kept dropped : List Token) → ends_with_letter kept ≡ true → only_spaces dropped ≡ true → trimmed (kept ++ dropped) ≡ kept ++ sequences_of dropped
+trimmed-behind : (kept dropped : List Token) → ends_with_letter kept ≡ true → only_spaces dropped ≡ true → trimmed_row (kept ++ dropped) ≡ kept ++ sequences_of dropped
 trimmed-behind [] dropped h k = spaces-dropped dropped k
 trimmed-behind (t ∷ ts) dropped h k = token-kept t (ts ++ dropped) (not_only t ts dropped h) ∙ ap (λ us. t ∷ us) (trimmed-behind ts dropped (ends-behind t ts h) k)
 
-pub only_trimmed : (row found : List Token) → IsTrimmed row found → found ≡ trimmed row
-only_trimmed row found r = r.printed ∙ sym (ap trimmed r.whole ∙ trimmed-behind r.kept r.dropped r.letter r.spaces)
+pub only_trimmed : (row found : List Token) → IsTrimmed row found → found ≡ trimmed_row row
+only_trimmed row found r = r.printed ∙ sym (ap trimmed_row r.whole ∙ trimmed-behind r.kept r.dropped r.letter r.spaces)

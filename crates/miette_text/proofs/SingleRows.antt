@@ -6,18 +6,18 @@ use Rattle.std.proofs.lemmas.List.Sums.{sum_by-append}
 use Rattle.std.specs.Char.{is_whitespace}
 use Rattle.miette_style.specs.rules.Escapes.{is_escape, no_escape}
 use Rattle.miette_runs.specs.rules.Sequences.{Token, Character, tokens, spell, is_line_feed, are_settled}
-use Rattle.miette_text.specs.rules.Filled.{Fits, IsFilled}
-use Rattle.miette_text.specs.rules.Wrapping.{Cuts, Piece, Plan, Word, all_white, cell_tokens, columns, cut_words, cuts_of, filled, first_room, further_room, is_space, joined, map_indents, on_first, only_spaces, piece_rows, pieces, row_tokens, rows, text_rows, trimmed, whole_pieces, with_code, with_rest, word_cells, wrapped}
+use Rattle.miette_text.specs.rules.FilledRows.{Fits, IsFilled}
+use Rattle.miette_text.specs.rules.Wrapping.{Cuts, Piece, Plan, Word, all_white, cell_tokens, columns, cut_words, cuts_of, filled_text, first_room, further_room, is_space, joined_rows, map_indents, on_first, only_spaces, piece_rows, pieces, row_tokens, rows, text_rows, trimmed_row, whole_pieces, with_code, with_rest, word_cells, wrapped_text}
 use Rattle.miette_runs.specs.rules.Cells.{Cell, columns_of, width}
 use Rattle.miette_text.specs.steps.Ends.{codes_of, row_cells}
 use Rattle.miette_runs.specs.steps.Cells.{code_columns, plain_cells}
 use Rattle.miette_text.specs.rules.Fitting.{ends_bare, fits, has_ink, is_line}
 use Rattle.miette_text.specs.steps.Fitting.{fits_row, is_shown}
-use Rattle.miette_text.proofs.Closed.{cut_words-flat}
+use Rattle.miette_text.proofs.TameResults.{cut_words-flat}
 use Rattle.miette_text.proofs.FirstRow.{columns-codes}
 use Rattle.miette_runs.proofs.Growing.{spell-characters}
 use Rattle.miette_runs.proofs.Appending.{spell-append}
-use Rattle.miette_runs.proofs.Settled.{tokens-plain}
+use Rattle.miette_runs.proofs.SettledRuns.{tokens-plain}
 use Rattle.miette_text.proofs.Unique.{only_rows}
 
 -- ---- a line is one piece
@@ -78,12 +78,12 @@ bare-spaces bare (c ∷ cs) h k =
     let n : not (is_space c) ≡ true = bare-spaces (not (is_space c)) cs h p.1 in
     absurd (cc)
 
-trimmed-bare : (bare : Bool) (cs : List ℕ) → ends_bare bare cs ≡ true → trimmed (map Character cs) ≡ map Character cs
+trimmed-bare : (bare : Bool) (cs : List ℕ) → ends_bare bare cs ≡ true → trimmed_row (map Character cs) ≡ map Character cs
 trimmed-bare bare [] h = refl
 trimmed-bare bare (c ∷ cs) h =
     let ts = map Character cs in
-    let rest : trimmed ts ≡ ts = trimmed-bare (not (is_space c)) cs h in
-    elim (is_space c && only_spaces ts) as (λ b. (is_space c && only_spaces ts) ≡ b → (if b then trimmed ts else Character c ∷ trimmed ts) ≡ Character c ∷ ts) [
+    let rest : trimmed_row ts ≡ ts = trimmed-bare (not (is_space c)) cs h in
+    elim (is_space c && only_spaces ts) as (λ b. (is_space c && only_spaces ts) ≡ b → (if b then trimmed_row ts else Character c ∷ trimmed_row ts) ≡ Character c ∷ ts) [
       | true ↦ λ e.
           let p = and_parts (is_space c) (only_spaces ts) e in
           let n : not (is_space c) ≡ true = bare-spaces (not (is_space c)) cs h p.1 in
@@ -93,8 +93,8 @@ trimmed-bare bare (c ∷ cs) h =
 
 row-bare : (c : Cuts) (cs : List ℕ) → ends_bare true cs ≡ true → row_tokens (cut_words c (plain_cells cs)) ≡ map Character cs
 row-bare c cs h =
-    ap (λ us. trimmed (flat_map cell_tokens us)) (cut_words-flat c (plain_cells cs))
-    ∙ ap trimmed (tokens-plain_cells cs)
+    ap (λ us. trimmed_row (flat_map cell_tokens us)) (cut_words-flat c (plain_cells cs))
+    ∙ ap trimmed_row (tokens-plain_cells cs)
     ∙ trimmed-bare true cs h
 
 columns-cut : (c : Cuts) (cs : List ℕ) → columns (row_cells (cut_words c (plain_cells cs))) ≡ code_columns cs
@@ -108,10 +108,10 @@ rows-line c room further cs h k =
 spell-row : (first : List Token) (cs : List ℕ) → spell (first ++ map Character cs) ≡ spell first ++ cs
 spell-row first cs = spell-append first (map Character cs) ∙ ap (λ us. spell first ++ us) (spell-characters cs)
 
-filled-line : (p : Plan (List Token)) (ts : List Token) (cs : List ℕ) → pieces ts ≡ line_piece cs ∷ [] → ends_bare true cs ≡ true → code_columns cs ≤ first_room p → spell (filled p ts) ≡ spell p.first ++ cs
+filled-line : (p : Plan (List Token)) (ts : List Token) (cs : List ℕ) → pieces ts ≡ line_piece cs ∷ [] → ends_bare true cs ≡ true → code_columns cs ≤ first_room p → spell (filled_text p ts) ≡ spell p.first ++ cs
 filled-line p ts cs e h k =
-    ap (λ ps. spell (joined p.first p.further (text_rows (cuts_of p) (first_room p) (further_room p) ps))) e
-    ∙ ap (λ rs. spell (joined p.first p.further (rs ++ []))) (rows-line (cuts_of p) (first_room p) (further_room p) cs h k)
+    ap (λ ps. spell (joined_rows p.first p.further (text_rows (cuts_of p) (first_room p) (further_room p) ps))) e
+    ∙ ap (λ rs. spell (joined_rows p.first p.further (rs ++ []))) (rows-line (cuts_of p) (first_room p) (further_room p) cs h k)
     ∙ spell-row p.first cs
 
 -- ---- without wrapping
@@ -120,21 +120,21 @@ whole-line : (first further : List Token) (ts : List Token) (cs : List ℕ) → 
 whole-line first further ts [] e h = absurd (cc)
 whole-line first further ts (c ∷ cs) e h =
     ap (λ ps. spell (whole_pieces first further ps)) e
-    ∙ ap (λ (b : Bool). spell ((if b then trimmed first else first) ++ (flat_map cell_tokens (plain_cells (c ∷ cs)) ++ []))) h
+    ∙ ap (λ (b : Bool). spell ((if b then trimmed_row first else first) ++ (flat_map cell_tokens (plain_cells (c ∷ cs)) ++ []))) h
     ∙ ap (λ us. spell (first ++ us)) (append-nil (flat_map cell_tokens (plain_cells (c ∷ cs))) ∙ tokens-plain_cells (c ∷ cs))
     ∙ spell-row first (c ∷ cs)
 
 -- ---- both, under an indent that reads as these tokens
 
 pub wrapped-row : (p : Plan (List ℕ)) (first : List Token) (room : ℕ) (cs : List ℕ) → p.wraps ≡ true → p.first ≡ spell first → tokens (spell first) ≡ first → room ≡ p.room - columns_of first → fits_row room cs ≡ true →
-    wrapped p cs ≡ spell first ++ cs
+    wrapped_text p cs ≡ spell first ++ cs
 wrapped-row p first room cs w i t r h =
     let q = and_parts (is_line cs) (ends_bare true cs && nat_le (code_columns cs) room) h in
     let s = and_parts (ends_bare true cs) (nat_le (code_columns cs) room) q.1 in
     let under : tokens p.first ≡ first = ap tokens i ∙ t in
     let k : code_columns cs ≤ room = grind (arith, nat_tests) in
     let e : room ≡ first_room (map_indents tokens p) = r ∙ ap (λ us. p.room - columns_of us) (sym under) in
-    ap (λ (b : Bool). spell (if b then filled (map_indents tokens p) (tokens cs) else whole_pieces (tokens p.first) (tokens p.further) (pieces (tokens cs)))) w
+    ap (λ (b : Bool). spell (if b then filled_text (map_indents tokens p) (tokens cs) else whole_pieces (tokens p.first) (tokens p.further) (pieces (tokens cs)))) w
     ∙ filled-line (map_indents tokens p) (tokens cs) cs (text-line cs q.0) s.0 (omega arith)
     ∙ ap (λ us. spell us ++ cs) under
 
@@ -151,12 +151,12 @@ opposite true h = sym h
 opposite false h = refl
 
 pub wrapped-shown : (p : Plan (List ℕ)) (first : List Token) (cs : List ℕ) → p.wraps ≡ false → p.first ≡ spell first → tokens (spell first) ≡ first → is_shown cs ≡ true →
-    wrapped p cs ≡ spell first ++ cs
+    wrapped_text p cs ≡ spell first ++ cs
 wrapped-shown p first cs w i t h =
     let q = and_parts (is_line cs) (has_ink cs) h in
     let under : tokens p.first ≡ first = ap tokens i ∙ t in
     let k : all_white (plain_cells cs) ≡ false = opposite (all_white (plain_cells cs)) (sym (ink-white cs) ∙ q.1) in
-    ap (λ (b : Bool). spell (if b then filled (map_indents tokens p) (tokens cs) else whole_pieces (tokens p.first) (tokens p.further) (pieces (tokens cs)))) w
+    ap (λ (b : Bool). spell (if b then filled_text (map_indents tokens p) (tokens cs) else whole_pieces (tokens p.first) (tokens p.further) (pieces (tokens cs)))) w
     ∙ whole-line (tokens p.first) (tokens p.further) (tokens cs) cs (text-line cs q.0) k
     ∙ ap (λ us. spell us ++ cs) under
 

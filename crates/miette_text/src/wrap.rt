@@ -19,7 +19,7 @@
 ghost use Rattle.std.specs.Prelude.{◌≡◌, ◌++◌, IfOk, OnErr, OnOk, chars, encode_utf8_all, string_bytes, true};
 ghost use Rattle.miette_runs.specs.rules.Sequences.{erase, spell, tokens};
 ghost use Rattle.miette_text.specs.rules.Tame.{AppendsErasing, AreColoured, colourless};
-ghost use Rattle.miette_text.specs.rules.Wrapping.{filled, wrapped, wrapped_tokens};
+ghost use Rattle.miette_text.specs.rules.Wrapping.{filled_text, wrapped_text, wrapped_tokens};
 ghost use Rattle.miette_text.specs.views.Plans.{cuts_hyphens, options_plan, printed_plan, runs_plan};
 
 mod ends;
@@ -94,7 +94,7 @@ pub struct Plan<'a> {
 
 fn push_filled_under<S: Sink>(out: &mut S, plan: Plan<'_>, text: &Runs) -> Result<(), AllocError>
     ensures { OnOk result (S.holds out.new ≡ S.holds out.old
-        ++ S.spells (spell (filled (runs_plan plan.entry) text.now))) }
+        ++ S.spells (spell (filled_text (runs_plan plan.entry) text.now))) }
 {
     let first = plan.first.parts();
     let further = plan.further.parts();
@@ -147,7 +147,7 @@ fn are_settled(plan: Plan<'_>, text: &Runs) -> bool
 /// `AllocError` where memory is refused, or a row has more columns than a `usize` counts. What `out` holds is then
 /// open.
 pub fn wrap(alloc: Global, plan: Plan<'_>, text: &Runs, out: &mut Output) -> Result<(), AllocError>
-    ensures { OnOk result (out.new ≡ out.old ++ wrapped (printed_plan plan.entry) (spell text.now)) }
+    ensures { OnOk result (out.new ≡ out.old ++ wrapped_text (printed_plan plan.entry) (spell text.now)) }
 {
     if are_settled(plan, text) {
         push_wrapped(out, plan, text)?;
@@ -177,7 +177,7 @@ pub fn cuts_hyphens(splitter: WordSplitter) -> bool
 
 fn wrapped_text(alloc: Global, options: &WrapOptions<'_>, text: &str) -> Result<String, AllocError>
     ensures { IfOk result (λ s. string_bytes s
-        ≡ encode_utf8_all (wrapped (options_plan options.now) (chars text.now))) }
+        ≡ encode_utf8_all (wrapped_text (options_plan options.now) (chars text.now))) }
 {
     let first = read_text(alloc, options.first_indent)?;
     let further = read_text(alloc, options.further_indent)?;
@@ -202,10 +202,10 @@ fn wrapped_text(alloc: Global, options: &WrapOptions<'_>, text: &str) -> Result<
 /// `AllocError` where memory is refused, or a row has more columns than a `usize` counts. `out` is then as before.
 pub fn fill(text: &str, options: &WrapOptions<'_>, out: &mut String) -> Result<(), AllocError>
     ensures ok { OnOk result (string_bytes out.new
-        ≡ string_bytes out.old ++ encode_utf8_all (wrapped (options_plan options.now) (chars text.now))) }
+        ≡ string_bytes out.old ++ encode_utf8_all (wrapped_text (options_plan options.now) (chars text.now))) }
     ensures colours { OnOk result (AreColoured (options_plan options.now) (chars text.now) →
         AppendsErasing (string_bytes out.old) (string_bytes out.new)
-        (encode_utf8_all (wrapped (colourless (options_plan options.now)) (erase (chars text.now))))) }
+        (encode_utf8_all (wrapped_text (colourless (options_plan options.now)) (erase (chars text.now))))) }
     ensures err { OnErr result (string_bytes out.new ≡ string_bytes out.old) }
 {
     let wrapped = wrapped_text(*out.allocator(), options, text)?;

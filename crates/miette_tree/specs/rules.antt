@@ -5,4 +5,4 @@ pub mod CauseTexts
 pub mod Chain
 pub mod WrapErr
 pub mod DiagnosticParts
-pub mod Displayed
+pub mod Display

@@ -2,5 +2,5 @@
 pub mod Owned
 pub mod Kind
 pub mod Report
-pub mod Left
+pub mod RemainingChain
 pub mod Handler

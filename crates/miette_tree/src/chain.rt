@@ -70,7 +70,7 @@ fn count_within<D: Diagnostic, S: SourceCode>(report: &Report<D, S>, count: usiz
 
 /// The first of what is left.
 impl<'a, D: Diagnostic, S: SourceCode> Iterator for Chain<'a, D, S> {
-    ghost use Rattle.miette_tree.specs.views.Left.{left_of};
+    ghost use Rattle.miette_tree.specs.views.RemainingChain.{left_of};
 
     type Item = &'a str;
 
@@ -98,7 +98,7 @@ impl<'a, D: Diagnostic, S: SourceCode> Iterator for Chain<'a, D, S> {
 
 /// The last of what is left.
 impl<'a, D: Diagnostic, S: SourceCode> DoubleEndedIterator for Chain<'a, D, S> {
-    ghost use Rattle.miette_tree.specs.views.Left.{left_of};
+    ghost use Rattle.miette_tree.specs.views.RemainingChain.{left_of};
 
     ghost next_back_gives = { YieldsLastBy (λ x. x.now) (left_of D.meaning S.source) };
 
@@ -130,7 +130,7 @@ impl<'a, D: Diagnostic, S: SourceCode> ExactSizeIterator for Chain<'a, D, S> {
 
 /// The same place in the same chain.
 impl<'a, D: Diagnostic, S: SourceCode> Clone for Chain<'a, D, S> {
-    ghost use Rattle.miette_tree.specs.views.Left.{left_of};
+    ghost use Rattle.miette_tree.specs.views.RemainingChain.{left_of};
 
     ghost is_clone = { λ chain made. left_of D.meaning S.source made ≡ left_of D.meaning S.source chain };
 
@@ -147,7 +147,7 @@ impl<'a, D: Diagnostic, S: SourceCode> Clone for Chain<'a, D, S> {
 
 /// The empty chain.
 impl<'a, D: Diagnostic, S: SourceCode> Default for Chain<'a, D, S> {
-    ghost use Rattle.miette_tree.specs.views.Left.{left_of};
+    ghost use Rattle.miette_tree.specs.views.RemainingChain.{left_of};
 
     ghost is_default = { λ chain. left_of D.meaning S.source chain ≡ [] };
 
@@ -161,7 +161,7 @@ impl<'a, D: Diagnostic, S: SourceCode> Default for Chain<'a, D, S> {
 }
 
 impl<D: Diagnostic, S: SourceCode> Report<D, S> {
-    ghost use Rattle.miette_tree.specs.views.Left.{left_of};
+    ghost use Rattle.miette_tree.specs.views.RemainingChain.{left_of};
 
     /// The message and the causes' messages or texts, as many of them as a `usize` counts.
     pub fn chain(&self) -> Chain<'_, D, S>

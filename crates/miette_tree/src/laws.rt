@@ -2,7 +2,7 @@
 ghost use Rattle.std.specs.Prelude.{◌≡◌, List, ◌++◌, map, reverse};
 ghost use Rattle.std.specs.Iterator.{Drains};
 ghost use Rattle.miette_tree.specs.laws.BothEnds.{Taken, Gives, front_of, back_of};
-ghost use Rattle.miette_tree.specs.views.Left.{left_of};
+ghost use Rattle.miette_tree.specs.views.RemainingChain.{left_of};
 ghost use Rattle.miette_tree.specs.declared.chain.Chain.{Chain};
 
 use crate::chain::Chain;

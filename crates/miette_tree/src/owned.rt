@@ -1,7 +1,7 @@
 //! Sources that a report owns, and the place where it keeps its source.
 ghost use Rattle.std.specs.Prelude.{◌≡◌, Some, IfOk};
 ghost use Rattle.std.specs.Option.{option_copied};
-ghost use Rattle.miette_protocol.specs.rules.Reading.{plain_source, named};
+ghost use Rattle.miette_protocol.specs.rules.Reading.{plain_source, named_source};
 ghost use Rattle.miette_protocol.specs.rules.Outcome.{Answers};
 
 use miette_protocol::error::MietteError;
@@ -53,7 +53,7 @@ impl OwnedSource {
         bytes: Vec<u8>,
     ) -> Result<OwnedSource, AllocError>
         ensures { IfOk result (λ it. owned_source it
-            ≡ named (plain_source bytes.items) name.now (option_copied language.entry)) }
+            ≡ named_source (plain_source bytes.items) name.now (option_copied language.entry)) }
     {
         let source = NamedSource::new(alloc, name, IndexedSource::new(alloc, bytes)?)?;
         let source = match language {

@@ -3,7 +3,7 @@
 ghost use Rattle.std.specs.Prelude.{◌≡◌, ◌++◌, List, ℕ, IfOk, OnOk, OnErr, string_bytes};
 ghost use Rattle.miette_tree.specs.rules.Tree.{Tree, cause_of, causes_of};
 ghost use Rattle.miette_tree.specs.views.Report.{tree_of};
-ghost use Rattle.miette_tree.specs.rules.Displayed.{displayed, behind_colons};
+ghost use Rattle.miette_tree.specs.rules.Display.{display_text, behind_colons};
 ghost use Rattle.miette_tree.specs.views.Handler.{AppendsOne};
 
 use crate::parts::cause_texts;
@@ -49,7 +49,7 @@ pub trait ReportHandler {
         out: &mut String,
     ) -> Result<(), RenderError>
         ensures text { OnOk result (string_bytes out.new ≡ string_bytes out.old
-            ++ displayed alternate (tree_of D.meaning S.source report.now)) }
+            ++ display_text alternate (tree_of D.meaning S.source report.now)) }
         ensures memory { OnErr result (result ≡ Err RenderError.Memory) }
         ensures err { OnErr result (string_bytes out.new ≡ string_bytes out.old) }
     {
@@ -64,7 +64,7 @@ fn push_displayed<D: Diagnostic, S: SourceCode>(
     out: &mut String,
 ) -> Result<(), RenderError>
     ensures text { OnOk result (string_bytes out.new
-        ≡ string_bytes out.old ++ displayed alternate (tree_of D.meaning S.source report.now)) }
+        ≡ string_bytes out.old ++ display_text alternate (tree_of D.meaning S.source report.now)) }
     ensures memory { OnErr result (result ≡ Err RenderError.Memory) }
     ensures err { OnErr result (string_bytes out.new ≡ string_bytes out.old) }
 {
@@ -80,7 +80,7 @@ fn displayed_text<D: Diagnostic, S: SourceCode>(
     report: &Report<D, S>,
     alternate: bool,
 ) -> Result<String, AllocError>
-    ensures { IfOk result (λ text. string_bytes text ≡ displayed alternate (tree_of D.meaning S.source report.now)) }
+    ensures { IfOk result (λ text. string_bytes text ≡ display_text alternate (tree_of D.meaning S.source report.now)) }
 {
     let mut text = String::from_str(alloc, report.message())?;
     if alternate {

@@ -84,7 +84,8 @@ impl<'a, D, S> Copy for Cause<'a, D, S> {}
 /// Constructors and setters, for boxes of any kind.
 impl<D: Diagnostic, S: SourceCode> Report<D, S> {
     ghost use Rattle.miette_protocol.specs.views.Diagnostic.{meaning_of, message_alone};
-    ghost use Rattle.miette_tree.specs.rules.Tree.{alone, texts, diagnostic, trees, wrapped, with_source, with_cause};
+    ghost use Rattle.miette_tree.specs.rules.Tree.{alone, texts, diagnostic, trees, wrapped_tree, with_source};
+    ghost use Rattle.miette_tree.specs.rules.Tree.{with_cause};
     ghost use Rattle.miette_tree.specs.rules.Tree.{with_related, chain_of};
     ghost use Rattle.miette_tree.specs.views.Report.{tree_of, innermost_meaning};
     ghost use Rattle.miette_tree.specs.views.Owned.{owned_source, kept_source};
@@ -221,7 +222,7 @@ impl<D: Diagnostic, S: SourceCode> Report<D, S> {
     /// Where memory is refused, the report comes back as it was.
     pub fn wrap_err(self, alloc: Global, message: &str) -> Result<Report<D, S>, Report<D, S>>
         ensures tree { IfOk result (λ r. tree_of D.meaning S.source r
-            ≡ wrapped message.now (tree_of D.meaning S.source self)) }
+            ≡ wrapped_tree message.now (tree_of D.meaning S.source self)) }
         ensures kind { IfOk result (λ r. kind_of r ≡ kind_of self) }
         ensures err { IfErr result (λ r. r ≡ self) }
     {
@@ -238,7 +239,7 @@ impl<D: Diagnostic, S: SourceCode> Report<D, S> {
         front: String,
     ) -> Result<Report<D, S>, Report<D, S>>
         ensures tree { IfOk result (λ r. tree_of D.meaning S.source r
-            ≡ wrapped (string_bytes front) (tree_of D.meaning S.source self)) }
+            ≡ wrapped_tree (string_bytes front) (tree_of D.meaning S.source self)) }
         ensures kind { IfOk result (λ r. kind_of r ≡ kind_of self) }
         ensures err { IfErr result (λ r. r ≡ self) }
     {
@@ -258,7 +259,7 @@ impl<D: Diagnostic, S: SourceCode> Report<D, S> {
     /// As `wrap_err`.
     pub fn context(self, alloc: Global, message: &str) -> Result<Report<D, S>, Report<D, S>>
         ensures tree { IfOk result (λ r. tree_of D.meaning S.source r
-            ≡ wrapped message.now (tree_of D.meaning S.source self)) }
+            ≡ wrapped_tree message.now (tree_of D.meaning S.source self)) }
         ensures kind { IfOk result (λ r. kind_of r ≡ kind_of self) }
         ensures err { IfErr result (λ r. r ≡ self) }
     {

@@ -8,12 +8,12 @@ use Rattle.miette_newlines.specs.rules.Lines.{ends_line, line_of}
 use Rattle.miette_tree.specs.rules.Tree.{Tree}
 use Rattle.miette_style.specs.rules.Themes.{characters_of, styles_of, theme_of, ansi_styles, no_styles, unicode_characters}
 use Rattle.miette_style.specs.declared.theme.GraphicalTheme.{GraphicalTheme}
-use Rattle.miette_graphical.specs.rules.Answered.{Appends, IsTextOf}
+use Rattle.miette_graphical.specs.rules.PossibleAnswers.{Appends, IsTextOf}
 use Rattle.miette_graphical.specs.laws.Clean.{AreCleanSettings, IsCleanTree}
 use Rattle.miette_graphical.specs.laws.Colourless.{IsRestyledText}
 use Rattle.miette_graphical.specs.laws.Headline.{LinesAreShown, MarksAreApart, TextsHang}
-use Rattle.miette_graphical.specs.laws.Shipped.{AreNarrow}
-use Rattle.miette_graphical.specs.rules.Printed.{all_read, printed}
+use Rattle.miette_graphical.specs.laws.CharacterSets.{AreNarrow}
+use Rattle.miette_graphical.specs.rules.PrintedDiagnostics.{all_read, diagnostics_of}
 use Rattle.miette_graphical.specs.rules.Settings.{default_settings}
 use Rattle.miette_graphical.specs.rules.Snippets.{drawn_rows}
 use Rattle.miette_graphical.specs.views.Handling.{Handling, draws_plain, without_highlighter}
@@ -40,38 +40,38 @@ clean = (record { message = refl; code = tt; help = tt; url = tt; labels = (refl
 -- ---- what its snippet shows
 
 pub both_lines : {H : Type 0} (h : Handling H) (t : Tree) → h ≡ without_highlighter plain → t ≡ warning_tree
-    → AllByRecursion (LinesAreShown h.settings) (printed h.settings t) → ShowsBothLines plain
+    → AllByRecursion (LinesAreShown h.settings) (diagnostics_of h.settings t) → ShowsBothLines plain
 unfolding ends_line line_of
 both_lines h t p q all =
-    let here : AllByRecursion (LinesAreShown plain) (printed plain warning_tree) = subst (λ u. AllByRecursion (LinesAreShown plain) (printed plain u)) q
-    (subst (λ g. AllByRecursion (LinesAreShown g.settings) (printed g.settings t)) p all) in
+    let here : AllByRecursion (LinesAreShown plain) (diagnostics_of plain warning_tree) = subst (λ u. AllByRecursion (LinesAreShown plain) (diagnostics_of plain u)) q
+    (subst (λ g. AllByRecursion (LinesAreShown g.settings) (diagnostics_of g.settings t)) p all) in
     record { lines = refl; shown = here.0 refl (record { begins = omega arith; ends = omega arith }, tt) (omega arith, tt) }
 
 pub own_mark : {H : Type 0} (h : Handling H) (t : Tree) → h ≡ without_highlighter plain → t ≡ warning_tree
-    → AllByRecursion (MarksAreApart h.settings) (printed h.settings t) → HasOwnMark plain
+    → AllByRecursion (MarksAreApart h.settings) (diagnostics_of h.settings t) → HasOwnMark plain
 unfolding ends_line pieces_from char_width
 own_mark h t p q all =
-    let here : AllByRecursion (MarksAreApart plain) (printed plain warning_tree) = subst (λ u. AllByRecursion (MarksAreApart plain) (printed plain u)) q
-    (subst (λ g. AllByRecursion (MarksAreApart g.settings) (printed g.settings t)) p all) in
+    let here : AllByRecursion (MarksAreApart plain) (diagnostics_of plain warning_tree) = subst (λ u. AllByRecursion (MarksAreApart plain) (diagnostics_of plain u)) q
+    (subst (λ g. AllByRecursion (MarksAreApart g.settings) (diagnostics_of g.settings t)) p all) in
     record { columns = (refl, tt); own = here.0 1 }
 
 pub text_hangs : {H : Type 0} (h : Handling H) (t : Tree) → h ≡ without_highlighter plain → t ≡ warning_tree → AreNarrow unicode_characters
-    → AllByRecursion (TextsHang h.settings) (printed h.settings t) → TextHangs plain
+    → AllByRecursion (TextsHang h.settings) (diagnostics_of h.settings t) → TextHangs plain
 text_hangs h t p q narrow all =
-    let here : AllByRecursion (TextsHang plain) (printed plain warning_tree) = subst (λ u. AllByRecursion (TextsHang plain) (printed plain u)) q
-    (subst (λ g. AllByRecursion (TextsHang g.settings) (printed g.settings t)) p all) in
+    let here : AllByRecursion (TextsHang plain) (diagnostics_of plain warning_tree) = subst (λ u. AllByRecursion (TextsHang plain) (diagnostics_of plain u)) q
+    (subst (λ g. AllByRecursion (TextsHang g.settings) (diagnostics_of g.settings t)) p all) in
     here.0 narrow
 
 -- ---- both pictures are one without their colours
 
 pub one_text : {H G : Type 0} (other_blank : G → Bool) (h : Handling H) (g : Handling G) (t : Tree) (old new old' new' : List ℕ)
     → h ≡ without_highlighter in_colours → g ≡ without_highlighter plain → t ≡ warning_tree → old ≡ [] → old' ≡ []
-    → (all_read (printed h.settings t) ≡ true → AreCleanSettings h.settings → IsCleanTree t → (others : List ℕ) → IsRestyledText drawn_rows h.settings t others → AppendsErasing old new (erase others))
+    → (all_read (diagnostics_of h.settings t) ≡ true → AreCleanSettings h.settings → IsCleanTree t → (others : List ℕ) → IsRestyledText drawn_rows h.settings t others → AppendsErasing old new (erase others))
     → AreCleanSettings in_colours
     → Appends drawn_rows g.settings (draws_plain other_blank g) t old' new'
     → erase new ≡ erase new'
 one_text other_blank h g t old new old' new' p q r none none' themes tame given =
-    let reads : all_read (printed h.settings t) ≡ true = ap₂ (λ u w. all_read (printed u.settings w)) p r in
+    let reads : all_read (diagnostics_of h.settings t) ≡ true = ap₂ (λ u w. all_read (diagnostics_of u.settings w)) p r in
     let settings : AreCleanSettings h.settings = subst (λ u. AreCleanSettings u.settings) (sym p) tame in
     let tree : IsCleanTree t = subst IsCleanTree (sym r) clean in
     let other : IsTextOf drawn_rows g.settings (draws_plain other_blank g) t given.text = given.is_given in

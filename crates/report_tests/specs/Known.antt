@@ -2,11 +2,11 @@
 use Rattle.std.specs.Prelude.{◌≡◌, ℕ, false, List, [], ◌∷◌, Some, None, codes}
 use Rattle.miette_protocol.specs.views.Diagnostic.{message_alone}
 use Rattle.miette_protocol.specs.views.Meaning.{Label}
-use Rattle.miette_protocol.specs.rules.Reading.{Source, named, plain_source}
+use Rattle.miette_protocol.specs.rules.Reading.{Source, named_source, plain_source}
 use Rattle.miette_tree.specs.rules.Tree.{Tree, alone, with_source}
 use Rattle.miette_style.specs.rules.Themes.{ansi_styles, no_styles, unicode_characters}
 use Rattle.miette_snippets.specs.rules.Marks.{Mark}
-use Rattle.miette_snippets.specs.rules.Numbers.{runs}
+use Rattle.miette_snippets.specs.rules.Numbers.{ranges}
 use Rattle.miette_graphical.specs.rules.Settings.{Settings, default_settings}
 use Rattle.miette_graphical.specs.laws.Headline.{AreOwnMarks, ShowsRuns, SnippetHangs, groups_of, marks_under}
 use Rattle.miette_graphical.specs.laws.Headline.{shown_lines}
@@ -15,7 +15,7 @@ use Rattle.std.specs.List.{AllByRecursion}
 -- ---- the report: a label on the one letter of a name, in the second of two lines
 
 abbrev pub settings_file : Source
-settings_file = named (plain_source (codes "port = 80\nhost = x\n")) (codes "app.toml") None
+settings_file = named_source (plain_source (codes "port = 80\nhost = x\n")) (codes "app.toml") None
 
 abbrev pub name_label : Label
 name_label = record {
@@ -41,7 +41,7 @@ plain = default_settings unicode_characters no_styles
 
 -- the lines 0 and 1, in one frame
 pub record ShowsBothLines (s : Settings) : Type 0 where
-  pub lines : runs (shown_lines s settings_file (name_label ∷ [])) ≡ (0 ∷ 1 ∷ []) ∷ []
+  pub lines : ranges (shown_lines s settings_file (name_label ∷ [])) ≡ (0 ∷ 1 ∷ []) ∷ []
   pub shown : ShowsRuns s settings_file (name_label ∷ [])
 
 -- the columns that a mark has

@@ -1,6 +1,6 @@
 //! Reports over boxes, as users write them: what their contracts give there.
 ghost use Rattle.std.specs.Prelude.{◌≡◌, ◌⊎◌, IfOk, IfErr, codes};
-ghost use Rattle.miette_tree.specs.rules.Tree.{head, alone, wrapped};
+ghost use Rattle.miette_tree.specs.rules.Tree.{head, alone, wrapped_tree};
 ghost use Rattle.miette_tree.specs.views.Report.{tree_of, out_of_memory_alone};
 
 use miette_protocol::protocol::Diagnostic;
@@ -29,7 +29,7 @@ pub fn step(alloc: Global, outcome: Result<u32>) -> Result<u32>
     ensures ok { IfOk outcome (λ value. result ≡ Ok value) }
     ensures err { IfErr outcome (λ report. IfErr result (λ r.
         (tree_of ⟦<Box<dyn Diagnostic> as Diagnostic>⟧.meaning ⟦<Box<dyn SourceCode> as SourceCode>⟧.source r
-        ≡ wrapped (codes "the step failed")
+        ≡ wrapped_tree (codes "the step failed")
         (tree_of ⟦<Box<dyn Diagnostic> as Diagnostic>⟧.meaning ⟦<Box<dyn SourceCode> as SourceCode>⟧.source report))
         ⊎ (tree_of ⟦<Box<dyn Diagnostic> as Diagnostic>⟧.meaning ⟦<Box<dyn SourceCode> as SourceCode>⟧.source r
         ≡ alone out_of_memory_alone))) }

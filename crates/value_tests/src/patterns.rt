@@ -1,6 +1,8 @@
 //! Lines that rules style, with what they style in brackets and a letter behind them.
 
-use miette_highlight::highlight::{Highlighter, Marks, Pattern, PatternHighlighter, Rule, by_char};
+use miette_highlight::highlight::{
+    Delimiters, Highlighter, Pattern, PatternHighlighter, Rule, by_char,
+};
 use miette_protocol::protocol::SourceSpan;
 use miette_protocol::source::MietteSpanContents;
 use miette_style::style::{Color, Style};
@@ -105,7 +107,7 @@ fn the_first_rule_decides(rt: HostRuntime) -> Result<(), Fail> {
             style: cyan,
         },
         Rule {
-            pattern: Pattern::Between(Marks::new(alloc, "<é", "é>")?),
+            pattern: Pattern::Between(Delimiters::new(alloc, "<é", "é>")?),
             style: green,
         },
     ]?;

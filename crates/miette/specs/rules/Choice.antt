@@ -57,8 +57,8 @@ abbrev pub chosen_highlighter : {H : Type 0} → Options H → Terminal → Opti
 chosen_highlighter o t = if takes_colours o t then o.highlighter else None
 
 -- how pictures are drawn: what isn't set stays as it is
-abbrev pub drawn : {H : Type 0} → Options H → Terminal → Settings
-drawn o t =
+abbrev pub picture_settings : {H : Type 0} → Options H → Terminal → Settings
+picture_settings o t =
     let default = default_settings (chosen_theme o t).characters (chosen_theme o t).styles in
     record default {
       width = chosen_width o t;
@@ -75,8 +75,8 @@ drawn o t =
     }
 
 -- how reports are narrated: what isn't set stays as it is
-abbrev pub told : {H : Type 0} → Options H → narrated.NarrationSettings
-told o =
+abbrev pub narration_settings : {H : Type 0} → Options H → narrated.NarrationSettings
+narration_settings o =
     let default = narrated.default_settings in
     record {
       chain = unwrap_or o.chain default.chain;
@@ -85,16 +85,16 @@ told o =
     }
 
 -- how reports are told in brief: what isn't set stays as it is
-abbrev pub briefly : {H : Type 0} → Options H → BriefSettings
-briefly o = record { chain = unwrap_or o.chain brief.default_settings.chain }
+abbrev pub brief_settings : {H : Type 0} → Options H → BriefSettings
+brief_settings o = record { chain = unwrap_or o.chain brief.default_settings.chain }
 
 -- the graphical handler that options and a terminal choose
 pub record IsDrawing {H : Type 0} (o : Options H) (t : Terminal) (it : Handling H) : Type 0 where
-  pub settings : it.settings ≡ drawn o t
+  pub settings : it.settings ≡ picture_settings o t
   pub highlighter : it.highlighter ≡ chosen_highlighter o t
 
 -- the handler that options and a terminal choose
 abbrev pub IsChosen : {H : Type 0} → Options H → Terminal → MietteHandler H → Type 0
 IsChosen o t (Graphical it) = (is_graphical o t ≡ true) × IsDrawing o t it
-IsChosen o t (Narrated it) = (is_graphical o t ≡ false) × (o.brief ≡ false) × (it ≡ told o)
-IsChosen o t (Brief it) = (o.brief ≡ true) × (it ≡ briefly o)
+IsChosen o t (Narrated it) = (is_graphical o t ≡ false) × (o.brief ≡ false) × (it ≡ narration_settings o)
+IsChosen o t (Brief it) = (o.brief ≡ true) × (it ≡ brief_settings o)

@@ -1,11 +1,11 @@
 -- What each handler may give, refuse and keep: what the one that was chosen does.
 use Rattle.std.specs.Prelude.{◌≡◌, ℕ, Bool, List, false}
 use Rattle.miette_tree.specs.rules.Tree.{Tree}
-use Rattle.miette_brief.specs.rules.Answered as brief
-use Rattle.miette_narrated.specs.rules.Answered.{IsNarrated, report_accepted}
-use Rattle.miette_graphical.specs.rules.Answered.{IsTextOf}
+use Rattle.miette_brief.specs.rules.PossibleAnswers as brief
+use Rattle.miette_narrated.specs.rules.PossibleAnswers.{IsNarrated, report_accepted}
+use Rattle.miette_graphical.specs.rules.PossibleAnswers.{IsTextOf}
 use Rattle.miette_graphical.specs.views.Handling.{draws_plain}
-use Rattle.miette_graphical.specs.rules.Printed.{all_read, printed}
+use Rattle.miette_graphical.specs.rules.PrintedDiagnostics.{all_read, diagnostics_of}
 use Rattle.miette_graphical.specs.rules.Snippets.{drawn_rows}
 use Rattle.miette.specs.declared.options.handler.MietteHandler.{MietteHandler}
 use Rattle.miette.specs.declared.options.handler.MietteHandler.TheVariants.{Graphical, Narrated, Brief}
@@ -16,7 +16,7 @@ Gives is_blank (Narrated it) t = IsNarrated it t
 Gives is_blank (Brief it) t = brief.IsBrief it t
 
 abbrev pub Refuses : {H : Type 0} → MietteHandler H → Tree → Type 0
-Refuses (Graphical it) t = all_read (printed it.settings t) ≡ false
+Refuses (Graphical it) t = all_read (diagnostics_of it.settings t) ≡ false
 Refuses (Narrated it) t = report_accepted t ≡ false
 Refuses (Brief it) t = brief.report_accepted t ≡ false
 

@@ -33,13 +33,13 @@ abbrev mutual
   all_parts chain (more_trees t ts) = parts chain t + all_parts chain ts
 
 -- rows, each with a line feed behind it
-abbrev pub ended : List (List ℕ) → List ℕ
-ended [] = []
-ended (row ∷ rows) = row ++ (10 ∷ ended rows)
+abbrev pub text_of_rows : List (List ℕ) → List ℕ
+text_of_rows [] = []
+text_of_rows (row ∷ rows) = row ++ (10 ∷ text_of_rows rows)
 
 -- A text is so many rows, each ended by a line feed: none is empty, and none holds a control character.
 pub record IsRows (count : ℕ) (text : List ℕ) : Type 0 where
   pub rows : List (List ℕ)
-  pub are : text ≡ ended rows
+  pub are : text ≡ text_of_rows rows
   pub many : length rows ≡ count
   pub each : AllByRecursion (λ row. NoCharPasses is_control row × (row ≢ [])) rows

@@ -42,13 +42,13 @@ abbrev pub shown_for : Bool → ℕ → List ℕ
 shown_for goes_on c = if is_control c then gap goes_on else c ∷ []
 
 -- characters with one space in place of each stretch of control characters, line terminators among them
-abbrev pub spaced : Bool → List ℕ → List ℕ
-spaced goes_on [] = []
-spaced goes_on (c ∷ cs) = shown_for goes_on c ++ spaced (is_control c) cs
+abbrev pub spaced_text : Bool → List ℕ → List ℕ
+spaced_text goes_on [] = []
+spaced_text goes_on (c ∷ cs) = shown_for goes_on c ++ spaced_text (is_control c) cs
 
 -- a text as it stands in a row
 abbrev pub one_row : List ℕ → List ℕ
-one_row text = encode_utf8_all (spaced false (chars text))
+one_row text = encode_utf8_all (spaced_text false (chars text))
 
 -- `2:3`
 abbrev pub position_text : Position → List ℕ

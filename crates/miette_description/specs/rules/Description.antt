@@ -11,8 +11,9 @@ use Rattle.serde_json.specs.Read.{read}
 use Rattle.serde_json.specs.Written.{has_float}
 use Rattle.miette_protocol.specs.rules.Reading.{Source}
 use Rattle.miette_protocol.specs.views.Meaning.{Meaning}
-use Rattle.miette_tree.specs.rules.Tree.{Tree, tree, Cause, diagnostic, texts, Trees, no_trees, more_trees, wrapped}
-use Rattle.miette_description.specs.rules.Members.{given, at_key, typed, list_of, source_of, meaning_in}
+use Rattle.miette_tree.specs.rules.Tree.{Tree, tree, Cause, diagnostic, texts, Trees, no_trees, more_trees}
+use Rattle.miette_tree.specs.rules.Tree.{wrapped_tree}
+use Rattle.miette_description.specs.rules.Members.{and_then, at_key, optional_value, list_of, source_of, meaning_in}
 
 -- a description or a list of texts, and not both
 abbrev pub one_cause : Option Tree → Option (List (List ℕ)) → Option Cause
@@ -22,25 +23,25 @@ one_cause (Some t) (Some ts) = None
 
 abbrev pub wrapped_in : List (List ℕ) → Tree → Tree
 wrapped_in [] t = t
-wrapped_in (m ∷ ms) t = wrapped_in ms (wrapped m t)
+wrapped_in (m ∷ ms) t = wrapped_in ms (wrapped_tree m t)
 
 -- the report that has these parts
-abbrev pub assembled : Meaning → Option Source → Option Tree → Option (List (List ℕ)) → Option Trees →
+abbrev pub tree_of_parts : Meaning → Option Source → Option Tree → Option (List (List ℕ)) → Option Trees →
     Option (List (List ℕ)) → Option Tree
-assembled m s one several related contexts =
+tree_of_parts m s one several related contexts =
     option_map (λ c. wrapped_in (unwrap_or contexts []) (tree m s c (unwrap_or related no_trees)))
     (one_cause one several)
 
 -- the report of a description whose `cause` and `related` are read
 abbrev pub report_from : Option (Option Tree) → Option (Option Trees) → Data → Option Tree
 report_from cause related d =
-    given (meaning_in d) (λ m.
-    given (typed source_of (at_key (codes "source") d)) (λ s.
-    given cause (λ one.
-    given (typed (list_of as_str) (at_key (codes "causes") d)) (λ several.
-    given related (λ r.
-    given (typed (list_of as_str) (at_key (codes "contexts") d)) (λ contexts.
-    assembled m s one several r contexts))))))
+    and_then (meaning_in d) (λ m.
+    and_then (optional_value source_of (at_key (codes "source") d)) (λ s.
+    and_then cause (λ one.
+    and_then (optional_value (list_of as_str) (at_key (codes "causes") d)) (λ several.
+    and_then related (λ r.
+    and_then (optional_value (list_of as_str) (at_key (codes "contexts") d)) (λ contexts.
+    tree_of_parts m s one several r contexts))))))
 
 -- null is as absent
 abbrev pub nullable : {A : Type 0} → Data → Option A → Option (Option A)
@@ -77,12 +78,12 @@ abbrev mutual
 
   pub each_in : Items → Option Trees
   each_in no_items = Some no_trees
-  each_in (item d ds) = given (report_in d) (λ t. given (each_in ds) (λ ts. Some (more_trees t ts)))
+  each_in (item d ds) = and_then (report_in d) (λ t. and_then (each_in ds) (λ ts. Some (more_trees t ts)))
 
 -- a number that is neither a `u64` nor an `i64` makes a bad description, wherever it stands
-abbrev pub described : Data → Option Tree
-described d = if has_float d then None else report_in d
+abbrev pub described_tree : Data → Option Tree
+described_tree d = if has_float d then None else report_in d
 
 -- the tree that the bytes describe, by the JSON value that is read from them (at most 127 deep)
 abbrev pub tree_for : List ℕ → Option Tree
-tree_for bytes = option_and_then described (read bytes)
+tree_for bytes = option_and_then described_tree (read bytes)

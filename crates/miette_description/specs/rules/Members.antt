@@ -3,15 +3,15 @@ use Rattle.std.specs.Prelude.{ℕ, List, [], ◌∷◌, Option, Some, None, opti
 use Rattle.std.specs.Prelude.{false, if◌then◌else◌, codes, bytes_eq}
 use Rattle.serde_json.specs.Data.{Data, Items, no_items, item}
 use Rattle.serde_json.specs.Find.{get, as_null, as_bool, as_number, as_str, as_array, as_u64}
-use Rattle.miette_protocol.specs.rules.Reading.{Source, plain_source, named}
-use Rattle.miette_protocol.specs.views.Meaning.{Label, counted, Meaning}
+use Rattle.miette_protocol.specs.rules.Reading.{Source, plain_source, named_source}
+use Rattle.miette_protocol.specs.views.Meaning.{Label, context_count, Meaning}
 use Rattle.miette_protocol.specs.declared.protocol.Severity.{Severity}
 use Rattle.miette_protocol.specs.declared.protocol.Severity.TheVariants.{Advice, Warning, Error}
 
 -- nothing where the first is nothing, and else what is made of it
-abbrev pub given : {A B : Type 0} → Option A → (A → Option B) → Option B
-given None f = None
-given (Some x) f = f x
+abbrev pub and_then : {A B : Type 0} → Option A → (A → Option B) → Option B
+and_then None f = None
+and_then (Some x) f = f x
 
 -- null is as absent
 abbrev pub present : Option Data → Option Data
@@ -22,9 +22,9 @@ abbrev pub at_key : List ℕ → Data → Option Data
 at_key key d = present (get key d)
 
 -- what may be absent, and has a type where it is there
-abbrev pub typed : {A : Type 0} → (Data → Option A) → Option Data → Option (Option A)
-typed reads None = Some None
-typed reads (Some d) = option_map Some (reads d)
+abbrev pub optional_value : {A : Type 0} → (Data → Option A) → Option Data → Option (Option A)
+optional_value reads None = Some None
+optional_value reads (Some d) = option_map Some (reads d)
 
 -- a number that is read as a `u64`
 abbrev pub whole : Data → Option ℕ
@@ -33,10 +33,10 @@ whole d = option_and_then as_u64 (as_number d)
 -- a list whose items are all of one type
 abbrev pub all_of : {A : Type 0} → (Data → Option A) → Items → Option (List A)
 all_of reads no_items = Some []
-all_of reads (item d ds) = given (reads d) (λ x. given (all_of reads ds) (λ xs. Some (x ∷ xs)))
+all_of reads (item d ds) = and_then (reads d) (λ x. and_then (all_of reads ds) (λ xs. Some (x ∷ xs)))
 
 abbrev pub list_of : {A : Type 0} → (Data → Option A) → Data → Option (List A)
-list_of reads d = given (as_array d) (all_of reads)
+list_of reads d = and_then (as_array d) (all_of reads)
 
 abbrev pub named_severity : List ℕ → Option Severity
 named_severity name =
@@ -45,19 +45,19 @@ named_severity name =
     else (if bytes_eq name (codes "error") then Some Error else None))
 
 abbrev pub severity_of : Data → Option Severity
-severity_of d = given (as_str d) named_severity
+severity_of d = and_then (as_str d) named_severity
 
 -- a number of context lines, which is at least 1
 abbrev pub lines_of : Data → Option ℕ
-lines_of d = counted (whole d)
+lines_of d = context_count (whole d)
 
 abbrev pub label_of : Data → Option Label
 label_of d =
-    given (given (at_key (codes "offset") d) whole) (λ offset.
-    given (given (at_key (codes "length") d) whole) (λ length.
-    given (typed as_str (at_key (codes "label") d)) (λ text.
-    given (typed as_bool (at_key (codes "primary") d)) (λ primary.
-    given (typed lines_of (at_key (codes "context") d)) (λ context.
+    and_then (and_then (at_key (codes "offset") d) whole) (λ offset.
+    and_then (and_then (at_key (codes "length") d) whole) (λ length.
+    and_then (optional_value as_str (at_key (codes "label") d)) (λ text.
+    and_then (optional_value as_bool (at_key (codes "primary") d)) (λ primary.
+    and_then (optional_value lines_of (at_key (codes "context") d)) (λ context.
     Some (record {
       text = text;
       span = record { offset = offset; len = length };
@@ -68,22 +68,22 @@ label_of d =
 -- bytes, with a name where there is one; a language without a name is ignored
 abbrev pub source_named : List ℕ → Option (List ℕ) → Option (List ℕ) → Source
 source_named bytes None language = plain_source bytes
-source_named bytes (Some name) language = named (plain_source bytes) name language
+source_named bytes (Some name) language = named_source (plain_source bytes) name language
 
 abbrev pub source_of : Data → Option Source
 source_of d =
-    given (given (at_key (codes "text") d) as_str) (λ bytes.
-    given (typed as_str (at_key (codes "name") d)) (λ name.
-    given (typed as_str (at_key (codes "language") d)) (λ language.
+    and_then (and_then (at_key (codes "text") d) as_str) (λ bytes.
+    and_then (optional_value as_str (at_key (codes "name") d)) (λ name.
+    and_then (optional_value as_str (at_key (codes "language") d)) (λ language.
     Some (source_named bytes name language))))
 
 -- what the diagnostic of a description says
 abbrev pub meaning_in : Data → Option Meaning
 meaning_in d =
-    given (given (at_key (codes "message") d) as_str) (λ message.
-    given (typed as_str (at_key (codes "code") d)) (λ code.
-    given (typed severity_of (at_key (codes "severity") d)) (λ severity.
-    given (typed as_str (at_key (codes "help") d)) (λ help.
-    given (typed as_str (at_key (codes "url") d)) (λ url.
-    given (typed (list_of label_of) (at_key (codes "labels") d)) (λ labels.
+    and_then (and_then (at_key (codes "message") d) as_str) (λ message.
+    and_then (optional_value as_str (at_key (codes "code") d)) (λ code.
+    and_then (optional_value severity_of (at_key (codes "severity") d)) (λ severity.
+    and_then (optional_value as_str (at_key (codes "help") d)) (λ help.
+    and_then (optional_value as_str (at_key (codes "url") d)) (λ url.
+    and_then (optional_value (list_of label_of) (at_key (codes "labels") d)) (λ labels.
     Some (record { message = message; code = code; severity = severity; help = help; url = url; labels = labels })))))))

@@ -7,12 +7,12 @@ use Rattle.miette_snippets.specs.rules.Marks.{Mark}
 use Rattle.miette_snippets.specs.rules.Drawing.{text_row}
 use Rattle.miette_lines.specs.rules.Labels.{DrawnLabel}
 use Rattle.miette_snippets.specs.views.ThemeSettings.{settings_of}
-use Rattle.miette_lines.specs.views.Given.{drawn_of, width_of}
+use Rattle.miette_lines.specs.views.GivenLabels.{drawn_of, width_of}
 use Rattle.miette_snippets.specs.rules.Gutters.{number_gutter, other_gutter, open_gutter, part_run}
 use Rattle.miette_snippets.specs.rules.Frames.{SnippetSettings, number_start, other_start}
 use Rattle.miette_snippets.specs.rules.PrintedCells.{line_runs}
 use Rattle.miette_lines.specs.rules.Cells.{Cell, cells_from, characters}
-use Rattle.miette_snippets.specs.rules.Highlighted.{highlight_of}
+use Rattle.miette_snippets.specs.rules.Highlighting.{highlight_of}
 use Rattle.miette_newlines.specs.views.Walking.{line_of_text}
 
 abbrev pub settings : Sheet → SnippetSettings

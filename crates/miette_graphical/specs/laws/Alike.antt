@@ -6,11 +6,11 @@ use Rattle.miette_graphical.specs.rules.Settings.{Settings}
 use Rattle.miette_graphical.specs.rules.Answers.{Answer, Answers, RelatedAnswers, own_answer, cause_answers}
 use Rattle.miette_graphical.specs.rules.Answers.{related_answers, first_answers, later_answers}
 use Rattle.miette_graphical.specs.rules.DiagnosticText.{SnippetRows}
-use Rattle.miette_graphical.specs.rules.Printed.{Printed}
+use Rattle.miette_graphical.specs.rules.PrintedDiagnostics.{PrintedDiagnostic}
 use Rattle.miette_graphical.specs.laws.Paths.{Step, to_cause, to_related, printed_at}
 
 -- over the diagnostic's source and by its labels, in every settings and under every answer
-abbrev pub AreDrawnAlike : SnippetRows → SnippetRows → Printed → Type 0
+abbrev pub AreDrawnAlike : SnippetRows → SnippetRows → PrintedDiagnostic → Type 0
 AreDrawnAlike rows others p = (s : Settings) (a : Answer) →
     rows s p.source (given_labels p.meaning.labels) a ≡ others s p.source (given_labels p.meaning.labels) a
 
@@ -27,5 +27,5 @@ answer_at a (to_related k ∷ path) = answer_at (numbered_answers (related_answe
 
 -- at each path at which a diagnostic is printed
 abbrev pub AreAnsweredAlike : Settings → Tree → Answers → Answers → Type 0
-AreAnsweredAlike s t a b = (path : List Step) (p : Printed) → printed_at s t path ≡ Some p →
+AreAnsweredAlike s t a b = (path : List Step) (p : PrintedDiagnostic) → printed_at s t path ≡ Some p →
     answer_at a path ≡ answer_at b path

@@ -8,7 +8,7 @@ use Rattle.miette_protocol.specs.rules.Reading.{Source}
 use Rattle.miette_graphical.specs.rules.Settings.{Settings}
 use Rattle.miette_style.specs.rules.Themes.{Styles}
 use Rattle.miette_graphical.specs.rules.Answers.{Answer, Answers, unlisted, listed, RelatedAnswers, no_more, and_more}
-use Rattle.miette_graphical.specs.rules.Answered.{AreAnswers, IsTextOf}
+use Rattle.miette_graphical.specs.rules.PossibleAnswers.{AreAnswers, IsTextOf}
 use Rattle.miette_graphical.specs.rules.DiagnosticText.{SnippetRows, rows_text}
 use Rattle.miette_graphical.specs.rules.Text.{report_text}
 use Rattle.miette_tree.specs.rules.Tree.{Tree}
@@ -16,8 +16,8 @@ use Rattle.std.specs.List.{AllByRecursion}
 use Rattle.miette_snippet_laws.specs.laws.Clean.{IsCleanLabel, IsCleanSource}
 use Rattle.miette_graphical.specs.laws.Clean.{AreCleanSettings, HaveNoEscapes}
 
-abbrev pub faded : Styles → Styles
-faded s = record {
+abbrev pub faded_styles : Styles → Styles
+faded_styles s = record {
   error = plain;
   warning = plain;
   advice = plain;
@@ -28,7 +28,7 @@ faded s = record {
 }
 
 abbrev pub colourless : Settings → Settings
-colourless s = record s { styles = faded s.styles }
+colourless s = record s { styles = faded_styles s.styles }
 
 abbrev pub unhighlighted_answer : Answer → Answer
 unhighlighted_answer a = record a { pieces = [] }

@@ -14,23 +14,23 @@ use Rattle.miette_lines.specs.rules.Labels.{DrawnLabel, one_line, some_shows_end
 use Rattle.miette_snippets.specs.rules.SnippetLayout as layout
 use Rattle.miette_snippets.specs.rules.SnippetLayout.{cells_of, settings_around, text_of_cells}
 use Rattle.miette_snippets.specs.rules.Marks.{Mark, Text, anchor, marks, marks_at, AreApart}
-use Rattle.miette_snippets.specs.rules.Numbers.{runs, IsRun, AreParted}
+use Rattle.miette_snippets.specs.rules.Numbers.{ranges, IsRange, AreParted}
 use Rattle.miette_snippet_laws.specs.laws.Ends.{AreBehindText, EndsStandBehind}
 use Rattle.miette_snippet_laws.specs.laws.Pictures.{BodyShows}
-use Rattle.miette_snippets.specs.rules.Shown.{framed_runs, line_at}
-use Rattle.miette_snippets.specs.rules.Snippets.{shown, snippets}
+use Rattle.miette_snippets.specs.rules.ShownLines.{framed_ranges, line_at}
+use Rattle.miette_snippets.specs.rules.Snippets.{shown_numbers, snippets}
 use Rattle.miette_graphical.specs.rules.Answers.{pieces_listed}
 use Rattle.miette_tree.specs.rules.DiagnosticParts.{given_labels}
-use Rattle.miette_graphical.specs.rules.Printed.{Printed}
+use Rattle.miette_graphical.specs.rules.PrintedDiagnostics.{PrintedDiagnostic}
 use Rattle.miette_graphical.specs.rules.Settings.{Settings}
-use Rattle.miette_graphical.specs.laws.Shipped.{AreNarrow}
+use Rattle.miette_graphical.specs.laws.CharacterSets.{AreNarrow}
 use Rattle.miette_graphical.specs.rules.Snippets.{layout_settings, shown_rows, drawn_rows}
 
 -- ---- the lines of the snippets
 
 -- the numbers of the lines in the context of some label
 abbrev pub shown_lines : Settings → Source → List Label → List ℕ
-shown_lines s source labels = shown s.context source.bytes labels
+shown_lines s source labels = shown_numbers s.context source.bytes labels
 
 -- the groups of labels, of which each is drawn as one snippet
 abbrev pub groups_of : Settings → Source → List Label → List Span
@@ -46,16 +46,16 @@ group_settings s labels = settings_around (layout_settings s) (in_order labels)
 pub record ShowsRuns (s : Settings) (source : Source) (labels : List Label) : Type 0 where
   pub rows : (pieces : List (List (List Highlight))) →
       drawn_rows s (Some source) labels (pieces_listed pieces)
-      ≡ shown_rows (Some (framed_runs (layout_settings s) source labels (pieces_listed pieces)))
+      ≡ shown_rows (Some (framed_ranges (layout_settings s) source labels (pieces_listed pieces)))
   pub groups : lines_of_groups (group_settings s labels).context source (groups_of s source labels)
       ≡ snippets s.context source.bytes labels
-  pub whole : concat (runs (shown_lines s source labels)) ≡ shown_lines s source labels
-  pub consecutive : AllByRecursion IsRun (runs (shown_lines s source labels))
-  pub parted : AreParted (runs (shown_lines s source labels))
+  pub whole : concat (ranges (shown_lines s source labels)) ≡ shown_lines s source labels
+  pub consecutive : AllByRecursion IsRange (ranges (shown_lines s source labels))
+  pub parted : AreParted (ranges (shown_lines s source labels))
 
 -- a diagnostic whose source always reads and accepts its labels, where there is at least one line of context for each
 -- label
-abbrev pub LinesAreShown : Settings → Printed → Type 0
+abbrev pub LinesAreShown : Settings → PrintedDiagnostic → Type 0
 LinesAreShown s p =
     IfSome p.source (λ source.
     source.always_reads ≡ true → AreAccepted source.bytes (given_labels p.meaning.labels) →
@@ -89,7 +89,7 @@ pub record AreOwnMarks (marks : List Mark) : Type 0 where
   pub anchors : AllByRecursion (λ mark. marks_at (anchor mark) marks ≡ mark ∷ []) marks
 
 -- under each line of a diagnostic's source
-abbrev pub MarksAreApart : Settings → Printed → Type 0
+abbrev pub MarksAreApart : Settings → PrintedDiagnostic → Type 0
 MarksAreApart s p = IfSome p.source (λ source. (k : ℕ) →
     AreOwnMarks (marks_under s source (given_labels p.meaning.labels) k))
 
@@ -104,7 +104,7 @@ SnippetHangs s source labels group =
     (contents (group_settings s labels).context source group) pieces
 
 -- in each snippet of a diagnostic, where the theme's drawing characters are one column wide
-abbrev pub TextsHang : Settings → Printed → Type 0
+abbrev pub TextsHang : Settings → PrintedDiagnostic → Type 0
 TextsHang s p =
     IfSome p.source (λ source.
     AreNarrow s.characters → AllByRecursion (SnippetHangs s source (given_labels p.meaning.labels))
@@ -119,7 +119,7 @@ pub record EndsBehind (s : Settings) (source : Source) (labels : List Label) : T
   pub marks : (k : ℕ) → AreBehindText (text_under s source k) (labels_under s source labels k)
 
 -- where labels at the end are drawn, and one of them has a line of context
-abbrev pub EndsAreDrawn : Settings → Printed → Type 0
+abbrev pub EndsAreDrawn : Settings → PrintedDiagnostic → Type 0
 EndsAreDrawn s p =
     IfSome p.source (λ source. s.end_labels ≡ true →
     some_shows_end (group_settings s (given_labels p.meaning.labels)).context (length source.bytes)

@@ -5,7 +5,7 @@ use Rattle.miette_protocol.specs.rules.Reading.{Source}
 use Rattle.miette_style.specs.rules.Pieces.{Piece}
 use Rattle.miette_lines.specs.rules.Around.{group_context}
 use Rattle.miette_lines.specs.rules.Groups.{groups_of, in_order}
-use Rattle.miette_snippets.specs.rules.Highlighted.{pieces_by}
+use Rattle.miette_snippets.specs.rules.Highlighting.{pieces_by}
 use Rattle.miette_tree.specs.rules.DiagnosticParts.{given_labels}
 use Rattle.miette_tree.specs.rules.Tree.{effective, Tree, tree, Cause, diagnostic, texts, Trees, no_trees, more_trees}
 use Rattle.miette_graphical.specs.rules.Answers.{Answer, Answers, RelatedAnswers, nothing_listed, pieces_listed}

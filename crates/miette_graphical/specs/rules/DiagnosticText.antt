@@ -8,7 +8,7 @@ use Rattle.miette_protocol.specs.declared.protocol.Severity.{Severity}
 use Rattle.miette_protocol.specs.declared.protocol.Severity.TheVariants.{Advice, Warning, Error}
 use Rattle.miette_graphical.specs.rules.Settings.{Settings, Urls, AsLinks, AsText, Hidden, severity_style}
 use Rattle.miette_graphical.specs.rules.Answers.{Answer}
-use Rattle.miette_graphical.specs.rules.Indents.{bare, wrapped_under, icon_indent, bar_indent, arrow_indent}
+use Rattle.miette_graphical.specs.rules.Indents.{bare_text, wrapped_under, icon_indent, bar_indent, arrow_indent}
 use Rattle.miette_graphical.specs.rules.Indents.{stem_indent, help_indent, further_help_indent, footer_indent}
 
 abbrev pub line_feed : List ℕ
@@ -16,7 +16,7 @@ line_feed = 10 ∷ []
 
 -- the rest of the row, and a blank row
 abbrev pub blank_row : List Fragment
-blank_row = bare (10 ∷ 10 ∷ []) ∷ []
+blank_row = bare_text (10 ∷ 10 ∷ []) ∷ []
 
 -- ---- header
 
@@ -28,7 +28,7 @@ linked_code style (Some code) = Styled style (chars code ++ 32 ∷ []) ∷ []
 -- the url behind the code
 abbrev pub url_behind : Settings → Option (List ℕ) → List Fragment
 url_behind s None = []
-url_behind s (Some url) = bare (codes " (") ∷ Styled s.styles.link (chars url) ∷ bare (codes ")") ∷ []
+url_behind s (Some url) = bare_text (codes " (") ∷ Styled s.styles.link (chars url) ∷ bare_text (codes ")") ∷ []
 
 abbrev pub link_header : Settings → Style → List ℕ → Option (List ℕ) → List Fragment
 link_header s style url code = LinkTo (chars url) ∷ linked_code style code ++ Styled s.styles.link s.link_text ∷ LinkEnd
@@ -82,7 +82,7 @@ severity_title (Some Advice) = codes "Advice: "
 
 -- a related report's header, or else the end of its row
 abbrev pub header_or_end : List Fragment → List Fragment
-header_or_end [] = bare line_feed ∷ []
+header_or_end [] = bare_text line_feed ∷ []
 header_or_end (s ∷ ss) = s ∷ ss
 
 abbrev pub title_text : Settings → Meaning → List ℕ

@@ -3,14 +3,14 @@ use Rattle.std.specs.Prelude.{ℕ, ◌-◌, Bool, true, false, List, [], ◌∷�
 use Rattle.miette_runs.specs.rules.Runs.{Fragment, Styled, print}
 use Rattle.miette_style.specs.rules.Styles.{plain}
 use Rattle.miette_runs.specs.rules.Sequences.{tokens}
-use Rattle.miette_text.specs.rules.Wrapping.{wrapped}
+use Rattle.miette_text.specs.rules.Wrapping.{wrapped_text}
 use Rattle.miette_runs.specs.rules.Cells.{columns_of}
 use Rattle.miette_protocol.specs.declared.protocol.Severity.{Severity}
 use Rattle.miette_graphical.specs.rules.Settings.{Settings, icon, severity_style}
 
 -- a text in no style
-abbrev pub bare : List ℕ → Fragment
-bare text = Styled plain text
+abbrev pub bare_text : List ℕ → Fragment
+bare_text text = Styled plain text
 
 abbrev pub spaces : ℕ → List ℕ
 spaces n = replicate n 32
@@ -18,7 +18,7 @@ spaces n = replicate n 32
 -- a text wrapped behind what a first and a further indent print, at the set width less 2
 abbrev pub wrapped_behind : Settings → List ℕ → List ℕ → List ℕ → List ℕ
 wrapped_behind s first further text =
-    wrapped (record {
+    wrapped_text (record {
       room = s.width - 2;
       first = first;
       further = further;
@@ -32,11 +32,12 @@ wrapped_under s first further text = wrapped_behind s (print first) (print furth
 
 -- in front of a message: its icon, and a bar
 abbrev pub icon_indent : Settings → Option Severity → List Fragment
-icon_indent s severity = bare (spaces 2) ∷ Styled (severity_style s severity) (icon s severity) ∷ bare (spaces 1) ∷ []
+icon_indent s severity =
+    bare_text (spaces 2) ∷ Styled (severity_style s severity) (icon s severity) ∷ bare_text (spaces 1) ∷ []
 
 abbrev pub bar_indent : Settings → Option Severity → List Fragment
-bar_indent s severity = bare (spaces 2) ∷ Styled (severity_style s severity) (s.characters.vbar ∷ []) ∷ bare (spaces 1)
-    ∷ []
+bar_indent s severity =
+    bare_text (spaces 2) ∷ Styled (severity_style s severity) (s.characters.vbar ∷ []) ∷ bare_text (spaces 1) ∷ []
 
 -- In front of a cause or a nested related report, in the style of the outer severity: an arrow, and a bar that goes
 -- down to the next one.
@@ -59,11 +60,12 @@ abbrev pub help_indent : Settings → List Fragment
 help_indent s = Styled s.styles.help (codes "  help: ") ∷ []
 
 abbrev pub further_help_indent : List Fragment
-further_help_indent = bare (spaces 8) ∷ []
+further_help_indent = bare_text (spaces 8) ∷ []
 
 abbrev pub footer_indent : List Fragment
-footer_indent = bare (spaces 2) ∷ []
+footer_indent = bare_text (spaces 2) ∷ []
 
 -- For what stands under an arrow: the width less the columns of the further indent.
-abbrev pub narrowed : Settings → Option Severity → Bool → Settings
-narrowed s outer is_last = record s { width = s.width - columns_of (tokens (print (stem_indent s outer is_last))) }
+abbrev pub narrow_settings : Settings → Option Severity → Bool → Settings
+narrow_settings s outer is_last =
+    record s { width = s.width - columns_of (tokens (print (stem_indent s outer is_last))) }

@@ -10,7 +10,7 @@ use Rattle.miette_protocol.specs.declared.protocol.Severity.{Severity}
 use Rattle.miette_graphical.specs.rules.Settings.{Settings}
 use Rattle.miette_graphical.specs.rules.Answers.{Answer, Answers, RelatedAnswers, own_answer, cause_answers}
 use Rattle.miette_graphical.specs.rules.Answers.{related_answers, first_answers, later_answers}
-use Rattle.miette_graphical.specs.rules.Indents.{narrowed}
+use Rattle.miette_graphical.specs.rules.Indents.{narrow_settings}
 use Rattle.miette_graphical.specs.rules.DiagnosticText.{SnippetRows, header, message_text, help_text, footer_text}
 use Rattle.miette_graphical.specs.rules.DiagnosticText.{under_arrow}
 use Rattle.miette_graphical.specs.rules.DiagnosticText.{title_text, rows_text}
@@ -48,7 +48,7 @@ inner_text rows s m source answer related = inner_over s m (rows_text (rows s so
 abbrev pub inner_at : SnippetRows → Settings → Option Severity → Bool → Meaning → Option Source → Answer →
     (Settings → List ℕ) → List ℕ
 inner_at rows s outer is_last m source answer related =
-    inner_text rows (narrowed s outer is_last) m source answer (related (narrowed s outer is_last))
+    inner_text rows (narrow_settings s outer is_last) m source answer (related (narrow_settings s outer is_last))
 
 abbrev pub cause_texts : Settings → Option Severity → List (List ℕ) → List ℕ
 cause_texts s outer [] = []

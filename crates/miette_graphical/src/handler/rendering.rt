@@ -3,10 +3,10 @@
 ghost use Rattle.std.specs.Prelude.{◌≡◌, ◌++◌, ℕ, List, [], OnErr, OnOk, false, true, chars, string_bytes};
 ghost use Rattle.std.specs.Prelude.{encode_utf8_all, option_map};
 ghost use Rattle.std.specs.List.{AllByRecursion};
-ghost use Rattle.miette_graphical.specs.rules.Answered.{Appends, AppendsAsked, IsTextOf};
+ghost use Rattle.miette_graphical.specs.rules.PossibleAnswers.{Appends, AppendsAsked, IsTextOf};
 ghost use Rattle.miette_graphical.specs.rules.Answers.{unlisted};
 ghost use Rattle.miette_graphical.specs.rules.ByLine.{answers_by};
-ghost use Rattle.miette_graphical.specs.rules.Printed.{all_read, printed};
+ghost use Rattle.miette_graphical.specs.rules.PrintedDiagnostics.{all_read, diagnostics_of};
 ghost use Rattle.miette_graphical.specs.rules.Snippets.{drawn_rows};
 ghost use Rattle.miette_graphical.specs.rules.Text.{report_text};
 ghost use Rattle.miette_graphical.specs.laws.Clean.{AreCleanSettings, IsCleanTree};
@@ -17,7 +17,7 @@ ghost use Rattle.miette_graphical.specs.steps.SettingsView.{settings_of};
 ghost use Rattle.miette_tree.specs.views.Handler.{AppendsOne};
 ghost use Rattle.miette_runs.specs.rules.Sequences.{erase};
 ghost use Rattle.miette_text.specs.rules.Tame.{AppendsErasing};
-ghost use Rattle.miette_style.specs.rules.Asked.{AnsweredBy, Call};
+ghost use Rattle.miette_style.specs.rules.HighlighterCalls.{AnsweredBy, Call};
 ghost use Rattle.miette_style.specs.rules.Pieces.{Piece};
 ghost use Rattle.miette_tree.specs.views.Report.{tree_of};
 
@@ -86,7 +86,7 @@ impl<H: Highlighter> GraphicalReportHandler<H> {
             (AreCallsOf H.may_follow self.old self.new) (tree_of D.meaning S.source report.now) (string_bytes out.old)
             (string_bytes out.new)) }
         ensures refused { (result ≡ Err RenderError.Refused) →
-            all_read (printed self.old.settings (tree_of D.meaning S.source report.now)) ≡ false }
+            all_read (diagnostics_of self.old.settings (tree_of D.meaning S.source report.now)) ≡ false }
         ensures err { OnErr result (string_bytes out.new ≡ string_bytes out.old) }
     {
         let alloc = *out.allocator();
@@ -124,14 +124,14 @@ impl<H: Highlighter> GraphicalReportHandler<H> {
             ⟦<Box<dyn SourceCode> as SourceCode>⟧.source report.now in
             OnOk result ((answer : List ℕ → List Piece) →
             ((calls : List Call) → follows_of H.may_follow self.old calls → AnsweredBy answer calls) →
-            follows_of H.may_follow self.new [] → all_read (printed self.old.settings tree) ≡ true →
+            follows_of H.may_follow self.new [] → all_read (diagnostics_of self.old.settings tree) ≡ true →
             string_bytes out.new ≡ string_bytes out.old ++ encode_utf8_all (report_text drawn_rows self.old.settings
             tree (answers_by answer self.old.settings.context tree))) }
         // where every source always reads, and no highlighter or a blank one is set, there is one such text
         ensures only { let tree = tree_of ⟦<Box<dyn Diagnostic> as Diagnostic>⟧.meaning
             ⟦<Box<dyn SourceCode> as SourceCode>⟧.source report.now in
-            OnOk result (draws_plain H.is_blank self.old ≡ true → all_read (printed self.old.settings tree) ≡ true →
-            string_bytes out.new ≡ string_bytes out.old
+            OnOk result (draws_plain H.is_blank self.old ≡ true →
+            all_read (diagnostics_of self.old.settings tree) ≡ true → string_bytes out.new ≡ string_bytes out.old
             ++ encode_utf8_all (report_text drawn_rows self.old.settings tree unlisted)) }
         // where the texts, the sources with their names, the settings and the theme's characters hold no escape:
         // without its colours, what was appended is the text in plain styles and without a highlighter under the same
@@ -144,36 +144,36 @@ impl<H: Highlighter> GraphicalReportHandler<H> {
         // which is one text where every source always reads, whatever a highlighter says
         ensures colourless { let tree = tree_of ⟦<Box<dyn Diagnostic> as Diagnostic>⟧.meaning
             ⟦<Box<dyn SourceCode> as SourceCode>⟧.source report.now in
-            OnOk result (all_read (printed self.old.settings tree) ≡ true → AreCleanSettings self.old.settings →
+            OnOk result (all_read (diagnostics_of self.old.settings tree) ≡ true → AreCleanSettings self.old.settings →
             IsCleanTree tree →
             AppendsErasing (string_bytes out.old) (string_bytes out.new)
             (encode_utf8_all (report_text drawn_rows (colourless self.old.settings) tree unlisted))) }
         // and the same for all themes with these characters
         ensures themes { let tree = tree_of ⟦<Box<dyn Diagnostic> as Diagnostic>⟧.meaning
             ⟦<Box<dyn SourceCode> as SourceCode>⟧.source report.now in
-            OnOk result (all_read (printed self.old.settings tree) ≡ true → AreCleanSettings self.old.settings →
+            OnOk result (all_read (diagnostics_of self.old.settings tree) ≡ true → AreCleanSettings self.old.settings →
             IsCleanTree tree → (others : List ℕ) → IsRestyledText drawn_rows self.old.settings tree others →
             AppendsErasing (string_bytes out.old) (string_bytes out.new) (erase others)) }
         // of each printed diagnostic: its snippets show the lines in the context of its labels, once and in order,
         ensures lines { let tree = tree_of ⟦<Box<dyn Diagnostic> as Diagnostic>⟧.meaning
             ⟦<Box<dyn SourceCode> as SourceCode>⟧.source report.now in
-            OnOk result (AllByRecursion (LinesAreShown self.old.settings) (printed self.old.settings tree)) }
+            OnOk result (AllByRecursion (LinesAreShown self.old.settings) (diagnostics_of self.old.settings tree)) }
         // its marks have columns of their own,
         ensures marks { let tree = tree_of ⟦<Box<dyn Diagnostic> as Diagnostic>⟧.meaning
             ⟦<Box<dyn SourceCode> as SourceCode>⟧.source report.now in
-            OnOk result (AllByRecursion (MarksAreApart self.old.settings) (printed self.old.settings tree)) }
+            OnOk result (AllByRecursion (MarksAreApart self.old.settings) (diagnostics_of self.old.settings tree)) }
         // each text of a label on one line hangs from its own mark,
         ensures texts { let tree = tree_of ⟦<Box<dyn Diagnostic> as Diagnostic>⟧.meaning
             ⟦<Box<dyn SourceCode> as SourceCode>⟧.source report.now in
-            OnOk result (AllByRecursion (TextsHang self.old.settings) (printed self.old.settings tree)) }
+            OnOk result (AllByRecursion (TextsHang self.old.settings) (diagnostics_of self.old.settings tree)) }
         // and where labels at the end of its source are drawn, just these stand behind the text of the last line,
         // and their marks behind its columns
         ensures ends { let tree = tree_of ⟦<Box<dyn Diagnostic> as Diagnostic>⟧.meaning
             ⟦<Box<dyn SourceCode> as SourceCode>⟧.source report.now in
-            OnOk result (AllByRecursion (EndsAreDrawn self.old.settings) (printed self.old.settings tree)) }
+            OnOk result (AllByRecursion (EndsAreDrawn self.old.settings) (diagnostics_of self.old.settings tree)) }
         ensures refused { let tree = tree_of ⟦<Box<dyn Diagnostic> as Diagnostic>⟧.meaning
             ⟦<Box<dyn SourceCode> as SourceCode>⟧.source report.now in
-            (result ≡ Err RenderError.Refused) → all_read (printed self.old.settings tree) ≡ false }
+            (result ≡ Err RenderError.Refused) → all_read (diagnostics_of self.old.settings tree) ≡ false }
         ensures err { OnErr result (string_bytes out.new ≡ string_bytes out.old) }
     {
         snippets_law();
@@ -185,7 +185,7 @@ impl<H: Highlighter> GraphicalReportHandler<H> {
 impl<H: Highlighter> ReportHandler for GraphicalReportHandler<H> {
     ghost gives = { λ it t. IsTextOf drawn_rows it.settings (draws_plain H.is_blank it) t };
 
-    ghost refuses = { λ it t. all_read (printed it.settings t) ≡ false };
+    ghost refuses = { λ it t. all_read (diagnostics_of it.settings t) ≡ false };
 
     ghost keeps = { λ old new. (new.settings ≡ old.settings)
         × (draws_plain H.is_blank new ≡ draws_plain H.is_blank old) };

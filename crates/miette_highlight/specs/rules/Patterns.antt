@@ -5,7 +5,7 @@ use Rattle.std.specs.Char.{is_ascii_alphanumeric}
 use Rattle.std.specs.List.{starts_with}
 use Rattle.std.specs.Str.{bytes_eq}
 use Rattle.std.specs.declared.alloc.Global.{Global}
-use Rattle.miette_highlight.specs.declared.rule.Marks.{Marks}
+use Rattle.miette_highlight.specs.declared.rule.Delimiters.{Delimiters}
 use Rattle.miette_highlight.specs.declared.rule.Pattern.{Pattern}
 use Rattle.miette_highlight.specs.declared.rule.Pattern.TheVariants.{Words, From, Between}
 
@@ -32,41 +32,42 @@ abbrev pub is_escape : Option ℕ → ℕ → Bool
 is_escape None b = false
 is_escape (Some escape) b = escape == b
 
--- where the first closing mark ends that isn't escaped, the text beginning at a place, behind an escape or not
-abbrev pub close_end : Marks → Bool → ℕ → List ℕ → Option ℕ
-close_end marks escaped at [] = None
-close_end marks escaped at (b ∷ bs) =
-    if not escaped && starts_with nat_eq (b ∷ bs) (string_bytes marks.closes)
-    then Some (at + length (string_bytes marks.closes))
-    else close_end marks (not escaped && is_escape marks.escape b) (at + 1) bs
+-- where the first closing delimiter ends that isn't escaped, the text beginning at a place, behind an escape or not
+abbrev pub close_end : Delimiters → Bool → ℕ → List ℕ → Option ℕ
+close_end delimiters escaped at [] = None
+close_end delimiters escaped at (b ∷ bs) =
+    if not escaped && starts_with nat_eq (b ∷ bs) (string_bytes delimiters.closes)
+    then Some (at + length (string_bytes delimiters.closes))
+    else close_end delimiters (not escaped && is_escape delimiters.escape b) (at + 1) bs
 
--- up to the end that was found; else up to the line's end, and over it where marks may
+-- up to the end that was found; else up to the line's end, and over it where delimiters may
 abbrev pub closed_at : Option ℕ → ℕ → Bool → ℕ × Bool
 closed_at (Some end) line_end over_lines = (end, false)
 closed_at None line_end over_lines = (line_end, over_lines)
 
--- where what lies behind an opening mark ends, the text beginning at a place, and whether it stays open
-abbrev pub inside : Marks → ℕ → List ℕ → ℕ × Bool
-inside marks at text = closed_at (close_end marks false at text) (at + length text) marks.over_lines
+-- where what lies behind an opening delimiter ends, the text beginning at a place, and whether it stays open
+abbrev pub inside : Delimiters → ℕ → List ℕ → ℕ × Bool
+inside delimiters at text = closed_at (close_end delimiters false at text) (at + length text) delimiters.over_lines
 
 -- how many bytes a pattern finds at the start of a text, and whether what it finds stays open
 abbrev pub match_of : Pattern → List ℕ → Option (ℕ × Bool)
 match_of (Words words) text =
     if is_among words.items (take (word_end 0 text) text) then Some (word_end 0 text, false) else None
 match_of (From first last) text = if begins_within first last text then Some (word_end 0 text, false) else None
-match_of (Between marks) text =
-    if starts_with nat_eq text (string_bytes marks.opens)
-    then Some (inside marks (length (string_bytes marks.opens)) (drop (length (string_bytes marks.opens)) text))
+match_of (Between delimiters) text =
+    if starts_with nat_eq text (string_bytes delimiters.opens)
+    then Some (inside delimiters (length (string_bytes delimiters.opens))
+    (drop (length (string_bytes delimiters.opens)) text))
     else None
 
 -- the pattern is that of these words
 abbrev pub IsWords : List (List ℕ) → Pattern → Type 0
 IsWords texts (Words words) = map (λ w. string_bytes w) words.items ≡ texts
 IsWords texts (From first last) = ⊥
-IsWords texts (Between marks) = ⊥
+IsWords texts (Between delimiters) = ⊥
 
--- the marks, their escape, and whether what lies between them goes on over lines
-abbrev pub HasMarks : List ℕ → List ℕ → Option ℕ → Bool → Marks → Type 0
-HasMarks opens closes escape over_lines marks =
-    (string_bytes marks.opens ≡ opens) × (string_bytes marks.closes ≡ closes)
-    × (marks.escape ≡ escape) × (marks.over_lines ≡ over_lines)
+-- the delimiters, their escape, and whether what lies between them goes on over lines
+abbrev pub AreDelimiters : List ℕ → List ℕ → Option ℕ → Bool → Delimiters → Type 0
+AreDelimiters opens closes escape over_lines delimiters =
+    (string_bytes delimiters.opens ≡ opens) × (string_bytes delimiters.closes ≡ closes)
+    × (delimiters.escape ≡ escape) × (delimiters.over_lines ≡ over_lines)

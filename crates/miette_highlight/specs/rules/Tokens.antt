@@ -32,19 +32,19 @@ first_match at [] text = None
 first_match at (rule ∷ rules) text =
     found_or at rule.style (match_of rule.pattern text) (first_match (at + 1) rules text)
 
--- the rest of what a rule found before: only what lies between marks goes on
+-- the rest of what a rule found before: only what lies between delimiters goes on
 abbrev pub running_in : ℕ → Style → Pattern → List ℕ → Option Token
 running_in at style (Words words) text = None
 running_in at style (From first last) text = None
-running_in at style (Between marks) text = Some (token_of at style (inside marks 0 text))
+running_in at style (Between delimiters) text = Some (token_of at style (inside delimiters 0 text))
 
 abbrev pub running_rule : ℕ → Option Rule → List ℕ → Option Token
 running_rule at None text = None
 running_rule at (Some rule) text = running_in at rule.style rule.pattern text
 
-abbrev pub running : List Rule → Option ℕ → List ℕ → Option Token
-running rules None text = None
-running rules (Some at) text = running_rule at (slice_get rules at) text
+abbrev pub running_token : List Rule → Option ℕ → List ℕ → Option Token
+running_token rules None text = None
+running_token rules (Some at) text = running_rule at (slice_get rules at) text
 
 -- the word at the start of a text, plain
 abbrev pub plain_token : List ℕ → Token
@@ -53,7 +53,7 @@ plain_token text = record { bytes = word_end 0 text; style = plain; left_open = 
 -- what stands at the start of a text: the rest of the open rule, what the first rule finds, or a plain word
 unfoldable pub token_at : List Rule → Option ℕ → List ℕ → Token
 token_at rules left_open text =
-    else_token (running rules left_open text) (else_token (first_match 0 rules text) (plain_token text))
+    else_token (running_token rules left_open text) (else_token (first_match 0 rules text) (plain_token text))
 
 -- k is where the first character ends at or behind n
 pub record EndsFrom (text : List ℕ) (n k : ℕ) : Type 0 where

@@ -69,18 +69,18 @@ IsPiece (pair a b c d e f g h) =
     × (hex e f g h < 0xe000)
 
 -- a piece as it is written, before these bytes
-abbrev pub written : Piece → List ℕ → List ℕ
-written (plain x) rest = x ∷ rest
-written (short letter) rest = 92 ∷ letter ∷ rest
-written (unit a b c d) rest = 92 ∷ 117 ∷ a ∷ b ∷ c ∷ d ∷ rest
-written (pair a b c d e f g h) rest = 92 ∷ 117 ∷ a ∷ b ∷ c ∷ d ∷ 92 ∷ 117 ∷ e ∷ f ∷ g ∷ h ∷ rest
+abbrev pub piece_text : Piece → List ℕ → List ℕ
+piece_text (plain x) rest = x ∷ rest
+piece_text (short letter) rest = 92 ∷ letter ∷ rest
+piece_text (unit a b c d) rest = 92 ∷ 117 ∷ a ∷ b ∷ c ∷ d ∷ rest
+piece_text (pair a b c d e f g h) rest = 92 ∷ 117 ∷ a ∷ b ∷ c ∷ d ∷ 92 ∷ 117 ∷ e ∷ f ∷ g ∷ h ∷ rest
 
 -- the bytes that a piece stands for
-abbrev pub meant : Piece → List ℕ
-meant (plain x) = x ∷ []
-meant (short letter) = short_for letter ∷ []
-meant (unit a b c d) = encode_utf8 (hex a b c d)
-meant (pair a b c d e f g h) = encode_utf8 (0x10000 + (hex a b c d - 0xd800) * 1024 + (hex e f g h - 0xdc00))
+abbrev pub piece_value : Piece → List ℕ
+piece_value (plain x) = x ∷ []
+piece_value (short letter) = short_for letter ∷ []
+piece_value (unit a b c d) = encode_utf8 (hex a b c d)
+piece_value (pair a b c d e f g h) = encode_utf8 (0x10000 + (hex a b c d - 0xd800) * 1024 + (hex e f g h - 0xdc00))
 
 abbrev pub ArePieces : List Piece → Type 0
 ArePieces [] = ⊤
@@ -88,11 +88,11 @@ ArePieces (p ∷ ps) = IsPiece p × ArePieces ps
 
 abbrev pub all_written : List Piece → List ℕ → List ℕ
 all_written [] rest = rest
-all_written (p ∷ ps) rest = written p (all_written ps rest)
+all_written (p ∷ ps) rest = piece_text p (all_written ps rest)
 
 abbrev pub all_meant : List Piece → List ℕ
 all_meant [] = []
-all_meant (p ∷ ps) = meant p ++ all_meant ps
+all_meant (p ∷ ps) = piece_value p ++ all_meant ps
 
 -- ---- numbers
 

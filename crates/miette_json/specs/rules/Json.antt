@@ -42,19 +42,19 @@ escaped_byte x =
     cond (nat_lt 0 (escape_letter x)) (92 ∷ escape_letter x ∷ [])
     (cond (nat_lt x 32) (92 ∷ 117 ∷ 48 ∷ 48 ∷ digit_char (x / 16) ∷ digit_char (x % 16) ∷ []) (x ∷ []))
 
-abbrev pub escaped : List ℕ → List ℕ
-escaped [] = []
-escaped (x ∷ xs) = escaped_byte x ++ escaped xs
+abbrev pub escaped_text : List ℕ → List ℕ
+escaped_text [] = []
+escaped_text (x ∷ xs) = escaped_byte x ++ escaped_text xs
 
 -- a string in quotes
-abbrev pub quoted : List ℕ → List ℕ
-quoted s = 34 ∷ (escaped s ++ 34 ∷ [])
+abbrev pub quoted_text : List ℕ → List ℕ
+quoted_text s = 34 ∷ (escaped_text s ++ 34 ∷ [])
 
 -- the spelling: `,` between items and between members, `: ` after each key, no other space
 abbrev mutual
   pub json_text : Json → List ℕ
   json_text (number n) = numeral n
-  json_text (string s) = quoted s
+  json_text (string s) = quoted_text s
   json_text (array is) = 91 ∷ items_text is
   json_text (object ms) = 123 ∷ members_text ms
 
@@ -68,8 +68,8 @@ abbrev mutual
 
   pub members_text : Members → List ℕ
   members_text no_members = 125 ∷ []
-  members_text (member k v more) = quoted k ++ (58 ∷ 32 ∷ (json_text v ++ more_members_text more))
+  members_text (member k v more) = quoted_text k ++ (58 ∷ 32 ∷ (json_text v ++ more_members_text more))
 
   pub more_members_text : Members → List ℕ
   more_members_text no_members = 125 ∷ []
-  more_members_text (member k v more) = 44 ∷ (quoted k ++ (58 ∷ 32 ∷ (json_text v ++ more_members_text more)))
+  more_members_text (member k v more) = 44 ∷ (quoted_text k ++ (58 ∷ 32 ∷ (json_text v ++ more_members_text more)))

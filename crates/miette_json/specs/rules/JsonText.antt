@@ -3,7 +3,7 @@ use Rattle.std.specs.Prelude.{◌≡◌, ℕ, Bool, true, false, List, [], ◌�
 use Rattle.miette_protocol.specs.views.Meaning.{Label, Meaning}
 use Rattle.miette_protocol.specs.rules.Reading.{Source}
 use Rattle.miette_tree.specs.rules.Tree.{Tree, Trees}
-use Rattle.miette_json.specs.rules.Json.{Json, Items, quoted, json_text, items_text, more_items_text}
+use Rattle.miette_json.specs.rules.Json.{Json, Items, quoted_text, json_text, items_text, more_items_text}
 use Rattle.miette_json.specs.rules.Denotes.{Denotes}
 use Rattle.miette_json.specs.rules.Reads.{NamesAlwaysRead}
 use Rattle.miette_json.specs.rules.JsonReport.{NameAnswers, RelatedNameAnswers, ArePossible, AllPossible, MayFail}
@@ -47,12 +47,12 @@ pub record NamesFile (source : Option Source) (labels : List Label) (name : Opti
 
 -- a key after a member
 abbrev pub key_text : List ℕ → List ℕ
-key_text key = 44 ∷ (quoted key ++ (58 ∷ 32 ∷ []))
+key_text key = 44 ∷ (quoted_text key ++ (58 ∷ 32 ∷ []))
 
 -- a member after another, where there is a text
 abbrev pub maybe_text : List ℕ → Option (List ℕ) → List ℕ
 maybe_text key None = []
-maybe_text key (Some s) = key_text key ++ quoted s
+maybe_text key (Some s) = key_text key ++ quoted_text s
 
 -- the rest of a list and its end, from its first item on or from a later one on
 abbrev pub rest_text : Bool → Items → List ℕ
@@ -61,9 +61,9 @@ rest_text false is = more_items_text is
 
 -- message, code and severity
 abbrev pub head_text : Meaning → List ℕ
-head_text m = 123 ∷ (quoted (codes "message")
-    ++ (58 ∷ 32 ∷ (quoted m.message ++ (maybe_text (codes "code") m.code
-    ++ (key_text (codes "severity") ++ quoted (severity_text m.severity))))))
+head_text m = 123 ∷ (quoted_text (codes "message")
+    ++ (58 ∷ 32 ∷ (quoted_text m.message ++ (maybe_text (codes "code") m.code
+    ++ (key_text (codes "severity") ++ quoted_text (severity_text m.severity))))))
 
 -- causes, url and help
 abbrev pub reasons_text : List (List ℕ) → Meaning → List ℕ
@@ -83,8 +83,8 @@ pub record AppendsPlaces (source : Option Source) (labels : List Label) (old new
 
 -- the beginning of an object with a text, where there is one, up to the value behind the second key
 abbrev pub start_text : List ℕ → List ℕ → Option (List ℕ) → List ℕ
-start_text first second None = 123 ∷ (quoted second ++ (58 ∷ 32 ∷ []))
-start_text first second (Some s) = 123 ∷ (quoted first ++ (58 ∷ 32 ∷ (quoted s ++ key_text second)))
+start_text first second None = 123 ∷ (quoted_text second ++ (58 ∷ 32 ∷ []))
+start_text first second (Some s) = 123 ∷ (quoted_text first ++ (58 ∷ 32 ∷ (quoted_text s ++ key_text second)))
 
 -- the beginning of a label, up to its span
 abbrev pub label_start : Option (List ℕ) → List ℕ

@@ -47,8 +47,8 @@ joins_before context source before label =
     ((contents context source before).line + (contents context source before).line_count)
 
 -- from the first offset to the greater end
-abbrev pub joined : Span → Span → Span
-joined before label = record {
+abbrev pub joined_span : Span → Span → Span
+joined_span before label = record {
   offset = before.offset;
   len = max (end_of_span before) (end_of_span label) - before.offset;
 }
@@ -59,7 +59,7 @@ groups_from context source before fails [] = before ∷ []
 groups_from context source before fails (span ∷ spans) =
     if joins_before context source before span then
     (if next_answer fails then before ∷ groups_from context source span (later_answers fails) spans
-    else groups_from context source (joined before span) (later_answers fails) spans)
+    else groups_from context source (joined_span before span) (later_answers fails) spans)
     else before ∷ groups_from context source span fails spans
 
 -- the groups of spans by offset, each as the span that is read for it
@@ -88,7 +88,7 @@ by_begin (span ∷ spans) = put_stretch span (by_begin spans)
 abbrev pub stretches_from : Span → List Span → List Span
 stretches_from before [] = before ∷ []
 stretches_from before (span ∷ spans) =
-    if nat_le span.offset (end_of_span before) then stretches_from (joined before span) spans
+    if nat_le span.offset (end_of_span before) then stretches_from (joined_span before span) spans
     else before ∷ stretches_from span spans
 
 abbrev pub joined_stretches : List Span → List Span

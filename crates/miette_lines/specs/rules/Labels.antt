@@ -97,5 +97,5 @@ abbrev pub multi_line : Line → List DrawnLabel → List DrawnLabel
 multi_line line labels = filter (is_multi_line line) labels
 
 -- the labels whose texts stand below a line: those that end there and didn't start there
-abbrev pub closing : Line → List DrawnLabel → List DrawnLabel
-closing line labels = filter (λ label. ends_on line label && not (starts_on line label)) labels
+abbrev pub closing_labels : Line → List DrawnLabel → List DrawnLabel
+closing_labels line labels = filter (λ label. ends_on line label && not (starts_on line label)) labels

@@ -18,12 +18,12 @@ or_else None span = span
 or_else (Some first) span = first
 
 -- the first label of a group that is marked as primary, else the first of it that was found
-abbrev pub chosen : Bool → Span → Option Span → List ReadLabel → Option Span
-chosen own group first [] = first
-chosen own group first (read ∷ reads) =
+abbrev pub chosen_label : Bool → Span → Option Span → List ReadLabel → Option Span
+chosen_label own group first [] = first
+chosen_label own group first (read ∷ reads) =
     if lies_within own group read.span then (if read.primary then Some read.span
-    else chosen own group (Some (or_else first read.span)) reads)
-    else chosen own group first reads
+    else chosen_label own group (Some (or_else first read.span)) reads)
+    else chosen_label own group first reads
 
 -- a place is where a read without context of this label begins; where there is a label, it isn't nowhere
 abbrev pub PointsTo : Source → Option Span → Place → Type 0

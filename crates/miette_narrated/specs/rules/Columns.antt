@@ -2,12 +2,12 @@
 use Rattle.std.specs.Prelude.{ℕ, ◌+◌, ◌-◌, ◌==◌, List, [], ◌∷◌, Bool, true, false, if◌then◌else◌, nat_lt}
 use Rattle.unicode_width.specs.Width.{str_width}
 use Rattle.miette_lines.specs.rules.Cells.{Character}
-use Rattle.miette_lines.specs.views.Given.{width_of}
+use Rattle.miette_lines.specs.views.GivenLabels.{width_of}
 
 -- the characters of a text that begin before so many of its bytes are over
-abbrev pub begun : ℕ → List Character → List ℕ
-begun bytes [] = []
-begun bytes (c ∷ cs) = if bytes == 0 then [] else c.code ∷ begun (bytes - c.bytes) cs
+abbrev pub begun_text : ℕ → List Character → List ℕ
+begun_text bytes [] = []
+begun_text bytes (c ∷ cs) = if bytes == 0 then [] else c.code ∷ begun_text (bytes - c.bytes) cs
 
 -- whether so many bytes are whole characters of the text, and no more bytes than it has
 abbrev pub is_boundary : ℕ → List Character → Bool
@@ -23,4 +23,4 @@ widths (code ∷ codes) = width_of code + widths codes
 -- The column behind so many bytes: the width of the text before it; inside a character and past the text the widths
 -- of the characters that begin before it.
 abbrev pub column : ℕ → List Character → ℕ
-column bytes cs = if is_boundary bytes cs then str_width false (begun bytes cs) else widths (begun bytes cs)
+column bytes cs = if is_boundary bytes cs then str_width false (begun_text bytes cs) else widths (begun_text bytes cs)

@@ -12,14 +12,14 @@ abbrev pub row : List ℕ → List ℕ
 row text = text ++ 10 ∷ []
 
 -- a label up to its drawn end, and its text
-pub record Told : Type 0 where
+pub record LabelRange : Type 0 where
   pub start : ℕ
   pub after : ℕ
   pub text : Option (List ℕ)
 
 -- a label over a source of so many bytes: its end is cut to the source's
-abbrev pub told : ℕ → Label → Told
-told n label = record {
+abbrev pub label_range : ℕ → Label → LabelRange
+label_range n label = record {
   start = label.span.offset;
   after = max label.span.offset (min (end_of_span label.span) n);
   text = label.text;
@@ -27,7 +27,7 @@ told n label = record {
 
 -- a line of a snippet: where it lies, its number, whether it is the snippet's last, where the snippet's data end, and
 -- the characters of its text
-pub record Shown : Type 0 where
+pub record SnippetLine : Type 0 where
   pub line : Line
   pub number : ℕ
   pub is_last : Bool
@@ -36,25 +36,25 @@ pub record Shown : Type 0 where
 
 -- Of a label from one offset to another: it begins on the line or behind it; it begins before the text's end; it
 -- reaches the line.
-abbrev pub begins : Shown → ℕ → Bool
+abbrev pub begins : SnippetLine → ℕ → Bool
 begins it start = nat_le it.line.start start
 
-abbrev pub begins_within : Shown → ℕ → Bool
+abbrev pub begins_within : SnippetLine → ℕ → Bool
 begins_within it start = nat_le start it.line.text_end
 
-abbrev pub reaches_line : Shown → ℕ → Bool
+abbrev pub reaches_line : SnippetLine → ℕ → Bool
 reaches_line it after = nat_le it.line.start after
 
 -- it ends before the text's end; on the last line also one does that begins in the data or where they end
-abbrev pub ends_before : Shown → ℕ → ℕ → Bool
+abbrev pub ends_before : SnippetLine → ℕ → ℕ → Bool
 ends_before it start after = nat_le after it.line.text_end || (it.is_last && nat_le start it.data_end)
 
 -- the number of its first column
-abbrev pub first_number : Shown → ℕ → ℕ
+abbrev pub first_number : SnippetLine → ℕ → ℕ
 first_number it start = column (start - it.line.start) it.characters + 1
 
 -- the number of its last column; an empty label has one column
-abbrev pub last_number : Shown → ℕ → ℕ → ℕ
+abbrev pub last_number : SnippetLine → ℕ → ℕ → ℕ
 last_number it start after = if start == after then first_number it start
     else column (after - it.line.start) it.characters
 
@@ -69,33 +69,33 @@ columns_text a b = if a == b then codes ", column " ++ decimal a
     else codes ", columns " ++ (decimal a ++ (codes " to " ++ decimal b))
 
 -- a label that begins and ends on the line, one that begins there, and one that ends there
-abbrev pub whole_row : Shown → Told → List ℕ
+abbrev pub whole_row : SnippetLine → LabelRange → List ℕ
 whole_row it d = row (codes "    label at line "
     ++ (decimal it.number ++ (columns_text (first_number it d.start) (last_number it d.start d.after)
     ++ text_behind d.text)))
 
-abbrev pub column_row : List ℕ → Shown → ℕ → Told → List ℕ
+abbrev pub column_row : List ℕ → SnippetLine → ℕ → LabelRange → List ℕ
 column_row words it column d = row (words
     ++ (decimal it.number ++ (codes ", column " ++ (decimal column ++ text_behind d.text))))
 
-abbrev pub start_row : Shown → Told → List ℕ
+abbrev pub start_row : SnippetLine → LabelRange → List ℕ
 start_row it d = column_row (codes "    label starting at line ") it (first_number it d.start) d
 
-abbrev pub end_row : Shown → Told → List ℕ
+abbrev pub end_row : SnippetLine → LabelRange → List ℕ
 end_row it d = column_row (codes "    label ending at line ") it (last_number it d.start d.after) d
 
 -- which of them a label has under a line, if it has one there
-abbrev pub begun_row : Shown → Told → List ℕ
+abbrev pub begun_row : SnippetLine → LabelRange → List ℕ
 begun_row it d = if ends_before it d.start d.after then whole_row it d
     else (if begins_within it d.start then start_row it d else [])
 
-abbrev pub reaching_row : Shown → Told → List ℕ
+abbrev pub reaching_row : SnippetLine → LabelRange → List ℕ
 reaching_row it d = if ends_before it d.start d.after then end_row it d else []
 
-abbrev pub label_row : Shown → Told → List ℕ
+abbrev pub label_row : SnippetLine → LabelRange → List ℕ
 label_row it d = if begins it d.start then begun_row it d
     else (if reaches_line it d.after then reaching_row it d else [])
 
-abbrev pub label_rows : Shown → List Told → List ℕ
+abbrev pub label_rows : SnippetLine → List LabelRange → List ℕ
 label_rows it [] = []
 label_rows it (d ∷ ds) = label_row it d ++ label_rows it ds

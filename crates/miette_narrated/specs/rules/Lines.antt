@@ -4,19 +4,19 @@ use Rattle.std.specs.Prelude.{codes, encode_utf8_all}
 use Rattle.miette_newlines.specs.rules.Lines.{Line}
 use Rattle.miette_protocol.specs.rules.Reading.{Contents}
 use Rattle.miette_lines.specs.rules.Cells.{Character, characters}
-use Rattle.miette_narrated.specs.rules.Labels.{Shown, Told, row, label_rows}
+use Rattle.miette_narrated.specs.rules.Labels.{SnippetLine, LabelRange, row, label_rows}
 
 -- characters as a text
 abbrev pub decoded_text : List Character → List ℕ
 decoded_text cs = encode_utf8_all (map (λ c. c.code) cs)
 
 -- `snippet line 2:   text`
-abbrev pub line_row : Shown → List ℕ
+abbrev pub line_row : SnippetLine → List ℕ
 line_row it = row (codes "snippet line " ++ (decimal it.number ++ (codes ": " ++ decoded_text it.characters)))
 
 -- a line of what a snippet's read lent
-abbrev pub shown : Contents → ℕ → Bool → Line → Shown
-shown lent number is_last line = record {
+abbrev pub snippet_line : Contents → ℕ → Bool → Line → SnippetLine
+snippet_line lent number is_last line = record {
   line = line;
   number = number;
   is_last = is_last;
@@ -29,11 +29,11 @@ is_nil [] = true
 is_nil (line ∷ lines) = false
 
 -- a line, and the labels on it
-abbrev pub rows_of_line : List Told → Shown → List ℕ
+abbrev pub rows_of_line : List LabelRange → SnippetLine → List ℕ
 rows_of_line labels it = line_row it ++ label_rows it labels
 
 -- lines with numbers from this one on
-abbrev pub rows_of_lines : List Told → Contents → ℕ → List Line → List ℕ
+abbrev pub rows_of_lines : List LabelRange → Contents → ℕ → List Line → List ℕ
 rows_of_lines labels lent number [] = []
 rows_of_lines labels lent number (line ∷ lines) =
-    rows_of_line labels (shown lent number (is_nil lines) line) ++ rows_of_lines labels lent (number + 1) lines
+    rows_of_line labels (snippet_line lent number (is_nil lines) line) ++ rows_of_lines labels lent (number + 1) lines

@@ -108,8 +108,8 @@ abbrev mutual
 
 -- the outermost report: message, severity, causes where they are told, snippets, help, code, url, related reports,
 -- and the last row
-abbrev pub narrated : NarrationSettings → Tree → Answers → List ℕ
-narrated s (tree m own c r) a =
+abbrev pub narration : NarrationSettings → Tree → Answers → List ℕ
+narration s (tree m own c r) a =
     head_rows m ++ (causes_if s.chain (causes_of c)
     ++ (rows_below s.context own (own_answer a) m
     ++ ((blank_before r ++ related_reports s.context own (related_answers a) r) ++ row_if [] s.footer)))

@@ -5,7 +5,7 @@ use Rattle.miette_protocol.specs.rules.Reading.{Span, Source, Contents}
 use Rattle.miette_lines.specs.rules.Contexts.{contents, lines_of_contents}
 use Rattle.miette_lines.specs.rules.Around.{group_context}
 use Rattle.miette_lines.specs.rules.Groups.{in_order, groups_of}
-use Rattle.miette_narrated.specs.rules.Labels.{Told, told, row}
+use Rattle.miette_narrated.specs.rules.Labels.{LabelRange, label_range, row}
 use Rattle.miette_narrated.specs.rules.Lines.{rows_of_lines}
 
 -- ` for bad_file.rs`
@@ -21,10 +21,10 @@ begin_rows lent =
     ++ row []
 
 -- a snippet, from what its read lent
-abbrev pub snippet : List Told → Contents → List ℕ
+abbrev pub snippet : List LabelRange → Contents → List ℕ
 snippet labels lent = begin_rows lent ++ rows_of_lines labels lent (lent.line + 1) (lines_of_contents lent)
 
-abbrev pub snippets_of : ℕ → Source → List Told → List Span → List ℕ
+abbrev pub snippets_of : ℕ → Source → List LabelRange → List Span → List ℕ
 snippets_of context source labels [] = []
 snippets_of context source labels (group ∷ groups) =
     snippet labels (contents context source group) ++ snippets_of context source labels groups
@@ -32,5 +32,5 @@ snippets_of context source labels (group ∷ groups) =
 -- the snippets of labels over a source, where these reads of groups fail: labels by offset, in the groups of the layout
 abbrev pub snippets : ℕ → Source → List Bool → List Label → List ℕ
 snippets context source fails labels =
-    snippets_of (group_context context (in_order labels)) source (map (told (length source.bytes)) (in_order labels))
-    (groups_of context source fails (in_order labels))
+    snippets_of (group_context context (in_order labels)) source
+    (map (label_range (length source.bytes)) (in_order labels)) (groups_of context source fails (in_order labels))

@@ -21,9 +21,9 @@ abbrev pub is_begun : Line → Placed → Bool
 is_begun line p = nat_le line.start p.start && nat_le p.start line.text_end
 
 -- labels with their ranks, from this one on
-abbrev pub ranked : ℕ → List Placed → List Ranked
-ranked rank [] = []
-ranked rank (p ∷ ps) = record { rank = rank; label = p } ∷ ranked (rank + 1) ps
+abbrev pub ranked_labels : ℕ → List Placed → List Ranked
+ranked_labels rank [] = []
+ranked_labels rank (p ∷ ps) = record { rank = rank; label = p } ∷ ranked_labels (rank + 1) ps
 
 abbrev pub labels_of : List Ranked → List Placed
 labels_of ends = map (λ end. end.label) ends
@@ -31,7 +31,8 @@ labels_of ends = map (λ end. end.label) ends
 -- the same labels, by where they end
 pub record AreEnds (labels : List Placed) (ends : List Ranked) : Type 0 where
   pub rising : IsNonDecreasingBy (λ end. end.label.after) ends
-  pub same : (rank : ℕ) → filter (λ end. end.rank == rank) ends ≡ filter (λ end. end.rank == rank) (ranked 0 labels)
+  pub same : (rank : ℕ) → filter (λ end. end.rank == rank) ends
+      ≡ filter (λ end. end.rank == rank) (ranked_labels 0 labels)
 
 -- the placed labels come by offset, and the same ones by where they end
 pub record IsOrder (order : LabelOrder) : Type 0 where

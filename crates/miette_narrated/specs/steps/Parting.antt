@@ -3,9 +3,9 @@ use Rattle.std.specs.Prelude.{ℕ, Bool, Option, Some, None, not, nat_lt, nat_le
 use Rattle.std.specs.Int.{is_in_range}
 use Rattle.ucd_emoji.specs.Binary.{is_emoji_variation_base}
 use Rattle.unicode_width.specs.Width.{is_indicator}
-use Rattle.miette_lines.specs.views.Given.{width_of}
-use Rattle.miette_narrated.specs.declared.overlap.Held.{Held}
-use Rattle.miette_narrated.specs.declared.overlap.Held.TheVariants.{Nothing, One, Selected}
+use Rattle.miette_lines.specs.views.GivenLabels.{width_of}
+use Rattle.miette_narrated.specs.declared.overlap.Overlap.{Overlap}
+use Rattle.miette_narrated.specs.declared.overlap.Overlap.TheVariants.{Nothing, One, Selected}
 
 -- ASCII characters and letters of scripts that join nothing that stands behind them
 abbrev pub is_lone : ℕ → Bool
@@ -50,13 +50,13 @@ is_keeping c =
 abbrev pub opens : ℕ → Bool
 opens c = not (is_in_range 0xFE00 0xFE0F c || is_in_range 0x1F3FB 0x1F3FF c)
 
--- what is held where a text may be told from its last characters, before one that opens
-abbrev pub end_held : ℕ → ℕ → Option Held
-end_held before last = if is_closing last || is_keeping last then Some (One last)
+-- what is overlap where a text may be told from its last characters, before one that opens
+abbrev pub end_overlap : ℕ → ℕ → Option Overlap
+end_overlap before last = if is_closing last || is_keeping last then Some (One last)
     else (if (last == 0xFE0F) && is_emoji_variation_base before then Some (Selected before) else None)
 
 -- What a place between two neighbours holds, if one may lie there: nothing where the text may be parted, else the last
 -- characters, from whose columns those behind are told.
-abbrev pub held_between : ℕ → ℕ → Bool → ℕ → Option Held
-held_between before last is_half next = if may_part last next || may_part_flags last is_half next then Some Nothing
-    else (if opens next then end_held before last else None)
+abbrev pub overlap_between : ℕ → ℕ → Bool → ℕ → Option Overlap
+overlap_between before last is_half next = if may_part last next || may_part_flags last is_half next then Some Nothing
+    else (if opens next then end_overlap before last else None)

@@ -3,24 +3,24 @@ use Rattle.std.specs.Prelude.{ℕ, Bool, ◌+◌, ◌≤◌, ◌≡◌, List, []
 use Rattle.std.specs.Prelude.{if◌then◌else◌}
 use Rattle.unicode_width.specs.Width.{str_width, is_indicator}
 use Rattle.miette_lines.specs.rules.Cells.{Character, characters}
-use Rattle.miette_narrated.specs.declared.overlap.Held.{Held}
-use Rattle.miette_narrated.specs.declared.overlap.Held.TheVariants.{Nothing, One, Selected}
+use Rattle.miette_narrated.specs.declared.overlap.Overlap.{Overlap}
+use Rattle.miette_narrated.specs.declared.overlap.Overlap.TheVariants.{Nothing, One, Selected}
 use Rattle.miette_narrated.specs.declared.places.Place.{Place}
-use Rattle.miette_narrated.specs.rules.Columns.{begun, is_boundary, widths, column}
+use Rattle.miette_narrated.specs.rules.Columns.{begun_text, is_boundary, widths, column}
 
 -- the characters before a place that a walk begins with
-abbrev pub held : Held → List ℕ
-held Nothing = []
-held (One c) = c ∷ []
-held (Selected c) = c ∷ 0xFE0F ∷ []
+abbrev pub overlap_text : Overlap → List ℕ
+overlap_text Nothing = []
+overlap_text (One c) = c ∷ []
+overlap_text (Selected c) = c ∷ 0xFE0F ∷ []
 
 -- whether it ends with what may be half a flag
-abbrev pub ends_in_flag : Held → Bool
+abbrev pub ends_in_flag : Overlap → Bool
 ends_in_flag Nothing = false
 ends_in_flag (One c) = is_indicator c
 ends_in_flag (Selected c) = false
 
-abbrev pub IsHeld : Held → Type 0
+abbrev pub IsHeld : Overlap → Type 0
 IsHeld first = ends_in_flag first ≡ false
 
 -- the columns that are counted twice behind so many bytes: those of the characters that a walk begins with
@@ -31,13 +31,14 @@ twice place bytes cs = if is_boundary bytes cs then place.twice else 0
 -- twice
 abbrev pub column_behind : Place → ℕ → List Character → ℕ
 column_behind place bytes cs = if is_boundary bytes cs
-    then place.column + str_width false (held place.held ++ begun bytes cs) else place.widths + widths (begun bytes cs)
+    then place.column + str_width false (overlap_text place.overlap ++ begun_text bytes cs)
+    else place.widths + widths (begun_text bytes cs)
 
 -- from there on columns go on from the place's own
 abbrev pub IsPlace : List ℕ → Place → Type 0
 IsPlace text place =
     (place.bytes ≤ length text)
-    × (IsHeld place.held
+    × (IsHeld place.overlap
     × ((more : ℕ) → column (place.bytes + more) (characters text)
     + twice place more (characters (drop place.bytes text))
     ≡ column_behind place more (characters (drop place.bytes text))))

@@ -2,7 +2,7 @@
 use Rattle.std.specs.Prelude.{ℕ, ◌≤◌, ◌≡◌, ⊤, List, [], ◌∷◌, take, max, Bool, nat_le, if◌then◌else◌}
 use Rattle.std.specs.List.{filter}
 use Rattle.miette_lines.specs.declared.sweep.Placed.{Placed}
-use Rattle.miette_narrated.specs.rules.Labels.{Shown}
+use Rattle.miette_narrated.specs.rules.Labels.{SnippetLine}
 
 -- whether a label reaches a place
 abbrev pub reaches : ℕ → Placed → Bool
@@ -23,5 +23,5 @@ AreOrdered [] = ⊤
 AreOrdered (p ∷ ps) = (p.start ≤ p.after) × BeginsFrom p.start ps × AreOrdered ps
 
 -- where the labels begin that may have a row on a line
-abbrev pub last_start : Shown → ℕ
+abbrev pub last_start : SnippetLine → ℕ
 last_start it = if it.is_last then max it.data_end it.line.text_end else it.line.text_end

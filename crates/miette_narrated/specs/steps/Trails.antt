@@ -3,9 +3,9 @@ use Rattle.std.specs.Prelude.{ℕ, ◌+◌, ◌-◌, ◌≤◌, ◌≡◌, ◌==
 use Rattle.std.specs.Prelude.{if◌then◌else◌}
 use Rattle.std.specs.List.{list_all}
 use Rattle.miette_lines.specs.rules.Cells.{Character, characters}
-use Rattle.miette_lines.specs.views.Given.{width_of}
+use Rattle.miette_lines.specs.views.GivenLabels.{width_of}
 use Rattle.miette_narrated.specs.declared.trails.Trail.{Trail}
-use Rattle.miette_narrated.specs.rules.Columns.{begun, is_boundary, column}
+use Rattle.miette_narrated.specs.rules.Columns.{begun_text, is_boundary, column}
 
 -- marks, selectors, joiners, tags, vowels of Hangul: what takes no columns, but for control characters, each of which a
 -- text counts
@@ -17,7 +17,7 @@ abbrev pub AreFaint : List ℕ → ℕ → ℕ → Type 0
 AreFaint text bytes until =
     (bytes ≤ until) × ((until ≤ length text)
     × ((is_boundary (until - bytes) (characters (drop bytes text)) ≡ true)
-    × (list_all is_faint (begun (until - bytes) (characters (drop bytes text))) ≡ true)))
+    × (list_all is_faint (begun_text (until - bytes) (characters (drop bytes text))) ≡ true)))
 
 -- such characters, and the column behind each, and within it
 abbrev pub IsTrail : List ℕ → Trail → Type 0

@@ -40,12 +40,12 @@ code_at (p ∷ pieces) column =
 abbrev pub Begins : List Piece → ℕ → List Piece → Type 0
 Begins pieces column text = (front : List Piece) × (pieces ≡ front ++ text) × (columns_of front ≡ column)
 
-abbrev pub drawn : (ℕ → ℕ) → ℕ → Piece
-drawn width code = record { code = code; columns = width code }
+abbrev pub code_piece : (ℕ → ℕ) → ℕ → Piece
+code_piece width code = record { code = code; columns = width code }
 
 -- a text in a style
-abbrev pub styled : (ℕ → ℕ) → Style → List ℕ → Run
-styled width style text = record { style = style; pieces = map (drawn width) text }
+abbrev pub styled_run : (ℕ → ℕ) → Style → List ℕ → Run
+styled_run width style text = record { style = style; pieces = map (code_piece width) text }
 
-abbrev pub unstyled : (ℕ → ℕ) → List ℕ → Run
-unstyled width text = styled width plain text
+abbrev pub plain_run : (ℕ → ℕ) → List ℕ → Run
+plain_run width text = styled_run width plain text

@@ -3,7 +3,7 @@ use Rattle.std.specs.Prelude.{ℕ, Bool, true, false, if◌then◌else◌, List,
 use Rattle.miette_style.specs.declared.style.Style.{Style}
 use Rattle.miette_style.specs.rules.Styles.{plain}
 use Rattle.miette_style.specs.rules.Codes.{colour_start, colour_stop, style_codes}
-use Rattle.miette_page.specs.views.Told.{Token, begins, character, row_end}
+use Rattle.miette_page.specs.views.Tokens.{Token, begins, character, row_end}
 
 -- all characters so far, the style of the run at their end, and whether the run has a character yet
 pub record Printout : Type 0 where
@@ -23,18 +23,18 @@ abbrev pub printout_of : List ℕ → Printout
 printout_of text = record { text = text; style = plain; begun = false }
 
 -- the characters, once the run is ended
-abbrev pub ended : Printout → List ℕ
-ended p = if p.begun then p.text ++ stop_of p.style else p.text
+abbrev pub ended_text : Printout → List ℕ
+ended_text p = if p.begun then p.text ++ stop_of p.style else p.text
 
 -- the characters, once the run has a start
-abbrev pub started : Printout → List ℕ
-started p = if p.begun then p.text else p.text ++ start_of p.style
+abbrev pub started_text : Printout → List ℕ
+started_text p = if p.begun then p.text else p.text ++ start_of p.style
 
 -- with one token more
 abbrev pub put : Printout → Token → Printout
-put p (begins style) = record { text = ended p; style = style; begun = false }
-put p (character code) = record { text = started p ++ code ∷ []; style = p.style; begun = true }
-put p row_end = printout_of (ended p ++ 10 ∷ [])
+put p (begins style) = record { text = ended_text p; style = style; begun = false }
+put p (character code) = record { text = started_text p ++ code ∷ []; style = p.style; begun = true }
+put p row_end = printout_of (ended_text p ++ 10 ∷ [])
 
 infixr 5 ◌⊕◌
 -- with so many tokens more

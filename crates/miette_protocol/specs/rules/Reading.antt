@@ -20,8 +20,8 @@ abbrev pub plain_source : List ℕ → Source
 plain_source bytes = record { bytes = bytes; name = None; language = None; always_reads = true }
 
 -- a source with another name, and with the language where one is given
-abbrev pub named : Source → List ℕ → Option (List ℕ) → Source
-named inner name given = record {
+abbrev pub named_source : Source → List ℕ → Option (List ℕ) → Source
+named_source inner name given = record {
   bytes = inner.bytes;
   name = Some name;
   language = if is_some given then given else inner.language;

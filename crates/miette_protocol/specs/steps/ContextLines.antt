@@ -3,7 +3,7 @@ use Rattle.std.specs.Prelude.{◌≡◌, ◌⊎◌, ℕ, List, Option, Some, Non
 use Rattle.serde.specs.Event.{Event, Log, Logs, WritesOption, unsigned, nothing}
 use Rattle.serde.specs.Steps.{Gives, Stays}
 use Rattle.serde.specs.declared.deserializer.Deserializer.{Deserializer}
-use Rattle.miette_protocol.specs.views.Meaning.{counted}
+use Rattle.miette_protocol.specs.views.Meaning.{context_count}
 
 -- the number was written, or nothing
 abbrev pub WritesLines : Option ℕ → Log → Log → Type 0
@@ -15,4 +15,4 @@ abbrev pub ReadsLines : {F E M : Type 0} → (F → List ℕ → Event → F →
 ReadsLines {F} {E} {M} gives stays old lines new =
     (Gives gives old nothing new × (lines ≡ None))
     ⊎ ((n : ℕ) × (looked : Deserializer F E M) × Stays stays old looked × Gives gives looked (unsigned n) new
-    × (lines ≡ counted (Some n)))
+    × (lines ≡ context_count (Some n)))

@@ -27,5 +27,5 @@ message_alone message = record {
 }
 
 -- labels after those that are there, if any are
-abbrev pub appended : Option (List Label) → List Label → Option (List Label)
-appended labels more = Some (unwrap_or labels [] ++ more)
+abbrev pub appended_labels : Option (List Label) → List Label → Option (List Label)
+appended_labels labels more = Some (unwrap_or labels [] ++ more)

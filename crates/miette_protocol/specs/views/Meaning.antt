@@ -11,10 +11,10 @@ pub record Label : Type 0 where
   pub context : Option ℕ
 
 -- a number of context lines as it is read: 0 counts as none
-abbrev pub counted : Option ℕ → Option ℕ
-counted None = None
-counted (Some zero) = None
-counted (Some (suc n)) = Some (suc n)
+abbrev pub context_count : Option ℕ → Option ℕ
+context_count None = None
+context_count (Some zero) = None
+context_count (Some (suc n)) = Some (suc n)
 
 -- what a diagnostic answers, its texts in bytes
 pub record Meaning : Type 0 where

@@ -7,7 +7,7 @@ use Rattle.std.specs.List.{last_or}
 use Rattle.miette_newlines.specs.rules.Lines.{Line, is_terminated, lines_of}
 use Rattle.miette_protocol.specs.views.Meaning.{Label}
 use Rattle.miette_lines.specs.rules.Cells.{Cell, cells_from, characters}
-use Rattle.miette_lines.specs.views.Given.{width_of}
+use Rattle.miette_lines.specs.views.GivenLabels.{width_of}
 
 -- a space or a tab
 abbrev pub is_blank : ℕ → Bool
@@ -35,9 +35,9 @@ abbrev pub ending_blanks : List ℕ → ℕ
 ending_blanks text = length (take_while is_blank (reverse text))
 
 -- the blanks that end a text, which ends there
-abbrev pub trailing : ℕ → List ℕ → List Label
-trailing end text = if ending_blanks text == 0 then []
-    else finding (codes "trailing blanks") (end - ending_blanks text) end ∷ []
+abbrev pub trailing_space : ℕ → List ℕ → List Label
+trailing_space end text = if ending_blanks text == 0 then []
+    else finding (codes "trailing_space blanks") (end - ending_blanks text) end ∷ []
 
 -- in the blanks that begin a text, which begins there, the first tab after a space
 abbrev pub misplaced_tab : ℕ → List ℕ → List Label
@@ -53,16 +53,16 @@ overlong width end cells = option_map_or (λ cell. finding (too_wide width) cell
     (find (λ cell. nat_lt width cell.until) cells) []
 
 -- the last character of a line without a terminator
-abbrev pub unended : Line → List Cell → List Label
-unended l cells =
+abbrev pub missing_terminator : Line → List Cell → List Label
+missing_terminator l cells =
     if is_terminated l then []
     else option_map_or (λ cell. finding (codes "no final terminator") cell.start cell.after ∷ []) (last_or None cells)
     []
 
 -- of a line whose text is this
 abbrev pub text_findings : ℕ → Line → List ℕ → List Cell → List Label
-text_findings width l text cells = trailing l.text_end text
-    ++ (misplaced_tab l.start text ++ (overlong width l.text_end cells ++ unended l cells))
+text_findings width l text cells = trailing_space l.text_end text
+    ++ (misplaced_tab l.start text ++ (overlong width l.text_end cells ++ missing_terminator l cells))
 
 -- the cells of a text that begins there, with tabs of four columns
 abbrev pub cells_of : ℕ → List ℕ → List Cell

@@ -7,9 +7,9 @@ use Rattle.miette.specs.declared.options.handler.MietteHandler.TheVariants.{Grap
 use Rattle.miette_style.specs.declared.theme.Terminal.{Terminal}
 use Rattle.miette_tree.specs.rules.Tree.{Tree}
 use Rattle.miette_brief.specs.rules.Report as brief
-use Rattle.miette_narrated.specs.rules.Answered.{report_accepted}
+use Rattle.miette_narrated.specs.rules.PossibleAnswers.{report_accepted}
 use Rattle.miette_narrated.specs.rules.Report as narrated
-use Rattle.miette_graphical.specs.rules.Answered.{IsTextOf}
+use Rattle.miette_graphical.specs.rules.PossibleAnswers.{IsTextOf}
 use Rattle.miette_graphical.specs.rules.Answers.{unlisted}
 use Rattle.miette_graphical.specs.views.Handling.{draws_plain}
 use Rattle.miette_json.specs.rules.Json.{json_text}
@@ -28,7 +28,7 @@ IsBuiltText is_blank (Graphical it) t text =
     IsTextOf drawn_rows it.settings (draws_plain is_blank it) t text
     × (draws_plain is_blank it ≡ true → text ≡ encode_utf8_all (report_text drawn_rows it.settings t unlisted))
 IsBuiltText is_blank (Narrated it) t text = (report_accepted t ≡ true)
-    × (text ≡ narrated.narrated it t narrated.unlisted)
+    × (text ≡ narrated.narration it t narrated.unlisted)
 IsBuiltText is_blank (Brief it) t text = (report_accepted t ≡ true) × (text ≡ brief.brief it t brief.unlisted)
 
 -- the same by what was asked for

@@ -10,11 +10,11 @@ use Rattle.miette_report.specs.declared.option_words.TerminalAsked.{TerminalAske
 use Rattle.miette_report.specs.declared.option_words.TerminalAsked.TheVariants as terminal
 use Rattle.miette_report.specs.declared.option_words.ThemeAsked.{ThemeAsked}
 use Rattle.miette_report.specs.declared.option_words.ThemeAsked.TheVariants as theme
-use Rattle.miette_report.specs.rules.Wanted.{Ask, OfHandler, OfOptions, OfTerminal}
-use Rattle.miette_report.specs.rules.Wanted.{OptionAsk, Brief, Narrated, Graphical, Width, Context, Tab, Drawn}
-use Rattle.miette_report.specs.rules.Wanted.{Unicode, Color, Links, Chain, Break, Wrap, Hyphens, Nested, EndLabels}
-use Rattle.miette_report.specs.rules.Wanted.{Rgb, Footer, Highlighted}
-use Rattle.miette_report.specs.rules.Wanted.{TerminalAsk, Columns, Colours, DrawsUnicode, ShowsLinks, NoGraphics}
+use Rattle.miette_report.specs.rules.OptionWords.{Ask, OfHandler, OfOptions, OfTerminal}
+use Rattle.miette_report.specs.rules.OptionWords.{OptionAsk, Brief, Narrated, Graphical, Width, Context, Tab, Drawn}
+use Rattle.miette_report.specs.rules.OptionWords.{Unicode, Color, Links, Chain, Break, Wrap, Hyphens, Nested, EndLabels}
+use Rattle.miette_report.specs.rules.OptionWords.{Rgb, Footer, Highlighted}
+use Rattle.miette_report.specs.rules.OptionWords.{TerminalAsk, Columns, Colours, DrawsUnicode, ShowsLinks, NoGraphics}
 
 abbrev pub theme_named : ThemeAsked → Theme
 theme_named theme.Ascii = record { characters = ascii_characters; styles = ansi_styles }

@@ -18,14 +18,14 @@ printed_run s (c ∷ cs) = elim (style_codes s) [ [] ↦ c ∷ cs | x ∷ xs ↦
 abbrev pub link_start : List ℕ → List ℕ
 link_start url = escape ∷ 93 ∷ 56 ∷ 59 ∷ 59 ∷ url ++ escape ∷ 92 ∷ []
 
-abbrev pub printed : Fragment → List ℕ
-printed (Styled s text) = printed_run s text
-printed (LinkTo url) = link_start url
-printed LinkEnd = link_start []
+abbrev pub printed_text : Fragment → List ℕ
+printed_text (Styled s text) = printed_run s text
+printed_text (LinkTo url) = link_start url
+printed_text LinkEnd = link_start []
 
 abbrev pub print : List Fragment → List ℕ
 print [] = []
-print (s ∷ ss) = printed s ++ print ss
+print (s ∷ ss) = printed_text s ++ print ss
 
 -- The same in a plain style.
 abbrev pub plain_run : Fragment → Fragment

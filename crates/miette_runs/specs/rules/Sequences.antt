@@ -131,6 +131,6 @@ abbrev pub erase : List ℕ → List ℕ
 erase = erase_behind 0
 
 -- lists, end to end
-abbrev pub flat : List (List ℕ) → List ℕ
-flat [] = []
-flat (x ∷ xs) = x ++ flat xs
+abbrev pub concatenation : List (List ℕ) → List ℕ
+concatenation [] = []
+concatenation (x ∷ xs) = x ++ concatenation xs

@@ -3,7 +3,7 @@ use Rattle.std.specs.Prelude.{ℕ, suc, ◌-◌, min, Bool, true, ◌&&◌, if�
 use Rattle.miette_runs.specs.rules.Cutting.{only_feeds}
 use Rattle.miette_runs.specs.rules.Sequences.{is_line_feed}
 use Rattle.miette_runs.specs.rules.Colours.{is_colour}
-use Rattle.miette_runs.specs.views.Woven.{beyond, tag_text, upto, woven}
+use Rattle.miette_runs.specs.views.Interleaving.{beyond, tag_text, upto, interleaving}
 use Rattle.miette_runs.specs.declared.runs.sign.Tag.{Tag}
 
 abbrev pub are_colours : List Tag → Bool
@@ -19,12 +19,12 @@ feeds_len at (c ∷ cs) tags = if is_line_feed c && are_colours (upto at tags)
 -- how many characters from a place on are before the line feeds and colours at the end
 abbrev pub kept_len : ℕ → List ℕ → List Tag → ℕ
 kept_len at [] tags = 0
-kept_len at (c ∷ cs) tags = if is_line_feed c && only_feeds (woven (suc at) cs (beyond at tags)) then 0
+kept_len at (c ∷ cs) tags = if is_line_feed c && only_feeds (interleaving (suc at) cs (beyond at tags)) then 0
     else suc (kept_len (suc at) cs (beyond at tags))
 
 -- a tag where so many characters less are before it, and one where no more than that are
-abbrev pub lowered : ℕ → Tag → Tag
-lowered n m = record { at = m.at - n; sign = m.sign }
+abbrev pub lowered_tag : ℕ → Tag → Tag
+lowered_tag n m = record { at = m.at - n; sign = m.sign }
 
-abbrev pub capped : ℕ → Tag → Tag
-capped n m = record { at = min m.at n; sign = m.sign }
+abbrev pub capped_tag : ℕ → Tag → Tag
+capped_tag n m = record { at = min m.at n; sign = m.sign }

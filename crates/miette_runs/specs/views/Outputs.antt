@@ -4,6 +4,6 @@ use Rattle.miette_runs.specs.rules.Sequences.{spell}
 use Rattle.miette_runs.specs.declared.runs.output.Target.{Target}
 use Rattle.miette_runs.specs.declared.runs.output.Target.TheVariants.{Printed, Collected}
 
-abbrev pub written : Target → List ℕ
-written (Printed text) = chars (string_bytes text)
-written (Collected runs) = spell runs
+abbrev pub target_text : Target → List ℕ
+target_text (Printed text) = chars (string_bytes text)
+target_text (Collected runs) = spell runs

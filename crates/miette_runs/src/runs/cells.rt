@@ -3,7 +3,7 @@
 ghost use Rattle.std.specs.Prelude.{◌≡◌, ◌≤◌, ◌++◌, IfOk, OnOk, drop, length};
 ghost use Rattle.miette_runs.specs.rules.Cells.{tags_text, piece_text};
 ghost use Rattle.miette_runs.specs.rules.Sequences.{spell};
-ghost use Rattle.miette_runs.specs.views.Woven.{cells_at, left_at, tags_spelled, woven};
+ghost use Rattle.miette_runs.specs.views.Interleaving.{cells_at, left_at, tags_spelled, interleaving};
 
 use crate::runs::RunsSlice;
 use crate::runs::sign::Tag;
@@ -97,7 +97,7 @@ pub fn push_tags<S: Sink>(out: &mut S, tags: &[Tag]) -> Result<(), AllocError>
 /// `AllocError` where memory is refused.
 pub fn push_all<S: Sink>(out: &mut S, runs: RunsSlice<'_>) -> Result<(), AllocError>
     ensures { OnOk result (S.holds out.new ≡ S.holds out.old
-        ++ S.spells (spell (woven 0 runs.entry.codes.now runs.entry.tags.now))) }
+        ++ S.spells (spell (interleaving 0 runs.entry.codes.now runs.entry.tags.now))) }
 {
     let n = push_cells(out, 0, runs.codes, runs.tags)?;
     push_tags(out, &runs.tags[n..])?;

@@ -2,7 +2,7 @@
 
 ghost use Rattle.std.specs.Prelude.{◌≡◌, ◌+◌, IfOk};
 ghost use Rattle.miette_runs.specs.rules.Cells.{columns_of, width};
-ghost use Rattle.miette_runs.specs.views.Woven.{woven};
+ghost use Rattle.miette_runs.specs.views.Interleaving.{interleaving};
 
 use crate::runs::RunsSlice;
 use std::alloc::AllocError;
@@ -35,7 +35,7 @@ pub fn char_columns(c: char) -> usize
 /// # Errors
 /// `AllocError` where they have more columns than a `usize` counts.
 pub fn token_columns(runs: RunsSlice<'_>) -> Result<usize, AllocError>
-    ensures { IfOk result (λ n. n ≡ columns_of (woven 0 runs.entry.codes.now runs.entry.tags.now)) }
+    ensures { IfOk result (λ n. n ≡ columns_of (interleaving 0 runs.entry.codes.now runs.entry.tags.now)) }
 {
     let mut total = 0;
     for code in runs.codes {

@@ -2,7 +2,7 @@
 
 ghost use Rattle.std.specs.Prelude.{◌≡◌, ◌≤◌, length, map};
 ghost use Rattle.miette_runs.specs.rules.Cutting.{cut_end, cut_front};
-ghost use Rattle.miette_runs.specs.steps.Feeds.{capped, feeds_len, kept_len, lowered};
+ghost use Rattle.miette_runs.specs.steps.Feeds.{capped_tag, feeds_len, kept_len, lowered_tag};
 
 use crate::runs::Runs;
 use crate::runs::sign::Tag;
@@ -45,7 +45,7 @@ fn kept_len(codes: &[char], tags: &[Tag]) -> usize
 
 // So many characters less are before each tag.
 fn lower(tags: &mut [Tag], by: usize)
-    ensures { tags.new ≡ map (lowered by) tags.old }
+    ensures { tags.new ≡ map (lowered_tag by) tags.old }
 {
     for i in 0..tags.len() {
         let tag = &mut tags[i];
@@ -55,7 +55,7 @@ fn lower(tags: &mut [Tag], by: usize)
 
 // No more than so many characters are before each tag.
 fn cap(tags: &mut [Tag], at: usize)
-    ensures { tags.new ≡ map (capped at) tags.old }
+    ensures { tags.new ≡ map (capped_tag at) tags.old }
 {
     for i in 0..tags.len() {
         let tag = &mut tags[i];

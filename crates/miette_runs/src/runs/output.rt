@@ -41,9 +41,9 @@ impl Model for Output {
 
     ghost Value = { List ℕ };
 
-    ghost use Rattle.miette_runs.specs.views.Outputs.{written};
+    ghost use Rattle.miette_runs.specs.views.Outputs.{target_text};
 
-    ghost view = { λ o. written o.target };
+    ghost view = { λ o. target_text o.target };
 }
 
 // Appends a text in a style.

@@ -3,7 +3,7 @@
 ghost use Rattle.std.specs.Prelude.{◌≡◌, IfOk, chars, encode_utf8_all, string_bytes, true};
 ghost use Rattle.miette_runs.specs.rules.Sequences.{are_settled, is_whole, spell, tokens};
 ghost use Rattle.miette_style.specs.rules.Escapes.{no_escape};
-ghost use Rattle.miette_runs.specs.views.Woven.{are_whole, sign_text, woven};
+ghost use Rattle.miette_runs.specs.views.Interleaving.{are_whole, sign_text, interleaving};
 ghost use Rattle.miette_runs.specs.rules.Cells.{columns_of};
 
 use crate::runs::cells::push_all;
@@ -118,9 +118,9 @@ fn are_whole(tags: &[Tag]) -> bool
 
 /// Whether what runs print surely reads as these runs again.
 pub fn is_settled(runs: RunsSlice<'_>) -> bool
-    ensures same { result ≡ true → tokens (spell (woven 0 runs.entry.codes.now runs.entry.tags.now))
-        ≡ woven 0 runs.entry.codes.now runs.entry.tags.now }
-    ensures exact { result ≡ are_settled (woven 0 runs.entry.codes.now runs.entry.tags.now) }
+    ensures same { result ≡ true → tokens (spell (interleaving 0 runs.entry.codes.now runs.entry.tags.now))
+        ≡ interleaving 0 runs.entry.codes.now runs.entry.tags.now }
+    ensures exact { result ≡ are_settled (interleaving 0 runs.entry.codes.now runs.entry.tags.now) }
 {
     has_no_escape(runs.codes) && are_whole(runs.tags)
 }

@@ -1,7 +1,7 @@
 //! What stands between characters.
 
 ghost use Rattle.std.specs.Prelude.{◌≡◌, IfOk, true};
-ghost use Rattle.miette_runs.specs.views.Woven.{sign_text};
+ghost use Rattle.miette_runs.specs.views.Interleaving.{sign_text};
 
 use miette_style::laws::comparison_laws;
 use miette_style::style::Style;

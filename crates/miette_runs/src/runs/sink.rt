@@ -2,7 +2,7 @@
 
 ghost use Rattle.std.specs.Prelude.{◌≡◌, ◌++◌, ℕ, List, [], OnOk, encode_utf8_all, refl, string_bytes};
 ghost use Rattle.miette_runs.specs.views.Sinks.{encode-joins};
-ghost use Rattle.miette_runs.specs.views.Woven.{sign_text};
+ghost use Rattle.miette_runs.specs.views.Interleaving.{sign_text};
 
 use crate::runs::sign::Sign;
 use miette_style::codes::push_style;

@@ -4,7 +4,7 @@ ghost use Rattle.std.specs.Prelude.{◌≡◌, ◌≤◌, drop, length, take};
 ghost use Rattle.miette_runs.specs.steps.Feeds.{are_colours};
 ghost use Rattle.miette_runs.specs.rules.Sequences.{is_parameter};
 ghost use Rattle.miette_runs.specs.rules.Colours.{is_colour, is_colour_end};
-ghost use Rattle.miette_runs.specs.views.Woven.{beyond, sign_text, upto};
+ghost use Rattle.miette_runs.specs.views.Interleaving.{beyond, sign_text, upto};
 
 use crate::runs::sign::{Sign, Tag};
 

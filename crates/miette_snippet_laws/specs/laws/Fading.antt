@@ -6,8 +6,8 @@ use Rattle.miette_snippets.specs.rules.Frames.{Styles, SnippetSettings}
 use Rattle.miette_page.specs.rules.Rows.{Row}
 use Rattle.miette_style.specs.rules.Styles.{plain}
 
-abbrev pub faded : Styles → Styles
-faded s = record {
+abbrev pub faded_styles : Styles → Styles
+faded_styles s = record {
   error = plain;
   warning = plain;
   link = plain;
@@ -17,11 +17,11 @@ faded s = record {
 
 -- the same settings with every style plain
 abbrev pub colourless : SnippetSettings → SnippetSettings
-colourless s = record s { styles = faded s.styles }
+colourless s = record s { styles = faded_styles s.styles }
 
 -- the same reads without a highlighter
-abbrev pub unhighlighted : Answers → Answers
-unhighlighted a = record a { pieces = [] }
+abbrev pub unhighlighted_answers : Answers → Answers
+unhighlighted_answers a = record a { pieces = [] }
 
 -- every run of a row is plain
 abbrev pub IsPlainRow : Row → Type 0

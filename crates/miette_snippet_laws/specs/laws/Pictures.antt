@@ -1,7 +1,7 @@
 -- What the rows of a line show at their columns, and what it means that a text hangs from its mark.
 use Rattle.std.specs.Prelude.{ℕ, ◌+◌, ◌<◌, ◌≡◌, ◌⊎◌, List, [], ◌∷◌, map, Some, ◌&&◌, if◌then◌else◌, nat_lt, nat_le}
 use Rattle.std.specs.List.{AllByRecursion}
-use Rattle.miette_page.specs.rules.Rows.{Piece, Row, pieces_of, drawn, code_at, Begins}
+use Rattle.miette_page.specs.rules.Rows.{Piece, Row, pieces_of, code_piece, code_at, Begins}
 use Rattle.miette_newlines.specs.rules.Lines.{Line}
 use Rattle.miette_snippets.specs.rules.PrintedCells.{line_runs}
 use Rattle.miette_lines.specs.rules.Cells.{Cell}
@@ -18,9 +18,9 @@ use Rattle.miette_style.specs.rules.Themes.{Characters}
 
 -- what stands at a column of the mark row
 abbrev pub mark_at : (ℕ → ℕ) → Characters → List Mark → ℕ → Piece
-mark_at width t [] column = drawn width 32
+mark_at width t [] column = code_piece width 32
 mark_at width t (mark ∷ marks) column =
-    if nat_le mark.from column && nat_lt column mark.until then drawn width (mark_code t mark column)
+    if nat_le mark.from column && nat_lt column mark.until then code_piece width (mark_code t mark column)
     else mark_at width t marks column
 
 -- where the last mark ends
@@ -39,7 +39,7 @@ HangsFrom t column part (row ∷ rows) =
 -- the first part of the mark's text, if it has one, hangs from its anchor, with columns counted from this one on
 abbrev pub PartHangs : (ℕ → ℕ) → Characters → List (List Piece) → ℕ → List (List ℕ) → Type 0
 PartHangs width t rows column [] = Unit {0}
-PartHangs width t rows column (part ∷ parts) = HangsFrom t column (map (drawn width) part) rows
+PartHangs width t rows column (part ∷ parts) = HangsFrom t column (map (code_piece width) part) rows
 
 abbrev pub Hangs : (ℕ → ℕ) → Characters → List (List Piece) → ℕ → Mark → Type 0
 Hangs width t rows start mark = PartHangs width t rows (start + anchor mark) mark.label.parts

@@ -1,7 +1,7 @@
 -- The mark row of a line and the rows of texts under it, and what it means that a text hangs from its mark.
 use Rattle.std.specs.Prelude.{ℕ, ◌+◌, ◌-◌, ◌<◌, ◌≤◌, ◌≡◌, List, [], ◌∷◌, ◌++◌, map, replicate, if◌then◌else◌, ◌==◌}
 use Rattle.std.specs.List.{range_with_len}
-use Rattle.miette_page.specs.rules.Rows.{Run, Row, drawn, styled}
+use Rattle.miette_page.specs.rules.Rows.{Run, Row, code_piece, styled_run}
 use Rattle.miette_style.specs.rules.Styles.{plain}
 use Rattle.miette_lines.specs.rules.Labels.{is_empty}
 use Rattle.miette_snippets.specs.rules.Marks.{Mark, anchor}
@@ -24,7 +24,7 @@ pub record IsNarrow (width : ℕ → ℕ) (t : Characters) : Type 0 where
   pub digits : (d : ℕ) → 48 ≤ d → d < 58 → width d ≡ 1
 
 abbrev pub blank : (ℕ → ℕ) → ℕ → Run
-blank width many = record { style = plain; pieces = replicate many (drawn width 32) }
+blank width many = record { style = plain; pieces = replicate many (code_piece width 32) }
 
 abbrev pub code_with_parts : Characters → List (List ℕ) → ℕ
 code_with_parts t [] = t.underline
@@ -39,7 +39,8 @@ mark_code t mark column =
 abbrev pub mark_run : (ℕ → ℕ) → Characters → Mark → Run
 mark_run width t mark = record {
   style = mark.label.style;
-  pieces = map (λ column. drawn width (mark_code t mark column)) (range_with_len mark.from (mark.until - mark.from));
+  pieces = map (λ column. code_piece width (mark_code t mark column))
+      (range_with_len mark.from (mark.until - mark.from));
 }
 
 -- the marks, each behind the spaces before it
@@ -52,13 +53,13 @@ mark_runs width t reached (mark ∷ marks) = blank width (mark.from - reached) �
 abbrev pub lead_runs : (ℕ → ℕ) → Characters → ℕ → List Mark → ℕ → Row
 lead_runs width t reached [] column = blank width (column - reached) ∷ []
 lead_runs width t reached (mark ∷ marks) column =
-    blank width (anchor mark - reached) ∷ styled width mark.label.style (t.vbar ∷ [])
+    blank width (anchor mark - reached) ∷ styled_run width mark.label.style (t.vbar ∷ [])
     ∷ lead_runs width t (anchor mark + 1) marks column
 
 -- a row of a text: the leads of the earlier marks, then these characters and a part in the label's style
 abbrev pub text_row : (ℕ → ℕ) → Characters → List Mark → Mark → List ℕ → List ℕ → Row
 text_row width t earlier mark corner part = lead_runs width t 0 earlier (anchor mark)
-    ++ styled width mark.label.style (corner ++ part) ∷ []
+    ++ styled_run width mark.label.style (corner ++ part) ∷ []
 
 abbrev pub corner : Characters → List ℕ
 corner t = t.lbot ∷ t.hbar ∷ t.hbar ∷ 32 ∷ []

@@ -2,7 +2,7 @@
 use Rattle.std.specs.Prelude.{ℕ, ◌+◌, ◌-◌, List, [], ◌∷◌, ◌++◌, length, decimal, codes, chars, replicate, Option, Some}
 use Rattle.std.specs.Prelude.{None, Bool, ◌&&◌, if◌then◌else◌, nat_lt}
 use Rattle.miette_style.specs.declared.style.Style.{Style}
-use Rattle.miette_page.specs.rules.Rows.{Row, styled, unstyled}
+use Rattle.miette_page.specs.rules.Rows.{Row, styled_run, plain_run}
 use Rattle.miette_newlines.specs.rules.Lines.{Line}
 use Rattle.miette_protocol.specs.rules.Reading.{Contents}
 use Rattle.miette_lines.specs.rules.Contexts.{lines_of_contents}
@@ -34,11 +34,12 @@ text_or_none (Some text) = chars text
 
 abbrev pub refused_row : SnippetSettings → Refusal → Row
 refused_row s refused =
-    unstyled s.width (codes "  [") ∷ styled s.width s.styles.error (codes "Failed to read contents for label")
-    ∷ unstyled s.width (codes " `") ∷ styled s.width s.styles.link (text_or_none refused.label.text)
-    ∷ unstyled s.width (codes "` (offset: ") ∷ styled s.width s.styles.link (decimal refused.label.span.offset)
-    ∷ unstyled s.width (codes ", length: ") ∷ styled s.width s.styles.link (decimal refused.label.span.len)
-    ∷ unstyled s.width (codes "): ") ∷ styled s.width s.styles.warning refused.name ∷ unstyled s.width (codes "]") ∷ []
+    plain_run s.width (codes "  [") ∷ styled_run s.width s.styles.error (codes "Failed to read contents for label")
+    ∷ plain_run s.width (codes " `") ∷ styled_run s.width s.styles.link (text_or_none refused.label.text)
+    ∷ plain_run s.width (codes "` (offset: ") ∷ styled_run s.width s.styles.link (decimal refused.label.span.offset)
+    ∷ plain_run s.width (codes ", length: ") ∷ styled_run s.width s.styles.link (decimal refused.label.span.len)
+    ∷ plain_run s.width (codes "): ") ∷ styled_run s.width s.styles.warning refused.name
+    ∷ plain_run s.width (codes "]") ∷ []
 
 -- the digits of the last line's number, 1 where there is no line
 abbrev pub width_of_lines : ℕ → List Line → ℕ
@@ -51,11 +52,11 @@ number_width read = width_of_lines read.line (lines_of_contents read)
 -- what stands before the gutter of a number row, and of any other row
 abbrev pub number_start : SnippetSettings → ℕ → ℕ → Row
 number_start s w number =
-    blank s.width 1 ∷ styled s.width s.styles.linum (replicate (w - length (decimal number)) 32 ++ decimal number)
-    ∷ unstyled s.width (32 ∷ s.characters.vbar ∷ 32 ∷ []) ∷ []
+    blank s.width 1 ∷ styled_run s.width s.styles.linum (replicate (w - length (decimal number)) 32 ++ decimal number)
+    ∷ plain_run s.width (32 ∷ s.characters.vbar ∷ 32 ∷ []) ∷ []
 
 abbrev pub other_start : SnippetSettings → ℕ → Row
-other_start s w = blank s.width (w + 2) ∷ unstyled s.width (s.characters.vbar_break ∷ 32 ∷ []) ∷ []
+other_start s w = blank s.width (w + 2) ∷ plain_run s.width (s.characters.vbar_break ∷ 32 ∷ []) ∷ []
 
 -- where a label begins: its line and its column, both counted from 0
 pub record Place : Type 0 where
@@ -68,12 +69,12 @@ place_text place = decimal (place.line + 1) ++ codes ":" ++ decimal (place.colum
 -- where a snippet points to: with a name, whose bytes are given, else where it has several lines
 abbrev pub location : SnippetSettings → Option (List ℕ) → Bool → Place → Row
 location s (Some name) several place =
-    unstyled s.width (codes "[") ∷ styled s.width s.styles.link
+    plain_run s.width (codes "[") ∷ styled_run s.width s.styles.link
     (if s.primary_start then chars name ++ codes ":" ++ place_text place else chars name)
-    ∷ unstyled s.width (codes "]") ∷ []
+    ∷ plain_run s.width (codes "]") ∷ []
 location s None several place =
-    if several && s.primary_start then unstyled s.width (codes "[" ++ place_text place ++ codes "]") ∷ []
-    else unstyled s.width (replicate 3 s.characters.hbar) ∷ []
+    if several && s.primary_start then plain_run s.width (codes "[" ++ place_text place ++ codes "]") ∷ []
+    else plain_run s.width (replicate 3 s.characters.hbar) ∷ []
 
 abbrev pub location_of : SnippetSettings → Option (List ℕ) → Bool → Option Place → Row
 location_of s name several None = []
@@ -82,7 +83,7 @@ location_of s name several (Some place) = location s name several place
 -- the row over a snippet's lines, with line numbers of so many digits, and whether it has several lines
 abbrev pub top_row_of : SnippetSettings → ℕ → Option (List ℕ) → Bool → Option Place → Row
 top_row_of s w name several place = blank s.width (w + 2)
-    ∷ unstyled s.width (s.characters.ltop ∷ s.characters.hbar ∷ []) ∷ location_of s name several place
+    ∷ plain_run s.width (s.characters.ltop ∷ s.characters.hbar ∷ []) ∷ location_of s name several place
 
 -- that row, from the snippet's read
 abbrev pub top_row : SnippetSettings → Contents → Option Place → Row
@@ -90,4 +91,4 @@ top_row s read place = top_row_of s (number_width read) read.name (nat_lt 1 (len
 
 -- the row under them
 abbrev pub bottom_row : SnippetSettings → ℕ → Row
-bottom_row s w = blank s.width (w + 2) ∷ unstyled s.width (s.characters.lbot ∷ replicate 4 s.characters.hbar) ∷ []
+bottom_row s w = blank s.width (w + 2) ∷ plain_run s.width (s.characters.lbot ∷ replicate 4 s.characters.hbar) ∷ []

@@ -1,6 +1,6 @@
 -- The gutter of a line, over the labels of several lines that lie on it, and the texts of those that end there.
 use Rattle.std.specs.Prelude.{ℕ, ◌+◌, ◌-◌, max, List, [], ◌∷◌, ◌++◌, map, length, replicate, if◌then◌else◌, ◌==◌}
-use Rattle.miette_page.specs.rules.Rows.{Run, Row, styled}
+use Rattle.miette_page.specs.rules.Rows.{Run, Row, styled_run}
 use Rattle.miette_newlines.specs.rules.Lines.{Line}
 use Rattle.miette_lines.specs.rules.Labels.{DrawnLabel, starts_on, ends_on, multi_line}
 use Rattle.miette_snippets.specs.rules.Drawing.{blank}
@@ -20,7 +20,7 @@ ending_corner t [] = t.lbot
 ending_corner t (part ∷ parts) = t.lcross
 
 abbrev pub arrow : (ℕ → ℕ) → Characters → DrawnLabel → ℕ → ℕ → Run
-arrow width t label corner left = styled width label.style (corner ∷ replicate (left - 3) t.hbar ++ t.rarrow ∷ [])
+arrow width t label corner left = styled_run width label.style (corner ∷ replicate (left - 3) t.hbar ++ t.rarrow ∷ [])
 
 -- The gutter of a number row, with so many columns left: a label that starts or ends here has an arrow, one that runs
 -- through a bar.
@@ -29,25 +29,25 @@ number_gutter width t line left [] = blank width left ∷ []
 number_gutter width t line left (label ∷ labels) =
     if starts_on line label then arrow width t label t.ltop left ∷ blank width 1 ∷ []
     else if ends_on line label then arrow width t label (ending_corner t label.parts) left ∷ blank width 1 ∷ []
-    else styled width label.style (t.vbar ∷ []) ∷ number_gutter width t line (left - 1) labels
+    else styled_run width label.style (t.vbar ∷ []) ∷ number_gutter width t line (left - 1) labels
 
 -- The gutter of any other row: the first label that ends here has a corner and bars for the columns that are left,
 -- each label before it a bar.
 abbrev pub other_gutter : (ℕ → ℕ) → Characters → Line → ℕ → List DrawnLabel → Row
 other_gutter width t line left [] = blank width left ∷ []
 other_gutter width t line left (label ∷ labels) =
-    if ends_on line label then styled width label.style (t.lbot ∷ replicate (left - 1) t.hbar) ∷ []
-    else styled width label.style (t.vbar ∷ []) ∷ other_gutter width t line (left - 1) labels
+    if ends_on line label then styled_run width label.style (t.lbot ∷ replicate (left - 1) t.hbar) ∷ []
+    else styled_run width label.style (t.vbar ∷ []) ∷ other_gutter width t line (left - 1) labels
 
 -- The same with spaces in place of the corner and its bars.
 abbrev pub open_gutter : (ℕ → ℕ) → Characters → Line → ℕ → List DrawnLabel → Row
 open_gutter width t line left [] = blank width left ∷ []
 open_gutter width t line left (label ∷ labels) =
     if ends_on line label then blank width left ∷ []
-    else styled width label.style (t.vbar ∷ []) ∷ open_gutter width t line (left - 1) labels
+    else styled_run width label.style (t.vbar ∷ []) ∷ open_gutter width t line (left - 1) labels
 
 abbrev pub part_run : (ℕ → ℕ) → DrawnLabel → ℕ → List ℕ → Run
-part_run width label bar part = styled width label.style (bar ∷ 32 ∷ part)
+part_run width label bar part = styled_run width label.style (bar ∷ 32 ∷ part)
 
 -- The rows of one label's text, in a gutter of so many columns, over the labels of the line. Of several parts the
 -- gutter is one column shorter.

@@ -18,14 +18,14 @@ last_column (cell ∷ cells) text_end text_width offset =
     if nat_le offset cell.start then cell.from else last_column cells text_end text_width offset
 
 -- how a cell prints: a tab as spaces
-abbrev pub printed : Cell → List Piece
-printed cell =
+abbrev pub printed_pieces : Cell → List Piece
+printed_pieces cell =
     if cell.code == 9 then replicate (cell.until - cell.from) (record { code = 32; columns = 1 })
     else record { code = cell.code; columns = cell.until - cell.from } ∷ []
 
 abbrev pub printed_cells : List Cell → List Piece
 printed_cells [] = []
-printed_cells (cell ∷ cells) = printed cell ++ printed_cells cells
+printed_cells (cell ∷ cells) = printed_pieces cell ++ printed_cells cells
 
 -- the columns of a line
 abbrev pub cells_width : ℕ → List Cell → ℕ

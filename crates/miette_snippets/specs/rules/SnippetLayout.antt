@@ -13,7 +13,8 @@ use Rattle.miette_lines.specs.rules.Contexts.{end_of_span, contents, lines_of_co
 use Rattle.miette_lines.specs.rules.Groups.{in_order, refusal, groups_of, some_fails, groups_fail}
 use Rattle.miette_snippets.specs.rules.PrintedCells.{cells_width, line_runs}
 use Rattle.miette_lines.specs.rules.Cells.{Cell, characters, cells_from}
-use Rattle.miette_lines.specs.rules.Labels.{DrawnLabel, drawn_from, some_shows_end, one_line, multi_line, closing}
+use Rattle.miette_lines.specs.rules.Labels.{DrawnLabel, drawn_from, some_shows_end, one_line, multi_line}
+use Rattle.miette_lines.specs.rules.Labels.{closing_labels}
 use Rattle.miette_snippets.specs.rules.Marks.{Text, marks}
 use Rattle.miette_snippets.specs.rules.Drawing.{marked_rows}
 use Rattle.miette_snippets.specs.rules.Gutters.{gutter_columns, number_gutter, other_gutter, closing_rows}
@@ -41,7 +42,7 @@ line_rows_of s w columns one multi line number cells pieces =
     (number_start s w number ++ number_gutter s.width s.characters line columns multi ++ line_runs pieces cells)
     ∷ before_each (other_start s w ++ other_gutter s.width s.characters line columns multi)
     (marked_rows s.width s.characters (marks (text_of_cells cells line.text_end) one))
-    ++ before_each (other_start s w) (closing_rows s.width s.characters line columns multi (closing line multi))
+    ++ before_each (other_start s w) (closing_rows s.width s.characters line columns multi (closing_labels line multi))
 
 abbrev pub line_rows : SnippetSettings → ℕ → ℕ → List DrawnLabel → Line → ℕ → List Cell → List Highlight → List Row
 line_rows s w columns labels line number cells pieces =

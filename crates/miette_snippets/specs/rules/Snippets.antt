@@ -1,11 +1,11 @@
--- The shown lines of a source, as a set, and the snippets as its maximal runs. Nothing here knows an order of labels.
+-- The shown lines of a source, as a set, and the snippets as its maximal ranges. Nothing here knows an order of labels.
 use Rattle.std.specs.Prelude.{ℕ, List, [], ◌∷◌, length, Bool, ◌&&◌, nat_le}
 use Rattle.std.specs.List.{range_with_len, filter, list_any}
 use Rattle.miette_newlines.specs.rules.Lines.{lines_of}
 use Rattle.miette_protocol.specs.views.Meaning.{Label}
 use Rattle.miette_protocol.specs.rules.Reading.{Span}
 use Rattle.miette_lines.specs.rules.Around.{lines_around}
-use Rattle.miette_snippets.specs.rules.Numbers.{runs}
+use Rattle.miette_snippets.specs.rules.Numbers.{ranges}
 use Rattle.miette_lines.specs.rules.Contexts.{first_line, last_line}
 
 -- whether line k is in the context of a span
@@ -17,11 +17,11 @@ abbrev pub is_shown : ℕ → List ℕ → List Label → ℕ → Bool
 is_shown context bytes labels k = list_any (λ label.
     is_in_context (lines_around context labels label) bytes k label.span) labels
 
-abbrev pub shown : ℕ → List ℕ → List Label → List ℕ
-shown context bytes labels = filter (is_shown context bytes labels) (range_with_len 0 (length (lines_of bytes)))
+abbrev pub shown_numbers : ℕ → List ℕ → List Label → List ℕ
+shown_numbers context bytes labels = filter (is_shown context bytes labels) (range_with_len 0 (length (lines_of bytes)))
 
 -- an empty source with a label has one snippet without lines
 abbrev pub snippets : ℕ → List ℕ → List Label → List (List ℕ)
 snippets context [] [] = []
 snippets context [] (label ∷ labels) = [] ∷ []
-snippets context (byte ∷ bytes) labels = runs (shown context (byte ∷ bytes) labels)
+snippets context (byte ∷ bytes) labels = ranges (shown_numbers context (byte ∷ bytes) labels)

@@ -3,7 +3,7 @@ use Rattle.miette_style.specs.declared.theme.ThemeStyles.{ThemeStyles}
 use Rattle.miette_style.specs.declared.theme.GraphicalTheme.{GraphicalTheme}
 use Rattle.miette_snippets.specs.declared.options.LayoutOptions.{LayoutOptions}
 use Rattle.miette_snippets.specs.rules.Frames.{Styles, SnippetSettings}
-use Rattle.miette_lines.specs.views.Given.{width_of}
+use Rattle.miette_lines.specs.views.GivenLabels.{width_of}
 use Rattle.miette_style.specs.rules.Themes.{characters_of}
 
 abbrev pub styles_of : ThemeStyles → Styles

@@ -36,19 +36,19 @@ behind_separators [] = []
 behind_separators (x ∷ xs) = 59 ∷ x ++ behind_separators xs
 
 -- with `;` between them
-abbrev pub separated : List (List ℕ) → List ℕ
-separated [] = []
-separated (x ∷ xs) = x ++ behind_separators xs
+abbrev pub separated_codes : List (List ℕ) → List ℕ
+separated_codes [] = []
+separated_codes (x ∷ xs) = x ++ behind_separators xs
 
 abbrev pub escape : ℕ
 escape = 27
 
 abbrev pub colour_start : Style → List ℕ
-colour_start s = escape ∷ 91 ∷ separated (style_codes s) ++ 109 ∷ []
+colour_start s = escape ∷ 91 ∷ separated_codes (style_codes s) ++ 109 ∷ []
 
 abbrev pub colour_stop : List ℕ
 colour_stop = escape ∷ 91 ∷ 48 ∷ 109 ∷ []
 
 -- codes with `;` between them, and before them where others stand there
 abbrev pub further_codes : Bool → List (List ℕ) → List ℕ
-further_codes some cs = if some then behind_separators cs else separated cs
+further_codes some cs = if some then behind_separators cs else separated_codes cs

@@ -8,5 +8,5 @@ abbrev pub plain : Style
 plain = record { fg = None; bold = false; dimmed = false; italic = false; underline = false }
 
 -- a colour alone
-abbrev pub coloured : Color → Style
-coloured c = record plain { fg = Some c }
+abbrev pub coloured_style : Color → Style
+coloured_style c = record plain { fg = Some c }

@@ -3,7 +3,7 @@ use Rattle.std.specs.Prelude.{ℕ, Bool, List, [], ◌∷◌, Option, Some, None
 use Rattle.std.specs.Prelude.{codes, string_bytes}
 use Rattle.std.specs.Option.{option_map}
 use Rattle.std.specs.Str.{bytes_eq}
-use Rattle.miette_style.specs.rules.Styles.{plain, coloured}
+use Rattle.miette_style.specs.rules.Styles.{plain, coloured_style}
 use Rattle.miette_style.specs.declared.style.Color.TheVariants.{Red, Green, Yellow, Magenta, Cyan, Rgb}
 use Rattle.miette_style.specs.declared.style.Style.{Style}
 use Rattle.miette_style.specs.declared.theme.GraphicalTheme.{GraphicalTheme}
@@ -149,28 +149,29 @@ ascii_characters = record {
 -- the terminal's own colours
 abbrev pub ansi_styles : Styles
 ansi_styles = record {
-  error = coloured Red;
-  warning = coloured Yellow;
-  advice = coloured Cyan;
-  help = coloured Cyan;
-  link = record (coloured Cyan) { bold = true; underline = true };
+  error = coloured_style Red;
+  warning = coloured_style Yellow;
+  advice = coloured_style Cyan;
+  help = coloured_style Cyan;
+  link = record (coloured_style Cyan) { bold = true; underline = true };
   linum = record plain { dimmed = true };
-  highlights = record (coloured Magenta) { bold = true }
-      ∷ record (coloured Yellow) { bold = true }
-      ∷ record (coloured Green) { bold = true }
+  highlights = record (coloured_style Magenta) { bold = true }
+      ∷ record (coloured_style Yellow) { bold = true }
+      ∷ record (coloured_style Green) { bold = true }
       ∷ [];
 }
 
 -- colours of which a terminal has 16 million
 abbrev pub rgb_styles : Styles
 rgb_styles = record {
-  error = coloured (Rgb 255 30 30);
-  warning = coloured (Rgb 244 191 117);
-  advice = coloured (Rgb 106 159 181);
-  help = coloured (Rgb 106 159 181);
-  link = record (coloured (Rgb 92 157 255)) { bold = true; underline = true };
+  error = coloured_style (Rgb 255 30 30);
+  warning = coloured_style (Rgb 244 191 117);
+  advice = coloured_style (Rgb 106 159 181);
+  help = coloured_style (Rgb 106 159 181);
+  link = record (coloured_style (Rgb 92 157 255)) { bold = true; underline = true };
   linum = record plain { dimmed = true };
-  highlights = coloured (Rgb 246 87 248) ∷ coloured (Rgb 30 201 212) ∷ coloured (Rgb 145 246 111) ∷ [];
+  highlights = coloured_style (Rgb 246 87 248) ∷ coloured_style (Rgb 30 201 212) ∷ coloured_style (Rgb 145 246 111)
+      ∷ [];
 }
 
 abbrev pub no_styles : Styles

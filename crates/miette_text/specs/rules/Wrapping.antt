@@ -90,11 +90,11 @@ hyphen_parts before (c ∷ cs) =
 
 -- Cut before each character that makes the part since the last cut, which has so many columns, too wide,
 -- unless that part has none.
-abbrev pub broken : ℕ → ℕ → List Cell → List (List Cell)
-broken room used [] = [] ∷ []
-broken room used (c ∷ cs) =
-    if nat_lt 0 used && nat_lt room (used + width c.code) then [] ∷ onto c (broken room (width c.code) cs)
-    else onto c (broken room (used + width c.code) cs)
+abbrev pub broken_parts : ℕ → ℕ → List Cell → List (List Cell)
+broken_parts room used [] = [] ∷ []
+broken_parts room used (c ∷ cs) =
+    if nat_lt 0 used && nat_lt room (used + width c.code) then [] ∷ onto c (broken_parts room (width c.code) cs)
+    else onto c (broken_parts room (used + width c.code) cs)
 
 -- The last part keeps the spaces.
 abbrev pub with_spaces : List Cell → List (List Cell) → List Word
@@ -110,14 +110,14 @@ pub record Cuts : Type 0 where
   pub breaks : Bool
   pub narrow : ℕ
 
-abbrev pub hyphenated : Cuts → List Cell → List (List Cell)
-hyphenated c letters = if c.hyphens then hyphen_parts 0 letters else letters ∷ []
+abbrev pub hyphenated_parts : Cuts → List Cell → List (List Cell)
+hyphenated_parts c letters = if c.hyphens then hyphen_parts 0 letters else letters ∷ []
 
-abbrev pub narrowed : Cuts → List Cell → List (List Cell)
-narrowed c letters = if c.breaks then broken c.narrow 0 letters else letters ∷ []
+abbrev pub narrow_parts : Cuts → List Cell → List (List Cell)
+narrow_parts c letters = if c.breaks then broken_parts c.narrow 0 letters else letters ∷ []
 
 abbrev pub parts : Cuts → Word → List Word
-parts c w = with_spaces w.spaces (flat_map (narrowed c) (hyphenated c w.letters))
+parts c w = with_spaces w.spaces (flat_map (narrow_parts c) (hyphenated_parts c w.letters))
 
 abbrev pub cut_words : Cuts → List Cell → List Word
 cut_words c cells = flat_map (parts c) (words cells)
@@ -149,13 +149,13 @@ only_spaces (Character c ∷ ts) = is_space c && only_spaces ts
 only_spaces (Sequence s ∷ ts) = only_spaces ts
 
 -- without the last spaces; sequences stay
-abbrev pub trimmed : List Token → List Token
-trimmed [] = []
-trimmed (Character c ∷ ts) = if is_space c && only_spaces ts then trimmed ts else Character c ∷ trimmed ts
-trimmed (Sequence s ∷ ts) = Sequence s ∷ trimmed ts
+abbrev pub trimmed_row : List Token → List Token
+trimmed_row [] = []
+trimmed_row (Character c ∷ ts) = if is_space c && only_spaces ts then trimmed_row ts else Character c ∷ trimmed_row ts
+trimmed_row (Sequence s ∷ ts) = Sequence s ∷ trimmed_row ts
 
 abbrev pub row_tokens : List Word → List Token
-row_tokens ws = trimmed (flat_map cell_tokens (flat_map word_cells ws))
+row_tokens ws = trimmed_row (flat_map cell_tokens (flat_map word_cells ws))
 
 -- the sequences at the piece's end go to the last row
 abbrev pub with_rest : List (List ℕ) → List (List Token) → List (List Token)
@@ -174,12 +174,12 @@ abbrev pub line_feed : Token
 line_feed = Character 10
 
 -- each row under its indent; line feeds between them
-abbrev pub joined : List Token → List Token → List (List Token) → List Token
-joined indent further [] = []
-joined indent further (r ∷ rs) = elim rs [
+abbrev pub joined_rows : List Token → List Token → List (List Token) → List Token
+joined_rows indent further [] = []
+joined_rows indent further (r ∷ rs) = elim rs [
   | [] ↦ indent ++ r
   | s ∷ ss ↦ indent ++ r ++ line_feed
-      ∷ joined further further rs
+      ∷ joined_rows further further rs
 ]
 
 -- ---- without wrapping
@@ -191,17 +191,17 @@ all_white (c ∷ cs) = is_whitespace c.code && all_white cs
 abbrev pub piece_tokens : Piece → List Token
 piece_tokens p = flat_map cell_tokens p.cells ++ map Sequence p.rest
 
-abbrev pub indented : List Token → Piece → List Token
-indented indent p = (if all_white p.cells then trimmed indent else indent) ++ piece_tokens p
+abbrev pub indented_row : List Token → Piece → List Token
+indented_row indent p = (if all_white p.cells then trimmed_row indent else indent) ++ piece_tokens p
 
 -- Behind the last line feed there is no piece where there is no character; its sequences stay.
 abbrev pub last_indented : List Token → Piece → List Token
-last_indented indent p = elim p.cells [ [] ↦ map Sequence p.rest | cell ∷ cells ↦ indented indent p ]
+last_indented indent p = elim p.cells [ [] ↦ map Sequence p.rest | cell ∷ cells ↦ indented_row indent p ]
 
 abbrev pub whole_pieces : List Token → List Token → List Piece → List Token
 whole_pieces indent further [] = []
 whole_pieces indent further (p ∷ ps) = elim ps
-    [ [] ↦ last_indented indent p | q ∷ qs ↦ indented indent p ++ line_feed ∷ whole_pieces further further ps ]
+    [ [] ↦ last_indented indent p | q ∷ qs ↦ indented_row indent p ++ line_feed ∷ whole_pieces further further ps ]
 
 -- ---- all of it
 
@@ -235,11 +235,11 @@ further_room p = p.room - columns_of p.further
 abbrev pub cuts_of : Plan (List Token) → Cuts
 cuts_of p = record { hyphens = p.hyphens; breaks = p.breaks; narrow = min (first_room p) (further_room p) }
 
-abbrev pub filled : Plan (List Token) → List Token → List Token
-filled p ts = joined p.first p.further (text_rows (cuts_of p) (first_room p) (further_room p) (pieces ts))
+abbrev pub filled_text : Plan (List Token) → List Token → List Token
+filled_text p ts = joined_rows p.first p.further (text_rows (cuts_of p) (first_room p) (further_room p) (pieces ts))
 
 abbrev pub wrapped_tokens : Plan (List Token) → List Token → List Token
-wrapped_tokens p ts = if p.wraps then filled p ts else whole_pieces p.first p.further (pieces ts)
+wrapped_tokens p ts = if p.wraps then filled_text p ts else whole_pieces p.first p.further (pieces ts)
 
-abbrev pub wrapped : Plan (List ℕ) → List ℕ → List ℕ
-wrapped p text = spell (wrapped_tokens (map_indents tokens p) (tokens text))
+abbrev pub wrapped_text : Plan (List ℕ) → List ℕ → List ℕ
+wrapped_text p text = spell (wrapped_tokens (map_indents tokens p) (tokens text))

@@ -2,7 +2,7 @@
 use Rattle.std.specs.Prelude.{◌≡◌, ℕ, zero, suc, ◌+◌, Bool, true, false, ◌&&◌, ◌==◌, nat_lt, List, [], ◌∷◌, ◌++◌}
 use Rattle.std.specs.Prelude.{if◌then◌else◌, map, flat_map, take, drop}
 use Rattle.miette_runs.specs.rules.Sequences.{is_line_feed}
-use Rattle.miette_text.specs.rules.Wrapping.{Cuts, Word, is_space, is_alphanumeric, hyphen_parts, narrowed}
+use Rattle.miette_text.specs.rules.Wrapping.{Cuts, Word, is_space, is_alphanumeric, hyphen_parts, narrow_parts}
 use Rattle.miette_runs.specs.rules.Cells.{Cell, width}
 use Rattle.miette_text.specs.rules.Wrapping.{parts, rows, with_spaces, word_cells, words}
 
@@ -51,7 +51,7 @@ hyphenated_behind cuts before letters = if cuts.hyphens then hyphen_parts before
 abbrev pub words_behind : Cuts → ℕ → List Cell → List Word
 words_behind cuts before cells = elim (words cells) [
   | [] ↦ []
-  | w ∷ ws ↦ with_spaces w.spaces (flat_map (narrowed cuts) (hyphenated_behind cuts before w.letters))
+  | w ∷ ws ↦ with_spaces w.spaces (flat_map (narrow_parts cuts) (hyphenated_behind cuts before w.letters))
       ++ flat_map (parts cuts) ws
 ]
 

@@ -3,7 +3,7 @@
 ghost use Rattle.std.specs.Prelude.{◌≡◌, ◌++◌, ℕ, List, IfOk, chars, false, true};
 ghost use Rattle.miette_runs.specs.rules.Sequences.{spell};
 ghost use Rattle.miette_text.specs.rules.Fitting.{fits, has_ink, is_line};
-ghost use Rattle.miette_text.specs.rules.Wrapping.{Plan, wrapped};
+ghost use Rattle.miette_text.specs.rules.Wrapping.{Plan, wrapped_text};
 ghost use Rattle.miette_text.specs.steps.Fitting.{all_printable, fits_row, is_shown};
 
 use memchr::memchr2;
@@ -88,7 +88,7 @@ fn fits(wraps: bool, width: usize, first: &Runs, text: &str) -> Result<bool, All
     ensures when { IfOk result (λ found. found ≡ fits wraps width first.now (chars text.now)) }
     ensures same { IfOk result (λ found. found ≡ true → (p : Plan (List ℕ)) →
         p.wraps ≡ wraps → p.room ≡ width → p.first ≡ spell first.now →
-        wrapped p (chars text.now) ≡ spell first.now ++ chars text.now) }
+        wrapped_text p (chars text.now) ≡ spell first.now ++ chars text.now) }
 {
     let indent = first.parts();
     if !is_settled(indent) {
@@ -127,7 +127,7 @@ pub fn push_fitting(
     ensures when { IfOk result (λ found. found ≡ fits wraps width first.now (chars text.now)) }
     ensures fits { IfOk result (λ found. found ≡ true → (p : Plan (List ℕ)) →
         p.wraps ≡ wraps → p.room ≡ width → p.first ≡ spell first.now →
-        out.new ≡ out.old ++ wrapped p (chars text.now)) }
+        out.new ≡ out.old ++ wrapped_text p (chars text.now)) }
     ensures otherwise { IfOk result (λ found. found ≡ false → out.new ≡ out.old) }
 {
     let fits = fits(wraps, width, first, text)?;

@@ -6,15 +6,15 @@ ghost use Rattle.miette_runs.specs.rules.Cutting.{without_leading, without_trail
 ghost use Rattle.miette_runs.specs.rules.Runs.{HaveNoEscape, Fragment, plain_run, print};
 ghost use Rattle.miette_runs.specs.rules.Sequences.{Token, erase, tokens};
 ghost use Rattle.miette_text.specs.rules.Tame.{AllTame, AreColoured, IsTame, colourless};
-ghost use Rattle.miette_text.specs.rules.Filled.{IsFilled, IsTrimmed, all_words};
-ghost use Rattle.miette_text.specs.rules.Wrapping.{Plan, Word, rows, trimmed, wrapped};
+ghost use Rattle.miette_text.specs.rules.FilledRows.{IsFilled, IsTrimmed, all_words};
+ghost use Rattle.miette_text.specs.rules.Wrapping.{Plan, Word, rows, trimmed_row, wrapped_text};
 ghost use Rattle.miette_runs.specs.rules.Cells.{columns_of};
 
 /// Wrapping tame parts gives a tame text, and colours can be deleted before or after.
 pub fn wrapping_law()
-    ensures tame { (p : Plan (List ℕ)) (text : List ℕ) → AllTame p text → IsTame (wrapped p text) }
+    ensures tame { (p : Plan (List ℕ)) (text : List ℕ) → AllTame p text → IsTame (wrapped_text p text) }
     ensures erase { (p : Plan (List ℕ)) (text : List ℕ) → AllTame p text →
-        erase (wrapped p text) ≡ wrapped (colourless p) (erase text) }
+        erase (wrapped_text p text) ≡ wrapped_text (colourless p) (erase text) }
 {}
 
 /// The same of joining.
@@ -50,7 +50,7 @@ pub fn columns_law()
 /// Where every escape belongs to a colour, colours can be deleted before or after wrapping.
 pub fn colours_law()
     ensures { (p : Plan (List ℕ)) (text : List ℕ) → AreColoured p text →
-        erase (wrapped p text) ≡ wrapped (colourless p) (erase text) }
+        erase (wrapped_text p text) ≡ wrapped_text (colourless p) (erase text) }
 {}
 
 /// The rows that words fill, by what holds of them: they hold the words in order, and each word begins a row exactly
@@ -61,6 +61,6 @@ pub fn rows_law()
     ensures filled { (room further : ℕ) (words : List Word) → IsFilled room further (rows room further words) }
     ensures only { (room further : ℕ) (found : List (List Word)) → IsFilled room further found →
         found ≡ rows room further (all_words found) }
-    ensures spaces { (row : List Token) → IsTrimmed row (trimmed row) }
-    ensures only_spaces { (row found : List Token) → IsTrimmed row found → found ≡ trimmed row }
+    ensures spaces { (row : List Token) → IsTrimmed row (trimmed_row row) }
+    ensures only_spaces { (row found : List Token) → IsTrimmed row found → found ≡ trimmed_row row }
 {}

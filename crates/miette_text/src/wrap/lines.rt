@@ -4,8 +4,9 @@ ghost use Rattle.std.specs.Prelude.{◌≡◌, ◌≤◌, ◌++◌, ◌∷◌, [
 ghost use Rattle.miette_text.specs.steps.Ends.{bare_len, line_len};
 ghost use Rattle.miette_runs.specs.steps.Cells.{plain_cells};
 ghost use Rattle.miette_runs.specs.rules.Sequences.{spell};
-ghost use Rattle.miette_runs.specs.views.Woven.{cells_at, left_at, woven};
-ghost use Rattle.miette_text.specs.rules.Wrapping.{cell_tokens, joined, piece_rows, pieces, text_rows, trimmed};
+ghost use Rattle.miette_runs.specs.views.Interleaving.{cells_at, left_at, interleaving};
+ghost use Rattle.miette_text.specs.rules.Wrapping.{cell_tokens, joined_rows, piece_rows, pieces, text_rows};
+ghost use Rattle.miette_text.specs.rules.Wrapping.{trimmed_row};
 
 use crate::wrap::ends::{Cuts, row_len};
 use miette_runs::runs::RunsSlice;
@@ -41,7 +42,7 @@ pub(crate) fn bare_len(row: &[char]) -> usize
 // A line feed and the indent below it.
 fn push_break<S: Sink>(out: &mut S, further: RunsSlice<'_>) -> Result<(), AllocError>
     ensures { OnOk result (S.holds out.new ≡ S.holds out.old
-        ++ S.spells (10 ∷ spell (woven 0 further.entry.codes.now further.entry.tags.now))) }
+        ++ S.spells (10 ∷ spell (interleaving 0 further.entry.codes.now further.entry.tags.now))) }
 {
     out.push_codes(&['\n'])?;
     push_all(out, further)?;
@@ -51,7 +52,7 @@ fn push_break<S: Sink>(out: &mut S, further: RunsSlice<'_>) -> Result<(), AllocE
 // A row, from a place in the text up to the end of what is given, without its last spaces. How many tags are used.
 fn push_row<S: Sink>(out: &mut S, start: usize, row: RunsSlice<'_>) -> Result<usize, AllocError>
     requires { start ≤ length row.codes.now }
-    ensures text { OnOk result (S.holds out.new ≡ S.holds out.old ++ S.spells (spell (trimmed
+    ensures text { OnOk result (S.holds out.new ≡ S.holds out.old ++ S.spells (spell (trimmed_row
         (flat_map cell_tokens (cells_at start (drop start row.entry.codes.now) row.entry.tags.now))))) }
     ensures left { IfOk result (λ n. drop n row.entry.tags.now
         ≡ left_at start (drop start row.entry.codes.now) row.entry.tags.now) }
@@ -73,8 +74,8 @@ fn push_rows<S: Sink>(
     line: RunsSlice<'_>,
 ) -> Result<usize, AllocError>
     requires { first ≤ length line.codes.now }
-    ensures text { OnOk result (S.holds out.new ≡ S.holds out.old ++ S.spells (spell (joined []
-        (woven 0 under.entry.further.codes.now under.entry.further.tags.now)
+    ensures text { OnOk result (S.holds out.new ≡ S.holds out.old ++ S.spells (spell (joined_rows []
+        (interleaving 0 under.entry.further.codes.now under.entry.further.tags.now)
         (piece_rows cuts under.entry.room under.entry.further_room
         (record { cells = cells_at first (drop first line.entry.codes.now) line.entry.tags.now; rest = [] }))))) }
     ensures left { IfOk result (λ n. drop n line.entry.tags.now
@@ -126,10 +127,10 @@ pub(crate) fn push_filled<S: Sink>(
     under: Under<'_>,
     text: RunsSlice<'_>,
 ) -> Result<(), AllocError>
-    ensures { OnOk result (S.holds out.new ≡ S.holds out.old ++ S.spells (spell (joined []
-        (woven 0 under.entry.further.codes.now under.entry.further.tags.now)
+    ensures { OnOk result (S.holds out.new ≡ S.holds out.old ++ S.spells (spell (joined_rows []
+        (interleaving 0 under.entry.further.codes.now under.entry.further.tags.now)
         (text_rows cuts under.entry.room under.entry.further_room
-        (pieces (woven 0 text.entry.codes.now text.entry.tags.now)))))) }
+        (pieces (interleaving 0 text.entry.codes.now text.entry.tags.now)))))) }
 {
     let mut start: usize = 0;
     let mut used: usize = 0;

@@ -4,8 +4,8 @@ ghost use Rattle.std.specs.Prelude.{◌≡◌, ◌++◌, OnOk};
 ghost use Rattle.miette_runs.specs.steps.Cells.{plain_cells};
 ghost use Rattle.miette_runs.specs.rules.Sequences.{spell};
 ghost use Rattle.miette_text.specs.steps.WholeText.{indent_text};
-ghost use Rattle.miette_runs.specs.views.Woven.{woven};
-ghost use Rattle.miette_text.specs.rules.Wrapping.{all_white, pieces, trimmed, whole_pieces};
+ghost use Rattle.miette_runs.specs.views.Interleaving.{interleaving};
+ghost use Rattle.miette_text.specs.rules.Wrapping.{all_white, pieces, trimmed_row, whole_pieces};
 
 use crate::wrap::lines::{bare_len, line_len};
 use miette_runs::runs::RunsSlice;
@@ -16,8 +16,8 @@ use std::alloc::AllocError;
 
 // An indent without its last spaces; its signs stay.
 fn trim_end(indent: RunsSlice<'_>) -> RunsSlice<'_>
-    ensures { woven 0 result.codes.now result.tags.now
-        ≡ trimmed (woven 0 indent.entry.codes.now indent.entry.tags.now) }
+    ensures { interleaving 0 result.codes.now result.tags.now
+        ≡ trimmed_row (interleaving 0 indent.entry.codes.now indent.entry.tags.now) }
 {
     let bare = bare_len(indent.codes);
     RunsSlice {
@@ -46,8 +46,8 @@ fn push_indent<S: Sink>(
     line: &[char],
 ) -> Result<(), AllocError>
     ensures { OnOk result (S.holds out.new ≡ S.holds out.old
-        ++ S.spells (indent_text last (spell (woven 0 indent.entry.codes.now indent.entry.tags.now))
-        (spell (woven 0 short.entry.codes.now short.entry.tags.now)) (plain_cells line.now))) }
+        ++ S.spells (indent_text last (spell (interleaving 0 indent.entry.codes.now indent.entry.tags.now))
+        (spell (interleaving 0 short.entry.codes.now short.entry.tags.now)) (plain_cells line.now))) }
 {
     if last && line.is_empty() {
         return Ok(());
@@ -68,9 +68,9 @@ pub(crate) fn push_whole<S: Sink>(
     text: RunsSlice<'_>,
 ) -> Result<(), AllocError>
     ensures { OnOk result (S.holds out.new ≡ S.holds out.old
-        ++ S.spells (spell (whole_pieces (woven 0 first.entry.codes.now first.entry.tags.now)
-        (woven 0 further.entry.codes.now further.entry.tags.now)
-        (pieces (woven 0 text.entry.codes.now text.entry.tags.now))))) }
+        ++ S.spells (spell (whole_pieces (interleaving 0 first.entry.codes.now first.entry.tags.now)
+        (interleaving 0 further.entry.codes.now further.entry.tags.now)
+        (pieces (interleaving 0 text.entry.codes.now text.entry.tags.now))))) }
 {
     let further_short = trim_end(further);
     let mut indent = first;

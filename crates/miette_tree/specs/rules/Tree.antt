@@ -56,8 +56,8 @@ abbrev pub alone : Meaning → Tree
 alone m = tree m None (texts []) no_trees
 
 -- a message in front: the old chain becomes the causes, and all else stays
-abbrev pub wrapped : List ℕ → Tree → Tree
-wrapped message t = tree (record (head t) { message = message }) (source_of t) (texts (chain_of t)) (related_of t)
+abbrev pub wrapped_tree : List ℕ → Tree → Tree
+wrapped_tree message t = tree (record (head t) { message = message }) (source_of t) (texts (chain_of t)) (related_of t)
 
 -- a source only where there is none
 abbrev pub with_source : Source → Tree → Tree

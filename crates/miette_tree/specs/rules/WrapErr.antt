@@ -8,7 +8,7 @@ use Rattle.miette_protocol.specs.views.Diagnostic.{message_alone}
 use Rattle.miette_protocol.specs.rules.Texts.{render_text}
 use Rattle.miette_protocol.specs.declared.error.RenderError.{RenderError}
 use Rattle.miette_protocol.specs.declared.error.RenderError.TheVariants as unwritten
-use Rattle.miette_tree.specs.rules.Tree.{alone, wrapped}
+use Rattle.miette_tree.specs.rules.Tree.{alone, wrapped_tree}
 use Rattle.miette_tree.specs.views.Kind.{kind_of, message, out_of_memory}
 use Rattle.miette_tree.specs.views.Report.{tree_of, out_of_memory_alone}
 use Rattle.miette_tree.specs.declared.tree.Report.{Report}
@@ -27,7 +27,7 @@ module _ {D S : Type 0} (means : D → Meaning) (is : S → Source) where
   -- a text in front of a report, or with no report behind it
   abbrev pub IsFronted : List ℕ → Option (Report D S) → Report D S → Type 0
   IsFronted text None r = (tree_of means is r ≡ alone (message_alone text)) × (kind_of r ≡ message)
-  IsFronted text (Some below) r = (tree_of means is r ≡ wrapped text (tree_of means is below))
+  IsFronted text (Some below) r = (tree_of means is r ≡ wrapped_tree text (tree_of means is below))
       × (kind_of r ≡ kind_of below)
 
   -- that, or the report of refused memory

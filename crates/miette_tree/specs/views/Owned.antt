@@ -1,5 +1,5 @@
 -- What an owned source means, and what the place means where a report keeps its source.
-use Rattle.miette_protocol.specs.rules.Reading.{Source, plain_source, named}
+use Rattle.miette_protocol.specs.rules.Reading.{Source, plain_source, named_source}
 use Rattle.miette_protocol.specs.views.Named.{inner_of, name_of, given_language}
 use Rattle.miette_tree.specs.declared.owned.Bytes.{Bytes}
 use Rattle.miette_tree.specs.declared.owned.Bytes.TheVariants as bytes
@@ -10,7 +10,7 @@ use Rattle.miette_tree.specs.declared.owned.SourceRef.{SourceRef}
 
 abbrev pub bytes_source : Bytes → Source
 bytes_source (bytes.Plain it) = plain_source it
-bytes_source (bytes.Named it) = named (plain_source (inner_of it)) (name_of it) (given_language it)
+bytes_source (bytes.Named it) = named_source (plain_source (inner_of it)) (name_of it) (given_language it)
 
 abbrev pub owned_source : OwnedSource → Source
 owned_source it = bytes_source it.bytes.value

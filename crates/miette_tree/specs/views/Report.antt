@@ -29,9 +29,9 @@ innermost_meaning means (Unwritten error) = message_alone (render_text error)
 innermost_meaning means OutOfMemory = out_of_memory_alone
 
 -- with the message that was put in front, where there is one
-abbrev pub fronted : Option (List ℕ) → Meaning → Meaning
-fronted None m = m
-fronted (Some message) m = record m { message = message }
+abbrev pub fronted_meaning : Option (List ℕ) → Meaning → Meaning
+fronted_meaning None m = m
+fronted_meaning (Some message) m = record m { message = message }
 
 -- a cause, with a report in it already seen as its tree
 abbrev pub kept_cause : KeptCause Tree → Cause
@@ -47,7 +47,7 @@ trees_from (Some ts) = trees ts
 abbrev pub tree_step : {D S : Type 0} → (D → Meaning) → (S → Source) → Report-F D S Tree → Tree
 tree_step means is r =
     tree
-    (fronted (option_map (λ b. string_bytes b.value) r.front) (innermost_meaning means r.innermost))
+    (fronted_meaning (option_map (λ b. string_bytes b.value) r.front) (innermost_meaning means r.innermost))
     (option_map (kept_source is) r.source)
     (kept_cause r.cause)
     (trees_from (option_map (λ v. v.items) r.related))

@@ -4,7 +4,8 @@ ghost use Rattle.std.specs.Prelude.{◌≡◌, IfOk, None, chars, option_map, un
 ghost use Rattle.std.specs.Option.{option_or};
 ghost use Rattle.miette_style.specs.rules.Themes.{characters_of, styles_of, theme_of};
 ghost use Rattle.miette.specs.rules.Choice.{IsChosen, IsDrawing, chosen_highlighter, chosen_theme, chosen_width};
-ghost use Rattle.miette.specs.rules.Choice.{briefly, coloured_styles, fitting_theme, is_graphical, takes_colours, told};
+ghost use Rattle.miette.specs.rules.Choice.{brief_settings, coloured_styles, fitting_theme, is_graphical};
+ghost use Rattle.miette.specs.rules.Choice.{takes_colours, narration_settings};
 
 use crate::options::builder::{MietteHandlerOpts, RgbColors};
 use crate::options::handler::MietteHandler;
@@ -94,13 +95,13 @@ impl<H: Highlighter> MietteHandlerOpts<H> {
     }
 
     fn narrated_handler(self) -> NarratableReportHandler
-        ensures { result ≡ told self }
+        ensures { result ≡ narration_settings self }
     {
         with_parts!(NarratableReportHandler::new(), self)
     }
 
     fn brief_handler(&self) -> BriefReportHandler
-        ensures { result ≡ briefly self.now }
+        ensures { result ≡ brief_settings self.now }
     {
         let handler = BriefReportHandler::new();
         match self.cause_chain {

@@ -1,7 +1,7 @@
 use Rattle.std.proofs.Common.{ap, ◌∙◌, ◌++◌, ◌∷◌, [], string_bytes, map, refl}
 use Rattle.miette_brief.specs.rules.Rows.{rows_text}
 use Rattle.miette_brief.specs.rules.Report.{cause_row}
-use Rattle.miette_brief.specs.steps.Given.{place_of}
+use Rattle.miette_brief.specs.steps.Conversions.{place_of}
 use Rattle.miette_brief.proofs.Putting.{rows_more}
 use Rattle.miette_brief.proofs.report.push_cause_texts.Goals as goal
 

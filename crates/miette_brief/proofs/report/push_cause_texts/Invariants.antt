@@ -1,7 +1,7 @@
 use Rattle.std.proofs.Common.{◌≡◌, ◌++◌, string_bytes, map, drop}
 use Rattle.miette_brief.specs.rules.Rows.{rows_text}
 use Rattle.miette_brief.specs.rules.Report.{cause_row}
-use Rattle.miette_brief.specs.steps.Given.{place_of}
+use Rattle.miette_brief.specs.steps.Conversions.{place_of}
 use Rattle.miette_brief.proofs.report.push_cause_texts.Given as goal
 
 abbrev pub invariant-loop-text : goal.invariant-loop-text

@@ -4,7 +4,7 @@ use Rattle.miette_tree.specs.rules.Tree.{cause_of}
 use Rattle.miette_tree.specs.views.Report.{tree_of}
 use Rattle.miette_tree.specs.views.Owned.{shown_source}
 use Rattle.miette_tree.proofs.TreeSizes.{tree_size}
-use Rattle.miette_brief.specs.steps.Given.{place_of}
+use Rattle.miette_brief.specs.steps.Conversions.{place_of}
 use Rattle.miette_brief.proofs.Causing.{CausesSoFar}
 use Rattle.miette_brief.proofs.report.push_causes.Given as goal
 

@@ -1,10 +1,10 @@
 use Rattle.std.proofs.Common.{◌≡◌, ◌++◌, string_bytes, map, drop}
 use Rattle.std.specs.Option.{option_map}
 use Rattle.miette_tree.specs.views.Owned.{shown_source}
-use Rattle.miette_lines.specs.views.Given.{label_at}
+use Rattle.miette_lines.specs.views.GivenLabels.{label_at}
 use Rattle.miette_brief.specs.rules.Rows.{rows_text}
 use Rattle.miette_brief.specs.rules.Report.{note_rows}
-use Rattle.miette_brief.specs.rules.Answered.{HasAccepted}
+use Rattle.miette_brief.specs.rules.PossibleAnswers.{HasAccepted}
 use Rattle.miette_brief.proofs.report.push_notes.Given as goal
 
 abbrev pub invariant-loop-turn : goal.invariant-loop-turn

@@ -1,6 +1,6 @@
 use Rattle.std.proofs.Common.{◌≡◌, drop}
 use Rattle.json.specs.Value.{items_view, members_view}
-use Rattle.miette_description.specs.steps.Seen.{are_integral, have_integral}
+use Rattle.miette_description.specs.steps.ParsedValues.{are_integral, have_integral}
 use Rattle.miette_description.proofs.numbers.+integers.Given as goal
 
 abbrev pub invariant-are_whole-loop-value : goal.invariant-are_whole-loop-value

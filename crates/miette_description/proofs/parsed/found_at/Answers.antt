@@ -1,5 +1,5 @@
 use Rattle.json.specs.Value.{value_view}
-use Rattle.miette_description.proofs.SeenLaws.{found_seen}
+use Rattle.miette_description.proofs.ParsedValueLaws.{found_seen}
 use Rattle.miette_description.proofs.parsed.found_at.Goals as goal
 
 pub returns : goal.returns

@@ -1,7 +1,7 @@
 use Rattle.std.proofs.Common.{rules, ◌≡◌, ◌<◌, ◌+◌, ◌*◌, ◌++◌, [], ◌∷◌, ap, sym, ◌∙◌, Some, Result, Ok, Err, IfOk, option_map, arith}
 use Rattle.miette_description.proofs.Lists.{one_fails, one_read_as}
 use Rattle.serde_json.specs.Data.{depth, items_depth}
-use Rattle.miette_description.specs.steps.Seen.{seen, items_seen}
+use Rattle.miette_description.specs.steps.ParsedValues.{value_data, list_data}
 use Rattle.miette_tree.specs.rules.Tree.{trees}
 use Rattle.miette_tree.specs.views.Report.{tree_of}
 use Rattle.miette_description.specs.rules.Members.{at_key}
@@ -11,42 +11,42 @@ use Rattle.miette_description.proofs.report.+description.Goals as goal
 
 pub cause_at-report_from-requires : goal.cause_at-report_from-requires
 cause_at-report_from-requires g t c =
-    let less : depth (seen c.in-Some.found.now) < depth (seen c.args.value.now) = at_key-depth c.args.key.now (seen c.args.value.now) (seen c.in-Some.found.now) (sym c.in-Some.ensures) in
-    let small : 4 * depth (seen c.in-Some.found.now) + 2 < 4 * depth (seen c.args.value.now) + 1 = omega arith in
+    let less : depth (value_data c.in-Some.found.now) < depth (value_data c.args.value.now) = at_key-depth c.args.key.now (value_data c.args.value.now) (value_data c.in-Some.found.now) (sym c.in-Some.ensures) in
+    let small : 4 * depth (value_data c.in-Some.found.now) + 2 < 4 * depth (value_data c.args.value.now) + 1 = omega arith in
     search rules
 
 pub related_at-reports_from-requires : goal.related_at-reports_from-requires
 related_at-reports_from-requires g t c =
-    let found = seen c.in-Some.found.now in
-    let less : depth found < depth (seen c.args.value.now) = at_key-depth c.args.key.now (seen c.args.value.now) found (sym c.in-Some.ensures) in
-    let within : items_depth (items_seen c.in-Some-list_in.list.now) < depth found =
-    array-depth found (items_seen c.in-Some-list_in.list.now) (sym c.in-Some-list_in.ensures) in
-    let small : 4 * items_depth (items_seen c.in-Some-list_in.list.now) + 3 < 4 * depth (seen c.args.value.now) + 1 = omega arith in
+    let found = value_data c.in-Some.found.now in
+    let less : depth found < depth (value_data c.args.value.now) = at_key-depth c.args.key.now (value_data c.args.value.now) found (sym c.in-Some.ensures) in
+    let within : items_depth (list_data c.in-Some-list_in.list.now) < depth found =
+    array-depth found (list_data c.in-Some-list_in.list.now) (sym c.in-Some-list_in.ensures) in
+    let small : 4 * items_depth (list_data c.in-Some-list_in.list.now) + 3 < 4 * depth (value_data c.args.value.now) + 1 = omega arith in
     search rules
 
 pub related_at-returns-in_err-reports_from-clause-description : goal.related_at-returns-in_err-reports_from-clause-description
 related_at-returns-in_err-reports_from-clause-description g t c e =
-    related_read (at_key c.args.key.now (seen c.args.value.now)) (seen c.in-Some.found.now) (items_seen c.in-Some-list_in.list.now) c.in-Some.ensures c.in-Some-list_in.ensures
+    related_read (at_key c.args.key.now (value_data c.args.value.now)) (value_data c.in-Some.found.now) (list_data c.in-Some-list_in.list.now) c.in-Some.ensures c.in-Some-list_in.ensures
     ∙ ap (λ o. option_map Some (option_map trees o)) (c.in_err-reports_from.ensures.description (search rules))
 
 pub related_at-returns-clause-ok : goal.related_at-returns-clause-ok
 related_at-returns-clause-ok g t c =
-    related_read (at_key c.args.key.now (seen c.args.value.now)) (seen c.in-Some.found.now) (items_seen c.in-Some-list_in.list.now) c.in-Some.ensures c.in-Some-list_in.ensures
+    related_read (at_key c.args.key.now (value_data c.args.value.now)) (value_data c.in-Some.found.now) (list_data c.in-Some-list_in.list.now) c.in-Some.ensures c.in-Some-list_in.ensures
     ∙ ap (λ o. option_map Some (option_map trees o)) c.in_ok-reports_from.ensures.ok
 
 pub report_from-returns-in_err-one-clause-description : goal.report_from-returns-in_err-one-clause-description
 report_from-returns-in_err-one-clause-description g t c e =
-    report_parts (seen c.args.value.now) ∙ without_cause _ _ (seen c.args.value.now) (c.in_err-one.ensures.description (search rules))
+    report_parts (value_data c.args.value.now) ∙ without_cause _ _ (value_data c.args.value.now) (c.in_err-one.ensures.description (search rules))
 
 pub report_from-returns-in_err-list-clause-description : goal.report_from-returns-in_err-list-clause-description
 report_from-returns-in_err-list-clause-description g t c e =
-    report_parts (seen c.args.value.now) ∙ without_related _ _ (seen c.args.value.now) (c.in_err-list.ensures.description (search rules))
+    report_parts (value_data c.args.value.now) ∙ without_related _ _ (value_data c.args.value.now) (c.in_err-list.ensures.description (search rules))
 
 pub reports_from-report_from-requires : goal.reports_from-report_from-requires
 reports_from-report_from-requires g t c =
     let less = item-depth c.args.list.now c.loop-value.value-index c.value-item.result c.loop-value-test.true in
-    let item = ap (λ v. depth (seen v)) c.value-item.is in
-    let small : 4 * depth (seen c.value-item.result) + 2 < 4 * items_depth (items_seen c.args.list.now) + 3 = omega arith in
+    let item = ap (λ v. depth (value_data v)) c.value-item.is in
+    let small : 4 * depth (value_data c.value-item.result) + 2 < 4 * items_depth (list_data c.args.list.now) + 3 = omega arith in
     search rules
 
 if_ok : {A E : Type 0} {P Q : A → Type 0} (r : Result A E) → ((x : A) → P x → Q x) → IfOk r P → IfOk r Q
@@ -55,12 +55,12 @@ if_ok (Err e) f p = p
 
 pub report_from-returns-clause-ok : goal.report_from-returns-clause-ok
 report_from-returns-clause-ok g t c =
-    let chain = with_nested (seen c.args.value.now) _ _ c.in_ok-one.ensures.ok c.in_ok-list.ensures.ok in
+    let chain = with_nested (value_data c.args.value.now) _ _ c.in_ok-one.ensures.ok c.in_ok-list.ensures.ok in
     if_ok c.report_with.result (λ r p. chain ∙ p) c.report_with.ensures.ok
 
 pub report_from-returns-clause-description : goal.report_from-returns-clause-description
 report_from-returns-clause-description g t c e =
-    with_nested (seen c.args.value.now) _ _ c.in_ok-one.ensures.ok c.in_ok-list.ensures.ok ∙ c.report_with.ensures.description e
+    with_nested (value_data c.args.value.now) _ _ c.in_ok-one.ensures.ok c.in_ok-list.ensures.ok ∙ c.report_with.ensures.description e
 
 pub reports_from-returns-in_err-report-clause-description : goal.reports_from-returns-in_err-report-clause-description
 reports_from-returns-in_err-report-clause-description g t c e =

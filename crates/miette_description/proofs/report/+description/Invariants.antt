@@ -1,23 +1,23 @@
 use Rattle.std.proofs.Common.{◌+◌, ◌*◌, map}
 use Rattle.serde_json.specs.Data.{depth, items_depth}
-use Rattle.miette_description.specs.steps.Seen.{seen, items_seen}
+use Rattle.miette_description.specs.steps.ParsedValues.{value_data, list_data}
 use Rattle.miette_tree.specs.views.Report.{tree_of}
 use Rattle.miette_description.specs.rules.Description.{report_in}
 use Rattle.miette_description.proofs.Lists.{ReadSoFar}
 use Rattle.miette_description.proofs.report.+description.Given as goal
 
 abbrev pub decreases-report_from : goal.decreases-report_from
-decreases-report_from g l = 4 * depth (seen l.value.now) + 2
+decreases-report_from g l = 4 * depth (value_data l.value.now) + 2
 
 abbrev pub decreases-reports_from : goal.decreases-reports_from
-decreases-reports_from g l = 4 * items_depth (items_seen l.list.now) + 3
+decreases-reports_from g l = 4 * items_depth (list_data l.list.now) + 3
 
 abbrev pub invariant-reports_from-loop-value : goal.invariant-reports_from-loop-value
 invariant-reports_from-loop-value g l =
     ReadSoFar report_in l.list (map (tree_of g.D.Diagnostic.meaning g.S.SourceCode.source) l.reports.items) l.value-index
 
 abbrev pub decreases-cause_at : goal.decreases-cause_at
-decreases-cause_at g l = 4 * depth (seen l.value.now) + 1
+decreases-cause_at g l = 4 * depth (value_data l.value.now) + 1
 
 abbrev pub decreases-related_at : goal.decreases-related_at
-decreases-related_at g l = 4 * depth (seen l.value.now) + 1
+decreases-related_at g l = 4 * depth (value_data l.value.now) + 1

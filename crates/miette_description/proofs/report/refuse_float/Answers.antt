@@ -1,6 +1,6 @@
 use Rattle.std.proofs.Common.{rules, ◌≡◌, false, sym, ◌∙◌}
 use Rattle.json.specs.Value.{value_view}
-use Rattle.miette_description.proofs.SeenLaws.{integral_read, integral_no_float, value_seen}
+use Rattle.miette_description.proofs.ParsedValueLaws.{integral_read, integral_no_float, value_seen}
 use Rattle.miette_description.proofs.report.refuse_float.Goals as goal
 
 pub returns-then-is_whole-clause-ok : goal.returns-then-is_whole-clause-ok

@@ -1,7 +1,7 @@
 use Rattle.std.specs.Prelude.{chars}
 use Rattle.miette_snippets.specs.rules.Frames.{other_start}
 use Rattle.miette_snippets.specs.rules.Gutters.{other_gutter}
-use Rattle.miette_lines.specs.views.Given.{drawn_of, width_of}
+use Rattle.miette_lines.specs.views.GivenLabels.{drawn_of, width_of}
 use Rattle.miette_drawing.specs.steps.Sheets.{settings, multi_labels}
 use Rattle.miette_newlines.specs.views.Walking.{line_of_text}
 use Rattle.miette_drawing.proofs.Closing.{closed_put}

@@ -1,12 +1,12 @@
 use Rattle.miette_page.specs.views.Printouts.{◌⊕◌}
 use Rattle.std.proofs.Common.{[], ◌∷◌, ◌++◌, ◌≡◌, ◌∙◌, cond, true, ap, sym, replicate, rules}
 use Rattle.std.specs.Prelude.{codes, ◌&&◌}
-use Rattle.miette_page.specs.rules.Rows.{styled}
+use Rattle.miette_page.specs.rules.Rows.{styled_run}
 use Rattle.miette_style.specs.rules.Styles.{plain}
 use Rattle.miette_snippets.specs.rules.Frames.{place_text}
-use Rattle.miette_drawing.specs.views.Lent.{place_at}
-use Rattle.miette_lines.specs.views.Given.{width_of}
-use Rattle.miette_page.specs.views.Told.{told}
+use Rattle.miette_drawing.specs.views.SnippetRows.{place_at}
+use Rattle.miette_lines.specs.views.GivenLabels.{width_of}
+use Rattle.miette_page.specs.views.Tokens.{row_tokens}
 use Rattle.miette_drawing.proofs.Framing.{bare_put}
 use Rattle.miette_drawing.proofs.frame.push_bare_place.Goals as goal
 
@@ -15,4 +15,4 @@ returns-then-frame g c =
     let shown : (c.args.several && c.args.frame.now.options.primary_start) ≡ true = search rules in
     bare_put width_of (place_text (place_at c.args.place)) c.args.page.now c.push_line.new.self c.push_place.new.page c.push.new.self
     c.in_ok-push_line.ensures c.in_ok-push_place.ensures c.in_ok-push.ensures
-    ∙ ap (λ b. c.args.page.now ⊕ told (cond b (styled width_of plain (codes "[" ++ place_text (place_at c.args.place) ++ codes "]") ∷ []) (styled width_of plain (replicate 3 c.args.frame.now.theme.now.characters.hbar) ∷ []))) (sym shown)
+    ∙ ap (λ b. c.args.page.now ⊕ row_tokens (cond b (styled_run width_of plain (codes "[" ++ place_text (place_at c.args.place) ++ codes "]") ∷ []) (styled_run width_of plain (replicate 3 c.args.frame.now.theme.now.characters.hbar) ∷ []))) (sym shown)

@@ -1,4 +1,4 @@
-use Rattle.miette_drawing.specs.steps.Framed.{corner_row}
+use Rattle.miette_drawing.specs.steps.FrameParts.{corner_row}
 use Rattle.miette_snippets.specs.views.ThemeSettings.{settings_of}
 use Rattle.miette_drawing.proofs.Texting.{row_done}
 use Rattle.miette_drawing.proofs.frame.push_bottom_row.Goals as goal

@@ -1,18 +1,18 @@
 use Rattle.std.proofs.Common.{[], ◌∷◌}
 use Rattle.std.specs.Prelude.{codes}
-use Rattle.miette_page.specs.rules.Rows.{Row, styled}
+use Rattle.miette_page.specs.rules.Rows.{Row, styled_run}
 use Rattle.miette_style.specs.rules.Styles.{plain}
 use Rattle.miette_snippets.specs.rules.Frames.{text_or_none}
-use Rattle.miette_lines.specs.views.Given.{width_of}
+use Rattle.miette_lines.specs.views.GivenLabels.{width_of}
 use Rattle.miette_drawing.proofs.Framing.{run_then, run_last}
 use Rattle.miette_drawing.proofs.frame.push_refused_text.Goals as goal
 
 pub returns : goal.returns
 returns g c =
-    let last : Row = styled width_of plain (codes "` (offset: ") ∷ [] in
-    let text : Row = styled width_of c.args.frame.now.theme.now.styles.link (text_or_none c.args.label.now.text) ∷ last in
-    let tick : Row = styled width_of plain (codes " `") ∷ text in
-    let failed : Row = styled width_of c.args.frame.now.theme.now.styles.error (codes "Failed to read contents for label") ∷ tick in
+    let last : Row = styled_run width_of plain (codes "` (offset: ") ∷ [] in
+    let text : Row = styled_run width_of c.args.frame.now.theme.now.styles.link (text_or_none c.args.label.now.text) ∷ last in
+    let tick : Row = styled_run width_of plain (codes " `") ∷ text in
+    let failed : Row = styled_run width_of c.args.frame.now.theme.now.styles.error (codes "Failed to read contents for label") ∷ tick in
     run_then width_of plain (codes "  [") failed c.args.page.now c.push_ascii.new.page c.push_ascii-4.new.page c.in_ok-push_ascii.ensures
     (run_then width_of c.args.frame.now.theme.now.styles.error (codes "Failed to read contents for label") tick c.push_ascii.new.page c.push_ascii-2.new.page c.push_ascii-4.new.page c.in_ok-push_ascii-2.ensures
     (run_then width_of plain (codes " `") text c.push_ascii-2.new.page c.push_ascii-3.new.page c.push_ascii-4.new.page c.in_ok-push_ascii-3.ensures

@@ -1,6 +1,6 @@
 use Rattle.std.proofs.Common.{◌∙◌, map, drop, get_or, ◌+◌, sym}
 use Rattle.miette_lines.specs.views.Sweeping.{nothing}
-use Rattle.miette_lines.specs.views.Given.{drawn_of, width_of}
+use Rattle.miette_lines.specs.views.GivenLabels.{drawn_of, width_of}
 use Rattle.miette_newlines.specs.views.Walking.{line_of_text}
 use Rattle.miette_snippets.specs.rules.Gutters.{open_gutter}
 use Rattle.miette_snippets.proofs.Telling.{blank_row}

@@ -1,10 +1,10 @@
 use Rattle.miette_page.specs.views.Printouts.{◌⊕◌}
 use Rattle.std.proofs.Common.{◌∙◌, ◌++◌, ◌<◌, ap, map, [], length, rules}
 use Rattle.miette_snippets.specs.rules.Drawing.{mark_runs, rows_below}
-use Rattle.miette_page.specs.views.Told.{told_rows}
+use Rattle.miette_page.specs.views.Tokens.{rows_tokens}
 use Rattle.miette_snippets.specs.rules.SnippetLayout.{before_each}
-use Rattle.miette_lines.specs.views.Given.{width_of}
-use Rattle.miette_drawing.specs.steps.Made.{mark_of}
+use Rattle.miette_lines.specs.views.GivenLabels.{width_of}
+use Rattle.miette_drawing.specs.steps.Marks.{mark_of}
 use Rattle.miette_drawing.specs.steps.Sheets.{before_marks}
 use Rattle.miette_drawing.proofs.Lining.{marked_put, marked_some}
 use Rattle.miette_drawing.proofs.line.push_marked_rows.Goals as goal
@@ -17,4 +17,4 @@ returns g c =
     (rows_below width_of (characters_of c.args.sheet.now.theme.now.characters) [] (map (mark_of c.args.sheet.now.labels.now) c.args.marks.now))
     c.args.page.now c.push_before_marks.new.page c.push_marks.new.page c.end_row.new.self c.push_texts.new.page
     c.in_ok-push_before_marks.ensures c.in_ok-push_marks.ensures c.in_ok-end_row.ensures c.in_ok-push_texts.ensures
-    ∙ ap (λ rows. c.args.page.now ⊕ told_rows (before_each (before_marks c.args.sheet.now) rows)) (marked_some width_of (characters_of c.args.sheet.now.theme.now.characters) (mark_of c.args.sheet.now.labels.now) c.args.marks.now some)
+    ∙ ap (λ rows. c.args.page.now ⊕ rows_tokens (before_each (before_marks c.args.sheet.now) rows)) (marked_some width_of (characters_of c.args.sheet.now.theme.now.characters) (mark_of c.args.sheet.now.labels.now) c.args.marks.now some)

@@ -2,8 +2,8 @@ use Rattle.std.proofs.Common.{map}
 use Rattle.miette_snippets.specs.rules.PrintedCells.{line_runs}
 use Rattle.miette_snippets.specs.rules.Frames.{number_start}
 use Rattle.miette_snippets.specs.rules.Gutters.{number_gutter}
-use Rattle.miette_lines.specs.views.Given.{width_of}
-use Rattle.miette_snippets.specs.rules.Highlighted.{highlight_of}
+use Rattle.miette_lines.specs.views.GivenLabels.{width_of}
+use Rattle.miette_snippets.specs.rules.Highlighting.{highlight_of}
 use Rattle.miette_drawing.specs.steps.Sheets.{settings, multi_labels, shown_cells}
 use Rattle.miette_newlines.specs.views.Walking.{line_of_text}
 use Rattle.miette_drawing.proofs.Lining.{number_row_put}

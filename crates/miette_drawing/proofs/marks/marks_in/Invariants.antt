@@ -2,8 +2,8 @@ use Rattle.std.proofs.Common.{◌≡◌, ◌++◌, ◌<◌, List, map, drop}
 use Rattle.std.specs.List.{All}
 use Rattle.miette_protocol.specs.views.Meaning.{Label}
 use Rattle.miette_snippets.specs.rules.Marks.{marks, marks_from}
-use Rattle.miette_drawing.specs.steps.Made.{mark_of}
-use Rattle.miette_lines.specs.views.Given.{drawn_of}
+use Rattle.miette_drawing.specs.steps.Marks.{mark_of}
+use Rattle.miette_lines.specs.views.GivenLabels.{drawn_of}
 use Rattle.miette_drawing.proofs.marks.marks_in.Given as goal
 
 abbrev pub invariant-loop-label : goal.invariant-loop-label

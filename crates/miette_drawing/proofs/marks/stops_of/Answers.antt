@@ -4,7 +4,7 @@ use Rattle.std.proofs.lemmas.List.Elements.{All-push}
 use Rattle.miette_snippets.specs.rules.PrintedCells.{first_column, last_column}
 use Rattle.miette_lines.specs.rules.Cells.{Cell}
 use Rattle.miette_lines.specs.views.Walking.{cell_of}
-use Rattle.miette_drawing.specs.steps.Made.{IsStop}
+use Rattle.miette_drawing.specs.steps.Marks.{IsStop}
 use Rattle.miette_drawing.specs.declared.marks.Stop.{Stop}
 use Rattle.miette_drawing.proofs.Stopping.{first_passed, last_passed, width_passed, cells_left}
 use Rattle.miette_drawing.proofs.marks.stops_of.Goals as goal

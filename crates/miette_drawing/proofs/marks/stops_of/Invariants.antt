@@ -1,7 +1,7 @@
 use Rattle.std.proofs.Common.{◌≡◌, ◌<◌, ◌≤◌, ℕ, length}
 use Rattle.std.specs.List.{All}
 use Rattle.miette_snippets.specs.rules.PrintedCells.{first_column, last_column, cells_width}
-use Rattle.miette_drawing.specs.steps.Made.{ComeFrom, IsStop}
+use Rattle.miette_drawing.specs.steps.Marks.{ComeFrom, IsStop}
 use Rattle.miette_drawing.proofs.marks.stops_of.Given as goal
 
 abbrev pub invariant-loop-stops : goal.invariant-loop-stops

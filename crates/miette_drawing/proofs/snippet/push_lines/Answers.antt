@@ -1,13 +1,13 @@
 use Rattle.std.proofs.Common.{ℕ, ◌≡◌, ◌+◌, ◌≤◌, arith, length, map, refl, sym, subst, ◌∙◌, Bool, List}
 use Rattle.miette_lines.specs.declared.sweep.Placed.{Placed}
 use Rattle.miette_snippets.specs.views.ThemeSettings.{settings_of}
-use Rattle.miette_lines.specs.views.Given.{drawn_of}
-use Rattle.miette_snippets.specs.rules.Highlighted.{leaves_plain, decoded_text, ArePieces, follows, highlight_of}
-use Rattle.miette_drawing.specs.views.Lent.{text_in}
+use Rattle.miette_lines.specs.views.GivenLabels.{drawn_of}
+use Rattle.miette_snippets.specs.rules.Highlighting.{leaves_plain, decoded_text, ArePieces, follows, highlight_of}
+use Rattle.miette_drawing.specs.views.SnippetRows.{text_in}
 use Rattle.miette_newlines.specs.views.Walking.{line_of_text}
 use Rattle.miette_lines.specs.views.Sweeping.{IsAt}
 use Rattle.miette_lines.proofs.Firsts.{state_more}
-use Rattle.miette_style.specs.rules.Asked.{Call}
+use Rattle.miette_style.specs.rules.HighlighterCalls.{Call}
 use Rattle.miette_drawing.proofs.Styling.{call_for}
 use Rattle.miette_drawing.proofs.Lending.{AreLined, lines_first, lines_more, lines_all, text_fits}
 use Rattle.miette_drawing.proofs.snippet.push_lines.Goals as goal

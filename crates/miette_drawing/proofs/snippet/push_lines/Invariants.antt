@@ -1,7 +1,7 @@
 use Rattle.std.proofs.Common.{◌≡◌, ◌+◌, ◌-◌, ◌≤◌, length, map}
 use Rattle.miette_snippets.specs.views.ThemeSettings.{settings_of}
-use Rattle.miette_lines.specs.views.Given.{drawn_of}
-use Rattle.miette_snippets.specs.rules.Highlighted.{leaves_plain, follows}
+use Rattle.miette_lines.specs.views.GivenLabels.{drawn_of}
+use Rattle.miette_snippets.specs.rules.Highlighting.{leaves_plain, follows}
 use Rattle.miette_lines.specs.views.Sweeping.{IsAt}
 use Rattle.miette_drawing.proofs.Lending.{AreLined}
 use Rattle.miette_drawing.proofs.snippet.push_lines.Given as goal

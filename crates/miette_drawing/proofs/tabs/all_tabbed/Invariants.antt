@@ -1,6 +1,6 @@
 use Rattle.std.proofs.Common.{◌≡◌, true, take}
 use Rattle.std.specs.List.{list_all}
-use Rattle.miette_drawing.specs.steps.Untabbed.{is_tabbed}
+use Rattle.miette_drawing.specs.steps.Tabs.{is_tabbed}
 use Rattle.miette_drawing.proofs.tabs.all_tabbed.Given as goal
 
 abbrev pub invariant-loop-byte : goal.invariant-loop-byte

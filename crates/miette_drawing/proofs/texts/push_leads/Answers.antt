@@ -1,4 +1,4 @@
-use Rattle.miette_lines.specs.views.Given.{width_of}
+use Rattle.miette_lines.specs.views.GivenLabels.{width_of}
 use Rattle.miette_drawing.proofs.Placing.{no_mark}
 use Rattle.miette_drawing.proofs.Texting.{lead_more, lead_end}
 use Rattle.miette_drawing.proofs.texts.push_leads.Goals as goal

@@ -1,7 +1,7 @@
 use Rattle.std.proofs.Common.{◌++◌, ap₂, sym, ◌∙◌, append-nil, codes}
 use Rattle.miette_runs.specs.rules.Runs.{printed_run}
 use Rattle.miette_runs.specs.rules.Sequences.{spell}
-use Rattle.miette_graphical.proofs.Styled.{help_text}
+use Rattle.miette_graphical.proofs.Styling.{help_text}
 use Rattle.miette_graphical.proofs.indents.help_indent.Goals as goal
 
 pub returns : goal.returns

@@ -1,7 +1,7 @@
 use Rattle.std.proofs.Common.{refl, ap, ◌∙◌, encode_utf8_all, sym}
 use Rattle.miette_runs.specs.rules.Sequences.{erase}
 use Rattle.miette_graphical.specs.laws.Colourless.{colourless, unhighlighted}
-use Rattle.miette_graphical.specs.rules.Printed.{all_read}
+use Rattle.miette_graphical.specs.rules.PrintedDiagnostics.{all_read}
 use Rattle.miette_graphical.specs.rules.Snippets.{drawn_rows}
 use Rattle.miette_graphical.specs.rules.Text.{report_text}
 use Rattle.miette_graphical.proofs.Bare.{bare-report, restyled-printed}

@@ -3,14 +3,14 @@ use Rattle.miette_runs.specs.rules.Cutting.{without_leading, without_trailing}
 use Rattle.miette_runs.specs.rules.Sequences.{spell}
 use Rattle.miette_tree.specs.rules.Tree.{effective, head, texts, trees, cause_of, related_of, source_of}
 use Rattle.miette_tree.specs.views.Report.{tree_of}
-use Rattle.miette_style.specs.rules.Asked.{Call, Leads}
-use Rattle.miette_snippets.specs.rules.Highlighted.{AreCallsOn, follows, leaves_plain}
+use Rattle.miette_style.specs.rules.HighlighterCalls.{Call, Leads}
+use Rattle.miette_snippets.specs.rules.Highlighting.{AreCallsOn, follows, leaves_plain}
 use Rattle.miette_tree.specs.views.Owned.{shown_source}
-use Rattle.miette_graphical.specs.rules.Answered.{IsBelow, AreCauses, AreRelated, IsInner, IsOneCause, IsOneRelated}
+use Rattle.miette_graphical.specs.rules.PossibleAnswers.{IsBelow, AreCauses, AreRelated, IsInner, IsOneCause, IsOneRelated}
 use Rattle.miette_tree.specs.views.Handler.{AppendsOne}
-use Rattle.miette_graphical.specs.rules.Printed.{all_read, printed_causes, printed_inner, printed_one, printed_related}
+use Rattle.miette_graphical.specs.rules.PrintedDiagnostics.{all_read, printed_causes, printed_inner, printed_one, printed_related}
 use Rattle.miette_graphical.specs.rules.Snippets.{drawn_rows}
-use Rattle.miette_graphical.specs.rules.Indents.{narrowed}
+use Rattle.miette_graphical.specs.rules.Indents.{narrow_settings}
 use Rattle.miette_graphical.specs.rules.DiagnosticText.{help_text, under_arrow}
 use Rattle.miette_graphical.specs.rules.Text.{are_last, ends_there}
 use Rattle.miette_graphical.specs.steps.SettingsView.{settings_of}
@@ -87,11 +87,11 @@ push_one_cause-returns-clause-ok g t c =
     let own = option_map (shown_source g.S.SourceCode.source) c.own_or.result in
     let inner = spell c.in_ok-inner.inner in
     let happen = AreCallsOn g.H.Highlighter.may_follow c.args.pen.now.highlighter c.inner_text.new.pen.highlighter in
-    let narrow : settings_of c.in_ok-narrow.narrow ≡ narrowed s outer (ends_there (cause_of value)) = c.in_ok-narrow.ensures ∙ ap (narrowed s outer) c.ends_there.ensures in record {
+    let narrow : settings_of c.in_ok-narrow.narrow ≡ narrow_settings s outer (ends_there (cause_of value)) = c.in_ok-narrow.ensures ∙ ap (narrow_settings s outer) c.ends_there.ensures in record {
       text = under_arrow s outer (ends_there (cause_of value)) inner;
       is_given = (
         inner,
-        subst (λ o. IsInner drawn_rows (narrowed s outer (ends_there (cause_of value))) blank happen o value inner) c.own_or.ensures
+        subst (λ o. IsInner drawn_rows (narrow_settings s outer (ends_there (cause_of value))) blank happen o value inner) c.own_or.ensures
             (subst (λ n. IsInner drawn_rows n blank happen own value inner) narrow c.in_ok-inner.ensures.ok),
         refl,
       );

@@ -1,10 +1,10 @@
 use Rattle.miette_page.specs.views.Printouts.{printout_of}
 use Rattle.miette_tree.specs.views.Handler.{AppendsOne}
-use Rattle.miette_graphical.specs.rules.Answered.{AreDrawn}
+use Rattle.miette_graphical.specs.rules.PossibleAnswers.{AreDrawn}
 use Rattle.std.proofs.Common.{rules, ◌≡◌, Some, subst, sym}
 use Rattle.miette_tree.specs.views.Owned.{shown_source}
-use Rattle.miette_layout.specs.views.Drawn.{MayGive, RefusesWith}
-use Rattle.miette_snippets.specs.rules.Highlighted.{AreCallsOn, leaves_plain}
+use Rattle.miette_layout.specs.views.Outcomes.{MayGive, RefusesWith}
+use Rattle.miette_snippets.specs.rules.Highlighting.{AreCallsOn, leaves_plain}
 use Rattle.miette_graphical.specs.rules.Snippets.{layout_settings}
 use Rattle.miette_graphical.specs.steps.SettingsView.{settings_of}
 use Rattle.miette_graphical.proofs.DrawnRows.{drawn_page, refused_page}

@@ -1,12 +1,12 @@
 use Rattle.std.proofs.Common.{◌≡◌, ◌∙◌, subst, option_map, false, rules, List}
 use Rattle.miette_tree.specs.rules.Tree.{source_of}
 use Rattle.miette_tree.specs.views.Report.{tree_of}
-use Rattle.miette_style.specs.rules.Asked.{Call, Leads}
-use Rattle.miette_snippets.specs.rules.Highlighted.{follows, leaves_plain}
+use Rattle.miette_style.specs.rules.HighlighterCalls.{Call, Leads}
+use Rattle.miette_snippets.specs.rules.Highlighting.{follows, leaves_plain}
 use Rattle.miette_tree.specs.views.Owned.{shown_source}
-use Rattle.miette_graphical.specs.rules.Answered.{IsBelow}
+use Rattle.miette_graphical.specs.rules.PossibleAnswers.{IsBelow}
 use Rattle.miette_tree.specs.views.Handler.{AppendsOne}
-use Rattle.miette_graphical.specs.rules.Printed.{all_read, printed_inner}
+use Rattle.miette_graphical.specs.rules.PrintedDiagnostics.{all_read, printed_inner}
 use Rattle.miette_graphical.specs.rules.Snippets.{drawn_rows}
 use Rattle.miette_graphical.specs.steps.SettingsView.{settings_of}
 use Rattle.miette_graphical.proofs.Steps.{report_whole, root_causes_fail, root_below_fails}

@@ -5,7 +5,7 @@ use Rattle.miette_highlight.proofs.tokens.close_end.Given as goal
 
 abbrev pub invariant-loop-byte : goal.invariant-loop-byte
 invariant-loop-byte l = record {
-  end : close_end l.marks l.escaped l.at l.rest ≡ close_end l.marks false l.start l.text;
+  end : close_end l.delimiters l.escaped l.at l.rest ≡ close_end l.delimiters false l.start l.text;
   place : l.at + length l.rest ≡ l.start + length l.text;
 }
 

@@ -1,11 +1,11 @@
 use Rattle.std.proofs.Common.{◌≡◌, ◌++◌, string_bytes, length}
 use denote.Shadow.{shadow}
 use denote.Text.{Utf8}
-use Rattle.miette_json.specs.rules.Json.{escaped}
+use Rattle.miette_json.specs.rules.Json.{escaped_text}
 use Rattle.miette_json.proofs.text.push_escaped.Given as goal
 
 abbrev pub decreases-loop-at : goal.decreases-loop-at
 decreases-loop-at l = length l.rest
 
 abbrev pub invariant-loop-at : goal.invariant-loop-at
-invariant-loop-at l = (string_bytes l.out ++ escaped l.rest ≡ string_bytes l.fn.out ++ escaped l.text) × shadow (Utf8 l.rest)
+invariant-loop-at l = (string_bytes l.out ++ escaped_text l.rest ≡ string_bytes l.fn.out ++ escaped_text l.text) × shadow (Utf8 l.rest)

@@ -1,19 +1,19 @@
 use Rattle.std.proofs.Common.{rules, refl, ap, sym, ◌∙◌, ◌∷◌, map, List, Option, subst}
 use Rattle.std.specs.Option.{option_map}
 use Rattle.miette_protocol.specs.rules.Reading.{Span}
-use Rattle.miette_drawing.specs.views.Lent.{place_at}
+use Rattle.miette_drawing.specs.views.SnippetRows.{place_at}
 use Rattle.miette_lines.specs.rules.Around.{group_context}
 use Rattle.miette_lines.specs.rules.Groups.{in_order}
 use Rattle.miette_snippets.specs.rules.SnippetLayout.{settings_around}
 use Rattle.miette_snippets.specs.views.ThemeSettings.{settings_of}
-use Rattle.miette_lines.specs.views.Given.{drawn_of}
-use Rattle.miette_snippets.specs.rules.Highlighted.{leaves_plain, follows}
-use Rattle.miette_drawing.specs.views.Lent.{PutsRows, lent_snippet}
+use Rattle.miette_lines.specs.views.GivenLabels.{drawn_of}
+use Rattle.miette_snippets.specs.rules.Highlighting.{leaves_plain, follows}
+use Rattle.miette_drawing.specs.views.SnippetRows.{PutsRows, lent_snippet}
 use Rattle.miette_lines.specs.views.Placing.{placed_from}
 use Rattle.miette_lines.specs.views.Primary.{PointsTo}
-use Rattle.miette_lines.specs.views.Read.{AreGroups}
+use Rattle.miette_lines.specs.views.Reads.{AreGroups}
 use Rattle.miette_drawing.proofs.Lending.{lent_texts}
-use Rattle.miette_style.specs.rules.Asked.{Call, Leads, restarted}
+use Rattle.miette_style.specs.rules.HighlighterCalls.{Call, Leads, restarted}
 use Rattle.miette_layout.proofs.Nearing.{reads_rise}
 use Rattle.miette_layout.proofs.Progressing.{none_drawn, drawn_more, all_drawn, gives_rows, gives_none, drawn_is, placed_rise, place_ordered, groups_lent, puts_around, are_grouped, none_grouped, gives_unread}
 use Rattle.miette_layout.proofs.snippets.read_snippets.Goals as goal

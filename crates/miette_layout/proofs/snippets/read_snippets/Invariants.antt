@@ -2,7 +2,7 @@ use Rattle.miette_lines.specs.rules.Groups.{in_order}
 use Rattle.miette_snippets.specs.rules.SnippetLayout.{settings_around}
 use Rattle.miette_snippets.specs.views.ThemeSettings.{settings_of}
 use Rattle.std.proofs.Common.{◌≡◌}
-use Rattle.miette_snippets.specs.rules.Highlighted.{leaves_plain, follows}
+use Rattle.miette_snippets.specs.rules.Highlighting.{leaves_plain, follows}
 use Rattle.miette_lines.specs.views.Sweeping.{IsAt}
 use Rattle.miette_layout.proofs.Progressing.{AreDrawn}
 use Rattle.miette_layout.proofs.snippets.read_snippets.Given as goal

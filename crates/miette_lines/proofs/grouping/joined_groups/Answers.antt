@@ -1,5 +1,5 @@
 use Rattle.std.proofs.Common.{ap, ◌∙◌}
-use Rattle.miette_lines.specs.views.Read.{IsLent}
+use Rattle.miette_lines.specs.views.Reads.{IsLent}
 use Rattle.miette_lines.proofs.Gathering.{loop_first, loop_some, loop_none, loop_end, no_groups, item_lent}
 use Rattle.miette_lines.proofs.grouping.joined_groups.Goals as goal
 use Rattle.miette_lines.proofs.grouping.joined_groups.Goals.{in-Some-2, in-None+in_ok-own_group-in-None+in_ok-push-in-None}

@@ -1,5 +1,5 @@
 use Rattle.std.proofs.Common.{length, ◌<◌, refl, slice_index_or}
-use Rattle.miette_lines.specs.views.Read.{IsRead}
+use Rattle.miette_lines.specs.views.Reads.{IsRead}
 use Rattle.miette_lines.proofs.Refusing.{read_more, own_read, refused_here}
 use Rattle.miette_lines.proofs.reading.read_labels.Goals as goal
 

@@ -3,18 +3,18 @@ use Rattle.std.specs.Prelude.{chars}
 use Rattle.std.proofs.lemmas.List.{nil_from_length, take_rest}
 use Rattle.std.proofs.lemmas.Str.{IsUtf8-string_bytes}
 use Rattle.unicode_width.specs.Width.{str_width}
-use Rattle.miette_lines.specs.views.Given.{width_of}
+use Rattle.miette_lines.specs.views.GivenLabels.{width_of}
 use Rattle.miette_narrated.proofs.Columning.{IsOver, none_over, one_over, over_at_zero, over_past_end, over_inside}
-use Rattle.miette_narrated.proofs.Placed.{column_from}
-use Rattle.miette_narrated.specs.steps.Places.{held}
+use Rattle.miette_narrated.proofs.PlaceLaws.{column_from}
+use Rattle.miette_narrated.specs.steps.Places.{overlap_text}
 use Rattle.miette_narrated.proofs.columns.walked_column.Goals as goal
 
 pub loop-left-init : goal.loop-left-init
 loop-left-init c =
     let from = c.args.from in
     let text = c.args.text.now in
-    subst (λ r. IsOver (held from.held) from.widths (drop from.bytes text) (c.args.bytes - from.bytes) (string_bytes c.in_ok-begun.begun) from.widths r (c.args.bytes - from.bytes)) (sym (take_rest text from.bytes))
-    (none_over (held from.held) from.widths (drop from.bytes text) (c.args.bytes - from.bytes) (string_bytes c.in_ok-begun.begun) c.in_ok-begun.ensures)
+    subst (λ r. IsOver (overlap_text from.overlap) from.widths (drop from.bytes text) (c.args.bytes - from.bytes) (string_bytes c.in_ok-begun.begun) from.widths r (c.args.bytes - from.bytes)) (sym (take_rest text from.bytes))
+    (none_over (overlap_text from.overlap) from.widths (drop from.bytes text) (c.args.bytes - from.bytes) (string_bytes c.in_ok-begun.begun) c.in_ok-begun.ensures)
 
 pub returns-then-is_empty : goal.returns-then-is_empty
 returns-then-is_empty c =
@@ -43,7 +43,7 @@ loop-left-preserved c =
     let code = c.first_character-code.result.0 in
     let some : 0 < length rest = search rules in
     let wider : c.in-Some.wider ≡ c.loop-left.widths + width_of code = search rules in
-    one_over (held from.held) from.widths (drop from.bytes c.args.text.now) (c.args.bytes - from.bytes) (string_bytes c.loop-left.begun) (string_bytes c.push.new.self) c.loop-left.widths c.in-Some.wider rest (take (length rest - size) (drop size rest)) c.loop-left.left code size c.loop-left.invariant
+    one_over (overlap_text from.overlap) from.widths (drop from.bytes c.args.text.now) (c.args.bytes - from.bytes) (string_bytes c.loop-left.begun) (string_bytes c.push.new.self) c.loop-left.widths c.in-Some.wider rest (take (length rest - size) (drop size rest)) c.loop-left.left code size c.loop-left.invariant
     (record { some = some; left_is = take_rest rest size; code_is = c.first_character-code.ensures.code; size_is = c.first_character-code.ensures.size })
     (IsUtf8-string_bytes c.loop-left.begun) (IsUtf8-string_bytes c.push.new.self) c.in_ok-push.ensures.bytes wider c.loop-left-test.true c.if-left-size.false
 

@@ -1,13 +1,13 @@
 use Rattle.std.proofs.Common.{◌≡◌, ◌+◌, ◌++◌, Option, Some, None, length, refl, ap, subst, string_bytes, rules, eqb, arith}
 use Rattle.miette_newlines.specs.declared.lines.LineOfText.{LineOfText}
 use Rattle.miette_newlines.specs.views.Walking.{GivesLine}
-use Rattle.miette_narrated.specs.steps.Made.{all_told, shown_of}
+use Rattle.miette_narrated.specs.steps.Conversions.{ranges_of, shown_line}
 use Rattle.miette_narrated.proofs.Lining.{left_first, left_more, left_none}
 use Rattle.miette_narrated.proofs.lines.push_lines.Goals as goal
 
 pub loop-line-init : goal.loop-line-init
 loop-line-init c = record {
-  left = left_first (all_told c.args.order.now.labels.now c.args.order.now.placed.now) c.args.lent.now _ _ (string_bytes c.args.out.now) (search rules) (search rules);
+  left = left_first (ranges_of c.args.order.now.labels.now c.args.order.now.placed.now) c.args.lent.now _ _ (string_bytes c.args.out.now) (search rules) (search rules);
   at = c.requires.at;
 }
 
@@ -26,10 +26,10 @@ pub loop-line-preserved : goal.loop-line-preserved
 loop-line-preserved c =
     let l = c.loop-line in
     let lent = c.args.lent.now in
-    let told = all_told c.args.order.now.labels.now c.args.order.now.placed.now in
+    let told = ranges_of c.args.order.now.labels.now c.args.order.now.placed.now in
     let given = subst (λ (r : Option LineOfText). GivesLine l.line-iterator r c.next.new.self) c.in-Some.is c.next.ensures.steps in
     record {
-      left = left_more told lent l.before c.in-Some-checked_add.number l.line-iterator c.next.new.self c.in-Some.line _ (shown_of c.shown_line-it.result) (string_bytes l.out) (string_bytes c.push_shown.new.out) _ l.invariant.left
+      left = left_more told lent l.before c.in-Some-checked_add.number l.line-iterator c.next.new.self c.in-Some.line _ (shown_line c.shown_line-it.result) (string_bytes l.out) (string_bytes c.push_shown.new.out) _ l.invariant.left
           given.0 given.1 (search rules) (search rules) c.shown_line-it.ensures c.in_ok-push_shown.ensures.rows;
       at = c.in_ok-push_shown.ensures.at;
     }
@@ -37,6 +37,6 @@ loop-line-preserved c =
 pub returns-clause-rows : goal.returns-clause-rows
 returns-clause-rows c =
     let l = c.loop-line in
-    let told = all_told c.args.order.now.labels.now c.args.order.now.placed.now in
+    let told = ranges_of c.args.order.now.labels.now c.args.order.now.placed.now in
     let given = subst (λ (r : Option LineOfText). GivesLine l.line-iterator r c.next.new.self) c.in-None.is c.next.ensures.steps in
     left_none told c.args.lent.now l.before l.line-iterator (string_bytes l.out) _ l.invariant.left given.0

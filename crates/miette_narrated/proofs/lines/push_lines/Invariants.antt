@@ -1,6 +1,6 @@
 use Rattle.std.proofs.Common.{◌+◌, ◌++◌, string_bytes}
 use Rattle.miette_lines.specs.rules.Contexts.{lines_of_contents}
-use Rattle.miette_narrated.specs.steps.Made.{all_told}
+use Rattle.miette_narrated.specs.steps.Conversions.{ranges_of}
 use Rattle.miette_narrated.specs.rules.Lines.{rows_of_lines}
 use Rattle.miette_narrated.specs.steps.Sweeping.{IsAt}
 use Rattle.miette_narrated.proofs.Lining.{AreLeft}
@@ -8,7 +8,7 @@ use Rattle.miette_narrated.proofs.lines.push_lines.Given as goal
 
 abbrev pub invariant-loop-line : goal.invariant-loop-line
 invariant-loop-line l = record {
-  left : AreLeft (all_told l.order.labels.now l.order.placed.now) l.lent l.before l.line-iterator (string_bytes l.out)
-      (string_bytes l.fn.out ++ rows_of_lines (all_told l.order.labels.now l.order.placed.now) l.lent (l.lent.line + 1) (lines_of_contents l.lent));
+  left : AreLeft (ranges_of l.order.labels.now l.order.placed.now) l.lent l.before l.line-iterator (string_bytes l.out)
+      (string_bytes l.fn.out ++ rows_of_lines (ranges_of l.order.labels.now l.order.placed.now) l.lent (l.lent.line + 1) (lines_of_contents l.lent));
   at : IsAt l.order.placed.now l.sweep.at l.sweep.next l.sweep.running.items;
 }

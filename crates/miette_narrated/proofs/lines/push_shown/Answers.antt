@@ -1,7 +1,7 @@
 use Rattle.std.proofs.Common.{ap, ◌∙◌, ◌++◌, string_bytes, subst, suc, drop}
 use Rattle.miette_narrated.specs.rules.Labels.{label_rows}
 use Rattle.miette_narrated.specs.rules.Lines.{line_row}
-use Rattle.miette_narrated.specs.steps.Made.{all_told, shown_of}
+use Rattle.miette_narrated.specs.steps.Conversions.{ranges_of, shown_line}
 use Rattle.miette_narrated.specs.steps.Sweeping.{BeginsFrom}
 use Rattle.miette_narrated.proofs.Putting.{then}
 use Rattle.miette_narrated.proofs.Sweeps.{rows_swept}
@@ -9,12 +9,12 @@ use Rattle.miette_narrated.proofs.lines.push_shown.Goals as goal
 
 pub returns-clause-rows : goal.returns-clause-rows
 returns-clause-rows c =
-    let it = shown_of c.args.it.now in
+    let it = shown_line c.args.it.now in
     let labels = c.args.order.now.labels.now in
     let placed = c.args.order.now.placed.now in
     let sweep = c.come_to.new.sweep in
     let q = string_bytes c.push_line.new.out in
-    then (string_bytes c.args.out.now) q (string_bytes c.push_labels.new.out) (line_row it) (label_rows it (all_told labels placed)) c.in_ok-push_line.ensures
-    (c.in_ok-push_labels.ensures ∙ ap (λ r. q ++ label_rows it (all_told labels r)) c.deref.ensures.value
+    then (string_bytes c.args.out.now) q (string_bytes c.push_labels.new.out) (line_row it) (label_rows it (ranges_of labels placed)) c.in_ok-push_line.ensures
+    (c.in_ok-push_labels.ensures ∙ ap (λ r. q ++ label_rows it (ranges_of labels r)) c.deref.ensures.value
     ∙ ap (λ r. q ++ r) (rows_swept it labels placed sweep.at sweep.next sweep.running.items c.requires.order.ordered c.in_ok-come_to.ensures.place c.in_ok-come_to.ensures.at
     (subst (λ k. BeginsFrom (suc k) (drop sweep.next placed)) c.last_start.ensures c.in_ok-come_to.ensures.end)))

@@ -6,12 +6,12 @@ use Rattle.std.proofs.lemmas.Str.{IsUtf8-string_bytes}
 use Rattle.ucd_emoji.specs.Binary.{is_emoji_variation_base}
 use Rattle.unicode_width.specs.Width.{str_width}
 use Rattle.unicode_width.proofs.Computing.{unicode_width}
-use Rattle.miette_lines.specs.views.Given.{width_of}
+use Rattle.miette_lines.specs.views.GivenLabels.{width_of}
 use Rattle.miette_lines.proofs.Stepping.{IsFirst}
 use Rattle.miette_narrated.proofs.Columning.{chars_pushed}
 use Rattle.miette_narrated.proofs.Flags.{no_flags, flags_pushed}
-use Rattle.miette_narrated.proofs.Placed.{none_since, one_since, ends_pushed, ends_twice, is_next_place}
-use Rattle.miette_narrated.specs.steps.Parting.{held_between}
+use Rattle.miette_narrated.proofs.PlaceLaws.{none_since, one_since, ends_pushed, ends_twice, is_next_place}
+use Rattle.miette_narrated.specs.steps.Parting.{overlap_between}
 use Rattle.miette_narrated.proofs.places.next_place.Goals as goal
 
 no_base : is_emoji_variation_base 0 ≡ false
@@ -21,7 +21,7 @@ no_base = refl
 pub loop-bytes-init : goal.loop-bytes-init
 loop-bytes-init c = record {
   since = none_since c.args.text.now c.args.from (string_bytes c.in_ok-over.over) c.requires.0 c.in_ok-over.ensures;
-  flags = no_flags (string_bytes c.in_ok-over.over) 0 c.args.from.held c.in_ok-over.ensures c.requires.1.0 refl;
+  flags = no_flags (string_bytes c.in_ok-over.over) 0 c.args.from.overlap c.in_ok-over.ensures c.requires.1.0 refl;
   last = λ h. absurd (omega (arith, h));
   emoji = λ h. absurd (true≢false (sym h ∙ no_base));
   before = λ h. absurd (true≢false (sym h ∙ no_base));
@@ -72,11 +72,11 @@ returns-in-Some c =
       size_is = c.first_character-code.ensures.size;
     }) in
     let behind : from.bytes < bytes = search rules in
-    let some : held_between c.loop-bytes.before c.loop-bytes.last c.loop-bytes.is_half code ≡ Some c.in-Some.first = search rules in
+    let some : overlap_between c.loop-bytes.before c.loop-bytes.last c.loop-bytes.is_half code ≡ Some c.in-Some.first = search rules in
     let at : c.in_ok-place.place.bytes ≡ bytes = c.in_ok-place.ensures.bytes in (
       is_next_place text from c.in_ok-place.place (string_bytes c.loop-bytes.over) (drop size (drop bytes text)) code size c.loop-bytes.widths bytes c.loop-bytes.before c.loop-bytes.last c.loop-bytes.is_half c.in-Some.first
           c.requires c.loop-bytes.invariant.since first (c.loop-bytes.invariant.last behind) c.loop-bytes.invariant.before c.loop-bytes.invariant.flags some
-          at c.in_ok-place.ensures.widths c.in_ok-place.ensures.held
+          at c.in_ok-place.ensures.widths c.in_ok-place.ensures.overlap
           (c.in_ok-place.ensures.column ∙ ap (λ t. (from.column + str_width false (chars t)) - from.twice) c.as_str.ensures.value) c.in_ok-place.ensures.twice,
       omega (arith, at, behind),
     )

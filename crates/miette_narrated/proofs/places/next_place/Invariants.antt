@@ -1,8 +1,8 @@
 use Rattle.std.proofs.Common.{◌-◌, ◌<◌, ◌≡◌, true, [], ◌∷◌, length, string_bytes}
 use Rattle.ucd_emoji.specs.Binary.{is_emoji_variation_base}
 use Rattle.miette_narrated.proofs.Flags.{EndsInFlags}
-use Rattle.miette_narrated.proofs.Settled.{EndsIn}
-use Rattle.miette_narrated.proofs.Placed.{IsSince, EndsByEmoji}
+use Rattle.miette_narrated.proofs.SettledTexts.{EndsIn}
+use Rattle.miette_narrated.proofs.PlaceLaws.{IsSince, EndsByEmoji}
 use Rattle.miette_narrated.proofs.places.next_place.Given as goal
 
 abbrev pub invariant-loop-bytes : goal.invariant-loop-bytes

@@ -1,5 +1,5 @@
 use Rattle.std.proofs.Common.{refl}
-use Rattle.miette_narrated.proofs.Placed.{first_place}
+use Rattle.miette_narrated.proofs.PlaceLaws.{first_place}
 use Rattle.miette_narrated.proofs.places.start.Goals as goal
 
 pub returns-clause-place : goal.returns-clause-place

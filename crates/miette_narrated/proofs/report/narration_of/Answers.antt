@@ -4,7 +4,7 @@ use Rattle.std.specs.Option.{option_map}
 use Rattle.miette_tree.specs.rules.Tree.{trees}
 use Rattle.miette_tree.specs.views.Owned.{shown_source}
 use Rattle.miette_tree.specs.views.Report.{tree_of}
-use Rattle.miette_narrated.specs.rules.Answered.{accepts, holds_of_all}
+use Rattle.miette_narrated.specs.rules.PossibleAnswers.{accepts, holds_of_all}
 use Rattle.miette_narrated.specs.steps.NarrationSettings.{settings_of}
 use Rattle.miette_narrated.proofs.Telling.{whole_told, refused_below}
 use Rattle.miette_narrated.proofs.report.narration_of.Goals as goal

@@ -3,10 +3,10 @@ use Rattle.std.specs.Option.{option_map}
 use Rattle.miette_lines.specs.rules.Around.{group_context}
 use Rattle.miette_lines.specs.rules.Groups.{in_order}
 use Rattle.miette_lines.specs.declared.sweep.Placed.{Placed}
-use Rattle.miette_lines.specs.views.Read.{AreGroups}
+use Rattle.miette_lines.specs.views.Reads.{AreGroups}
 use Rattle.miette_narrated.specs.steps.Ends.{AreEnds}
 use Rattle.miette_narrated.specs.declared.label_order.Ranked.{Ranked}
-use Rattle.miette_narrated.specs.steps.Made.{all_told}
+use Rattle.miette_narrated.specs.steps.Conversions.{ranges_of}
 use Rattle.miette_narrated.proofs.Reading.{placed_ordered, groups_more, groups_end, snippets_told, are_grouped, unread_group}
 use Rattle.miette_narrated.proofs.snippets.push_read.Goals as goal
 
@@ -25,7 +25,7 @@ loop-group-preserved g c =
     let grouped : AreGroups c.args.context source (in_order c.args.labels.now) c.deref-group-items.result.now =
     are_grouped c.args.context source (in_order c.args.labels.now) _ c.in-Some.groups.items c.deref-group-items.result.now c.in_ok-groups.ensures (ap (option_map (λ v. v.items)) c.in-Some.is) c.deref-group-items.ensures.value in
     record {
-      rows = groups_more c.args.context source (all_told c.args.labels.now placed) (in_order c.args.labels.now) c.deref-group-items.result.now l.group-index c.group-item.result
+      rows = groups_more c.args.context source (ranges_of c.args.labels.now placed) (in_order c.args.labels.now) c.deref-group-items.result.now l.group-index c.group-item.result
           (string_bytes l.out) (string_bytes c.push_snippet.new.out) _ grouped c.loop-group-test.true c.group-item.is c.in_ok-push_snippet.ensures.rows l.invariant.rows;
       at = c.in_ok-push_snippet.ensures.at;
     }
@@ -39,7 +39,7 @@ returns-clause-text g c =
     let grouped : AreGroups c.args.context source (in_order c.args.labels.now) groups =
     are_grouped c.args.context source (in_order c.args.labels.now) _ c.in-Some.groups.items groups c.in_ok-groups.ensures (ap (option_map (λ v. v.items)) c.in-Some.is) c.deref-group-items.ensures.value in
     snippets_told c.args.context source c.args.labels.now c.args.reads.now placed groups _ _ c.data_reach_the_span.ensures c.requires.each c.requires.order (c.deref-2.ensures.value ∙ c.in_ok-placed.ensures) grouped
-    (groups_end (group_context c.args.context (in_order c.args.labels.now)) source (all_told c.args.labels.now placed) groups l.group-index (string_bytes l.out) _ c.loop-group-test.false l.invariant.rows)
+    (groups_end (group_context c.args.context (in_order c.args.labels.now)) source (ranges_of c.args.labels.now placed) groups l.group-index (string_bytes l.out) _ c.loop-group-test.false l.invariant.rows)
 
 pub returns-in_default-clause-refused : goal.returns-in_default-clause-refused
 returns-in_default-clause-refused g c = λ e.

@@ -1,7 +1,7 @@
 use Rattle.std.proofs.Common.{◌+◌, string_bytes}
 use Rattle.miette_lines.specs.rules.Contexts.{lines_of_contents}
 use Rattle.miette_narrated.specs.rules.Lines.{rows_of_lines}
-use Rattle.miette_narrated.specs.steps.Made.{all_told}
+use Rattle.miette_narrated.specs.steps.Conversions.{ranges_of}
 use Rattle.miette_narrated.specs.rules.Snippets.{begin_rows}
 use Rattle.miette_narrated.proofs.Putting.{then}
 use Rattle.miette_narrated.proofs.snippets.push_snippet.Goals as goal
@@ -9,6 +9,6 @@ use Rattle.miette_narrated.proofs.snippets.push_snippet.Goals as goal
 pub returns-clause-rows : goal.returns-clause-rows
 returns-clause-rows c =
     let lent = c.args.lent.now in
-    let told = all_told c.args.order.now.labels.now c.args.order.now.placed.now in
+    let told = ranges_of c.args.order.now.labels.now c.args.order.now.placed.now in
     then (string_bytes c.args.out.now) (string_bytes c.push_begin.new.out) (string_bytes c.push_lines.new.out) (begin_rows lent) (rows_of_lines told lent (lent.line + 1) (lines_of_contents lent))
     c.in_ok-push_begin.ensures c.in_ok-push_lines.ensures.rows

@@ -1,7 +1,7 @@
 use Rattle.std.proofs.Common.{◌-◌, length, string_bytes}
 use Rattle.std.specs.List.{All}
 use Rattle.miette_narrated.specs.steps.Trails.{IsTrail}
-use Rattle.miette_narrated.proofs.Placed.{IsSince}
+use Rattle.miette_narrated.proofs.PlaceLaws.{IsSince}
 use Rattle.miette_narrated.proofs.trails.push_trails.Given as goal
 
 abbrev pub invariant-loop-bytes : goal.invariant-loop-bytes

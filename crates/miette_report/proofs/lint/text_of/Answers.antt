@@ -1,5 +1,5 @@
 use Rattle.std.proofs.Common.{Bool, subst}
-use Rattle.miette_report.specs.views.Linted.{IsClean}
+use Rattle.miette_report.specs.views.LintReports.{IsClean}
 use Rattle.miette_report.proofs.LintSteps.{nothing_linted, some_linted}
 use Rattle.miette_report.proofs.lint.text_of.Goals as goal
 

@@ -2,7 +2,7 @@ use Rattle.std.proofs.Common.{ap, subst}
 use Rattle.std.specs.Option.{option_map}
 use Rattle.miette_report.specs.steps.AskView.{built_ask}
 use Rattle.miette_report.specs.rules.Words.{IsReadAs}
-use Rattle.miette_report.proofs.WantedSteps.{names_ask, numbers_ask}
+use Rattle.miette_report.proofs.OptionWordSteps.{names_ask, numbers_ask}
 use Rattle.miette_report.proofs.option_words.with_value.Goals as goal
 
 pub returns-in-Some-number : goal.returns-in-Some-number

@@ -1,4 +1,4 @@
-use Rattle.miette_report.proofs.ChosenSteps.{written}
+use Rattle.miette_report.proofs.JobHandlerSteps.{written}
 use Rattle.miette_report.proofs.pipeline.run.Goals as goal
 
 pub returns-clause-ok : goal.returns-clause-ok

@@ -1,4 +1,4 @@
-use Rattle.miette_tree.specs.views.Left.{left_of}
+use Rattle.miette_tree.specs.views.RemainingChain.{left_of}
 use Rattle.miette_tree.proofs.ChainLaws.{mixed, from_front, from_back}
 use Rattle.miette_tree.proofs.laws.chains_from_both_ends.Goals as goal
 

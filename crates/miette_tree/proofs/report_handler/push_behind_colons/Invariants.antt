@@ -1,7 +1,7 @@
 use Rattle.std.proofs.Common.{◌≡◌, ◌++◌, string_bytes, map, drop}
 use Rattle.miette_tree.specs.rules.Tree.{cause_of, causes_of}
 use Rattle.miette_tree.specs.views.Report.{tree_of}
-use Rattle.miette_tree.specs.rules.Displayed.{behind_colons}
+use Rattle.miette_tree.specs.rules.Display.{behind_colons}
 use Rattle.miette_tree.proofs.TreeSizes.{tree_size}
 use Rattle.miette_tree.proofs.report_handler.push_behind_colons.Given as goal
 

@@ -1,6 +1,6 @@
 use Rattle.std.proofs.Common.{ap, ◌∙◌, ◌++◌, string_bytes, subst, Bool}
 use Rattle.miette_tree.specs.views.Report.{tree_of}
-use Rattle.miette_brief.specs.rules.Answered.{IsBrief}
+use Rattle.miette_brief.specs.rules.PossibleAnswers.{IsBrief}
 use Rattle.miette_brief.proofs.Telling.{only_brief}
 use Rattle.miette_brief.proofs.handler.BriefReportHandler.render.Goals as goal
 

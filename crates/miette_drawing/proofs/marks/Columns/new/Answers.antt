@@ -2,8 +2,8 @@ use Rattle.std.proofs.Common.{List, length, ◌≡◌, ◌++◌, [], ◌∙◌, 
 use Rattle.miette_lines.specs.rules.Cells.{Cell}
 use Rattle.miette_snippets.specs.rules.Marks.{Text}
 use Rattle.miette_lines.specs.views.Printable.{plain_cells}
-use Rattle.miette_lines.specs.views.Given.{width_of}
-use Rattle.miette_drawing.specs.steps.Made.{ComeFrom}
+use Rattle.miette_lines.specs.views.GivenLabels.{width_of}
+use Rattle.miette_drawing.specs.steps.Marks.{ComeFrom}
 use Rattle.miette_lines.proofs.Stepping.{cells_end}
 use Rattle.miette_drawing.proofs.Stopping.{cells_come}
 use Rattle.miette_drawing.proofs.Plaining.{plain_text}

@@ -1,7 +1,7 @@
 use Rattle.std.proofs.Common.{◌≡◌, ◌∙◌, ap, refl, subst, encode_utf8_all}
-use Rattle.miette_snippets.specs.rules.Highlighted.{AreCallsOn, leaves_plain}
+use Rattle.miette_snippets.specs.rules.Highlighting.{AreCallsOn, leaves_plain}
 use Rattle.miette_tree.specs.views.Report.{tree_of}
-use Rattle.miette_graphical.specs.rules.Answered.{IsAskedReport}
+use Rattle.miette_graphical.specs.rules.PossibleAnswers.{IsAskedReport}
 use Rattle.miette_graphical.specs.rules.Snippets.{drawn_rows}
 use Rattle.miette_graphical.specs.steps.SettingsView.{settings_of}
 use Rattle.miette_graphical.proofs.handler.GraphicalReportHandler.draw.Goals as goal

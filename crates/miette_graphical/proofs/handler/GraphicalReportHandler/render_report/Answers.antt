@@ -1,5 +1,5 @@
 use Rattle.miette_graphical.specs.views.Handling.{AreCallsOf, follows_of}
-use Rattle.miette_graphical.proofs.Rendered.{rendered-ok, rendered-only, rendered-colours, rendered-colourless, rendered-themes}
+use Rattle.miette_graphical.proofs.RenderedBytes.{rendered-ok, rendered-only, rendered-colours, rendered-colourless, rendered-themes}
 use Rattle.miette_graphical.proofs.Stateless.{rendered-stateless}
 use Rattle.miette_graphical.proofs.handler.GraphicalReportHandler.render_report.Goals as goal
 

@@ -1,7 +1,7 @@
 use Rattle.std.proofs.Common.{ap, ◌∙◌, ◌++◌, string_bytes, subst}
 use Rattle.miette_tree.specs.views.Report.{tree_of}
 use Rattle.miette_narrated.specs.rules.Report.{NarrationSettings}
-use Rattle.miette_narrated.specs.rules.Answered.{IsNarrated}
+use Rattle.miette_narrated.specs.rules.PossibleAnswers.{IsNarrated}
 use Rattle.miette_narrated.proofs.Telling.{appended_text, appended_only}
 use Rattle.miette_narrated.proofs.handler.NarratableReportHandler.render.Goals as goal
 

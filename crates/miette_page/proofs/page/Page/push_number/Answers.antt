@@ -1,10 +1,10 @@
 use Rattle.std.proofs.Common.{◌∙◌, ap}
 use Rattle.std.proofs.lemmas.Str.{chars-IsAscii}
 use Rattle.miette_page.specs.views.Printouts.{◌⊕◌}
-use Rattle.miette_page.specs.views.Told.{text_told}
+use Rattle.miette_page.specs.views.Tokens.{text_tokens}
 use Rattle.miette_page.proofs.page.Page.push_number.Goals as goal
 
 pub returns : goal.returns
 returns g c =
     c.in_ok-push_str.ensures
-    ∙ ap (λ codes. c.args.self.now ⊕ text_told codes) (chars-IsAscii c.format.result.now c.format.ensures.ascii ∙ c.format.ensures.text)
+    ∙ ap (λ codes. c.args.self.now ⊕ text_tokens codes) (chars-IsAscii c.format.result.now c.format.ensures.ascii ∙ c.format.ensures.text)

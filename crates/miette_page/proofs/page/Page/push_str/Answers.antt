@@ -1,7 +1,7 @@
 use Rattle.std.proofs.Common.{◌∙◌, ◌∷◌, ap, sym, chars, length, eqb-true}
 use Rattle.std.proofs.lemmas.Str.{chars-nil}
 use Rattle.miette_page.specs.views.Printouts.{◌⊕◌}
-use Rattle.miette_page.specs.views.Told.{text_told}
+use Rattle.miette_page.specs.views.Tokens.{text_tokens}
 use Rattle.miette_page.proofs.Paging.{none_bytes, nonzero, page_put, some-chars}
 use Rattle.miette_page.proofs.page.Page.push_str.Goals as goal
 
@@ -13,4 +13,4 @@ returns g c =
     page_put _ (g.O.Canvas.written c.start_run.new.out) (g.O.Canvas.written c.push_str.new.self) (chars c.args.text.now)
     (some-chars c.args.text.now c.utf8.text (nonzero (length c.args.text.now) (sym c.is_empty.ensures ∙ c.if-is_empty.false)))
     c.in_ok-start_run.ensures c.in_ok-push_str.ensures
-    ∙ ap (λ p. p ⊕ text_told (chars c.args.text.now)) c.self.view_is
+    ∙ ap (λ p. p ⊕ text_tokens (chars c.args.text.now)) c.self.view_is

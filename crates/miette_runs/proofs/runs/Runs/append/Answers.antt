@@ -1,7 +1,7 @@
 use Rattle.std.proofs.Common.{◌≡◌, ◌∙◌, ◌+◌, ◌-◌, ◌++◌, [], ap, arith, drop, length, length-drop, map, min, sym, take}
 use Rattle.std.proofs.lemmas.List.{take_rest}
 use Rattle.miette_runs.specs.rules.Sequences.{Character}
-use Rattle.miette_runs.specs.views.Woven.{tag_token, woven}
+use Rattle.miette_runs.specs.views.Interleaving.{tag_token, interleaving}
 use Rattle.miette_runs.proofs.Growing.{appended-next, spell-appended}
 use Rattle.miette_runs.proofs.Weaving.{drop-all, woven-none, woven-step}
 use Rattle.miette_runs.proofs.runs.Runs.append.Goals as goal
@@ -18,7 +18,7 @@ loop-tag-preserved c =
     let e : k ≡ min (m.at - s) (length (drop s cs)) = omega (arith, c.min-gap.ensures, c.saturating_sub.ensures, ap length q) in
     record {
       woven =
-          appended-next c.loop-tag.self c.push_chars.new.self c.push_sign.new.self (map Character (take k (drop s cs))) (woven (s + k) (drop (s + k) cs) (drop (i + 1) ms)) (tag_token m)
+          appended-next c.loop-tag.self c.push_chars.new.self c.push_sign.new.self (map Character (take k (drop s cs))) (interleaving (s + k) (drop (s + k) cs) (drop (i + 1) ms)) (tag_token m)
           (c.in_ok-push_chars.ensures.tokens ∙ ap (λ xs. c.loop-tag.self ++ map Character (take k xs)) q) c.in_ok-push_sign.ensures.tokens
           ∙ ap (λ ts. c.loop-tag.self ++ ts) (sym (woven-step s i k cs ms m c.loop-tag-test.true c.tag-item.is e))
           ∙ c.loop-tag.invariant.woven;
@@ -34,7 +34,7 @@ returns-clause-tokens c =
     let o = c.loop-tag.self in
     let none : drop i ms ≡ [] = drop-all i ms (omega arith) in
     c.in_ok-push_chars-2.ensures.tokens
-    ∙ ap (λ ts. o ++ ts) (ap (map Character) (take_rest cs s) ∙ sym (woven-none s (drop s cs)) ∙ ap (λ vs. woven s (drop s cs) vs) (sym none))
+    ∙ ap (λ ts. o ++ ts) (ap (map Character) (take_rest cs s) ∙ sym (woven-none s (drop s cs)) ∙ ap (λ vs. interleaving s (drop s cs) vs) (sym none))
     ∙ c.loop-tag.invariant.woven
     ∙ ap (λ ts. c.args.self.now ++ ts) c.parts-parts.ensures
 

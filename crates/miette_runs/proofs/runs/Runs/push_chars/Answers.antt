@@ -1,6 +1,6 @@
 use Rattle.std.proofs.Common.{◌∙◌, ◌+◌, ◌++◌, ap, arith, length, map}
 use Rattle.miette_runs.specs.rules.Sequences.{Character}
-use Rattle.miette_runs.specs.views.Woven.{woven}
+use Rattle.miette_runs.specs.views.Interleaving.{interleaving}
 use Rattle.miette_runs.proofs.Growing.{spell-more, within-more, woven-more}
 use Rattle.miette_runs.proofs.runs.Runs.push_chars.Goals as goal
 
@@ -8,7 +8,7 @@ pub returns-clause-tokens : goal.returns-clause-tokens
 returns-clause-tokens c =
     let cs = c.self.inside.codes.items in
     let ms = c.self.inside.tags.items in
-    ap (λ xs. woven 0 xs ms) c.in_ok-extend_from_slice.ensures.items
+    ap (λ xs. interleaving 0 xs ms) c.in_ok-extend_from_slice.ensures.items
     ∙ woven-more 0 cs c.args.codes.now ms (within-more (length cs) (0 + length cs) ms (omega arith) c.self.invariant)
     ∙ ap (λ ts. ts ++ map Character c.args.codes.now) c.self.view_is
 

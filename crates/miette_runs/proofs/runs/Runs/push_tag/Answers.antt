@@ -1,6 +1,6 @@
 use Rattle.std.proofs.Common.{◌∙◌, ◌++◌, ◌∷◌, [], ap, arith}
 use Rattle.miette_runs.specs.rules.Sequences.{Sequence}
-use Rattle.miette_runs.specs.views.Woven.{sign_text, woven}
+use Rattle.miette_runs.specs.views.Interleaving.{sign_text, interleaving}
 use Rattle.miette_runs.specs.declared.runs.sign.Tag.{Tag}
 use Rattle.miette_runs.proofs.Growing.{spell-sequence, woven-tag}
 use Rattle.miette_runs.proofs.runs.Runs.push_tag.Goals as goal
@@ -10,7 +10,7 @@ returns-clause-tokens c =
     let cs = c.self.inside.codes.items in
     let ms = c.self.inside.tags.items in
     let m : Tag = record { at = c.len-at.result; sign = c.args.sign } in
-    ap (λ vs. woven 0 cs vs) c.in_ok-push.ensures.items
+    ap (λ vs. interleaving 0 cs vs) c.in_ok-push.ensures.items
     ∙ woven-tag 0 cs ms m (omega arith)
     ∙ ap (λ ts. ts ++ Sequence (sign_text c.args.sign.value) ∷ []) c.self.view_is
 

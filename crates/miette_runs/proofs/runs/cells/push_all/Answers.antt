@@ -1,7 +1,7 @@
 use Rattle.std.proofs.Common.{◌≡◌, ◌∙◌, ◌-◌, ◌++◌, ap, drop, length, sym, take}
 use Rattle.std.proofs.lemmas.List.{take_rest}
 use Rattle.miette_runs.specs.rules.Cells.{piece_text}
-use Rattle.miette_runs.specs.views.Woven.{cells_at, tags_spelled}
+use Rattle.miette_runs.specs.views.Interleaving.{cells_at, tags_spelled}
 use Rattle.miette_runs.proofs.Appending.{appended}
 use Rattle.miette_runs.proofs.Weaving.{spell-woven}
 use Rattle.miette_runs.proofs.runs.cells.push_all.Goals as goal

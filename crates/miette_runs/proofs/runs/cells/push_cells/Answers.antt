@@ -1,7 +1,7 @@
 use Rattle.std.proofs.Common.{◌≡◌, ◌∙◌, ◌+◌, ◌-◌, ◌<◌, ◌≤◌, ◌++◌, [], ap, arith, drop, length, length-drop, sym, take}
 use Rattle.std.proofs.lemmas.List.{take_rest}
 use Rattle.miette_runs.specs.rules.Cells.{piece_text}
-use Rattle.miette_runs.specs.views.Woven.{cells_at, left_at}
+use Rattle.miette_runs.specs.views.Interleaving.{cells_at, left_at}
 use Rattle.miette_runs.proofs.Weaving.{drop-all, left-last, left-none, left-step, tags-next, text-last, text-none, text-step}
 use Rattle.miette_runs.proofs.runs.cells.push_cells.Goals as goal
 

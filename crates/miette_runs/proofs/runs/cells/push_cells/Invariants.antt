@@ -1,6 +1,6 @@
 use Rattle.std.proofs.Common.{◌≡◌, ◌<◌, ◌++◌, drop, length}
 use Rattle.miette_runs.specs.rules.Cells.{piece_text}
-use Rattle.miette_runs.specs.views.Woven.{cells_at, left_at}
+use Rattle.miette_runs.specs.views.Interleaving.{cells_at, left_at}
 use Rattle.miette_runs.proofs.runs.cells.push_cells.Given as goal
 
 abbrev pub invariant-loop-n : goal.invariant-loop-n

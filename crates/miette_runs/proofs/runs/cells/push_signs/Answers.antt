@@ -1,6 +1,6 @@
 use Rattle.std.proofs.Common.{◌∙◌, ◌+◌, ◌<◌, ◌≤◌, ap, arith, drop, length, length-drop, sym}
 use Rattle.miette_runs.specs.rules.Cells.{tags_text}
-use Rattle.miette_runs.specs.views.Woven.{cells_at, left_at}
+use Rattle.miette_runs.specs.views.Interleaving.{cells_at, left_at}
 use Rattle.miette_runs.proofs.Weaving.{drop-all, left-last, left-none, left-step, tags-last, tags-next, tags-none, tags-step, pushed-none}
 use Rattle.miette_runs.proofs.runs.cells.push_signs.Goals as goal
 

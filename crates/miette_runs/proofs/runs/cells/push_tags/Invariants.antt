@@ -1,5 +1,5 @@
 use Rattle.std.proofs.Common.{◌≡◌, ◌++◌, drop}
-use Rattle.miette_runs.specs.views.Woven.{tags_spelled}
+use Rattle.miette_runs.specs.views.Interleaving.{tags_spelled}
 use Rattle.miette_runs.proofs.runs.cells.push_tags.Given as goal
 
 abbrev pub invariant-loop-tag : goal.invariant-loop-tag

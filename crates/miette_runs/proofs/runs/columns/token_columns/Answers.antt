@@ -2,7 +2,7 @@ use Rattle.std.proofs.Common.{◌≡◌, ◌∙◌, ◌+◌, ap, fold, sym}
 use Rattle.std.proofs.Math.ListN.{drop_of_length-le}
 use Rattle.miette_runs.specs.steps.Cells.{code_columns}
 use Rattle.miette_runs.specs.rules.Cells.{width}
-use Rattle.miette_runs.proofs.WovenColumns.{woven-columns}
+use Rattle.miette_runs.proofs.InterleavedColumns.{woven-columns}
 use Rattle.miette_runs.proofs.runs.columns.token_columns.Goals as goal
 
 pub returns : goal.returns

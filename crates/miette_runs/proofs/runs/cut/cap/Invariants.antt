@@ -1,6 +1,6 @@
 use Rattle.std.proofs.Common.{◌≡◌, ◌++◌, drop, map, take}
-use Rattle.miette_runs.specs.steps.Feeds.{capped}
+use Rattle.miette_runs.specs.steps.Feeds.{capped_tag}
 use Rattle.miette_runs.proofs.runs.cut.cap.Given as goal
 
 abbrev pub invariant-loop-i : goal.invariant-loop-i
-invariant-loop-i l = l.tags ≡ map (capped l.at) (take l.i l.fn.tags) ++ drop l.i l.fn.tags
+invariant-loop-i l = l.tags ≡ map (capped_tag l.at) (take l.i l.fn.tags) ++ drop l.i l.fn.tags

@@ -2,8 +2,8 @@ use Rattle.std.proofs.Common.{◌≡◌, ◌∙◌, ◌+◌, ◌≤◌, ℕ, Boo
 use Rattle.std.proofs.lemmas.Bool.Decides.{nat_tests}
 use Rattle.miette_runs.specs.steps.Feeds.{are_colours}
 use Rattle.miette_runs.specs.rules.Sequences.{is_line_feed}
-use Rattle.miette_runs.specs.views.Woven.{upto}
-use Rattle.miette_runs.proofs.WovenCuts.{kept-all, kept-next}
+use Rattle.miette_runs.specs.views.Interleaving.{upto}
+use Rattle.miette_runs.proofs.InterleavedCuts.{kept-all, kept-next}
 use Rattle.miette_runs.proofs.runs.cut.kept_len.Goals as goal
 use Rattle.miette_runs.proofs.runs.cut.kept_len.Goals.{then-code-ne10, else-code-ne10+then-not-are_colours, else-code-ne10+else-not-are_colours}
 

@@ -1,6 +1,6 @@
 use Rattle.std.proofs.Common.{◌≡◌, ◌≤◌, drop}
 use Rattle.miette_runs.specs.steps.Feeds.{kept_len}
-use Rattle.miette_runs.proofs.WovenCuts.{kept_from}
+use Rattle.miette_runs.proofs.InterleavedCuts.{kept_from}
 use Rattle.miette_runs.proofs.runs.cut.kept_len.Given as goal
 
 abbrev pub invariant-loop-i : goal.invariant-loop-i

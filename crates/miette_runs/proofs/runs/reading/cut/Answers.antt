@@ -1,7 +1,7 @@
 use Rattle.std.proofs.Common.{◌≡◌, ◌∙◌, ◌+◌, ◌-◌, ◌++◌, ◌∷◌, [], ap, arith, drop, sym, take}
 use Rattle.miette_runs.specs.rules.Sequences.{Sequence, sequence_len, tokens}
 use Rattle.miette_runs.proofs.Counting.{cut_sequence}
-use Rattle.miette_runs.proofs.Opened.{open_behind}
+use Rattle.miette_runs.proofs.OpenCommands.{open_behind}
 use Rattle.miette_runs.proofs.runs.reading.cut.Goals as goal
 
 pub rest-preserved : goal.rest-preserved

@@ -1,6 +1,6 @@
 use Rattle.std.proofs.Common.{◌∙◌, ◌&&◌, ap, sym}
-use Rattle.miette_runs.specs.views.Woven.{are_whole}
-use Rattle.miette_runs.proofs.Settled.{settled-exact, woven-settled}
+use Rattle.miette_runs.specs.views.Interleaving.{are_whole}
+use Rattle.miette_runs.proofs.SettledRuns.{settled-exact, woven-settled}
 use Rattle.miette_runs.proofs.runs.reading.is_settled.Goals as goal
 
 pub returns-then-has_no_escape-clause-same : goal.returns-then-has_no_escape-clause-same

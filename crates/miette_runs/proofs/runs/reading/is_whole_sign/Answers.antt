@@ -1,7 +1,7 @@
 use Rattle.std.proofs.Common.{◌∙◌, ap, sym}
 use Rattle.miette_runs.specs.rules.Sequences.{is_whole}
-use Rattle.miette_runs.specs.views.Woven.{sign_text}
-use Rattle.miette_runs.proofs.Settled.{start-whole}
+use Rattle.miette_runs.specs.views.Interleaving.{sign_text}
+use Rattle.miette_runs.proofs.SettledRuns.{start-whole}
 use Rattle.miette_runs.proofs.runs.reading.is_whole_sign.Goals as goal
 
 pub returns-in-Begin : goal.returns-in-Begin

@@ -3,7 +3,7 @@ use Rattle.miette_runs.specs.rules.Sequences.{spell, tokens}
 use Rattle.miette_style.specs.rules.Escapes.{no_escape}
 use Rattle.miette_runs.proofs.Tokens.{spell-tokens}
 use Rattle.miette_runs.proofs.Growing.{spell-characters}
-use Rattle.miette_runs.proofs.Settled.{tokens-plain}
+use Rattle.miette_runs.proofs.SettledRuns.{tokens-plain}
 use Rattle.miette_runs.proofs.runs.reading.read.Goals as goal
 
 pub returns-then-has_no_escape-clause-tokens : goal.returns-then-has_no_escape-clause-tokens

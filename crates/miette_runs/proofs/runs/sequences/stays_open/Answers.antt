@@ -1,7 +1,7 @@
 use Rattle.std.proofs.Common.{◌≡◌, ◌∙◌, true, ap, sym, drop}
 use Rattle.std.proofs.lemmas.List.{take_rest}
 use Rattle.miette_runs.specs.rules.Sequences.{begins_command}
-use Rattle.miette_runs.proofs.Opened.{opened_behind, plain_behind}
+use Rattle.miette_runs.proofs.OpenCommands.{opened_behind, plain_behind}
 use Rattle.miette_runs.proofs.runs.sequences.stays_open.Goals as goal
 
 pub returns-then-begins_command : goal.returns-then-begins_command

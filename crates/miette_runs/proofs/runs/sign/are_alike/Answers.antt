@@ -1,6 +1,6 @@
 use Rattle.std.proofs.Common.{◌∙◌, ap, sym}
 use Rattle.miette_style.specs.rules.Codes.{colour_start}
-use Rattle.miette_runs.specs.views.Woven.{sign_text}
+use Rattle.miette_runs.specs.views.Interleaving.{sign_text}
 use Rattle.miette_runs.proofs.runs.sign.are_alike.Goals as goal
 
 pub returns-in-Begin-Begin : goal.returns-in-Begin-Begin

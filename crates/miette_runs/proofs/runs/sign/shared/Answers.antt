@@ -1,5 +1,5 @@
 use Rattle.std.proofs.Common.{◌∙◌, ap, sym}
-use Rattle.miette_runs.specs.views.Woven.{sign_text}
+use Rattle.miette_runs.specs.views.Interleaving.{sign_text}
 use Rattle.miette_runs.proofs.runs.sign.shared.Goals as goal
 
 pub returns-then-are_alike : goal.returns-then-are_alike

@@ -1,6 +1,6 @@
 use Rattle.std.proofs.Common.{◌∙◌, ap, sym}
 use Rattle.miette_runs.specs.rules.Colours.{is_colour}
-use Rattle.miette_runs.specs.views.Woven.{sign_text}
+use Rattle.miette_runs.specs.views.Interleaving.{sign_text}
 use Rattle.miette_runs.proofs.Parameters.{start_colour}
 use Rattle.miette_runs.proofs.runs.tags.is_colour_sign.Goals as goal
 

@@ -1,5 +1,5 @@
 use Rattle.std.proofs.Common.{◌≡◌, ◌++◌, drop, take}
-use Rattle.miette_runs.specs.views.Woven.{beyond, upto}
+use Rattle.miette_runs.specs.views.Interleaving.{beyond, upto}
 use Rattle.miette_runs.proofs.runs.tags.upto_len.Given as goal
 
 abbrev pub invariant-loop-i : goal.invariant-loop-i

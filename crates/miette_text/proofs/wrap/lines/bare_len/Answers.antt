@@ -1,5 +1,5 @@
 use Rattle.std.proofs.Common.{◌∙◌, arith, sym}
-use Rattle.miette_text.proofs.WovenCells.{plain_found, plain_shorter}
+use Rattle.miette_text.proofs.InterleavedCells.{plain_found, plain_shorter}
 use Rattle.miette_text.proofs.wrap.lines.bare_len.Goals as goal
 
 pub returns-then-row-n-ne32-clause-value : goal.returns-then-row-n-ne32-clause-value

@@ -3,8 +3,8 @@ use Rattle.std.proofs.lemmas.List.{take_rest}
 use Rattle.miette_text.specs.steps.Ends.{bare_len}
 use Rattle.miette_runs.specs.steps.Cells.{plain_cells}
 use Rattle.miette_runs.specs.rules.Cells.{tags_text, piece_text}
-use Rattle.miette_runs.specs.views.Woven.{cells_at, left_at}
-use Rattle.miette_text.proofs.WovenCells.{cells-shown, left-parts}
+use Rattle.miette_runs.specs.views.Interleaving.{cells_at, left_at}
+use Rattle.miette_text.proofs.InterleavedCells.{cells-shown, left-parts}
 use Rattle.miette_text.proofs.RowTexts.{shown}
 use Rattle.miette_text.proofs.Joining.{spell-trimmed}
 use Rattle.miette_runs.proofs.Appending.{appended}

@@ -2,22 +2,22 @@ use Rattle.std.proofs.Common.{◌≡◌, ◌∙◌, ◌+◌, ◌-◌, ◌<◌, �
 use Rattle.std.proofs.lemmas.List.{drop-take, get_or-drop, take_rest}
 use Rattle.miette_text.specs.steps.Ends.{code_behind, row_cells}
 use Rattle.miette_runs.specs.rules.Sequences.{spell}
-use Rattle.miette_runs.specs.views.Woven.{cells_at, left_at, woven}
+use Rattle.miette_runs.specs.views.Interleaving.{cells_at, left_at, interleaving}
 use Rattle.miette_text.specs.rules.Wrapping.{rows}
 use Rattle.miette_text.proofs.FirstRow.{behind-last}
 use Rattle.miette_text.proofs.Parting.{words-alone}
-use Rattle.miette_text.proofs.WovenCells.{left-parts}
+use Rattle.miette_text.proofs.InterleavedCells.{left-parts}
 use Rattle.miette_text.proofs.RowTexts.{joined_lines, lines_of, shown}
 use Rattle.miette_text.proofs.Joining.{piece-printed, spell-trimmed}
 use Rattle.miette_runs.proofs.Appending.{appended}
-use Rattle.miette_text.proofs.WovenRows.{last-printed, row-printed, rows_text}
+use Rattle.miette_text.proofs.InterleavedRows.{last-printed, row-printed, rows_text}
 use Rattle.miette_text.proofs.wrap.lines.push_rows.Goals as goal
 
 pub returns-then-end-line-clause-text : goal.returns-then-end-line-clause-text
 returns-then-end-line-clause-text g c =
     let u = c.args.cuts in
     let under = c.args.under in
-    let further = spell (woven 0 under.further.codes.now under.further.tags.now) in
+    let further = spell (interleaving 0 under.further.codes.now under.further.tags.now) in
     let cs = c.args.line.codes.now in
     let all = c.args.line.tags.now in
     let s = c.rest.start in
@@ -37,13 +37,13 @@ returns-then-end-line-clause-text g c =
     ∙ ap (λ us. o ++ g.S.Sink.spells (rows_text u further c.rest.before c.rest.room under.further_room s us (drop k all))) q
     ∙ c.rest.invariant.printed
     ∙ ap (λ ws. g.S.Sink.holds c.args.out.now ++ g.S.Sink.spells (joined_lines [] further (lines_of [] (map row_cells (rows under.room under.further_room ws))))) (words-alone u (cells_at c.args.first (drop c.args.first cs) all))
-    ∙ ap (λ us. g.S.Sink.holds c.args.out.now ++ g.S.Sink.spells us) (sym (piece-printed u under.room under.further_room (woven 0 under.further.codes.now under.further.tags.now) (record { cells = cells_at c.args.first (drop c.args.first cs) all; rest = [] })))
+    ∙ ap (λ us. g.S.Sink.holds c.args.out.now ++ g.S.Sink.spells us) (sym (piece-printed u under.room under.further_room (interleaving 0 under.further.codes.now under.further.tags.now) (record { cells = cells_at c.args.first (drop c.args.first cs) all; rest = [] })))
 
 pub rest-preserved : goal.rest-preserved
 rest-preserved g c =
     let u = c.args.cuts in
     let under = c.args.under in
-    let further = spell (woven 0 under.further.codes.now under.further.tags.now) in
+    let further = spell (interleaving 0 under.further.codes.now under.further.tags.now) in
     let room = under.further_room in
     let cs = c.args.line.codes.now in
     let all = c.args.line.tags.now in

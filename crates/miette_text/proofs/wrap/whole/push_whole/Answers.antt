@@ -6,10 +6,10 @@ use Rattle.miette_runs.specs.steps.Cells.{plain_cells}
 use Rattle.miette_runs.specs.rules.Cells.{piece_text}
 use Rattle.miette_runs.specs.rules.Sequences.{spell}
 use Rattle.miette_text.specs.steps.WholeText.{indent_text}
-use Rattle.miette_runs.specs.views.Woven.{beyond, cells_at, left_at, tags_spelled, upto, woven}
-use Rattle.miette_text.specs.rules.Wrapping.{trimmed}
+use Rattle.miette_runs.specs.views.Interleaving.{beyond, cells_at, left_at, tags_spelled, upto, interleaving}
+use Rattle.miette_text.specs.rules.Wrapping.{trimmed_row}
 use Rattle.miette_runs.proofs.Appending.{appended}
-use Rattle.miette_text.proofs.WovenWhole.{end-at, line-at, line_text, three-pushed, whole_at}
+use Rattle.miette_text.proofs.InterleavedLines.{end-at, line-at, line_text, three-pushed, whole_at}
 use Rattle.miette_text.proofs.wrap.whole.push_whole.Goals as goal
 
 pub returns-then-last : goal.returns-then-last
@@ -20,9 +20,9 @@ returns-then-last g c =
     let ms = c.rest.tags.now in
     let line = take ((s + n) - s) (drop s cs) in
     let left = c.split_at.result.1.now in
-    let indent = woven 0 c.rest.indent.codes.now c.rest.indent.tags.now in
-    let short = woven 0 c.rest.short.codes.now c.rest.short.tags.now in
-    let further = woven 0 c.args.further.codes.now c.args.further.tags.now in
+    let indent = interleaving 0 c.rest.indent.codes.now c.rest.indent.tags.now in
+    let short = interleaving 0 c.rest.short.codes.now c.rest.short.tags.now in
+    let further = interleaving 0 c.args.further.codes.now c.args.further.tags.now in
     let o = g.S.Sink.holds c.rest.out in
     let within : s ≤ length cs = c.rest.invariant.within in
     let q : n ≡ line_len (drop s cs) = c.line_len.ensures.value ∙ ap line_len (take_rest cs s) in
@@ -33,7 +33,7 @@ returns-then-last g c =
     let p3 : g.S.Sink.holds c.push_tags.new.out ≡ g.S.Sink.holds c.push_cells.new.out ++ g.S.Sink.spells (tags_spelled left) = c.in_ok-push_tags.ensures in
     let is_left : left ≡ left_at s line ms = c.split_at.ensures.back ∙ c.in_ok-used.ensures.left in
     three-pushed g.S.Sink.spells g.met.S.Sink.joins o (g.S.Sink.holds c.push_indent.new.out) (g.S.Sink.holds c.push_cells.new.out) (g.S.Sink.holds c.push_tags.new.out)
-    (indent_text true (spell indent) (spell (trimmed indent)) (plain_cells line)) (piece_text (cells_at s line ms)) (tags_spelled left)
+    (indent_text true (spell indent) (spell (trimmed_row indent)) (plain_cells line)) (piece_text (cells_at s line ms)) (tags_spelled left)
     (p1 ∙ ap₂ (λ last us. o ++ g.S.Sink.spells (indent_text last (spell indent) us (plain_cells line))) b (ap spell c.rest.invariant.short)) p2 p3
     ∙ ap (λ us. o ++ g.S.Sink.spells us) (end-at indent further s n cs line ms left q all (ap (λ k. take k (drop s cs)) (omega arith)) is_left)
     ∙ c.rest.invariant.printed
@@ -48,9 +48,9 @@ rest-preserved g c =
     let left = c.split_at.result.1.now in
     let before = c.split_at-in-rest.result.0.now in
     let behind = c.split_at-in-rest.result.1.now in
-    let indent = woven 0 c.rest.indent.codes.now c.rest.indent.tags.now in
-    let short = woven 0 c.rest.short.codes.now c.rest.short.tags.now in
-    let further = woven 0 c.args.further.codes.now c.args.further.tags.now in
+    let indent = interleaving 0 c.rest.indent.codes.now c.rest.indent.tags.now in
+    let short = interleaving 0 c.rest.short.codes.now c.rest.short.tags.now in
+    let further = interleaving 0 c.args.further.codes.now c.args.further.tags.now in
     let o = g.S.Sink.holds c.rest.out in
     let within : s ≤ length cs = c.rest.invariant.within in
     let inside : n ≤ length (take (length cs - s) (drop s cs)) = c.line_len.ensures.within in
@@ -68,7 +68,7 @@ rest-preserved g c =
     let next = whole_at further further ((s + n) + 1) (drop ((s + n) + 1) cs) behind in
     let pushed : g.S.Sink.holds c.push_tags-in-rest.new.out ≡ o ++ g.S.Sink.spells text =
     three-pushed g.S.Sink.spells g.met.S.Sink.joins o (g.S.Sink.holds c.push_indent.new.out) (g.S.Sink.holds c.push_cells.new.out) (g.S.Sink.holds c.push_tags-in-rest.new.out)
-    (indent_text false (spell indent) (spell (trimmed indent)) (plain_cells line)) (piece_text (cells_at s line ms)) (tags_spelled before)
+    (indent_text false (spell indent) (spell (trimmed_row indent)) (plain_cells line)) (piece_text (cells_at s line ms)) (tags_spelled before)
     (p1 ∙ ap₂ (λ last us. o ++ g.S.Sink.spells (indent_text last (spell indent) us (plain_cells line))) b (ap spell c.rest.invariant.short)) p2 p3 in
     record {
       printed =

@@ -1,5 +1,5 @@
 use Rattle.std.proofs.Common.{ap, sym, ◌++◌, ◌∙◌}
-use Rattle.miette_runs.specs.views.Outputs.{written}
+use Rattle.miette_runs.specs.views.Outputs.{target_text}
 use Rattle.miette_runs.proofs.Outputs.{stop-behind, text-grows}
 use Rattle.miette_style.specs.rules.Codes.{colour_stop}
 use Rattle.miette_runs.proofs.runs.output.Output.end.Goals as goal
@@ -8,10 +8,10 @@ use Rattle.miette_runs.proofs.runs.output.Output.end.Goals.{in-Printed+in_ok-pus
 pub returns : goal.returns
 returns c = elim c.match-self.branch [
   | in-Printed+in_ok-push_str-in-Printed w ↦
-      ap (λ o. written o.target) w.self-inside-is
-      ∙ text-grows w.in-Printed.text w.push_str.new.self c.args.self.now (colour_stop) (sym (ap written w.in-Printed.is) ∙ c.self.view_is) (stop-behind _ _ w.in_ok-push_str-in-Printed.ensures.bytes)
+      ap (λ o. target_text o.target) w.self-inside-is
+      ∙ text-grows w.in-Printed.text w.push_str.new.self c.args.self.now (colour_stop) (sym (ap target_text w.in-Printed.is) ∙ c.self.view_is) (stop-behind _ _ w.in_ok-push_str-in-Printed.ensures.bytes)
   | in-Collected+in_ok-end-in-Collected w ↦
-      ap (λ o. written o.target) w.self-inside-is
+      ap (λ o. target_text o.target) w.self-inside-is
       ∙ w.in_ok-end-in-Collected.ensures.text
-      ∙ ap (λ x. x ++ (colour_stop)) (sym (ap written w.in-Collected.is) ∙ c.self.view_is)
+      ∙ ap (λ x. x ++ (colour_stop)) (sym (ap target_text w.in-Collected.is) ∙ c.self.view_is)
 ]

@@ -1,5 +1,5 @@
 use Rattle.std.proofs.Common.{◌∙◌, ◌++◌, ap, encode_utf8_all, string_bytes, sym}
-use Rattle.miette_runs.specs.views.Woven.{sign_text}
+use Rattle.miette_runs.specs.views.Interleaving.{sign_text}
 use Rattle.miette_runs.proofs.Painting.{style-bytes}
 use Rattle.miette_runs.proofs.runs.sink.StringSink.push_sign.Goals as goal
 

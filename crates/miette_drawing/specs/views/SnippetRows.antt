@@ -1,0 +1,77 @@
+-- The rows of a snippet from what its read lent, where nothing is known of the source beyond.
+use Rattle.std.specs.Prelude.{ℕ, ◌+◌, ◌-◌, ◌==◌, ◌≡◌, if◌then◌else◌, Bool, List, [], ◌∷◌, ◌++◌, length, map, decimal}
+use Rattle.std.specs.Prelude.{slice_range, Option, false}
+use Rattle.std.specs.Option.{option_map}
+use Rattle.miette_newlines.specs.rules.Lines.{Line}
+use Rattle.miette_protocol.specs.rules.Reading.{Contents}
+use Rattle.miette_style.specs.rules.HighlighterCalls.{Call}
+use Rattle.miette_page.specs.rules.Rows.{Row}
+use Rattle.miette_lines.specs.rules.Answers.{Highlight, first_of, later_of}
+use Rattle.miette_lines.specs.rules.Cells.{Cell, characters, cells_from}
+use Rattle.miette_lines.specs.rules.Contexts.{lines_of_contents}
+use Rattle.miette_drawing.specs.declared.snippet.Drawing.{Drawing}
+use Rattle.miette_snippets.specs.views.ThemeSettings.{settings_of}
+use Rattle.miette_lines.specs.views.GivenLabels.{drawn_of}
+use Rattle.miette_snippets.specs.rules.Frames.{SnippetSettings, Place, top_row, bottom_row, number_width}
+use Rattle.miette_snippets.specs.rules.Gutters.{gutter_columns}
+use Rattle.miette_snippets.specs.rules.Highlighting.{decoded_text, EachHasPieces, line_calls}
+use Rattle.miette_lines.specs.rules.Labels.{DrawnLabel}
+use Rattle.miette_snippets.specs.rules.SnippetLayout.{line_rows}
+use Rattle.miette_page.specs.views.Printouts.{Printout, ◌⊕◌}
+use Rattle.miette_page.specs.views.Tokens.{rows_tokens}
+
+-- the bytes of a line's text, in bytes that begin at an offset
+abbrev pub text_in : ℕ → List ℕ → Line → List ℕ
+text_in start bytes line = slice_range bytes (line.start - start) (line.text_end - start)
+
+-- its cells
+abbrev pub cells_in : SnippetSettings → ℕ → List ℕ → Line → List Cell
+cells_in s start bytes line = cells_from s.width s.tab false line.start 0 (characters (text_in start bytes line))
+
+-- the lines' texts as a highlighter is given them
+abbrev pub texts_in : ℕ → List ℕ → List Line → List (List ℕ)
+texts_in start bytes lines = map (λ line. decoded_text (text_in start bytes line)) lines
+
+-- the rows of lines, with numbers from this one on, in bytes that begin at an offset
+abbrev pub lent_rows : SnippetSettings → ℕ → ℕ → List DrawnLabel → ℕ → List ℕ → ℕ → List (List Highlight) → List Line →
+    List Row
+lent_rows s w columns drawn start bytes number pieces [] = []
+lent_rows s w columns drawn start bytes number pieces (line ∷ lines) =
+    line_rows s w columns drawn line number (cells_in s start bytes line) (first_of pieces)
+    ++ lent_rows s w columns drawn start bytes (number + 1) (later_of pieces) lines
+
+-- the rows of a snippet, with its frame
+abbrev pub lent_snippet : SnippetSettings → List DrawnLabel → Contents → Option Place → List (List Highlight) → List Row
+lent_snippet s drawn lent place pieces =
+    top_row s lent place
+    ∷ lent_rows s (number_width lent) (gutter_columns drawn (lines_of_contents lent)) drawn lent.span.offset lent.bytes
+    (lent.line + 1) pieces (lines_of_contents lent)
+    ++ bottom_row s (number_width lent) ∷ []
+
+-- the digits of the number of the last of so many lines, where this many stand before the first; 1 where there is none
+abbrev pub width_of_count : ℕ → ℕ → ℕ
+width_of_count before many = if many == 0 then 1 else length (decimal (before + many))
+
+-- the columns of a gutter with room for so many labels
+abbrev pub gutter_of : ℕ → ℕ
+gutter_of most = if most == 0 then 0 else most + 3
+
+-- a line and a column as a place
+abbrev pub place_at : ℕ × ℕ → Place
+place_at p = record { line = p.0; column = p.1 }
+
+-- A page has got rows with some pieces, which a highlighter answered for these texts by calls that happen.
+pub record PutsRows (blank : Bool) (happen : List Call → Type 0) (texts : List (List ℕ))
+    (rows : List (List Highlight) → List Row) (before after : Printout) : Type 0 where
+  pub pieces : List (List Highlight)
+  pub are : EachHasPieces blank texts pieces
+  pub calls : happen (line_calls texts pieces)
+  pub is : after ≡ before ⊕ rows_tokens (rows pieces)
+
+-- The same of a snippet: its frame points to this line and column, and a highlighter is given the texts of its lines.
+abbrev pub PutsSnippet : Bool → (List Call → Type 0) → Drawing → Contents → Option (ℕ × ℕ) → Printout → Printout →
+    Type 0
+PutsSnippet blank happen drawing lent place before after =
+    PutsRows blank happen (texts_in lent.span.offset lent.bytes (lines_of_contents lent))
+    (lent_snippet (settings_of drawing.theme.now drawing.options)
+    (map (drawn_of drawing.labels.now) drawing.placed.now) lent (option_map place_at place)) before after

@@ -1,0 +1,69 @@
+-- The diagnostics that a report prints, each with its effective source.
+use Rattle.std.specs.Prelude.{Bool, true, ◌&&◌, if◌then◌else◌, List, [], ◌∷◌, ◌++◌, Option, Some, None}
+use Rattle.miette_style.specs.rules.Codes.{is_nil}
+use Rattle.miette_protocol.specs.views.Meaning.{Meaning}
+use Rattle.miette_protocol.specs.rules.Reading.{Source}
+use Rattle.miette_tree.specs.rules.Tree.{effective, Tree, tree, Cause, diagnostic, texts, Trees, no_trees, more_trees}
+use Rattle.miette_graphical.specs.rules.Settings.{Settings}
+use Rattle.miette_tree.specs.rules.DiagnosticParts.{given_labels}
+
+-- a printed diagnostic
+pub record PrintedDiagnostic : Type 0 where
+  pub source : Option Source
+  pub meaning : Meaning
+
+abbrev pub over : Option Source → Meaning → PrintedDiagnostic
+over source m = record { source = source; meaning = m }
+
+abbrev mutual
+  -- The causes under a report with this effective source: each with its related reports, and all over that source
+  -- where they have none of their own. Are related reports nested?
+  pub printed_causes : Bool → Option Source → Cause → List PrintedDiagnostic
+  printed_causes nested inherited (texts ts) = []
+  printed_causes nested inherited (diagnostic (tree m own c r)) =
+      (over (effective own inherited) m ∷ printed_related nested (effective own inherited) r)
+      ++ printed_causes nested inherited c
+
+  -- Related reports: each with its related reports, and with its causes where it isn't nested.
+  pub printed_related : Bool → Option Source → Trees → List PrintedDiagnostic
+  printed_related nested inherited no_trees = []
+  printed_related nested inherited (more_trees (tree m own c r) ts) =
+      (over (effective own inherited) m ∷ ((if nested then [] else printed_causes nested (effective own inherited) c)
+      ++ printed_related nested (effective own inherited) r))
+      ++ printed_related nested inherited ts
+
+-- a report that stands in another one, which shows no causes, over its effective source; and one that stands beside
+-- others
+abbrev pub printed_inner : Bool → Option Source → Tree → List PrintedDiagnostic
+printed_inner nested source (tree m own c r) = over source m ∷ printed_related nested source r
+
+abbrev pub printed_sibling : Bool → Option Source → Tree → List PrintedDiagnostic
+printed_sibling nested source (tree m own c r) =
+    over source m ∷ (printed_causes nested source c ++ printed_related nested source r)
+
+abbrev pub printed_one : Bool → Option Source → Tree → List PrintedDiagnostic
+printed_one nested source t = if nested then printed_inner nested source t else printed_sibling nested source t
+
+-- the causes of the outermost report, where the cause chain is on
+abbrev pub printed_root_causes : Bool → Bool → Tree → List PrintedDiagnostic
+printed_root_causes chain nested (tree m own c r) = if chain then printed_causes nested own c else []
+
+-- the diagnostics of a whole report: its own, its causes where the cause chain is on, and the related ones
+abbrev pub diagnostics_of : Settings → Tree → List PrintedDiagnostic
+diagnostics_of s (tree m own c r) =
+    over own m ∷ ((if s.chain then printed_causes s.nested own c else []) ++ printed_related s.nested own r)
+
+-- ---- where every read of the labels succeeds
+
+abbrev pub source_reads : Option Source → Bool
+source_reads None = true
+source_reads (Some source) = source.always_reads
+
+-- a diagnostic without labels reads nothing
+abbrev pub always_reads : Option Source → Meaning → Bool
+always_reads source m = if is_nil (given_labels m.labels) then true else source_reads source
+
+-- of all these diagnostics
+abbrev pub all_read : List PrintedDiagnostic → Bool
+all_read [] = true
+all_read (p ∷ ps) = always_reads p.source p.meaning && all_read ps

@@ -1,6 +1,0 @@
-use Rattle.miette_report.specs.steps.Chosen.{Stays}
-use Rattle.miette_report.proofs.chosen.Chosen.render_times.Given as goal
-
--- the handler stays, but for a state of its highlighter
-abbrev pub invariant-loop : goal.invariant-loop
-invariant-loop g l = Stays g.H.Highlighter.is_blank l.fn.self l.self

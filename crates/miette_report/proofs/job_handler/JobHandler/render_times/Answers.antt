@@ -1,0 +1,18 @@
+use Rattle.std.proofs.Common.{rules}
+use Rattle.miette_report.proofs.JobHandlerSteps.{given-before, refused-before, stays-itself, stays-on}
+use Rattle.miette_report.proofs.job_handler.JobHandler.render_times.Goals as goal
+
+pub loop-init : goal.loop-init
+loop-init g c = stays-itself g.H.Highlighter.is_blank _
+
+pub loop-preserved : goal.loop-preserved
+loop-preserved g c = stays-on g.H.Highlighter.is_blank _ _ _ c.loop.invariant c.render.ensures.stays
+
+pub returns-in_err-render-clause-refused : goal.returns-in_err-render-clause-refused
+returns-in_err-render-clause-refused g c = λ refused. refused-before g.H.Highlighter.is_blank _ _ _ c.loop.invariant (c.in_err-render.ensures.refused (search rules))
+
+pub returns-in_err-last-clause-refused : goal.returns-in_err-last-clause-refused
+returns-in_err-last-clause-refused g c = λ refused. refused-before g.H.Highlighter.is_blank _ _ _ c.loop.invariant (c.in_err-last.ensures.refused (search rules))
+
+pub returns-clause-ok : goal.returns-clause-ok
+returns-clause-ok g c = given-before g.H.Highlighter.is_blank _ _ _ _ c.loop.invariant c.in_ok-last.ensures.ok

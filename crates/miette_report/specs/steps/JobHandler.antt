@@ -1,0 +1,45 @@
+-- The handler of a job, what it gives, and what it keeps.
+use Rattle.std.specs.Prelude.{◌≡◌, ℕ, Bool, List, false}
+use Rattle.miette.specs.rules.Choice.{IsChosen}
+use Rattle.miette.specs.views.Handler.{Keeps}
+use Rattle.miette.specs.rules.Options.{Options}
+use Rattle.miette.specs.declared.options.handler.MietteHandler.TheVariants as handler
+use Rattle.miette_style.specs.declared.theme.Terminal.{Terminal}
+use Rattle.miette_tree.specs.rules.Tree.{Tree}
+use Rattle.miette_narrated.specs.rules.PossibleAnswers.{report_accepted}
+use Rattle.miette_json.specs.rules.Json.{json_text}
+use Rattle.miette_json.specs.rules.JsonReport.{value_of}
+use Rattle.miette_handlers.specs.rules.DebugText.{IsDebugText}
+use Rattle.miette_report.specs.rules.Job.{IsBuiltText}
+use Rattle.miette_report.specs.declared.job_handler.JobHandler.{JobHandler}
+use Rattle.miette_report.specs.declared.job_handler.JobHandler.TheVariants as chosen
+use Rattle.miette_report.specs.declared.option_words.Choice.{Choice}
+use Rattle.miette_report.specs.declared.option_words.Choice.TheVariants as choice
+
+-- this handler is asked for
+abbrev pub IsAsked : {H : Type 0} → Choice → Options H → Terminal → JobHandler H → Type 0
+IsAsked c o t chosen.Json = c ≡ choice.Json
+IsAsked c o t chosen.Debug = c ≡ choice.Debug
+IsAsked c o t (chosen.Built it) = (c ≡ choice.Build) × IsChosen o t it
+
+-- a text that it gives for a tree whose sources always read
+abbrev pub IsGiven : {H : Type 0} → (H → Bool) → JobHandler H → Tree → List ℕ → Type 0
+IsGiven is_blank chosen.Json t text = text ≡ json_text (value_of t)
+IsGiven is_blank chosen.Debug t text = IsDebugText t text
+IsGiven is_blank (chosen.Built it) t text = IsBuiltText is_blank it t text
+
+-- only a narrated or brief report is refused, for a label that isn't accepted
+abbrev pub MayRefuse : {H : Type 0} → JobHandler H → Tree → Type 0
+MayRefuse chosen.Json t = ⊥
+MayRefuse chosen.Debug t = ⊥
+MayRefuse (chosen.Built (handler.Graphical it)) t = ⊥
+MayRefuse (chosen.Built (handler.Narrated it)) t = report_accepted t ≡ false
+MayRefuse (chosen.Built (handler.Brief it)) t = report_accepted t ≡ false
+
+-- The handler stays; of one that is built what a handler keeps does.
+abbrev pub Stays : {H : Type 0} → (H → Bool) → JobHandler H → JobHandler H → Type 0
+Stays is_blank chosen.Json new = new ≡ chosen.Json
+Stays is_blank chosen.Debug new = new ≡ chosen.Debug
+Stays is_blank (chosen.Built old) (chosen.Built new) = Keeps is_blank old new
+Stays is_blank (chosen.Built old) chosen.Json = ⊥
+Stays is_blank (chosen.Built old) chosen.Debug = ⊥

@@ -1,0 +1,61 @@
+-- What the program `draw` reports.
+use Rattle.std.specs.Prelude.{◌≡◌, ℕ, List, [], ◌∷◌, Option, Some, None, true, false, encode_utf8_all}
+use Rattle.miette.specs.Diagnostic.{message_alone}
+use Rattle.miette.specs.Meaning.{Label, Meaning}
+use Rattle.miette.specs.Reading.{named_source, plain_source}
+use Rattle.miette.specs.Tree.{Tree, alone, with_source}
+use Rattle.miette_style.specs.rules.Themes.{no_styles, unicode_characters}
+use Rattle.miette_graphical.specs.rules.Answers.{unlisted}
+use Rattle.miette_graphical.specs.rules.PrintedDiagnostics.{all_read, diagnostics_of}
+use Rattle.miette_graphical.specs.rules.Settings.{Settings, default_settings}
+use Rattle.miette_graphical.specs.rules.Snippets.{drawn_rows}
+use Rattle.miette_graphical.specs.rules.Text.{report_text}
+use Rattle.miette_report.specs.rules.Words.{AreDrawWords}
+
+-- a label without text where the word is empty
+abbrev pub label_text : List ℕ → Option (List ℕ)
+label_text [] = None
+label_text (b ∷ bs) = Some (b ∷ bs)
+
+abbrev pub drawn_label : ℕ → ℕ → List ℕ → Label
+drawn_label offset length text = record {
+  text = label_text text;
+  span = record { offset = offset; len = length };
+  primary = false;
+  context = None;
+}
+
+-- the message with one label
+abbrev pub drawn_meaning : ℕ → ℕ → List ℕ → List ℕ → Meaning
+drawn_meaning offset length label message = record (message_alone message)
+    { labels = Some (drawn_label offset length label ∷ []) }
+
+-- a diagnostic alone, over the input under a name
+abbrev pub over_input : List ℕ → Meaning → List ℕ → Tree
+over_input name meaning input = with_source (named_source (plain_source input) name None) (alone meaning)
+
+abbrev pub drawn_tree : List ℕ → ℕ → ℕ → List ℕ → List ℕ → List ℕ → Tree
+drawn_tree name offset length label message input = over_input name (drawn_meaning offset length label message) input
+
+-- in the characters of Unicode, plain, and 80 columns wide
+abbrev pub draw_settings : Settings
+draw_settings = record (default_settings unicode_characters no_styles) { width = 80 }
+
+-- no read of its labels is refused
+abbrev pub IsReadWhole : Tree → Type 0
+IsReadWhole t = all_read (diagnostics_of draw_settings t) ≡ true
+
+-- the text of a report that is read whole
+abbrev pub IsPicture : Tree → List ℕ → Type 0
+IsPicture t text = text ≡ encode_utf8_all (report_text drawn_rows draw_settings t unlisted)
+
+-- A fact of the picture for these words and this input.
+abbrev pub Pictures : List ℕ → ℕ → ℕ → List ℕ → List ℕ → List ℕ → (List ℕ → Type 0) → Type 0
+Pictures name offset length label message input holds =
+    (text : List ℕ) × IsPicture (drawn_tree name offset length label message input) text × holds text
+
+-- The same for the words as the program is called with them.
+abbrev pub CallPictures : List (List ℕ) → List ℕ → (List ℕ → Type 0) → Type 0
+CallPictures words input holds =
+    (name : List ℕ) × (offset : ℕ) × (length : ℕ) × (label : List ℕ) × (message : List ℕ)
+    × AreDrawWords words name offset length label message × Pictures name offset length label message input holds

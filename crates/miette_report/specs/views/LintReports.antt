@@ -1,0 +1,53 @@
+-- What the program `lint` reports.
+use Rattle.std.specs.Prelude.{◌≡◌, ℕ, ◌<◌, Bool, true, false, List, [], ◌∷◌, ◌++◌, Some, codes, decimal, length}
+use Rattle.miette.specs.Diagnostic.{message_alone}
+use Rattle.miette.specs.Tree.{Tree}
+use Rattle.miette_brief.specs.rules.Report as rows
+use Rattle.miette.specs.Meaning.{Label, Meaning}
+use Rattle.miette_protocol.specs.declared.protocol.Severity.TheVariants.{Warning}
+use Rattle.miette_report.specs.views.DrawReports.{over_input, IsPicture}
+use Rattle.miette_report.specs.rules.Findings.{findings_of}
+use Rattle.miette_report.specs.rules.Words.{AreLintWords}
+
+abbrev pub count_text : ℕ → List ℕ
+count_text n = decimal n ++ codes " findings"
+
+-- a warning with these labels, which says how many there are
+abbrev pub warning : List Label → Meaning
+warning found = record (message_alone (count_text (length found))) { severity = Some Warning; labels = Some found }
+
+-- the text of a report that is read whole: brief rows, or a picture
+abbrev pub IsShown : Bool → Tree → List ℕ → Type 0
+IsShown true t text = text ≡ rows.brief rows.default_settings t rows.unlisted
+IsShown false t text = IsPicture t text
+
+-- the text for what is found in the input: nothing where that is nothing
+abbrev pub IsLinted : Bool → List ℕ → List ℕ → List Label → List ℕ → Type 0
+IsLinted brief name input [] text = text ≡ []
+IsLinted brief name input (l ∷ ls) text = IsShown brief (over_input name (warning (l ∷ ls)) input) text
+
+-- whether there is none
+abbrev pub IsClean : List Label → Bool → Type 0
+IsClean found true = found ≡ []
+IsClean found false = 0 < length found
+
+-- A fact of the text for these words and this input, with whether nothing is found in it.
+abbrev pub Lints : Bool → List ℕ → ℕ → List ℕ → Bool → (List ℕ → Type 0) → Type 0
+Lints brief name width input clean holds =
+    (text : List ℕ) × IsClean (findings_of input width) clean
+    × IsLinted brief name input (findings_of input width) text × holds text
+
+-- A fact of the text alone.
+abbrev pub LintsText : Bool → List ℕ → ℕ → List ℕ → (List ℕ → Type 0) → Type 0
+LintsText brief name width input holds =
+    (text : List ℕ) × IsLinted brief name input (findings_of input width) text × holds text
+
+-- A fact of the text for the words as the program is called with them, with whether nothing is found in the input.
+abbrev pub CallLints : List (List ℕ) → List ℕ → Bool → (List ℕ → Type 0) → Type 0
+CallLints words input clean holds = (brief : Bool) × (name : List ℕ) × (width : ℕ)
+    × AreLintWords words brief name width × Lints brief name width input clean holds
+
+-- By the words the program finds nothing in the input, or something.
+abbrev pub CallIsClean : List (List ℕ) → List ℕ → Bool → Type 0
+CallIsClean words input clean = (brief : Bool) × (name : List ℕ) × (width : ℕ)
+    × AreLintWords words brief name width × IsClean (findings_of input width) clean

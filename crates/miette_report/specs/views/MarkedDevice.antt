@@ -1,0 +1,7 @@
+-- A device as its callers see it.
+use Rattle.std.specs.Prelude.{Bool}
+
+-- the reader or writer itself, and whether one of its calls failed
+pub record MarkedDevice (D : Type 0) : Type 0 where
+  pub inner : D
+  pub failed : Bool

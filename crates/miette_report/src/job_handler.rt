@@ -1,0 +1,119 @@
+//! The handler that a job is asked for.
+
+ghost use Rattle.std.specs.Prelude.{◌≡◌, ◌⊎◌, IfOk, OnErr, string_bytes};
+ghost use Rattle.miette_tree.specs.views.Report.{tree_of};
+ghost use Rattle.miette_json.specs.rules.Reads.{AlwaysReads};
+ghost use Rattle.miette_report.specs.steps.JobHandler.{IsAsked, IsGiven, MayRefuse, Stays};
+
+use crate::arguments::Arguments;
+use crate::fault::Fault;
+use crate::language::LanguageHighlighter;
+use crate::option_words::Choice;
+use miette::error::RenderError;
+use miette::handlers::{DebugReportHandler, JSONReportHandler, ReportHandler};
+use miette::highlight::Highlighter;
+use miette::options::MietteHandler;
+use miette::protocol::Diagnostic;
+use miette::report::Report;
+use miette::source::SourceCode;
+use std::alloc::{AllocError, Global};
+
+/// The handler of a job.
+#[derive(Drop)]
+pub(crate) enum JobHandler<H> {
+    Json,
+    Debug,
+    Built(MietteHandler<H>),
+}
+
+impl JobHandler<LanguageHighlighter> {
+    /// The handler that the settings ask for.
+    pub(crate) fn new(alloc: Global, settings: Arguments) -> Result<Self, AllocError>
+        ensures { IfOk result (IsAsked settings.choice settings.options settings.terminal) }
+    {
+        let Arguments {
+            choice,
+            options,
+            terminal,
+        } = settings;
+        match choice {
+            Choice::Build => Ok(JobHandler::Built(options.build(alloc, &terminal)?)),
+            Choice::Json => Ok(JobHandler::Json),
+            Choice::Debug => Ok(JobHandler::Debug),
+        }
+    }
+}
+
+/// The text that was rendered, or why there is none.
+fn text_or_fault(rendered: Result<(), RenderError>, text: String) -> Result<String, Fault>
+    ensures ok { IfOk result (λ it. (it ≡ text) × OnErr rendered ⊥) }
+    ensures refused { (result ≡ Err Fault.Refused) → rendered ≡ Err RenderError.Refused }
+    ensures others { OnErr result ((result ≡ Err Fault.Refused) ⊎ (result ≡ Err Fault.Memory)) }
+{
+    match rendered {
+        Ok(()) => Ok(text),
+        Err(RenderError::Memory) => Err(Fault::Memory),
+        Err(RenderError::Refused) => Err(Fault::Refused),
+    }
+}
+
+impl<H: Highlighter> JobHandler<H> {
+    /// The text of a report whose sources always read.
+    pub(crate) fn render(&mut self, alloc: Global, report: &Report) -> Result<String, Fault>
+        requires reads { AlwaysReads (tree_of ⟦<Box<dyn Diagnostic> as Diagnostic>⟧.meaning
+            ⟦<Box<dyn SourceCode> as SourceCode>⟧.source report.now) }
+        ensures ok { IfOk result (λ text. IsGiven H.is_blank self.old
+            (tree_of ⟦<Box<dyn Diagnostic> as Diagnostic>⟧.meaning ⟦<Box<dyn SourceCode> as SourceCode>⟧.source
+            report.now) (string_bytes text)) }
+        ensures refused { (result ≡ Err Fault.Refused) →
+            MayRefuse self.old (tree_of ⟦<Box<dyn Diagnostic> as Diagnostic>⟧.meaning
+            ⟦<Box<dyn SourceCode> as SourceCode>⟧.source report.now) }
+        ensures others { OnErr result ((result ≡ Err Fault.Refused) ⊎ (result ≡ Err Fault.Memory)) }
+        ensures stays { Stays H.is_blank self.old self.new }
+    {
+        let mut text = String::new(alloc);
+        match self {
+            JobHandler::Json => text_or_fault(
+                JSONReportHandler::new().render_report(report, &mut text),
+                text,
+            ),
+            JobHandler::Debug => text_or_fault(
+                DebugReportHandler::new().render_report(report, &mut text),
+                text,
+            ),
+            JobHandler::Built(MietteHandler::Graphical(handler)) => {
+                text_or_fault(handler.debug(report, &mut text), text)
+            }
+            JobHandler::Built(MietteHandler::Narrated(handler)) => {
+                text_or_fault(handler.render_report(report, &mut text), text)
+            }
+            JobHandler::Built(MietteHandler::Brief(handler)) => {
+                text_or_fault(handler.render_report(report, &mut text), text)
+            }
+        }
+    }
+
+    /// The last of so many texts, at least one.
+    pub(crate) fn render_times(
+        &mut self,
+        alloc: Global,
+        report: &Report,
+        times: usize,
+    ) -> Result<String, Fault>
+        requires reads { AlwaysReads (tree_of ⟦<Box<dyn Diagnostic> as Diagnostic>⟧.meaning
+            ⟦<Box<dyn SourceCode> as SourceCode>⟧.source report.now) }
+        ensures ok { IfOk result (λ text. IsGiven H.is_blank self.old
+            (tree_of ⟦<Box<dyn Diagnostic> as Diagnostic>⟧.meaning ⟦<Box<dyn SourceCode> as SourceCode>⟧.source
+            report.now) (string_bytes text)) }
+        ensures others { OnErr result ((result ≡ Err Fault.Refused) ⊎ (result ≡ Err Fault.Memory)) }
+        ensures refused { (result ≡ Err Fault.Refused) →
+            MayRefuse self.old (tree_of ⟦<Box<dyn Diagnostic> as Diagnostic>⟧.meaning
+            ⟦<Box<dyn SourceCode> as SourceCode>⟧.source report.now) }
+    {
+        for _ in 1..times {
+            self.render(alloc, report)?;
+        }
+        let last = self.render(alloc, report)?;
+        Ok(last)
+    }
+}

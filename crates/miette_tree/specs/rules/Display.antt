@@ -1,0 +1,12 @@
+-- The short form of a report.
+use Rattle.std.specs.Prelude.{ℕ, Bool, List, [], ◌∷◌, ◌++◌, if◌then◌else◌}
+use Rattle.miette_tree.specs.rules.Tree.{Tree, head, cause_of, causes_of}
+
+-- texts, each with `: ` in front
+abbrev pub behind_colons : List (List ℕ) → List ℕ
+behind_colons [] = []
+behind_colons (t ∷ ts) = 58 ∷ 32 ∷ (t ++ behind_colons ts)
+
+-- the message; or the chain, joined by `: `
+abbrev pub display_text : Bool → Tree → List ℕ
+display_text alternate t = (head t).message ++ (if alternate then behind_colons (causes_of (cause_of t)) else [])
