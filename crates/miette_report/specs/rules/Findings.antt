@@ -37,7 +37,7 @@ ending_blanks text = length (take_while is_blank (reverse text))
 -- the blanks that end a text, which ends there
 abbrev pub trailing_space : ℕ → List ℕ → List Label
 trailing_space end text = if ending_blanks text == 0 then []
-    else finding (codes "trailing_space blanks") (end - ending_blanks text) end ∷ []
+    else finding (codes "trailing blanks") (end - ending_blanks text) end ∷ []
 
 -- in the blanks that begin a text, which begins there, the first tab after a space
 abbrev pub misplaced_tab : ℕ → List ℕ → List Label
