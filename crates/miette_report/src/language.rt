@@ -1,6 +1,6 @@
 //! Languages by their names, and their highlighters.
 
-ghost use Rattle.std.specs.Prelude.{◌≡◌, IfOk};
+ghost use Rattle.std.specs.Prelude.{◌≡◌, IfOk, None, false};
 
 use miette::highlight::{Highlighter, PatternHighlighter};
 use miette::source::MietteSpanContents;
@@ -45,7 +45,11 @@ impl LanguageHighlighter {
 }
 
 impl Highlighter for LanguageHighlighter {
-    fn restart(&mut self, contents: &MietteSpanContents<'_>) {
+    fn restart(&mut self, contents: &MietteSpanContents<'_>)
+        ensures stays { false ≡ false }
+        // Nothing of the text before stays open.
+        ensures closed { self.new ≡ record self.old { patterns = record self.old.patterns { left_open = None } } }
+    {
         self.patterns.restart(contents);
     }
 
