@@ -1,5 +1,5 @@
 -- The primary label, and the places that reads of it give.
-use Rattle.std.proofs.Common.{ℕ, suc, ◌+◌, ◌≡◌, ◌<◌, ◌≤◌, List, [], ◌∷◌, length, get_or, map, drop, add-one, Bool, true, false, not, cond, ◌&&◌, Option, Some, None, refl, sym, ap, subst, ◌∙◌, arith}
+use Rattle.std.proofs.Common.{ℕ, suc, ◌+◌, ◌≡◌, ◌<◌, ◌≤◌, List, [], ◌∷◌, length, get_or, map, drop, add-one, Bool, true, false, cond, ◌&&◌, Option, Some, None, refl, sym, ap, subst, ◌∙◌, arith}
 use Rattle.std.specs.List.{list_all}
 use Rattle.std.proofs.Math.Seq.{drop-cons}
 use Rattle.std.proofs.lemmas.Bool.{and_parts}
@@ -7,11 +7,10 @@ use Rattle.std.proofs.lemmas.List.{drop_all}
 use Rattle.miette_protocol.specs.rules.Reading.{Source, Span}
 use Rattle.miette_protocol.specs.views.Meaning.{Label}
 use Rattle.miette_lines.specs.rules.Contexts.{is_accepted}
-use Rattle.miette_brief.specs.rules.Rows.{Place}
-use Rattle.miette_brief.specs.rules.Places.{marked_span, primary_span, span_place, own_place}
+use Rattle.miette_brief.specs.rules.Places.{marked_span, primary_span}
 use Rattle.miette_brief.specs.rules.PossibleAnswers.{accepts}
-use Rattle.miette_brief.specs.steps.Reads.{IsUnread, IsBegin, IsCausePlace}
-use Rattle.miette_brief.proofs.Noting.{accepted_true, true_accepted}
+use Rattle.miette_brief.specs.steps.Reads.{IsUnread}
+use Rattle.miette_brief.proofs.Noting.{true_accepted}
 
 -- ---- of labels, the first that is marked
 
@@ -46,10 +45,6 @@ primary_nil label (x ∷ xs) n = absurd (omega (arith, n))
 
 -- ---- the primary label of labels that are accepted is
 
-not_true : (b : Bool) → (b ≡ true → ⊥) → b ≡ false
-not_true true h = absurd (h refl)
-not_true false h = refl
-
 marked_accepted : (bytes : List ℕ) (first : Span) (labels : List Label) → is_accepted bytes first ≡ true → list_all (λ l. is_accepted bytes l.span) labels ≡ true
     → is_accepted bytes (marked_span first labels) ≡ true
 marked_accepted bytes first [] f h = f
@@ -76,36 +71,3 @@ primary_refused source (label ∷ labels) found span e is h =
     (marked_accepted source.bytes label.span (label ∷ labels) (and_parts (is_accepted source.bytes label.span) (list_all (λ l. is_accepted source.bytes l.span) labels) all).0 all))))
 
 -- ---- the place of a cause
-
-pub cause_read : (at : Place) (source : Source) (labels : List Label) (found : Option Span) (span : Span) (begin : Option Place) (own : Place) → found ≡ primary_span labels
-    → found ≡ Some span → IsBegin source span begin → begin ≡ Some own → IsCausePlace at (Some source) labels own
-cause_read at source labels found span begin own e is h b =
-    let read : IsBegin source span (Some own) = subst (λ o. IsBegin source span o) b h in
-    let chosen : primary_span labels ≡ Some span = sym e ∙ is in
-    record {
-      fault = false;
-      possible = λ f. cc;
-      is = read.1 ∙ sym (ap (λ o. own_place at source false o) chosen ∙ ap (λ t. cond (t && true) (span_place source span) at) (accepted_true source.bytes span read.0));
-    }
-
-never_both : (b : Bool) (x y : Place) → cond (b && not b) x y ≡ y
-never_both true x y = refl
-never_both false x y = refl
-
-pub cause_unread : (at : Place) (source : Source) (labels : List Label) (found : Option Span) (span : Span) (begin : Option Place) → found ≡ primary_span labels
-    → found ≡ Some span → IsBegin source span begin → begin ≡ None → IsCausePlace at (Some source) labels at
-cause_unread at source labels found span begin e is h b =
-    let unread : IsBegin source span None = subst (λ o. IsBegin source span o) b h in
-    let chosen : primary_span labels ≡ Some span = sym e ∙ is in
-    record {
-      fault = is_accepted source.bytes span;
-      possible = λ f. unread (true_accepted source.bytes span f);
-      is = sym (ap (λ o. own_place at source (is_accepted source.bytes span) o) chosen ∙ never_both (is_accepted source.bytes span) (span_place source span) at);
-    }
-
-pub cause_unlabelled : (at : Place) (source : Source) (labels : List Label) (found : Option Span) → found ≡ primary_span labels → found ≡ None → IsCausePlace at (Some source) labels at
-cause_unlabelled at source labels found e is = record {
-  fault = false;
-  possible = λ f. cc;
-  is = ap (λ o. own_place at source false o) (sym (sym e ∙ is));
-}

@@ -177,9 +177,6 @@ each_row : (rows : List Row) → AllByRecursion (λ row. NoCharPasses is_control
 each_row [] = tt
 each_row (row ∷ rows) = ((text_clean row, text_nonempty row), each_row rows)
 
-rows_are : (rows : List Row) → IsRows (length rows) (rows_text rows)
-rows_are rows = record { rows = map row_text rows; are = ended_rows rows; many = length-map rows row_text; each = each_row rows }
-
 -- ---- how many
 
 note_counted : (at : Place) (text : Option (List ℕ)) → length (note_rows_of at text) ≡ one_if text

@@ -1,4 +1,5 @@
--- Worked examples: each is computed.
+-- Worked rows, as tests of the definition of brief reports. Nothing cites them: the check of this crate computes each, so
+-- it fails where the definition gives another text.
 use Rattle.std.proofs.Common.{◌≡◌, List, [], ◌∷◌, ◌++◌, ℕ, Option, Some, None, false, refl, codes}
 use Rattle.std.specs.Fmt.{digits}
 use Rattle.std.specs.Str.{chars}

@@ -2,7 +2,7 @@
 use Rattle.std.proofs.Common.{ℕ, suc, zero, ◌+◌, ◌≡◌, ◌<◌, ◌≤◌, List, [], ◌∷◌, ◌++◌, length, get_or, map, drop, add-one, Bool, true, false, ◌&&◌, ◌||◌, nat_le, Option, Some, None, refl, sym, ap, ap₂, subst, ◌∙◌, arith}
 use Rattle.std.specs.List.{list_all}
 use Rattle.std.proofs.Math.Seq.{drop-cons}
-use Rattle.std.proofs.lemmas.Bool.{and_parts, leb-true, le-leb}
+use Rattle.std.proofs.lemmas.Bool.{and_parts, leb-true}
 use Rattle.std.proofs.lemmas.List.{drop_all}
 use Rattle.miette_protocol.specs.rules.Reading.{Source, Span, IsAccepted}
 use Rattle.miette_protocol.specs.views.Meaning.{Label}
@@ -19,10 +19,6 @@ by_cases true t f = t refl
 by_cases false t f = f refl
 
 -- the test of a span says whether it is accepted
-
-pub accepted_true : (bytes : List ℕ) (span : Span) → IsAccepted bytes span → is_accepted bytes span ≡ true
-accepted_true bytes span h =
-    ap₂ (λ x y. x && y) (le-leb span.offset (length bytes) h.begins) (le-leb (end_of_span span) (length bytes + 1) h.ends)
 
 pub true_accepted : (bytes : List ℕ) (span : Span) → is_accepted bytes span ≡ true → IsAccepted bytes span
 true_accepted bytes span h =

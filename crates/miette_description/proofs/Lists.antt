@@ -1,5 +1,5 @@
 -- A list that is read item by item.
-use Rattle.std.proofs.Common.{Global, ◌≡◌, ℕ, suc, zero, ◌+◌, ◌<◌, ◌≤◌, List, [], ◌∷◌, ◌++◌, length, get_or, map, drop, Option, Some, None, option_map, refl, sym, ap, subst, ◌∙◌, add-one, append_assoc, append-nil, arith}
+use Rattle.std.proofs.Common.{Global, ◌≡◌, ℕ, suc, ◌+◌, ◌<◌, List, [], ◌∷◌, ◌++◌, length, get_or, map, drop, Option, Some, None, option_map, refl, sym, ap, subst, ◌∙◌, add-one, append_assoc}
 use Rattle.std.proofs.Math.Seq.{drop-cons}
 use Rattle.std.proofs.lemmas.List.{map-append}
 use Rattle.serde_json.specs.Data.{Data, item}
@@ -19,12 +19,6 @@ item_here vs i v h is =
 abbrev pub ReadSoFar : {A : Type 0} → (Data → Option A) → List (Value Global) → List A → ℕ → Type 0
 ReadSoFar reads vs old i = all_of reads (list_data vs) ≡ option_map (λ r. old ++ r) (all_of reads (list_data (drop i vs)))
 
-pub none_read : {A : Type 0} (reads : Data → Option A) (vs : List (Value Global)) → ReadSoFar reads vs [] 0
-none_read reads vs = same (all_of reads (list_data vs)) where
-  same : {A : Type 0} (o : Option (List A)) → o ≡ option_map (λ r. [] ++ r) o
-  same None = refl
-  same (Some xs) = refl
-
 pub one_read : {A : Type 0} (reads : Data → Option A) (vs : List (Value Global)) (old : List A) (i : ℕ) (v : Value Global) (x : A)
     → i < length vs → v ≡ get_or vs i v → reads (value_data v) ≡ Some x → ReadSoFar reads vs old i → ReadSoFar reads vs (old ++ x ∷ []) (i + 1)
 one_read reads vs old i v x h is e inv =
@@ -37,15 +31,6 @@ pub one_fails : {A : Type 0} (reads : Data → Option A) (vs : List (Value Globa
 one_fails reads vs old i v h is e inv =
     inv ∙ ap (λ l. option_map (λ r. old ++ r) (all_of reads l)) (item_here vs i v h is)
     ∙ ap (λ o. option_map (λ r. old ++ r) (and_then o (λ y. and_then (all_of reads (list_data (drop (i + 1) vs))) (λ ys. Some (y ∷ ys))))) e
-
-drop_past : {A : Type 0} (vs : List A) (i : ℕ) → length vs ≤ i → drop i vs ≡ []
-drop_past [] zero h = refl
-drop_past [] (suc i) h = refl
-drop_past (v ∷ vs) zero h = absurd (omega arith)
-drop_past (v ∷ vs) (suc i) h = drop_past vs i (omega arith)
-
-pub all_read : {A : Type 0} (reads : Data → Option A) (vs : List (Value Global)) (old : List A) (i : ℕ) → length vs ≤ i → ReadSoFar reads vs old i → all_of reads (list_data vs) ≡ Some old
-all_read reads vs old i h inv = inv ∙ ap (λ l. option_map (λ r. old ++ r) (all_of reads (list_data l))) (drop_past vs i h) ∙ ap Some (append-nil old)
 
 -- the same with what is made of each item
 pub one_read_as : {A B : Type 0} (reads : Data → Option B) (value : A → B) (vs : List (Value Global)) (old new : List A) (i : ℕ) (v : Value Global) (x : A)

@@ -9,7 +9,7 @@ use Rattle.json.specs.Find as parsed
 use Rattle.json.specs.Value.{value_view}
 use Rattle.json.specs.declared.value.Value.{Value}
 use Rattle.serde_json.specs.Data.{Num, unsigned, negative, float, Data, number, array, object, item, Members, no_members, member, put}
-use Rattle.serde_json.specs.Find.{get, get_member, as_null, as_bool, as_str, as_number, as_u64, is_float, to_float}
+use Rattle.serde_json.specs.Find.{get, get_member, as_u64, is_float, to_float}
 use Rattle.serde_json.specs.Read.{number_of, of_json, of_items, of_members}
 use Rattle.serde_json.specs.Written.{has_float, items_have_float, members_have_float}
 use Rattle.serde_json.proofs.Views.{get_member-put, get_member-put_other}
@@ -168,38 +168,6 @@ seen_of_ref (Some v) = refl
 
 pub found_seen : (r : Option (Bor (Value Global))) (k : List ℕ) (j : json.Json) → option_map (λ v. value_view v.now) r ≡ parsed.get k j → option_map (λ v. value_data v.now) r ≡ get k (data_of j)
 found_seen r k j e = seen_of_ref r ∙ ap (option_map data_of) e ∙ get_seen k j
-
-pub null_seen : (j : json.Json) → parsed.is_null j ≡ is_some (as_null (data_of j))
-null_seen json.null = refl
-null_seen (json.boolean b) = refl
-null_seen (json.number s) = refl
-null_seen (json.string s) = refl
-null_seen (json.array js) = refl
-null_seen (json.object ms) = refl
-
-pub truth_seen : (j : json.Json) → parsed.as_bool j ≡ as_bool (data_of j)
-truth_seen json.null = refl
-truth_seen (json.boolean b) = refl
-truth_seen (json.number s) = refl
-truth_seen (json.string s) = refl
-truth_seen (json.array js) = refl
-truth_seen (json.object ms) = refl
-
-pub text_seen : (j : json.Json) → parsed.as_str j ≡ as_str (data_of j)
-text_seen json.null = refl
-text_seen (json.boolean b) = refl
-text_seen (json.number s) = refl
-text_seen (json.string s) = refl
-text_seen (json.array js) = refl
-text_seen (json.object ms) = refl
-
-pub number_seen : (j : json.Json) → option_map number_data (parsed.as_number j) ≡ as_number (data_of j)
-number_seen json.null = refl
-number_seen (json.boolean b) = refl
-number_seen (json.number s) = refl
-number_seen (json.string s) = refl
-number_seen (json.array js) = refl
-number_seen (json.object ms) = refl
 
 -- a text whose value is made beside the parsed one
 pub value_seen : (o : Option Data) (j : json.Json) (b : Bool) → o ≡ of_json j → IsSome o → IfSome o (λ d. b ≡ has_float d) → (o ≡ Some (data_of j)) × (has_float (data_of j) ≡ b)

@@ -1,9 +1,9 @@
 -- What the rows of texts of labels that end on a line tell.
-use Rattle.miette_page.proofs.Paging.{put_append, put_nil}
+use Rattle.miette_page.proofs.Paging.{put_append}
 use Rattle.miette_page.specs.views.Printouts.{Printout, ◌⊕◌}
-use Rattle.std.proofs.Common.{ℕ, ◌+◌, ◌-◌, ◌<◌, ◌≤◌, ◌≡◌, Bool, true, false, cond, List, [], ◌∷◌, ◌++◌, map, length, drop, get_or, refl, sym, ap, ◌∙◌, append_assoc, append-nil}
+use Rattle.std.proofs.Common.{ℕ, ◌+◌, ◌-◌, ◌<◌, ◌≡◌, Bool, true, false, cond, List, [], ◌∷◌, ◌++◌, map, length, drop, get_or, refl, sym, ap, ◌∙◌, append_assoc, append-nil}
 use Rattle.std.specs.Prelude.{not, ◌&&◌}
-use Rattle.std.proofs.lemmas.List.{at_drop_more, at_drop_all, map-append}
+use Rattle.std.proofs.lemmas.List.{at_drop_more, map-append}
 use Rattle.miette_newlines.specs.rules.Lines.{Line}
 use Rattle.miette_protocol.specs.views.Meaning.{Label}
 use Rattle.miette_lines.specs.declared.sweep.Placed.{Placed}
@@ -32,10 +32,6 @@ closed_put w start gutter l bar part p b g n hb hg hn =
     row_done (start ++ (gutter ++ own)) p (g ⊕ row_tokens own) n
     (parts_then start (gutter ++ own) p b (g ⊕ row_tokens own) hb (parts_then gutter own b g (g ⊕ row_tokens own) hg refl))
     (hn ∙ sym (put_append g (styled_tokens l.style (bar ∷ 32 ∷ part)) (row_end ∷ [])) ∙ ap (λ x. (g ⊕ x) ⊕ row_end ∷ []) (sym (styled_row w l.style (bar ∷ 32 ∷ part))))
-
-pub one_closing : (w : ℕ → ℕ) (t : Characters) (line : Line) (columns : ℕ) (multi : List DrawnLabel) (l : DrawnLabel) (start : Row) (parts : List (List ℕ)) (part : List ℕ) (p q : Printout) → parts ≡ part ∷ [] →
-    q ≡ p ⊕ rows_tokens ((start ++ (other_gutter w t line columns multi ++ part_run w l t.hbar part ∷ [])) ∷ []) → q ≡ p ⊕ rows_tokens (before_each start (closing_parts w t line columns multi l parts))
-one_closing w t line columns multi l start parts part p q e h = h ∙ ap (λ xs. p ⊕ rows_tokens (before_each start (closing_parts w t line columns multi l xs))) (sym e)
 
 before_mapped : (before : Row) (g : List ℕ → Row) (parts : List (List ℕ)) → before_each before (map g parts) ≡ map (λ p. before ++ g p) parts
 before_mapped before g [] = refl
@@ -91,8 +87,3 @@ closing_skip w t line columns multi start ls placed i p whole lt e h =
     let later : List DrawnLabel = map (drawn_of ls) (drop (i + 1) placed) in
     ap (λ b. p ⊕ chosen w t line columns multi start l later b) (sym e)
     ∙ ap (λ xs. p ⊕ rest_of w t line columns multi start xs) (sym (at_drop_more (map (drawn_of ls)) placed i nothing lt)) ∙ h
-
-pub closing_end : (w : ℕ → ℕ) (t : Characters) (line : Line) (columns : ℕ) (multi : List DrawnLabel) (start : Row) (ls : List Label) (placed : List Placed) (i : ℕ) (p whole : Printout) → length placed ≤ i →
-    p ⊕ rest_of w t line columns multi start (map (drawn_of ls) (drop i placed)) ≡ whole → p ≡ whole
-closing_end w t line columns multi start ls placed i p whole le h =
-    sym (put_nil p) ∙ ap (λ xs. p ⊕ rest_of w t line columns multi start xs) (sym (at_drop_all (map (drawn_of ls)) placed i le)) ∙ h

@@ -34,24 +34,8 @@ pub at_last : (f : Gutter) (ls : List Label) (placed : List Placed) (i : ℕ) (r
 at_last f ls placed i row new whole own lt e n h =
     n ∙ ap (λ r. row ⊕ r) (sym e) ∙ ap (λ r. row ⊕ row_tokens (f r)) (sym (at_drop_more (map (drawn_of ls)) placed i nothing lt)) ∙ h
 
-pub at_more : (f g : Gutter) (ls : List Label) (placed : List Placed) (i : ℕ) (row new whole : Printout) (own : List Token) → i < length placed →
-    row_tokens (f (drawn_of ls (get_or placed i nothing) ∷ map (drawn_of ls) (drop (i + 1) placed))) ≡ own ++ row_tokens (g (map (drawn_of ls) (drop (i + 1) placed))) → new ≡ row ⊕ own →
-    row ⊕ row_tokens (f (map (drawn_of ls) (drop i placed))) ≡ whole → new ⊕ row_tokens (g (map (drawn_of ls) (drop (i + 1) placed))) ≡ whole
-at_more f g ls placed i row new whole own lt e n h =
-    let rest : List Token = row_tokens (g (map (drawn_of ls) (drop (i + 1) placed))) in
-    ap (λ r. r ⊕ rest) n ∙ put_append row own rest ∙ ap (λ r. row ⊕ r) (sym e) ∙ ap (λ r. row ⊕ row_tokens (f r)) (sym (at_drop_more (map (drawn_of ls)) placed i nothing lt)) ∙ h
-
--- a gutter goes on behind a label's bar
-pub bar_told : (w : ℕ → ℕ) (t : Characters) (style : Style) (rest : Row) → row_tokens (styled_run w style (t.vbar ∷ []) ∷ rest) ≡ styled_tokens style (t.vbar ∷ []) ++ row_tokens rest
-bar_told w t style rest = ap (λ r. r ++ row_tokens rest) (styled_told w style (t.vbar ∷ []))
-
 abbrev more_of_other : (ℕ → ℕ) → Characters → Line → ℕ → DrawnLabel → List DrawnLabel → Bool → Row
 more_of_other w t line left l ls b = cond b (styled_run w l.style (t.lbot ∷ replicate (left - 1) t.hbar) ∷ []) (styled_run w l.style (t.vbar ∷ []) ∷ other_gutter w t line (left - 1) ls)
-
-pub other_more : (w : ℕ → ℕ) (t : Characters) (line : Line) (left less : ℕ) (l : DrawnLabel) (ls : List DrawnLabel) → ends_on line l ≡ false → less ≡ left - 1 →
-    row_tokens (other_gutter w t line left (l ∷ ls)) ≡ styled_tokens l.style (t.vbar ∷ []) ++ row_tokens (other_gutter w t line less ls)
-other_more w t line left less l ls e z =
-    ap (λ b. row_tokens (more_of_other w t line left l ls b)) e ∙ bar_told w t l.style (other_gutter w t line (left - 1) ls) ∙ ap (λ k. styled_tokens l.style (t.vbar ∷ []) ++ row_tokens (other_gutter w t line k ls)) (sym z)
 
 pub other_last : (w : ℕ → ℕ) (t : Characters) (line : Line) (left less : ℕ) (l : DrawnLabel) (ls : List DrawnLabel) → ends_on line l ≡ true → less ≡ left - 1 →
     row_tokens (other_gutter w t line left (l ∷ ls)) ≡ styled_tokens l.style (t.lbot ∷ replicate less t.hbar)
@@ -60,11 +44,6 @@ other_last w t line left less l ls e z =
 
 abbrev more_of_open : (ℕ → ℕ) → Characters → Line → ℕ → DrawnLabel → List DrawnLabel → Bool → Row
 more_of_open w t line left l ls b = cond b (blank w left ∷ []) (styled_run w l.style (t.vbar ∷ []) ∷ open_gutter w t line (left - 1) ls)
-
-pub open_more : (w : ℕ → ℕ) (t : Characters) (line : Line) (left less : ℕ) (l : DrawnLabel) (ls : List DrawnLabel) → ends_on line l ≡ false → less ≡ left - 1 →
-    row_tokens (open_gutter w t line left (l ∷ ls)) ≡ styled_tokens l.style (t.vbar ∷ []) ++ row_tokens (open_gutter w t line less ls)
-open_more w t line left less l ls e z =
-    ap (λ b. row_tokens (more_of_open w t line left l ls b)) e ∙ bar_told w t l.style (open_gutter w t line (left - 1) ls) ∙ ap (λ k. styled_tokens l.style (t.vbar ∷ []) ++ row_tokens (open_gutter w t line k ls)) (sym z)
 
 pub open_last : (w : ℕ → ℕ) (t : Characters) (line : Line) (left : ℕ) (l : DrawnLabel) (ls : List DrawnLabel) → ends_on line l ≡ true →
     row_tokens (open_gutter w t line left (l ∷ ls)) ≡ styled_tokens plain (replicate left 32)
@@ -92,12 +71,6 @@ pub number_ends : (w : ℕ → ℕ) (t : Characters) (line : Line) (left corner 
     row_tokens (number_gutter w t line left (l ∷ ls)) ≡ arrow_told t l.style corner left
 number_ends w t line left corner l ls s e k =
     ap (λ b. row_tokens (more_of_number w t line left l ls b)) s ∙ ap (λ b. row_tokens (unless_starts w t line left l ls b)) e ∙ arrow_row w t l (ending_corner t l.parts) left ∙ ap (λ c. arrow_told t l.style c left) (sym k)
-
-pub number_more : (w : ℕ → ℕ) (t : Characters) (line : Line) (left less : ℕ) (l : DrawnLabel) (ls : List DrawnLabel) → starts_on line l ≡ false → ends_on line l ≡ false → less ≡ left - 1 →
-    row_tokens (number_gutter w t line left (l ∷ ls)) ≡ styled_tokens l.style (t.vbar ∷ []) ++ row_tokens (number_gutter w t line less ls)
-number_more w t line left less l ls s e z =
-    ap (λ b. row_tokens (more_of_number w t line left l ls b)) s ∙ ap (λ b. row_tokens (unless_starts w t line left l ls b)) e ∙ bar_told w t l.style (number_gutter w t line (left - 1) ls)
-    ∙ ap (λ k. styled_tokens l.style (t.vbar ∷ []) ++ row_tokens (number_gutter w t line k ls)) (sym z)
 
 corner_onto : (t : Characters) (code : ℕ) (parts : List (List ℕ)) → t.lcross ≡ ending_corner t (onto_part code parts)
 corner_onto t code [] = refl

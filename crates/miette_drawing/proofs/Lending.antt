@@ -31,7 +31,7 @@ use Rattle.miette_drawing.specs.views.SnippetRows.{cells_in, text_in, texts_in, 
 use Rattle.miette_lines.specs.views.Placing.{end_drawn, is_told, placed_from}
 use Rattle.miette_lines.specs.views.Reads.{IsRead}
 use Rattle.miette_newlines.specs.views.Walking.{line_of_text}
-use Rattle.miette_lines.specs.views.Sweeping.{is_one, is_multi, nothing, start_at, AreSorted, IsAt}
+use Rattle.miette_lines.specs.views.Sweeping.{is_one, is_multi, nothing, start_at, AreSorted}
 use Rattle.miette_lines.specs.views.LabelCounts.{most_multi}
 use Rattle.miette_page.specs.views.Tokens.{Token, row_tokens, rows_tokens, row_end}
 use Rattle.miette_lines.proofs.Numbers.{by_cases}
@@ -208,10 +208,6 @@ placed_sorted ends styles context source labels reads h e =
     let from : ℕ = cond (is_told (end_told ends (length source.bytes)) 0) (0 - 1) 0 in
     let k : Ascends from ps = placed_ascends ends styles context source labels 0 0 reads h up in
     record { order = λ i j le lt. ascends-order from i j ps k le lt; drawn = λ i lt. ascends-drawn from i ps k lt }
-
--- a sweep at the beginning
-pub at_start : (labels : List Placed) → IsAt labels 0 0 []
-at_start labels = record { count = omega arith; before = λ k lt. absurd (omega (arith, lt)); later = λ k le lt. omega arith; carried = refl }
 
 pub told_parts : (p0 p1 p2 p3 : Printout) (top bottom : Row) (body : List Row) → p1 ≡ p0 ⊕ rows_tokens (top ∷ []) → p2 ≡ p1 ⊕ rows_tokens body → p3 ≡ p2 ⊕ rows_tokens (bottom ∷ []) →
     p3 ≡ p0 ⊕ rows_tokens (top ∷ body ++ bottom ∷ [])

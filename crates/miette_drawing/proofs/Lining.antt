@@ -53,13 +53,6 @@ tab_put cell n p q e z h =
     same : (a b : ℕ) → a ≡ b → eqb a b ≡ true
     same a b h = grind (arith, nat_tests)
 
-pub code_put : (cell : Cell) (p q : Printout) → (cell.code ≡ 9 → ⊥) → q ≡ p ⊕ text_tokens (cell.code ∷ []) → q ≡ p ⊕ text_tokens (map (λ p. p.code) (printed_pieces cell))
-code_put cell p q e h =
-    h ∙ ap (λ b. p ⊕ print_by cell b) (sym (apart cell.code 9 e))
-  where
-    apart : (a b : ℕ) → (a ≡ b → ⊥) → eqb a b ≡ false
-    apart a b h = grind (arith, nat_tests)
-
 -- cells
 cells_told-cons : (cell : Cell) (cells : List Cell) → cells_tokens (cell ∷ cells) ≡ text_tokens (map (λ p. p.code) (printed_pieces cell)) ++ cells_tokens cells
 cells_told-cons cell cells = ap text_tokens (map-append _ (printed_pieces cell) (printed_cells cells)) ∙ told_append (map (λ p. p.code) (printed_pieces cell)) (map (λ p. p.code) (printed_cells cells))
@@ -67,9 +60,6 @@ cells_told-cons cell cells = ap text_tokens (map-append _ (printed_pieces cell) 
 pub cells_more : (cell : Cell) (cells later : List Cell) (p q whole : Printout) → cells ≡ cell ∷ later → q ≡ p ⊕ text_tokens (map (λ p. p.code) (printed_pieces cell)) → p ⊕ cells_tokens cells ≡ whole → q ⊕ cells_tokens later ≡ whole
 cells_more cell cells later p q whole e hq h =
     ap (λ x. x ⊕ cells_tokens later) hq ∙ put_append p (text_tokens (map (λ p. p.code) (printed_pieces cell))) (cells_tokens later) ∙ ap (λ x. p ⊕ x) (sym (cells_told-cons cell later)) ∙ ap (λ x. p ⊕ cells_tokens x) (sym e) ∙ h
-
-pub cells_end : (cells : List Cell) (p whole : Printout) → cells ≡ [] → p ⊕ cells_tokens cells ≡ whole → p ≡ whole
-cells_end cells p whole e h = sym (put_nil p) ∙ ap (λ x. p ⊕ cells_tokens x) (sym e) ∙ h
 
 -- the cells that fill so many bytes
 unequal : (n : ℕ) → 0 < n → eqb n 0 ≡ false

@@ -38,12 +38,6 @@ pub plain_columns : (offset column : ℕ) (bs : List ℕ) → cells_width column
 plain_columns offset column [] = omega arith
 plain_columns offset column (b ∷ bs) = plain_columns (offset + 1) (column + 1) bs ∙ omega arith
 
-to_lt : (a b : ℕ) → a < b → ltb a b ≡ true
-to_lt a b h = grind (arith, nat_tests)
-
-to_le : (a b : ℕ) → a ≤ b → leb a b ≡ true
-to_le a b h = grind (arith, nat_tests)
-
 not_lt : (a b : ℕ) → b ≤ a → ltb a b ≡ false
 not_lt a b h = grind (arith, nat_tests)
 

@@ -1,6 +1,6 @@
 -- Columns of offsets, found from stops.
-use Rattle.std.proofs.Common.{ℕ, zero, suc, ◌+◌, ◌<◌, ◌≤◌, ◌≡◌, Bool, true, false, ltb, leb, List, [], ◌∷◌, map, length, drop, refl, sym, ap, subst, ◌∙◌, arith}
-use Rattle.std.proofs.lemmas.Bool.{le-ltb, lt-ltb, le-leb, lt-leb}
+use Rattle.std.proofs.Common.{ℕ, zero, suc, ◌+◌, ◌<◌, ◌≤◌, ◌≡◌, Bool, false, ltb, leb, List, [], ◌∷◌, map, length, drop, refl, sym, ap, subst, ◌∙◌, arith}
+use Rattle.std.proofs.lemmas.Bool.{le-ltb, lt-leb}
 use Rattle.std.proofs.lemmas.List.{length-drop}
 use Rattle.bstr.specs.Utf8.{decoded, pieces, or_replacement, Decoded}
 use Rattle.bstr.proofs.lemmas.PieceLemmas.{pieces-step, pieces-nil, piece-bounds}
@@ -14,24 +14,12 @@ first_later cell left e w o le = let f : ltb o cell.after ≡ false = le-ltb o c
 last_later : (cell : Cell) (left : List Cell) (e w o : ℕ) → cell.start < o → last_column left e w o ≡ last_column (cell ∷ left) e w o
 last_later cell left e w o lt = let f : leb o cell.start ≡ false = lt-leb o cell.start lt in rw f refl
 
-first_here : (cell : Cell) (left : List Cell) (e w o : ℕ) → o < cell.after → cell.from ≡ first_column (cell ∷ left) e w o
-first_here cell left e w o lt = let t : ltb o cell.after ≡ true = lt-ltb o cell.after lt in rw t refl
-
-last_here : (cell : Cell) (left : List Cell) (e w o : ℕ) → o ≤ cell.start → cell.from ≡ last_column (cell ∷ left) e w o
-last_here cell left e w o le = let t : leb o cell.start ≡ true = le-leb o cell.start le in rw t refl
-
 -- a step of a walk
 pub first_passed : (cell : Cell) (walk left : List Cell) (e w o : ℕ) → walk ≡ cell ∷ left → cell.after ≤ o → first_column left e w o ≡ first_column walk e w o
 first_passed cell walk left e w o is le = first_later cell left e w o le ∙ ap (λ cs. first_column cs e w o) (sym is)
 
 pub last_passed : (cell : Cell) (walk left : List Cell) (e w o : ℕ) → walk ≡ cell ∷ left → cell.start < o → last_column left e w o ≡ last_column walk e w o
 last_passed cell walk left e w o is lt = last_later cell left e w o lt ∙ ap (λ cs. last_column cs e w o) (sym is)
-
-pub first_met : (cell : Cell) (walk left : List Cell) (e w o : ℕ) → walk ≡ cell ∷ left → o < cell.after → cell.from ≡ first_column walk e w o
-first_met cell walk left e w o is lt = first_here cell left e w o lt ∙ ap (λ cs. first_column cs e w o) (sym is)
-
-pub last_met : (cell : Cell) (walk left : List Cell) (e w o : ℕ) → walk ≡ cell ∷ left → o ≤ cell.start → cell.from ≡ last_column walk e w o
-last_met cell walk left e w o is le = last_here cell left e w o le ∙ ap (λ cs. last_column cs e w o) (sym is)
 
 -- the columns so far
 pub width_passed : (cell : Cell) (walk left : List Cell) (column : ℕ) → walk ≡ cell ∷ left → cells_width cell.until left ≡ cells_width column walk

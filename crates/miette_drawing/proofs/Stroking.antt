@@ -1,10 +1,10 @@
 -- What mark rows tell.
-use Rattle.miette_page.proofs.Paging.{put_append, put_nil}
+use Rattle.miette_page.proofs.Paging.{put_append}
 use Rattle.miette_page.specs.views.Printouts.{Printout, ◌⊕◌}
 use Rattle.std.proofs.Common.{ℕ, zero, suc, ◌+◌, ◌-◌, ◌<◌, ◌≤◌, ◌≡◌, true, false, cond, eqb, List, [], ◌∷◌, ◌++◌, map, length, drop, get_or, replicate, refl, sym, ap, ◌∙◌, append_assoc, append-nil, arith, Option, Some}
 use Rattle.std.specs.Prelude.{encode_utf8, chars}
 use Rattle.std.proofs.lemmas.Bool.Decides.{nat_tests}
-use Rattle.std.proofs.lemmas.List.{at_drop_more, at_drop_all, map-append}
+use Rattle.std.proofs.lemmas.List.{at_drop_more, map-append}
 use Rattle.std.specs.List.{range_with_len}
 use Rattle.miette_protocol.specs.views.Meaning.{Label}
 use Rattle.miette_style.specs.declared.style.Style.{Style}
@@ -84,10 +84,6 @@ mark_more w t ls marks i reached gap d row spaced new whole lt z s n h =
     ∙ put_append row (styled_tokens plain (replicate (m.from - reached) 32)) (run_tokens (mark_run w t m) ++ rest)
     ∙ ap (λ r. row ⊕ (r ++ (run_tokens (mark_run w t m) ++ rest))) (sym (blank_told w (m.from - reached)))
     ∙ ap (λ xs. row ⊕ row_tokens (mark_runs w t reached xs)) (sym (at_drop_more (map (mark_of ls)) marks i d lt)) ∙ h
-
-pub mark_end : (w : ℕ → ℕ) (t : Characters) (ls : List Label) (marks : List MadeMark) (i reached : ℕ) (row whole : Printout) → length marks ≤ i → row ⊕ row_tokens (mark_runs w t reached (map (mark_of ls) (drop i marks))) ≡ whole → row ≡ whole
-mark_end w t ls marks i reached row whole le h =
-    sym (put_nil row) ∙ ap (λ xs. row ⊕ row_tokens (mark_runs w t reached xs)) (sym (at_drop_all (map (mark_of ls)) marks i le)) ∙ h
 
 -- the character of a label with a text
 middle_onto : (t : Characters) (code : ℕ) (parts : List (List ℕ)) → t.underbar ≡ code_with_parts t (onto_part code parts)

@@ -1,20 +1,15 @@
 -- Pieces of a highlighter, and rows of lines that are left plain.
-use Rattle.std.proofs.Common.{ℕ, ◌+◌, ◌≤◌, ◌<◌, ◌≡◌, ◌≢◌, ◌∙◌, ◌++◌, ◌&&◌, ◌↔◌, IsTrue, length, Bool, true, false, List, [], ◌∷◌, map, get_or, Option, Some, None, arith, refl, sym, ap, ap₂, subst}
-use Rattle.std.specs.Prelude.{not, is_none, if◌then◌else◌}
-use Rattle.std.specs.Cmp.{first_so, second_so}
-use Rattle.std.proofs.lemmas.Bool.{false≢true}
+use Rattle.std.proofs.Common.{ℕ, ◌+◌, ◌≡◌, ◌∙◌, ◌++◌, length, Bool, true, List, [], ◌∷◌, map, refl, sym, ap, ap₂, subst}
 use Rattle.miette_newlines.specs.rules.Lines.{Line}
 use Rattle.miette_protocol.specs.views.Meaning.{Label}
 use Rattle.miette_protocol.specs.rules.Reading.{Span, Source, Contents}
 use Rattle.miette_style.specs.rules.Pieces.{CutsLine, Piece}
-use Rattle.miette_style.specs.rules.HighlighterCalls.{Call, asked, restarted, Leads, listed_pieces, is_unset}
-use Rattle.miette_style.specs.rules.Styles.{plain}
-use Rattle.miette_style.specs.declared.style.Style.{Style}
+use Rattle.miette_style.specs.rules.HighlighterCalls.{Call, asked, restarted, Leads}
 use Rattle.miette_lines.specs.rules.Answers.{Highlight, first_of, later_of}
 use Rattle.miette_lines.specs.rules.Contexts.{contents, lines_of_contents}
 use Rattle.miette_snippets.specs.rules.Frames.{SnippetSettings, top_row, bottom_row, number_width}
 use Rattle.miette_snippets.specs.rules.Gutters.{gutter_columns}
-use Rattle.miette_snippets.specs.rules.Highlighting.{ArePieces, EachHasPieces, SnippetsHavePieces, highlight_of, piece_of, texts_of, follows, line_calls, group_calls}
+use Rattle.miette_snippets.specs.rules.Highlighting.{ArePieces, EachHasPieces, SnippetsHavePieces, highlight_of, piece_of, texts_of, line_calls, group_calls}
 use Rattle.miette_lines.specs.rules.Labels.{DrawnLabel}
 use Rattle.miette_snippets.specs.rules.SnippetLayout.{line_rows, rows_of_lines, cells_of, drawn_labels, all_snippets, place_of}
 
@@ -65,12 +60,6 @@ snippets_plain s source labels pieces (group ∷ groups) h =
 pub call_for : (before after : List Call → Type 0) (text : List ℕ) (got ps : List Piece) → got ≡ ps → Leads before (asked text ps ∷ []) after → Leads before (asked text (map piece_of (map highlight_of got)) ∷ []) after
 call_for before after text got ps e h = subst (λ (qs : List Piece). Leads before (asked text qs ∷ []) after) (sym (same_pieces got ∙ e)) h
 
--- calls on the highlighter that an option holds
-pub some_calls : {H : Type 0} (may_follow : H → List Call → Type 0) (old new : Option H) (before after : H) (calls : List Call) → old ≡ Some before → new ≡ Some after →
-    Leads (may_follow before) calls (may_follow after) → Leads (follows may_follow old) calls (follows may_follow new)
-some_calls may_follow old new before after calls o n h =
-    subst (λ had. Leads (follows may_follow had) calls (follows may_follow new)) (sym o) (subst (λ has. Leads (may_follow before) calls (follows may_follow has)) (sym n) h)
-
 lines_plain : (texts : List (List ℕ)) (pieces : List (List Highlight)) → EachHasPieces true texts pieces → line_calls texts pieces ≡ line_calls texts []
 lines_plain [] pieces h = refl
 lines_plain (text ∷ texts) pieces h = ap₂ (λ ps calls. asked text (map piece_of ps) ∷ calls) (h.0.none refl) (lines_plain texts (later_of pieces) h.1)
@@ -84,45 +73,3 @@ calls_plain context source (group ∷ groups) pieces h =
     ap₂ (λ own more. restarted read ∷ own ++ more) (lines_plain (texts_of source.bytes (lines_of_contents read)) (first_of pieces) h.0) (calls_plain context source groups (later_of pieces) h.1)
 
 -- ---- what counts of an answer
-
-none_of : {A : Type 0} (o : Option A) → is_none o ≡ true → o ≡ None
-none_of None h = refl
-none_of (Some x) h = absurd (false≢true h)
-
-not_of : (b : Bool) → not b ≡ true → b ≡ false
-not_of true h = absurd (false≢true h)
-not_of false h = refl
-
-unset_plain : (s : Style) → is_unset s ≡ true → s ≡ plain
-unset_plain s h =
-    let four = first_so (is_none s.fg && not s.bold && not s.dimmed && not s.italic) (not s.underline) h in
-    let three = first_so (is_none s.fg && not s.bold && not s.dimmed) (not s.italic) four in
-    let two = first_so (is_none s.fg && not s.bold) (not s.dimmed) three in
-    let fg = none_of s.fg (first_so (is_none s.fg) (not s.bold) two) in
-    let bold = not_of s.bold (second_so (is_none s.fg) (not s.bold) two) in
-    let dimmed = not_of s.dimmed (second_so (is_none s.fg && not s.bold) (not s.dimmed) three) in
-    let italic = not_of s.italic (second_so (is_none s.fg && not s.bold && not s.dimmed) (not s.italic) four) in
-    let underline = not_of s.underline (second_so (is_none s.fg && not s.bold && not s.dimmed && not s.italic) (not s.underline) h) in
-    λ i. record { fg = fg i; bold = bold i; dimmed = dimmed i; italic = italic i; underline = underline i }
-
-kept_if : (u : Bool) (ps : List Piece) → u ≢ true → (if u then [] else ps) ≡ ps
-kept_if true ps h = absurd (h refl)
-kept_if false ps h = refl
-
-kept : (p : Piece) → is_unset p.1 ≢ true → listed_pieces (p ∷ []) ≡ p ∷ []
-kept p h = kept_if (is_unset p.1) (p ∷ []) h
-
-pub listed_one : (ps : List Piece) (p : Piece) (b : Bool) → ps ≡ p ∷ [] → (IsTrue b ↔ (p.1 ≡ plain)) → listed_pieces ps ≡ (if b then [] else ps)
-listed_one ps p true e h = let unset : is_unset p.1 ≡ true = ap is_unset (h.0 refl) in ap listed_pieces e ∙ ap (λ (u : Bool). if u then [] else p ∷ []) unset
-listed_one ps p false e h = ap listed_pieces e ∙ kept p (λ u. false≢true (h.1 (unset_plain p.1 u))) ∙ sym e
-
-pub listed_others : (ps : List Piece) → length ps ≢ 1 → listed_pieces ps ≡ ps
-listed_others [] h = refl
-listed_others (p ∷ []) h = absurd (h refl)
-listed_others (p ∷ q ∷ ps) h = refl
-
--- where there is but one
-pub listed_single : (ps : List Piece) (p : Piece) (b : Bool) → 1 ≤ length ps → length ps < 2 → p ≡ get_or ps 0 p → (IsTrue b ↔ (p.1 ≡ plain)) → listed_pieces ps ≡ (if b then [] else ps)
-listed_single [] p b some few is h = absurd (omega (arith, some))
-listed_single (q ∷ []) p b some few is h = listed_one (q ∷ []) p b (ap (λ x. x ∷ []) (sym is)) h
-listed_single (q ∷ r ∷ ps) p b some few is h = absurd (omega (arith, few))

@@ -1,5 +1,5 @@
 -- What the rows of texts tell.
-use Rattle.miette_page.proofs.Paging.{put_append, put_nil}
+use Rattle.miette_page.proofs.Paging.{put_append}
 use Rattle.miette_page.specs.views.Printouts.{Printout, ◌⊕◌}
 use Rattle.std.proofs.Common.{ℕ, ◌+◌, ◌-◌, ◌<◌, ◌≤◌, ◌≡◌, List, [], ◌∷◌, ◌++◌, map, length, drop, take, get_or, replicate, refl, sym, ap, ◌∙◌, append_assoc, append-nil}
 use Rattle.std.proofs.lemmas.List.{at_drop_more, at_drop_all, map-append, take_more}
@@ -11,7 +11,7 @@ use Rattle.miette_page.specs.rules.Rows.{Row, styled_run}
 use Rattle.miette_style.specs.rules.Styles.{plain}
 use Rattle.miette_lines.specs.rules.Labels.{cut_at_lf}
 use Rattle.miette_snippets.specs.rules.Marks.{Mark, anchor}
-use Rattle.miette_snippets.specs.rules.Drawing.{blank, lead_runs, text_row, beside, corner, corner_of_several, rows_of_parts, rows_below}
+use Rattle.miette_snippets.specs.rules.Drawing.{blank, lead_runs, text_row, beside, corner_of_several, rows_of_parts, rows_below}
 use Rattle.miette_snippets.specs.rules.SnippetLayout.{before_each}
 use Rattle.miette_drawing.specs.steps.Marks.{mark_of}
 use Rattle.miette_page.specs.views.Tokens.{Token, row_end, row_tokens, run_tokens, rows_tokens, styled_tokens, text_tokens}
@@ -99,10 +99,6 @@ before_mapped : (before : Row) (g : List ℕ → Row) (parts : List (List ℕ)) 
 before_mapped before g [] = refl
 before_mapped before g (part ∷ parts) = ap (λ r. (before ++ g part) ∷ r) (before_mapped before g parts)
 
-pub one_part : (w : ℕ → ℕ) (t : Characters) (before : Row) (earlier : List Mark) (m : Mark) (parts : List (List ℕ)) (part : List ℕ) (p q : Printout) → parts ≡ part ∷ [] →
-    q ≡ p ⊕ rows_tokens ((before ++ text_row w t earlier m (corner t) part) ∷ []) → q ≡ p ⊕ rows_tokens (before_each before (rows_of_parts w t earlier m parts))
-one_part w t before earlier m parts part p q e h = h ∙ ap (λ xs. p ⊕ rows_tokens (before_each before (rows_of_parts w t earlier m xs))) (sym e)
-
 several_at : (w : ℕ → ℕ) (t : Characters) (earlier : List Mark) (m : Mark) (part : List ℕ) (more : List (List ℕ)) (next : List ℕ) (others : List (List ℕ)) → more ≡ next ∷ others →
     text_row w t earlier m (corner_of_several t) part ∷ map (text_row w t earlier m (beside t)) more ≡ rows_of_parts w t earlier m (part ∷ more)
 several_at w t earlier m part more next others e =
@@ -140,8 +136,3 @@ below_more w t ls before marks next k d p q r lt z hq hr =
     rows_then (before_each before a) (before_each before b) p q r h hr
     ∙ ap (λ xs. p ⊕ rows_tokens xs) (sym (before-append before a b))
     ∙ ap (λ xs. p ⊕ rows_tokens (before_each before (rows_below w t earlier xs))) (sym (at_drop_more (map (mark_of ls)) marks k d lt))
-
-pub below_none : (w : ℕ → ℕ) (t : Characters) (ls : List Label) (before : Row) (marks : List MadeMark) (k : ℕ) (p : Printout) → length marks ≤ k →
-    p ≡ p ⊕ rows_tokens (before_each before (rows_below w t (map (mark_of ls) (take k marks)) (map (mark_of ls) (drop k marks))))
-below_none w t ls before marks k p le =
-    sym (put_nil p) ∙ ap (λ xs. p ⊕ rows_tokens (before_each before (rows_below w t (map (mark_of ls) (take k marks)) xs))) (sym (at_drop_all (map (mark_of ls)) marks k le))

@@ -1,8 +1,7 @@
 -- The rows of snippets under answers: where nothing fails, they are those in which nothing is listed.
-use Rattle.std.proofs.Common.{◌≡◌, ◌≢◌, ℕ, Bool, true, false, ◌&&◌, ◌||◌, if◌then◌else◌, ◌⊎◌, inl, inr, List, [], ◌∷◌, refl, sym, ap, ap₂, ◌∙◌, subst, Option, Some, None, is_some, option_map, codes, length, ◌<◌, ◌≤◌, arith, ◌++◌}
+use Rattle.std.proofs.Common.{◌≡◌, ◌≢◌, ℕ, Bool, true, false, ◌&&◌, ◌||◌, if◌then◌else◌, ◌⊎◌, inl, inr, List, [], ◌∷◌, refl, sym, ap, ap₂, ◌∙◌, subst, Option, Some, None, is_some, option_map, codes, length, ◌<◌, arith, ◌++◌}
 use Rattle.miette_protocol.specs.views.Meaning.{Label, Meaning}
 use Rattle.miette_protocol.specs.rules.Reading.{Source, Span}
-use Rattle.miette_style.specs.rules.Codes.{is_nil}
 use Rattle.miette_lines.specs.rules.Answers.{Highlight, NoneFails, AlwaysReads, next_answer, later_answers}
 use Rattle.miette_lines.specs.rules.Contexts.{is_accepted, contents, lines_of_contents}
 use Rattle.miette_style.specs.rules.HighlighterCalls.{Call, Leads}
@@ -208,21 +207,6 @@ drawn_unlabelled s blank now source m text e t = (
   t ∙ ap (λ ls. rows_text (drawn_rows s (Some source) ls nothing_listed)) (sym e),
 )
 
-reads_some : (source : Source) (labels : List Label) → labels ≢ [] → (if is_nil labels then true else source.always_reads) ≡ source.always_reads
-reads_some source [] h = absurd (h refl)
-reads_some source (label ∷ labels) h = refl
-
-pub drawn_labelled : (happen : List Call → Type 0) (s : Settings) (blank : Bool) (source : Source) (m : Meaning) (text : List ℕ) → given_labels m.labels ≢ [] → AreDrawn s blank happen source (given_labels m.labels) text →
-    IsDrawn drawn_rows s blank happen (Some source) m text
-drawn_labelled happen s blank source m text some d =
-    (d.0, record { read = λ h. d.1.read (sym (reads_some source (given_labels m.labels) some) ∙ h); plain = d.1.plain; pieces = d.1.pieces; rows = d.1.rows }, d.2, d.3)
-
-pub refused_labelled : (source : Source) (m : Meaning) → given_labels m.labels ≢ [] → source.always_reads ≡ false → always_reads (Some source) m ≡ false
-refused_labelled source m some e = reads_some source (given_labels m.labels) some ∙ e
-
 pub empty_list : {A : Type 0} (xs : List A) → length xs < 1 → xs ≡ []
 empty_list [] h = refl
 empty_list (x ∷ xs) h = absurd (omega arith)
-
-pub some_list : {A : Type 0} (xs : List A) → 1 ≤ length xs → xs ≢ []
-some_list xs h e = let none : length xs ≡ 0 = ap length e in absurd (omega arith)

@@ -1,6 +1,6 @@
 -- A number that falls on the way down a tree.
-use Rattle.std.proofs.Common.{ℕ, suc, zero, ◌+◌, ◌<◌, List, [], ◌∷◌, length, get_or, map, arith}
-use Rattle.miette_tree.specs.rules.Tree.{Tree, tree, Cause, diagnostic, texts, Trees, no_trees, more_trees, cause_of, related_of, trees}
+use Rattle.std.proofs.Common.{ℕ, suc, ◌+◌, ◌<◌, [], arith}
+use Rattle.miette_tree.specs.rules.Tree.{Tree, tree, Cause, diagnostic, texts, Trees, no_trees, more_trees, cause_of, related_of}
 
 abbrev mutual
   pub tree_size : Tree → ℕ
@@ -19,9 +19,3 @@ cause_falls (tree m s c r) = omega arith
 
 pub related_falls : (t : Tree) → suc (suc (suc (trees_size (related_of t)))) < tree_size t
 related_falls (tree m s c r) = omega arith
-
--- one of several is smaller than all
-pub one_falls : {R : Type 0} (value : R → Tree) (rs : List R) (i : ℕ) (d : R) → i < length rs → tree_size (value (get_or rs i d)) < trees_size (trees (map value rs))
-one_falls value [] i d h = absurd (omega arith)
-one_falls value (r ∷ rs) zero d h = omega arith
-one_falls value (r ∷ rs) (suc i) d h = omega (arith, one_falls value rs i d (omega arith))

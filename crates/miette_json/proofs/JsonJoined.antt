@@ -24,9 +24,6 @@ pub maybe_member : (key : List ℕ) (o : Option (List ℕ)) (more : Members) →
 maybe_member key None more = refl
 maybe_member key (Some s) more = ap (λ l. 44 ∷ l) (sym (append_assoc (quoted_text key ++ (58 ∷ 32 ∷ [])) (quoted_text s) (more_members_text more) ∙ append_assoc (quoted_text key) (58 ∷ 32 ∷ []) (quoted_text s ++ more_members_text more)))
 
-pub one_member : (key : List ℕ) (v : Json) (more : Members) → more_members_text (member key v more) ≡ key_text key ++ (json_text v ++ more_members_text more)
-one_member key v more = ap (λ l. 44 ∷ l) (sym (append_assoc (quoted_text key) (58 ∷ 32 ∷ []) (json_text v ++ more_members_text more)))
-
 module _ (message_key code_key severity_key causes_key url_key help_key name_key labels_key related_key : List ℕ)
     (message severity : List ℕ) (code url help name : Option (List ℕ)) (causes labels related : Items) where
   pub parts :

@@ -219,9 +219,6 @@ none_found xs false f g = all_plain xs (ltb-false (position_or_len is_escaped xs
 pub none_escaped : (xs : List ℕ) → None ≡ position is_escaped xs → escaped_text xs ≡ xs
 none_escaped xs e = none_found xs (nat_lt (position_or_len is_escaped xs) (length xs)) refl e
 
-no_letter : (x : ℕ) → 128 ≤ x → escape_letter x ≡ 0
-no_letter x h = elim (letter_cases x) [ inl l ↦ absurd (omega (arith, l.low)) | inr e ↦ e ]
-
 ltb_split : (a b : ℕ) (t : Bool) → nat_lt a b ≡ t → (a < b) ⊎ (b ≤ a)
 ltb_split a b true e = inl (ltb-true a b e)
 ltb_split a b false e = inr (ltb-false a b e)

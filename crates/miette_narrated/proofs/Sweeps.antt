@@ -1,5 +1,5 @@
 -- A sweep over labels by offset finds those that have a row under a line.
-use Rattle.std.proofs.Common.{ℕ, zero, suc, ◌<◌, ◌≤◌, ◌≡◌, Bool, true, false, cond, leb, max, List, [], ◌∷◌, ◌++◌, ◌&&◌, ◌||◌, length, take, drop, get_or, refl, sym, ap, ap₂, ◌∙◌, append_assoc, arith}
+use Rattle.std.proofs.Common.{ℕ, zero, suc, ◌<◌, ◌≤◌, ◌≡◌, Bool, true, false, cond, leb, max, List, [], ◌∷◌, ◌++◌, ◌&&◌, ◌||◌, take, drop, refl, sym, ap, ap₂, ◌∙◌, append_assoc, arith}
 use Rattle.std.specs.Prelude.{if◌then◌else◌}
 use Rattle.std.specs.List.{filter}
 use Rattle.std.proofs.lemmas.Bool.{leb-false, lt-leb}
@@ -114,14 +114,3 @@ rows_swept it labels ps place next running o e at end =
       append-nil_of (x ∷ xs) = ap (λ r. x ∷ r) (append-nil_of xs)
 
 -- ---- where a sweep stops
-
-pub begins_at : (ps : List Placed) (next : ℕ) (d : Placed) (last : ℕ) → next < length ps → d ≡ get_or ps next d → last < d.start → BeginsFrom (suc last) (drop next ps)
-begins_at [] next d last lt e h = absurd (omega arith)
-begins_at (p ∷ ps) zero d last lt e h = let same : d.start ≡ p.start = ap (λ x. x.start) e in omega (arith, same, h)
-begins_at (p ∷ ps) (suc next) d last lt e h = begins_at ps next d last (omega arith) e h
-
-pub begins_nowhere : (ps : List Placed) (next from : ℕ) → length ps ≤ next → BeginsFrom from (drop next ps)
-begins_nowhere [] zero from le = tt
-begins_nowhere [] (suc next) from le = tt
-begins_nowhere (p ∷ ps) zero from le = absurd (omega arith)
-begins_nowhere (p ∷ ps) (suc next) from le = begins_nowhere ps next from (omega arith)

@@ -108,11 +108,6 @@ and_false : (b : Bool) → (b && false) ≡ false
 and_false true = refl
 and_false false = refl
 
-pub refused_here : (t : Tree) (inherited source : Option Source) (labels : List Label) → source ≡ effective (source_of t) inherited → labels ≡ given_labels (head t).labels →
-    accepts source labels ≡ false → holds_of accepts inherited t ≡ false
-refused_here (tree m s c r) inherited source labels es el e =
-    ap (λ b. b && holds_of_all accepts (effective s inherited) r) (sym (ap₂ accepts es el) ∙ e)
-
 pub refused_below : (t : Tree) (inherited source : Option Source) (related : Trees) → source ≡ effective (source_of t) inherited → related ≡ related_of t →
     holds_of_all accepts source related ≡ false → holds_of accepts inherited t ≡ false
 refused_below (tree m s c r) inherited source related es er e =

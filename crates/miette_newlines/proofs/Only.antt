@@ -12,10 +12,6 @@ use Rattle.miette_newlines.proofs.Cutting.{lines_are}
 abbrev pub made : ℕ → ℕ → ℕ → Line
 made at text_end end = record { start = at; text_end = text_end; end = end }
 
-cr_alone : (z : Bool) → z ≡ false → (false || (true && not z)) ≡ true
-cr_alone true e = cc
-cr_alone false e = refl
-
 not_equal : (a b : ℕ) → a ≢ b → (a == b) ≡ false
 not_equal a b h = grind (arith, nat_tests, h)
 

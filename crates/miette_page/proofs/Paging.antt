@@ -27,11 +27,6 @@ pub some_put : (p : Printout) (codes : List ℕ) → 0 < length codes → record
 some_put p [] h = absurd (omega arith)
 some_put p (c ∷ cs) h = sym (text_put p c cs)
 
--- no characters
-pub none_put : (p : Printout) (codes : List ℕ) → length codes ≡ 0 → p ≡ p ⊕ text_tokens codes
-none_put p [] e = refl
-none_put p (c ∷ cs) e = absurd (omega (arith, e))
-
 pub put_nil : (p : Printout) → p ⊕ [] ≡ p
 put_nil p = refl
 

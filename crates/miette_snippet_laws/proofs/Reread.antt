@@ -110,9 +110,6 @@ ends_there bytes k some =
     ap (λ x. eqb (slice_index bytes (x - 1)) 13 && eqb (slice_index bytes x) 10) (sym all) ∙ line_ends 0 (length bytes) k bytes (omega arith) more in
     ap (past_lf bytes) one ∙ ap (λ b. cond b (e + 1) e) apart
 
-pub block_begins : (source : Source) (b : Block) → (contents 0 source (span_of source.bytes b)).span.offset ≡ start_of (lines source.bytes) b.low
-block_begins source b = refl
-
 pub block_ends : (source : Source) (b : Block) → 0 < length source.bytes → IsBlock (length (lines source.bytes)) b →
     R.data_end source.bytes (span_of source.bytes b) 0 ≡ end_of (length source.bytes) (lines source.bytes) b.high
 block_ends source b some h =

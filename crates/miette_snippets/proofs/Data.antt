@@ -1,5 +1,5 @@
 -- What a read with context shows, in numbers of lines.
-use Rattle.std.proofs.Common.{ℕ, ◌+◌, ◌-◌, ◌<◌, ◌≤◌, ◌≡◌, min, max, leb, eqb, List, [], ◌∷◌, length, ap, ◌∙◌, ⊎_elim, ◌&&◌, arith}
+use Rattle.std.proofs.Common.{ℕ, ◌+◌, ◌-◌, ◌<◌, ◌≤◌, ◌≡◌, min, max, leb, eqb, List, [], length, ap, ◌∙◌, ⊎_elim, ◌&&◌, arith}
 use Rattle.std.specs.Prelude.{slice_index}
 use Rattle.std.proofs.lemmas.Bool.{le-leb, lt-leb, cases_lt, and_from, and_left, and_right}
 use Rattle.std.specs.List.{range_with_len, filter}
@@ -7,7 +7,7 @@ use Rattle.miette_lines.proofs.Sources.{lines, line_of, start_of, end_of, past_l
 use Rattle.miette_protocol.specs.rules.Reading.{Span}
 use Rattle.miette_snippets.proofs.Numbers.{filter-range}
 use Rattle.miette_lines.proofs.Numbers.{by_cases}
-use Rattle.miette_snippets.proofs.Lines.{cut-long, end-gt, cut-some, line-mono, line-le, line-le-length, terminators, line-start, line-end, start-le-end, end-mono, end-strict}
+use Rattle.miette_snippets.proofs.Lines.{end-gt, cut-some, line-mono, line-le, line-le-length, terminators, line-start, line-end, start-le-end, end-mono, end-strict}
 use Rattle.miette_lines.proofs.Data.{cut}
 
 past-ge : (source : List ℕ) (end : ℕ) → (end ≤ past_lf source end) × (past_lf source end ≤ end + 1)
@@ -85,13 +85,6 @@ range-lines source low high lt le =
 pub read-lines : (c : ℕ) (source : List ℕ) (s : Span) → 1 ≤ c → 0 < length source →
     lines_in source (read c source s) ≡ range_with_len (first_line c source s) (min (last_line c source s + 1) (length (lines source)) - first_line c source s)
 read-lines c source s one some = range-lines source (first_line c source s) (last_line c source s) (first-lt c source s one some) (first-le-last c source s)
-
--- a line of a read and its terminators are no more than the source's bytes
-pub read-small : (c : ℕ) (source : List ℕ) (s : Span) → 1 ≤ c → (read c source s).line + (read c source s).line_count ≤ length source
-read-small c [] s one = omega arith
-read-small c (byte ∷ bytes) s one =
-    let source : List ℕ = byte ∷ bytes in
-    omega (arith, read-sum c source s one (omega arith), line-le-length (length source) (lines source), cut-long 0 (length source) (lines source) (cut source))
 
 -- no line ends where the source begins
 pub end-some : (source : List ℕ) (k : ℕ) → 0 < length source → 0 < end_of (length source) (lines source) k

@@ -128,20 +128,9 @@ pub cut-some : (at n : ℕ) (ls : List Line) → IsCut at n ls → at < n → 0 
 cut-some at n [] h lt = absurd (omega (arith, h))
 cut-some at n (l ∷ ls) h lt = omega arith
 
--- no more lines than bytes
-pub cut-long : (at n : ℕ) (ls : List Line) → IsCut at n ls → at + length ls ≤ n
-cut-long at n [] h = omega (arith, h)
-cut-long at n (l ∷ ls) h = omega (arith, h.3, cut-long l.end n ls h.5)
-
 -- a line begins where the one before it ends
 pub start-next : (at n k : ℕ) (ls : List Line) → IsCut at n ls → k + 1 < length ls → start_of ls (k + 1) ≡ end_of n ls k
 start-next at n k [] h lt = absurd (omega (arith, lt))
 start-next at n zero (l ∷ []) h lt = absurd (omega (arith, lt))
 start-next at n zero (l ∷ m ∷ ls) h lt = h.5.0
 start-next at n (suc k) (l ∷ ls) h lt = let e : suc k + 1 ≡ suc (k + 1) = omega arith in rw e (start-next l.end n k ls h.5 (omega (arith, lt)))
-
--- the end of a line that isn't there is the source's
-pub end-past : (at n k : ℕ) (ls : List Line) → length ls ≤ k → end_of n ls k ≡ n
-end-past at n k [] le = refl
-end-past at n zero (l ∷ ls) le = absurd (omega (arith, le))
-end-past at n (suc k) (l ∷ ls) le = end-past at n k ls (omega (arith, le))

@@ -50,9 +50,6 @@ none-below c source from k (label ∷ labels) h lt =
     let no : leb (first_line c source label) k ≡ false = lt-leb (first_line c source label) k lt' in
     rw no (none-below c source label.offset k labels h.1 lt')
 
-joined-end : (a b : Span) → end_of_span (joined_span a b) ≡ max (end_of_span a) (end_of_span b)
-joined-end a b = omega arith
-
 joined-last : (c : ℕ) (source : List ℕ) (a b : Span) → last_line c source (joined_span a b) ≡ max (last_line c source a) (last_line c source b)
 joined-last c source a b =
     let f : ℕ → ℕ = λ end. line_of (lines source) (reading_end source end) + c in

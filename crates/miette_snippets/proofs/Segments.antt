@@ -18,11 +18,6 @@ some-size (byte ∷ bytes) h =
     (λ t. by_cases {C = 0 < first_size (byte ∷ bytes)} (begins_with_lf bytes) (λ u. rw (f, t, u) (omega arith)) (λ u. rw (f, t, u) (omega arith)))
     (λ g. rw (f, g) (omega arith)))
 
-lf-front : (m : ℕ) (bytes : List ℕ) → begins_with_lf bytes ≡ false → begins_with_lf (take m bytes) ≡ false
-lf-front zero bytes h = refl
-lf-front (suc m) [] h = refl
-lf-front (suc m) (byte ∷ bytes) h = h
-
 abbrev Fits : ℕ → List ℕ → Type 0
 Fits m bytes = (first_text (take m bytes) ≡ first_text bytes) × (first_size (take m bytes) ≡ first_size bytes)
 
@@ -72,9 +67,6 @@ front_parted at m bytes some le =
     ∙ ap (λ n. made at (at + first_text bytes) (at + n) ∷ lines_from (at + n) (drop n (take m bytes))) h.1
     ∙ ap (λ n. made at (at + first_text bytes) (at + size) ∷ lines_from (at + size) (drop size (take n bytes))) whole
     ∙ ap (λ xs. made at (at + first_text bytes) (at + size) ∷ lines_from (at + size) xs) (drop-take size (m - size) bytes)
-
-no_lines : (at : ℕ) (ls : List Line) → [] ≡ ls → length ls ≡ 0
-no_lines at ls e = rw (← e) refl
 
 -- where line k begins, or ends, among lines of which the first is known
 abbrev StartsDrop : ℕ → ℕ → List ℕ → List Line → Type 0

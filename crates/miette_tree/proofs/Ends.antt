@@ -1,6 +1,5 @@
 -- The last of what is left of a chain.
-use Rattle.std.proofs.Common.{◌≡◌, ℕ, ◌<◌, ◌≤◌, ◌+◌, ◌-◌, List, [], ◌∷◌, ◌++◌, length, map, take, drop, get_or, Option, Some, None, refl, sym, ap, ◌∙◌, arith, append-nil, subst}
-use Rattle.std.specs.Prelude.{slice_get}
+use Rattle.std.proofs.Common.{◌≡◌, ℕ, ◌<◌, ◌≤◌, ◌+◌, ◌-◌, List, [], ◌∷◌, ◌++◌, length, take, drop, get_or, Option, Some, None, refl, sym, ap, ◌∙◌, arith, append-nil, subst}
 use Rattle.std.specs.List.{last_or}
 use Rattle.std.proofs.Math.Seq.{take-append-add}
 use Rattle.std.proofs.lemmas.List.{take_more, take-append-le, take_all, drop_more, length-drop}
@@ -13,21 +12,6 @@ use Rattle.miette_tree.specs.views.Report.{cause_shown}
 use Rattle.miette_tree.specs.declared.tree.Report.{Report}
 use Rattle.miette_tree.specs.declared.tree.Cause as shown
 use Rattle.miette_tree.specs.declared.tree.Cause.TheVariants as seen
-use Rattle.std.proofs.lemmas.Option.{slice_get_within, get_or_from_slice_get}
-
-take_last : (xs : List (List ℕ)) (n : ℕ) (x : List ℕ) → 0 < n → slice_get xs (n - 1) ≡ Some x → take n xs ≡ take (n - 1) xs ++ x ∷ []
-take_last xs n x h e =
-    let one : n ≡ n - 1 + 1 = omega arith in
-    ap (λ k. take k xs) one ∙ (take_more xs (n - 1) x (slice_get_within xs (n - 1) x e) ∙ ap (λ y. take (n - 1) xs ++ y ∷ []) (get_or_from_slice_get xs (n - 1) x x e))
-
-pub none_mapped : {A B : Type 0} (f : A → B) (ts : List A) → length ts ≡ 0 → map f ts ≡ []
-none_mapped f [] e = refl
-none_mapped f (t ∷ ts) e = absurd (omega arith)
-
--- where no text is left, the last message is taken off
-pub back_step : (value xs ts : List (List ℕ)) (n : ℕ) (x : List ℕ) → take n xs ++ ts ≡ value → ts ≡ [] → 0 < n → slice_get xs (n - 1) ≡ Some x → value ≡ (take (n - 1) xs ++ ts) ++ x ∷ []
-back_step value xs ts n x e f h i =
-    sym e ∙ (ap (λ l. take n xs ++ l) f ∙ (append-nil (take n xs) ∙ (take_last xs n x h i ∙ ap (λ l. l ++ x ∷ []) (sym (ap (λ l. take (n - 1) xs ++ l) f ∙ append-nil (take (n - 1) xs))))))
 
 -- ---- down a chain
 
@@ -59,10 +43,6 @@ spine_down (tree m s c r) = omega arith
 
 pub tail_down : (t : Tree) → tail t ≡ tail_below (cause_of t)
 tail_down (tree m s c r) = refl
-
--- one report further down
-pub down : (t n : Tree) → diagnostic n ≡ cause_of t → (length (spine t) ≡ length (spine n) + 1) × (tail n ≡ tail t)
-down t n e = (spine_down t ∙ ap (λ c. length (spine_below c) + 1) (sym e), ap tail_below e ∙ sym (tail_down t))
 
 mutual
   pub chain_parts : (t : Tree) → chain_of t ≡ spine t ++ tail t

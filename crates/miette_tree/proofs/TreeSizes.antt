@@ -1,6 +1,6 @@
 -- A number that falls on the way down a tree.
 use Rattle.std.proofs.Common.{ℕ, suc, zero, ◌+◌, ◌<◌, List, [], ◌∷◌, length, get_or, map, arith}
-use Rattle.miette_tree.specs.rules.Tree.{Tree, tree, Cause, diagnostic, texts, Trees, no_trees, more_trees, cause_of, related_of, trees}
+use Rattle.miette_tree.specs.rules.Tree.{Tree, tree, Cause, diagnostic, texts, Trees, no_trees, more_trees, trees}
 
 abbrev mutual
   pub tree_size : Tree → ℕ
@@ -13,12 +13,6 @@ abbrev mutual
   pub trees_size : Trees → ℕ
   trees_size no_trees = 0
   trees_size (more_trees t ts) = suc (tree_size t + trees_size ts)
-
-pub cause_falls : (t : Tree) → cause_size (cause_of t) < tree_size t
-cause_falls (tree m s c r) = omega arith
-
-pub related_falls : (t : Tree) → trees_size (related_of t) < tree_size t
-related_falls (tree m s c r) = omega arith
 
 -- one of several is smaller than all
 pub one_falls : {R : Type 0} (value : R → Tree) (rs : List R) (i : ℕ) (d : R) → i < length rs → tree_size (value (get_or rs i d)) < trees_size (trees (map value rs))
