@@ -13,7 +13,7 @@ use miette_handlers::handlers::ReportHandler;
 use miette_protocol::error::RenderError;
 use miette_protocol::protocol::Diagnostic;
 use miette_protocol::source::SourceCode;
-use miette_style::highlight::{BlankHighlighter, Highlighter};
+use miette_highlight::highlight::{BlankHighlighter, Highlighter};
 use miette_tree::report::Report;
 use std::alloc::{AllocError, Global};
 use std::env::Env;

@@ -12,7 +12,7 @@ use Rattle.miette_newlines.specs.rules.Lines.{Line}
 use Rattle.miette_protocol.specs.views.Meaning.{Label}
 use Rattle.miette_protocol.specs.rules.Reading.{Span, Source, Contents, data_start, data_end}
 use Rattle.miette_style.specs.declared.style.Style.{Style}
-use Rattle.miette_style.specs.rules.HighlighterCalls.{Call, Leads, asked, restarted}
+use Rattle.miette_highlight.specs.rules.HighlighterCalls.{Call, Leads, asked, restarted}
 use Rattle.miette_lines.specs.declared.reading.ReadLabel.{ReadLabel}
 use Rattle.miette_newlines.specs.declared.lines.LineOfText.{LineOfText}
 use Rattle.miette_lines.specs.declared.sweep.Placed.{Placed}

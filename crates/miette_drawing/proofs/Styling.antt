@@ -3,8 +3,8 @@ use Rattle.std.proofs.Common.{ℕ, ◌+◌, ◌≡◌, ◌∙◌, ◌++◌, leng
 use Rattle.miette_newlines.specs.rules.Lines.{Line}
 use Rattle.miette_protocol.specs.views.Meaning.{Label}
 use Rattle.miette_protocol.specs.rules.Reading.{Span, Source, Contents}
-use Rattle.miette_style.specs.rules.Pieces.{CutsLine, Piece}
-use Rattle.miette_style.specs.rules.HighlighterCalls.{Call, asked, restarted, Leads}
+use Rattle.miette_highlight.specs.rules.Pieces.{CutsLine, Piece}
+use Rattle.miette_highlight.specs.rules.HighlighterCalls.{Call, asked, restarted, Leads}
 use Rattle.miette_lines.specs.rules.Answers.{Highlight, first_of, later_of}
 use Rattle.miette_lines.specs.rules.Contexts.{contents, lines_of_contents}
 use Rattle.miette_snippets.specs.rules.Frames.{SnippetSettings, top_row, bottom_row, number_width}

@@ -3,13 +3,13 @@
 ghost use Rattle.std.specs.Prelude.{◌≡◌, ℕ, List, [], ◌∷◌, true, map, IfOk, if◌then◌else◌};
 ghost use Rattle.miette_snippets.specs.rules.Highlighting.{AreCallsOn, ArePieces, decoded_text};
 ghost use Rattle.miette_snippets.specs.rules.Highlighting.{highlight_of, leaves_plain};
-ghost use Rattle.miette_style.specs.rules.HighlighterCalls.{Leads, asked, listed_pieces, restarted};
-ghost use Rattle.miette_style.specs.rules.Pieces.{CutsLine, plain_pieces};
+ghost use Rattle.miette_highlight.specs.rules.HighlighterCalls.{Leads, asked, listed_pieces, restarted};
+ghost use Rattle.miette_highlight.specs.rules.Pieces.{CutsLine, plain_pieces};
 
 use bstr::ByteSlice;
+use miette_highlight::highlight::Highlighter;
 use miette_page::page::PLAIN;
 use miette_protocol::source::MietteSpanContents;
-use miette_style::highlight::Highlighter;
 use miette_style::laws::comparison_laws;
 use miette_style::style::Style;
 use std::alloc::{AllocError, Global};

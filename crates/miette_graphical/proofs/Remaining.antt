@@ -9,7 +9,7 @@ use Rattle.miette_tree.specs.views.Report.{cause_shown}
 use Rattle.miette_tree.specs.declared.tree.Report.{Report}
 use Rattle.miette_tree.specs.declared.tree.Cause as shown
 use Rattle.miette_tree.specs.declared.tree.Cause.TheVariants as seen
-use Rattle.miette_style.specs.rules.HighlighterCalls.{Call, Leads}
+use Rattle.miette_highlight.specs.rules.HighlighterCalls.{Call, Leads}
 use Rattle.miette_graphical.specs.rules.PossibleAnswers.{AreCauseAnswers, AreRelatedAnswers, AreCauses, AreRelated, IsOneCause, IsOneRelated}
 use Rattle.miette_graphical.specs.rules.Calls.{cause_calls, related_calls}
 use Rattle.miette_tree.specs.views.Handler.{AppendsOne}

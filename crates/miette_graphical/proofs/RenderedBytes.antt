@@ -1,6 +1,6 @@
 -- What is known of the bytes that a handler appended for a tree.
 use Rattle.std.proofs.Common.{◌≡◌, ◌∙◌, ap, subst, ℕ, Bool, true, List, ◌++◌, Result, Ok, Err, OnOk, encode_utf8_all}
-use Rattle.miette_style.specs.rules.HighlighterCalls.{Call}
+use Rattle.miette_highlight.specs.rules.HighlighterCalls.{Call}
 use Rattle.miette_graphical.specs.rules.PossibleAnswers.{Appends, AppendsAsked, IsReport, IsTextOf}
 use Rattle.miette_graphical.specs.rules.Answers.{unlisted}
 use Rattle.miette_graphical.specs.rules.PrintedDiagnostics.{all_read, diagnostics_of}

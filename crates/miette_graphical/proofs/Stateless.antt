@@ -6,8 +6,8 @@ use Rattle.miette_runs.specs.rules.Cutting.{without_trailing}
 use Rattle.miette_protocol.specs.views.Meaning.{Meaning, Label}
 use Rattle.miette_protocol.specs.rules.Reading.{Source, Span, Contents}
 use Rattle.miette_protocol.specs.declared.protocol.Severity.{Severity}
-use Rattle.miette_style.specs.rules.HighlighterCalls.{Call, Leads, AnsweredBy, asked, restarted, listed_pieces as counted}
-use Rattle.miette_style.specs.rules.Pieces.{Piece}
+use Rattle.miette_highlight.specs.rules.HighlighterCalls.{Call, Leads, AnsweredBy, asked, restarted, listed_pieces as counted}
+use Rattle.miette_highlight.specs.rules.Pieces.{Piece}
 use Rattle.miette_lines.specs.rules.Answers.{Highlight, first_of, later_of}
 use Rattle.miette_lines.specs.rules.Around.{group_context}
 use Rattle.miette_lines.specs.rules.Contexts.{contents, lines_of_contents}

@@ -23,7 +23,7 @@ use Rattle.miette_graphical.proofs.Outermost.{report_over}
 use Rattle.miette_tree.specs.views.Handler.{AppendsOne}
 use Rattle.miette_graphical.specs.rules.PossibleAnswers.{IsAnswer, AreCauseAnswers, AreRelatedAnswers, IsDrawn, AreCauses, AreRelated, IsInner, IsSibling, IsOneCause, IsNested, IsOneRelated, AreRootCauses, IsBelow, IsAskedReport}
 use Rattle.miette_graphical.specs.rules.Calls.{own_calls, cause_calls, related_calls}
-use Rattle.miette_style.specs.rules.HighlighterCalls.{Call, Leads}
+use Rattle.miette_highlight.specs.rules.HighlighterCalls.{Call, Leads}
 
 pub not_last : {R : Type 0} (value : R → Tree) (rs : List R) → 1 ≤ length rs → false ≡ are_last (trees (map value rs))
 not_last value [] h = absurd (omega arith)

@@ -9,7 +9,7 @@ ghost use Rattle.miette_style.specs.rules.Themes.{characters_of, styles_of, term
 mod rendering;
 
 use crate::settings::UrlMode;
-use miette_style::highlight::Highlighter;
+use miette_highlight::highlight::Highlighter;
 use miette_style::theme::{GraphicalTheme, Terminal};
 use miette_text::wrap::{WordSeparator, WordSplitter};
 use std::alloc::{AllocError, Global};

@@ -28,7 +28,7 @@ use miette_page::page::Page;
 use miette_protocol::error::RenderError;
 use miette_protocol::protocol::{Diagnostic, LabeledSpan, Severity};
 use miette_protocol::source::SourceCode;
-use miette_style::highlight::Highlighter;
+use miette_highlight::highlight::Highlighter;
 use miette_text::runs::Runs;
 use miette_text::runs::output::Output;
 use miette_text::wrap::cutting::{without_leading, without_trailing};

@@ -17,7 +17,7 @@ use crate::settings::Layout;
 use miette_protocol::error::RenderError;
 use miette_protocol::protocol::Diagnostic;
 use miette_protocol::source::SourceCode;
-use miette_style::highlight::Highlighter;
+use miette_highlight::highlight::Highlighter;
 use miette_text::runs::output::Output;
 use miette_tree::report::Report;
 

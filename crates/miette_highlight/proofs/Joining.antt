@@ -5,7 +5,7 @@ use Rattle.std.specs.Prelude.{encode_utf8, Option}
 use Rattle.std.specs.Char.{len_utf8}
 use Rattle.std.specs.Str.{IsUtf8, IsCharBoundary, chars}
 use Rattle.std.proofs.lemmas.Str.{length-encode, IsCharBoundary-past_char, chars_past_char}
-use Rattle.miette_style.specs.rules.Pieces.{Piece, CutsLine}
+use Rattle.miette_highlight.specs.rules.Pieces.{Piece, CutsLine}
 use Rattle.miette_style.specs.declared.style.Style.{Style}
 use Rattle.miette_highlight.specs.declared.rule.Rule.{Rule}
 use Rattle.miette_highlight.specs.rules.Characters.{AreCharacters}

@@ -1,4 +1,6 @@
 -- What users rely on, in the words of docs/RULES.md.
 pub mod Characters
+pub mod HighlighterCalls
 pub mod Patterns
+pub mod Pieces
 pub mod Tokens

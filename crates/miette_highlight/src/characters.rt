@@ -3,7 +3,7 @@
 ghost use Rattle.std.specs.Prelude.{IfOk};
 ghost use Rattle.std.specs.Str.{chars};
 ghost use Rattle.miette_highlight.specs.rules.Characters.{AreCharacters};
-ghost use Rattle.miette_style.specs.rules.Pieces.{CutsLine};
+ghost use Rattle.miette_highlight.specs.rules.Pieces.{CutsLine};
 
 use miette_style::style::Style;
 use std::alloc::{AllocError, Global};

@@ -1,8 +1,9 @@
-//! Highlighters of source lines: a piece for each character, and rules for words and for what lies between delimiters.
+//! Highlighters of source lines: what each one promises, a piece for each character, and rules for words and for what lies between delimiters.
 #![tactic(auto)]
 
 pub mod characters;
 pub mod highlight;
+mod highlighter;
 pub mod patterns;
 mod rule;
 mod sets;

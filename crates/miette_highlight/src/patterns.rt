@@ -2,12 +2,12 @@
 
 ghost use Rattle.std.specs.Prelude.{◌≡◌, false, IsTrue, IfOk, None};
 ghost use Rattle.miette_highlight.specs.rules.Tokens.{AreTokens};
-ghost use Rattle.miette_style.specs.rules.Pieces.{CutsLine, plain_pieces};
+ghost use Rattle.miette_highlight.specs.rules.Pieces.{CutsLine, plain_pieces};
 
+use crate::highlighter::Highlighter;
 pub use crate::rule::{Delimiters, Delimiters as Marks, Pattern, Rule};
 use crate::tokens::pieces_of;
 use miette_protocol::source::MietteSpanContents;
-use miette_style::highlight::Highlighter;
 use miette_style::style::Style;
 use std::alloc::{AllocError, Global};
 

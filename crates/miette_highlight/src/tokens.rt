@@ -7,7 +7,7 @@ ghost use Rattle.miette_highlight.specs.rules.Patterns.{begins_within, close_end
 ghost use Rattle.miette_highlight.specs.rules.Patterns.{inside, match_of, word_end};
 ghost use Rattle.miette_highlight.specs.rules.Tokens.{AreTokens, IsToken, first_match, running_token, token_at};
 ghost use Rattle.miette_highlight.specs.rules.Tokens.{token_of};
-ghost use Rattle.miette_style.specs.rules.Pieces.{CutsLine};
+ghost use Rattle.miette_highlight.specs.rules.Pieces.{CutsLine};
 
 use crate::rule::{Delimiters, Pattern, Rule};
 use miette_style::style::Style;

@@ -9,7 +9,7 @@ use Rattle.std.proofs.lemmas.List.{drop_all, length-map}
 use Rattle.miette_newlines.specs.rules.Lines.{Line}
 use Rattle.miette_protocol.specs.views.Meaning.{Label}
 use Rattle.miette_protocol.specs.rules.Reading.{Span, Source, Contents}
-use Rattle.miette_style.specs.rules.HighlighterCalls.{Call, Leads, restarted}
+use Rattle.miette_highlight.specs.rules.HighlighterCalls.{Call, Leads, restarted}
 use Rattle.miette_lines.specs.declared.grouping.Group.{Group}
 use Rattle.miette_lines.specs.declared.primary.Place.{Place as Found}
 use Rattle.miette_lines.specs.declared.reading.ReadLabel.{ReadLabel}

@@ -24,7 +24,7 @@ use miette_protocol::error::RenderError;
 use miette_protocol::protocol::LabeledSpan;
 use miette_protocol::source::SourceCode;
 use miette_snippets::options::Look;
-use miette_style::highlight::Highlighter;
+use miette_highlight::highlight::Highlighter;
 use std::alloc::AllocError;
 
 // The bare name of a reason.

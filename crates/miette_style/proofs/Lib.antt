@@ -1,4 +1,3 @@
 pub mod CodeLists
 pub mod Equality
 pub mod Icons
-pub mod PieceLemmas

@@ -2,6 +2,4 @@
 pub mod Styles
 pub mod Codes
 pub mod Themes
-pub mod Pieces
 pub mod Escapes
-pub mod HighlighterCalls

@@ -1,8 +1,7 @@
-//! Styles, themes and highlighters of source lines.
+//! Styles, their codes, and themes.
 #![tactic(auto)]
 
 pub mod codes;
-pub mod highlight;
 pub mod laws;
 pub mod style;
 pub mod theme;

@@ -4,5 +4,6 @@
 pub mod laws;
 pub mod wrap;
 
+pub use miette_highlight::highlight;
 pub use miette_runs::runs;
-pub use miette_style::{highlight, style, theme};
+pub use miette_style::{style, theme};

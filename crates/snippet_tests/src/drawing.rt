@@ -6,7 +6,7 @@ use miette_layout::snippets::snippets;
 use miette_protocol::error::{MietteError, RenderError};
 use miette_protocol::protocol::{LabeledSpan, SourceSpan};
 use miette_protocol::source::{MietteSpanContents, SourceCode};
-use miette_style::highlight::{BlankHighlighter, Highlighter};
+use miette_highlight::highlight::{BlankHighlighter, Highlighter};
 use miette_style::style::Style;
 use miette_style::theme::GraphicalTheme;
 use miette_text::runs::output::Output;

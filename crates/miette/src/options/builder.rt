@@ -7,7 +7,7 @@ ghost use Rattle.miette.specs.rules.Options.{no_options};
 
 mod choice;
 
-use miette_style::highlight::Highlighter;
+use miette_highlight::highlight::Highlighter;
 use miette_style::theme::GraphicalTheme;
 use miette_text::wrap::{WordSeparator, WordSplitter};
 use std::marker::Model;

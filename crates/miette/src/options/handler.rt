@@ -11,7 +11,7 @@ use miette_handlers::handlers::{
 use miette_protocol::error::RenderError;
 use miette_protocol::protocol::Diagnostic;
 use miette_protocol::source::SourceCode;
-use miette_style::highlight::Highlighter;
+use miette_highlight::highlight::Highlighter;
 use miette_style::theme::Terminal;
 use miette_tree::report::Report;
 use std::alloc::{AllocError, Global};

@@ -4,7 +4,7 @@ use Rattle.std.specs.Prelude.{slice_range, Option, false}
 use Rattle.std.specs.Option.{option_map}
 use Rattle.miette_newlines.specs.rules.Lines.{Line}
 use Rattle.miette_protocol.specs.rules.Reading.{Contents}
-use Rattle.miette_style.specs.rules.HighlighterCalls.{Call}
+use Rattle.miette_highlight.specs.rules.HighlighterCalls.{Call}
 use Rattle.miette_page.specs.rules.Rows.{Row}
 use Rattle.miette_lines.specs.rules.Answers.{Highlight, first_of, later_of}
 use Rattle.miette_lines.specs.rules.Cells.{Cell, characters, cells_from}

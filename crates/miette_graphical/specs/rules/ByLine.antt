@@ -2,7 +2,7 @@
 use Rattle.std.specs.Prelude.{ℕ, List, [], Option, Some, None}
 use Rattle.miette_protocol.specs.views.Meaning.{Meaning, Label}
 use Rattle.miette_protocol.specs.rules.Reading.{Source}
-use Rattle.miette_style.specs.rules.Pieces.{Piece}
+use Rattle.miette_highlight.specs.rules.Pieces.{Piece}
 use Rattle.miette_lines.specs.rules.Around.{group_context}
 use Rattle.miette_lines.specs.rules.Groups.{groups_of, in_order}
 use Rattle.miette_snippets.specs.rules.Highlighting.{pieces_by}

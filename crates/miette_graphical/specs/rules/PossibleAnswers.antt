@@ -17,7 +17,7 @@ use Rattle.miette_tree.specs.rules.DiagnosticParts.{given_labels}
 use Rattle.miette_snippets.specs.rules.Frames as frames
 use Rattle.miette_lines.specs.rules.Around.{group_context}
 use Rattle.miette_lines.specs.rules.Groups.{in_order, groups_of}
-use Rattle.miette_style.specs.rules.HighlighterCalls.{Call}
+use Rattle.miette_highlight.specs.rules.HighlighterCalls.{Call}
 use Rattle.miette_snippets.specs.rules.Highlighting.{SnippetsHavePieces, snippet_calls}
 use Rattle.miette_snippets.specs.rules.SnippetLayout.{snippet_rows}
 use Rattle.miette_tree.specs.views.Handler.{AppendsOne}

@@ -17,8 +17,8 @@ ghost use Rattle.miette_graphical.specs.steps.SettingsView.{settings_of};
 ghost use Rattle.miette_tree.specs.views.Handler.{AppendsOne};
 ghost use Rattle.miette_runs.specs.rules.Sequences.{erase};
 ghost use Rattle.miette_text.specs.rules.Tame.{AppendsErasing};
-ghost use Rattle.miette_style.specs.rules.HighlighterCalls.{AnsweredBy, Call};
-ghost use Rattle.miette_style.specs.rules.Pieces.{Piece};
+ghost use Rattle.miette_highlight.specs.rules.HighlighterCalls.{AnsweredBy, Call};
+ghost use Rattle.miette_highlight.specs.rules.Pieces.{Piece};
 ghost use Rattle.miette_tree.specs.views.Report.{tree_of};
 
 use crate::handler::GraphicalReportHandler;
@@ -30,7 +30,7 @@ use crate::whole::report_output;
 use miette_protocol::error::RenderError;
 use miette_protocol::protocol::Diagnostic;
 use miette_protocol::source::SourceCode;
-use miette_style::highlight::Highlighter;
+use miette_highlight::highlight::Highlighter;
 use miette_tree::report::Report;
 use miette_tree::report_handler::ReportHandler;
 

@@ -1,7 +1,7 @@
 -- Pieces of a character each.
 use Rattle.std.specs.Prelude.{◌≡◌, ℕ, List, [], ◌∷◌, ⊤}
 use Rattle.std.specs.Char.{len_utf8}
-use Rattle.miette_style.specs.rules.Pieces.{Piece}
+use Rattle.miette_highlight.specs.rules.Pieces.{Piece}
 use Rattle.miette_style.specs.declared.style.Style.{Style}
 
 -- a piece for each character, as long as it, in a style that goes with it

@@ -3,7 +3,7 @@ use Rattle.std.specs.Prelude.{◌≡◌, true, Bool, List, [], Option, None, IfS
 use Rattle.std.specs.Option.{option_map}
 use Rattle.miette_protocol.specs.views.Meaning.{Label}
 use Rattle.miette_protocol.specs.rules.Reading.{Source}
-use Rattle.miette_style.specs.rules.HighlighterCalls.{Call}
+use Rattle.miette_highlight.specs.rules.HighlighterCalls.{Call}
 use Rattle.miette_protocol.specs.declared.error.RenderError.{RenderError}
 use Rattle.miette_protocol.specs.declared.error.RenderError.TheVariants as errors
 use Rattle.miette_lines.specs.rules.Answers.{Answers, AlwaysReads}

@@ -6,8 +6,8 @@ use Rattle.bstr.specs.Utf8.{lossy_chars}
 use Rattle.miette_newlines.specs.rules.Lines.{Line}
 use Rattle.miette_protocol.specs.views.Meaning.{Label}
 use Rattle.miette_protocol.specs.rules.Reading.{Span, Source}
-use Rattle.miette_style.specs.rules.HighlighterCalls.{Call, Leads, asked, listed_pieces, restarted}
-use Rattle.miette_style.specs.rules.Pieces.{CutsLine, Piece}
+use Rattle.miette_highlight.specs.rules.HighlighterCalls.{Call, Leads, asked, listed_pieces, restarted}
+use Rattle.miette_highlight.specs.rules.Pieces.{CutsLine, Piece}
 use Rattle.miette_lines.specs.rules.Answers.{Answers, Highlight, first_of, later_of}
 use Rattle.miette_lines.specs.rules.Around.{group_context}
 use Rattle.miette_lines.specs.rules.Contexts.{contents, lines_of_contents}

@@ -12,7 +12,7 @@ use crate::options::handler::MietteHandler;
 use miette_handlers::handlers::{
     BriefReportHandler, GraphicalReportHandler, NarratableReportHandler,
 };
-use miette_style::highlight::Highlighter;
+use miette_highlight::highlight::Highlighter;
 use miette_style::theme::{GraphicalTheme, Terminal, ThemeCharacters, ThemeStyles};
 use std::alloc::{AllocError, Global};
 

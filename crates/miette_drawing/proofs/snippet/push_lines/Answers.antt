@@ -7,7 +7,7 @@ use Rattle.miette_drawing.specs.views.SnippetRows.{text_in}
 use Rattle.miette_newlines.specs.views.Walking.{line_of_text}
 use Rattle.miette_lines.specs.views.Sweeping.{IsAt}
 use Rattle.miette_lines.proofs.Firsts.{state_more}
-use Rattle.miette_style.specs.rules.HighlighterCalls.{Call}
+use Rattle.miette_highlight.specs.rules.HighlighterCalls.{Call}
 use Rattle.miette_drawing.proofs.Styling.{call_for}
 use Rattle.miette_drawing.proofs.Lending.{AreLined, lines_first, lines_more, lines_all, text_fits}
 use Rattle.miette_drawing.proofs.snippet.push_lines.Goals as goal

@@ -5,7 +5,7 @@ use Rattle.miette_snippets.specs.views.ThemeSettings.{settings_of}
 use Rattle.miette_lines.specs.views.GivenLabels.{drawn_of}
 use Rattle.miette_drawing.specs.views.SnippetRows.{PutsRows, lent_snippet}
 use Rattle.miette_lines.specs.views.Sweeping.{IsAt}
-use Rattle.miette_style.specs.rules.HighlighterCalls.{Call, Leads, restarted}
+use Rattle.miette_highlight.specs.rules.HighlighterCalls.{Call, Leads, restarted}
 use Rattle.miette_snippets.specs.rules.Highlighting.{follows, leaves_plain}
 use Rattle.miette_drawing.proofs.Lending.{lent_texts, restarted_first}
 use Rattle.miette_drawing.proofs.snippet.push_snippet.Goals as goal

@@ -1,7 +1,7 @@
 use Rattle.std.proofs.Common.{◌≡◌, ◌∙◌, subst, option_map, false, rules, List}
 use Rattle.miette_tree.specs.rules.Tree.{source_of}
 use Rattle.miette_tree.specs.views.Report.{tree_of}
-use Rattle.miette_style.specs.rules.HighlighterCalls.{Call, Leads}
+use Rattle.miette_highlight.specs.rules.HighlighterCalls.{Call, Leads}
 use Rattle.miette_snippets.specs.rules.Highlighting.{follows, leaves_plain}
 use Rattle.miette_tree.specs.views.Owned.{shown_source}
 use Rattle.miette_graphical.specs.rules.PossibleAnswers.{IsBelow}

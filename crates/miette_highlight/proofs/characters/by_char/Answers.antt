@@ -3,7 +3,7 @@ use Rattle.std.proofs.lemmas.Grind.{common_steps}
 use Rattle.std.proofs.lemmas.List.{append-nil}
 use Rattle.std.proofs.lemmas.Str.{chars-nil, IsUtf8-past_char}
 use Rattle.std.specs.Str.{chars}
-use Rattle.miette_style.specs.rules.Pieces.{Piece, CutsLine}
+use Rattle.miette_highlight.specs.rules.Pieces.{Piece, CutsLine}
 use Rattle.miette_style.specs.declared.style.Style.{Style}
 use Rattle.miette_highlight.specs.rules.Characters.{AreCharacters}
 use Rattle.miette_highlight.proofs.Joining.{goes_on, cuts_char, styles_char}

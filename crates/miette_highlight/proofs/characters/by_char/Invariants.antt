@@ -1,6 +1,6 @@
 use Rattle.std.proofs.Common.{List, ◌++◌}
 use Rattle.std.specs.Str.{IsUtf8, chars}
-use Rattle.miette_style.specs.rules.Pieces.{Piece, CutsLine}
+use Rattle.miette_highlight.specs.rules.Pieces.{Piece, CutsLine}
 use Rattle.miette_highlight.specs.rules.Characters.{AreCharacters}
 use Rattle.miette_highlight.proofs.characters.by_char.Given as goal
 

@@ -2,7 +2,7 @@ use Rattle.std.proofs.Common.{ℕ, List, ◌++◌, length}
 use Rattle.std.specs.Prelude.{Option}
 use denote.Shadow.{shadow}
 use denote.Text.{Utf8}
-use Rattle.miette_style.specs.rules.Pieces.{Piece}
+use Rattle.miette_highlight.specs.rules.Pieces.{Piece}
 use Rattle.miette_highlight.specs.rules.Tokens.{AreTokens}
 use Rattle.miette_highlight.proofs.tokens.pieces_of.Given as goal
 

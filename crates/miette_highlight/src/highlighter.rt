@@ -2,11 +2,11 @@
 
 ghost use Rattle.std.specs.Prelude.{◌≡◌, ℕ, Bool, true, false, IsTrue, IfOk, List, [], ◌∷◌, length, All};
 ghost use Rattle.std.specs.Str.{IsCharBoundary};
-ghost use Rattle.miette_style.specs.rules.HighlighterCalls.{AnsweredBy, Call, Leads, asked, listed_pieces, restarted};
-ghost use Rattle.miette_style.specs.rules.Pieces.{CutsLine, Piece, ends_from, plain_pieces, total_length};
+ghost use Rattle.miette_highlight.specs.rules.HighlighterCalls.{AnsweredBy, Call, Leads, asked, listed_pieces, restarted};
+ghost use Rattle.miette_highlight.specs.rules.Pieces.{CutsLine, Piece, ends_from, plain_pieces, total_length};
 
-use crate::style::Style;
 use miette_protocol::source::MietteSpanContents;
+use miette_style::style::Style;
 use std::alloc::{AllocError, Global};
 
 /// Styles the pieces of a line. A highlighter is restarted before each snippet, with the contents of the snippet's

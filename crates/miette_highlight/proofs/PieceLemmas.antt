@@ -4,7 +4,7 @@ use Rattle.std.specs.Str.{IsCharBoundary}
 use Rattle.std.proofs.lemmas.List.{length-drop, drop-drop}
 use Rattle.std.proofs.lemmas.List.Elements.{All-cons}
 use Rattle.std.proofs.lemmas.Str.{IsCharBoundary-from_rest}
-use Rattle.miette_style.specs.rules.Pieces.{Piece, CutsLine, total_length, ends_from}
+use Rattle.miette_highlight.specs.rules.Pieces.{Piece, CutsLine, total_length, ends_from}
 
 pub total_length-line : (line : List ℕ) (pieces : List Piece) → CutsLine line pieces → total_length pieces ≡ length line
 total_length-line line [] h = sym (ap length h)

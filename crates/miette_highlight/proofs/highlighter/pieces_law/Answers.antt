@@ -1,5 +1,5 @@
-use Rattle.miette_style.proofs.PieceLemmas.{total_length-line, ends-boundaries}
-use Rattle.miette_style.proofs.highlight.pieces_law.Goals as goal
+use Rattle.miette_highlight.proofs.PieceLemmas.{total_length-line, ends-boundaries}
+use Rattle.miette_highlight.proofs.highlighter.pieces_law.Goals as goal
 
 pub returns-clause-lengths : goal.returns-clause-lengths
 returns-clause-lengths c = total_length-line

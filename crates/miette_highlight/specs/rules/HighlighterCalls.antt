@@ -1,7 +1,7 @@
 -- What a highlighter is called with, one call after the other, and what it answers.
 use Rattle.std.specs.Prelude.{◌≡◌, ℕ, Bool, not, ◌&&◌, is_none, if◌then◌else◌, List, [], ◌∷◌, ◌++◌}
 use Rattle.miette_protocol.specs.rules.Reading.{Contents}
-use Rattle.miette_style.specs.rules.Pieces.{Piece}
+use Rattle.miette_highlight.specs.rules.Pieces.{Piece}
 use Rattle.miette_style.specs.declared.style.Style.{Style}
 
 -- whether nothing is set in a style
