@@ -5,8 +5,7 @@ ghost use Rattle.miette_style.specs.rules.Themes.{refuses_colours};
 ghost use Rattle.miette.specs.rules.Detection.{IsDetected, IsWidth, colours_of, draws_unicode, forced_colours};
 ghost use Rattle.miette.specs.rules.Detection.{goes_to_terminal, has_many_colours, is_dumb, is_linking_kind};
 ghost use Rattle.miette.specs.rules.Detection.{is_linking_program, is_set_to, is_utf8_locale, lacks_colours};
-ghost use Rattle.miette.specs.rules.Detection.{names_utf8};
-ghost use Rattle.miette.specs.rules.Detection.{own_colours, shows_links};
+ghost use Rattle.miette.specs.rules.Detection.{names_utf8, own_colours, shows_links};
 
 use miette_style::theme::Terminal;
 use std::alloc::AllocError;

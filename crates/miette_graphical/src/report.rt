@@ -22,13 +22,13 @@ use crate::diagnostic::{is_nil, push_cause_texts, push_header_of, push_message_o
 use crate::indents::{Branch, layout_under, push_help, push_under_arrow};
 use crate::pen::Pen;
 use crate::settings::Layout;
+use miette_highlight::highlight::Highlighter;
 use miette_layout::options::{LayoutOptions, Look};
 use miette_layout::snippets::snippets;
 use miette_page::page::Page;
 use miette_protocol::error::RenderError;
 use miette_protocol::protocol::{Diagnostic, LabeledSpan, Severity};
 use miette_protocol::source::SourceCode;
-use miette_highlight::highlight::Highlighter;
 use miette_text::runs::Runs;
 use miette_text::runs::output::Output;
 use miette_text::wrap::cutting::{without_leading, without_trailing};

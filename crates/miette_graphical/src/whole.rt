@@ -14,10 +14,10 @@ use crate::indents::push_footer;
 use crate::pen::Pen;
 use crate::report::{push_below, push_causes};
 use crate::settings::Layout;
+use miette_highlight::highlight::Highlighter;
 use miette_protocol::error::RenderError;
 use miette_protocol::protocol::Diagnostic;
 use miette_protocol::source::SourceCode;
-use miette_highlight::highlight::Highlighter;
 use miette_text::runs::output::Output;
 use miette_tree::report::Report;
 

@@ -12,6 +12,7 @@ ghost use Rattle.miette_lines.specs.views.Reads.{IsRead, name_of as name_of_reas
 
 use miette_drawing::frame::{Frame, push_refused_row};
 use miette_drawing::snippet::{Drawing, Passage, push_snippet};
+use miette_highlight::highlight::Highlighter;
 use miette_lines::drawn_labels::{placed_labels, told_end};
 use miette_lines::grouping::groups;
 use miette_lines::order::by_offset;
@@ -24,7 +25,6 @@ use miette_protocol::error::RenderError;
 use miette_protocol::protocol::LabeledSpan;
 use miette_protocol::source::SourceCode;
 use miette_snippets::options::Look;
-use miette_highlight::highlight::Highlighter;
 use std::alloc::AllocError;
 
 // The bare name of a reason.

@@ -1,12 +1,12 @@
 //! Snippets as the tests draw them, with the sources and the highlighter that they take.
 
+use miette_highlight::highlight::{BlankHighlighter, Highlighter};
 use miette_layout::options::{LayoutOptions, Look};
 use miette_layout::page::Page;
 use miette_layout::snippets::snippets;
 use miette_protocol::error::{MietteError, RenderError};
 use miette_protocol::protocol::{LabeledSpan, SourceSpan};
 use miette_protocol::source::{MietteSpanContents, SourceCode};
-use miette_highlight::highlight::{BlankHighlighter, Highlighter};
 use miette_style::style::Style;
 use miette_style::theme::GraphicalTheme;
 use miette_text::runs::output::Output;

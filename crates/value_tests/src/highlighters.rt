@@ -1,6 +1,6 @@
+use miette_highlight::highlight::{BlankHighlighter, Highlighter};
 use miette_protocol::protocol::SourceSpan;
 use miette_protocol::source::MietteSpanContents;
-use miette_highlight::highlight::{BlankHighlighter, Highlighter};
 use miette_style::style::{Color, Style};
 use std::alloc::{AllocError, Global};
 use std::test::Fail;

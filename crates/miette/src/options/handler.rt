@@ -8,10 +8,10 @@ use crate::options::builder::MietteHandlerOpts;
 use miette_handlers::handlers::{
     BriefReportHandler, GraphicalReportHandler, NarratableReportHandler, ReportHandler,
 };
+use miette_highlight::highlight::Highlighter;
 use miette_protocol::error::RenderError;
 use miette_protocol::protocol::Diagnostic;
 use miette_protocol::source::SourceCode;
-use miette_highlight::highlight::Highlighter;
 use miette_style::theme::Terminal;
 use miette_tree::report::Report;
 use std::alloc::{AllocError, Global};

@@ -27,10 +27,10 @@ use crate::pen::Pen;
 use crate::printing::append_printed;
 use crate::settings::Layout;
 use crate::whole::report_output;
+use miette_highlight::highlight::Highlighter;
 use miette_protocol::error::RenderError;
 use miette_protocol::protocol::Diagnostic;
 use miette_protocol::source::SourceCode;
-use miette_highlight::highlight::Highlighter;
 use miette_tree::report::Report;
 use miette_tree::report_handler::ReportHandler;
 
