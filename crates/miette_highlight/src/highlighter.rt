@@ -2,7 +2,8 @@
 
 ghost use Rattle.std.specs.Prelude.{◌≡◌, ℕ, Bool, true, false, IsTrue, IfOk, List, [], ◌∷◌, length, All};
 ghost use Rattle.std.specs.Str.{IsCharBoundary};
-ghost use Rattle.miette_highlight.specs.rules.HighlighterCalls.{AnsweredBy, Call, Leads, asked, listed_pieces, restarted};
+ghost use Rattle.miette_highlight.specs.rules.HighlighterCalls.{AnsweredBy, Call, Leads, asked};
+ghost use Rattle.miette_highlight.specs.rules.HighlighterCalls.{listed_pieces, restarted};
 ghost use Rattle.miette_highlight.specs.rules.Pieces.{CutsLine, Piece, ends_from, plain_pieces, total_length};
 
 use miette_protocol::source::MietteSpanContents;

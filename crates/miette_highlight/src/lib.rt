@@ -1,4 +1,5 @@
-//! Highlighters of source lines: what each one promises, a piece for each character, and rules for words and for what lies between delimiters.
+//! Highlighters of source lines: what each one promises, one that gives a piece for each character, and one made of
+//! rules for words and for what lies between delimiters.
 #![tactic(auto)]
 
 pub mod characters;
