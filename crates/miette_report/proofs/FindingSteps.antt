@@ -48,7 +48,7 @@ pub trailing_put : {E : Type 0} (r : Result (Unit {0}) E) (end n : ℕ) (text : 
     → OnOk r (new ≡ old ++ finding (codes "trailing blanks") (end - n) end ∷ []) → OnOk r (new ≡ old ++ trailing_space end text)
 trailing_put r end n text old new e some h =
     subst (λ ls. OnOk r (new ≡ old ++ ls))
-    (ap (λ b. cond b [] (finding (codes "trailing blanks") (end - n) end ∷ [])) (sym (unequal n some)) ∙ ap (λ k. cond (eqb k 0) [] (finding (codes "trailing_space blanks") (end - k) end ∷ [])) e) h
+    (ap (λ b. cond b [] (finding (codes "trailing blanks") (end - n) end ∷ [])) (sym (unequal n some)) ∙ ap (λ k. cond (eqb k 0) [] (finding (codes "trailing blanks") (end - k) end ∷ [])) e) h
 
 pub tab_put : {E : Type 0} (r : Result (Unit {0}) E) (start at : ℕ) (text blanks : List ℕ) (old new : List Label) → Some at ≡ tab_after_space blanks → blanks ≡ take_while is_blank text
     → OnOk r (new ≡ old ++ finding (codes "tab after space") (start + at) (start + at + 1) ∷ []) → OnOk r (new ≡ old ++ misplaced_tab start text)
