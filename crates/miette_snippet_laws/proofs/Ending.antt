@@ -12,10 +12,11 @@ use Rattle.miette_lines.specs.rules.Around.{lines_around}
 use Rattle.miette_lines.specs.rules.Contexts.{contents, lines_of_contents}
 use Rattle.miette_lines.specs.rules.Groups.{Refusal, in_order, refusal, groups_of, groups_fail, some_fails}
 use Rattle.miette_lines.specs.rules.Labels.{DrawnLabel, drawn_label, drawn_from, style_at, parts_of, is_at_end, shows_end, some_shows_end}
+use Rattle.miette_snippets.specs.rules.Folds.{Spread, spreads_of}
 use Rattle.miette_snippets.specs.rules.Frames.{SnippetSettings, refused_row, number_width, top_row, bottom_row}
 use Rattle.miette_snippets.specs.rules.Gutters.{gutter_columns}
 use Rattle.miette_snippets.specs.rules.Marks.{Text, marks_from, mark_from, mark_until}
-use Rattle.miette_snippets.specs.rules.SnippetLayout.{cells_of, line_rows, rows_of_lines, body_rows, drawn_labels, all_snippets, settings_around, place_of, rows_unless, snippet_rows}
+use Rattle.miette_snippets.specs.rules.SnippetLayout.{cells_of, line_or_break, rows_of_lines, left_out, body_rows, drawn_labels, all_snippets, settings_around, place_of, rows_unless, snippet_rows}
 use Rattle.miette_page.specs.rules.Rows.{Row}
 use Rattle.miette_snippet_laws.specs.laws.Ends.{last_line, stands_behind, EndsStandBehind, AreBehindText, with_ends}
 use Rattle.miette_lines.proofs.Bridge.{lines_same}
@@ -92,28 +93,29 @@ behind_text text labels = far_from text 0 labels
 
 -- ---- where no label shows the end, nothing changes
 
-lines_alike : (a b : Bool) (s : SnippetSettings) (w columns : ℕ) (labels : List DrawnLabel) (source : List ℕ) (number : ℕ) (pieces : List (List Highlight)) (ls : List Line) →
-    rows_of_lines (with_ends a s) w columns labels source number pieces ls ≡ rows_of_lines (with_ends b s) w columns labels source number pieces ls
-lines_alike a b s w columns labels source number pieces [] = refl
-lines_alike a b s w columns labels source number pieces (l ∷ ls) =
-    ap (λ rows. line_rows (with_ends a s) w columns labels l number (cells_of (with_ends a s) source l) (first_of pieces) ++ rows) (lines_alike a b s w columns labels source (number + 1) (later_of pieces) ls)
+lines_alike : (a b : Bool) (out : ℕ → Line → Bool) (gap : Bool) (s : SnippetSettings) (w columns : ℕ) (labels : List DrawnLabel) (source : List ℕ) (number : ℕ) (pieces : List (List Highlight)) (ls : List Line) →
+    rows_of_lines out gap (with_ends a s) w columns labels source number pieces ls ≡ rows_of_lines out gap (with_ends b s) w columns labels source number pieces ls
+lines_alike a b out gap s w columns labels source number pieces [] = refl
+lines_alike a b out gap s w columns labels source number pieces (l ∷ ls) =
+    ap (λ rows. line_or_break gap (out number l) (with_ends a s) w columns labels l number (cells_of (with_ends a s) source l) (first_of pieces) ++ rows)
+    (lines_alike a b out (out number l) s w columns labels source (number + 1) (later_of pieces) ls)
 
 drawn_alike : (a : Bool) (s : SnippetSettings) (n : ℕ) (labels : List Label) → some_shows_end s.context n labels ≡ false → drawn_labels (with_ends a s) n labels ≡ drawn_labels (with_ends false s) n labels
 drawn_alike a s n labels none = ap (λ ends. drawn_from ends s.styles.highlights n 0 labels) (and_right a _ none)
 
-snippets_alike : (a : Bool) (s : SnippetSettings) (source : Source) (labels : List Label) (pieces : List (List (List Highlight))) (groups : List Span) → some_shows_end s.context (length source.bytes) labels ≡ false →
-    all_snippets (with_ends a s) source labels pieces groups ≡ all_snippets (with_ends false s) source labels pieces groups
-snippets_alike a s source labels pieces [] none = refl
-snippets_alike a s source labels pieces (group ∷ groups) none =
+snippets_alike : (a : Bool) (s : SnippetSettings) (spreads : List Spread) (source : Source) (labels : List Label) (pieces : List (List (List Highlight))) (groups : List Span) → some_shows_end s.context (length source.bytes) labels ≡ false →
+    all_snippets (with_ends a s) spreads source labels pieces groups ≡ all_snippets (with_ends false s) spreads source labels pieces groups
+snippets_alike a s spreads source labels pieces [] none = refl
+snippets_alike a s spreads source labels pieces (group ∷ groups) none =
     let n : ℕ = length source.bytes in
     let read : Contents = contents s.context source group in
     let framed : List Row → List Row = λ rows. top_row s read (place_of source group labels) ∷ rows ++ bottom_row s (number_width read) ∷ [] in
-    let body : List DrawnLabel → List Row = λ drawn. body_rows (with_ends a s) drawn source.bytes read (first_of pieces) in
+    let body : List DrawnLabel → List Row = λ drawn. body_rows (with_ends a s) spreads drawn source.bytes read (first_of pieces) in
     let drawn : List DrawnLabel = drawn_labels (with_ends false s) n labels in
     ap₂ (λ rows more. framed rows ++ more)
     (ap body (drawn_alike a s n labels none)
-    ∙ lines_alike a false s (number_width read) (gutter_columns drawn (lines_of_contents read)) drawn source.bytes (read.line + 1) (first_of pieces) (lines_of_contents read))
-    (snippets_alike a s source labels (later_of pieces) groups none)
+    ∙ lines_alike a false (left_out s read.line (lines_of_contents read) spreads) false s (number_width read) (gutter_columns drawn (lines_of_contents read)) drawn source.bytes (read.line + 1) (first_of pieces) (lines_of_contents read))
+    (snippets_alike a s spreads source labels (later_of pieces) groups none)
 
 unless_alike : (a : Bool) (s : SnippetSettings) (source : Source) (labels : List Label) (answers : Answers) (refused : Option Refusal) → some_shows_end s.context (length source.bytes) labels ≡ false →
     rows_unless (with_ends a s) source labels answers (option_map (refused_row (with_ends a s)) refused) ≡ rows_unless (with_ends false s) source labels answers (option_map (refused_row (with_ends false s)) refused)
@@ -121,7 +123,7 @@ unless_alike a s source labels answers (Some r) none = refl
 unless_alike a s source labels answers None none =
     let groups : List Span = groups_of s.context source answers.join_fails labels in
     ap (λ rows. cond (groups_fail s.context source answers.join_fails labels || some_fails answers.place_fails groups) None (Some rows))
-    (snippets_alike a (settings_around s labels) source labels answers.pieces groups (shows_around s.context (length source.bytes) labels ∙ none))
+    (snippets_alike a (settings_around s labels) (spreads_of s.label_lines s.context source labels) source labels answers.pieces groups (shows_around s.context (length source.bytes) labels ∙ none))
 
 shows_ordered : (context n : ℕ) (labels : List Label) → some_shows_end context n (in_order labels) ≡ some_shows_end context n labels
 shows_ordered context n labels =

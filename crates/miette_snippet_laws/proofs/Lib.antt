@@ -7,7 +7,9 @@ pub mod Columns
 pub mod MaximalRanges
 pub mod Ending
 pub mod Flat
+pub mod Folding
 pub mod Hanging
+pub mod Inside
 pub mod Maximal
 pub mod Numerals
 pub mod Owning
@@ -15,5 +17,7 @@ pub mod PaleSnippets
 pub mod Paling
 pub mod Reread
 pub mod Spreading
+pub mod Stretches
+pub mod Unfolding
 pub mod UnstyledRows
 pub mod Whole

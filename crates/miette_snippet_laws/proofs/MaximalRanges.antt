@@ -10,6 +10,7 @@ use Rattle.miette_protocol.specs.rules.Reading.{Span, Source}
 use Rattle.miette_lines.specs.rules.Answers.{Answers, Highlight, first_of, NoneFails, AlwaysReads}
 use Rattle.miette_lines.specs.rules.Around.{has_own, lines_around, HaveContext, group_context}
 use Rattle.miette_lines.specs.rules.Contexts.{contents}
+use Rattle.miette_snippets.specs.rules.Folds.{Spread, spreads_of}
 use Rattle.miette_snippets.specs.rules.Frames.{SnippetSettings, refused_row}
 use Rattle.miette_lines.specs.rules.Groups as G
 use Rattle.miette_lines.specs.rules.Groups.{in_order, spans_of, groups_answered, own_groups, groups_of, AreAccepted}
@@ -23,9 +24,10 @@ use Rattle.miette_snippets.proofs.Joining as J
 use Rattle.miette_snippets.proofs.Numbers.{filter-none}
 use Rattle.miette_lines.proofs.Numbers.{by_cases}
 use Rattle.miette_snippets.proofs.Bridge.{none_or_some}
-use Rattle.miette_snippets.proofs.Bodies.{joined_runs, joined_bodies, all_framed, none_refused, ordered_accepted}
+use Rattle.miette_snippets.proofs.Bodies.{KeepsAlike, joined_runs, joined_bodies, all_framed, none_refused, ordered_accepted}
 use Rattle.miette_lines.proofs.Bodies.{some_none}
 use Rattle.miette_snippet_laws.proofs.Owning.{Around, order_each, snippets_same, group_blocks, groups_are, groups_there, block_runs, lines_are, block_bodies, nowhere, groups_nowhere, lines_nowhere, snippets_nowhere, body_nowhere}
+use Rattle.miette_snippet_laws.proofs.Folding.{runs_alike, none_alike}
 use Rattle.miette_lines.proofs.Owning.{neither, none_around, own_ordered, order_any}
 use Rattle.miette_snippet_laws.proofs.Spreading.{numbers_of}
 use Rattle.miette_lines.proofs.NoFailures.{none_unread}
@@ -41,7 +43,7 @@ shown_ordered : (context : ℕ) (bytes : List ℕ) (labels : List Label) → N.s
 shown_ordered context bytes labels =
     filter_agree (N.is_shown context bytes (in_order labels)) (N.is_shown context bytes labels) (any_ordered context bytes labels) (range_with_len 0 (length (lines_of bytes)))
 
-around_ordered : (context : ℕ) (labels : List Label) → HaveContext context labels → Around context (in_order labels) (in_order labels)
+pub around_ordered : (context : ℕ) (labels : List Label) → HaveContext context labels → Around context (in_order labels) (in_order labels)
 around_ordered context labels h =
     subst (λ (own : Bool). AllByRecursion (λ label. 1 ≤ unwrap_or label.context (cond own (max 1 context) context)) (in_order labels)) (sym (own_ordered labels))
     (order_each (λ label. 1 ≤ lines_around context labels label) labels h)
@@ -97,42 +99,60 @@ groups_runs context source fails labels h none =
 
 -- ---- the rows between the frames' rows
 
-own_bodies : (s : SnippetSettings) (context : ℕ) (source : Source) (labels : List Label) (drawn : List DrawnLabel) (pieces : List (List (List Highlight))) → s.context ≡ 0 → has_own (in_order labels) ≡ true → HaveContext context labels →
-    (length source.bytes ≡ 0) ⊎ (0 < length source.bytes) →
-    bodies s drawn source pieces (own_groups context source (in_order labels)) ≡ rows_of_ranges s drawn source.bytes pieces (N.snippets context source.bytes labels)
-own_bodies s context source labels drawn pieces bare own h (inl none) =
-    ap (bodies s drawn source pieces) (groups_nowhere context source (in_order labels) (some_labels (in_order labels) own) (around_ordered context labels h) none)
-    ∙ ap (λ c. body_rows s drawn source.bytes (contents c source nowhere) (first_of pieces) ∷ []) bare
-    ∙ ap (λ rows. rows ∷ []) (body_nowhere s drawn source (first_of pieces) none)
-    ∙ ap (rows_of_ranges s drawn source.bytes pieces) (sym (snippets_nowhere context source.bytes labels (some_labels labels (sym (own_ordered labels) ∙ own)) none))
-own_bodies s context source labels drawn pieces bare own h (inr some) =
-    ap (bodies s drawn source pieces) (groups_are context source (in_order labels) (around_ordered context labels h) some)
-    ∙ block_bodies s drawn source pieces (group_blocks context source.bytes (in_order labels)) bare some (groups_there context source.bytes (in_order labels) (around_ordered context labels h) some)
-    ∙ ap (rows_of_ranges s drawn source.bytes pieces) (runs_same context source.bytes labels h some)
+-- in each snippet the lines that are left out are those that aren't kept
+snippets_by : (s : SnippetSettings) (context : ℕ) (source : Source) (labels : List Label) → HaveContext context labels → (length source.bytes ≡ 0) ⊎ (0 < length source.bytes) →
+    AllByRecursion (KeepsAlike s (spreads_of s.label_lines context source (in_order labels)) source.bytes (N.is_kept s.label_lines context source.bytes labels)) (N.snippets context source.bytes labels)
+snippets_by s context source [] h (inl none) = subst (λ rs. AllByRecursion (KeepsAlike s (spreads_of s.label_lines context source []) source.bytes (N.is_kept s.label_lines context source.bytes [])) rs) (sym (no_labels context source.bytes)) tt
+snippets_by s context source (label ∷ labels) h (inl none) =
+    let xs = spreads_of s.label_lines context source (in_order (label ∷ labels)) in
+    let kept = N.is_kept s.label_lines context source.bytes (label ∷ labels) in
+    subst (λ rs. AllByRecursion (KeepsAlike s xs source.bytes kept) rs) (sym (snippets_nowhere context source.bytes (label ∷ labels) (omega arith) none)) (none_alike s xs source.bytes kept, tt)
+snippets_by s context source labels h (inr some) =
+    let alike = runs_alike s context source labels (around_ordered context labels h) some in
+    subst (λ rs. AllByRecursion (KeepsAlike s (spreads_of s.label_lines context source (in_order labels)) source.bytes (N.is_kept s.label_lines context source.bytes labels)) rs)
+    (ap ranges (shown_ordered context source.bytes labels) ∙ sym (some_bytes context source.bytes labels some)) alike
 
-joined_rows : (s : SnippetSettings) (context : ℕ) (source : Source) (labels : List Label) (drawn : List DrawnLabel) (fails : List Bool) (pieces : List (List (List Highlight))) → s.context ≡ context → has_own labels ≡ false →
-    HaveContext context labels → NoneFails fails →
-    bodies s drawn source pieces (groups_answered context source fails (spans_of (in_order labels))) ≡ rows_of_ranges s drawn source.bytes pieces (N.snippets context source.bytes labels)
-joined_rows s context source [] drawn fails pieces same own h none = ap (rows_of_ranges s drawn source.bytes pieces) (sym (no_labels context source.bytes))
-joined_rows s context source (label ∷ labels) drawn fails pieces same own h none =
+own_bodies : (s : SnippetSettings) (spreads : List Spread) (kept : ℕ → Bool) (context : ℕ) (source : Source) (labels : List Label) (drawn : List DrawnLabel) (pieces : List (List (List Highlight))) → s.context ≡ 0 → has_own (in_order labels) ≡ true → HaveContext context labels →
+    AllByRecursion (KeepsAlike s spreads source.bytes kept) (N.snippets context source.bytes labels) → (length source.bytes ≡ 0) ⊎ (0 < length source.bytes) →
+    bodies s spreads drawn source pieces (own_groups context source (in_order labels)) ≡ rows_of_ranges kept s drawn source.bytes pieces (N.snippets context source.bytes labels)
+own_bodies s spreads kept context source labels drawn pieces bare own h alike (inl none) =
+    ap (bodies s spreads drawn source pieces) (groups_nowhere context source (in_order labels) (some_labels (in_order labels) own) (around_ordered context labels h) none)
+    ∙ ap (λ c. body_rows s spreads drawn source.bytes (contents c source nowhere) (first_of pieces) ∷ []) bare
+    ∙ ap (λ rows. rows ∷ []) (body_nowhere s spreads drawn source (first_of pieces) none)
+    ∙ ap (rows_of_ranges kept s drawn source.bytes pieces) (sym (snippets_nowhere context source.bytes labels (some_labels labels (sym (own_ordered labels) ∙ own)) none))
+own_bodies s spreads kept context source labels drawn pieces bare own h alike (inr some) =
+    ap (bodies s spreads drawn source pieces) (groups_are context source (in_order labels) (around_ordered context labels h) some)
+    ∙ block_bodies s spreads kept drawn source pieces (group_blocks context source.bytes (in_order labels)) bare some (groups_there context source.bytes (in_order labels) (around_ordered context labels h) some)
+    (subst (λ rs. AllByRecursion (KeepsAlike s spreads source.bytes kept) rs) (sym (runs_same context source.bytes labels h some)) alike)
+    ∙ ap (rows_of_ranges kept s drawn source.bytes pieces) (runs_same context source.bytes labels h some)
+
+joined_rows : (s : SnippetSettings) (spreads : List Spread) (kept : ℕ → Bool) (context : ℕ) (source : Source) (labels : List Label) (drawn : List DrawnLabel) (fails : List Bool) (pieces : List (List (List Highlight))) → s.context ≡ context → has_own labels ≡ false →
+    HaveContext context labels → AllByRecursion (KeepsAlike s spreads source.bytes kept) (N.snippets context source.bytes labels) → NoneFails fails →
+    bodies s spreads drawn source pieces (groups_answered context source fails (spans_of (in_order labels))) ≡ rows_of_ranges kept s drawn source.bytes pieces (N.snippets context source.bytes labels)
+joined_rows s spreads kept context source [] drawn fails pieces same own h alike none = ap (rows_of_ranges kept s drawn source.bytes pieces) (sym (no_labels context source.bytes))
+joined_rows s spreads kept context source (label ∷ labels) drawn fails pieces same own h alike none =
     let one : 1 ≤ s.context = omega (arith, same, h.0, none_around context (label ∷ labels) label own (neither (is_some label.context) (has_own labels) own).0) in
-    ap (λ c. bodies s drawn source pieces (groups_answered c source fails (spans_of (in_order (label ∷ labels))))) (sym same)
-    ∙ joined_bodies s source (label ∷ labels) drawn fails pieces one none
-    ∙ ap (λ c. rows_of_ranges s drawn source.bytes pieces (J.snippets c source.bytes (map (λ l. l.span) (label ∷ labels)))) same
-    ∙ ap (rows_of_ranges s drawn source.bytes pieces) (sym (snippets_same context source.bytes (label ∷ labels) own))
+    let all : N.snippets context source.bytes (label ∷ labels) ≡ J.snippets s.context source.bytes (map (λ l. l.span) (label ∷ labels)) =
+    snippets_same context source.bytes (label ∷ labels) own ∙ ap (λ c. J.snippets c source.bytes (map (λ l. l.span) (label ∷ labels))) (sym same) in
+    ap (λ c. bodies s spreads drawn source pieces (groups_answered c source fails (spans_of (in_order (label ∷ labels))))) (sym same)
+    ∙ joined_bodies s spreads kept source (label ∷ labels) drawn fails pieces one none (subst (λ rs. AllByRecursion (KeepsAlike s spreads source.bytes kept) rs) all alike)
+    ∙ ap (rows_of_ranges kept s drawn source.bytes pieces) (sym all)
 
 bodies_are_runs : (s : SnippetSettings) (source : Source) (labels : List Label) (drawn : List DrawnLabel) (fails : List Bool) (pieces : List (List (List Highlight))) → HaveContext s.context labels → NoneFails fails →
-    bodies (settings_around s (in_order labels)) drawn source pieces (groups_of s.context source fails (in_order labels))
-    ≡ rows_of_ranges (settings_around s (in_order labels)) drawn source.bytes pieces (N.snippets s.context source.bytes labels)
+    bodies (settings_around s (in_order labels)) (spreads_of s.label_lines s.context source (in_order labels)) drawn source pieces (groups_of s.context source fails (in_order labels))
+    ≡ rows_of_ranges (N.is_kept s.label_lines s.context source.bytes labels) (settings_around s (in_order labels)) drawn source.bytes pieces (N.snippets s.context source.bytes labels)
 bodies_are_runs s source labels drawn fails pieces h none =
     let ls : List Label = in_order labels in
     let s' : SnippetSettings = settings_around s ls in
-    let either : (own : Bool) → has_own ls ≡ own → bodies s' drawn source pieces (groups_of s.context source fails ls)
-    ≡ bodies s' drawn source pieces (cond own (own_groups s.context source ls) (groups_answered s.context source fails (spans_of ls))) =
-    λ own e. ap (λ b. bodies s' drawn source pieces (cond b (own_groups s.context source ls) (groups_answered s.context source fails (spans_of ls)))) e in
-    by_cases {C = bodies s' drawn source pieces (groups_of s.context source fails ls) ≡ rows_of_ranges s' drawn source.bytes pieces (N.snippets s.context source.bytes labels)} (has_own ls)
-    (λ t. either true t ∙ own_bodies s' s.context source labels drawn pieces (ap (λ b. cond b 0 s.context) t) t h (none_or_some (length source.bytes)))
-    (λ f. either false f ∙ joined_rows s' s.context source labels drawn fails pieces (ap (λ b. cond b 0 s.context) f) (sym (own_ordered labels) ∙ f) h none)
+    let xs : List Spread = spreads_of s.label_lines s.context source ls in
+    let kept : ℕ → Bool = N.is_kept s.label_lines s.context source.bytes labels in
+    let alike : AllByRecursion (KeepsAlike s' xs source.bytes kept) (N.snippets s.context source.bytes labels) = snippets_by s' s.context source labels h (none_or_some (length source.bytes)) in
+    let either : (own : Bool) → has_own ls ≡ own → bodies s' xs drawn source pieces (groups_of s.context source fails ls)
+    ≡ bodies s' xs drawn source pieces (cond own (own_groups s.context source ls) (groups_answered s.context source fails (spans_of ls))) =
+    λ own e. ap (λ b. bodies s' xs drawn source pieces (cond b (own_groups s.context source ls) (groups_answered s.context source fails (spans_of ls)))) e in
+    by_cases {C = bodies s' xs drawn source pieces (groups_of s.context source fails ls) ≡ rows_of_ranges kept s' drawn source.bytes pieces (N.snippets s.context source.bytes labels)} (has_own ls)
+    (λ t. either true t ∙ own_bodies s' xs kept s.context source labels drawn pieces (ap (λ b. cond b 0 s.context) t) t h alike (none_or_some (length source.bytes)))
+    (λ f. either false f ∙ joined_rows s' xs kept s.context source labels drawn fails pieces (ap (λ b. cond b 0 s.context) f) (sym (own_ordered labels) ∙ f) h alike none)
 
 pub snippets_are_runs : (s : SnippetSettings) (source : Source) (labels : List Label) (answers : Answers) → HaveContext s.context labels → AreAccepted source.bytes labels → AlwaysReads answers →
     snippet_rows s source labels answers ≡ Some (framed_ranges s source labels answers)
@@ -142,6 +162,6 @@ snippets_are_runs s source labels answers h accepted always =
     let gs : List Span = groups_of s.context source answers.join_fails ls in
     let drawn : List DrawnLabel = drawn_labels s' (length source.bytes) ls in
     ap (λ r. rows_unless s source ls answers (option_map (refused_row s) r)) (none_refused source.bytes answers.label_fails ls always.labels (ordered_accepted source.bytes labels accepted))
-    ∙ ap₂ (λ a b. cond (a || b) None (Some (all_snippets s' source ls answers.pieces gs))) (none_unread s.context source answers.join_fails ls always.joins) (some_none answers.place_fails gs always.places)
-    ∙ ap Some (all_framed s' source ls answers.pieces gs
+    ∙ ap₂ (λ a b. cond (a || b) None (Some (all_snippets s' (spreads_of s.label_lines s.context source ls) source ls answers.pieces gs))) (none_unread s.context source answers.join_fails ls always.joins) (some_none answers.place_fails gs always.places)
+    ∙ ap Some (all_framed s' (spreads_of s.label_lines s.context source ls) source ls answers.pieces gs
     ∙ ap (framed_rows s' source ls gs) (bodies_are_runs s source labels drawn answers.join_fails answers.pieces h always.joins))

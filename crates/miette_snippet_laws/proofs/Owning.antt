@@ -1,5 +1,5 @@
 -- Labels with their own numbers of context lines: their groups show the maximal runs of the shown lines.
-use Rattle.std.proofs.Common.{ℕ, suc, ◌+◌, ◌-◌, ◌<◌, ◌≤◌, ◌≡◌, min, false, leb, List, [], ◌∷◌, ◌&&◌, ◌||◌, length, map, refl, sym, ap, ap₂, ◌∙◌, arith}
+use Rattle.std.proofs.Common.{ℕ, Bool, suc, ◌+◌, ◌-◌, ◌<◌, ◌≤◌, ◌≡◌, min, false, leb, List, [], ◌∷◌, ◌&&◌, ◌||◌, length, map, refl, sym, ap, ap₂, ◌∙◌, arith}
 use Rattle.std.specs.Prelude.{is_some}
 use Rattle.std.proofs.lemmas.List.Elements.{filter_agree}
 use Rattle.std.specs.List.{range_with_len, filter, list_any, AllByRecursion}
@@ -12,12 +12,13 @@ use Rattle.miette_lines.specs.rules.Answers.{Highlight, first_of, later_of}
 use Rattle.miette_lines.specs.rules.Around.{has_own, lines_around}
 use Rattle.miette_lines.specs.rules.Contexts as C
 use Rattle.miette_lines.specs.rules.Contexts.{contents, lines_of_contents}
+use Rattle.miette_snippets.specs.rules.Folds.{Spread}
 use Rattle.miette_snippets.specs.rules.Frames.{SnippetSettings, width_of_lines}
 use Rattle.miette_lines.specs.rules.Groups as G
 use Rattle.miette_lines.specs.rules.Groups.{in_order, put_label, stretch, put_stretch, by_begin, stretches_from, joined_stretches, own_groups}
 use Rattle.miette_snippets.specs.rules.Gutters.{gutter_columns}
 use Rattle.miette_lines.specs.rules.Labels.{DrawnLabel}
-use Rattle.miette_snippets.specs.rules.SnippetLayout.{rows_of_lines, body_rows}
+use Rattle.miette_snippets.specs.rules.SnippetLayout.{rows_of_lines, left_out, body_rows}
 use Rattle.miette_snippets.specs.rules.Numbers.{ranges}
 use Rattle.miette_snippets.specs.rules.ShownLines.{range_rows, rows_of_ranges, bodies}
 use Rattle.miette_snippets.specs.rules.Snippets as N
@@ -27,7 +28,7 @@ use Rattle.miette_lines.proofs.Numbers.{by_cases}
 use Rattle.miette_snippets.proofs.Data.{first-lt, first-le-last}
 use Rattle.miette_snippets.proofs.Bridge.{begin_same, end_data_same}
 use Rattle.miette_lines.proofs.Bridge.{lines_same, some-context}
-use Rattle.miette_snippets.proofs.Bodies.{no_lines, no-part, body_from, context_same}
+use Rattle.miette_snippets.proofs.Bodies.{KeepsAlike, no_lines, no-part, body_from, context_same}
 use Rattle.miette_snippets.proofs.Ends.{empty-end, empty-start}
 use Rattle.miette_snippet_laws.proofs.Reread.{block_line, block_lines, block_numbers}
 use Rattle.miette_snippet_laws.proofs.Spreading.{Block, IsBlock, AreBlocks, span_of, order_same, joined_same, blocks_by_begin, joined_blocks, ordered_there, joined_there, blocks_are_runs, numbers_of, in_blocks}
@@ -132,21 +133,23 @@ lines_are source (b ∷ bs) some h = ap₂ (λ x xs. x ∷ xs) (block_numbers so
 
 -- ---- their rows
 
-block_body : (s : SnippetSettings) (labels : List DrawnLabel) (source : Source) (b : Block) (pieces : List (List Highlight)) → 0 < length source.bytes → IsBlock (length (lines source.bytes)) b →
-    body_rows s labels source.bytes (contents 0 source (span_of source.bytes b)) pieces ≡ range_rows s labels source.bytes pieces (numbers_of (length (lines source.bytes)) b)
-block_body s labels source b pieces some h =
+block_body : (s : SnippetSettings) (spreads : List Spread) (kept : ℕ → Bool) (labels : List DrawnLabel) (source : Source) (b : Block) (pieces : List (List Highlight)) → 0 < length source.bytes → IsBlock (length (lines source.bytes)) b →
+    KeepsAlike s spreads source.bytes kept (numbers_of (length (lines source.bytes)) b) →
+    body_rows s spreads labels source.bytes (contents 0 source (span_of source.bytes b)) pieces ≡ range_rows kept s labels source.bytes pieces (numbers_of (length (lines source.bytes)) b)
+block_body s spreads kept labels source b pieces some h alike =
     let bytes : List ℕ = source.bytes in
     let ls : List Line = lines_of_contents (contents 0 source (span_of bytes b)) in
-    ap (λ n. rows_of_lines s (width_of_lines n ls) (gutter_columns labels ls) labels bytes (n + 1) pieces ls) (block_line source b h)
-    ∙ body_from s labels bytes pieces b.low (min (b.high + 1) (length (lines bytes)) - b.low) ls (block_lines source b some h)
+    ap (λ n. rows_of_lines (left_out s n ls spreads) false s (width_of_lines n ls) (gutter_columns labels ls) labels bytes (n + 1) pieces ls) (block_line source b h)
+    ∙ body_from s spreads kept labels bytes pieces b.low (min (b.high + 1) (length (lines bytes)) - b.low) ls (block_lines source b some h) alike
 
-pub block_bodies : (s : SnippetSettings) (labels : List DrawnLabel) (source : Source) (pieces : List (List (List Highlight))) (bs : List Block) → s.context ≡ 0 → 0 < length source.bytes → AreBlocks (length (lines source.bytes)) bs →
-    bodies s labels source pieces (map (span_of source.bytes) bs) ≡ rows_of_ranges s labels source.bytes pieces (map (numbers_of (length (lines source.bytes))) bs)
-block_bodies s labels source pieces [] e some h = refl
-block_bodies s labels source pieces (b ∷ bs) e some h =
+pub block_bodies : (s : SnippetSettings) (spreads : List Spread) (kept : ℕ → Bool) (labels : List DrawnLabel) (source : Source) (pieces : List (List (List Highlight))) (bs : List Block) → s.context ≡ 0 → 0 < length source.bytes → AreBlocks (length (lines source.bytes)) bs →
+    AllByRecursion (KeepsAlike s spreads source.bytes kept) (map (numbers_of (length (lines source.bytes))) bs) →
+    bodies s spreads labels source pieces (map (span_of source.bytes) bs) ≡ rows_of_ranges kept s labels source.bytes pieces (map (numbers_of (length (lines source.bytes))) bs)
+block_bodies s spreads kept labels source pieces [] e some h alike = refl
+block_bodies s spreads kept labels source pieces (b ∷ bs) e some h alike =
     ap₂ (λ x xs. x ∷ xs)
-    (ap (λ c. body_rows s labels source.bytes (contents c source (span_of source.bytes b)) (first_of pieces)) e ∙ block_body s labels source b (first_of pieces) some h.0)
-    (block_bodies s labels source (later_of pieces) bs e some h.1)
+    (ap (λ c. body_rows s spreads labels source.bytes (contents c source (span_of source.bytes b)) (first_of pieces)) e ∙ block_body s spreads kept labels source b (first_of pieces) some h.0 alike.0)
+    (block_bodies s spreads kept labels source (later_of pieces) bs e some h.1 alike.1)
 
 -- ---- an empty source
 
@@ -210,9 +213,9 @@ snippets_nowhere context bytes [] some none = absurd (omega (arith, some))
 snippets_nowhere context [] (label ∷ labels) some none = refl
 snippets_nowhere context (byte ∷ bytes) (label ∷ labels) some none = absurd (omega (arith, none))
 
-pub body_nowhere : (s : SnippetSettings) (labels : List DrawnLabel) (source : Source) (pieces : List (List Highlight)) → length source.bytes ≡ 0 →
-    body_rows s labels source.bytes (contents 0 source nowhere) pieces ≡ []
-body_nowhere s labels source pieces none =
+pub body_nowhere : (s : SnippetSettings) (spreads : List Spread) (labels : List DrawnLabel) (source : Source) (pieces : List (List Highlight)) → length source.bytes ≡ 0 →
+    body_rows s spreads labels source.bytes (contents 0 source nowhere) pieces ≡ []
+body_nowhere s spreads labels source pieces none =
     let read : Contents = contents 0 source nowhere in
-    ap (λ ls. rows_of_lines s (width_of_lines read.line ls) (gutter_columns labels ls) labels source.bytes (read.line + 1) pieces ls)
+    ap (λ ls. rows_of_lines (left_out s read.line ls spreads) false s (width_of_lines read.line ls) (gutter_columns labels ls) labels source.bytes (read.line + 1) pieces ls)
     (no_lines 0 read.bytes (no-part source.bytes 0 (R.data_end source.bytes nowhere 0) none))

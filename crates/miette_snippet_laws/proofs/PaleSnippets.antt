@@ -12,17 +12,18 @@ use Rattle.miette_snippet_laws.specs.laws.Clean.{IsClean, IsCleanText, IsCleanRo
 use Rattle.miette_lines.specs.rules.Contexts.{contents, lines_of_contents, is_accepted}
 use Rattle.miette_snippets.specs.rules.Drawing.{marked_rows}
 use Rattle.miette_snippet_laws.specs.laws.Fading.{colourless, unhighlighted_answers, IsPlainRow}
-use Rattle.miette_snippets.specs.rules.Frames.{SnippetSettings, Place, text_or_none, refused_row, number_start, other_start, place_text, location, location_of, top_row_of, bottom_row, number_width}
+use Rattle.miette_snippets.specs.rules.Folds.{Spread, spreads_of}
+use Rattle.miette_snippets.specs.rules.Frames.{SnippetSettings, Place, text_or_none, refused_row, number_start, other_start, break_start, place_text, location, location_of, top_row_of, bottom_row, number_width}
 use Rattle.miette_lines.specs.rules.Groups.{Refusal, refusal, in_order, groups_of, some_fails, groups_fail}
-use Rattle.miette_snippets.specs.rules.Gutters.{number_gutter, other_gutter, closing_rows, gutter_columns}
+use Rattle.miette_snippets.specs.rules.Gutters.{number_gutter, other_gutter, break_gutter, closing_rows, gutter_columns}
 use Rattle.miette_lines.specs.rules.Labels.{DrawnLabel, some_shows_end, one_line, multi_line, closing_labels, is_one_line, is_multi_line, ends_on, starts_on}
-use Rattle.miette_snippets.specs.rules.SnippetLayout.{text_of_cells, cells_of, before_each, line_rows_of, line_rows, rows_of_lines, body_rows, place_of, drawn_labels, snippet, all_snippets, settings_around, rows_unless, snippet_rows}
+use Rattle.miette_snippets.specs.rules.SnippetLayout.{text_of_cells, cells_of, before_each, line_rows_of, line_rows, break_row, line_or_break, rows_of_lines, left_out, body_rows, place_of, drawn_labels, snippet, all_snippets, settings_around, rows_unless, snippet_rows}
 use Rattle.miette_snippets.specs.rules.Marks.{marks}
 use Rattle.miette_page.specs.rules.Rows.{Run, Row, pieces_of, plain_run}
 use Rattle.miette_style.specs.rules.Styles.{plain}
 use Rattle.miette_snippet_laws.proofs.Bleaching.{filter_bleached, all_filter, marks_bleached, marks_clean, gutter_bleached, drawn_bleached, drawn_clean, ordered_clean}
 use Rattle.miette_snippet_laws.proofs.CleanTexts.{AreCleanCells, clean_cons, clean_append, clean_replicate, clean_if, clean_range, clean_decimal, clean_characters, clean_cells, clean_line, line_same}
-use Rattle.miette_snippet_laws.proofs.Paling.{bleached, HasCleanParts, PaleRow, PaleRows, pale_nil, pale_cons, pale_append, pale_if, rows_nil, rows_cons, rows_append, pale_styled, pale_blank, pale_number_gutter, pale_other_gutter, pale_closing_rows, pale_marked, all_append}
+use Rattle.miette_snippet_laws.proofs.Paling.{bleached, HasCleanParts, PaleRow, PaleRows, pale_nil, pale_cons, pale_append, pale_if, rows_nil, rows_cons, rows_append, pale_styled, pale_blank, pale_number_gutter, pale_other_gutter, pale_break_gutter, pale_closing_rows, pale_marked, all_append}
 use Rattle.miette_snippet_laws.proofs.Flat.{pieces_of-append}
 
 before_all : (Q : Run → Type 0) (front : Row) (rows : List Row) → AllByRecursion Q front → AllByRecursion (AllByRecursion Q) rows → AllByRecursion (AllByRecursion Q) (before_each front rows)
@@ -141,46 +142,68 @@ module _ (P : Type 0) (s : SnippetSettings) (clean : P → AreCleanDrawings s.ch
 
   -- ---- snippets
 
-  pale_lines : (w columns : ℕ) (labels : List DrawnLabel) (source : List ℕ) (number : ℕ) (pieces : List (List Highlight)) (lines : List Line) →
+  pale_break_start : (w : ℕ) → PaleRow P (break_start (colourless s) w) (break_start s w)
+  pale_break_start w =
+      pale_cons P (pale_blank P s.width (w - 1))
+      (pale_unstyled (codes "..." ++ s.characters.vbar ∷ []) (λ p. clean_append (codes "...") (s.characters.vbar ∷ []) refl (clean_cons s.characters.vbar [] (clean p).vbar refl)))
+
+  pale_break : (w : ℕ) (labels : List DrawnLabel) → PaleRow P (break_row (colourless s) w (map bleached labels)) (break_row s w labels)
+  pale_break w labels =
+      pale_append P (break_start (colourless s) w) (break_start s w) (break_gutter s.width s.characters (map bleached labels)) (break_gutter s.width s.characters labels)
+      (pale_break_start w) (pale_break_gutter P s.width s.characters clean labels)
+
+  rows_if : (b : Bool) {xs ys us vs : List Row} → PaleRows P xs ys → PaleRows P us vs → PaleRows P (if b then xs else us) (if b then ys else vs)
+  rows_if true h k = h
+  rows_if false h k = k
+
+  pale_line_or_break : (gap out : Bool) (w columns : ℕ) (labels : List DrawnLabel) (line : Line) (number : ℕ) (cells : List Cell) (pieces : List Highlight) →
+      (P → AllByRecursion HasCleanParts labels) → (P → AreCleanCells cells) →
+      PaleRows P (line_or_break gap out (colourless s) w columns (map bleached labels) line number cells []) (line_or_break gap out s w columns labels line number cells pieces)
+  pale_line_or_break gap out w columns labels line number cells pieces h j =
+      let break : PaleRow P (break_row (colourless s) w (multi_line line (map bleached labels))) (break_row s w (multi_line line labels)) =
+      subst (λ multi. PaleRow P (break_row (colourless s) w multi) (break_row s w (multi_line line labels))) (sym (filter_bleached (is_multi_line line) (λ label. refl) labels)) (pale_break w (multi_line line labels)) in
+      rows_if out (rows_if gap (rows_nil P) (rows_cons P break (rows_nil P))) (pale_line_rows w columns labels line number cells pieces h j)
+
+  pale_lines : (out : ℕ → Line → Bool) (gap : Bool) (w columns : ℕ) (labels : List DrawnLabel) (source : List ℕ) (number : ℕ) (pieces : List (List Highlight)) (lines : List Line) →
       (P → AllByRecursion HasCleanParts labels) → (P → IsClean source) →
-      PaleRows P (rows_of_lines (colourless s) w columns (map bleached labels) source number [] lines) (rows_of_lines s w columns labels source number pieces lines)
-  pale_lines w columns labels source number pieces [] h k = rows_nil P
-  pale_lines w columns labels source number pieces (line ∷ lines) h k =
-      rows_append P (line_rows (colourless s) w columns (map bleached labels) line number (cells_of s source line) []) (line_rows s w columns labels line number (cells_of s source line) (first_of pieces))
-      (rows_of_lines (colourless s) w columns (map bleached labels) source (number + 1) [] lines) (rows_of_lines s w columns labels source (number + 1) (later_of pieces) lines)
-      (pale_line_rows w columns labels line number (cells_of s source line) (first_of pieces) h (λ p.
+      PaleRows P (rows_of_lines out gap (colourless s) w columns (map bleached labels) source number [] lines) (rows_of_lines out gap s w columns labels source number pieces lines)
+  pale_lines out gap w columns labels source number pieces [] h k = rows_nil P
+  pale_lines out gap w columns labels source number pieces (line ∷ lines) h k =
+      rows_append P (line_or_break gap (out number line) (colourless s) w columns (map bleached labels) line number (cells_of s source line) []) (line_or_break gap (out number line) s w columns labels line number (cells_of s source line) (first_of pieces))
+      (rows_of_lines out (out number line) (colourless s) w columns (map bleached labels) source (number + 1) [] lines) (rows_of_lines out (out number line) s w columns labels source (number + 1) (later_of pieces) lines)
+      (pale_line_or_break gap (out number line) w columns labels line number (cells_of s source line) (first_of pieces) h (λ p.
       let text = slice_range source line.start line.text_end in
       clean_cells s.width s.tab false line.start 0 (characters text) (clean_characters text (clean_range source line.start line.text_end (k p)))))
-      (pale_lines w columns labels source (number + 1) (later_of pieces) lines h k)
+      (pale_lines out (out number line) w columns labels source (number + 1) (later_of pieces) lines h k)
 
-  pale_body : (labels : List DrawnLabel) (source : List ℕ) (read : Contents) (pieces : List (List Highlight)) → (P → AllByRecursion HasCleanParts labels) → (P → IsClean source) →
-      PaleRows P (body_rows (colourless s) (map bleached labels) source read []) (body_rows s labels source read pieces)
-  pale_body labels source read pieces h k =
+  pale_body : (spreads : List Spread) (labels : List DrawnLabel) (source : List ℕ) (read : Contents) (pieces : List (List Highlight)) → (P → AllByRecursion HasCleanParts labels) → (P → IsClean source) →
+      PaleRows P (body_rows (colourless s) spreads (map bleached labels) source read []) (body_rows s spreads labels source read pieces)
+  pale_body spreads labels source read pieces h k =
       let lines = lines_of_contents read in
-      subst (λ columns. PaleRows P (rows_of_lines (colourless s) (number_width read) columns (map bleached labels) source (read.line + 1) [] lines) (body_rows s labels source read pieces)) (sym (gutter_bleached labels lines))
-      (pale_lines (number_width read) (gutter_columns labels lines) labels source (read.line + 1) pieces lines h k)
+      subst (λ columns. PaleRows P (rows_of_lines (left_out s read.line lines spreads) false (colourless s) (number_width read) columns (map bleached labels) source (read.line + 1) [] lines) (body_rows s spreads labels source read pieces)) (sym (gutter_bleached labels lines))
+      (pale_lines (left_out s read.line lines spreads) false (number_width read) (gutter_columns labels lines) labels source (read.line + 1) pieces lines h k)
 
-  pale_snippet : (source : Source) (labels : List Label) (group : Span) (pieces : List (List Highlight)) → (P → IsCleanSource source) → (P → AllByRecursion IsCleanLabel labels) →
-      PaleRows P (snippet (colourless s) source labels group []) (snippet s source labels group pieces)
-  pale_snippet source labels group pieces h k =
+  pale_snippet : (spreads : List Spread) (source : Source) (labels : List Label) (group : Span) (pieces : List (List Highlight)) → (P → IsCleanSource source) → (P → AllByRecursion IsCleanLabel labels) →
+      PaleRows P (snippet (colourless s) spreads source labels group []) (snippet s spreads source labels group pieces)
+  pale_snippet spreads source labels group pieces h k =
       let n = length source.bytes in
       let read = contents s.context source group in
       let ends : Bool = s.end_labels && some_shows_end s.context n labels in
       let drawn = drawn_labels s n labels in
-      let body : PaleRows P (body_rows (colourless s) (drawn_labels (colourless s) n labels) source.bytes read []) (body_rows s drawn source.bytes read pieces) =
-      subst (λ ls. PaleRows P (body_rows (colourless s) ls source.bytes read []) (body_rows s drawn source.bytes read pieces)) (sym (drawn_bleached ends s.styles.highlights n 0 labels))
-      (pale_body drawn source.bytes read pieces (λ p. drawn_clean ends s.styles.highlights n 0 labels (k p)) (λ p. (h p).bytes)) in
+      let body : PaleRows P (body_rows (colourless s) spreads (drawn_labels (colourless s) n labels) source.bytes read []) (body_rows s spreads drawn source.bytes read pieces) =
+      subst (λ ls. PaleRows P (body_rows (colourless s) spreads ls source.bytes read []) (body_rows s spreads drawn source.bytes read pieces)) (sym (drawn_bleached ends s.styles.highlights n 0 labels))
+      (pale_body spreads drawn source.bytes read pieces (λ p. drawn_clean ends s.styles.highlights n 0 labels (k p)) (λ p. (h p).bytes)) in
       rows_cons P (pale_top (number_width read) source.name (nat_lt 1 (length (lines_of_contents read))) (place_of source group labels) (λ p. (h p).name))
-      (rows_append P (body_rows (colourless s) (drawn_labels (colourless s) n labels) source.bytes read []) (body_rows s drawn source.bytes read pieces)
+      (rows_append P (body_rows (colourless s) spreads (drawn_labels (colourless s) n labels) source.bytes read []) (body_rows s spreads drawn source.bytes read pieces)
       (bottom_row (colourless s) (number_width read) ∷ []) (bottom_row s (number_width read) ∷ []) body (rows_cons P (pale_bottom (number_width read)) (rows_nil P)))
 
-  pale_all : (source : Source) (labels : List Label) (pieces : List (List (List Highlight))) (groups : List Span) → (P → IsCleanSource source) → (P → AllByRecursion IsCleanLabel labels) →
-      PaleRows P (all_snippets (colourless s) source labels [] groups) (all_snippets s source labels pieces groups)
-  pale_all source labels pieces [] h k = rows_nil P
-  pale_all source labels pieces (group ∷ groups) h k =
-      rows_append P (snippet (colourless s) source labels group []) (snippet s source labels group (first_of pieces))
-      (all_snippets (colourless s) source labels [] groups) (all_snippets s source labels (later_of pieces) groups)
-      (pale_snippet source labels group (first_of pieces) h k) (pale_all source labels (later_of pieces) groups h k)
+  pale_all : (spreads : List Spread) (source : Source) (labels : List Label) (pieces : List (List (List Highlight))) (groups : List Span) → (P → IsCleanSource source) → (P → AllByRecursion IsCleanLabel labels) →
+      PaleRows P (all_snippets (colourless s) spreads source labels [] groups) (all_snippets s spreads source labels pieces groups)
+  pale_all spreads source labels pieces [] h k = rows_nil P
+  pale_all spreads source labels pieces (group ∷ groups) h k =
+      rows_append P (snippet (colourless s) spreads source labels group []) (snippet s spreads source labels group (first_of pieces))
+      (all_snippets (colourless s) spreads source labels [] groups) (all_snippets s spreads source labels (later_of pieces) groups)
+      (pale_snippet spreads source labels group (first_of pieces) h k) (pale_all spreads source labels (later_of pieces) groups h k)
 
   -- ---- a refused label
 
@@ -233,7 +256,7 @@ module _ (P : Type 0) (s : SnippetSettings) (clean : P → AreCleanDrawings s.ch
   pale_unless source labels answers None h k j =
       let groups = groups_of s.context source answers.join_fails labels in
       given_unless P s clean (groups_fail s.context source answers.join_fails labels || some_fails answers.place_fails groups)
-      (pale_all P (settings_around s labels) clean source labels answers.pieces groups h k)
+      (pale_all P (settings_around s labels) clean (spreads_of s.label_lines s.context source labels) source labels answers.pieces groups h k)
 
   pub pale_snippets : (source : Source) (labels : List Label) (answers : Answers) → (P → IsCleanSource source) → (P → AllByRecursion IsCleanLabel labels) →
       PaleGiven P (snippet_rows (colourless s) source labels (unhighlighted_answers answers)) (snippet_rows s source labels answers)

@@ -7,7 +7,7 @@ use Rattle.miette_newlines.specs.rules.Lines.{Line}
 use Rattle.miette_snippet_laws.specs.laws.Clean.{IsCleanCode, IsClean, IsCleanRow, AreCleanDrawings}
 use Rattle.miette_snippets.specs.rules.Drawing.{blank, code_with_parts, mark_code, mark_run, mark_runs, lead_runs, text_row, corner, corner_of_several, beside, rows_of_parts, rows_below, marked_rows}
 use Rattle.miette_snippet_laws.specs.laws.Fading.{IsPlainRow}
-use Rattle.miette_snippets.specs.rules.Gutters.{ending_corner, arrow, number_gutter, other_gutter, open_gutter, part_run, closing_parts, closing_rows}
+use Rattle.miette_snippets.specs.rules.Gutters.{ending_corner, arrow, bar, number_gutter, break_gutter, other_gutter, open_gutter, part_run, closing_parts, closing_rows}
 use Rattle.miette_lines.specs.rules.Labels.{DrawnLabel, is_empty, starts_on, ends_on}
 use Rattle.miette_snippets.specs.rules.Marks.{Mark, anchor}
 use Rattle.miette_page.specs.rules.Rows.{Run, Row, pieces_of, styled_run}
@@ -117,6 +117,14 @@ module _ (P : Type 0) where
         pale_if (starts_on line label) (pale_cons (pale_arrow label t.ltop left (λ p. (clean p).ltop)) gap)
         (pale_if (ends_on line label) (pale_cons (pale_arrow label (ending_corner t label.parts) left (corner_clean label.parts)) gap)
         (pale_cons (vbar_run label.style) (pale_number_gutter line (left - 1) labels)))
+
+    pale_bars : (labels : List DrawnLabel) → PaleRow P (map (bar width t) (map bleached labels)) (map (bar width t) labels)
+    pale_bars [] = pale_nil
+    pale_bars (label ∷ labels) = pale_cons (vbar_run label.style) (pale_bars labels)
+
+    pub pale_break_gutter : (labels : List DrawnLabel) → PaleRow P (break_gutter width t (map bleached labels)) (break_gutter width t labels)
+    pale_break_gutter [] = pale_nil
+    pale_break_gutter (label ∷ labels) = pale_cons (pale_blank width 1) (pale_bars (label ∷ labels))
 
     pub pale_other_gutter : (line : Line) (left : ℕ) (labels : List DrawnLabel) → PaleRow P (other_gutter width t line left (map bleached labels)) (other_gutter width t line left labels)
     pale_other_gutter line left [] = pale_cons (pale_blank width left) pale_nil

@@ -3,4 +3,5 @@ pub mod Belonging
 pub mod Clean
 pub mod Ends
 pub mod Fading
+pub mod Folding
 pub mod Pictures

@@ -1,9 +1,9 @@
 -- Snippets draw the maximal runs of shown lines.
-use Rattle.std.proofs.Common.{ℕ, zero, suc, ◌+◌, ◌-◌, ◌<◌, ◌≤◌, ◌≡◌, ◌⊎◌, inl, inr, min, Bool, true, false, leb, List, [], ◌∷◌, ◌++◌, ◌&&◌, length, map, drop, None, refl, sym, ap, ◌∙◌, arith}
+use Rattle.std.proofs.Common.{ℕ, zero, suc, ◌+◌, ◌-◌, ◌<◌, ◌≤◌, ◌≡◌, ◌⊎◌, inl, inr, min, Bool, true, false, leb, List, [], ◌∷◌, ◌++◌, ◌&&◌, not, length, map, drop, None, refl, sym, ap, subst, ◌∙◌, arith}
 use Rattle.std.specs.Prelude.{decimal, slice_range}
 use Rattle.std.proofs.lemmas.List.{length-drop, length-take}
 use Rattle.std.proofs.lemmas.List.FromFn.{length-map-range_with_len}
-use Rattle.std.specs.List.{range_with_len, filter}
+use Rattle.std.specs.List.{range_with_len, filter, AllByRecursion}
 use Rattle.miette_newlines.specs.rules.Lines as P
 use Rattle.miette_newlines.specs.rules.Lines.{Line, lines_of}
 use Rattle.miette_protocol.specs.views.Meaning.{Label}
@@ -18,8 +18,9 @@ use Rattle.miette_lines.specs.rules.Groups.{joins_before, joined_span, groups_fr
 use Rattle.miette_snippets.specs.rules.Snippets as N
 use Rattle.miette_lines.specs.rules.Labels.{DrawnLabel}
 use Rattle.miette_snippets.specs.rules.Gutters.{gutter_columns}
+use Rattle.miette_snippets.specs.rules.Folds.{Spread}
 use Rattle.miette_snippets.specs.rules.Frames.{SnippetSettings, width_of_lines}
-use Rattle.miette_snippets.specs.rules.SnippetLayout.{rows_of_lines, body_rows, line_rows, cells_of, snippet, all_snippets, drawn_labels}
+use Rattle.miette_snippets.specs.rules.SnippetLayout.{rows_of_lines, left_out, line_or_break, body_rows, cells_of, snippet, all_snippets, drawn_labels}
 use Rattle.miette_snippets.specs.rules.ShownLines.{line_at, numbered_rows, range_width, range_rows, rows_of_ranges, bodies, framed_rows}
 use Rattle.miette_lines.proofs.Sources.{lines, start_of, end_of, first_line, last_line, read, lines_in}
 use Rattle.miette_snippets.proofs.Joining as J
@@ -47,12 +48,20 @@ width_is f low (suc many) =
     omega (arith, length-map-range_with_len f low (suc many), last_of-range low many) in
     ap (λ n. length (decimal n)) last
 
-rows_are : (s : SnippetSettings) (w columns : ℕ) (labels : List DrawnLabel) (source : List ℕ) (low many : ℕ) (pieces : List (List Highlight)) →
-    rows_of_lines s w columns labels source (low + 1) pieces (map (line_at (lines_of source)) (range_with_len low many)) ≡ numbered_rows s w columns labels source pieces (range_with_len low many)
-rows_are s w columns labels source low zero pieces = refl
-rows_are s w columns labels source low (suc many) pieces =
-    ap (λ r. line_rows s w columns labels (line_at (lines_of source) low) (low + 1) (cells_of s source (line_at (lines_of source) low)) (first_of pieces) ++ r)
-    (rows_are s w columns labels source (low + 1) many (later_of pieces))
+-- a test of lines leaves out what another one, of numbers, doesn't keep
+abbrev pub LeaveAlike : List Line → (ℕ → Line → Bool) → (ℕ → Bool) → ℕ → ℕ → Type 0
+LeaveAlike lines out kept low many = (k : ℕ) → low ≤ k → k < low + many → out (k + 1) (line_at lines k) ≡ not (kept k)
+
+rows_are : (out : ℕ → Line → Bool) (kept : ℕ → Bool) (gap : Bool) (s : SnippetSettings) (w columns : ℕ) (labels : List DrawnLabel) (source : List ℕ) (low many : ℕ) (pieces : List (List Highlight)) →
+    LeaveAlike (lines_of source) out kept low many →
+    rows_of_lines out gap s w columns labels source (low + 1) pieces (map (line_at (lines_of source)) (range_with_len low many)) ≡ numbered_rows kept gap s w columns labels source pieces (range_with_len low many)
+rows_are out kept gap s w columns labels source low zero pieces h = refl
+rows_are out kept gap s w columns labels source low (suc many) pieces h =
+    let l : Line = line_at (lines_of source) low in
+    ap (λ o. line_or_break gap o s w columns labels l (low + 1) (cells_of s source l) (first_of pieces)
+    ++ rows_of_lines out o s w columns labels source (low + 1 + 1) (later_of pieces) (map (line_at (lines_of source)) (range_with_len (low + 1) many))) (h low (omega arith) (omega arith))
+    ∙ ap (λ r. line_or_break gap (not (kept low)) s w columns labels l (low + 1) (cells_of s source l) (first_of pieces) ++ r)
+    (rows_are out kept (not (kept low)) s w columns labels source (low + 1) many (later_of pieces) (λ k a b. h k (omega arith) (omega arith)))
 
 -- bytes that are none have no lines
 pub no_lines : (at : ℕ) (bytes : List ℕ) → length bytes ≡ 0 → P.lines_from at bytes ≡ []
@@ -104,28 +113,37 @@ pub lines_are : (c : ℕ) (source : Source) (span : Span) → 1 ≤ c →
     lines_of_contents (contents c source span) ≡ map (line_at (lines_of source.bytes)) (range_with_len (first_line c source.bytes span) (many_of c source.bytes span))
 lines_are c source span one = lines_by c source span one (none_or_some (length source.bytes))
 
-pub body_from : (s : SnippetSettings) (labels : List DrawnLabel) (source : List ℕ) (pieces : List (List Highlight)) (low many : ℕ) (ls : List Line) → ls ≡ map (line_at (lines_of source)) (range_with_len low many) →
-    rows_of_lines s (width_of_lines low ls) (gutter_columns labels ls) labels source (low + 1) pieces ls ≡ range_rows s labels source pieces (range_with_len low many)
-body_from s labels source pieces low many ls e =
+-- what is left out of the lines of a run isn't kept
+abbrev pub KeepsAlike : SnippetSettings → List Spread → List ℕ → (ℕ → Bool) → List ℕ → Type 0
+KeepsAlike s spreads bytes kept run = (low many : ℕ) → run ≡ range_with_len low many →
+    LeaveAlike (lines_of bytes) (left_out s low (map (line_at (lines_of bytes)) (range_with_len low many)) spreads) kept low many
+
+pub body_from : (s : SnippetSettings) (spreads : List Spread) (kept : ℕ → Bool) (labels : List DrawnLabel) (source : List ℕ) (pieces : List (List Highlight)) (low many : ℕ) (ls : List Line) →
+    ls ≡ map (line_at (lines_of source)) (range_with_len low many) → KeepsAlike s spreads source kept (range_with_len low many) →
+    rows_of_lines (left_out s low ls spreads) false s (width_of_lines low ls) (gutter_columns labels ls) labels source (low + 1) pieces ls ≡ range_rows kept s labels source pieces (range_with_len low many)
+body_from s spreads kept labels source pieces low many ls e h =
     let mapped : List Line = map (line_at (lines_of source)) (range_with_len low many) in
-    ap (λ xs. rows_of_lines s (width_of_lines low xs) (gutter_columns labels xs) labels source (low + 1) pieces xs) e
-    ∙ ap (λ w. rows_of_lines s w (gutter_columns labels mapped) labels source (low + 1) pieces mapped) (width_is (line_at (lines_of source)) low many)
-    ∙ rows_are s (range_width (range_with_len low many)) (gutter_columns labels mapped) labels source low many pieces
+    ap (λ xs. rows_of_lines (left_out s low xs spreads) false s (width_of_lines low xs) (gutter_columns labels xs) labels source (low + 1) pieces xs) e
+    ∙ ap (λ w. rows_of_lines (left_out s low mapped spreads) false s w (gutter_columns labels mapped) labels source (low + 1) pieces mapped) (width_is (line_at (lines_of source)) low many)
+    ∙ rows_are (left_out s low mapped spreads) kept false s (range_width (range_with_len low many)) (gutter_columns labels mapped) labels source low many pieces (h low many refl)
 
-pub body_is : (s : SnippetSettings) (labels : List DrawnLabel) (source : Source) (c : ℕ) (span : Span) (pieces : List (List Highlight)) → 1 ≤ c →
-    body_rows s labels source.bytes (contents c source span) pieces ≡ range_rows s labels source.bytes pieces (lines_in source.bytes (read c source.bytes span))
-body_is s labels source c span pieces one =
+pub body_is : (s : SnippetSettings) (spreads : List Spread) (kept : ℕ → Bool) (labels : List DrawnLabel) (source : Source) (c : ℕ) (span : Span) (pieces : List (List Highlight)) → 1 ≤ c →
+    KeepsAlike s spreads source.bytes kept (lines_in source.bytes (read c source.bytes span)) →
+    body_rows s spreads labels source.bytes (contents c source span) pieces ≡ range_rows kept s labels source.bytes pieces (lines_in source.bytes (read c source.bytes span))
+body_is s spreads kept labels source c span pieces one h =
     let ls : List Line = lines_of_contents (contents c source span) in
-    ap (λ n. rows_of_lines s (width_of_lines n ls) (gutter_columns labels ls) labels source.bytes (n + 1) pieces ls) (line_same c source span)
-    ∙ body_from s labels source.bytes pieces (first_line c source.bytes span) (many_of c source.bytes span) ls (lines_are c source span one)
-    ∙ ap (range_rows s labels source.bytes pieces) (sym (run_of c source.bytes span one))
+    ap (λ n. rows_of_lines (left_out s n ls spreads) false s (width_of_lines n ls) (gutter_columns labels ls) labels source.bytes (n + 1) pieces ls) (line_same c source span)
+    ∙ body_from s spreads kept labels source.bytes pieces (first_line c source.bytes span) (many_of c source.bytes span) ls (lines_are c source span one)
+    (subst (λ (run : List ℕ). KeepsAlike s spreads source.bytes kept run) (run_of c source.bytes span one) h)
+    ∙ ap (range_rows kept s labels source.bytes pieces) (sym (run_of c source.bytes span one))
 
-bodies_are : (s : SnippetSettings) (labels : List DrawnLabel) (source : Source) (pieces : List (List (List Highlight))) (spans : List Span) → 1 ≤ s.context →
-    bodies s labels source pieces spans ≡ rows_of_ranges s labels source.bytes pieces (lines_of_groups s.context source.bytes spans)
-bodies_are s labels source pieces [] one = refl
-bodies_are s labels source pieces (span ∷ spans) one =
-    ap (λ r. r ∷ bodies s labels source (later_of pieces) spans) (body_is s labels source s.context span (first_of pieces) one)
-    ∙ ap (λ r. range_rows s labels source.bytes (first_of pieces) (lines_in source.bytes (read s.context source.bytes span)) ∷ r) (bodies_are s labels source (later_of pieces) spans one)
+bodies_are : (s : SnippetSettings) (spreads : List Spread) (kept : ℕ → Bool) (labels : List DrawnLabel) (source : Source) (pieces : List (List (List Highlight))) (spans : List Span) → 1 ≤ s.context →
+    AllByRecursion (KeepsAlike s spreads source.bytes kept) (lines_of_groups s.context source.bytes spans) →
+    bodies s spreads labels source pieces spans ≡ rows_of_ranges kept s labels source.bytes pieces (lines_of_groups s.context source.bytes spans)
+bodies_are s spreads kept labels source pieces [] one h = refl
+bodies_are s spreads kept labels source pieces (span ∷ spans) one h =
+    ap (λ r. r ∷ bodies s spreads labels source (later_of pieces) spans) (body_is s spreads kept labels source s.context span (first_of pieces) one h.0)
+    ∙ ap (λ r. range_rows kept s labels source.bytes (first_of pieces) (lines_in source.bytes (read s.context source.bytes span)) ∷ r) (bodies_are s spreads kept labels source (later_of pieces) spans one h.1)
 
 -- groups where no read fails
 
@@ -216,19 +234,22 @@ joined_runs c source fails labels one none =
     groups_same c source (groups_answered c source fails (spans_of (in_order labels))) one ∙ runs_answered c source fails labels one none
 
 -- the rows between the frames' rows are those of the maximal runs of shown lines, each with its number and its own cells
-pub joined_bodies : (s : SnippetSettings) (source : Source) (labels : List Label) (drawn : List DrawnLabel) (fails : List Bool) (pieces : List (List (List Highlight))) → 1 ≤ s.context → NoneFails fails →
-    bodies s drawn source pieces (groups_answered s.context source fails (spans_of (in_order labels))) ≡ rows_of_ranges s drawn source.bytes pieces (J.snippets s.context source.bytes (map (λ l. l.span) labels))
-joined_bodies s source labels drawn fails pieces one none =
-    bodies_are s drawn source pieces (groups_answered s.context source fails (spans_of (in_order labels))) one
-    ∙ ap (rows_of_ranges s drawn source.bytes pieces) (runs_answered s.context source fails labels one none)
+pub joined_bodies : (s : SnippetSettings) (spreads : List Spread) (kept : ℕ → Bool) (source : Source) (labels : List Label) (drawn : List DrawnLabel) (fails : List Bool) (pieces : List (List (List Highlight))) → 1 ≤ s.context → NoneFails fails →
+    AllByRecursion (KeepsAlike s spreads source.bytes kept) (J.snippets s.context source.bytes (map (λ l. l.span) labels)) →
+    bodies s spreads drawn source pieces (groups_answered s.context source fails (spans_of (in_order labels))) ≡ rows_of_ranges kept s drawn source.bytes pieces (J.snippets s.context source.bytes (map (λ l. l.span) labels))
+joined_bodies s spreads kept source labels drawn fails pieces one none h =
+    let runs : lines_of_groups s.context source.bytes (groups_answered s.context source fails (spans_of (in_order labels))) ≡ J.snippets s.context source.bytes (map (λ l. l.span) labels) = runs_answered s.context source fails labels one none in
+    bodies_are s spreads kept drawn source pieces (groups_answered s.context source fails (spans_of (in_order labels))) one
+    (subst (λ (rs : List (List ℕ)). AllByRecursion (KeepsAlike s spreads source.bytes kept) rs) (sym runs) h)
+    ∙ ap (rows_of_ranges kept s drawn source.bytes pieces) runs
 
 -- whole snippets
 
-pub all_framed : (s : SnippetSettings) (source : Source) (labels : List Label) (pieces : List (List (List Highlight))) (groups : List Span) →
-    all_snippets s source labels pieces groups ≡ framed_rows s source labels groups (bodies s (drawn_labels s (length source.bytes) labels) source pieces groups)
-all_framed s source labels pieces [] = refl
-all_framed s source labels pieces (group ∷ groups) =
-    ap (λ r. snippet s source labels group (first_of pieces) ++ r) (all_framed s source labels (later_of pieces) groups)
+pub all_framed : (s : SnippetSettings) (spreads : List Spread) (source : Source) (labels : List Label) (pieces : List (List (List Highlight))) (groups : List Span) →
+    all_snippets s spreads source labels pieces groups ≡ framed_rows s source labels groups (bodies s spreads (drawn_labels s (length source.bytes) labels) source pieces groups)
+all_framed s spreads source labels pieces [] = refl
+all_framed s spreads source labels pieces (group ∷ groups) =
+    ap (λ r. snippet s spreads source labels group (first_of pieces) ++ r) (all_framed s spreads source labels (later_of pieces) groups)
 
 put_accepted : (source : List ℕ) (label : Label) (labels : List Label) → IsAccepted source label.span → AreAccepted source labels → AreAccepted source (put_label label labels)
 put_accepted source label [] own h = (own, tt)

@@ -21,7 +21,7 @@ swap_and true false = refl
 swap_and false true = refl
 swap_and false false = refl
 
-counted : (ls : List Line) (offset : ℕ) → count_by (λ l. P.is_terminated l && leb l.end offset) ls ≡ line_of ls offset
+pub counted : (ls : List Line) (offset : ℕ) → count_by (λ l. P.is_terminated l && leb l.end offset) ls ≡ line_of ls offset
 counted [] offset = refl
 counted (l ∷ ls) offset = sum_by-cons (λ l. cond (P.is_terminated l && leb l.end offset) 1 0) l ls ∙ ap (λ b. cond b 1 0 + count_by (λ l. P.is_terminated l && leb l.end offset) ls) (swap_and (is_ended l) (leb l.end offset)) ∙ ap (λ n. cond (leb l.end offset && is_ended l) 1 0 + n) (counted ls offset)
 

@@ -1,5 +1,6 @@
 -- What users rely on, in the words of docs/RULES.md.
 pub mod Drawing
+pub mod Folds
 pub mod Frames
 pub mod Gutters
 pub mod Highlighting

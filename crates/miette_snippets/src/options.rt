@@ -14,6 +14,8 @@ pub struct LayoutOptions {
     pub primary_start: bool,
     /// Whether a label at the end of a source is drawn, behind the text of its last line.
     pub end_labels: bool,
+    /// A label over more lines than these is folded: only the lines around its first and its last one are shown.
+    pub label_lines: Option<usize>,
 }
 
 /// How snippets look: a theme's characters and styles, and the layout; and where the memory that they need comes from.

@@ -17,7 +17,7 @@ pub record Styles : Type 0 where
   pub linum : Style
   pub highlights : List Style
 
--- the width is that of a character, 0 where it has none
+-- the width is that of a character, 0 where it has none; a label over more lines than label_lines is folded
 pub record SnippetSettings : Type 0 where
   pub characters : Characters
   pub styles : Styles
@@ -26,6 +26,7 @@ pub record SnippetSettings : Type 0 where
   pub context : ℕ
   pub primary_start : Bool
   pub end_labels : Bool
+  pub label_lines : Option ℕ
 
 -- the text of a label, whose bytes are given
 abbrev pub text_or_none : Option (List ℕ) → List ℕ
@@ -57,6 +58,10 @@ number_start s w number =
 
 abbrev pub other_start : SnippetSettings → ℕ → Row
 other_start s w = blank s.width (w + 2) ∷ plain_run s.width (s.characters.vbar_break ∷ 32 ∷ []) ∷ []
+
+-- what stands before the gutter of a break's row: three dots up to where line numbers end
+abbrev pub break_start : SnippetSettings → ℕ → Row
+break_start s w = blank s.width (w - 1) ∷ plain_run s.width (codes "..." ++ s.characters.vbar ∷ []) ∷ []
 
 -- where a label begins: its line and its column, both counted from 0
 pub record Place : Type 0 where

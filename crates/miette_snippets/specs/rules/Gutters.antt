@@ -31,6 +31,14 @@ number_gutter width t line left (label ∷ labels) =
     else if ends_on line label then arrow width t label (ending_corner t label.parts) left ∷ blank width 1 ∷ []
     else styled_run width label.style (t.vbar ∷ []) ∷ number_gutter width t line (left - 1) labels
 
+abbrev pub bar : (ℕ → ℕ) → Characters → DrawnLabel → Run
+bar width t label = styled_run width label.style (t.vbar ∷ [])
+
+-- the gutter of a break's row, behind its space: a bar for each label that runs through; none where none does
+abbrev pub break_gutter : (ℕ → ℕ) → Characters → List DrawnLabel → Row
+break_gutter width t [] = []
+break_gutter width t (label ∷ labels) = blank width 1 ∷ map (bar width t) (label ∷ labels)
+
 -- The gutter of any other row: the first label that ends here has a corner and bars for the columns that are left,
 -- each label before it a bar.
 abbrev pub other_gutter : (ℕ → ℕ) → Characters → Line → ℕ → List DrawnLabel → Row

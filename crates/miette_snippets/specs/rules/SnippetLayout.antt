@@ -1,6 +1,6 @@
 -- The rows of a diagnostic's snippets.
-use Rattle.std.specs.Prelude.{ℕ, ◌+◌, List, [], ◌∷◌, ◌++◌, map, length, slice_range, Option, Some, None, Bool, false}
-use Rattle.std.specs.Prelude.{◌&&◌, ◌||◌, if◌then◌else◌, nat_le}
+use Rattle.std.specs.Prelude.{ℕ, ◌+◌, ◌-◌, List, [], ◌∷◌, ◌++◌, map, length, slice_range, Option, Some, None, Bool}
+use Rattle.std.specs.Prelude.{false, ◌&&◌, ◌||◌, if◌then◌else◌, nat_le}
 use Rattle.std.specs.List.{filter}
 use Rattle.std.specs.Option.{option_map}
 use Rattle.miette_newlines.specs.rules.Lines.{Line}
@@ -17,9 +17,10 @@ use Rattle.miette_lines.specs.rules.Labels.{DrawnLabel, drawn_from, some_shows_e
 use Rattle.miette_lines.specs.rules.Labels.{closing_labels}
 use Rattle.miette_snippets.specs.rules.Marks.{Text, marks}
 use Rattle.miette_snippets.specs.rules.Drawing.{marked_rows}
-use Rattle.miette_snippets.specs.rules.Gutters.{gutter_columns, number_gutter, other_gutter, closing_rows}
+use Rattle.miette_snippets.specs.rules.Gutters.{gutter_columns, number_gutter, other_gutter, break_gutter, closing_rows}
+use Rattle.miette_snippets.specs.rules.Folds.{Spread, spreads_of, leaves_out}
 use Rattle.miette_snippets.specs.rules.Frames.{SnippetSettings, Place, refused_row, top_row, bottom_row, number_width}
-use Rattle.miette_snippets.specs.rules.Frames.{number_start, other_start}
+use Rattle.miette_snippets.specs.rules.Frames.{number_start, other_start, break_start}
 
 -- a line's cells, where its text ends, and its columns
 abbrev pub text_of_cells : List Cell → ℕ → Text
@@ -48,19 +49,42 @@ abbrev pub line_rows : SnippetSettings → ℕ → ℕ → List DrawnLabel → L
 line_rows s w columns labels line number cells pieces =
     line_rows_of s w columns (one_line line labels) (multi_line line labels) line number cells pieces
 
--- the rows of lines with numbers from this one on, with the highlighter's pieces for each
-abbrev pub rows_of_lines : SnippetSettings → ℕ → ℕ → List DrawnLabel → List ℕ → ℕ → List (List Highlight) → List Line →
-    List Row
-rows_of_lines s w columns labels source number pieces [] = []
-rows_of_lines s w columns labels source number pieces (line ∷ lines) =
-    line_rows s w columns labels line number (cells_of s source line) (first_of pieces)
-    ++ rows_of_lines s w columns labels source (number + 1) (later_of pieces) lines
+-- the row that stands for lines that are left out, which these labels run through
+abbrev pub break_row : SnippetSettings → ℕ → List DrawnLabel → Row
+break_row s w labels = break_start s w ++ break_gutter s.width s.characters labels
+
+-- The rows of a line; or where it is left out, the row of the break that begins there, or none where the line before it
+-- is left out too.
+abbrev pub line_or_break_of : Bool → Bool → SnippetSettings → ℕ → ℕ → List DrawnLabel → List DrawnLabel → Line → ℕ →
+    List Cell → List Highlight → List Row
+line_or_break_of gap out s w columns one multi line number cells pieces =
+    if out then (if gap then [] else break_row s w multi ∷ [])
+    else line_rows_of s w columns one multi line number cells pieces
+
+abbrev pub line_or_break : Bool → Bool → SnippetSettings → ℕ → ℕ → List DrawnLabel → Line → ℕ → List Cell → List
+    Highlight → List Row
+line_or_break gap out s w columns labels line number cells pieces =
+    line_or_break_of gap out s w columns (one_line line labels) (multi_line line labels) line number cells pieces
+
+-- The rows of lines with numbers from this one on, with the highlighter's pieces for each; whether the line before them
+-- is left out, and whether a line with its number is.
+abbrev pub rows_of_lines : (ℕ → Line → Bool) → Bool → SnippetSettings → ℕ → ℕ → List DrawnLabel → List ℕ → ℕ → List
+    (List Highlight) → List Line → List Row
+rows_of_lines out gap s w columns labels source number pieces [] = []
+rows_of_lines out gap s w columns labels source number pieces (line ∷ lines) =
+    line_or_break gap (out number line) s w columns labels line number (cells_of s source line) (first_of pieces)
+    ++ rows_of_lines out (out number line) s w columns labels source (number + 1) (later_of pieces) lines
+
+-- whether a line of a snippet with this number is left out, where so many lines stand before the snippet's
+abbrev pub left_out : SnippetSettings → ℕ → List Line → List Spread → ℕ → Line → Bool
+left_out s before lines spreads number line = leaves_out s.label_lines lines spreads (number - (before + 1)) line
 
 -- the rows of a snippet between its frame's rows
-abbrev pub body_rows : SnippetSettings → List DrawnLabel → List ℕ → Contents → List (List Highlight) → List Row
-body_rows s labels source read pieces =
-    rows_of_lines s (number_width read) (gutter_columns labels (lines_of_contents read)) labels source (read.line + 1)
-    pieces (lines_of_contents read)
+abbrev pub body_rows : SnippetSettings → List Spread → List DrawnLabel → List ℕ → Contents → List (List Highlight) →
+    List Row
+body_rows s spreads labels source read pieces =
+    rows_of_lines (left_out s read.line (lines_of_contents read) spreads) false s (number_width read)
+    (gutter_columns labels (lines_of_contents read)) labels source (read.line + 1) pieces (lines_of_contents read)
 
 -- Whether a label belongs to a group: its span lies within the group's; or, where labels have their own numbers of
 -- context lines, it begins in the group's bytes or at their end.
@@ -95,16 +119,19 @@ place_of source group labels = option_map (begins_at source)
 abbrev pub drawn_labels : SnippetSettings → ℕ → List Label → List DrawnLabel
 drawn_labels s n labels = drawn_from (s.end_labels && some_shows_end s.context n labels) s.styles.highlights n 0 labels
 
-abbrev pub snippet : SnippetSettings → Source → List Label → Span → List (List Highlight) → List Row
-snippet s source labels group pieces =
+abbrev pub snippet : SnippetSettings → List Spread → Source → List Label → Span → List (List Highlight) → List Row
+snippet s spreads source labels group pieces =
     top_row s (contents s.context source group) (place_of source group labels)
-    ∷ body_rows s (drawn_labels s (length source.bytes) labels) source.bytes (contents s.context source group) pieces
+    ∷ body_rows s spreads (drawn_labels s (length source.bytes) labels) source.bytes (contents s.context source group)
+    pieces
     ++ bottom_row s (number_width (contents s.context source group)) ∷ []
 
-abbrev pub all_snippets : SnippetSettings → Source → List Label → List (List (List Highlight)) → List Span → List Row
-all_snippets s source labels pieces [] = []
-all_snippets s source labels pieces (group ∷ groups) =
-    snippet s source labels group (first_of pieces) ++ all_snippets s source labels (later_of pieces) groups
+abbrev pub all_snippets : SnippetSettings → List Spread → Source → List Label → List (List (List Highlight)) → List
+    Span → List Row
+all_snippets s spreads source labels pieces [] = []
+all_snippets s spreads source labels pieces (group ∷ groups) =
+    snippet s spreads source labels group (first_of pieces)
+    ++ all_snippets s spreads source labels (later_of pieces) groups
 
 -- the settings with the lines of context with which the groups of these labels are read
 abbrev pub settings_around : SnippetSettings → List Label → SnippetSettings
@@ -114,7 +141,8 @@ settings_around s labels = record s { context = group_context s.context labels }
 abbrev pub rows_of_groups : SnippetSettings → Source → List Label → Answers → List Span → Option (List Row)
 rows_of_groups s source labels answers groups =
     if groups_fail s.context source answers.join_fails labels || some_fails answers.place_fails groups then None
-    else Some (all_snippets (settings_around s labels) source labels answers.pieces groups)
+    else Some (all_snippets (settings_around s labels) (spreads_of s.label_lines s.context source labels) source labels
+    answers.pieces groups)
 
 abbrev pub rows_unless : SnippetSettings → Source → List Label → Answers → Option Row → Option (List Row)
 rows_unless s source labels answers (Some row) = Some (row ∷ [])

@@ -25,4 +25,5 @@ settings_of theme options = record {
   context = options.context_lines;
   primary_start = options.primary_start;
   end_labels = options.end_labels;
+  label_lines = options.label_lines;
 }

@@ -1,0 +1,24 @@
+-- What holds of folded labels.
+use Rattle.std.specs.Prelude.{ℕ, ◌+◌, ◌-◌, ◌≤◌, ◌≡◌, true, false, Bool, List, [], ◌∷◌}
+use Rattle.miette_newlines.specs.rules.Lines.{Line, line_of}
+use Rattle.miette_protocol.specs.views.Meaning.{Label}
+use Rattle.miette_protocol.specs.rules.Reading.{Span}
+use Rattle.miette_lines.specs.rules.Labels.{DrawnLabel, starts_on, ends_on}
+use Rattle.miette_snippets.specs.rules.Folds.{last_byte}
+use Rattle.miette_snippets.specs.rules.Numbers.{last_of}
+
+-- over how many lines a label is drawn
+abbrev pub lines_drawn : List ℕ → Span → ℕ
+lines_drawn bytes span = line_of bytes (last_byte bytes span) - line_of bytes span.offset + 1
+
+abbrev pub FitsIn : ℕ → List ℕ → Label → Type 0
+FitsIn limit bytes label = lines_drawn bytes label.span ≤ limit
+
+-- the first number and the last one pass a test
+abbrev pub EndsPass : (ℕ → Bool) → List ℕ → Type 0
+EndsPass kept [] = Unit {0}
+EndsPass kept (k ∷ ks) = (kept k ≡ true) × (kept (last_of k ks) ≡ true)
+
+-- a label neither begins nor ends on a line
+abbrev pub IsInside : Line → DrawnLabel → Type 0
+IsInside line label = (starts_on line label ≡ false) × (ends_on line label ≡ false)
