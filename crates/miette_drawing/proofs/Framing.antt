@@ -1,19 +1,16 @@
 -- What a frame's rows tell.
 use Rattle.miette_page.specs.views.Printouts.{Printout, ◌⊕◌}
-use Rattle.std.proofs.Common.{ℕ, ◌+◌, ◌<◌, ◌≡◌, true, ltb, List, [], ◌∷◌, ◌++◌, replicate, decimal, refl, sym, ap, ◌∙◌, arith}
-use Rattle.std.specs.Prelude.{encode_utf8, encode_utf8_all}
+use Rattle.std.proofs.Common.{ℕ, ◌+◌, ◌<◌, ◌≡◌, true, ltb, List, [], ◌∷◌, ◌++◌, replicate, decimal, sym, ap, ◌∙◌, arith}
 use Rattle.std.specs.List.{list_all}
 use Rattle.std.specs.Prelude.{chars}
-use Rattle.std.proofs.lemmas.Bool.{and_parts}
 use Rattle.std.proofs.lemmas.Bool.Decides.{nat_tests}
-use Rattle.std.proofs.lemmas.Str.{encode_ascii}
 use Rattle.miette_style.specs.declared.style.Style.{Style}
 use Rattle.miette_page.specs.rules.Rows.{Row, styled_run}
 use Rattle.miette_style.specs.rules.Styles.{plain}
 use Rattle.miette_snippets.specs.rules.Drawing.{blank}
 use Rattle.miette_snippets.specs.rules.Frames.{SnippetSettings, Place, place_text}
 use Rattle.miette_drawing.specs.steps.FrameParts.{corner_row}
-use Rattle.miette_page.specs.views.Tokens.{Token, begins, row_tokens, styled_tokens, text_tokens}
+use Rattle.miette_page.specs.views.Tokens.{begins, row_tokens, styled_tokens, text_tokens}
 use Rattle.miette_page.proofs.Paging.{told_append}
 use Rattle.miette_snippets.proofs.Telling.{ascii_chars, then, told_as, run_one, run_more, blank_row, styled_told, styled_row}
 use Rattle.miette_drawing.proofs.Texting.{parts_then}

@@ -1,7 +1,7 @@
 -- The rows that are drawn from what a read lent are those of the definition, which has the whole source.
 use Rattle.miette_page.proofs.Paging.{put_append, put_nil}
 use Rattle.miette_page.specs.views.Printouts.{Printout, ◌⊕◌}
-use Rattle.std.proofs.Common.{ℕ, zero, suc, ◌+◌, ◌-◌, ◌^◌, ◌<◌, ◌≤◌, ◌≡◌, max, Bool, true, false, cond, eqb, ltb, List, [], ◌∷◌, ◌++◌, length, map, take, drop, Option, refl, sym, ap, ◌∙◌, subst, arith, All, append_assoc, append-nil}
+use Rattle.std.proofs.Common.{ℕ, zero, suc, ◌+◌, ◌-◌, ◌^◌, ◌<◌, ◌≤◌, ◌≡◌, max, Bool, true, false, cond, eqb, ltb, List, [], ◌∷◌, ◌++◌, length, map, take, drop, Option, refl, sym, ap, ◌∙◌, subst, arith, All, append_assoc}
 use Rattle.std.specs.Prelude.{slice_range, slice_index_or}
 use Rattle.std.specs.List.{AllByRecursion, filter}
 use Rattle.std.proofs.lemmas.List.{drop-take, length-take, length-map, drop_all}
@@ -20,12 +20,13 @@ use Rattle.miette_lines.specs.rules.Answers.{Highlight, first_of, later_of}
 use Rattle.miette_page.specs.rules.Rows.{Row}
 use Rattle.miette_lines.specs.rules.Cells.{Cell, characters, cells_from}
 use Rattle.miette_lines.specs.rules.Contexts.{contents, lines_of_contents}
+use Rattle.miette_snippets.specs.rules.Folds.{Spread}
 use Rattle.miette_snippets.specs.rules.Frames.{SnippetSettings, Place, top_row, top_row_of, bottom_row, number_width, width_of_lines}
 use Rattle.miette_lines.specs.views.GivenLabels.{drawn_of, label_at}
 use Rattle.miette_lines.specs.rules.Groups.{in_order, spans_of}
 use Rattle.miette_snippets.specs.rules.Gutters.{gutter_columns, most_labels}
 use Rattle.miette_lines.specs.rules.Labels.{DrawnLabel, is_one_line, is_multi_line, one_line, multi_line}
-use Rattle.miette_snippets.specs.rules.SnippetLayout.{cells_of, line_rows, line_rows_of, rows_of_lines, body_rows}
+use Rattle.miette_snippets.specs.rules.SnippetLayout.{cells_of, line_or_break, line_or_break_of, rows_of_lines, left_out, body_rows}
 use Rattle.miette_snippets.specs.rules.Highlighting.{EachHasPieces, ArePieces, decoded_text, texts_of, line_calls, piece_of}
 use Rattle.miette_drawing.specs.views.SnippetRows.{cells_in, text_in, texts_in, lent_rows, lent_snippet, width_of_count, gutter_of, PutsRows}
 use Rattle.miette_lines.specs.views.Placing.{end_drawn, is_told, placed_from}
@@ -33,7 +34,7 @@ use Rattle.miette_lines.specs.views.Reads.{IsRead}
 use Rattle.miette_newlines.specs.views.Walking.{line_of_text}
 use Rattle.miette_lines.specs.views.Sweeping.{is_one, is_multi, nothing, start_at, AreSorted}
 use Rattle.miette_lines.specs.views.LabelCounts.{most_multi}
-use Rattle.miette_page.specs.views.Tokens.{Token, row_tokens, rows_tokens, row_end}
+use Rattle.miette_page.specs.views.Tokens.{row_tokens, rows_tokens, row_end}
 use Rattle.miette_lines.proofs.Numbers.{by_cases}
 use Rattle.miette_lines.proofs.Sources.{IsCut, lines_from}
 use Rattle.miette_lines.proofs.Lines.{cut_lines, cut-le}
@@ -73,13 +74,13 @@ cut_inside low at n high [] h le top = tt
 cut_inside low at n high (l ∷ ls) h le top =
     ((omega (arith, h.0), omega (arith, h.0, h.1), omega (arith, h.2, top, cut-le l.end n ls h.5)), cut_inside low l.end n high ls h.5 (omega (arith, h.3)) top)
 
-lent_from : (s : SnippetSettings) (w columns : ℕ) (drawn : List DrawnLabel) (bytes : List ℕ) (from to number : ℕ) (pieces : List (List Highlight)) (ls : List Line) → AllByRecursion (Inside from (from + (to - from))) ls →
-    lent_rows s w columns drawn from (slice_range bytes from to) number pieces ls ≡ rows_of_lines s w columns drawn bytes number pieces ls
-lent_from s w columns drawn bytes from to number pieces [] h = refl
-lent_from s w columns drawn bytes from to number pieces (l ∷ ls) h =
-    ap (λ text. line_rows s w columns drawn l number (cells_from s.width s.tab false l.start 0 (characters text)) (first_of pieces) ++ lent_rows s w columns drawn from (slice_range bytes from to) (number + 1) (later_of pieces) ls)
+lent_from : (out : ℕ → Line → Bool) (gap : Bool) (s : SnippetSettings) (w columns : ℕ) (drawn : List DrawnLabel) (bytes : List ℕ) (from to number : ℕ) (pieces : List (List Highlight)) (ls : List Line) → AllByRecursion (Inside from (from + (to - from))) ls →
+    lent_rows out gap s w columns drawn from (slice_range bytes from to) number pieces ls ≡ rows_of_lines out gap s w columns drawn bytes number pieces ls
+lent_from out gap s w columns drawn bytes from to number pieces [] h = refl
+lent_from out gap s w columns drawn bytes from to number pieces (l ∷ ls) h =
+    ap (λ text. line_or_break gap (out number l) s w columns drawn l number (cells_from s.width s.tab false l.start 0 (characters text)) (first_of pieces) ++ lent_rows out (out number l) s w columns drawn from (slice_range bytes from to) (number + 1) (later_of pieces) ls)
     (slices bytes from to l.start l.text_end h.0.0 h.0.1 h.0.2)
-    ∙ ap (λ r. line_rows s w columns drawn l number (cells_of s bytes l) (first_of pieces) ++ r) (lent_from s w columns drawn bytes from to (number + 1) (later_of pieces) ls h.1)
+    ∙ ap (λ r. line_or_break gap (out number l) s w columns drawn l number (cells_of s bytes l) (first_of pieces) ++ r) (lent_from out (out number l) s w columns drawn bytes from to (number + 1) (later_of pieces) ls h.1)
 
 texts_from : (bytes : List ℕ) (from to : ℕ) (ls : List Line) → AllByRecursion (Inside from (from + (to - from))) ls → texts_in from (slice_range bytes from to) ls ≡ texts_of bytes ls
 texts_from bytes from to [] h = refl
@@ -94,14 +95,14 @@ lines_inside bytes from to =
     (cut_inside from from (from + length bits) (from + (to - from)) (lines_from from bits) (cut_lines from (from + length bits) bits refl) (omega arith) (omega (arith, length-take (to - from) (drop from bytes))))
 
 -- a snippet from what its read lent
-abbrev pub lent_lines : SnippetSettings → List DrawnLabel → Contents → List (List Highlight) → List Row
-lent_lines s drawn lent pieces = lent_rows s (number_width lent) (gutter_columns drawn (lines_of_contents lent)) drawn lent.span.offset lent.bytes (lent.line + 1) pieces (lines_of_contents lent)
+abbrev pub lent_lines : SnippetSettings → List Spread → List DrawnLabel → Contents → List (List Highlight) → List Row
+lent_lines s spreads drawn lent pieces = lent_rows (left_out s lent.line (lines_of_contents lent) spreads) false s (number_width lent) (gutter_columns drawn (lines_of_contents lent)) drawn lent.span.offset lent.bytes (lent.line + 1) pieces (lines_of_contents lent)
 
-pub lent_body : (s : SnippetSettings) (drawn : List DrawnLabel) (context : ℕ) (source : Source) (span : Span) (pieces : List (List Highlight)) →
-    lent_lines s drawn (contents context source span) pieces ≡ body_rows s drawn source.bytes (contents context source span) pieces
-lent_body s drawn context source span pieces =
+pub lent_body : (s : SnippetSettings) (spreads : List Spread) (drawn : List DrawnLabel) (context : ℕ) (source : Source) (span : Span) (pieces : List (List Highlight)) →
+    lent_lines s spreads drawn (contents context source span) pieces ≡ body_rows s spreads drawn source.bytes (contents context source span) pieces
+lent_body s spreads drawn context source span pieces =
     let lent : Contents = contents context source span in
-    lent_from s (number_width lent) (gutter_columns drawn (lines_of_contents lent)) drawn source.bytes (data_start source.bytes span context) (data_end source.bytes span context) (lent.line + 1) pieces (lines_of_contents lent)
+    lent_from (left_out s lent.line (lines_of_contents lent) spreads) false s (number_width lent) (gutter_columns drawn (lines_of_contents lent)) drawn source.bytes (data_start source.bytes span context) (data_end source.bytes span context) (lent.line + 1) pieces (lines_of_contents lent)
     (lines_inside source.bytes (data_start source.bytes span context) (data_end source.bytes span context))
 
 -- the texts of its lines
@@ -222,101 +223,103 @@ pub text_fits : (start : ℕ) (bytes : List ℕ) (line : LineOfText) → start �
 text_fits start bytes line from text ending to small =
     omega (arith, from, text, ending, to, small, length-take (line.text_end - start - (line.start - start)) (drop (line.start - start) bytes))
 
--- the lines before a place are drawn: whatever pieces the others have, there are pieces for all, and calls that bring a
--- highlighter from its first state over the state now
-abbrev pub AreLined : SnippetSettings → ℕ → ℕ → List DrawnLabel → ℕ → List ℕ → ℕ → Bool → (List Call → Type 0) → (List Call → Type 0) → ℕ → ℕ → Printout → Printout → Type 0
-AreLined s w columns drawn start bytes first blank begun now at number before page =
+-- the lines before a place are drawn, and whether the last of them is left out: whatever pieces the others have, there are
+-- pieces for all, and calls that bring a highlighter from its first state over the state now
+abbrev pub AreLined : (ℕ → Line → Bool) → Bool → SnippetSettings → ℕ → ℕ → List DrawnLabel → ℕ → List ℕ → ℕ → Bool → (List Call → Type 0) → (List Call → Type 0) → ℕ → ℕ → Printout → Printout → Type 0
+AreLined out gap s w columns drawn start bytes first blank begun now at number before page =
     (more : List (List Highlight)) → EachHasPieces blank (texts_in start bytes (P.lines_from (start + at) (drop at bytes))) more →
     (all : List (List Highlight)) × EachHasPieces blank (texts_in start bytes (P.lines_from start bytes)) all
     × ((later : List Call) → now (line_calls (texts_in start bytes (P.lines_from (start + at) (drop at bytes))) more ++ later) → begun (line_calls (texts_in start bytes (P.lines_from start bytes)) all ++ later))
-    × (page ⊕ rows_tokens (lent_rows s w columns drawn start bytes number more (P.lines_from (start + at) (drop at bytes))) ≡ before ⊕ rows_tokens (lent_rows s w columns drawn start bytes first all (P.lines_from start bytes)))
+    × (page ⊕ rows_tokens (lent_rows out gap s w columns drawn start bytes number more (P.lines_from (start + at) (drop at bytes))) ≡ before ⊕ rows_tokens (lent_rows out false s w columns drawn start bytes first all (P.lines_from start bytes)))
 
-pub lines_first : (s : SnippetSettings) (w columns : ℕ) (drawn : List DrawnLabel) (start : ℕ) (bytes : List ℕ) (first : ℕ) (blank : Bool) (begun : List Call → Type 0) (page : Printout) → AreLined s w columns drawn start bytes first blank begun begun 0 first page page
-lines_first s w columns drawn start bytes first blank begun page = λ more h.
+pub lines_first : (out : ℕ → Line → Bool) (s : SnippetSettings) (w columns : ℕ) (drawn : List DrawnLabel) (start : ℕ) (bytes : List ℕ) (first : ℕ) (blank : Bool) (begun : List Call → Type 0) (page : Printout) → AreLined out false s w columns drawn start bytes first blank begun begun 0 first page page
+lines_first out s w columns drawn start bytes first blank begun page = λ more h.
     let e : start + 0 ≡ start = omega arith in
-    (more, subst (λ (n : ℕ). EachHasPieces blank (texts_in start bytes (P.lines_from n bytes)) more) e h, (λ later k. subst (λ (n : ℕ). begun (line_calls (texts_in start bytes (P.lines_from n bytes)) more ++ later)) e k), ap (λ n. page ⊕ rows_tokens (lent_rows s w columns drawn start bytes first more (P.lines_from n bytes))) e)
+    (more, subst (λ (n : ℕ). EachHasPieces blank (texts_in start bytes (P.lines_from n bytes)) more) e h, (λ later k. subst (λ (n : ℕ). begun (line_calls (texts_in start bytes (P.lines_from n bytes)) more ++ later)) e k), ap (λ n. page ⊕ rows_tokens (lent_rows out false s w columns drawn start bytes first more (P.lines_from n bytes))) e)
 
 -- the rows of one line more
-lines_more_of : (s : SnippetSettings) (w columns : ℕ) (drawn : List DrawnLabel) (start : ℕ) (bytes : List ℕ) (first : ℕ) (blank : Bool) (begun was now : List Call → Type 0) (at number : ℕ) (line : LineOfText) (pieces : List Highlight) (before page more : Printout) →
-    AreLined s w columns drawn start bytes first blank begun was at number before page →
+lines_more_of : (out : ℕ → Line → Bool) (gap left : Bool) (s : SnippetSettings) (w columns : ℕ) (drawn : List DrawnLabel) (start : ℕ) (bytes : List ℕ) (first : ℕ) (blank : Bool) (begun was now : List Call → Type 0) (at number : ℕ) (line : LineOfText) (pieces : List Highlight) (before page more : Printout) →
+    AreLined out gap s w columns drawn start bytes first blank begun was at number before page → left ≡ out number (line_of_text line) →
     P.lines_from (start + at) (drop at bytes) ≡ line_of_text line ∷ P.lines_from line.end (drop (line.end - start) bytes) → start ≤ line.end →
     ArePieces blank (decoded_text (text_in start bytes (line_of_text line))) pieces →
     Leads was (asked (decoded_text (text_in start bytes (line_of_text line))) (map piece_of pieces) ∷ []) now →
-    more ≡ page ⊕ rows_tokens (line_rows s w columns drawn (line_of_text line) number (cells_in s start bytes (line_of_text line)) pieces) →
-    AreLined s w columns drawn start bytes first blank begun now (line.end - start) (number + 1) before more
-lines_more_of s w columns drawn start bytes first blank begun was now at number line pieces before page more h part low p call e = λ later own.
+    more ≡ page ⊕ rows_tokens (line_or_break gap left s w columns drawn (line_of_text line) number (cells_in s start bytes (line_of_text line)) pieces) →
+    AreLined out left s w columns drawn start bytes first blank begun now (line.end - start) (number + 1) before more
+lines_more_of out gap left s w columns drawn start bytes first blank begun was now at number line pieces before page more h leaves part low p call e = λ later own.
     let sums : start + (line.end - start) ≡ line.end = omega (arith, low) in
     let behind : List Line = P.lines_from line.end (drop (line.end - start) bytes) in
-    let here : List Row = line_rows s w columns drawn (line_of_text line) number (cells_in s start bytes (line_of_text line)) pieces in
-    let there : List Row = lent_rows s w columns drawn start bytes (number + 1) later behind in
+    let here : Bool → List Row = λ o. line_or_break gap o s w columns drawn (line_of_text line) number (cells_in s start bytes (line_of_text line)) pieces in
+    let there : Bool → List Row = λ o. lent_rows out o s w columns drawn start bytes (number + 1) later behind in
     let others : EachHasPieces blank (texts_in start bytes behind) later = subst (λ (n : ℕ). EachHasPieces blank (texts_in start bytes (P.lines_from n (drop (line.end - start) bytes))) later) sums own in
     let rest = h (pieces ∷ later) (subst (λ (ls : List Line). EachHasPieces blank (texts_in start bytes ls) (pieces ∷ later)) (sym part) (p, others)) in (
       rest.0,
       rest.1,
       (λ calls k. rest.2 calls (subst (λ (ls : List Line). was (line_calls (texts_in start bytes ls) (pieces ∷ later) ++ calls)) (sym part)
           (call (line_calls (texts_in start bytes behind) later ++ calls) (subst (λ (n : ℕ). now (line_calls (texts_in start bytes (P.lines_from n (drop (line.end - start) bytes))) later ++ calls)) sums k)))),
-      ap (λ n. more ⊕ rows_tokens (lent_rows s w columns drawn start bytes (number + 1) later (P.lines_from n (drop (line.end - start) bytes)))) sums
-          ∙ ap (λ m. m ⊕ rows_tokens there) e
-          ∙ put_append page (rows_tokens here) (rows_tokens there)
-          ∙ ap (λ t. page ⊕ t) (sym (told_rows-append here there))
-          ∙ ap (λ ls. page ⊕ rows_tokens (lent_rows s w columns drawn start bytes number (pieces ∷ later) ls)) (sym part)
+      ap (λ n. more ⊕ rows_tokens (lent_rows out left s w columns drawn start bytes (number + 1) later (P.lines_from n (drop (line.end - start) bytes)))) sums
+          ∙ ap (λ m. m ⊕ rows_tokens (there left)) e
+          ∙ put_append page (rows_tokens (here left)) (rows_tokens (there left))
+          ∙ ap (λ t. page ⊕ t) (sym (told_rows-append (here left) (there left)))
+          ∙ ap (λ o. page ⊕ rows_tokens (here o ++ there o)) leaves
+          ∙ ap (λ ls. page ⊕ rows_tokens (lent_rows out gap s w columns drawn start bytes number (pieces ∷ later) ls)) (sym part)
           ∙ rest.3,
     )
 
-pub lines_more : (s : SnippetSettings) (w columns : ℕ) (labels : List Label) (placed : List Placed) (start : ℕ) (bytes : List ℕ) (first : ℕ) (blank : Bool) (begun was now : List Call → Type 0) (at number : ℕ) (line : LineOfText) (one multi : List Placed) (pieces : List Highlight) (before page more : Printout) →
-    AreLined s w columns (map (drawn_of labels) placed) start bytes first blank begun was at number before page →
+pub lines_more : (out : ℕ → Line → Bool) (gap left : Bool) (s : SnippetSettings) (w columns : ℕ) (labels : List Label) (placed : List Placed) (start : ℕ) (bytes : List ℕ) (first : ℕ) (blank : Bool) (begun was now : List Call → Type 0) (at number : ℕ) (line : LineOfText) (one multi : List Placed) (pieces : List Highlight) (before page more : Printout) →
+    AreLined out gap s w columns (map (drawn_of labels) placed) start bytes first blank begun was at number before page → left ≡ out number (line_of_text line) →
     P.lines_from (start + at) (drop at bytes) ≡ line_of_text line ∷ P.lines_from line.end (drop (line.end - start) bytes) → start ≤ line.end →
     one ≡ filter (is_one (line_of_text line)) placed → multi ≡ filter (is_multi (line_of_text line)) placed →
     ArePieces blank (decoded_text (text_in start bytes (line_of_text line))) pieces →
     Leads was (asked (decoded_text (text_in start bytes (line_of_text line))) (map piece_of pieces) ∷ []) now →
-    more ≡ page ⊕ rows_tokens (line_rows_of s w columns (map (drawn_of labels) one) (map (drawn_of labels) multi) (line_of_text line) number (cells_in s start bytes (line_of_text line)) pieces) →
-    AreLined s w columns (map (drawn_of labels) placed) start bytes first blank begun now (line.end - start) (number + 1) before more
-lines_more s w columns labels placed start bytes first blank begun was now at number line one multi pieces before page more h part low a b p call e =
+    more ≡ page ⊕ rows_tokens (line_or_break_of gap left s w columns (map (drawn_of labels) one) (map (drawn_of labels) multi) (line_of_text line) number (cells_in s start bytes (line_of_text line)) pieces) →
+    AreLined out left s w columns (map (drawn_of labels) placed) start bytes first blank begun now (line.end - start) (number + 1) before more
+lines_more out gap left s w columns labels placed start bytes first blank begun was now at number line one multi pieces before page more h leaves part low a b p call e =
     let drawn : List DrawnLabel = map (drawn_of labels) placed in
     let cells : List Cell = cells_in s start bytes (line_of_text line) in
-    lines_more_of s w columns drawn start bytes first blank begun was now at number line pieces before page more h part low p call
-    (e ∙ ap (λ x. page ⊕ rows_tokens (line_rows_of s w columns x (map (drawn_of labels) multi) (line_of_text line) number cells pieces)) (ap (map (drawn_of labels)) a ∙ one_same labels placed (line_of_text line))
-    ∙ ap (λ x. page ⊕ rows_tokens (line_rows_of s w columns (one_line (line_of_text line) drawn) x (line_of_text line) number cells pieces)) (ap (map (drawn_of labels)) b ∙ multi_same labels placed (line_of_text line)))
+    lines_more_of out gap left s w columns drawn start bytes first blank begun was now at number line pieces before page more h leaves part low p call
+    (e ∙ ap (λ x. page ⊕ rows_tokens (line_or_break_of gap left s w columns x (map (drawn_of labels) multi) (line_of_text line) number cells pieces)) (ap (map (drawn_of labels)) a ∙ one_same labels placed (line_of_text line))
+    ∙ ap (λ x. page ⊕ rows_tokens (line_or_break_of gap left s w columns (one_line (line_of_text line) drawn) x (line_of_text line) number cells pieces)) (ap (map (drawn_of labels)) b ∙ multi_same labels placed (line_of_text line)))
 
 -- all lines are drawn
-pub lines_all : (s : SnippetSettings) (w columns : ℕ) (drawn : List DrawnLabel) (start : ℕ) (bytes : List ℕ) (first : ℕ) (blank : Bool) (begun now : List Call → Type 0) (at number : ℕ) (before page : Printout) →
-    AreLined s w columns drawn start bytes first blank begun now at number before page → length bytes ≤ at →
-    PutsRows blank (λ calls. Leads begun calls now) (texts_in start bytes (P.lines_from start bytes)) (λ pieces. lent_rows s w columns drawn start bytes first pieces (P.lines_from start bytes)) before page
-lines_all s w columns drawn start bytes first blank begun now at number before page h le =
+pub lines_all : (out : ℕ → Line → Bool) (gap : Bool) (s : SnippetSettings) (w columns : ℕ) (drawn : List DrawnLabel) (start : ℕ) (bytes : List ℕ) (first : ℕ) (blank : Bool) (begun now : List Call → Type 0) (at number : ℕ) (before page : Printout) →
+    AreLined out gap s w columns drawn start bytes first blank begun now at number before page → length bytes ≤ at →
+    PutsRows blank (λ calls. Leads begun calls now) (texts_in start bytes (P.lines_from start bytes)) (λ pieces. lent_rows out false s w columns drawn start bytes first pieces (P.lines_from start bytes)) before page
+lines_all out gap s w columns drawn start bytes first blank begun now at number before page h le =
     let none : drop at bytes ≡ [] = drop_all at bytes le in
     let all = h [] (subst (λ (xs : List ℕ). EachHasPieces blank (texts_in start bytes (P.lines_from (start + at) xs)) []) (sym none) tt) in
     record {
       pieces = all.0;
       are = all.1;
       calls = λ later k. all.2 later (subst (λ (xs : List ℕ). now (line_calls (texts_in start bytes (P.lines_from (start + at) xs)) [] ++ later)) (sym none) k);
-      is = sym (put_nil page) ∙ ap (λ xs. page ⊕ rows_tokens (lent_rows s w columns drawn start bytes number [] (P.lines_from (start + at) xs))) (sym none) ∙ all.3;
+      is = sym (put_nil page) ∙ ap (λ xs. page ⊕ rows_tokens (lent_rows out gap s w columns drawn start bytes number [] (P.lines_from (start + at) xs))) (sym none) ∙ all.3;
     }
 
 -- the rows of a snippet whose lines are counted
-told_counted : (s : SnippetSettings) (labels : List Label) (placed : List Placed) (lent : Contents) (place : Option Place) (pieces : List (List Highlight)) (w columns lines most : ℕ) (p0 p1 p2 p3 : Printout) →
+told_counted : (s : SnippetSettings) (spreads : List Spread) (labels : List Label) (placed : List Placed) (lent : Contents) (place : Option Place) (pieces : List (List Highlight)) (w columns lines most : ℕ) (p0 p1 p2 p3 : Printout) →
     lines ≡ length (lines_of_contents lent) → most ≡ most_multi placed (lines_of_contents lent) → w ≡ width_of_count lent.line lines → columns ≡ gutter_of most →
     p1 ≡ p0 ⊕ rows_tokens (top_row_of s w lent.name (ltb 1 lines) place ∷ []) →
-    p2 ≡ p1 ⊕ rows_tokens (lent_rows s w columns (map (drawn_of labels) placed) lent.span.offset lent.bytes (lent.line + 1) pieces (lines_of_contents lent)) →
-    p3 ≡ p2 ⊕ rows_tokens (bottom_row s w ∷ []) → p3 ≡ p0 ⊕ rows_tokens (lent_snippet s (map (drawn_of labels) placed) lent place pieces)
-told_counted s labels placed lent place pieces w columns lines most p0 p1 p2 p3 many widest width gutter a b c =
+    p2 ≡ p1 ⊕ rows_tokens (lent_rows (left_out s lent.line (lines_of_contents lent) spreads) false s w columns (map (drawn_of labels) placed) lent.span.offset lent.bytes (lent.line + 1) pieces (lines_of_contents lent)) →
+    p3 ≡ p2 ⊕ rows_tokens (bottom_row s w ∷ []) → p3 ≡ p0 ⊕ rows_tokens (lent_snippet s spreads (map (drawn_of labels) placed) lent place pieces)
+told_counted s spreads labels placed lent place pieces w columns lines most p0 p1 p2 p3 many widest width gutter a b c =
     let drawn : List DrawnLabel = map (drawn_of labels) placed in
     let real : List Line = lines_of_contents lent in
+    let out : ℕ → Line → Bool = left_out s lent.line real spreads in
     let whole : w ≡ number_width lent = width ∙ ap (width_of_count lent.line) many ∙ sym (width_is lent.line real) in
     let room : columns ≡ gutter_columns drawn real = gutter ∙ ap gutter_of (widest ∙ most_is labels placed real) in
-    told_parts p0 p1 p2 p3 (top_row_of s w lent.name (ltb 1 lines) place) (bottom_row s w) (lent_rows s w columns drawn lent.span.offset lent.bytes (lent.line + 1) pieces real) a b c
-    ∙ ap (λ n. p0 ⊕ rows_tokens (top_row_of s n lent.name (ltb 1 lines) place ∷ lent_rows s n columns drawn lent.span.offset lent.bytes (lent.line + 1) pieces real ++ bottom_row s n ∷ [])) whole
-    ∙ ap (λ n. p0 ⊕ rows_tokens (top_row_of s (number_width lent) lent.name (ltb 1 n) place ∷ lent_rows s (number_width lent) columns drawn lent.span.offset lent.bytes (lent.line + 1) pieces real ++ bottom_row s (number_width lent) ∷ [])) many
-    ∙ ap (λ n. p0 ⊕ rows_tokens (top_row s lent place ∷ lent_rows s (number_width lent) n drawn lent.span.offset lent.bytes (lent.line + 1) pieces real ++ bottom_row s (number_width lent) ∷ [])) room
+    told_parts p0 p1 p2 p3 (top_row_of s w lent.name (ltb 1 lines) place) (bottom_row s w) (lent_rows out false s w columns drawn lent.span.offset lent.bytes (lent.line + 1) pieces real) a b c
+    ∙ ap (λ n. p0 ⊕ rows_tokens (top_row_of s n lent.name (ltb 1 lines) place ∷ lent_rows out false s n columns drawn lent.span.offset lent.bytes (lent.line + 1) pieces real ++ bottom_row s n ∷ [])) whole
+    ∙ ap (λ n. p0 ⊕ rows_tokens (top_row_of s (number_width lent) lent.name (ltb 1 n) place ∷ lent_rows out false s (number_width lent) columns drawn lent.span.offset lent.bytes (lent.line + 1) pieces real ++ bottom_row s (number_width lent) ∷ [])) many
+    ∙ ap (λ n. p0 ⊕ rows_tokens (top_row s lent place ∷ lent_rows out false s (number_width lent) n drawn lent.span.offset lent.bytes (lent.line + 1) pieces real ++ bottom_row s (number_width lent) ∷ [])) room
 
 -- what the getters of a read gave stands for its parts
-pub told_lent : (s : SnippetSettings) (labels : List Label) (placed : List Placed) (lent : Contents) (place : Option Place) (blank : Bool) (happen : List Call → Type 0) (w columns lines most line start : ℕ) (name : Option (List ℕ)) (bytes : List ℕ) (p0 p1 p2 p3 : Printout) →
+pub told_lent : (s : SnippetSettings) (spreads : List Spread) (labels : List Label) (placed : List Placed) (lent : Contents) (place : Option Place) (blank : Bool) (happen : List Call → Type 0) (w columns lines most line start : ℕ) (name : Option (List ℕ)) (bytes : List ℕ) (p0 p1 p2 p3 : Printout) →
     line ≡ lent.line → start ≡ lent.span.offset → name ≡ lent.name → bytes ≡ lent.bytes →
     lines ≡ length (P.lines_from start bytes) → most ≡ most_multi placed (P.lines_from start bytes) → w ≡ width_of_count line lines → columns ≡ gutter_of most →
     p1 ≡ p0 ⊕ rows_tokens (top_row_of s w name (ltb 1 lines) place ∷ []) →
-    PutsRows blank happen (texts_in start bytes (P.lines_from start bytes)) (λ pieces. lent_rows s w columns (map (drawn_of labels) placed) start bytes (line + 1) pieces (P.lines_from start bytes)) p1 p2 →
+    PutsRows blank happen (texts_in start bytes (P.lines_from start bytes)) (λ pieces. lent_rows (left_out s line (P.lines_from start bytes) spreads) false s w columns (map (drawn_of labels) placed) start bytes (line + 1) pieces (P.lines_from start bytes)) p1 p2 →
     p3 ≡ p2 ⊕ rows_tokens (bottom_row s w ∷ []) →
-    PutsRows blank happen (lent_texts lent) (lent_snippet s (map (drawn_of labels) placed) lent place) p0 p3
-told_lent s labels placed lent place blank happen w columns lines most line start name bytes p0 p1 p2 p3 la at named data' many widest width gutter a b c =
+    PutsRows blank happen (lent_texts lent) (lent_snippet s spreads (map (drawn_of labels) placed) lent place) p0 p3
+told_lent s spreads labels placed lent place blank happen w columns lines most line start name bytes p0 p1 p2 p3 la at named data' many widest width gutter a b c =
     let drawn : List DrawnLabel = map (drawn_of labels) placed in
     let same : P.lines_from start bytes ≡ lines_of_contents lent = ap (λ n. P.lines_from n bytes) at ∙ ap (P.lines_from lent.span.offset) data' in
     record {
@@ -325,12 +328,12 @@ told_lent s labels placed lent place blank happen w columns lines most line star
           (subst (λ (n : ℕ). happen (line_calls (texts_in n lent.bytes (P.lines_from start bytes)) b.pieces)) at (subst (λ (bs : List ℕ). happen (line_calls (texts_in start bs (P.lines_from start bytes)) b.pieces)) data' b.calls));
       are = subst (λ (ls : List Line). EachHasPieces blank (texts_in lent.span.offset lent.bytes ls) b.pieces) same
           (subst (λ (n : ℕ). EachHasPieces blank (texts_in n lent.bytes (P.lines_from start bytes)) b.pieces) at (subst (λ (bs : List ℕ). EachHasPieces blank (texts_in start bs (P.lines_from start bytes)) b.pieces) data' b.are));
-      is = told_counted s labels placed lent place b.pieces w columns lines most p0 p1 p2 p3 (many ∙ ap length same) (widest ∙ ap (most_multi placed) same) (width ∙ ap (λ n. width_of_count n lines) la) gutter
+      is = told_counted s spreads labels placed lent place b.pieces w columns lines most p0 p1 p2 p3 (many ∙ ap length same) (widest ∙ ap (most_multi placed) same) (width ∙ ap (λ n. width_of_count n lines) la) gutter
           (a ∙ ap (λ n. p0 ⊕ rows_tokens (top_row_of s w n (ltb 1 lines) place ∷ [])) named)
-          (b.is ∙ ap (λ ls. p1 ⊕ rows_tokens (lent_rows s w columns drawn start bytes (line + 1) b.pieces ls)) same
-          ∙ ap (λ n. p1 ⊕ rows_tokens (lent_rows s w columns drawn n bytes (line + 1) b.pieces (lines_of_contents lent))) at
-          ∙ ap (λ n. p1 ⊕ rows_tokens (lent_rows s w columns drawn lent.span.offset n (line + 1) b.pieces (lines_of_contents lent))) data'
-          ∙ ap (λ n. p1 ⊕ rows_tokens (lent_rows s w columns drawn lent.span.offset lent.bytes (n + 1) b.pieces (lines_of_contents lent))) la)
+          (b.is ∙ ap (λ ls. p1 ⊕ rows_tokens (lent_rows (left_out s line ls spreads) false s w columns drawn start bytes (line + 1) b.pieces ls)) same
+          ∙ ap (λ n. p1 ⊕ rows_tokens (lent_rows (left_out s line (lines_of_contents lent) spreads) false s w columns drawn n bytes (line + 1) b.pieces (lines_of_contents lent))) at
+          ∙ ap (λ n. p1 ⊕ rows_tokens (lent_rows (left_out s line (lines_of_contents lent) spreads) false s w columns drawn lent.span.offset n (line + 1) b.pieces (lines_of_contents lent))) data'
+          ∙ ap (λ n. p1 ⊕ rows_tokens (lent_rows (left_out s n (lines_of_contents lent) spreads) false s w columns drawn lent.span.offset lent.bytes (n + 1) b.pieces (lines_of_contents lent))) la)
           c;
     }
 

@@ -1,4 +1,5 @@
 pub mod Closing
+pub mod Folding
 pub mod Framing
 pub mod Guttering
 pub mod Lending

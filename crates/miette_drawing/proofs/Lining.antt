@@ -1,7 +1,6 @@
 -- What the rows of a line tell.
 use Rattle.miette_page.specs.views.Printouts.{Printout, ◌⊕◌}
-use Rattle.std.proofs.Common.{ℕ, zero, suc, ◌+◌, ◌-◌, ◌<◌, ◌≤◌, ◌≡◌, Bool, true, false, cond, eqb, List, [], ◌∷◌, ◌++◌, map, length, drop, get_or, replicate, decimal, refl, sym, ap, ◌∙◌, append_assoc, append-nil, arith}
-use Rattle.std.specs.Prelude.{encode_utf8}
+use Rattle.std.proofs.Common.{ℕ, zero, suc, ◌+◌, ◌-◌, ◌<◌, ◌≤◌, ◌≡◌, Bool, true, false, cond, eqb, List, [], ◌∷◌, ◌++◌, map, length, drop, get_or, replicate, decimal, refl, sym, ap, ◌∙◌, append-nil, arith}
 use Rattle.std.proofs.lemmas.Bool.Decides.{nat_tests}
 use Rattle.std.proofs.lemmas.List.{at_drop_more, at_drop_all, map-append}
 use Rattle.miette_style.specs.declared.style.Style.{Style}
@@ -13,7 +12,7 @@ use Rattle.miette_lines.specs.rules.Cells.{Cell}
 use Rattle.miette_drawing.specs.declared.marks.Mark.{Mark as MadeMark}
 use Rattle.miette_snippets.specs.rules.Marks.{Mark}
 use Rattle.miette_snippets.specs.rules.Drawing.{blank, mark_runs, rows_below, marked_rows}
-use Rattle.miette_snippets.specs.rules.Frames.{SnippetSettings, number_start}
+use Rattle.miette_snippets.specs.rules.Frames.{SnippetSettings, number_start, break_start}
 use Rattle.miette_snippets.specs.rules.SnippetLayout.{before_each}
 use Rattle.miette_page.specs.views.Tokens.{Token, begins, row_end, row_tokens, rows_tokens, styled_tokens, text_tokens}
 use Rattle.miette_drawing.specs.steps.CellTokens.{cells_tokens}
@@ -36,6 +35,22 @@ number_put s w number p b l d v n hb hl hd hv hn =
     let blanked : b ≡ p ⊕ row_tokens (blank s.width 1 ∷ []) = told_as p (styled_tokens plain (replicate 1 32)) (row_tokens (blank s.width 1 ∷ [])) hb (sym (append-nil _ ∙ blank_told s.width 1)) in
     parts_then (blank s.width 1 ∷ []) (styled_run s.width s.styles.linum digits ∷ styled_run s.width plain bar ∷ []) p b n blanked
     (parts_then (styled_run s.width s.styles.linum digits ∷ []) (styled_run s.width plain bar ∷ []) b d n numbered barred)
+
+-- the row of a break
+pub break_put : (s : SnippetSettings) (w many : ℕ) (gutter : Row) (p b d v g n : Printout) → many ≡ w - 1 → b ≡ p ⊕ styled_tokens plain (replicate many 32) → d ≡ b ⊕ styled_tokens plain (46 ∷ replicate 2 46) → v ≡ d ⊕ text_tokens (s.characters.vbar ∷ []) →
+    g ≡ v ⊕ row_tokens gutter → n ≡ g ⊕ row_end ∷ [] → n ≡ p ⊕ rows_tokens ((break_start s w ++ gutter) ∷ [])
+break_put s w many gutter p b d v g n hm hb hd hv hg hn =
+    let dots : List ℕ = 46 ∷ 46 ∷ 46 ∷ [] in
+    let front : List ℕ = dots ++ s.characters.vbar ∷ [] in
+    let blanked : b ≡ p ⊕ row_tokens (blank s.width (w - 1) ∷ []) = told_as p (styled_tokens plain (replicate (w - 1) 32)) (row_tokens (blank s.width (w - 1) ∷ [])) (hb ∙ ap (λ k. p ⊕ styled_tokens plain (replicate k 32)) hm) (sym (append-nil _ ∙ blank_told s.width (w - 1))) in
+    let barred : v ≡ b ⊕ row_tokens (styled_run s.width plain front ∷ []) =
+    told_as b (styled_tokens plain dots ++ text_tokens (s.characters.vbar ∷ [])) (row_tokens (styled_run s.width plain front ∷ [])) (then b (styled_tokens plain dots) (text_tokens (s.characters.vbar ∷ [])) hd hv)
+    (run_one plain dots s.characters.vbar ∙ sym (styled_row s.width plain front)) in
+    row_done (break_start s w ++ gutter) p g n (parts_then (break_start s w) gutter p v g (parts_then (blank s.width (w - 1) ∷ []) (styled_run s.width plain front ∷ []) p b v blanked barred) hg) hn
+
+-- no row, or one, or those of a line that isn't left out
+pub nothing_put : (p : Printout) → p ≡ p ⊕ rows_tokens []
+nothing_put p = sym (put_nil p)
 
 -- a cell
 pub codes_of_tab : (n : ℕ) → replicate n 32 ≡ map (λ (p : Piece). p.code) (replicate n (record { code = 32; columns = 1 }))

@@ -1,5 +1,5 @@
 -- Pieces of a highlighter, and rows of lines that are left plain.
-use Rattle.std.proofs.Common.{ℕ, ◌+◌, ◌≡◌, ◌∙◌, ◌++◌, length, Bool, true, List, [], ◌∷◌, map, refl, sym, ap, ap₂, subst}
+use Rattle.std.proofs.Common.{ℕ, ◌+◌, ◌≡◌, ◌∙◌, ◌++◌, length, Bool, true, false, List, [], ◌∷◌, map, refl, sym, ap, ap₂, subst}
 use Rattle.miette_newlines.specs.rules.Lines.{Line}
 use Rattle.miette_protocol.specs.views.Meaning.{Label}
 use Rattle.miette_protocol.specs.rules.Reading.{Span, Source, Contents}
@@ -7,11 +7,12 @@ use Rattle.miette_highlight.specs.rules.Pieces.{CutsLine, Piece}
 use Rattle.miette_highlight.specs.rules.HighlighterCalls.{Call, asked, restarted, Leads}
 use Rattle.miette_lines.specs.rules.Answers.{Highlight, first_of, later_of}
 use Rattle.miette_lines.specs.rules.Contexts.{contents, lines_of_contents}
+use Rattle.miette_snippets.specs.rules.Folds.{Spread}
 use Rattle.miette_snippets.specs.rules.Frames.{SnippetSettings, top_row, bottom_row, number_width}
 use Rattle.miette_snippets.specs.rules.Gutters.{gutter_columns}
 use Rattle.miette_snippets.specs.rules.Highlighting.{ArePieces, EachHasPieces, SnippetsHavePieces, highlight_of, piece_of, texts_of, line_calls, group_calls}
 use Rattle.miette_lines.specs.rules.Labels.{DrawnLabel}
-use Rattle.miette_snippets.specs.rules.SnippetLayout.{line_rows, rows_of_lines, cells_of, drawn_labels, all_snippets, place_of}
+use Rattle.miette_snippets.specs.rules.SnippetLayout.{line_or_break, rows_of_lines, left_out, cells_of, drawn_labels, all_snippets, place_of}
 
 pub same_pieces : (ps : List Piece) → map piece_of (map highlight_of ps) ≡ ps
 same_pieces [] = refl
@@ -38,21 +39,21 @@ none_have context blank source (group ∷ groups) =
     (none_each blank (texts_of source.bytes (lines_of_contents (contents context source group))), none_have context blank source groups)
 
 -- rows of lines that are left plain
-rows_plain : (s : SnippetSettings) (w columns : ℕ) (labels : List DrawnLabel) (source : List ℕ) (number : ℕ) (pieces : List (List Highlight)) (ls : List Line) → EachHasPieces true (texts_of source ls) pieces →
-    rows_of_lines s w columns labels source number pieces ls ≡ rows_of_lines s w columns labels source number [] ls
-rows_plain s w columns labels source number pieces [] h = refl
-rows_plain s w columns labels source number pieces (l ∷ ls) h =
-    ap₂ (λ p r. line_rows s w columns labels l number (cells_of s source l) p ++ r) (h.0.none refl) (rows_plain s w columns labels source (number + 1) (later_of pieces) ls h.1)
+rows_plain : (out : ℕ → Line → Bool) (gap : Bool) (s : SnippetSettings) (w columns : ℕ) (labels : List DrawnLabel) (source : List ℕ) (number : ℕ) (pieces : List (List Highlight)) (ls : List Line) → EachHasPieces true (texts_of source ls) pieces →
+    rows_of_lines out gap s w columns labels source number pieces ls ≡ rows_of_lines out gap s w columns labels source number [] ls
+rows_plain out gap s w columns labels source number pieces [] h = refl
+rows_plain out gap s w columns labels source number pieces (l ∷ ls) h =
+    ap₂ (λ p r. line_or_break gap (out number l) s w columns labels l number (cells_of s source l) p ++ r) (h.0.none refl) (rows_plain out (out number l) s w columns labels source (number + 1) (later_of pieces) ls h.1)
 
-pub snippets_plain : (s : SnippetSettings) (source : Source) (labels : List Label) (pieces : List (List (List Highlight))) (groups : List Span) → SnippetsHavePieces s.context true source groups pieces →
-    all_snippets s source labels pieces groups ≡ all_snippets s source labels [] groups
-snippets_plain s source labels pieces [] h = refl
-snippets_plain s source labels pieces (group ∷ groups) h =
+pub snippets_plain : (s : SnippetSettings) (spreads : List Spread) (source : Source) (labels : List Label) (pieces : List (List (List Highlight))) (groups : List Span) → SnippetsHavePieces s.context true source groups pieces →
+    all_snippets s spreads source labels pieces groups ≡ all_snippets s spreads source labels [] groups
+snippets_plain s spreads source labels pieces [] h = refl
+snippets_plain s spreads source labels pieces (group ∷ groups) h =
     let lent : Contents = contents s.context source group in
     let drawn : List DrawnLabel = drawn_labels s (length source.bytes) labels in
     ap₂ (λ rows more. (top_row s lent (place_of source group labels) ∷ rows ++ bottom_row s (number_width lent) ∷ []) ++ more)
-    (rows_plain s (number_width lent) (gutter_columns drawn (lines_of_contents lent)) drawn source.bytes (lent.line + 1) (first_of pieces) (lines_of_contents lent) h.0)
-    (snippets_plain s source labels (later_of pieces) groups h.1)
+    (rows_plain (left_out s lent.line (lines_of_contents lent) spreads) false s (number_width lent) (gutter_columns drawn (lines_of_contents lent)) drawn source.bytes (lent.line + 1) (first_of pieces) (lines_of_contents lent) h.0)
+    (snippets_plain s spreads source labels (later_of pieces) groups h.1)
 
 -- ---- calls
 

@@ -1,4 +1,5 @@
 -- The code's own steps, which no rule names.
+pub mod Folding
 pub mod FrameParts
 pub mod Marks
 pub mod Sheets

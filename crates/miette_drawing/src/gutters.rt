@@ -5,7 +5,8 @@ ghost use Rattle.miette_page.specs.views.Printouts.{◌⊕◌};
 ghost use Rattle.miette_page.specs.views.Tokens.{row_tokens, styled_tokens};
 ghost use Rattle.miette_lines.specs.rules.Labels.{starts_on, ends_on};
 ghost use Rattle.miette_lines.specs.views.Sweeping.{label_of};
-ghost use Rattle.miette_snippets.specs.rules.Gutters.{number_gutter, other_gutter, open_gutter, ending_corner};
+ghost use Rattle.miette_snippets.specs.rules.Gutters.{bar, number_gutter, break_gutter, other_gutter};
+ghost use Rattle.miette_snippets.specs.rules.Gutters.{open_gutter, ending_corner};
 ghost use Rattle.miette_lines.specs.views.GivenLabels.{drawn_of};
 ghost use Rattle.miette_drawing.specs.steps.Sheets.{settings, multi_labels};
 ghost use Rattle.miette_newlines.specs.views.Walking.{line_of_text};
@@ -44,6 +45,32 @@ fn corner_at_end(sheet: &Sheet, label: &Placed) -> char
         Some(_) => sheet.theme.characters.lcross,
         None => sheet.theme.characters.lbot,
     }
+}
+
+// A bar for each label.
+fn push_bars<O: Canvas>(page: &mut Page<O>, sheet: &Sheet) -> Outcome
+    ensures { OnOk result (page.new ≡ page.old
+        ⊕ row_tokens (map (bar (settings sheet.now).width (settings sheet.now).characters) (multi_labels sheet.now))) }
+{
+    let vbar = sheet.theme.characters.vbar;
+    for label in sheet.multi {
+        page.push_line(label.style, vbar, vbar, 0)?;
+    }
+    Ok(())
+}
+
+/// The gutter of a break's row, behind the row's bar: a space, and a bar for each label that runs through: ` ││`;
+/// nothing where none does. `AllocError` where memory is refused.
+pub(crate) fn push_break_gutter<O: Canvas>(page: &mut Page<O>, sheet: &Sheet) -> Outcome
+    ensures { OnOk result (page.new ≡ page.old
+        ⊕ row_tokens (break_gutter (settings sheet.now).width (settings sheet.now).characters (multi_labels sheet.now))) }
+{
+    if sheet.multi.is_empty() {
+        return Ok(());
+    }
+    page.push_blank(1)?;
+    push_bars(page, sheet)?;
+    Ok(())
 }
 
 /// The gutter of a row that isn't the number row, in so many columns: a bar for each label that goes on,

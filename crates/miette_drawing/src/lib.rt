@@ -2,6 +2,7 @@
 #![tactic(auto)]
 
 mod closings;
+pub mod folds;
 pub mod frame;
 mod gutters;
 mod highlighting;

@@ -1,12 +1,13 @@
 //! All rows of one line.
 
-ghost use Rattle.std.specs.Prelude.{◌≡◌, ◌++◌, ◌+◌, ◌^◌, ◌<◌, ◌∷◌, [], map, length, IfOk, OnOk};
+ghost use Rattle.std.specs.Prelude.{◌≡◌, ◌++◌, ◌+◌, ◌^◌, ◌<◌, ◌∷◌, [], map, length, IfOk, OnOk, if◌then◌else◌};
 ghost use Rattle.std.specs.List.{All};
 ghost use Rattle.miette_snippets.specs.rules.PrintedCells.{printed_pieces, cells_within, cells_beyond, line_runs};
 ghost use Rattle.miette_snippets.specs.rules.Marks.{marks};
 ghost use Rattle.miette_snippets.specs.rules.Drawing.{marked_rows};
 ghost use Rattle.miette_snippets.specs.rules.Frames.{number_start};
 ghost use Rattle.miette_snippets.specs.rules.SnippetLayout.{before_each, line_rows_of, text_of_cells};
+ghost use Rattle.miette_snippets.specs.rules.SnippetLayout.{break_row, line_or_break_of};
 ghost use Rattle.miette_page.specs.views.Printouts.{◌⊕◌};
 ghost use Rattle.miette_page.specs.views.Tokens.{row_tokens, rows_tokens, text_tokens};
 ghost use Rattle.miette_drawing.specs.steps.CellTokens.{cells_tokens};
@@ -18,7 +19,7 @@ ghost use Rattle.miette_drawing.specs.steps.Sheets.{labels_alone};
 ghost use Rattle.miette_newlines.specs.views.Walking.{line_of_text};
 
 use crate::closings::push_closings;
-use crate::gutters::push_number_gutter;
+use crate::gutters::{push_break_gutter, push_number_gutter};
 use crate::marks::{Mark, marks_on};
 use crate::sheet::{Outcome, Sheet, ShownLine};
 use crate::strokes::push_marks;
@@ -171,10 +172,34 @@ fn marks_alone(alloc: Global, sheet: &Sheet, shown: &ShownLine) -> Result<Vec<Ma
     )
 }
 
-/// The rows of the sheet's line: the number row, the marks and texts of the labels that lie on it alone, and the texts
-/// of the labels of several lines that end there. `AllocError` where memory is refused, or a column is past the
-/// largest `usize`.
-pub(crate) fn push_line_rows<O: Canvas>(
+// The row of a break: `...│ │`.
+fn push_break_row<O: Canvas>(page: &mut Page<O>, sheet: &Sheet) -> Outcome
+    ensures { OnOk result (page.new ≡ page.old
+        ⊕ rows_tokens (break_row (settings sheet.now) sheet.now.number_width (multi_labels sheet.now) ∷ [])) }
+{
+    page.push_blank(sheet.number_width.saturating_sub(1))?;
+    page.push_line(PLAIN, '.', '.', 2)?;
+    page.push(sheet.theme.characters.vbar)?;
+    push_break_gutter(page, sheet)?;
+    page.end_row()?;
+    Ok(())
+}
+
+// The row of the break where it begins with the sheet's line, or none where the line before it is left out too.
+fn push_break<O: Canvas>(page: &mut Page<O>, sheet: &Sheet, shown: &ShownLine) -> Outcome
+    ensures { OnOk result (page.new ≡ page.old ⊕ rows_tokens (if shown.now.gap then []
+        else break_row (settings sheet.now) sheet.now.number_width (multi_labels sheet.now) ∷ [])) }
+{
+    if shown.gap {
+        return Ok(());
+    }
+    push_break_row(page, sheet)?;
+    Ok(())
+}
+
+// The rows of the sheet's line: the number row, the marks and texts of the labels that lie on it alone, and the texts
+// of the labels of several lines that end there.
+fn push_line_rows<O: Canvas>(
     alloc: Global,
     page: &mut Page<O>,
     sheet: &Sheet,
@@ -190,5 +215,28 @@ pub(crate) fn push_line_rows<O: Canvas>(
     let marks = marks_alone(alloc, sheet, shown)?;
     push_marked_rows(page, sheet, &marks)?;
     push_closings(page, sheet)?;
+    Ok(())
+}
+
+/// The rows of the sheet's line: the number row, the marks and texts of the labels that lie on it alone, and the texts
+/// of the labels of several lines that end there. Where it is left out, the row of the break that begins with it, if
+/// one does. `AllocError` where memory is refused, or a column is past the largest `usize`.
+pub(crate) fn push_line_or_break<O: Canvas>(
+    alloc: Global,
+    page: &mut Page<O>,
+    sheet: &Sheet,
+    shown: &ShownLine,
+) -> Outcome
+    requires { sheet.now.line.start + length shown.now.text.now < 2 ^ 64 }
+    ensures { OnOk result (page.new ≡ page.old
+        ⊕ rows_tokens (line_or_break_of shown.now.gap shown.now.left_out (settings sheet.now) sheet.now.number_width
+        sheet.now.gutter (labels_alone sheet.now shown.now) (multi_labels sheet.now) (line_of_text sheet.now.line)
+        shown.now.number (shown_cells sheet.now shown.now) (map highlight_of shown.now.pieces.now))) }
+{
+    if shown.left_out {
+        push_break(page, sheet, shown)?;
+        return Ok(());
+    }
+    push_line_rows(alloc, page, sheet, shown)?;
     Ok(())
 }

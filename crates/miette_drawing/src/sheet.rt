@@ -43,4 +43,8 @@ pub(crate) struct ShownLine<'a> {
     pub(crate) one: &'a [Placed],
     /// A highlighter's pieces of its text, each a length in bytes and a style.
     pub(crate) pieces: &'a [(usize, Style)],
+    /// Whether it is left out.
+    pub(crate) left_out: bool,
+    /// Whether the line before it is left out.
+    pub(crate) gap: bool,
 }

@@ -13,29 +13,36 @@
 //!
 //! 1. `push_snippet` brings the sweep over the labels to the snippet's first line.
 //! 2. `push_framed` counts lines and the widest gutter, and puts the frame around (`frame.rt`).
-//! 3. `push_lines` goes on line by line: which labels lie on it (the sweep), a highlighter's pieces.
-//! 4. `push_line_rows` (`line.rt`) puts the rows of a line: its number row over the gutter
+//! 3. `push_lines` goes on line by line: which labels lie on it (the sweep), a highlighter's pieces, whether it is left
+//!    out inside a folded label (`folds.rt`).
+//! 4. `push_line_or_break` (`line.rt`) puts the rows of a line: its number row over the gutter
 //!    (`gutters.rt`), the marks and their leaders (`marks.rt`, `strokes.rt`), the texts
 //!    (`texts.rt`), and the texts of labels that end there (`closings.rt`).
 
-ghost use Rattle.std.specs.Prelude.{◌≡◌, ◌∷◌, ◌+◌, ◌<◌, ◌^◌, map, length, decimal, IfOk, OnOk};
-ghost use Rattle.miette_newlines.specs.rules.Lines.{lines_from};
+ghost use Rattle.std.specs.Prelude.{◌≡◌, ◌∷◌, ◌+◌, ◌<◌, ◌^◌, List, map, length, decimal, false, IfOk, OnOk};
+ghost use Rattle.miette_newlines.specs.rules.Lines.{Line, lines_from};
+ghost use Rattle.miette_newlines.specs.views.Walking.{line_of_text};
+ghost use Rattle.miette_snippets.specs.rules.SnippetLayout.{left_out};
 ghost use Rattle.miette_snippets.specs.views.ThemeSettings.{settings_of};
 ghost use Rattle.miette_lines.specs.views.GivenLabels.{drawn_of};
 ghost use Rattle.miette_snippets.specs.rules.Highlighting.{AreCallsOn, leaves_plain};
 ghost use Rattle.miette_highlight.specs.rules.HighlighterCalls.{restarted};
+ghost use Rattle.miette_drawing.specs.views.Spreads.{spread_of};
+ghost use Rattle.miette_drawing.specs.steps.Folding.{fold_in};
 ghost use Rattle.miette_drawing.specs.views.SnippetRows.{PutsRows, PutsSnippet, texts_in, lent_rows};
 ghost use Rattle.miette_drawing.specs.views.SnippetRows.{width_of_count, gutter_of};
 ghost use Rattle.miette_lines.specs.views.Sweeping.{IsAt, AreSorted};
 
+use crate::folds::{Fold, Spread, folds_in, leaves_out};
 use crate::frame::{Frame, push_bottom_row, push_top_row};
 use crate::highlighting::{pieces_of, restart};
-use crate::line::push_line_rows;
+use crate::line::push_line_or_break;
 use crate::sheet::{Outcome, Sheet, ShownLine};
 use itoa::Buffer;
 use miette_highlight::highlight::Highlighter;
 use miette_lines::line_sweep::{extent_of, line_at};
 use miette_lines::sweep::{Bounds, Placed, Sweep, advance};
+use miette_newlines::lines::LineOfText;
 use miette_page::canvas::Canvas;
 use miette_page::page::Page;
 use miette_protocol::protocol::LabeledSpan;
@@ -57,6 +64,8 @@ pub struct Drawing<'a> {
     pub labels: &'a [LabeledSpan],
     /// The labels as they are drawn, by offset.
     pub placed: &'a [Placed],
+    /// The labels as they may be folded; none where none is to be.
+    pub spreads: &'a [Spread],
 }
 
 /// A sweep over labels, and the offset to which it has come.
@@ -68,8 +77,8 @@ pub struct Passage {
     pub at: usize,
 }
 
-// What the lines of a snippet are drawn with: their frame and gutter, how many lines stand before them, and their
-// bytes with where these begin.
+// What the lines of a snippet are drawn with: their frame and gutter, how many lines stand before them, their bytes
+// with where these begin, and the labels among them.
 #[derive(Clone, Copy)]
 struct Body<'a> {
     frame: Frame<'a>,
@@ -77,6 +86,7 @@ struct Body<'a> {
     before: usize,
     start: usize,
     bytes: &'a [u8],
+    folds: &'a [Fold],
 }
 
 // How many decimal digits a number has.
@@ -85,6 +95,16 @@ fn digits(number: usize) -> usize
 {
     let mut buffer = Buffer::new();
     buffer.format(number).len()
+}
+
+// The number of the line behind so many lines.
+fn number_behind(before: usize) -> Result<usize, AllocError>
+    ensures { IfOk result (λ number. number ≡ before + 1) }
+{
+    match before.checked_add(1) {
+        Some(number) => Ok(number),
+        None => Err(AllocError),
+    }
 }
 
 // The digits of the number of the last of so many lines, where this many stand before the first; 1 where there is none.
@@ -134,7 +154,21 @@ fn seek(alloc: Global, labels: &[Placed], place: usize, passage: &mut Passage) -
     Ok(())
 }
 
-// The rows of a snippet's lines, in the highlighter's pieces.
+// Whether a line is left out, before which so many lines stand in the source.
+fn is_left_out(body: &Body, before: usize, line: &LineOfText) -> bool
+    ensures { (lines : List Line) (labels : List Spread) → body.now.folds.now ≡ map (fold_in lines) labels →
+        result ≡ left_out (settings_of body.now.frame.theme.now body.now.frame.options) body.now.before lines
+        (map spread_of labels) (before + 1) (line_of_text line.now) }
+{
+    leaves_out(
+        body.frame.options.label_lines,
+        body.folds,
+        before.saturating_sub(body.before),
+        line,
+    )
+}
+
+// The rows of a snippet's lines, in the highlighter's pieces, which is asked for those that are left out too.
 fn push_lines<'a, H: Highlighter, O: Canvas>(
     drawing: &Drawing<'a>,
     body: &Body<'a>,
@@ -146,10 +180,14 @@ fn push_lines<'a, H: Highlighter, O: Canvas>(
     requires sorted { AreSorted drawing.now.placed.now }
     requires at { IsAt drawing.now.placed.now body.now.start sweep.old.next sweep.old.running.items }
     requires small { body.now.start + length body.now.bytes.now < 2 ^ 64 }
+    requires folds { body.now.folds.now ≡ map (fold_in (lines_from body.now.start body.now.bytes.now))
+        drawing.now.spreads.now }
     ensures rows { OnOk result (PutsRows (leaves_plain H.is_blank highlighter.old)
         (AreCallsOn H.may_follow highlighter.old highlighter.new)
         (texts_in body.now.start body.now.bytes.now (lines_from body.now.start body.now.bytes.now))
-        (λ pieces. lent_rows (settings_of body.now.frame.theme.now body.now.frame.options) body.now.frame.number_width
+        (λ pieces. lent_rows (left_out (settings_of body.now.frame.theme.now body.now.frame.options) body.now.before
+        (lines_from body.now.start body.now.bytes.now) (map spread_of drawing.now.spreads.now)) false
+        (settings_of body.now.frame.theme.now body.now.frame.options) body.now.frame.number_width
         body.now.gutter (map (drawn_of drawing.now.labels.now) drawing.now.placed.now)
         body.now.start body.now.bytes.now (body.now.before + 1) pieces (lines_from body.now.start body.now.bytes.now))
         page.old page.new) }
@@ -159,10 +197,9 @@ fn push_lines<'a, H: Highlighter, O: Canvas>(
 {
     let mut before = body.before;
     let mut at: usize = 0;
+    let mut gap = false;
     while at < body.bytes.len() {
-        let Some(number) = before.checked_add(1) else {
-            return Err(AllocError);
-        };
+        let number = number_behind(before)?;
         let line = line_at(body.bytes, body.start, at);
         let bounds = Bounds {
             start: line.start,
@@ -186,10 +223,13 @@ fn push_lines<'a, H: Highlighter, O: Canvas>(
             text,
             one,
             pieces: &pieces,
+            left_out: is_left_out(body, before, &line),
+            gap,
         };
-        push_line_rows(drawing.alloc, page, &sheet, &shown)?;
+        push_line_or_break(drawing.alloc, page, &sheet, &shown)?;
         sweep.leave(line.end);
         before = number;
+        gap = shown.left_out;
         at = line.end - body.start;
     }
     Ok(())
@@ -219,6 +259,7 @@ fn push_framed<'a, H: Highlighter, O: Canvas>(
     let before = lent.line();
     let mut one = Vec::new(drawing.alloc);
     let extent = extent_of(drawing.alloc, bytes, start, drawing.placed, sweep, &mut one)?;
+    let folds = folds_in(drawing.alloc, bytes, start, drawing.spreads)?;
     let frame = Frame {
         theme: drawing.theme,
         options: drawing.options,
@@ -230,6 +271,7 @@ fn push_framed<'a, H: Highlighter, O: Canvas>(
         before,
         start,
         bytes,
+        folds: &folds,
     };
     push_top_row(page, &frame, lent.name(), extent.lines > 1, place)?;
     push_lines(drawing, &body, highlighter, page, sweep, &mut one)?;

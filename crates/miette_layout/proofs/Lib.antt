@@ -1,3 +1,4 @@
 pub mod Choosing
+pub mod Folding
 pub mod Nearing
 pub mod Progressing

@@ -1,7 +1,7 @@
 -- Snippets one after the other, and what the whole gives.
 use Rattle.miette_page.proofs.Paging.{put_append, put_nil}
 use Rattle.miette_page.specs.views.Printouts.{Printout, ◌⊕◌}
-use Rattle.std.proofs.Common.{ℕ, zero, suc, ◌+◌, ◌<◌, ◌≤◌, ◌≡◌, Bool, true, false, cond, List, [], ◌∷◌, ◌++◌, length, map, drop, get_or, Option, Some, None, ◌&&◌, ◌||◌, refl, sym, ap, ap₂, ◌∙◌, subst, arith, All, append_assoc, append-nil}
+use Rattle.std.proofs.Common.{ℕ, zero, suc, ◌+◌, ◌<◌, ◌≤◌, ◌≡◌, Bool, true, false, cond, List, [], ◌∷◌, ◌++◌, length, map, drop, get_or, Option, Some, None, ◌&&◌, ◌||◌, refl, sym, ap, ap₂, ◌∙◌, subst, arith, All, append_assoc}
 use Rattle.std.specs.Option.{option_map}
 use Rattle.std.specs.Prelude.{is_some, if◌then◌else◌}
 use Rattle.std.specs.Str.{chars}
@@ -23,18 +23,19 @@ use Rattle.miette_lines.specs.rules.Answers.{Answers, Highlight, first_of, later
 use Rattle.miette_lines.specs.rules.Around.{has_own, group_context}
 use Rattle.miette_lines.specs.rules.Contexts.{contents, lines_of_contents}
 use Rattle.miette_layout.specs.views.Outcomes.{MayGive}
+use Rattle.miette_snippets.specs.rules.Folds.{Spread, spreads_of}
 use Rattle.miette_snippets.specs.rules.Frames.{SnippetSettings, Place, refused_row, top_row, bottom_row, number_width}
 use Rattle.miette_lines.specs.views.GivenLabels.{drawn_of, label_at}
 use Rattle.miette_snippets.specs.rules.Gutters.{gutter_columns}
 use Rattle.miette_lines.specs.rules.Groups.{in_order, refusal, groups_of, some_fails, AreAccepted}
-use Rattle.miette_snippets.specs.rules.Highlighting.{EachHasPieces, SnippetsHavePieces, texts_of, line_calls, group_calls, snippet_calls}
+use Rattle.miette_snippets.specs.rules.Highlighting.{EachHasPieces, SnippetsHavePieces, texts_of, line_calls, group_calls}
 use Rattle.miette_lines.specs.rules.Labels.{DrawnLabel, drawn_from, some_shows_end}
-use Rattle.miette_snippets.specs.rules.SnippetLayout.{snippet, all_snippets, drawn_labels, line_rows, settings_around, rows_unless, place_of, body_rows}
+use Rattle.miette_snippets.specs.rules.SnippetLayout.{snippet, all_snippets, drawn_labels, line_or_break, left_out, settings_around, rows_unless, place_of, body_rows}
 use Rattle.miette_drawing.specs.views.SnippetRows.{cells_in, lent_rows, lent_snippet, PutsRows}
 use Rattle.miette_lines.specs.views.Placing.{told_end, placed_from}
 use Rattle.miette_lines.specs.views.Primary.{chosen_label, PointsTo, is_unread}
 use Rattle.miette_lines.specs.views.Reads.{IsRead, IsLent, AreGroups, AreGrouped, IsUnread, AreRead, name_of}
-use Rattle.miette_page.specs.views.Tokens.{Token, rows_tokens}
+use Rattle.miette_page.specs.views.Tokens.{rows_tokens}
 use Rattle.miette_snippets.proofs.Bodies.{none_refused}
 use Rattle.miette_lines.proofs.Bodies.{some_none}
 use Rattle.miette_layout.proofs.Choosing.{framed_place, place_is, unread_fails}
@@ -52,44 +53,44 @@ abbrev pub spans_grouped : List Group → List Span
 spans_grouped groups = map (λ group. group.span) groups
 
 -- so many groups are drawn: whatever pieces the others have, there are pieces for all
-abbrev pub AreDrawn : SnippetSettings → Source → List Label → Bool → (List Call → Type 0) → (List Call → Type 0) → List Group → ℕ → Printout → Printout → Type 0
-AreDrawn s source labels blank begun now groups i before page =
+abbrev pub AreDrawn : SnippetSettings → List Spread → Source → List Label → Bool → (List Call → Type 0) → (List Call → Type 0) → List Group → ℕ → Printout → Printout → Type 0
+AreDrawn s spreads source labels blank begun now groups i before page =
     (more : List (List (List Highlight))) → SnippetsHavePieces s.context blank source (spans_grouped (drop i groups)) more →
     (all : List (List (List Highlight))) × SnippetsHavePieces s.context blank source (spans_grouped groups) all
     × ((later : List Call) → now (group_calls s.context source (spans_grouped (drop i groups)) more ++ later) → begun (group_calls s.context source (spans_grouped groups) all ++ later))
-    × (page ⊕ rows_tokens (all_snippets s source (in_order labels) more (spans_grouped (drop i groups))) ≡ before ⊕ rows_tokens (all_snippets s source (in_order labels) all (spans_grouped groups)))
+    × (page ⊕ rows_tokens (all_snippets s spreads source (in_order labels) more (spans_grouped (drop i groups))) ≡ before ⊕ rows_tokens (all_snippets s spreads source (in_order labels) all (spans_grouped groups)))
 
-pub none_drawn : (s : SnippetSettings) (source : Source) (labels : List Label) (blank : Bool) (begun : List Call → Type 0) (groups : List Group) (page : Printout) → AreDrawn s source labels blank begun begun groups 0 page page
-none_drawn s source labels blank begun groups page = λ more h. (more, h, (λ later k. k), refl)
+pub none_drawn : (s : SnippetSettings) (spreads : List Spread) (source : Source) (labels : List Label) (blank : Bool) (begun : List Call → Type 0) (groups : List Group) (page : Printout) → AreDrawn s spreads source labels blank begun begun groups 0 page page
+none_drawn s spreads source labels blank begun groups page = λ more h. (more, h, (λ later k. k), refl)
 
-snippet_same : (s : SnippetSettings) (source : Source) (labels : List Label) (span : Span) (drawn : List DrawnLabel) (lent : Contents) (place : Option Place) (pieces : List (List Highlight)) →
+snippet_same : (s : SnippetSettings) (spreads : List Spread) (source : Source) (labels : List Label) (span : Span) (drawn : List DrawnLabel) (lent : Contents) (place : Option Place) (pieces : List (List Highlight)) →
     drawn ≡ drawn_labels s (length source.bytes) labels → lent ≡ contents s.context source span → place ≡ place_of source span labels →
-    lent_snippet s drawn lent place pieces ≡ snippet s source labels span pieces
-snippet_same s source labels span drawn lent place pieces d l p =
-    ap (λ c. lent_snippet s drawn c place pieces) l
-    ∙ ap (λ c. lent_snippet s drawn (contents s.context source span) c pieces) p
-    ∙ ap (λ rows. top_row s (contents s.context source span) (place_of source span labels) ∷ rows ++ bottom_row s (number_width (contents s.context source span)) ∷ []) (lent_body s drawn s.context source span pieces)
-    ∙ ap (λ c. top_row s (contents s.context source span) (place_of source span labels) ∷ body_rows s c source.bytes (contents s.context source span) pieces ++ bottom_row s (number_width (contents s.context source span)) ∷ []) d
+    lent_snippet s spreads drawn lent place pieces ≡ snippet s spreads source labels span pieces
+snippet_same s spreads source labels span drawn lent place pieces d l p =
+    ap (λ c. lent_snippet s spreads drawn c place pieces) l
+    ∙ ap (λ c. lent_snippet s spreads drawn (contents s.context source span) c pieces) p
+    ∙ ap (λ rows. top_row s (contents s.context source span) (place_of source span labels) ∷ rows ++ bottom_row s (number_width (contents s.context source span)) ∷ []) (lent_body s spreads drawn s.context source span pieces)
+    ∙ ap (λ c. top_row s (contents s.context source span) (place_of source span labels) ∷ body_rows s spreads c source.bytes (contents s.context source span) pieces ++ bottom_row s (number_width (contents s.context source span)) ∷ []) d
 
 -- the lines of context don't matter to rows of what was lent
-rows_around : (s : SnippetSettings) (c w columns : ℕ) (drawn : List DrawnLabel) (start : ℕ) (bytes : List ℕ) (number : ℕ) (pieces : List (List Highlight)) (lines : List Line) →
-    lent_rows (record s { context = c }) w columns drawn start bytes number pieces lines ≡ lent_rows s w columns drawn start bytes number pieces lines
-rows_around s c w columns drawn start bytes number pieces [] = refl
-rows_around s c w columns drawn start bytes number pieces (line ∷ lines) =
-    ap (λ r. line_rows s w columns drawn line number (cells_in s start bytes line) (first_of pieces) ++ r) (rows_around s c w columns drawn start bytes (number + 1) (later_of pieces) lines)
+rows_around : (out : ℕ → Line → Bool) (gap : Bool) (s : SnippetSettings) (c w columns : ℕ) (drawn : List DrawnLabel) (start : ℕ) (bytes : List ℕ) (number : ℕ) (pieces : List (List Highlight)) (lines : List Line) →
+    lent_rows out gap (record s { context = c }) w columns drawn start bytes number pieces lines ≡ lent_rows out gap s w columns drawn start bytes number pieces lines
+rows_around out gap s c w columns drawn start bytes number pieces [] = refl
+rows_around out gap s c w columns drawn start bytes number pieces (line ∷ lines) =
+    ap (λ r. line_or_break gap (out number line) s w columns drawn line number (cells_in s start bytes line) (first_of pieces) ++ r) (rows_around out (out number line) s c w columns drawn start bytes (number + 1) (later_of pieces) lines)
 
-snippet_around : (s : SnippetSettings) (c : ℕ) (drawn : List DrawnLabel) (lent : Contents) (place : Option Place) (pieces : List (List Highlight)) → lent_snippet (record s { context = c }) drawn lent place pieces ≡ lent_snippet s drawn lent place pieces
-snippet_around s c drawn lent place pieces =
+snippet_around : (s : SnippetSettings) (c : ℕ) (spreads : List Spread) (drawn : List DrawnLabel) (lent : Contents) (place : Option Place) (pieces : List (List Highlight)) → lent_snippet (record s { context = c }) spreads drawn lent place pieces ≡ lent_snippet s spreads drawn lent place pieces
+snippet_around s c spreads drawn lent place pieces =
     ap (λ rows. top_row s lent place ∷ rows ++ bottom_row s (number_width lent) ∷ [])
-    (rows_around s c (number_width lent) (gutter_columns drawn (lines_of_contents lent)) drawn lent.span.offset lent.bytes (lent.line + 1) pieces (lines_of_contents lent))
+    (rows_around (left_out s lent.line (lines_of_contents lent) spreads) false s c (number_width lent) (gutter_columns drawn (lines_of_contents lent)) drawn lent.span.offset lent.bytes (lent.line + 1) pieces (lines_of_contents lent))
 
-pub puts_around : (s : SnippetSettings) (c : ℕ) (blank : Bool) (happen : List Call → Type 0) (texts : List (List ℕ)) (drawn : List DrawnLabel) (lent : Contents) (place : Option Place) (page more : Printout) →
-    PutsRows blank happen texts (lent_snippet s drawn lent place) page more → PutsRows blank happen texts (lent_snippet (record s { context = c }) drawn lent place) page more
-puts_around s c blank happen texts drawn lent place page more h = record {
+pub puts_around : (s : SnippetSettings) (c : ℕ) (blank : Bool) (happen : List Call → Type 0) (texts : List (List ℕ)) (spreads : List Spread) (drawn : List DrawnLabel) (lent : Contents) (place : Option Place) (page more : Printout) →
+    PutsRows blank happen texts (lent_snippet s spreads drawn lent place) page more → PutsRows blank happen texts (lent_snippet (record s { context = c }) spreads drawn lent place) page more
+puts_around s c blank happen texts spreads drawn lent place page more h = record {
   pieces = h.pieces;
   are = h.are;
   calls = h.calls;
-  is = h.is ∙ ap (λ rows. page ⊕ rows_tokens rows) (sym (snippet_around s c drawn lent place h.pieces));
+  is = h.is ∙ ap (λ rows. page ⊕ rows_tokens rows) (sym (snippet_around s c spreads drawn lent place h.pieces));
 }
 
 drop_at : {X : Type 0} (xs : List X) (i : ℕ) (d : X) → i < length xs → drop i xs ≡ get_or xs i d ∷ drop (i + 1) xs
@@ -98,26 +99,26 @@ drop_at (x ∷ xs) zero d lt = refl
 drop_at (x ∷ xs) (suc i) d lt = let e : suc i + 1 ≡ suc (i + 1) = omega arith in rw e (drop_at xs i d (omega (arith, lt)))
 
 -- the rows of one group more
-group_step : (s : SnippetSettings) (source : Source) (labels : List Label) (groups : List Group) (i : ℕ) (group : Group) (pieces : List (List Highlight)) (later : List (List (List Highlight))) (page more : Printout) (drawn : List DrawnLabel) (place : Option Place) →
+group_step : (s : SnippetSettings) (spreads : List Spread) (source : Source) (labels : List Label) (groups : List Group) (i : ℕ) (group : Group) (pieces : List (List Highlight)) (later : List (List (List Highlight))) (page more : Printout) (drawn : List DrawnLabel) (place : Option Place) →
     spans_grouped (drop i groups) ≡ group.span ∷ spans_grouped (drop (i + 1) groups) → IsLent s.context source group.span group.contents →
     drawn ≡ drawn_labels s (length source.bytes) (in_order labels) → place ≡ place_of source group.span (in_order labels) →
-    more ≡ page ⊕ rows_tokens (lent_snippet s drawn group.contents place pieces) →
-    more ⊕ rows_tokens (all_snippets s source (in_order labels) later (spans_grouped (drop (i + 1) groups))) ≡ page ⊕ rows_tokens (all_snippets s source (in_order labels) (pieces ∷ later) (spans_grouped (drop i groups)))
-group_step s source labels groups i group pieces later page more drawn place front lent d p e =
+    more ≡ page ⊕ rows_tokens (lent_snippet s spreads drawn group.contents place pieces) →
+    more ⊕ rows_tokens (all_snippets s spreads source (in_order labels) later (spans_grouped (drop (i + 1) groups))) ≡ page ⊕ rows_tokens (all_snippets s spreads source (in_order labels) (pieces ∷ later) (spans_grouped (drop i groups)))
+group_step s spreads source labels groups i group pieces later page more drawn place front lent d p e =
     let ls : List Label = in_order labels in
-    let rest : List Row = all_snippets s source ls later (spans_grouped (drop (i + 1) groups)) in
-    let own : List Row = snippet s source ls group.span pieces in
+    let rest : List Row = all_snippets s spreads source ls later (spans_grouped (drop (i + 1) groups)) in
+    let own : List Row = snippet s spreads source ls group.span pieces in
     ap (λ m. m ⊕ rows_tokens rest) e
-    ∙ put_append page (rows_tokens (lent_snippet s drawn group.contents place pieces)) (rows_tokens rest)
-    ∙ ap (λ rows. page ⊕ (rows_tokens rows ++ rows_tokens rest)) (snippet_same s source ls group.span drawn group.contents place pieces d lent.is p)
+    ∙ put_append page (rows_tokens (lent_snippet s spreads drawn group.contents place pieces)) (rows_tokens rest)
+    ∙ ap (λ rows. page ⊕ (rows_tokens rows ++ rows_tokens rest)) (snippet_same s spreads source ls group.span drawn group.contents place pieces d lent.is p)
     ∙ ap (λ t. page ⊕ t) (sym (told_rows-append own rest))
-    ∙ ap (λ ss. page ⊕ rows_tokens (all_snippets s source ls (pieces ∷ later) ss)) (sym front)
+    ∙ ap (λ ss. page ⊕ rows_tokens (all_snippets s spreads source ls (pieces ∷ later) ss)) (sym front)
 
-pub drawn_more : (s : SnippetSettings) (source : Source) (labels : List Label) (blank : Bool) (begun was now : List Call → Type 0) (groups : List Group) (i : ℕ) (group : Group) (before page more : Printout) (drawn : List DrawnLabel) (place : Option Place) →
-    AreDrawn s source labels blank begun was groups i before page → i < length groups → group ≡ get_or groups i group → IsLent s.context source group.span group.contents →
+pub drawn_more : (s : SnippetSettings) (spreads : List Spread) (source : Source) (labels : List Label) (blank : Bool) (begun was now : List Call → Type 0) (groups : List Group) (i : ℕ) (group : Group) (before page more : Printout) (drawn : List DrawnLabel) (place : Option Place) →
+    AreDrawn s spreads source labels blank begun was groups i before page → i < length groups → group ≡ get_or groups i group → IsLent s.context source group.span group.contents →
     drawn ≡ drawn_labels s (length source.bytes) (in_order labels) → place ≡ place_of source group.span (in_order labels) →
-    PutsRows blank (λ calls. Leads was (restarted group.contents ∷ calls) now) (lent_texts group.contents) (lent_snippet s drawn group.contents place) page more → AreDrawn s source labels blank begun now groups (i + 1) before more
-drawn_more s source labels blank begun was now groups i group before page more drawn place h lt is lent d p e = λ later own.
+    PutsRows blank (λ calls. Leads was (restarted group.contents ∷ calls) now) (lent_texts group.contents) (lent_snippet s spreads drawn group.contents place) page more → AreDrawn s spreads source labels blank begun now groups (i + 1) before more
+drawn_more s spreads source labels blank begun was now groups i group before page more drawn place h lt is lent d p e = λ later own.
     let front : spans_grouped (drop i groups) ≡ group.span ∷ spans_grouped (drop (i + 1) groups) = ap spans_grouped (drop_at groups i group lt) ∙ ap (λ (g : Group). g.span ∷ spans_grouped (drop (i + 1) groups)) (sym is) in
     let mine : EachHasPieces blank (texts_of source.bytes (lines_of_contents (contents s.context source group.span))) e.pieces =
     subst (λ (ts : List (List ℕ)). EachHasPieces blank ts e.pieces) (ap lent_texts lent.is ∙ lent_texts_are s.context source group.span) e.are in
@@ -132,37 +133,37 @@ drawn_more s source labels blank begun was now groups i group before page more d
       all.1,
       (λ calls k. all.2 calls (subst (λ (ss : List Span). was (group_calls s.context source ss (e.pieces ∷ later) ++ calls)) (sym front)
           (subst (λ (cs : List Call). was (restarted read ∷ cs)) (sym (append_assoc lines others calls)) (called (others ++ calls) k)))),
-      group_step s source labels groups i group e.pieces later page more drawn place front lent d p e.is ∙ all.3,
+      group_step s spreads source labels groups i group e.pieces later page more drawn place front lent d p e.is ∙ all.3,
     )
 
 -- all groups are drawn
-pub record IsWhole (s : SnippetSettings) (source : Source) (labels : List Label) (blank : Bool) (happen : List Call → Type 0) (groups : List Group) (before page : Printout) : Type 0 where
+pub record IsWhole (s : SnippetSettings) (spreads : List Spread) (source : Source) (labels : List Label) (blank : Bool) (happen : List Call → Type 0) (groups : List Group) (before page : Printout) : Type 0 where
   pub pieces : List (List (List Highlight))
   pub have : SnippetsHavePieces s.context blank source (spans_grouped groups) pieces
   pub plain : blank ≡ true → pieces ≡ []
   pub calls : happen (group_calls s.context source (spans_grouped groups) pieces)
-  pub is : page ≡ before ⊕ rows_tokens (all_snippets s source (in_order labels) pieces (spans_grouped groups))
+  pub is : page ≡ before ⊕ rows_tokens (all_snippets s spreads source (in_order labels) pieces (spans_grouped groups))
 
 -- where lines are left plain there are no pieces
-unless_plain : (s : SnippetSettings) (source : Source) (labels : List Label) (blank : Bool) (happen : List Call → Type 0) (groups : List Group) (before page : Printout) (pieces : List (List (List Highlight))) →
-    SnippetsHavePieces s.context blank source (spans_grouped groups) pieces → happen (group_calls s.context source (spans_grouped groups) pieces) → page ≡ before ⊕ rows_tokens (all_snippets s source (in_order labels) pieces (spans_grouped groups)) → IsWhole s source labels blank happen groups before page
-unless_plain s source labels true happen groups before page pieces h c e = record {
+unless_plain : (s : SnippetSettings) (spreads : List Spread) (source : Source) (labels : List Label) (blank : Bool) (happen : List Call → Type 0) (groups : List Group) (before page : Printout) (pieces : List (List (List Highlight))) →
+    SnippetsHavePieces s.context blank source (spans_grouped groups) pieces → happen (group_calls s.context source (spans_grouped groups) pieces) → page ≡ before ⊕ rows_tokens (all_snippets s spreads source (in_order labels) pieces (spans_grouped groups)) → IsWhole s spreads source labels blank happen groups before page
+unless_plain s spreads source labels true happen groups before page pieces h c e = record {
   pieces = [];
   have = none_have s.context true source (spans_grouped groups);
   plain = λ b. refl;
   calls = subst happen (calls_plain s.context source (spans_grouped groups) pieces h) c;
-  is = e ∙ ap (λ rows. before ⊕ rows_tokens rows) (snippets_plain s source (in_order labels) pieces (spans_grouped groups) h);
+  is = e ∙ ap (λ rows. before ⊕ rows_tokens rows) (snippets_plain s spreads source (in_order labels) pieces (spans_grouped groups) h);
 }
-unless_plain s source labels false happen groups before page pieces h c e = record { pieces = pieces; have = h; plain = λ b. absurd (cc); calls = c; is = e }
+unless_plain s spreads source labels false happen groups before page pieces h c e = record { pieces = pieces; have = h; plain = λ b. absurd (cc); calls = c; is = e }
 
-pub all_drawn : (s : SnippetSettings) (source : Source) (labels : List Label) (blank : Bool) (begun now : List Call → Type 0) (groups : List Group) (i : ℕ) (before page : Printout) → AreDrawn s source labels blank begun now groups i before page → length groups ≤ i →
-    IsWhole s source labels blank (λ calls. Leads begun calls now) groups before page
-all_drawn s source labels blank begun now groups i before page h le =
+pub all_drawn : (s : SnippetSettings) (spreads : List Spread) (source : Source) (labels : List Label) (blank : Bool) (begun now : List Call → Type 0) (groups : List Group) (i : ℕ) (before page : Printout) → AreDrawn s spreads source labels blank begun now groups i before page → length groups ≤ i →
+    IsWhole s spreads source labels blank (λ calls. Leads begun calls now) groups before page
+all_drawn s spreads source labels blank begun now groups i before page h le =
     let none : drop i groups ≡ [] = drop_all i groups le in
     let all = h [] (none_have s.context blank source (spans_grouped (drop i groups))) in
-    unless_plain s source labels blank (λ calls. Leads begun calls now) groups before page all.0 all.1
+    unless_plain s spreads source labels blank (λ calls. Leads begun calls now) groups before page all.0 all.1
     (λ later k. all.2 later (subst (λ (gs : List Group). now (group_calls s.context source (spans_grouped gs) [] ++ later)) (sym none) k))
-    (sym (put_nil page) ∙ ap (λ gs. page ⊕ rows_tokens (all_snippets s source (in_order labels) [] (spans_grouped gs))) (sym none) ∙ all.3)
+    (sym (put_nil page) ∙ ap (λ gs. page ⊕ rows_tokens (all_snippets s spreads source (in_order labels) [] (spans_grouped gs))) (sym none) ∙ all.3)
 
 -- the labels' groups
 
@@ -173,7 +174,7 @@ none_refused_here context source labels reads order h =
 
 -- all snippets were drawn
 pub gives_rows : (s : SnippetSettings) (source : Source) (labels : List Label) (blank : Bool) (happen : List Call → Type 0) (reads : List ReadLabel) (groups : List Group) (before page : Printout) → map (read_of labels) reads ≡ in_order labels →
-    All (IsRead s.context source labels) reads → AreGroups s.context source (in_order labels) groups → IsWhole (settings_around s (in_order labels)) source labels blank happen groups before page →
+    All (IsRead s.context source labels) reads → AreGroups s.context source (in_order labels) groups → IsWhole (settings_around s (in_order labels)) (spreads_of s.label_lines s.context source (in_order labels)) source labels blank happen groups before page →
     MayGive s source labels blank happen before (Some page)
 gives_rows s source labels blank happen reads groups before page order h g e =
     let ls : List Label = in_order labels in
@@ -187,8 +188,8 @@ gives_rows s source labels blank happen reads groups before page order h g e =
       plain = e.plain;
       calls = subst (λ r. happen (if is_some r then [] else group_calls s'.context source spans e.pieces)) (sym (none_refused_here s.context source labels reads order h))
           (subst (λ (gs : List Span). happen (group_calls s'.context source gs e.pieces)) g.are e.calls);
-      is = ap Some (e.is ∙ ap (λ gs. before ⊕ rows_tokens (all_snippets s' source ls e.pieces gs)) g.are)
-          ∙ sym (ap₂ (λ a b. option_map (λ rows. before ⊕ rows_tokens rows) (cond (a || b) None (Some (all_snippets s' source ls e.pieces spans)))) g.read (some_none [] spans tt))
+      is = ap Some (e.is ∙ ap (λ gs. before ⊕ rows_tokens (all_snippets s' (spreads_of s.label_lines s.context source ls) source ls e.pieces gs)) g.are)
+          ∙ sym (ap₂ (λ a b. option_map (λ rows. before ⊕ rows_tokens rows) (cond (a || b) None (Some (all_snippets s' (spreads_of s.label_lines s.context source ls) source ls e.pieces spans)))) g.read (some_none [] spans tt))
           ∙ sym (ap (λ r. option_map (λ rows. before ⊕ rows_tokens rows) (rows_unless s source ls answers (option_map (refused_row s) r))) (none_refused_here s.context source labels reads order h));
     }
 
@@ -219,7 +220,7 @@ gives_none s source labels blank happen own reads groups i span found before ord
       pieces = none_have s'.context blank source spans;
       plain = λ b. refl;
       calls = tt;
-      is = sym (ap₂ (λ a b. option_map (λ rows. before ⊕ rows_tokens rows) (cond (a || b) None (Some (all_snippets s' source ls [] spans)))) g.read (one_fails i spans many))
+      is = sym (ap₂ (λ a b. option_map (λ rows. before ⊕ rows_tokens rows) (cond (a || b) None (Some (all_snippets s' (spreads_of s.label_lines s.context source ls) source ls [] spans)))) g.read (one_fails i spans many))
           ∙ sym (ap (λ r. option_map (λ rows. before ⊕ rows_tokens rows) (rows_unless s source ls answers (option_map (refused_row s) r))) (none_refused_here s.context source labels reads order h));
     }
 
@@ -237,7 +238,7 @@ gives_unread s source labels blank happen reads before order h g =
       pieces = none_have s'.context blank source spans;
       plain = λ b. refl;
       calls = tt;
-      is = sym (ap (λ b. option_map (λ rows. before ⊕ rows_tokens rows) (cond (b || some_fails [] spans) None (Some (all_snippets s' source ls [] spans)))) g.unread)
+      is = sym (ap (λ b. option_map (λ rows. before ⊕ rows_tokens rows) (cond (b || some_fails [] spans) None (Some (all_snippets s' (spreads_of s.label_lines s.context source ls) source ls [] spans)))) g.unread)
           ∙ sym (ap (λ r. option_map (λ rows. before ⊕ rows_tokens rows) (rows_unless s source ls answers (option_map (refused_row s) r))) (none_refused_here s.context source labels reads order h));
     }
 

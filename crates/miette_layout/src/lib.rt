@@ -2,6 +2,7 @@
 #![tactic(auto)]
 
 pub mod snippets;
+mod spreads;
 
 pub use miette_page::page;
 pub use miette_snippet_laws::laws;

@@ -10,6 +10,7 @@ ghost use Rattle.miette_snippets.specs.rules.Highlighting.{AreCallsOn, leaves_pl
 ghost use Rattle.miette_lines.specs.views.Placing.{told_end};
 ghost use Rattle.miette_lines.specs.views.Reads.{IsRead, name_of as name_of_reason};
 
+use crate::spreads::spreads;
 use miette_drawing::frame::{Frame, push_refused_row};
 use miette_drawing::snippet::{Drawing, Passage, push_snippet};
 use miette_highlight::highlight::Highlighter;
@@ -69,6 +70,7 @@ fn read_snippets<'a, 'b, S: SourceCode, H: Highlighter, O: Canvas + Drop>(
     let Some(groups) = groups(alloc, source, look.options.context_lines, labels, reads)? else {
         return Ok(None);
     };
+    let spreads = spreads(look, labels, reads)?;
     let own = some_own(labels);
     let drawing = Drawing {
         alloc,
@@ -76,6 +78,7 @@ fn read_snippets<'a, 'b, S: SourceCode, H: Highlighter, O: Canvas + Drop>(
         options: look.options,
         labels,
         placed: &placed,
+        spreads: &spreads,
     };
     let mut page = page;
     let mut passage = Passage {

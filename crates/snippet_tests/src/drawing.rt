@@ -20,6 +20,7 @@ pub(crate) const OPTIONS: LayoutOptions = LayoutOptions {
     context_lines: 1,
     primary_start: true,
     end_labels: false,
+    label_lines: None,
 };
 
 /// Nine lines of a digit each.

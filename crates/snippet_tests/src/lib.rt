@@ -4,6 +4,8 @@
 #[cfg(test)]
 mod drawing;
 #[cfg(test)]
+mod folded;
+#[cfg(test)]
 mod lines;
 #[cfg(test)]
 mod own_context;

@@ -10,13 +10,15 @@ use Rattle.miette_lines.specs.rules.Answers.{Highlight, first_of, later_of}
 use Rattle.miette_lines.specs.rules.Cells.{Cell, characters, cells_from}
 use Rattle.miette_lines.specs.rules.Contexts.{lines_of_contents}
 use Rattle.miette_drawing.specs.declared.snippet.Drawing.{Drawing}
+use Rattle.miette_drawing.specs.views.Spreads.{spread_of}
 use Rattle.miette_snippets.specs.views.ThemeSettings.{settings_of}
 use Rattle.miette_lines.specs.views.GivenLabels.{drawn_of}
+use Rattle.miette_snippets.specs.rules.Folds.{Spread}
 use Rattle.miette_snippets.specs.rules.Frames.{SnippetSettings, Place, top_row, bottom_row, number_width}
 use Rattle.miette_snippets.specs.rules.Gutters.{gutter_columns}
 use Rattle.miette_snippets.specs.rules.Highlighting.{decoded_text, EachHasPieces, line_calls}
 use Rattle.miette_lines.specs.rules.Labels.{DrawnLabel}
-use Rattle.miette_snippets.specs.rules.SnippetLayout.{line_rows}
+use Rattle.miette_snippets.specs.rules.SnippetLayout.{line_or_break, left_out}
 use Rattle.miette_page.specs.views.Printouts.{Printout, ◌⊕◌}
 use Rattle.miette_page.specs.views.Tokens.{rows_tokens}
 
@@ -32,20 +34,23 @@ cells_in s start bytes line = cells_from s.width s.tab false line.start 0 (chara
 abbrev pub texts_in : ℕ → List ℕ → List Line → List (List ℕ)
 texts_in start bytes lines = map (λ line. decoded_text (text_in start bytes line)) lines
 
--- the rows of lines, with numbers from this one on, in bytes that begin at an offset
-abbrev pub lent_rows : SnippetSettings → ℕ → ℕ → List DrawnLabel → ℕ → List ℕ → ℕ → List (List Highlight) → List Line →
-    List Row
-lent_rows s w columns drawn start bytes number pieces [] = []
-lent_rows s w columns drawn start bytes number pieces (line ∷ lines) =
-    line_rows s w columns drawn line number (cells_in s start bytes line) (first_of pieces)
-    ++ lent_rows s w columns drawn start bytes (number + 1) (later_of pieces) lines
+-- The rows of lines, with numbers from this one on, in bytes that begin at an offset; whether the line before them is
+-- left out, and whether a line with its number is.
+abbrev pub lent_rows : (ℕ → Line → Bool) → Bool → SnippetSettings → ℕ → ℕ → List DrawnLabel → ℕ → List ℕ → ℕ → List
+    (List Highlight) → List Line → List Row
+lent_rows out gap s w columns drawn start bytes number pieces [] = []
+lent_rows out gap s w columns drawn start bytes number pieces (line ∷ lines) =
+    line_or_break gap (out number line) s w columns drawn line number (cells_in s start bytes line) (first_of pieces)
+    ++ lent_rows out (out number line) s w columns drawn start bytes (number + 1) (later_of pieces) lines
 
 -- the rows of a snippet, with its frame
-abbrev pub lent_snippet : SnippetSettings → List DrawnLabel → Contents → Option Place → List (List Highlight) → List Row
-lent_snippet s drawn lent place pieces =
+abbrev pub lent_snippet : SnippetSettings → List Spread → List DrawnLabel → Contents → Option Place → List (List
+    Highlight) → List Row
+lent_snippet s spreads drawn lent place pieces =
     top_row s lent place
-    ∷ lent_rows s (number_width lent) (gutter_columns drawn (lines_of_contents lent)) drawn lent.span.offset lent.bytes
-    (lent.line + 1) pieces (lines_of_contents lent)
+    ∷ lent_rows (left_out s lent.line (lines_of_contents lent) spreads) false s (number_width lent)
+    (gutter_columns drawn (lines_of_contents lent)) drawn lent.span.offset lent.bytes (lent.line + 1) pieces
+    (lines_of_contents lent)
     ++ bottom_row s (number_width lent) ∷ []
 
 -- the digits of the number of the last of so many lines, where this many stand before the first; 1 where there is none
@@ -73,5 +78,5 @@ abbrev pub PutsSnippet : Bool → (List Call → Type 0) → Drawing → Content
     Type 0
 PutsSnippet blank happen drawing lent place before after =
     PutsRows blank happen (texts_in lent.span.offset lent.bytes (lines_of_contents lent))
-    (lent_snippet (settings_of drawing.theme.now drawing.options)
+    (lent_snippet (settings_of drawing.theme.now drawing.options) (map spread_of drawing.spreads.now)
     (map (drawn_of drawing.labels.now) drawing.placed.now) lent (option_map place_at place)) before after

@@ -1,5 +1,5 @@
 use Rattle.miette_page.specs.views.Printouts.{◌⊕◌}
-use Rattle.std.proofs.Common.{◌≡◌, ◌++◌, length}
+use Rattle.std.proofs.Common.{◌≡◌, length}
 use Rattle.miette_drawing.specs.steps.CellTokens.{cells_tokens}
 use Rattle.miette_drawing.proofs.line.push_cells.Given as goal
 

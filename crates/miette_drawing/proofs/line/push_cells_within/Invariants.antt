@@ -1,5 +1,5 @@
 use Rattle.miette_page.specs.views.Printouts.{◌⊕◌}
-use Rattle.std.proofs.Common.{◌≡◌, ◌++◌}
+use Rattle.std.proofs.Common.{◌≡◌}
 use Rattle.miette_snippets.specs.rules.PrintedCells.{cells_within, cells_beyond}
 use Rattle.miette_drawing.specs.steps.CellTokens.{cells_tokens}
 use Rattle.miette_drawing.proofs.line.push_cells_within.Given as goal

@@ -1,5 +1,5 @@
 use Rattle.miette_page.specs.views.Printouts.{◌⊕◌}
-use Rattle.std.proofs.Common.{◌∙◌, ◌++◌, ◌<◌, ap, map, [], length, rules}
+use Rattle.std.proofs.Common.{◌∙◌, ◌<◌, ap, map, [], length, rules}
 use Rattle.miette_snippets.specs.rules.Drawing.{mark_runs, rows_below}
 use Rattle.miette_page.specs.views.Tokens.{rows_tokens}
 use Rattle.miette_snippets.specs.rules.SnippetLayout.{before_each}

@@ -1,5 +1,6 @@
-use Rattle.std.proofs.Common.{ap, ◌∙◌}
+use Rattle.std.proofs.Common.{ap, ◌∙◌, map}
 use Rattle.std.specs.Option.{option_map}
+use Rattle.miette_drawing.specs.views.Spreads.{spread_of}
 use Rattle.miette_drawing.specs.views.SnippetRows.{place_at}
 use Rattle.miette_snippets.specs.views.ThemeSettings.{settings_of}
 use Rattle.miette_snippets.specs.rules.Highlighting.{leaves_plain, follows}
@@ -9,7 +10,7 @@ use Rattle.miette_drawing.proofs.snippet.push_framed.Goals as goal
 
 pub returns-clause-rows : goal.returns-clause-rows
 returns-clause-rows g c =
-    told_lent (settings_of c.args.drawing.now.theme.now c.args.drawing.now.options) c.args.drawing.now.labels.now c.args.drawing.now.placed.now c.args.lent.now (option_map place_at c.args.place) (leaves_plain g.H.Highlighter.is_blank c.args.highlighter.now)
+    told_lent (settings_of c.args.drawing.now.theme.now c.args.drawing.now.options) (map spread_of c.args.drawing.now.spreads.now) c.args.drawing.now.labels.now c.args.drawing.now.placed.now c.args.lent.now (option_map place_at c.args.place) (leaves_plain g.H.Highlighter.is_blank c.args.highlighter.now)
     (λ calls. Leads (follows g.H.Highlighter.may_follow c.args.highlighter.now) calls (follows g.H.Highlighter.may_follow c.push_lines.new.highlighter))
     c.in_ok-number_width.field-0 c.in_ok-gutter_width.field-0 c.in_ok-extent.extent.lines c.in_ok-extent.extent.most c.line-before.result c.offset-start.result
     _ c.data-bytes.result.now c.args.page.now c.push_top_row.new.page c.push_lines.new.page c.push_bottom_row.new.page

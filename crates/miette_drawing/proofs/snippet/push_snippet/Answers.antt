@@ -1,5 +1,6 @@
 use Rattle.std.proofs.Common.{ℕ, ◌≡◌, ◌+◌, List, ◌∷◌, ap, ◌∙◌, sym, subst, length, map}
 use Rattle.std.specs.Option.{option_map}
+use Rattle.miette_drawing.specs.views.Spreads.{spread_of}
 use Rattle.miette_drawing.specs.views.SnippetRows.{place_at}
 use Rattle.miette_snippets.specs.views.ThemeSettings.{settings_of}
 use Rattle.miette_lines.specs.views.GivenLabels.{drawn_of}
@@ -22,8 +23,8 @@ returns-clause-rows g c =
     let begun : List Call → Type 0 = follows g.H.Highlighter.may_follow c.restart.new.highlighter in
     let now : List Call → Type 0 = follows g.H.Highlighter.may_follow c.push_framed.new.highlighter in
     let rows = c.in_ok-push_framed.ensures.rows in
-    subst (λ b. PutsRows b (λ calls. Leads had (restarted lent ∷ calls) now) (lent_texts lent) (lent_snippet (settings_of drawing.theme.now drawing.options) (map (drawn_of drawing.labels.now) drawing.placed.now) lent (option_map place_at c.args.place)) c.args.page.now c.push_framed.new.page)
-    c.restart.ensures.stays (restarted_first (leaves_plain g.H.Highlighter.is_blank c.restart.new.highlighter) had begun now (lent_texts lent) (lent_snippet (settings_of drawing.theme.now drawing.options) (map (drawn_of drawing.labels.now) drawing.placed.now) lent (option_map place_at c.args.place)) lent c.args.page.now c.push_framed.new.page c.restart.ensures.calls rows)
+    subst (λ b. PutsRows b (λ calls. Leads had (restarted lent ∷ calls) now) (lent_texts lent) (lent_snippet (settings_of drawing.theme.now drawing.options) (map spread_of drawing.spreads.now) (map (drawn_of drawing.labels.now) drawing.placed.now) lent (option_map place_at c.args.place)) c.args.page.now c.push_framed.new.page)
+    c.restart.ensures.stays (restarted_first (leaves_plain g.H.Highlighter.is_blank c.restart.new.highlighter) had begun now (lent_texts lent) (lent_snippet (settings_of drawing.theme.now drawing.options) (map spread_of drawing.spreads.now) (map (drawn_of drawing.labels.now) drawing.placed.now) lent (option_map place_at c.args.place)) lent c.args.page.now c.push_framed.new.page c.restart.ensures.calls rows)
 
 pub returns-clause-at : goal.returns-clause-at
 returns-clause-at g c =

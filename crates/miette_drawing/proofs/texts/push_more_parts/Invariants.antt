@@ -1,5 +1,5 @@
 use Rattle.miette_page.specs.views.Printouts.{◌⊕◌}
-use Rattle.std.proofs.Common.{◌≡◌, ◌++◌, ◌+◌, map, length}
+use Rattle.std.proofs.Common.{◌≡◌, ◌+◌, map, length}
 use Rattle.std.specs.Prelude.{chars}
 use Rattle.std.specs.Option.{option_map_or, option_copied}
 use Rattle.miette_page.specs.views.Tokens.{rows_tokens}

@@ -1,9 +1,12 @@
-use Rattle.std.proofs.Common.{rules, refl, ap, sym, ◌∙◌, ◌∷◌, map, List, Option, subst}
+use Rattle.std.proofs.Common.{◌≡◌, rules, refl, ap, sym, ◌∙◌, ◌∷◌, map, List, Option, subst}
 use Rattle.std.specs.Option.{option_map}
 use Rattle.miette_protocol.specs.rules.Reading.{Span}
 use Rattle.miette_drawing.specs.views.SnippetRows.{place_at}
 use Rattle.miette_lines.specs.rules.Around.{group_context}
 use Rattle.miette_lines.specs.rules.Groups.{in_order}
+use Rattle.miette_snippets.specs.rules.Folds.{spreads_of}
+use Rattle.miette_drawing.specs.views.Spreads.{spread_of}
+use Rattle.miette_layout.proofs.Folding.{spreads_are}
 use Rattle.miette_snippets.specs.rules.SnippetLayout.{settings_around}
 use Rattle.miette_snippets.specs.views.ThemeSettings.{settings_of}
 use Rattle.miette_lines.specs.views.GivenLabels.{drawn_of}
@@ -40,7 +43,7 @@ push_snippet-requires-clause-sorted g c =
 
 pub loop-group-init : goal.loop-group-init
 loop-group-init g c = record {
-  drawn = none_drawn (settings_around (settings_of c.args.look.now.theme.now c.args.look.now.options) (in_order c.args.labels.now)) (g.S.SourceCode.source c.args.source.now) c.args.labels.now (leaves_plain g.H.Highlighter.is_blank c.args.highlighter.now) (follows g.H.Highlighter.may_follow c.args.highlighter.now) c.deref-group-items.result.now c.args.page;
+  drawn = none_drawn (settings_around (settings_of c.args.look.now.theme.now c.args.look.now.options) (in_order c.args.labels.now)) (spreads_of c.args.look.now.options.label_lines c.args.look.now.options.context_lines (g.S.SourceCode.source c.args.source.now) (in_order c.args.labels.now)) (g.S.SourceCode.source c.args.source.now) c.args.labels.now (leaves_plain g.H.Highlighter.is_blank c.args.highlighter.now) (follows g.H.Highlighter.may_follow c.args.highlighter.now) c.deref-group-items.result.now c.args.page;
   state = search rules;
   stays = refl;
 }
@@ -53,12 +56,17 @@ loop-group-preserved g c =
     let was : List Call → Type 0 = follows g.H.Highlighter.may_follow c.loop-group.highlighter in
     let now : List Call → Type 0 = follows g.H.Highlighter.may_follow c.push_snippet.new.highlighter in
     let happen : List Call → Type 0 = λ calls. Leads was (restarted c.group-item.result.contents ∷ calls) now in
-    let rows = subst (λ b. PutsRows b happen (lent_texts c.group-item.result.contents) (lent_snippet (settings_of c.args.look.now.theme.now c.args.look.now.options) (map (drawn_of c.args.labels.now) c.deref-2.result.now) c.group-item.result.contents (option_map place_at c.begins.result)) c.loop-group.page c.push_snippet.new.page)
-    c.loop-group.invariant.stays c.in_ok-push_snippet.ensures.rows in
-    let around = puts_around (settings_of c.args.look.now.theme.now c.args.look.now.options) (group_context c.args.look.now.options.context_lines (in_order c.args.labels.now)) blank happen (lent_texts c.group-item.result.contents)
+    let folded : map spread_of c.deref-3.result.now ≡ (spreads_of c.args.look.now.options.label_lines c.args.look.now.options.context_lines (g.S.SourceCode.source c.args.source.now) (in_order c.args.labels.now)) =
+    ap (map spread_of) c.deref-3.ensures.value ∙ c.in_ok-spreads.ensures
+    ∙ spreads_are c.args.look.now.options.label_lines c.args.look.now.options.context_lines (g.S.SourceCode.source c.args.source.now) c.args.labels.now c.args.reads.now c.requires.order c.requires.each in
+    let given = subst (λ xs. PutsRows (leaves_plain g.H.Highlighter.is_blank c.loop-group.highlighter) happen (lent_texts c.group-item.result.contents) (lent_snippet (settings_of c.args.look.now.theme.now c.args.look.now.options) xs (map (drawn_of c.args.labels.now) c.deref-2.result.now) c.group-item.result.contents (option_map place_at c.begins.result)) c.loop-group.page c.push_snippet.new.page)
+    folded c.in_ok-push_snippet.ensures.rows in
+    let rows = subst (λ b. PutsRows b happen (lent_texts c.group-item.result.contents) (lent_snippet (settings_of c.args.look.now.theme.now c.args.look.now.options) (spreads_of c.args.look.now.options.label_lines c.args.look.now.options.context_lines (g.S.SourceCode.source c.args.source.now) (in_order c.args.labels.now)) (map (drawn_of c.args.labels.now) c.deref-2.result.now) c.group-item.result.contents (option_map place_at c.begins.result)) c.loop-group.page c.push_snippet.new.page)
+    c.loop-group.invariant.stays given in
+    let around = puts_around (settings_of c.args.look.now.theme.now c.args.look.now.options) (group_context c.args.look.now.options.context_lines (in_order c.args.labels.now)) blank happen (lent_texts c.group-item.result.contents) (spreads_of c.args.look.now.options.label_lines c.args.look.now.options.context_lines (g.S.SourceCode.source c.args.source.now) (in_order c.args.labels.now))
     (map (drawn_of c.args.labels.now) c.deref-2.result.now) c.group-item.result.contents (option_map place_at c.begins.result) c.loop-group.page c.push_snippet.new.page rows in
     record {
-      drawn = drawn_more (settings_around (settings_of c.args.look.now.theme.now c.args.look.now.options) (in_order c.args.labels.now)) (g.S.SourceCode.source c.args.source.now) c.args.labels.now blank (follows g.H.Highlighter.may_follow c.args.highlighter.now) was now c.deref-group-items.result.now c.loop-group.group-index c.group-item.result c.args.page c.loop-group.page c.push_snippet.new.page
+      drawn = drawn_more (settings_around (settings_of c.args.look.now.theme.now c.args.look.now.options) (in_order c.args.labels.now)) (spreads_of c.args.look.now.options.label_lines c.args.look.now.options.context_lines (g.S.SourceCode.source c.args.source.now) (in_order c.args.labels.now)) (g.S.SourceCode.source c.args.source.now) c.args.labels.now blank (follows g.H.Highlighter.may_follow c.args.highlighter.now) was now c.deref-group-items.result.now c.loop-group.group-index c.group-item.result c.args.page c.loop-group.page c.push_snippet.new.page
           (map (drawn_of c.args.labels.now) c.deref-2.result.now) (option_map place_at c.begins.result)
           c.loop-group.invariant.drawn c.loop-group-test.true c.group-item.is (groups_lent c.args.look.now.options.context_lines (g.S.SourceCode.source c.args.source.now) (in_order c.args.labels.now) c.deref-group-items.result.now c.loop-group.group-index c.group-item.result grouped c.loop-group-test.true c.group-item.is)
           (drawn_is (settings_of c.args.look.now.theme.now c.args.look.now.options) (g.S.SourceCode.source c.args.source.now) c.args.labels.now c.args.reads.now c.in_ok-end.end c.deref-2.result.now c.requires.order c.requires.each c.in_ok-end.ensures
@@ -75,4 +83,4 @@ returns-clause-gives g c =
     let grouped : AreGroups c.args.look.now.options.context_lines (g.S.SourceCode.source c.args.source.now) (in_order c.args.labels.now) c.deref-group-items.result.now =
     are_grouped c.args.look.now.options.context_lines (g.S.SourceCode.source c.args.source.now) (in_order c.args.labels.now) _ c.in-Some.groups.items c.deref-group-items.result.now c.in_ok-groups.ensures (ap (option_map (λ v. v.items)) c.in-Some.is) c.deref-group-items.ensures.value in
     gives_rows (settings_of c.args.look.now.theme.now c.args.look.now.options) (g.S.SourceCode.source c.args.source.now) c.args.labels.now (leaves_plain g.H.Highlighter.is_blank c.args.highlighter.now) (λ calls. Leads (follows g.H.Highlighter.may_follow c.args.highlighter.now) calls (follows g.H.Highlighter.may_follow c.loop-group.highlighter)) c.args.reads.now c.deref-group-items.result.now c.args.page c.loop-group.page c.requires.order c.requires.each grouped
-    (all_drawn (settings_around (settings_of c.args.look.now.theme.now c.args.look.now.options) (in_order c.args.labels.now)) (g.S.SourceCode.source c.args.source.now) c.args.labels.now (leaves_plain g.H.Highlighter.is_blank c.args.highlighter.now) (follows g.H.Highlighter.may_follow c.args.highlighter.now) (follows g.H.Highlighter.may_follow c.loop-group.highlighter) c.deref-group-items.result.now c.loop-group.group-index c.args.page c.loop-group.page c.loop-group.invariant.drawn c.loop-group-test.false)
+    (all_drawn (settings_around (settings_of c.args.look.now.theme.now c.args.look.now.options) (in_order c.args.labels.now)) (spreads_of c.args.look.now.options.label_lines c.args.look.now.options.context_lines (g.S.SourceCode.source c.args.source.now) (in_order c.args.labels.now)) (g.S.SourceCode.source c.args.source.now) c.args.labels.now (leaves_plain g.H.Highlighter.is_blank c.args.highlighter.now) (follows g.H.Highlighter.may_follow c.args.highlighter.now) (follows g.H.Highlighter.may_follow c.loop-group.highlighter) c.deref-group-items.result.now c.loop-group.group-index c.args.page c.loop-group.page c.loop-group.invariant.drawn c.loop-group-test.false)
