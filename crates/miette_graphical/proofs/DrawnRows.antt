@@ -6,6 +6,7 @@ use Rattle.miette_lines.specs.rules.Answers.{Highlight, NoneFails, AlwaysReads, 
 use Rattle.miette_lines.specs.rules.Contexts.{is_accepted, contents, lines_of_contents}
 use Rattle.miette_highlight.specs.rules.HighlighterCalls.{Call, Leads}
 use Rattle.miette_layout.specs.views.Outcomes.{MayGive}
+use Rattle.miette_snippets.specs.rules.Folds.{spreads_of}
 use Rattle.miette_snippets.specs.rules.Frames as frames
 use Rattle.miette_snippets.specs.rules.Frames.{refused_row}
 use Rattle.miette_lines.specs.rules.Around.{has_own, group_context}
@@ -75,10 +76,10 @@ unread_none context source fails labels h = and_none (has_own labels) (some_fail
 -- the rows of groups where nothing fails
 pub groups_given : (s : frames.SnippetSettings) (source : Source) (labels : List Label) (a : Answer) → AlwaysReads a →
     rows_of_groups s source labels a (groups_of s.context source a.join_fails labels)
-    ≡ Some (all_snippets (settings_around s labels) source labels a.pieces (groups_of s.context source [] labels))
+    ≡ Some (all_snippets (settings_around s labels) (spreads_of s.label_lines s.context source labels) source labels a.pieces (groups_of s.context source [] labels))
 groups_given s source labels a h =
     ap (λ g. rows_of_groups s source labels a g) (grouped_none s.context source a.join_fails labels h.joins)
-    ∙ ap₂ (λ x y. if x || y then None else Some (all_snippets (settings_around s labels) source labels a.pieces (groups_of s.context source [] labels)))
+    ∙ ap₂ (λ x y. if x || y then None else Some (all_snippets (settings_around s labels) (spreads_of s.label_lines s.context source labels) source labels a.pieces (groups_of s.context source [] labels)))
     (unread_none s.context source a.join_fails labels h.joins) (places_none a.place_fails (groups_of s.context source [] labels) h.places)
 
 pub none_listed : (pieces : List (List (List Highlight))) → AlwaysReads (pieces_listed pieces)

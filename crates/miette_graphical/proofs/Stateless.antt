@@ -13,11 +13,12 @@ use Rattle.miette_lines.specs.rules.Around.{group_context}
 use Rattle.miette_lines.specs.rules.Contexts.{contents, lines_of_contents}
 use Rattle.miette_lines.specs.rules.Groups.{Refusal, refusal, groups_of, in_order}
 use Rattle.miette_lines.specs.rules.Labels.{DrawnLabel}
+use Rattle.miette_snippets.specs.rules.Folds.{Spread, spreads_of}
 use Rattle.miette_snippets.specs.rules.Frames as frames
 use Rattle.miette_snippets.specs.rules.Frames.{refused_row, top_row, bottom_row, number_width}
 use Rattle.miette_snippets.specs.rules.Gutters.{gutter_columns}
 use Rattle.miette_snippets.specs.rules.Highlighting.{group_calls, highlight_of, line_calls, piece_of, pieces_by, texts_of}
-use Rattle.miette_snippets.specs.rules.SnippetLayout.{all_snippets, cells_of, drawn_labels, line_rows, place_of, rows_of_lines, rows_unless, settings_around, snippet_rows}
+use Rattle.miette_snippets.specs.rules.SnippetLayout.{all_snippets, cells_of, drawn_labels, left_out, line_or_break, place_of, rows_of_lines, rows_unless, settings_around, snippet_rows}
 use Rattle.miette_tree.specs.rules.DiagnosticParts.{given_labels}
 use Rattle.miette_tree.specs.rules.Tree.{Tree, tree, Cause, diagnostic, texts, Trees, no_trees, more_trees, effective}
 use Rattle.miette_tree.specs.views.Handler.{AppendsOne}
@@ -48,23 +49,23 @@ same_highlights : (hs : List Highlight) → map highlight_of (map piece_of hs) �
 same_highlights [] = refl
 same_highlights (h ∷ hs) = ap (λ r. h ∷ r) (same_highlights hs)
 
-lines_by : (f : List ℕ → List Piece) (s : frames.SnippetSettings) (w columns : ℕ) (labels : List DrawnLabel) (source : List ℕ) (number : ℕ) (pieces : List (List Highlight)) (ls : List Line) → AnsweredBy f (line_calls (texts_of source ls) pieces) →
-    rows_of_lines s w columns labels source number pieces ls ≡ rows_of_lines s w columns labels source number (map (λ text. map highlight_of (counted (f text))) (texts_of source ls)) ls
-lines_by f s w columns labels source number pieces [] h = refl
-lines_by f s w columns labels source number pieces (l ∷ ls) h =
-    ap₂ (λ p r. line_rows s w columns labels l number (cells_of s source l) p ++ r) (sym (same_highlights (first_of pieces)) ∙ ap (map highlight_of) h.0)
-    (lines_by f s w columns labels source (number + 1) (later_of pieces) ls h.1)
+lines_by : (f : List ℕ → List Piece) (out : ℕ → Line → Bool) (gap : Bool) (s : frames.SnippetSettings) (w columns : ℕ) (labels : List DrawnLabel) (source : List ℕ) (number : ℕ) (pieces : List (List Highlight)) (ls : List Line) → AnsweredBy f (line_calls (texts_of source ls) pieces) →
+    rows_of_lines out gap s w columns labels source number pieces ls ≡ rows_of_lines out gap s w columns labels source number (map (λ text. map highlight_of (counted (f text))) (texts_of source ls)) ls
+lines_by f out gap s w columns labels source number pieces [] h = refl
+lines_by f out gap s w columns labels source number pieces (l ∷ ls) h =
+    ap₂ (λ p r. line_or_break gap (out number l) s w columns labels l number (cells_of s source l) p ++ r) (sym (same_highlights (first_of pieces)) ∙ ap (map highlight_of) h.0)
+    (lines_by f out (out number l) s w columns labels source (number + 1) (later_of pieces) ls h.1)
 
-snippets_by : (f : List ℕ → List Piece) (s : frames.SnippetSettings) (source : Source) (labels : List Label) (pieces : List (List (List Highlight))) (groups : List Span) → AnsweredBy f (group_calls s.context source groups pieces) →
-    all_snippets s source labels pieces groups ≡ all_snippets s source labels (pieces_by f s.context source groups) groups
-snippets_by f s source labels pieces [] h = refl
-snippets_by f s source labels pieces (group ∷ groups) h =
+snippets_by : (f : List ℕ → List Piece) (s : frames.SnippetSettings) (spreads : List Spread) (source : Source) (labels : List Label) (pieces : List (List (List Highlight))) (groups : List Span) → AnsweredBy f (group_calls s.context source groups pieces) →
+    all_snippets s spreads source labels pieces groups ≡ all_snippets s spreads source labels (pieces_by f s.context source groups) groups
+snippets_by f s spreads source labels pieces [] h = refl
+snippets_by f s spreads source labels pieces (group ∷ groups) h =
     let lent : Contents = contents s.context source group in
     let drawn : List DrawnLabel = drawn_labels s (length source.bytes) labels in
     let k = parts_by f (line_calls (texts_of source.bytes (lines_of_contents lent)) (first_of pieces)) (group_calls s.context source groups (later_of pieces)) h in
     ap₂ (λ rows more. (top_row s lent (place_of source group labels) ∷ rows ++ bottom_row s (number_width lent) ∷ []) ++ more)
-    (lines_by f s (number_width lent) (gutter_columns drawn (lines_of_contents lent)) drawn source.bytes (lent.line + 1) (first_of pieces) (lines_of_contents lent) k.0)
-    (snippets_by f s source labels (later_of pieces) groups k.1)
+    (lines_by f (left_out s lent.line (lines_of_contents lent) spreads) false s (number_width lent) (gutter_columns drawn (lines_of_contents lent)) drawn source.bytes (lent.line + 1) (first_of pieces) (lines_of_contents lent) k.0)
+    (snippets_by f s spreads source labels (later_of pieces) groups k.1)
 
 unless_by : (f : List ℕ → List Piece) (l : frames.SnippetSettings) (source : Source) (labels : List Label) (pieces : List (List (List Highlight))) (refused : Option Refusal) →
     AnsweredBy f (if is_some refused then [] else group_calls (group_context l.context labels) source (groups_of l.context source [] labels) pieces) →
@@ -74,7 +75,7 @@ unless_by f l source labels pieces None h =
     let groups = groups_of l.context source [] labels in
     let others = pieces_by f (group_context l.context labels) source groups in
     groups_given l source labels (pieces_listed pieces) (none_listed pieces)
-    ∙ ap Some (snippets_by f (settings_around l labels) source labels pieces groups h)
+    ∙ ap Some (snippets_by f (settings_around l labels) (spreads_of l.label_lines l.context source labels) source labels pieces groups h)
     ∙ sym (groups_given l source labels (pieces_listed others) (none_listed others))
 
 -- a diagnostic's rows, where no read of it failed

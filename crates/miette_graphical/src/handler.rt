@@ -38,6 +38,7 @@ pub struct GraphicalReportHandler<H = Box<dyn Highlighter>> {
     word_splitter: WordSplitter,
     footer: Option<String>,
     highlighter: Option<H>,
+    label_lines: Option<usize>,
 }
 
 impl<H> Model for GraphicalReportHandler<H> {
@@ -66,6 +67,7 @@ impl<H> Model for GraphicalReportHandler<H> {
         breaks = it.break_words;
         hyphens = splits it.word_splitter;
         footer = option_map (λ t. chars (string_bytes t)) it.footer;
+        label_lines = it.label_lines;
       };
       highlighter = it.highlighter;
     } };
@@ -120,6 +122,7 @@ impl<H: Highlighter> GraphicalReportHandler<H> {
             word_splitter: WordSplitter::HyphenSplitter,
             footer: None,
             highlighter: None,
+            label_lines: None,
         }
     }
 
@@ -289,6 +292,18 @@ impl<H: Highlighter> GraphicalReportHandler<H> {
     {
         GraphicalReportHandler {
             context_lines: lines,
+            ..self
+        }
+    }
+
+    /// A label over more lines than these is folded: only the lines around its first and its last one are shown, and a
+    /// row of dots stands for those between them. At least 1 is the caller's condition.
+    pub fn with_label_lines(self, lines: usize) -> Self
+        requires { 1 ≤ lines }
+        ensures { result ≡ record self { settings = record self.settings { label_lines = Some lines } } }
+    {
+        GraphicalReportHandler {
+            label_lines: Some(lines),
             ..self
         }
     }

@@ -108,6 +108,7 @@ fn push_drawn<S: SourceCode, H: Highlighter>(
             context_lines: layout.context,
             primary_start: layout.primary_start,
             end_labels: layout.end_labels,
+            label_lines: layout.label_lines,
         },
     };
     let page = Page::over(mem::replace(out, Output::for_text(pen.alloc)));

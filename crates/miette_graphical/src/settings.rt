@@ -37,6 +37,7 @@ pub struct Layout<'a> {
     pub breaks: bool,
     pub splitter: WordSplitter,
     pub footer: Option<&'a str>,
+    pub label_lines: Option<usize>,
 }
 
 /// The style of a severity; that of an error where there is none.

@@ -1,5 +1,5 @@
 -- What holds of the snippets of each printed diagnostic, over its effective source and by its labels.
-use Rattle.std.specs.Prelude.{◌≡◌, ℕ, true, List, [], ◌∷◌, length, Some, IfSome}
+use Rattle.std.specs.Prelude.{◌≡◌, ◌<◌, ◌+◌, ℕ, Bool, true, false, List, [], ◌∷◌, length, Some, None, IfSome}
 use Rattle.std.specs.List.{AllByRecursion, concat}
 use Rattle.miette_newlines.specs.rules.Lines.{lines_of}
 use Rattle.miette_protocol.specs.views.Meaning.{Label}
@@ -10,15 +10,16 @@ use Rattle.miette_lines.specs.rules.Contexts.{contents}
 use Rattle.miette_snippets.specs.rules.Frames as frames
 use Rattle.miette_lines.specs.rules.Groups as grouping
 use Rattle.miette_lines.specs.rules.Groups.{AreAccepted, in_order, lines_of_groups}
-use Rattle.miette_lines.specs.rules.Labels.{DrawnLabel, one_line, some_shows_end}
+use Rattle.miette_lines.specs.rules.Labels.{DrawnLabel, multi_line, one_line, some_shows_end}
 use Rattle.miette_snippets.specs.rules.SnippetLayout as layout
 use Rattle.miette_snippets.specs.rules.SnippetLayout.{cells_of, settings_around, text_of_cells}
 use Rattle.miette_snippets.specs.rules.Marks.{Mark, Text, anchor, marks, marks_at, AreApart}
 use Rattle.miette_snippets.specs.rules.Numbers.{ranges, IsRange, AreParted}
 use Rattle.miette_snippet_laws.specs.laws.Ends.{AreBehindText, EndsStandBehind}
+use Rattle.miette_snippet_laws.specs.laws.Folding.{EndsPass, FitsIn, IsInside}
 use Rattle.miette_snippet_laws.specs.laws.Pictures.{BodyShows}
 use Rattle.miette_snippets.specs.rules.ShownLines.{framed_ranges, line_at}
-use Rattle.miette_snippets.specs.rules.Snippets.{shown_numbers, snippets}
+use Rattle.miette_snippets.specs.rules.Snippets.{shown_numbers, snippets, is_kept}
 use Rattle.miette_graphical.specs.rules.Answers.{pieces_listed}
 use Rattle.miette_tree.specs.rules.DiagnosticParts.{given_labels}
 use Rattle.miette_graphical.specs.rules.PrintedDiagnostics.{PrintedDiagnostic}
@@ -42,7 +43,8 @@ group_settings s labels = settings_around (layout_settings s) (in_order labels)
 
 -- The snippets show the lines in the context of some label, once and in order, each with its number: the rows are
 -- those of the maximal runs of these lines, each line with its own cells, in whatever pieces, each run in a frame;
--- and a group shows the lines of one run.
+-- and a group shows the lines of one run. Where labels are folded, just the lines of a run that lie in the context of
+-- no label as it is folded are left out, and the row of a break stands in place of each stretch of them.
 pub record ShowsRuns (s : Settings) (source : Source) (labels : List Label) : Type 0 where
   pub rows : (pieces : List (List (List Highlight))) →
       drawn_rows s (Some source) labels (pieces_listed pieces)
@@ -92,6 +94,38 @@ pub record AreOwnMarks (marks : List Mark) : Type 0 where
 abbrev pub MarksAreApart : Settings → PrintedDiagnostic → Type 0
 MarksAreApart s p = IfSome p.source (λ source. (k : ℕ) →
     AreOwnMarks (marks_under s source (given_labels p.meaning.labels) k))
+
+-- ---- folded labels
+
+-- whether line k is kept where labels are folded to so many lines
+abbrev pub is_kept_at : ℕ → Settings → Source → List Label → ℕ → Bool
+is_kept_at limit s source labels k = is_kept (Some limit) s.context source.bytes labels k
+
+-- the labels on line k and on others beside it
+abbrev pub labels_through : Settings → Source → List Label → ℕ → List DrawnLabel
+labels_through s source labels k = multi_line (line_at (lines_of source.bytes) k) (drawn_labels s source labels)
+
+-- A frame begins and ends with a line that is kept. No label begins or ends on a line that is left out, and the same
+-- labels lie on two such lines that follow each other; so the row of a break has a bar for just the labels that run
+-- through all lines that it stands for. Where no label has more lines than labels are folded to, the rows are those
+-- without folding.
+pub record FoldsTo (limit : ℕ) (s : Settings) (source : Source) (labels : List Label) : Type 0 where
+  pub ends : AllByRecursion (EndsPass (is_kept_at limit s source labels)) (ranges (shown_lines s source labels))
+  pub inside : (k : ℕ) → k < length (lines_of source.bytes) → is_kept_at limit s source labels k ≡ false →
+      AllByRecursion (IsInside (line_at (lines_of source.bytes) k)) (drawn_labels s source labels)
+  pub same : (k : ℕ) → k + 1 < length (lines_of source.bytes) → is_kept_at limit s source labels k ≡ false →
+      is_kept_at limit s source labels (k + 1) ≡ false →
+      labels_through s source labels k ≡ labels_through s source labels (k + 1)
+  pub short : AllByRecursion (FitsIn limit source.bytes) labels → (pieces : List (List (List Highlight))) →
+      drawn_rows s (Some source) labels (pieces_listed pieces)
+      ≡ drawn_rows (record s { label_lines = None }) (Some source) labels (pieces_listed pieces)
+
+-- where labels are folded, under the conditions of the lines
+abbrev pub LabelsAreFolded : Settings → PrintedDiagnostic → Type 0
+LabelsAreFolded s p =
+    IfSome p.source (λ source. IfSome s.label_lines (λ limit.
+    source.always_reads ≡ true → AreAccepted source.bytes (given_labels p.meaning.labels) →
+    HaveContext s.context (given_labels p.meaning.labels) → FoldsTo limit s source (given_labels p.meaning.labels)))
 
 -- ---- the texts of labels
 

@@ -27,6 +27,7 @@ pub record Settings : Type 0 where
   pub breaks : Bool
   pub hyphens : Bool
   pub footer : Option (List ℕ)
+  pub label_lines : Option ℕ
 
 -- `error` where a diagnostic has no severity
 abbrev pub icon_in : Characters → Option Severity → List ℕ
@@ -65,6 +66,7 @@ default_settings characters styles = record {
   breaks = true;
   hyphens = true;
   footer = None;
+  label_lines = None;
 }
 
 abbrev pub links_shown : Bool → Urls

@@ -24,6 +24,7 @@ layout_settings s = record {
   context = s.context;
   primary_start = s.primary_start;
   end_labels = s.end_labels;
+  label_lines = s.label_lines;
 }
 
 -- a run's characters, as their bytes read

@@ -14,6 +14,7 @@ settings_of l = record {
   context = l.context;
   primary_start = l.primary_start;
   end_labels = l.end_labels;
+  label_lines = l.label_lines;
   urls = urls_of l.urls;
   link_text = chars l.link_text.now;
   chain = l.chain;

@@ -11,7 +11,8 @@ ghost use Rattle.miette_graphical.specs.rules.Snippets.{drawn_rows};
 ghost use Rattle.miette_graphical.specs.rules.Text.{report_text};
 ghost use Rattle.miette_graphical.specs.laws.Clean.{AreCleanSettings, IsCleanTree};
 ghost use Rattle.miette_graphical.specs.laws.Colourless.{IsColouredText, IsRestyledText, colourless};
-ghost use Rattle.miette_graphical.specs.laws.Headline.{EndsAreDrawn, LinesAreShown, MarksAreApart, TextsHang};
+ghost use Rattle.miette_graphical.specs.laws.Headline.{EndsAreDrawn, LabelsAreFolded, LinesAreShown, MarksAreApart};
+ghost use Rattle.miette_graphical.specs.laws.Headline.{TextsHang};
 ghost use Rattle.miette_graphical.specs.views.Handling.{AreCallsOf, draws_plain, follows_of};
 ghost use Rattle.miette_graphical.specs.steps.SettingsView.{settings_of};
 ghost use Rattle.miette_tree.specs.views.Handler.{AppendsOne};
@@ -63,6 +64,7 @@ impl<H: Highlighter> GraphicalReportHandler<H> {
             context: self.context_lines,
             primary_start: self.primary_span_start,
             end_labels: self.end_labels,
+            label_lines: self.label_lines,
             urls: self.urls,
             link_text: self.link_text(),
             chain: self.cause_chain,
@@ -166,11 +168,16 @@ impl<H: Highlighter> GraphicalReportHandler<H> {
         ensures texts { let tree = tree_of ⟦<Box<dyn Diagnostic> as Diagnostic>⟧.meaning
             ⟦<Box<dyn SourceCode> as SourceCode>⟧.source report.now in
             OnOk result (AllByRecursion (TextsHang self.old.settings) (diagnostics_of self.old.settings tree)) }
-        // and where labels at the end of its source are drawn, just these stand behind the text of the last line,
-        // and their marks behind its columns
+        // where labels at the end of its source are drawn, just these stand behind the text of the last line, and
+        // their marks behind its columns,
         ensures ends { let tree = tree_of ⟦<Box<dyn Diagnostic> as Diagnostic>⟧.meaning
             ⟦<Box<dyn SourceCode> as SourceCode>⟧.source report.now in
             OnOk result (AllByRecursion (EndsAreDrawn self.old.settings) (diagnostics_of self.old.settings tree)) }
+        // and where labels are folded, no label begins or ends on a line that is left out, the bars of a break are
+        // those of the labels that run through it, and short labels change nothing
+        ensures folds { let tree = tree_of ⟦<Box<dyn Diagnostic> as Diagnostic>⟧.meaning
+            ⟦<Box<dyn SourceCode> as SourceCode>⟧.source report.now in
+            OnOk result (AllByRecursion (LabelsAreFolded self.old.settings) (diagnostics_of self.old.settings tree)) }
         ensures refused { let tree = tree_of ⟦<Box<dyn Diagnostic> as Diagnostic>⟧.meaning
             ⟦<Box<dyn SourceCode> as SourceCode>⟧.source report.now in
             (result ≡ Err RenderError.Refused) → all_read (diagnostics_of self.old.settings tree) ≡ false }
