@@ -123,6 +123,7 @@ fn options_with(
         OptionAsked::Graphical => options.force_graphical(true),
         OptionAsked::Width(width) => options.width(width),
         OptionAsked::Context(lines) => options.context_lines(lines),
+        OptionAsked::LabelLines(lines) => options.label_lines(lines.max(1)),
         OptionAsked::Tab(width) => options.tab_width(width.max(1)),
         OptionAsked::Theme(theme) => options.graphical_theme(theme_of(alloc, theme)?),
         OptionAsked::Unicode(unicode) => options.unicode(unicode),

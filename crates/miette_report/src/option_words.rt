@@ -48,6 +48,7 @@ pub(crate) enum OptionAsked<'a> {
     Graphical,
     Width(usize),
     Context(usize),
+    LabelLines(usize),
     Tab(usize),
     Theme(ThemeAsked),
     Unicode(bool),
@@ -158,6 +159,9 @@ fn with_number<'a>(word: &str, number: usize) -> Option<BuildAsked<'a>>
     match word {
         "--width" => Some(BuildAsked::Option(OptionAsked::Width(number))),
         "--context" => Some(BuildAsked::Option(OptionAsked::Context(number))),
+        "--label-lines" if number > 0 => {
+            Some(BuildAsked::Option(OptionAsked::LabelLines(number)))
+        }
         "--tab" if number > 0 => Some(BuildAsked::Option(OptionAsked::Tab(number))),
         "--term-width" => Some(BuildAsked::Terminal(TerminalAsked::Width(number))),
         _ => None,

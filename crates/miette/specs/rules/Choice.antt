@@ -71,6 +71,7 @@ picture_settings o t =
       breaks = unwrap_or o.breaks default.breaks;
       hyphens = unwrap_or o.hyphens default.hyphens;
       end_labels = unwrap_or o.end_labels default.end_labels;
+      label_lines = option_or o.label_lines default.label_lines;
       footer = option_or (option_map chars o.footer) default.footer;
     }
 

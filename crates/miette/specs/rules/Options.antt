@@ -24,6 +24,7 @@ pub record Options (H : Type 0) : Type 0 where
   pub hyphens : Option Bool
   pub end_labels : Option Bool
   pub highlighter : Option H
+  pub label_lines : Option ℕ
 
 abbrev pub no_options : {H : Type 0} → Options H
 no_options = record {
@@ -46,4 +47,5 @@ no_options = record {
   hyphens = None;
   end_labels = None;
   highlighter = None;
+  label_lines = None;
 }

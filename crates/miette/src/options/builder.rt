@@ -59,6 +59,7 @@ pub struct MietteHandlerOpts<H = Box<dyn Highlighter>> {
     word_splitter: Option<WordSplitter>,
     end_labels: Option<bool>,
     highlighter: Option<H>,
+    label_lines: Option<usize>,
 }
 
 impl<H> Model for MietteHandlerOpts<H> {
@@ -89,9 +90,10 @@ impl<H> Model for MietteHandlerOpts<H> {
       hyphens = option_map splits it.word_splitter;
       end_labels = it.end_labels;
       highlighter = it.highlighter;
+      label_lines = it.label_lines;
     } };
 
-    ghost invariant = { λ it. 1 ≤ unwrap_or it.tab_width 1 };
+    ghost invariant = { λ it. (1 ≤ unwrap_or it.tab_width 1) × (1 ≤ unwrap_or it.label_lines 1) };
 }
 
 impl<H> Default for MietteHandlerOpts<H> {
@@ -122,6 +124,7 @@ impl<H> Default for MietteHandlerOpts<H> {
             word_splitter: None,
             end_labels: None,
             highlighter: None,
+            label_lines: None,
         }
     }
 }
@@ -312,6 +315,16 @@ impl<H: Highlighter> MietteHandlerOpts<H> {
         ensures { result ≡ record self { end_labels = Some drawn } }
     {
         self.end_labels = Some(drawn);
+        self
+    }
+
+    /// In pictures a label over more lines than these is folded: only the lines around its first and its last one are
+    /// shown, and a row of dots stands for those between them. At least 1 is the caller's condition.
+    pub fn label_lines(mut self, lines: usize) -> Self
+        requires { 1 ≤ lines }
+        ensures { result ≡ record self { label_lines = Some lines } }
+    {
+        self.label_lines = Some(lines);
         self
     }
 

@@ -25,6 +25,7 @@ pub data OptionAsk : Type 0 where
   Graphical : OptionAsk
   Width : ℕ → OptionAsk
   Context : ℕ → OptionAsk
+  LabelLines : ℕ → OptionAsk
   Tab : ℕ → OptionAsk
   Drawn : Theme → OptionAsk
   Unicode : Bool → OptionAsk
@@ -70,13 +71,14 @@ text_ask word value =
     if bytes_eq word (codes "--footer") then Some (OfOptions (Footer value))
     else (if bytes_eq word (codes "--no-graphics") then Some (OfTerminal (NoGraphics value)) else None)
 
--- a word whose value is a number; tabs of no columns can't be asked for
+-- a word whose value is a number; tabs of no columns and labels of no lines can't be asked for
 abbrev pub number_ask : List ℕ → ℕ → Option Ask
 number_ask word n =
     if bytes_eq word (codes "--width") then Some (OfOptions (Width n))
     else (if bytes_eq word (codes "--context") then Some (OfOptions (Context n))
+    else (if bytes_eq word (codes "--label-lines") then (if n == 0 then None else Some (OfOptions (LabelLines n)))
     else (if bytes_eq word (codes "--tab") then (if n == 0 then None else Some (OfOptions (Tab n)))
-    else (if bytes_eq word (codes "--term-width") then Some (OfTerminal (Columns n)) else None)))
+    else (if bytes_eq word (codes "--term-width") then Some (OfTerminal (Columns n)) else None))))
 
 -- a word whose value is `yes` or `no`
 abbrev pub answer_ask : List ℕ → Bool → Option Ask
@@ -226,6 +228,7 @@ by_language o = record {
   hyphens = o.hyphens;
   end_labels = o.end_labels;
   highlighter = option_map (λ it. it.language) o.highlighter;
+  label_lines = o.label_lines;
 }
 
 -- the handler, its options, and what a terminal is and has
@@ -243,6 +246,7 @@ options_with Narrated o = record o { narrated = Some true }
 options_with Graphical o = record o { graphical = Some true }
 options_with (Width n) o = record o { width = Some n }
 options_with (Context n) o = record o { context = Some n }
+options_with (LabelLines n) o = record o { label_lines = Some (max n 1) }
 options_with (Tab n) o = record o { tab = Some (max n 1) }
 options_with (Drawn theme) o = record o { theme = Some theme }
 options_with (Unicode on) o = record o { unicode = Some on }

@@ -182,12 +182,17 @@ impl<H: Highlighter> MietteHandlerOpts<H> {
         ensures { result ≡ record handler {
           settings = record handler.settings {
             tab = unwrap_or self.now.tab handler.settings.tab;
+            label_lines = option_or self.now.label_lines handler.settings.label_lines;
             nested = unwrap_or self.now.nested handler.settings.nested;
           };
         } }
     {
         let handler = match self.tab_width {
             Some(width) => handler.tab_width(width),
+            None => handler,
+        };
+        let handler = match self.label_lines {
+            Some(lines) => handler.with_label_lines(lines),
             None => handler,
         };
         match self.related_as_nested {
