@@ -62,8 +62,8 @@ fn push_bars<O: Canvas>(page: &mut Page<O>, sheet: &Sheet) -> Outcome
 /// The gutter of a break's row, behind the row's bar: a space, and a bar for each label that runs through: ` ││`;
 /// nothing where none does. `AllocError` where memory is refused.
 pub(crate) fn push_break_gutter<O: Canvas>(page: &mut Page<O>, sheet: &Sheet) -> Outcome
-    ensures { OnOk result (page.new ≡ page.old
-        ⊕ row_tokens (break_gutter (settings sheet.now).width (settings sheet.now).characters (multi_labels sheet.now))) }
+    ensures { OnOk result (page.new ≡ page.old ⊕ row_tokens
+        (break_gutter (settings sheet.now).width (settings sheet.now).characters (multi_labels sheet.now))) }
 {
     if sheet.multi.is_empty() {
         return Ok(());

@@ -74,7 +74,8 @@ pub fn left_out_lines_are_inside()
         (drawn_from ends styles (length bytes) 0 (in_order labels)) }
     ensures same { (ends : Bool) (styles : List Style) (limit : ℕ) (context : ℕ) (bytes : List ℕ)
         (labels : List Label) (k : ℕ) → HaveContext context labels → k + 1 < length (lines_of bytes) →
-        is_kept (Some limit) context bytes labels k ≡ false → is_kept (Some limit) context bytes labels (k + 1) ≡ false →
+        is_kept (Some limit) context bytes labels k ≡ false →
+        is_kept (Some limit) context bytes labels (k + 1) ≡ false →
         multi_line (line_at (lines_of bytes) k) (drawn_from ends styles (length bytes) 0 (in_order labels))
         ≡ multi_line (line_at (lines_of bytes) (k + 1)) (drawn_from ends styles (length bytes) 0 (in_order labels)) }
 {}

@@ -37,14 +37,14 @@ range_width [] = 1
 range_width (k ∷ ks) = length (decimal (last_of k ks + 1))
 
 -- the rows of a run of lines
-abbrev pub range_rows : (ℕ → Bool) → SnippetSettings → List DrawnLabel → List ℕ → List (List Highlight) → List ℕ → List
-    Row
+abbrev pub range_rows : (ℕ → Bool) → SnippetSettings → List DrawnLabel → List ℕ → List (List Highlight) →
+    List ℕ → List Row
 range_rows kept s labels source pieces ks =
-    numbered_rows kept false s (range_width ks) (gutter_columns labels (map (line_at (lines_of source)) ks)) labels source
-    pieces ks
+    numbered_rows kept false s (range_width ks) (gutter_columns labels (map (line_at (lines_of source)) ks))
+    labels source pieces ks
 
-abbrev pub rows_of_ranges : (ℕ → Bool) → SnippetSettings → List DrawnLabel → List ℕ → List (List (List Highlight)) → List
-    (List ℕ) → List (List Row)
+abbrev pub rows_of_ranges : (ℕ → Bool) → SnippetSettings → List DrawnLabel → List ℕ →
+    List (List (List Highlight)) → List (List ℕ) → List (List Row)
 rows_of_ranges kept s labels source pieces [] = []
 rows_of_ranges kept s labels source pieces (range ∷ ranges) =
     range_rows kept s labels source (first_of pieces) range
