@@ -1,5 +1,8 @@
 pub mod Closing
 pub mod Folding
+pub mod CutPlain
+pub mod CutStretches
+pub mod CutTexting
 pub mod Framing
 pub mod Guttering
 pub mod Lending

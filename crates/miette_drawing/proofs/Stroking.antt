@@ -12,7 +12,7 @@ use Rattle.miette_drawing.specs.declared.marks.Mark.{Mark as MadeMark}
 use Rattle.miette_page.specs.rules.Rows.{code_piece}
 use Rattle.miette_style.specs.rules.Styles.{plain}
 use Rattle.miette_lines.specs.rules.Labels.{parts_of, cut_at_lf, onto_part, is_empty}
-use Rattle.miette_snippets.specs.rules.Marks.{Mark, anchor}
+use Rattle.miette_snippets.specs.rules.Marks.{Mark}
 use Rattle.miette_snippets.specs.rules.Drawing.{mark_code, mark_run, mark_runs, code_with_parts}
 use Rattle.miette_drawing.specs.steps.Marks.{mark_of}
 use Rattle.miette_page.specs.views.Tokens.{Token, begins, row_tokens, run_tokens, styled_tokens, text_tokens}
@@ -33,10 +33,10 @@ abbrev pub middle : Characters → Mark → ℕ
 middle t m = cond (is_empty m.label) t.uarrow (code_with_parts t m.label.parts)
 
 -- a mark's characters, where its anchor is so many columns behind its start and before its end
-codes_by : (t : Characters) (m : Mark) (x y : ℕ) → anchor m ≡ m.from + x → map (mark_code t m) (range_with_len m.from (x + suc y)) ≡ (replicate x t.underline ++ middle t m ∷ []) ++ replicate y t.underline
+codes_by : (t : Characters) (m : Mark) (x y : ℕ) → m.anchor ≡ m.from + x → map (mark_code t m) (range_with_len m.from (x + suc y)) ≡ (replicate x t.underline ++ middle t m ∷ []) ++ replicate y t.underline
 codes_by t m x y e =
-    let before : map (mark_code t m) (range_with_len m.from x) ≡ replicate x t.underline = constant (mark_code t m) t.underline m.from x (λ k a b. elsewhere t m k (apart k (anchor m) (omega arith))) in
-    let after : map (mark_code t m) (range_with_len (m.from + x + 1) y) ≡ replicate y t.underline = constant (mark_code t m) t.underline (m.from + x + 1) y (λ k a b. elsewhere t m k (apart k (anchor m) (omega arith))) in
+    let before : map (mark_code t m) (range_with_len m.from x) ≡ replicate x t.underline = constant (mark_code t m) t.underline m.from x (λ k a b. elsewhere t m k (apart k m.anchor (omega arith))) in
+    let after : map (mark_code t m) (range_with_len (m.from + x + 1) y) ≡ replicate y t.underline = constant (mark_code t m) t.underline (m.from + x + 1) y (λ k a b. elsewhere t m k (apart k m.anchor (omega arith))) in
     ap (map (mark_code t m)) (range_with_len-append m.from x (suc y))
     ∙ map-append (mark_code t m) (range_with_len m.from x) ((m.from + x) ∷ range_with_len (m.from + x + 1) y)
     ∙ ap (λ r. r ++ mark_code t m (m.from + x) ∷ map (mark_code t m) (range_with_len (m.from + x + 1) y)) before
@@ -47,16 +47,16 @@ codes_by t m x y e =
     apart : (a b : ℕ) → (a ≡ b → ⊥) → eqb a b ≡ false
     apart a b h = grind (arith, nat_tests)
 
-    elsewhere : (t : Characters) (m : Mark) (k : ℕ) → eqb k (anchor m) ≡ false → mark_code t m k ≡ t.underline
+    elsewhere : (t : Characters) (m : Mark) (k : ℕ) → eqb k m.anchor ≡ false → mark_code t m k ≡ t.underline
     elsewhere t m k f = ap (λ b. cond b (middle t m) t.underline) f
 
     same : (a b : ℕ) → a ≡ b → eqb a b ≡ true
     same a b h = grind (arith, nat_tests)
 
-    here : (t : Characters) (m : Mark) (k : ℕ) → k ≡ anchor m → mark_code t m k ≡ middle t m
-    here t m k h = ap (λ b. cond b (middle t m) t.underline) (same k (anchor m) h)
+    here : (t : Characters) (m : Mark) (k : ℕ) → k ≡ m.anchor → mark_code t m k ≡ middle t m
+    here t m k h = ap (λ b. cond b (middle t m) t.underline) (same k m.anchor h)
 
-pub mark_put : (w : ℕ → ℕ) (t : Characters) (m : Mark) (at x y c : ℕ) (p q r s n : Printout) → at ≡ anchor m → m.from ≤ at → at < m.until → x ≡ at - m.from → y ≡ m.until - at - 1 → c ≡ middle t m →
+pub mark_put : (w : ℕ → ℕ) (t : Characters) (m : Mark) (at x y c : ℕ) (p q r s n : Printout) → at ≡ m.anchor → m.from ≤ at → at < m.until → x ≡ at - m.from → y ≡ m.until - at - 1 → c ≡ middle t m →
     q ≡ p ⊕ begins m.label.style ∷ [] → r ≡ q ⊕ text_tokens (replicate x t.underline) → s ≡ r ⊕ text_tokens (c ∷ []) → n ≡ s ⊕ text_tokens (replicate y t.underline) → n ≡ p ⊕ run_tokens (mark_run w t m)
 mark_put w t m at x y c p q r s n a le lt ex ey ec hq hr hs hn =
     let style : Style = m.label.style in

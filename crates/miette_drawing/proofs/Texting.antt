@@ -9,7 +9,7 @@ use Rattle.miette_drawing.specs.declared.marks.Mark.{Mark as MadeMark}
 use Rattle.miette_page.specs.rules.Rows.{Row, styled_run}
 use Rattle.miette_style.specs.rules.Styles.{plain}
 use Rattle.miette_lines.specs.rules.Labels.{cut_at_lf}
-use Rattle.miette_snippets.specs.rules.Marks.{Mark, anchor}
+use Rattle.miette_snippets.specs.rules.Marks.{Mark}
 use Rattle.miette_snippets.specs.rules.Drawing.{blank, lead_runs, text_row, beside, corner_of_several, rows_of_parts, rows_below}
 use Rattle.miette_snippets.specs.rules.SnippetLayout.{before_each}
 use Rattle.miette_drawing.specs.steps.Marks.{mark_of}
@@ -43,19 +43,19 @@ start_put w t columns many p q r e hq hr =
     ∙ sym (told-append (blank w many ∷ []) (styled_run w plain (t.vbar_break ∷ 32 ∷ []) ∷ [])))
 
 -- leads
-pub lead_more : (w : ℕ → ℕ) (t : Characters) (ls : List Label) (marks : List MadeMark) (i reached gap at column : ℕ) (d : MadeMark) (row spaced new whole : Printout) → i < length marks → at ≡ anchor (mark_of ls (get_or marks i d)) → gap ≡ at - reached →
+pub lead_more : (w : ℕ → ℕ) (t : Characters) (ls : List Label) (marks : List MadeMark) (i reached gap at column : ℕ) (d : MadeMark) (row spaced new whole : Printout) → i < length marks → at ≡ (mark_of ls (get_or marks i d)).anchor → gap ≡ at - reached →
     spaced ≡ row ⊕ styled_tokens plain (replicate gap 32) → new ≡ spaced ⊕ styled_tokens (get_or marks i d).label.style (t.vbar ∷ []) →
     row ⊕ row_tokens (lead_runs w t reached (map (mark_of ls) (drop i marks)) column) ≡ whole → new ⊕ row_tokens (lead_runs w t (at + 1) (map (mark_of ls) (drop (i + 1) marks)) column) ≡ whole
 lead_more w t ls marks i reached gap at column d row spaced new whole lt a z s n h =
     let m : Mark = mark_of ls (get_or marks i d) in
     let bar : List Token = styled_tokens m.label.style (t.vbar ∷ []) in
-    let rest : List Token = row_tokens (lead_runs w t (anchor m + 1) (map (mark_of ls) (drop (i + 1) marks)) column) in
+    let rest : List Token = row_tokens (lead_runs w t (m.anchor + 1) (map (mark_of ls) (drop (i + 1) marks)) column) in
     ap (λ k. new ⊕ row_tokens (lead_runs w t (k + 1) (map (mark_of ls) (drop (i + 1) marks)) column)) a
     ∙ ap (λ r. r ⊕ rest) (n ∙ ap (λ r. r ⊕ bar) (s ∙ ap (λ k. row ⊕ styled_tokens plain (replicate k 32)) (z ∙ ap (λ k. k - reached) a)))
-    ∙ put_append (row ⊕ styled_tokens plain (replicate (anchor m - reached) 32)) bar rest
-    ∙ put_append row (styled_tokens plain (replicate (anchor m - reached) 32)) (bar ++ rest)
-    ∙ ap (λ r. row ⊕ (r ++ (bar ++ rest))) (sym (blank_told w (anchor m - reached)))
-    ∙ ap (λ r. row ⊕ (run_tokens (blank w (anchor m - reached)) ++ (r ++ rest))) (sym (styled_told w m.label.style (t.vbar ∷ [])))
+    ∙ put_append (row ⊕ styled_tokens plain (replicate (m.anchor - reached) 32)) bar rest
+    ∙ put_append row (styled_tokens plain (replicate (m.anchor - reached) 32)) (bar ++ rest)
+    ∙ ap (λ r. row ⊕ (r ++ (bar ++ rest))) (sym (blank_told w (m.anchor - reached)))
+    ∙ ap (λ r. row ⊕ (run_tokens (blank w (m.anchor - reached)) ++ (r ++ rest))) (sym (styled_told w m.label.style (t.vbar ∷ [])))
     ∙ ap (λ xs. row ⊕ row_tokens (lead_runs w t reached xs column)) (sym (at_drop_more (map (mark_of ls)) marks i d lt)) ∙ h
 
 pub lead_end : (w : ℕ → ℕ) (t : Characters) (ls : List Label) (marks : List MadeMark) (i reached gap column : ℕ) (row new whole : Printout) → length marks ≤ i → gap ≡ column - reached → new ≡ row ⊕ styled_tokens plain (replicate gap 32) →
@@ -75,12 +75,12 @@ run_put style a b c part p q r s n hq hr hs hn =
     let fourth : s ≡ p ⊕ styled_tokens style four = told_as p (styled_tokens style three ++ text_tokens (32 ∷ [])) (styled_tokens style four) (then p (styled_tokens style three) (text_tokens (32 ∷ [])) third hs) (run_one style three 32) in
     told_as p (styled_tokens style four ++ text_tokens part) (styled_tokens style (four ++ part)) (then p (styled_tokens style four) (text_tokens part) fourth hn) (run_more style four part)
 
-pub text_put : (w : ℕ → ℕ) (t : Characters) (before : Row) (earlier : List Mark) (m : Mark) (at x y z : ℕ) (part : List ℕ) (p b l q r s k n : Printout) → at ≡ anchor m →
+pub text_put : (w : ℕ → ℕ) (t : Characters) (before : Row) (earlier : List Mark) (m : Mark) (at x y z : ℕ) (part : List ℕ) (p b l q r s k n : Printout) → at ≡ m.anchor →
     b ≡ p ⊕ row_tokens before → l ≡ b ⊕ row_tokens (lead_runs w t 0 earlier at) → q ≡ l ⊕ styled_tokens m.label.style (x ∷ y ∷ []) → r ≡ q ⊕ text_tokens (z ∷ []) → s ≡ r ⊕ text_tokens (32 ∷ []) → k ≡ s ⊕ text_tokens part → n ≡ k ⊕ row_end ∷ [] →
     n ≡ p ⊕ rows_tokens ((before ++ text_row w t earlier m (x ∷ y ∷ z ∷ 32 ∷ []) part) ∷ [])
 text_put w t before earlier m at x y z part p b l q r s k n a hb hl hq hr hs hk hn =
     let front : List ℕ = x ∷ y ∷ z ∷ 32 ∷ [] in
-    let leads : Row = lead_runs w t 0 earlier (anchor m) in
+    let leads : Row = lead_runs w t 0 earlier m.anchor in
     let own : Row = styled_run w m.label.style (front ++ part) ∷ [] in
     let led : l ≡ b ⊕ row_tokens leads = hl ∙ ap (λ c. b ⊕ row_tokens (lead_runs w t 0 earlier c)) a in
     let run : k ≡ l ⊕ row_tokens own = run_put m.label.style x y z part l q r s k hq hr hs hk ∙ ap (λ c. l ⊕ c) (sym (styled_row w m.label.style (front ++ part))) in

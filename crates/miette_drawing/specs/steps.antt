@@ -1,5 +1,6 @@
 -- The code's own steps, which no rule names.
 pub mod Folding
+pub mod Cut
 pub mod FrameParts
 pub mod Marks
 pub mod Sheets

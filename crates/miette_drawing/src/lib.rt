@@ -3,12 +3,15 @@
 
 mod closings;
 pub mod folds;
+mod cut_text;
+mod cutting;
 pub mod frame;
 mod gutters;
 mod highlighting;
 mod label_text;
 mod line;
 mod marks;
+mod plain_cut;
 mod sheet;
 pub mod snippet;
 mod strokes;

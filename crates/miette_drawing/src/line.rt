@@ -13,19 +13,25 @@ ghost use Rattle.miette_page.specs.views.Tokens.{row_tokens, rows_tokens, text_t
 ghost use Rattle.miette_drawing.specs.steps.CellTokens.{cells_tokens};
 ghost use Rattle.miette_snippets.specs.rules.Highlighting.{highlight_of};
 ghost use Rattle.miette_lines.specs.views.Walking.{cell_of};
-ghost use Rattle.miette_drawing.specs.steps.Marks.{mark_of};
+ghost use Rattle.std.specs.Option.{option_map};
+ghost use Rattle.miette_drawing.specs.steps.Cut.{made_runs};
+ghost use Rattle.miette_drawing.specs.steps.Marks.{mark_of, HasAnchor};
 ghost use Rattle.miette_drawing.specs.steps.Sheets.{settings, multi_labels, before_marks, number_row, shown_cells};
 ghost use Rattle.miette_drawing.specs.steps.Sheets.{labels_alone};
 ghost use Rattle.miette_newlines.specs.views.Walking.{line_of_text};
 
 use crate::closings::push_closings;
 use crate::gutters::{push_break_gutter, push_number_gutter};
+use crate::cut_text::push_cut;
+use crate::cutting::{Cut, cut_around, marks_shown};
 use crate::marks::{Mark, marks_on};
+use crate::plain_cut::push_plain_cut;
 use crate::sheet::{Outcome, Sheet, ShownLine};
 use crate::strokes::push_marks;
 use crate::tabs::{all_tabbed, push_tabbed, untabbed};
 use crate::texts::{push_before_marks, push_texts};
 use miette_lines::cells::{Cell, Walk};
+use miette_lines::plain::all_printable;
 use miette_page::canvas::Canvas;
 use miette_page::page::{PLAIN, Page};
 use miette_style::style::Style;
@@ -44,8 +50,8 @@ fn push_number_start<O: Canvas>(page: &mut Page<O>, sheet: &Sheet, number: usize
     Ok(())
 }
 
-// A character as it prints, a tab as spaces.
-fn push_cell<O: Canvas>(page: &mut Page<O>, cell: &Cell) -> Outcome
+/// A character as it prints, a tab as spaces. `AllocError` where memory is refused.
+pub(crate) fn push_cell<O: Canvas>(page: &mut Page<O>, cell: &Cell) -> Outcome
     ensures { OnOk result (page.new ≡ page.old ⊕ text_tokens (map (λ p. p.code) (printed_pieces (cell_of cell.now)))) }
 {
     if cell.code == '\t' {
@@ -123,21 +129,52 @@ fn push_text<O: Canvas>(page: &mut Page<O>, sheet: &Sheet, shown: &ShownLine) ->
     Ok(())
 }
 
-// The number row: ` 12 │ ╭─▶ the line's text`.
-fn push_number_row<O: Canvas>(page: &mut Page<O>, sheet: &Sheet, shown: &ShownLine) -> Outcome
+// What is shown of the line's text: its stretches, or all of it where it isn't cut.
+fn push_shown_text<O: Canvas>(
+    page: &mut Page<O>,
+    sheet: &Sheet,
+    shown: &ShownLine,
+    cut: &Cut,
+) -> Outcome
     requires { sheet.now.line.start + length shown.now.text.now < 2 ^ 64 }
-    ensures { OnOk result (page.new ≡ page.old ⊕ rows_tokens (number_row sheet.now shown.now ∷ [])) }
+    ensures { OnOk result (page.new ≡ page.old ⊕ row_tokens (made_runs (option_map (λ made. made.items) cut.now)
+        (map highlight_of shown.now.pieces.now) (shown_cells sheet.now shown.now))) }
+{
+    match cut {
+        Some(cut) => {
+            if shown.pieces.is_empty() && all_printable(shown.text) {
+                push_plain_cut(page, shown.text, cut)?;
+                return Ok(());
+            }
+            let mut walk = Walk::new(shown.text, sheet.line.start, sheet.options.tab_width);
+            push_cut(page, &mut walk, shown.pieces, cut)
+        }
+        None => push_text(page, sheet, shown),
+    }
+}
+
+// The number row: ` 12 │ ╭─▶ the line's text`.
+fn push_number_row<O: Canvas>(
+    page: &mut Page<O>,
+    sheet: &Sheet,
+    shown: &ShownLine,
+    cut: &Cut,
+) -> Outcome
+    requires { sheet.now.line.start + length shown.now.text.now < 2 ^ 64 }
+    ensures { OnOk result (page.new ≡ page.old ⊕ rows_tokens (number_row sheet.now shown.now
+        (made_runs (option_map (λ made. made.items) cut.now) (map highlight_of shown.now.pieces.now)
+        (shown_cells sheet.now shown.now)) ∷ [])) }
 {
     push_number_start(page, sheet, shown.number)?;
     push_number_gutter(page, sheet)?;
-    push_text(page, sheet, shown)?;
+    push_shown_text(page, sheet, shown, cut)?;
     page.end_row()?;
     Ok(())
 }
 
 // The mark row and the rows of texts under it, where there is a mark.
 fn push_marked_rows<O: Canvas>(page: &mut Page<O>, sheet: &Sheet, marks: &[Mark]) -> Outcome
-    requires { All (λ mark. mark.from < mark.until) marks.now }
+    requires { All HasAnchor marks.now }
     ensures { OnOk result (page.new ≡ page.old ⊕ rows_tokens (before_each (before_marks sheet.now)
         (marked_rows (settings sheet.now).width (settings sheet.now).characters
         (map (mark_of sheet.now.labels.now) marks.now)))) }
@@ -152,10 +189,10 @@ fn push_marked_rows<O: Canvas>(page: &mut Page<O>, sheet: &Sheet, marks: &[Mark]
     Ok(())
 }
 
-// The marks of the labels that lie on a line alone.
+// The marks of the labels that lie on a line alone, by the columns of the whole line.
 fn marks_alone(alloc: Global, sheet: &Sheet, shown: &ShownLine) -> Result<Vec<Mark>, AllocError>
     requires { sheet.now.line.start + length shown.now.text.now < 2 ^ 64 }
-    ensures some { IfOk result (λ alone. All (λ mark. mark.from < mark.until) alone.items) }
+    ensures anchored { IfOk result (λ alone. All HasAnchor alone.items) }
     ensures marks { IfOk result (λ alone. map (mark_of sheet.now.labels.now) alone.items
         ≡ marks (text_of_cells (shown_cells sheet.now shown.now) sheet.now.line.text_end)
         (labels_alone sheet.now shown.now)) }
@@ -211,8 +248,10 @@ fn push_line_rows<O: Canvas>(
         (labels_alone sheet.now shown.now) (multi_labels sheet.now) (line_of_text sheet.now.line) shown.now.number
         (shown_cells sheet.now shown.now) (map highlight_of shown.now.pieces.now))) }
 {
-    push_number_row(page, sheet, shown)?;
-    let marks = marks_alone(alloc, sheet, shown)?;
+    let whole = marks_alone(alloc, sheet, shown)?;
+    let cut = cut_around(alloc, sheet, shown, &whole)?;
+    push_number_row(page, sheet, shown, &cut)?;
+    let marks = marks_shown(alloc, &cut, whole)?;
     push_marked_rows(page, sheet, &marks)?;
     push_closings(page, sheet)?;
     Ok(())

@@ -6,11 +6,11 @@ ghost use Rattle.miette_protocol.specs.views.Meaning.{Label};
 ghost use Rattle.miette_snippets.specs.rules.PrintedCells.{cells_width, first_column as first_of_cells};
 ghost use Rattle.miette_snippets.specs.rules.PrintedCells.{last_column as last_of_cells};
 ghost use Rattle.miette_lines.specs.rules.Cells.{cells_from, characters};
-ghost use Rattle.miette_snippets.specs.rules.Marks.{label_from, mark_from, mark_until, marks};
+ghost use Rattle.miette_snippets.specs.rules.Marks.{label_from, mark_from, mark_until, mark_anchor, marks};
 ghost use Rattle.miette_snippets.specs.rules.SnippetLayout.{text_of_cells};
 ghost use Rattle.miette_lines.specs.views.Sweeping.{label_of};
 ghost use Rattle.miette_lines.specs.views.GivenLabels.{drawn_of, width_of};
-ghost use Rattle.miette_drawing.specs.steps.Marks.{mark_of, ComeFrom, IsStop};
+ghost use Rattle.miette_drawing.specs.steps.Marks.{mark_of, ComeFrom, HasAnchor, IsStop};
 
 use miette_lines::cells::Walk;
 use miette_lines::plain::all_printable;
@@ -231,6 +231,8 @@ pub(crate) struct Mark {
     pub(crate) from: usize,
     /// The column behind its last one.
     pub(crate) until: usize,
+    /// The one of its columns from which the label's text hangs.
+    pub(crate) anchor: usize,
     /// The label that it marks.
     pub(crate) label: Placed,
 }
@@ -239,8 +241,9 @@ pub(crate) struct Mark {
 fn next_mark(columns: &Columns<'_>, label: &Placed, reached: usize) -> Result<Mark, AllocError>
     ensures from { IfOk result (λ mark. mark.from ≡ mark_from columns.now reached (label_of label.now)) }
     ensures until { IfOk result (λ mark. mark.until ≡ mark_until columns.now reached (label_of label.now)) }
+    ensures anchor { IfOk result (λ mark. mark.anchor ≡ mark_anchor columns.now reached (label_of label.now)) }
     ensures label { IfOk result (λ mark. mark.label ≡ label.now) }
-    ensures some { IfOk result (λ mark. mark.from < mark.until) }
+    ensures anchored { IfOk result HasAnchor }
 {
     let from = columns.label_column(label)?.max(reached);
     let Some(next) = from.checked_add(1) else {
@@ -254,6 +257,7 @@ fn next_mark(columns: &Columns<'_>, label: &Placed, reached: usize) -> Result<Ma
     Ok(Mark {
         from,
         until,
+        anchor: from + (until - from) / 2,
         label: *label,
     })
 }
@@ -266,7 +270,7 @@ fn marks_in(
 ) -> Result<Vec<Mark>, AllocError>
     ensures is { IfOk result (λ made. (labels : List Label) →
         map (mark_of labels) made.items ≡ marks columns.now (map (drawn_of labels) placed.now)) }
-    ensures some { IfOk result (λ made. All (λ mark. mark.from < mark.until) made.items) }
+    ensures anchored { IfOk result (λ made. All HasAnchor made.items) }
 {
     let mut made = Vec::new(alloc);
     let mut reached = 0;
@@ -293,7 +297,7 @@ pub(crate) fn marks_on(
     ensures is { IfOk result (λ made. (labels : List Label) → map (mark_of labels) made.items
         ≡ marks (text_of_cells (cells_from width_of tab false line.now.start 0 (characters text.now)) line.now.text_end)
         (map (drawn_of labels) one.now)) }
-    ensures some { IfOk result (λ made. All (λ mark. mark.from < mark.until) made.items) }
+    ensures anchored { IfOk result (λ made. All HasAnchor made.items) }
 {
     let columns = Columns::new(alloc, line, text, tab)?;
     marks_in(alloc, &columns, one)

@@ -17,7 +17,8 @@
 //!    out inside a folded label (`folds.rt`).
 //! 4. `push_line_or_break` (`line.rt`) puts the rows of a line: its number row over the gutter
 //!    (`gutters.rt`), the marks and their leaders (`marks.rt`, `strokes.rt`), the texts
-//!    (`texts.rt`), and the texts of labels that end there (`closings.rt`).
+//!    (`texts.rt`), and the texts of labels that end there (`closings.rt`). A line that is too wide
+//!    is cut into stretches, by whose columns its marks then stand (`cutting.rt`, `cut_text.rt`).
 
 ghost use Rattle.std.specs.Prelude.{◌≡◌, ◌∷◌, ◌+◌, ◌<◌, ◌^◌, List, map, length, decimal, false, IfOk, OnOk};
 ghost use Rattle.miette_newlines.specs.rules.Lines.{Line, lines_from};

@@ -1,13 +1,13 @@
 //! The mark row of a line.
 
-ghost use Rattle.std.specs.Prelude.{◌≡◌, ◌++◌, ◌+◌, ◌/◌, ◌^◌, ◌<◌, ◌≤◌, if◌then◌else◌, map, OnOk};
+ghost use Rattle.std.specs.Prelude.{◌≡◌, ◌++◌, if◌then◌else◌, map, OnOk};
 ghost use Rattle.std.specs.List.{All};
 ghost use Rattle.miette_page.specs.views.Printouts.{◌⊕◌};
 ghost use Rattle.miette_page.specs.views.Tokens.{row_tokens, run_tokens};
 ghost use Rattle.miette_lines.specs.rules.Labels.{is_empty};
 ghost use Rattle.miette_lines.specs.views.GivenLabels.{drawn_of};
 ghost use Rattle.miette_snippets.specs.rules.Drawing.{code_with_parts, mark_run, mark_runs};
-ghost use Rattle.miette_drawing.specs.steps.Marks.{mark_of};
+ghost use Rattle.miette_drawing.specs.steps.Marks.{mark_of, HasAnchor};
 ghost use Rattle.miette_drawing.specs.steps.Sheets.{settings};
 
 use crate::marks::Mark;
@@ -15,17 +15,6 @@ use crate::sheet::{Outcome, Sheet};
 use miette_lines::drawn_labels::text_of;
 use miette_page::canvas::Canvas;
 use miette_page::page::Page;
-
-/// The column of a mark at which its text hangs: the middle one, rounded down.
-pub(crate) fn anchor_of(mark: &Mark) -> usize
-    requires { mark.now.from < mark.now.until }
-    ensures is { result ≡ (mark.now.from + mark.now.until) / 2 }
-    ensures from { mark.now.from ≤ result }
-    ensures until { result < mark.now.until }
-    ensures small { result + 1 < 2 ^ 64 }
-{
-    mark.from + (mark.until - mark.from) / 2
-}
 
 // The character at a mark's anchor.
 fn middle_of(sheet: &Sheet, mark: &Mark) -> char
@@ -45,23 +34,22 @@ fn middle_of(sheet: &Sheet, mark: &Mark) -> char
 
 // A mark: `──┬──`.
 fn push_mark<O: Canvas>(page: &mut Page<O>, sheet: &Sheet, mark: &Mark) -> Outcome
-    requires { mark.now.from < mark.now.until }
+    requires { HasAnchor mark.now }
     ensures { OnOk result (page.new ≡ page.old
         ⊕ run_tokens (mark_run (settings sheet.now).width (settings sheet.now).characters
         (mark_of sheet.now.labels.now mark.now))) }
 {
     let line = sheet.theme.characters.underline;
-    let anchor = anchor_of(mark);
     page.begin(mark.label.style)?;
-    page.push_copies(line, anchor - mark.from)?;
+    page.push_copies(line, mark.anchor - mark.from)?;
     page.push(middle_of(sheet, mark))?;
-    page.push_copies(line, mark.until - anchor - 1)?;
+    page.push_copies(line, mark.until - mark.anchor - 1)?;
     Ok(())
 }
 
 /// The marks, each behind the spaces before it: `  ──┬── ▲ ─┬─`. `AllocError` where memory is refused.
 pub(crate) fn push_marks<O: Canvas>(page: &mut Page<O>, sheet: &Sheet, marks: &[Mark]) -> Outcome
-    requires { All (λ mark. mark.from < mark.until) marks.now }
+    requires { All HasAnchor marks.now }
     ensures { OnOk result (page.new ≡ page.old
         ⊕ row_tokens (mark_runs (settings sheet.now).width (settings sheet.now).characters 0
         (map (mark_of sheet.now.labels.now) marks.now))) }

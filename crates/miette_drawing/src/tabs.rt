@@ -46,8 +46,8 @@ fn tab_columns(tab: usize, column: usize) -> usize
     if tab == 0 { 0 } else { tab - column % tab }
 }
 
-// Bytes that are ASCII, as they are.
-fn push_stretch<O: Canvas>(page: &mut Page<O>, bytes: &[u8]) -> Outcome
+/// Bytes that are ASCII, as they are.
+pub(crate) fn push_ascii<O: Canvas>(page: &mut Page<O>, bytes: &[u8]) -> Outcome
     requires { IsAscii bytes.now }
     ensures { OnOk result (page.new ≡ page.old ⊕ text_tokens bytes.now) }
 {
@@ -70,7 +70,7 @@ pub(crate) fn push_tabbed<O: Canvas>(page: &mut Page<O>, text: &[u8], tab: usize
     let mut rest = text;
     let mut column: usize = 0;
     while let Some(size) = memchr(b'\t', rest) {
-        push_stretch(page, &rest[..size])?;
+        push_ascii(page, &rest[..size])?;
         let Some(until) = column.checked_add(size) else {
             return Err(AllocError);
         };
@@ -82,6 +82,6 @@ pub(crate) fn push_tabbed<O: Canvas>(page: &mut Page<O>, text: &[u8], tab: usize
         column = next;
         rest = &rest[size + 1..];
     }
-    push_stretch(page, rest)?;
+    push_ascii(page, rest)?;
     Ok(())
 }

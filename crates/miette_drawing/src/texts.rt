@@ -1,6 +1,6 @@
 //! The rows of texts under a mark row, the last label's first.
 
-ghost use Rattle.std.specs.Prelude.{◌≡◌, ◌++◌, ◌+◌, ◌∷◌, [], ◌<◌, List, chars, map, replicate, OnOk};
+ghost use Rattle.std.specs.Prelude.{◌≡◌, ◌++◌, ◌+◌, ◌∷◌, [], List, chars, map, replicate, OnOk};
 ghost use Rattle.std.specs.List.{All};
 ghost use Rattle.miette_page.specs.views.Printouts.{◌⊕◌};
 ghost use Rattle.miette_page.specs.views.Tokens.{row_tokens, rows_tokens};
@@ -9,14 +9,13 @@ ghost use Rattle.miette_snippets.specs.rules.Drawing.{lead_runs, beside, rows_of
 ghost use Rattle.miette_snippets.specs.rules.Frames.{other_start};
 ghost use Rattle.miette_snippets.specs.rules.SnippetLayout.{before_each};
 ghost use Rattle.miette_lines.specs.views.GivenLabels.{drawn_of};
-ghost use Rattle.miette_drawing.specs.steps.Marks.{mark_of};
+ghost use Rattle.miette_drawing.specs.steps.Marks.{mark_of, HasAnchor};
 ghost use Rattle.miette_drawing.specs.steps.Sheets.{settings, before_marks, text_line};
 
 use crate::gutters::push_other_gutter;
 use crate::label_text::first_part;
 use crate::marks::Mark;
 use crate::sheet::{Outcome, Sheet};
-use crate::strokes::anchor_of;
 use miette_lines::drawn_labels::text_of;
 use miette_page::canvas::Canvas;
 use miette_page::page::{PLAIN, Page};
@@ -44,6 +43,15 @@ pub(crate) fn push_before_marks<O: Canvas>(page: &mut Page<O>, sheet: &Sheet) ->
     Ok(())
 }
 
+// The column behind the one from which a mark's text hangs.
+fn behind_anchor(mark: &Mark) -> usize
+    requires { HasAnchor mark.now }
+    ensures { result ≡ mark.now.anchor + 1 }
+{
+    prove!(mark.anchor < mark.until);
+    mark.anchor + 1
+}
+
 // What stands before a text's corner, which is to stand in this column: a bar at the anchor of each earlier mark.
 fn push_leads<O: Canvas>(
     page: &mut Page<O>,
@@ -51,7 +59,7 @@ fn push_leads<O: Canvas>(
     earlier: &[Mark],
     column: usize,
 ) -> Outcome
-    requires { All (λ mark. mark.from < mark.until) earlier.now }
+    requires { All HasAnchor earlier.now }
     ensures { OnOk result (page.new ≡ page.old
         ⊕ row_tokens (lead_runs (settings sheet.now).width (settings sheet.now).characters 0
         (map (mark_of sheet.now.labels.now) earlier.now) column)) }
@@ -59,10 +67,9 @@ fn push_leads<O: Canvas>(
     let bar = sheet.theme.characters.vbar;
     let mut reached: usize = 0;
     for mark in earlier {
-        let anchor = anchor_of(mark);
-        page.push_blank(anchor.saturating_sub(reached))?;
+        page.push_blank(mark.anchor.saturating_sub(reached))?;
         page.push_line(mark.label.style, bar, bar, 0)?;
-        reached = anchor + 1;
+        reached = behind_anchor(mark);
     }
     page.push_blank(column.saturating_sub(reached))?;
     Ok(())
@@ -81,15 +88,14 @@ fn push_text_row<O: Canvas>(
     front: Front,
     part: &str,
 ) -> Outcome
-    requires earlier { All (λ mark. mark.from < mark.until) earlier.now }
-    requires own { mark.now.from < mark.now.until }
+    requires earlier { All HasAnchor earlier.now }
+    requires own { HasAnchor mark.now }
     ensures { OnOk result (page.new ≡ page.old
         ⊕ rows_tokens (text_line sheet.now (map (mark_of sheet.now.labels.now) earlier.now)
         (mark_of sheet.now.labels.now mark.now) (front.0 ∷ front.1 ∷ front.2 ∷ 32 ∷ []) (chars part.now) ∷ [])) }
 {
-    let anchor = anchor_of(mark);
     push_before_marks(page, sheet)?;
-    push_leads(page, sheet, earlier, anchor)?;
+    push_leads(page, sheet, earlier, mark.anchor)?;
     page.push_line(mark.label.style, front.0, front.1, 1)?;
     page.push(front.2)?;
     page.push(' ')?;
@@ -106,8 +112,8 @@ fn push_more_parts<O: Canvas>(
     mark: &Mark,
     text: &str,
 ) -> Outcome
-    requires earlier { All (λ mark. mark.from < mark.until) earlier.now }
-    requires own { mark.now.from < mark.now.until }
+    requires earlier { All HasAnchor earlier.now }
+    requires own { HasAnchor mark.now }
     ensures { OnOk result (page.new ≡ page.old ⊕ rows_tokens (map
         (text_line sheet.now (map (mark_of sheet.now.labels.now) earlier.now) (mark_of sheet.now.labels.now mark.now)
         (beside (settings sheet.now).characters))
@@ -126,8 +132,8 @@ fn push_more_parts<O: Canvas>(
 // The rows of a mark's text, where these marks stand before it: `╰── text`, or `╰─┤ text` and a row for each further
 // part.
 fn push_text<O: Canvas>(page: &mut Page<O>, sheet: &Sheet, earlier: &[Mark], mark: &Mark) -> Outcome
-    requires earlier { All (λ mark. mark.from < mark.until) earlier.now }
-    requires own { mark.now.from < mark.now.until }
+    requires earlier { All HasAnchor earlier.now }
+    requires own { HasAnchor mark.now }
     ensures { OnOk result (page.new ≡ page.old ⊕ rows_tokens (before_each (before_marks sheet.now)
         (rows_of_parts (settings sheet.now).width (settings sheet.now).characters
         (map (mark_of sheet.now.labels.now) earlier.now) (mark_of sheet.now.labels.now mark.now)
@@ -151,7 +157,7 @@ fn push_text<O: Canvas>(page: &mut Page<O>, sheet: &Sheet, earlier: &[Mark], mar
 
 /// The rows of the texts of all marks, the last one's first. It fails as `push_other_start` does.
 pub(crate) fn push_texts<O: Canvas>(page: &mut Page<O>, sheet: &Sheet, marks: &[Mark]) -> Outcome
-    requires { All (λ mark. mark.from < mark.until) marks.now }
+    requires { All HasAnchor marks.now }
     ensures { OnOk result (page.new ≡ page.old ⊕ rows_tokens (before_each (before_marks sheet.now)
         (rows_below (settings sheet.now).width (settings sheet.now).characters []
         (map (mark_of sheet.now.labels.now) marks.now)))) }

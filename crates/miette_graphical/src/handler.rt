@@ -28,6 +28,7 @@ pub struct GraphicalReportHandler<H = Box<dyn Highlighter>> {
     context_lines: usize,
     primary_span_start: bool,
     end_labels: bool,
+    line_columns: Option<usize>,
     urls: UrlMode,
     link_display_text: Option<String>,
     cause_chain: bool,
@@ -59,6 +60,7 @@ impl<H> Model for GraphicalReportHandler<H> {
         context = it.context_lines;
         primary_start = it.primary_span_start;
         end_labels = it.end_labels;
+        line_columns = it.line_columns;
         urls = urls_of it.urls;
         link_text = chars (option_map_or string_bytes it.link_display_text (codes "(link)"));
         chain = it.cause_chain;
@@ -112,6 +114,7 @@ impl<H: Highlighter> GraphicalReportHandler<H> {
             context_lines: 1,
             primary_span_start: true,
             end_labels: false,
+            line_columns: None,
             urls: UrlMode::Links,
             link_display_text: None,
             cause_chain: true,
@@ -218,6 +221,17 @@ impl<H: Highlighter> GraphicalReportHandler<H> {
     {
         let end_labels = false;
         GraphicalReportHandler { end_labels, ..self }
+    }
+
+    /// A line of more than so many columns is cut: it shows what stands near the labels that lie on it alone, and dots
+    /// in place of the rest. A limit of 0 shows the columns of marks alone.
+    pub fn with_line_columns(self, columns: usize) -> Self
+        ensures { result ≡ record self { settings = record self.settings { line_columns = Some columns } } }
+    {
+        GraphicalReportHandler {
+            line_columns: Some(columns),
+            ..self
+        }
     }
 
     /// Draws with this theme.

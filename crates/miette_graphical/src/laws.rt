@@ -10,7 +10,7 @@ ghost use Rattle.miette_graphical.specs.laws.Colourless.{AreSnippets, IsColoured
 ghost use Rattle.miette_graphical.specs.laws.Colourless.{colourless, unhighlighted};
 ghost use Rattle.std.specs.List.{AllByRecursion, Contains};
 ghost use Rattle.miette_graphical.specs.laws.Headline.{EndsAreDrawn, LabelsAreFolded, LinesAreShown, MarksAreApart};
-ghost use Rattle.miette_graphical.specs.laws.Headline.{TextsHang};
+ghost use Rattle.miette_graphical.specs.laws.Headline.{TextsHang, CutsAreExact, LinesThatFitStay};
 ghost use Rattle.miette_graphical.specs.rules.DiagnosticText.{SnippetRows};
 ghost use Rattle.miette_graphical.specs.laws.Paths.{HasPath, Step, printed_at};
 ghost use Rattle.miette_graphical.specs.laws.CharacterSets.{AreNarrow, AreShipped};
@@ -25,9 +25,10 @@ ghost use Rattle.miette_runs.specs.rules.Sequences.{erase};
 ghost use Rattle.miette_text.specs.rules.Tame.{IsTame};
 
 use miette_layout::laws::{
-    ends_are_drawn, groups_are_ranges, left_out_lines_are_inside, marks_are_apart,
-    ranges_are_maximal, ranges_end_kept, rows_fade, rows_hold_no_escape, short_labels_stay,
-    snippets_draw_ranges, texts_hang,
+    cut_lines_are_parted, cut_rows_are_narrow, ends_are_drawn, groups_are_ranges,
+    left_out_lines_are_inside, lines_that_fit_stay, marks_are_apart, ranges_are_maximal,
+    ranges_end_kept, rows_fade, rows_hold_no_escape, short_labels_stay, snippets_draw_ranges,
+    texts_hang,
 };
 use miette_text::wrap::laws::{
     columns_law, cutting_law, encoding_law, joining_law, printing_law, wrapping_law,
@@ -85,12 +86,15 @@ pub fn erasing_law()
     rows_fade();
 }
 
-/// The snippets of each printed diagnostic show the lines in the context of its labels, its marks are apart, each text
-/// hangs from its own mark, labels at the end of a source stand behind its last line, with their marks, where they are
-/// drawn, and no label begins, ends or is missed where lines are left out inside folded labels.
+/// The snippets of each printed diagnostic show the lines in the context of its labels, its marks are apart, each line
+/// that is cut shows what is near them, lines that fit stay as they are, each text hangs from its own mark, labels at
+/// the end of a source stand behind what is shown of its last line, where they are drawn, and no label begins, ends or
+/// is missed where lines are left out inside folded labels.
 pub fn snippets_law()
     ensures lines { (s : Settings) (t : Tree) → AllByRecursion (LinesAreShown s) (diagnostics_of s t) }
     ensures marks { (s : Settings) (t : Tree) → AllByRecursion (MarksAreApart s) (diagnostics_of s t) }
+    ensures cuts { (s : Settings) (t : Tree) → AllByRecursion (CutsAreExact s) (diagnostics_of s t) }
+    ensures fits { (s : Settings) (t : Tree) → AllByRecursion (LinesThatFitStay s) (diagnostics_of s t) }
     ensures texts { (s : Settings) (t : Tree) → AllByRecursion (TextsHang s) (diagnostics_of s t) }
     ensures ends { (s : Settings) (t : Tree) → AllByRecursion (EndsAreDrawn s) (diagnostics_of s t) }
     ensures folds { (s : Settings) (t : Tree) → AllByRecursion (LabelsAreFolded s) (diagnostics_of s t) }
@@ -100,6 +104,9 @@ pub fn snippets_law()
     ranges_are_maximal();
     ranges_end_kept();
     marks_are_apart();
+    cut_lines_are_parted();
+    cut_rows_are_narrow();
+    lines_that_fit_stay();
     texts_hang();
     ends_are_drawn();
     left_out_lines_are_inside();

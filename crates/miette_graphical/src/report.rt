@@ -109,6 +109,7 @@ fn push_drawn<S: SourceCode, H: Highlighter>(
             primary_start: layout.primary_start,
             end_labels: layout.end_labels,
             label_lines: layout.label_lines,
+            line_columns: layout.line_columns,
         },
     };
     let page = Page::over(mem::replace(out, Output::for_text(pen.alloc)));

@@ -29,6 +29,7 @@ pub struct Layout<'a> {
     pub context: usize,
     pub primary_start: bool,
     pub end_labels: bool,
+    pub line_columns: Option<usize>,
     pub urls: UrlMode,
     pub link_text: &'a str,
     pub chain: bool,

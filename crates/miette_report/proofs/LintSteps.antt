@@ -19,12 +19,12 @@ three_words words first name width (Some it) are is h = record {
   width_is = h.2;
 }
 
-pub nothing_linted : (brief : Bool) (name input text : List ℕ) (found : List Label) → found ≡ [] → text ≡ [] → IsLinted brief name input found text
-nothing_linted brief name input text found e none = subst (λ f. IsLinted brief name input f text) (sym e) none
+pub nothing_linted : (brief : Bool) (name : List ℕ) (width : ℕ) (input text : List ℕ) (found : List Label) → found ≡ [] → text ≡ [] → IsLinted brief name width input found text
+nothing_linted brief name width input text found e none = subst (λ f. IsLinted brief name width input f text) (sym e) none
 
-pub some_linted : (brief : Bool) (name input text : List ℕ) (found : List Label) (m : Meaning) → 0 < length found → m ≡ warning found → IsShown brief (over_input name m input) text → IsLinted brief name input found text
-some_linted brief name input text [] m some is p = absurd (omega (arith, some))
-some_linted brief name input text (l ∷ ls) m some is p = subst (λ v. IsShown brief (over_input name v input) text) is p
+pub some_linted : (brief : Bool) (name : List ℕ) (width : ℕ) (input text : List ℕ) (found : List Label) (m : Meaning) → 0 < length found → m ≡ warning found → IsShown brief width (over_input name m input) text → IsLinted brief name width input found text
+some_linted brief name width input text [] m some is p = absurd (omega (arith, some))
+some_linted brief name width input text (l ∷ ls) m some is p = subst (λ v. IsShown brief width (over_input name v input) text) is p
 
 positive : (n : ℕ) → false ≡ eqb n 0 → 0 < n
 positive n h = grind (arith, nat_tests)
@@ -34,17 +34,17 @@ clean_of found slice true same e = sym same ∙ nil_from_length slice (eqb-true 
 clean_of found slice false same e = subst (λ (l : List Label). 0 < length l) same (positive (length slice) e)
 
 pub linted_told : (brief : Bool) (name : List ℕ) (width : ℕ) (all : Option (List ℕ)) (input text bytes : List ℕ) (found : List Label) (clean : Bool) (P : List ℕ → Type 0)
-    → IfSome all (λ bs. input ≡ bs) → found ≡ findings_of input width → IsClean found clean → IsLinted brief name input found text → bytes ≡ text → P bytes → IfSome all (λ bs. Lints brief name width bs clean P)
+    → IfSome all (λ bs. input ≡ bs) → found ≡ findings_of input width → IsClean found clean → IsLinted brief name width input found text → bytes ≡ text → P bytes → IfSome all (λ bs. Lints brief name width bs clean P)
 linted_told brief name width None input text bytes found clean P read e none is same p = tt
 linted_told brief name width (Some bs) input text bytes found clean P read e none is same p =
-    let here : Lints brief name width input clean P = (text, subst (λ f. IsClean f clean) e none, subst (λ f. IsLinted brief name input f text) e is, subst P same p) in
+    let here : Lints brief name width input clean P = (text, subst (λ f. IsClean f clean) e none, subst (λ f. IsLinted brief name width input f text) e is, subst P same p) in
     subst (λ i. Lints brief name width i clean P) read here
 
 pub linted_begun : (brief : Bool) (name : List ℕ) (width : ℕ) (all : Option (List ℕ)) (input text bytes : List ℕ) (found : List Label) (P : List ℕ → Type 0)
-    → IfSome all (λ bs. input ≡ bs) → found ≡ findings_of input width → IsLinted brief name input found text → bytes ≡ text → P bytes → IfSome all (λ bs. LintsText brief name width bs P)
+    → IfSome all (λ bs. input ≡ bs) → found ≡ findings_of input width → IsLinted brief name width input found text → bytes ≡ text → P bytes → IfSome all (λ bs. LintsText brief name width bs P)
 linted_begun brief name width None input text bytes found P read e is same p = tt
 linted_begun brief name width (Some bs) input text bytes found P read e is same p =
-    let here : LintsText brief name width input P = (text, subst (λ f. IsLinted brief name input f text) e is, subst P same p) in
+    let here : LintsText brief name width input P = (text, subst (λ f. IsLinted brief name width input f text) e is, subst P same p) in
     subst (λ i. LintsText brief name width i P) read here
 
 pub call_linted : {E : Type 0} (words : List (List ℕ)) (brief : Bool) (name : List ℕ) (width : ℕ) (r : Result Bool E) (all : Option (List ℕ)) (P : List ℕ → Type 0)

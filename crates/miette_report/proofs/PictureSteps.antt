@@ -16,47 +16,43 @@ use Rattle.miette_report.proofs.AlwaysRead.{printed-reads}
 use Rattle.miette_report.specs.views.DrawReports.{draw_settings, drawn_tree, over_input, CallPictures, IsPicture, IsReadWhole, Pictures}
 use Rattle.miette_report.specs.rules.Words.{AreDrawWords, IsNoDrawCall}
 
-abbrev narrow : {H : Type 0} → Handling H → Handling H
-narrow h = record h { settings = record h.settings { width = 80 } }
-
 -- what the handler is made with
-pub plain-settings : {H : Type 0} (theme : GraphicalTheme) (made wide : Handling H) → theme_of theme ≡ record { characters = unicode_characters; styles = no_styles }
-    → made ≡ without_highlighter (default_settings (characters_of theme.characters) (styles_of theme.styles)) → wide ≡ record made { settings = record made.settings { width = 80 } }
-    → wide ≡ without_highlighter draw_settings
-plain-settings theme made wide is m w = w ∙ ap narrow (m ∙ ap (λ t. without_highlighter (default_settings t.characters t.styles)) is)
+pub plain-settings : {H : Type 0} (limit : Option ℕ) (theme : GraphicalTheme) (made : Handling H) → theme_of theme ≡ record { characters = unicode_characters; styles = no_styles }
+    → made ≡ without_highlighter (record (default_settings (characters_of theme.characters) (styles_of theme.styles)) { width = 80; line_columns = limit }) → made ≡ without_highlighter (draw_settings limit)
+plain-settings limit theme made is m = m ∙ ap (λ t. without_highlighter (record (default_settings t.characters t.styles) { width = 80; line_columns = limit })) is
 
-reads-whole : {H : Type 0} (theme : GraphicalTheme) (h : Handling H) (t : Tree) → h ≡ without_highlighter draw_settings → IsReadWhole t → all_read (diagnostics_of h.settings t) ≡ true
-reads-whole theme h t same reads = ap (λ u. all_read (diagnostics_of u.settings t)) same ∙ reads
+reads-whole : {H : Type 0} (limit : Option ℕ) (theme : GraphicalTheme) (h : Handling H) (t : Tree) → h ≡ without_highlighter (draw_settings limit) → IsReadWhole limit t → all_read (diagnostics_of h.settings t) ≡ true
+reads-whole limit theme h t same reads = ap (λ u. all_read (diagnostics_of u.settings t)) same ∙ reads
 
-pub pictured : {H : Type 0} (is_blank : H → Bool) (theme : GraphicalTheme) (h : Handling H) (t : Tree) (old new : List ℕ) → theme_of theme ≡ record { characters = unicode_characters; styles = no_styles }
-    → h ≡ without_highlighter draw_settings → old ≡ []
+pub pictured : {H : Type 0} (limit : Option ℕ) (is_blank : H → Bool) (theme : GraphicalTheme) (h : Handling H) (t : Tree) (old new : List ℕ) → theme_of theme ≡ record { characters = unicode_characters; styles = no_styles }
+    → h ≡ without_highlighter (draw_settings limit) → old ≡ []
     → (draws_plain is_blank h ≡ true → all_read (diagnostics_of h.settings t) ≡ true → new ≡ old ++ encode_utf8_all (report_text drawn_rows h.settings t unlisted))
-    → IsReadWhole t → IsPicture t new
-pictured is_blank theme h t old new is same none only reads =
-    only (ap (draws_plain is_blank) same) (reads-whole theme h t same reads)
+    → IsReadWhole limit t → IsPicture limit t new
+pictured limit is_blank theme h t old new is same none only reads =
+    only (ap (draws_plain is_blank) same) (reads-whole limit theme h t same reads)
     ∙ ap₂ (λ o u. o ++ encode_utf8_all (report_text drawn_rows u.settings t unlisted)) none same
 
-pub unrefused : {H : Type 0} (theme : GraphicalTheme) (h : Handling H) (t : Tree) → h ≡ without_highlighter draw_settings
-    → all_read (diagnostics_of h.settings t) ≡ false → IsReadWhole t → ⊥
-unrefused theme h t same refused reads = let k : true ≡ false = sym (reads-whole theme h t same reads) ∙ refused in cc
+pub unrefused : {H : Type 0} (limit : Option ℕ) (theme : GraphicalTheme) (h : Handling H) (t : Tree) → h ≡ without_highlighter (draw_settings limit)
+    → all_read (diagnostics_of h.settings t) ≡ false → IsReadWhole limit t → ⊥
+unrefused limit theme h t same refused reads = let k : true ≡ false = sym (reads-whole limit theme h t same reads) ∙ refused in cc
 
 -- of a diagnostic over an input every label is read
-pub reads-over : (t : Tree) (name : List ℕ) (m : Meaning) (input : List ℕ) → t ≡ over_input name m input → IsReadWhole t
-reads-over t name m input same = ap (λ u. all_read (diagnostics_of draw_settings u)) same ∙ printed-reads draw_settings (over_input name m input) (refl, tt, tt)
+pub reads-over : (limit : Option ℕ) (t : Tree) (name : List ℕ) (m : Meaning) (input : List ℕ) → t ≡ over_input name m input → IsReadWhole limit t
+reads-over limit t name m input same = ap (λ u. all_read (diagnostics_of (draw_settings limit) u)) same ∙ printed-reads (draw_settings limit) (over_input name m input) (refl, tt, tt)
 
-pub over-same : {E Z : Type 0} (r : Result (String Z) E) (name : List ℕ) (m n : Meaning) (input : List ℕ) → m ≡ n → IfOk r (λ text. IsPicture (over_input name m input) (string_bytes text)) → IfOk r (λ text. IsPicture (over_input name n input) (string_bytes text))
-over-same r name m n input same is = subst (λ v. IfOk r (λ text. IsPicture (over_input name v input) (string_bytes text))) same is
+pub over-same : {E Z : Type 0} (limit : Option ℕ) (r : Result (String Z) E) (name : List ℕ) (m n : Meaning) (input : List ℕ) → m ≡ n → IfOk r (λ text. IsPicture limit (over_input name m input) (string_bytes text)) → IfOk r (λ text. IsPicture limit (over_input name n input) (string_bytes text))
+over-same limit r name m n input same is = subst (λ v. IfOk r (λ text. IsPicture limit (over_input name v input) (string_bytes text))) same is
 
-pub IfOk-same : {E Z : Type 0} (r : Result (String Z) E) (t u : Tree) → t ≡ u → IfOk r (λ text. IsPicture t (string_bytes text)) → IfOk r (λ text. IsPicture u (string_bytes text))
-IfOk-same r t u same is = subst (λ v. IfOk r (λ text. IsPicture v (string_bytes text))) same is
+pub IfOk-same : {E Z : Type 0} (limit : Option ℕ) (r : Result (String Z) E) (t u : Tree) → t ≡ u → IfOk r (λ text. IsPicture limit t (string_bytes text)) → IfOk r (λ text. IsPicture limit u (string_bytes text))
+IfOk-same limit r t u same is = subst (λ v. IfOk r (λ text. IsPicture limit v (string_bytes text))) same is
 
 -- what was written of the picture, for what the reader tells
 pub told : (name : List ℕ) (offset length : ℕ) (label message input : List ℕ) (all : Option (List ℕ)) (text bytes : List ℕ) (P : List ℕ → Type 0)
-    → IfSome all (λ bs. input ≡ bs) → IsPicture (drawn_tree name offset length label message input) text → bytes ≡ text → P bytes
+    → IfSome all (λ bs. input ≡ bs) → IsPicture None (drawn_tree name offset length label message input) text → bytes ≡ text → P bytes
     → IfSome all (λ bs. Pictures name offset length label message bs P)
 told name offset length label message input None text bytes P read is same p = tt
 told name offset length label message input (Some bs) text bytes P read is same p =
-    (text, subst (λ i. IsPicture (drawn_tree name offset length label message i) text) read is, subst P same p)
+    (text, subst (λ i. IsPicture None (drawn_tree name offset length label message i) text) read is, subst P same p)
 
 -- ---- the words as the program is called with them
 

@@ -36,7 +36,7 @@ impl Arguments {
     ///
     /// # Errors
     /// `Usage` where a word is none of those that there are, where a value is missing or isn't one that its word
-    /// takes, and for tabs of no columns; `Memory` where none is found for a text or a theme.
+    /// takes, and for tabs or lines of no columns; `Memory` where none is found for a text or a theme.
     pub fn read(alloc: Global, words: &[String]) -> Result<Arguments, Fault>
         // What all words ask for by the table, and the usage fault exactly where the table has none.
         ensures table { IfOk result (λ it. AreWanted (map string_bytes words.now) it.choice it.options it.terminal) }
@@ -125,6 +125,7 @@ fn options_with(
         OptionAsked::Context(lines) => options.context_lines(lines),
         OptionAsked::LabelLines(lines) => options.label_lines(lines.max(1)),
         OptionAsked::Tab(width) => options.tab_width(width.max(1)),
+        OptionAsked::LineColumns(columns) => options.line_columns(columns),
         OptionAsked::Theme(theme) => options.graphical_theme(theme_of(alloc, theme)?),
         OptionAsked::Unicode(unicode) => options.unicode(unicode),
         OptionAsked::Color(color) => options.color(color),

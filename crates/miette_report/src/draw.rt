@@ -1,6 +1,6 @@
 //! The program `draw` over any reader and writers.
 
-ghost use Rattle.std.specs.Prelude.{◌≡◌, ◌↔◌, ◌⊎◌, ◌<◌, false, IfOk, IfSome, IsNone, IsTrue, OnOk, OnErr, map};
+ghost use Rattle.std.specs.Prelude.{◌≡◌, ◌↔◌, ◌⊎◌, ◌<◌, false, IfOk, IfSome, IsNone, IsTrue, None, OnOk, OnErr, map};
 ghost use Rattle.std.specs.Prelude.{string_bytes};
 ghost use Rattle.std.specs.Io.KnownBytes.{Appends};
 ghost use Rattle.miette.specs.Diagnostic.{meaning_of};
@@ -81,7 +81,7 @@ fn diagnostic(alloc: Global, words: &DrawWords<'_>) -> Result<MietteDiagnostic, 
 
 // The text for the words and the input. It is refused only where no memory is found.
 fn picture(alloc: Global, words: &DrawWords<'_>, input: Vec<u8>) -> Result<String, RenderError>
-    ensures ok { IfOk result (λ text. IsPicture
+    ensures ok { IfOk result (λ text. IsPicture None
         (drawn_tree words.now.name.now words.now.offset words.now.length words.now.label.now words.now.message.now
         input.items) (string_bytes text)) }
     ensures accepted { ¬ (result ≡ Err RenderError.Refused) }
@@ -90,7 +90,7 @@ fn picture(alloc: Global, words: &DrawWords<'_>, input: Vec<u8>) -> Result<Strin
         Ok(diagnostic) => diagnostic,
         Err(_) => return Err(RenderError::Memory),
     };
-    picture_over(alloc, words.name, diagnostic, input)
+    picture_over(alloc, words.name, diagnostic, input, None)
 }
 
 /// Reads all, and writes the picture of the words' label on it, and nothing else.

@@ -94,20 +94,20 @@ fn diagnostic(alloc: Global, found: Vec<LabeledSpan>) -> Result<MietteDiagnostic
     )
 }
 
-// The text of a diagnostic over the input: brief rows, or a picture.
+// The text of a diagnostic over the input: brief rows, or a picture whose lines are cut at the width.
 fn shown(
     alloc: Global,
     words: &LintWords<'_>,
     diagnostic: MietteDiagnostic,
     input: Vec<u8>,
 ) -> Result<String, RenderError>
-    ensures { IfOk result (λ text. IsShown words.now.brief
+    ensures { IfOk result (λ text. IsShown words.now.brief words.now.width
         (over_input words.now.name.now (meaning_of diagnostic) input.items) (string_bytes text)) }
 {
     if words.brief {
         rows_over(alloc, words.name, diagnostic, input)
     } else {
-        picture_over(alloc, words.name, diagnostic, input)
+        picture_over(alloc, words.name, diagnostic, input, Some(words.width))
     }
 }
 
@@ -118,8 +118,8 @@ fn text_of(
     found: Vec<LabeledSpan>,
     input: Vec<u8>,
 ) -> Result<String, AllocError>
-    ensures { IfOk result (λ text. IsLinted words.now.brief words.now.name.now input.items found.items
-        (string_bytes text)) }
+    ensures { IfOk result (λ text. IsLinted words.now.brief words.now.name.now words.now.width input.items
+        found.items (string_bytes text)) }
 {
     if is_clean(&found) {
         return Ok(String::new(alloc));

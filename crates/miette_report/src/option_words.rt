@@ -50,6 +50,7 @@ pub(crate) enum OptionAsked<'a> {
     Context(usize),
     LabelLines(usize),
     Tab(usize),
+    LineColumns(usize),
     Theme(ThemeAsked),
     Unicode(bool),
     Color(bool),
@@ -163,6 +164,9 @@ fn with_number<'a>(word: &str, number: usize) -> Option<BuildAsked<'a>>
             Some(BuildAsked::Option(OptionAsked::LabelLines(number)))
         }
         "--tab" if number > 0 => Some(BuildAsked::Option(OptionAsked::Tab(number))),
+        "--line-columns" if number > 0 => {
+            Some(BuildAsked::Option(OptionAsked::LineColumns(number)))
+        }
         "--term-width" => Some(BuildAsked::Terminal(TerminalAsked::Width(number))),
         _ => None,
     }

@@ -3,7 +3,11 @@
 ghost use Rattle.std.specs.Prelude.{◌≡◌, string_bytes, IfOk};
 ghost use Rattle.miette.specs.Diagnostic.{meaning_of};
 ghost use Rattle.miette.specs.Report.{tree_of};
-ghost use Rattle.miette_brief.specs.rules.Report.{brief, default_settings, unlisted};
+ghost use Rattle.miette_brief.specs.rules.Report.{brief, unlisted};
+ghost use Rattle.miette_brief.specs.rules.Report.{default_settings as brief_settings};
+ghost use Rattle.miette_graphical.specs.rules.Settings.{default_settings};
+ghost use Rattle.miette_graphical.specs.views.Handling.{without_highlighter};
+ghost use Rattle.miette_style.specs.rules.Themes.{characters_of, styles_of};
 ghost use Rattle.miette_report.specs.views.DrawReports.{over_input, IsPicture, IsReadWhole};
 
 use miette::diagnostic::MietteDiagnostic;
@@ -32,11 +36,24 @@ fn report<D: Diagnostic, S: SourceCode>(
     Ok(Report::built(diagnostic).with_owned_source(source))
 }
 
-// The picture of a report, in plain characters.
-fn draw(alloc: Global, report: &Report) -> Result<String, RenderError>
-    requires reads { IsReadWhole (tree_of ⟦<Box<dyn Diagnostic> as Diagnostic>⟧.meaning
+// What draws in this theme, with lines cut at a limit, if there is one.
+fn drawing(theme: GraphicalTheme, limit: Option<usize>) -> GraphicalReportHandler
+    ensures { result ≡ without_highlighter (record
+        (default_settings (characters_of theme.characters) (styles_of theme.styles))
+        { width = 80; line_columns = limit }) }
+{
+    let handler = GraphicalReportHandler::themed(theme).with_width(WIDTH);
+    match limit {
+        Some(columns) => handler.with_line_columns(columns),
+        None => handler,
+    }
+}
+
+// The picture of a report, in plain characters, with lines cut at a limit, if there is one.
+fn draw(alloc: Global, report: &Report, limit: Option<usize>) -> Result<String, RenderError>
+    requires reads { IsReadWhole limit (tree_of ⟦<Box<dyn Diagnostic> as Diagnostic>⟧.meaning
         ⟦<Box<dyn SourceCode> as SourceCode>⟧.source report.now) }
-    ensures ok { IfOk result (λ text. IsPicture
+    ensures ok { IfOk result (λ text. IsPicture limit
         (tree_of ⟦<Box<dyn Diagnostic> as Diagnostic>⟧.meaning ⟦<Box<dyn SourceCode> as SourceCode>⟧.source report.now)
         (string_bytes text)) }
     ensures accepted { ¬ (result ≡ Err RenderError.Refused) }
@@ -46,13 +63,13 @@ fn draw(alloc: Global, report: &Report) -> Result<String, RenderError>
         Err(_) => return Err(RenderError::Memory),
     };
     let mut text = String::new(alloc);
-    let mut handler = GraphicalReportHandler::new_themed(theme).with_width(WIDTH);
+    let mut handler = drawing(theme, limit);
     handler.render_report(report, &mut text)?;
     Ok(text)
 }
 
-/// The picture of a diagnostic over the input under its name, in plain characters: what the programs `draw` and
-/// `lint` write.
+/// The picture of a diagnostic over the input under its name, in plain characters, with lines cut at a limit, if there
+/// is one: what the programs `draw` and `lint` write.
 ///
 /// # Errors
 /// Where no memory is found. The source always reads, so nothing else is refused.
@@ -61,8 +78,9 @@ pub(crate) fn picture_over(
     name: &str,
     diagnostic: MietteDiagnostic,
     input: Vec<u8>,
+    limit: Option<usize>,
 ) -> Result<String, RenderError>
-    ensures ok { IfOk result (λ text. IsPicture (over_input name.now (meaning_of diagnostic) input.items)
+    ensures ok { IfOk result (λ text. IsPicture limit (over_input name.now (meaning_of diagnostic) input.items)
         (string_bytes text)) }
     ensures accepted { ¬ (result ≡ Err RenderError.Refused) }
 {
@@ -70,7 +88,7 @@ pub(crate) fn picture_over(
         Ok(report) => report,
         Err(_) => return Err(RenderError::Memory),
     };
-    draw(alloc, &report)
+    draw(alloc, &report, limit)
 }
 
 /// The brief rows of a diagnostic over the input under its name.
@@ -84,7 +102,7 @@ pub(crate) fn rows_over(
     input: Vec<u8>,
 ) -> Result<String, RenderError>
     ensures { IfOk result (λ text. string_bytes text
-        ≡ brief default_settings (over_input name.now (meaning_of diagnostic) input.items) unlisted) }
+        ≡ brief brief_settings (over_input name.now (meaning_of diagnostic) input.items) unlisted) }
 {
     let report: Report = match report(alloc, name, diagnostic, input) {
         Ok(report) => report,

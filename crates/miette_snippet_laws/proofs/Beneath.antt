@@ -7,7 +7,6 @@ use Rattle.std.specs.List.{AllByRecursion, range_with_len}
 use Rattle.miette_page.specs.rules.Rows.{Piece, Run, Row, pieces_of, columns_of, code_at, code_piece, styled_run}
 use Rattle.miette_style.specs.rules.Styles.{plain}
 use Rattle.miette_newlines.specs.rules.Lines.{Line}
-use Rattle.miette_snippets.specs.rules.PrintedCells.{line_runs}
 use Rattle.miette_lines.specs.rules.Cells.{Cell}
 use Rattle.miette_lines.specs.rules.Answers.{Highlight}
 use Rattle.miette_lines.specs.rules.Labels.{DrawnLabel, starts_on, ends_on, one_line, multi_line, closing_labels}
@@ -15,10 +14,11 @@ use Rattle.miette_snippets.specs.rules.Marks.{Mark, AreApart}
 use Rattle.miette_snippets.specs.rules.Drawing.{IsNarrow, blank, mark_runs, rows_below, marked_rows}
 use Rattle.miette_snippets.specs.rules.Gutters.{most_labels, gutter_columns, number_gutter, other_gutter, closing_rows, ending_corner, arrow}
 use Rattle.miette_snippets.specs.rules.Frames.{SnippetSettings, other_start, number_start}
-use Rattle.miette_snippets.specs.rules.SnippetLayout.{line_rows, before_each, text_of_cells}
-use Rattle.miette_snippet_laws.specs.laws.Pictures.{mark_at, marks_end, Hangs, AreMarked, ShowMarks, marks_of_line, text_start, HasText}
+use Rattle.miette_snippets.specs.rules.SnippetLayout.{line_rows, before_each, line_marks, text_of_cells}
+use Rattle.miette_snippet_laws.specs.laws.Pictures.{mark_at, marks_end, Hangs, AreMarked, ShowMarks, marks_of_line, text_of_line, text_start, HasText}
 use Rattle.miette_lines.proofs.Numbers.{by_cases}
 use Rattle.miette_snippet_laws.proofs.Apart.{marks_apart}
+use Rattle.miette_snippets.proofs.CutColumns.{AreColumns, shown_apart}
 use Rattle.miette_snippet_laws.proofs.Columns.{columns_of-append, code_at-append}
 use Rattle.miette_snippet_laws.proofs.UnstyledRows.{mark_row, plain_below}
 use Rattle.miette_snippet_laws.proofs.Hanging.{mark_row-at, plain_hang, all_beside, all_more}
@@ -97,14 +97,14 @@ shown s n prefix number more [] apart = tt
 shown s n prefix number more (m ∷ ms) apart = marked s n prefix more (m ∷ ms) apart
 
 -- each text of the labels that lie on a line alone hangs in the line's rows
-pub line_shows : (s : SnippetSettings) (w columns : ℕ) (labels : List DrawnLabel) (line : Line) (number : ℕ) (cells : List Cell) (pieces : List Highlight) → IsNarrow s.width s.characters → HasRoom labels line columns →
-    ShowMarks s (text_start w columns) (marks_of_line labels line cells) (line_rows s w columns labels line number cells pieces)
-line_shows s w columns labels line number cells pieces n room =
-    subst (λ (start : ℕ). ShowMarks s start (marks_of_line labels line cells) (line_rows s w columns labels line number cells pieces)) (other-columns s w columns labels line n room)
+pub line_shows : (s : SnippetSettings) (w columns : ℕ) (labels : List DrawnLabel) (line : Line) (number : ℕ) (cells : List Cell) (pieces : List Highlight) → IsNarrow s.width s.characters → HasRoom labels line columns → AreColumns 0 cells →
+    ShowMarks s (text_start w columns) (marks_of_line s labels line cells) (line_rows s w columns labels line number cells pieces)
+line_shows s w columns labels line number cells pieces n room whole =
+    subst (λ (start : ℕ). ShowMarks s start (marks_of_line s labels line cells) (line_rows s w columns labels line number cells pieces)) (other-columns s w columns labels line n room)
     (shown s n (other_start s w ++ other_gutter s.width s.characters line columns (multi_line line labels))
-    (number_start s w number ++ number_gutter s.width s.characters line columns (multi_line line labels) ++ line_runs pieces cells)
+    (number_start s w number ++ number_gutter s.width s.characters line columns (multi_line line labels) ++ text_of_line s labels line cells pieces)
     (before_each (other_start s w) (closing_rows s.width s.characters line columns (multi_line line labels) (closing_labels line (multi_line line labels))))
-    (marks_of_line labels line cells) (marks_apart (text_of_cells cells line.text_end) (one_line line labels)))
+    (marks_of_line s labels line cells) (shown_apart s.line_columns (line_marks line cells (one_line line labels)) cells whole (marks_apart (text_of_cells cells line.text_end) (one_line line labels))))
 
 -- the gutters of a snippet have room on each of its lines
 wider : (labels : List DrawnLabel) (a b : ℕ) (lines : List Line) → a ≤ b → AllByRecursion (λ line. length (multi_line line labels) ≤ a) lines → AllByRecursion (λ line. length (multi_line line labels) ≤ b) lines
@@ -181,11 +181,11 @@ number_gutter-columns width t n line left (label ∷ labels) h =
 
 -- the text of a number row begins where the marks' columns do
 pub line_begins : (s : SnippetSettings) (w columns : ℕ) (labels : List DrawnLabel) (line : Line) (number : ℕ) (cells : List Cell) (pieces : List Highlight) → IsNarrow s.width s.characters → HasRoom labels line columns →
-    length (decimal number) ≤ w → HasText (text_start w columns) (line_runs pieces cells) (line_rows s w columns labels line number cells pieces)
+    length (decimal number) ≤ w → HasText (text_start w columns) (text_of_line s labels line cells pieces) (line_rows s w columns labels line number cells pieces)
 line_begins s w columns labels line number cells pieces n room fits =
     let start : Row = number_start s w number in
     let gutter : Row = number_gutter s.width s.characters line columns (multi_line line labels) in
-    let text : Row = line_runs pieces cells in (
+    let text : Row = text_of_line s labels line cells pieces in (
       pieces_of start ++ pieces_of gutter,
       pieces_of-append (start ++ gutter) text ∙ ap (λ r. r ++ pieces_of text) (pieces_of-append start gutter),
       columns_of-append (pieces_of start) (pieces_of gutter) ∙ omega (arith, number_start-columns s w number n fits, number_gutter-columns s.width s.characters n line columns (multi_line line labels) room),

@@ -8,7 +8,7 @@ use Rattle.std.specs.Prelude.{nat_le}
 use Rattle.miette_snippet_laws.specs.laws.Clean.{IsClean, IsCleanText, IsCleanLabel}
 use Rattle.miette_snippets.specs.rules.Gutters.{most_labels, gutter_columns}
 use Rattle.miette_lines.specs.rules.Labels.{DrawnLabel, parts_of, drawn_label, drawn_from, multi_line, is_multi_line}
-use Rattle.miette_snippets.specs.rules.Marks.{Text, Mark, marks_from, marks, mark_from, mark_until}
+use Rattle.miette_snippets.specs.rules.Marks.{Text, Mark, marks_from, marks, mark_from, mark_until, mark_anchor}
 use Rattle.miette_lines.specs.rules.Groups.{put_label, in_order}
 use Rattle.miette_snippet_laws.proofs.CleanTexts.{clean_parts}
 use Rattle.miette_lines.proofs.Numbers.{by_cases}
@@ -35,7 +35,7 @@ all_filter Q p (x ∷ xs) h = all_if Q (p x) (x ∷ filter p xs) (filter p xs) (
 marks_from-bleached : (text : Text) (reached : ℕ) (labels : List DrawnLabel) → marks_from text reached (map bleached labels) ≡ map bleached_mark (marks_from text reached labels)
 marks_from-bleached text reached [] = refl
 marks_from-bleached text reached (label ∷ labels) =
-    let mark : Mark = record { from = mark_from text reached label; until = mark_until text reached label; label = label } in
+    let mark : Mark = record { from = mark_from text reached label; until = mark_until text reached label; anchor = mark_anchor text reached label; label = label } in
     ap (λ r. bleached_mark mark ∷ r) (marks_from-bleached text (mark_until text reached label) labels)
 
 pub marks_bleached : (text : Text) (labels : List DrawnLabel) → marks text (map bleached labels) ≡ map bleached_mark (marks text labels)

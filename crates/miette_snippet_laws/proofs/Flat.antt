@@ -4,11 +4,10 @@ use Rattle.std.proofs.lemmas.Bool.{lt-ltb, le-ltb, le-leb, lt-leb, and_right, ne
 use Rattle.std.proofs.lemmas.List.{map-append}
 use Rattle.std.specs.List.{range_with_len}
 use Rattle.miette_page.specs.rules.Rows.{Piece, Row, pieces_of, code_piece, styled_run}
-use Rattle.miette_snippets.specs.rules.Marks.{Mark, anchor, AreApart}
+use Rattle.miette_snippets.specs.rules.Marks.{Mark, AreApart}
 use Rattle.miette_snippets.specs.rules.Drawing.{mark_code, mark_runs, lead_runs, text_row, corner, corner_of_several, beside, rows_of_parts, rows_below}
 use Rattle.miette_snippet_laws.specs.laws.Pictures.{mark_at, marks_end}
 use Rattle.miette_snippets.proofs.Numbers.{range_with_len-append}
-use Rattle.miette_snippet_laws.proofs.Apart.{anchor-within}
 use Rattle.miette_snippet_laws.proofs.UnstyledRows.{lead_at, lead, corner_pieces, beside_pieces, plain_parts, plain_below}
 use Rattle.miette_style.specs.rules.Themes.{Characters}
 
@@ -35,11 +34,11 @@ mark-before : (width : ℕ → ℕ) (t : Characters) (reached column : ℕ) (ms 
 mark-before width t reached column [] h lt = refl
 mark-before width t reached column (m ∷ ms) h lt =
     let no : leb m.from column ≡ false = lt-leb m.from column (omega (arith, h.0)) in
-    rw no (mark-before width t m.until column ms h.2 (omega (arith, h.0, h.1)))
+    rw no (mark-before width t m.until column ms h.2 (omega (arith, h.0, h.1.0, h.1.1)))
 
 pub marks_end-ge : (reached : ℕ) (ms : List Mark) → AreApart reached ms → reached ≤ marks_end reached ms
 marks_end-ge reached [] h = omega arith
-marks_end-ge reached (m ∷ ms) h = omega (arith, h.0, h.1, marks_end-ge m.until ms h.2)
+marks_end-ge reached (m ∷ ms) h = omega (arith, h.0, h.1.0, h.1.1, marks_end-ge m.until ms h.2)
 
 pub flat_marks : (width : ℕ → ℕ) (t : Characters) (reached : ℕ) (ms : List Mark) → AreApart reached ms →
     pieces_of (mark_runs width t reached ms) ≡ map (mark_at width t ms) (range_with_len reached (marks_end reached ms - reached))
@@ -53,12 +52,12 @@ flat_marks width t reached (m ∷ ms) h =
     let b : ℕ = m.until - m.from in
     let c : ℕ = end - m.until in
     let from_is : reached + a ≡ m.from = omega (arith, h.0) in
-    let until_is : m.from + b ≡ m.until = omega (arith, h.1) in
-    let whole : end - reached ≡ a + (b + c) = omega (arith, h.0, h.1) in
+    let until_is : m.from + b ≡ m.until = omega (arith, h.1.0, h.1.1) in
+    let whole : end - reached ≡ a + (b + c) = omega (arith, h.0, h.1.0, h.1.1) in
     let gap : map f (range_with_len reached a) ≡ replicate a (code_piece width 32) = map-one f (code_piece width 32) reached a (λ k l u.
-    let no : leb m.from k ≡ false = lt-leb m.from k (omega (arith, h.0)) in rw no (mark-before width t m.until k ms h.2 (omega (arith, h.0, h.1)))) in
+    let no : leb m.from k ≡ false = lt-leb m.from k (omega (arith, h.0)) in rw no (mark-before width t m.until k ms h.2 (omega (arith, h.0, h.1.0, h.1.1)))) in
     let mine : map f (range_with_len m.from b) ≡ map own (range_with_len m.from b) = map-same f own m.from b (λ k l u.
-    let is : leb m.from k ≡ true = le-leb m.from k l in let is' : ltb k m.until ≡ true = lt-ltb k m.until (omega (arith, h.1)) in rw (is, is') refl) in
+    let is : leb m.from k ≡ true = le-leb m.from k l in let is' : ltb k m.until ≡ true = lt-ltb k m.until (omega (arith, h.1.0, h.1.1)) in rw (is, is') refl) in
     let rest : map f (range_with_len m.until c) ≡ map (mark_at width t ms) (range_with_len m.until c) = map-same f (mark_at width t ms) m.until c (λ k l u.
     let no : (leb m.from k && ltb k m.until) ≡ false = and_right (leb m.from k) (ltb k m.until) (le-ltb k m.until l) in rw no refl) in
     sym (ap (λ n. map f (range_with_len reached n)) whole ∙ three f reached a b c
@@ -71,17 +70,17 @@ flat_marks width t reached (m ∷ ms) h =
 -- anchors one behind the other, before a column
 abbrev pub AreAnchored : ℕ → List Mark → ℕ → Type 0
 AreAnchored reached [] column = reached ≤ column
-AreAnchored reached (m ∷ ms) column = (reached ≤ anchor m) × AreAnchored (anchor m + 1) ms column
+AreAnchored reached (m ∷ ms) column = (reached ≤ m.anchor) × AreAnchored (m.anchor + 1) ms column
 
 anchored-ge : (reached column : ℕ) (ms : List Mark) → AreAnchored reached ms column → reached ≤ column
 anchored-ge reached column [] h = h
-anchored-ge reached column (m ∷ ms) h = omega (arith, h.0, anchored-ge (anchor m + 1) column ms h.1)
+anchored-ge reached column (m ∷ ms) h = omega (arith, h.0, anchored-ge (m.anchor + 1) column ms h.1)
 
 lead-before : (width : ℕ → ℕ) (t : Characters) (reached column k : ℕ) (ms : List Mark) → AreAnchored reached ms column → k < reached → lead_at width t ms k ≡ code_piece width 32
 lead-before width t reached column k [] h lt = refl
 lead-before width t reached column k (m ∷ ms) h lt =
-    let no : eqb k (anchor m) ≡ false = ne_eqb k (anchor m) (λ e. omega (arith, h.0, e)) in
-    rw no (lead-before width t (anchor m + 1) column k ms h.1 (omega (arith, h.0)))
+    let no : eqb k m.anchor ≡ false = ne_eqb k m.anchor (λ e. omega (arith, h.0, e)) in
+    rw no (lead-before width t (m.anchor + 1) column k ms h.1 (omega (arith, h.0)))
 
 pub flat_lead : (width : ℕ → ℕ) (t : Characters) (reached column : ℕ) (ms : List Mark) → AreAnchored reached ms column →
     pieces_of (lead_runs width t reached ms column) ≡ map (lead_at width t ms) (range_with_len reached (column - reached))
@@ -89,7 +88,7 @@ flat_lead width t reached column [] h =
     append-nil (replicate (column - reached) (code_piece width 32)) ∙ sym (map-one (lead_at width t []) (code_piece width 32) reached (column - reached) (λ k l u. refl))
 flat_lead width t reached column (m ∷ ms) h =
     let f : ℕ → Piece = lead_at width t (m ∷ ms) in
-    let at : ℕ = anchor m in
+    let at : ℕ = m.anchor in
     let ge : at + 1 ≤ column = anchored-ge (at + 1) column ms h.1 in
     let a : ℕ = at - reached in
     let c : ℕ = column - (at + 1) in
@@ -111,27 +110,27 @@ apart-weaker : (a b : ℕ) (ms : List Mark) → b ≤ a → AreApart a ms → Ar
 apart-weaker a b [] le h = tt
 apart-weaker a b (m ∷ ms) le h = (omega (arith, h.0), h.1, h.2)
 
-pub anchored : (reached : ℕ) (earlier : List Mark) (m : Mark) (later : List Mark) → AreApart reached (earlier ++ m ∷ later) → AreAnchored reached earlier (anchor m)
-anchored reached [] m later h = omega (arith, h.0, (anchor-within m h.1).0)
+pub anchored : (reached : ℕ) (earlier : List Mark) (m : Mark) (later : List Mark) → AreApart reached (earlier ++ m ∷ later) → AreAnchored reached earlier m.anchor
+anchored reached [] m later h = omega (arith, h.0, h.1.0)
 anchored reached (e ∷ earlier) m later h = (
-  omega (arith, h.0, (anchor-within e h.1).0),
-  anchored (anchor e + 1) earlier m later (apart-weaker e.until (anchor e + 1) (earlier ++ m ∷ later) (omega (arith, (anchor-within e h.1).1)) h.2),
+  omega (arith, h.0, h.1.0),
+  anchored (e.anchor + 1) earlier m later (apart-weaker e.until (e.anchor + 1) (earlier ++ m ∷ later) (omega (arith, h.1.1)) h.2),
 )
 
-flat_text : (width : ℕ → ℕ) (t : Characters) (earlier : List Mark) (mark : Mark) (front part : List ℕ) → AreAnchored 0 earlier (anchor mark) →
+flat_text : (width : ℕ → ℕ) (t : Characters) (earlier : List Mark) (mark : Mark) (front part : List ℕ) → AreAnchored 0 earlier mark.anchor →
     pieces_of (text_row width t earlier mark front part) ≡ lead width t earlier mark ++ map (code_piece width) (front ++ part)
 flat_text width t earlier mark front part h =
-    let z : anchor mark - 0 ≡ anchor mark = omega arith in
-    pieces_of-append (lead_runs width t 0 earlier (anchor mark)) (styled_run width mark.label.style (front ++ part) ∷ [])
-    ∙ ap (λ r. pieces_of (lead_runs width t 0 earlier (anchor mark)) ++ r) (append-nil (map (code_piece width) (front ++ part)))
-    ∙ ap (λ r. r ++ map (code_piece width) (front ++ part)) (flat_lead width t 0 (anchor mark) earlier h ∙ ap (λ n. map (lead_at width t earlier) (range_with_len 0 n)) z)
+    let z : mark.anchor - 0 ≡ mark.anchor = omega arith in
+    pieces_of-append (lead_runs width t 0 earlier mark.anchor) (styled_run width mark.label.style (front ++ part) ∷ [])
+    ∙ ap (λ r. pieces_of (lead_runs width t 0 earlier mark.anchor) ++ r) (append-nil (map (code_piece width) (front ++ part)))
+    ∙ ap (λ r. r ++ map (code_piece width) (front ++ part)) (flat_lead width t 0 mark.anchor earlier h ∙ ap (λ n. map (lead_at width t earlier) (range_with_len 0 n)) z)
 
-flat_rest : (width : ℕ → ℕ) (t : Characters) (earlier : List Mark) (mark : Mark) (parts : List (List ℕ)) → AreAnchored 0 earlier (anchor mark) →
+flat_rest : (width : ℕ → ℕ) (t : Characters) (earlier : List Mark) (mark : Mark) (parts : List (List ℕ)) → AreAnchored 0 earlier mark.anchor →
     map pieces_of (map (text_row width t earlier mark (beside t)) parts) ≡ map (λ p. lead width t earlier mark ++ (beside_pieces width t ++ map (code_piece width) p)) parts
 flat_rest width t earlier mark [] h = refl
 flat_rest width t earlier mark (part ∷ parts) h = ap (λ r. r ∷ map pieces_of (map (text_row width t earlier mark (beside t)) parts)) (flat_text width t earlier mark (beside t) part h) ∙ ap (λ r. (lead width t earlier mark ++ (beside_pieces width t ++ map (code_piece width) part)) ∷ r) (flat_rest width t earlier mark parts h)
 
-flat_parts : (width : ℕ → ℕ) (t : Characters) (earlier : List Mark) (mark : Mark) (parts : List (List ℕ)) → AreAnchored 0 earlier (anchor mark) →
+flat_parts : (width : ℕ → ℕ) (t : Characters) (earlier : List Mark) (mark : Mark) (parts : List (List ℕ)) → AreAnchored 0 earlier mark.anchor →
     map pieces_of (rows_of_parts width t earlier mark parts) ≡ plain_parts width t earlier mark parts
 flat_parts width t earlier mark [] h = refl
 flat_parts width t earlier mark (part ∷ []) h = ap (λ r. r ∷ []) (flat_text width t earlier mark (corner t) part h)

@@ -4,12 +4,11 @@ use Rattle.std.proofs.lemmas.Bool.{eq-eqb, or_right}
 use Rattle.std.specs.List.{AllByRecursion, list_any}
 use Rattle.miette_page.specs.rules.Rows.{Piece, code_piece, code_at, columns_of, Begins}
 use Rattle.miette_lines.specs.rules.Labels.{is_empty}
-use Rattle.miette_snippets.specs.rules.Marks.{Mark, anchor, AreApart}
+use Rattle.miette_snippets.specs.rules.Marks.{Mark, AreApart}
 use Rattle.miette_snippets.specs.rules.Drawing.{IsNarrow, code_with_parts, mark_code}
 use Rattle.miette_snippet_laws.specs.laws.Pictures.{mark_at, marks_end, HangsFrom, PartHangs, Hangs}
 use Rattle.miette_snippet_laws.proofs.UnstyledRows.{mark_row, lead_at, lead, corner_pieces, beside_pieces, plain_parts, plain_below}
 use Rattle.miette_lines.proofs.Numbers.{by_cases}
-use Rattle.miette_snippet_laws.proofs.Apart.{anchor-within}
 use Rattle.miette_snippet_laws.proofs.Columns.{code_at-here, code_at-front, code_at-behind, columns_of-map, columns_of-append, code_at-append}
 use Rattle.miette_style.specs.rules.Themes.{Characters}
 
@@ -21,7 +20,7 @@ code-narrow width t n (part ∷ parts) = n.underbar
 
 mark-narrow : (width : ℕ → ℕ) (t : Characters) (n : IsNarrow width t) (mark : Mark) (column : ℕ) → width (mark_code t mark column) ≡ 1
 mark-narrow width t n mark column =
-    by_cases {C = width (mark_code t mark column) ≡ 1} (eqb column (anchor mark))
+    by_cases {C = width (mark_code t mark column) ≡ 1} (eqb column mark.anchor)
     (λ a. by_cases {C = width (mark_code t mark column) ≡ 1} (is_empty mark.label)
     (λ b. rw (a, b) n.uarrow) (λ b. rw (a, b) (code-narrow width t n mark.label.parts)))
     (λ a. rw a n.underline)
@@ -35,7 +34,7 @@ mark_at-narrow width t n (m ∷ ms) column =
 lead_at-narrow : (width : ℕ → ℕ) (t : Characters) (n : IsNarrow width t) (ms : List Mark) (column : ℕ) → (lead_at width t ms column).columns ≡ 1
 lead_at-narrow width t n [] column = n.space
 lead_at-narrow width t n (m ∷ ms) column =
-    by_cases {C = (lead_at width t (m ∷ ms) column).columns ≡ 1} (eqb column (anchor m))
+    by_cases {C = (lead_at width t (m ∷ ms) column).columns ≡ 1} (eqb column m.anchor)
     (λ a. rw a n.vbar) (λ a. rw a (lead_at-narrow width t n ms column))
 
 -- the mark row's picture
@@ -48,32 +47,32 @@ mark_row-at width t n ms column lt =
 -- earlier marks have their vbar
 
 abbrev has_anchor : ℕ → List Mark → Bool
-has_anchor column ms = list_any (λ m. eqb column (anchor m)) ms
+has_anchor column ms = list_any (λ m. eqb column m.anchor) ms
 
 lead-bar : (width : ℕ → ℕ) (t : Characters) (ms : List Mark) (column : ℕ) → has_anchor column ms ≡ true → (lead_at width t ms column).code ≡ t.vbar
 lead-bar width t [] column h = cc
 lead-bar width t (m ∷ ms) column h =
-    by_cases {C = (lead_at width t (m ∷ ms) column).code ≡ t.vbar} (eqb column (anchor m))
+    by_cases {C = (lead_at width t (m ∷ ms) column).code ≡ t.vbar} (eqb column m.anchor)
     (λ a. rw a refl) (λ a. rw a (lead-bar width t ms column (rw a at h)))
 
 -- a row that begins as those above a corner do has vbar there
-led : (width : ℕ → ℕ) (t : Characters) (n : IsNarrow width t) (earlier : List Mark) (mark : Mark) (column : ℕ) (rest : List Piece) → column < anchor mark → has_anchor column earlier ≡ true →
+led : (width : ℕ → ℕ) (t : Characters) (n : IsNarrow width t) (earlier : List Mark) (mark : Mark) (column : ℕ) (rest : List Piece) → column < mark.anchor → has_anchor column earlier ≡ true →
     code_at (lead width t earlier mark ++ rest) column ≡ Some t.vbar
 led width t n earlier mark column rest lt h =
-    code_at-front (lead_at width t earlier) 0 (anchor mark) column rest (lead_at-narrow width t n earlier) lt
+    code_at-front (lead_at width t earlier) 0 mark.anchor column rest (lead_at-narrow width t n earlier) lt
     ∙ ap (λ k. Some (lead_at width t earlier k).code) (omega arith)
     ∙ ap Some (lead-bar width t earlier column h)
 
 abbrev HasBar : Characters → ℕ → List Piece → Type 0
 HasBar t column row = code_at row column ≡ Some t.vbar
 
-bars_of_rest : (width : ℕ → ℕ) (t : Characters) (n : IsNarrow width t) (earlier : List Mark) (mark : Mark) (column : ℕ) (parts : List (List ℕ)) → column < anchor mark → has_anchor column earlier ≡ true →
+bars_of_rest : (width : ℕ → ℕ) (t : Characters) (n : IsNarrow width t) (earlier : List Mark) (mark : Mark) (column : ℕ) (parts : List (List ℕ)) → column < mark.anchor → has_anchor column earlier ≡ true →
     AllByRecursion (HasBar t column) (map (λ p. lead width t earlier mark ++ (beside_pieces width t ++ map (code_piece width) p)) parts)
 bars_of_rest width t n earlier mark column [] lt h = tt
 bars_of_rest width t n earlier mark column (part ∷ parts) lt h =
     (led width t n earlier mark column (beside_pieces width t ++ map (code_piece width) part) lt h, bars_of_rest width t n earlier mark column parts lt h)
 
-bars_of_parts : (width : ℕ → ℕ) (t : Characters) (n : IsNarrow width t) (earlier : List Mark) (mark : Mark) (column : ℕ) (parts : List (List ℕ)) → column < anchor mark → has_anchor column earlier ≡ true →
+bars_of_parts : (width : ℕ → ℕ) (t : Characters) (n : IsNarrow width t) (earlier : List Mark) (mark : Mark) (column : ℕ) (parts : List (List ℕ)) → column < mark.anchor → has_anchor column earlier ≡ true →
     AllByRecursion (HasBar t column) (plain_parts width t earlier mark parts)
 bars_of_parts width t n earlier mark column [] lt h = tt
 bars_of_parts width t n earlier mark column (part ∷ []) lt h = (led width t n earlier mark column (corner_pieces width t t.hbar ++ map (code_piece width) part) lt h, tt)
@@ -98,8 +97,8 @@ bars_below : (width : ℕ → ℕ) (t : Characters) (n : IsNarrow width t) (earl
 bars_below width t n earlier [] reached column h lt has = tt
 bars_below width t n earlier (m ∷ ms) reached column h lt has =
     all_append (HasBar t column) (plain_below width t (earlier ++ m ∷ []) ms) (plain_parts width t earlier m m.label.parts)
-    (bars_below width t n (earlier ++ m ∷ []) ms m.until column h.2 (omega (arith, h.0, h.1)) (any_append_left (λ k. eqb column (anchor k)) earlier (m ∷ []) has))
-    (bars_of_parts width t n earlier m column m.label.parts (omega (arith, h.0, (anchor-within m h.1).0)) has)
+    (bars_below width t n (earlier ++ m ∷ []) ms m.until column h.2 (omega (arith, h.0, h.1.0, h.1.1)) (any_append_left (λ k. eqb column k.anchor) earlier (m ∷ []) has))
+    (bars_of_parts width t n earlier m column m.label.parts (omega (arith, h.0, h.1.0)) has)
 
 -- hanging under rows that have vbar, and with more rows below
 hang_under : (t : Characters) (column : ℕ) (part : List Piece) (above rows : List (List Piece)) → AllByRecursion (HasBar t column) above → HangsFrom t column part rows → HangsFrom t column part (above ++ rows)
@@ -113,33 +112,33 @@ hang_more t column part (row ∷ rows) more h =
 
 -- a row with a corner, and the text behind it
 cornered : (width : ℕ → ℕ) (t : Characters) (n : IsNarrow width t) (earlier : List Mark) (mark : Mark) (p q r s : Piece) (part : List Piece) → p.code ≡ t.lbot → p.columns ≡ 1 → q.columns ≡ 1 → r.columns ≡ 1 → s.columns ≡ 1 →
-    (code_at (lead width t earlier mark ++ ((p ∷ q ∷ r ∷ s ∷ []) ++ part)) (anchor mark) ≡ Some t.lbot)
-    × Begins (lead width t earlier mark ++ ((p ∷ q ∷ r ∷ s ∷ []) ++ part)) (anchor mark + 4) part
+    (code_at (lead width t earlier mark ++ ((p ∷ q ∷ r ∷ s ∷ []) ++ part)) mark.anchor ≡ Some t.lbot)
+    × Begins (lead width t earlier mark ++ ((p ∷ q ∷ r ∷ s ∷ []) ++ part)) (mark.anchor + 4) part
 cornered width t n earlier mark p q r s part is a b c d = (
   ap (code_at (lead width t earlier mark ++ ((p ∷ q ∷ r ∷ s ∷ []) ++ part))) (omega arith)
-      ∙ code_at-behind (lead_at width t earlier) 0 (anchor mark) 0 ((p ∷ q ∷ r ∷ s ∷ []) ++ part) (lead_at-narrow width t n earlier)
+      ∙ code_at-behind (lead_at width t earlier) 0 mark.anchor 0 ((p ∷ q ∷ r ∷ s ∷ []) ++ part) (lead_at-narrow width t n earlier)
       ∙ code_at-here p ((q ∷ r ∷ s ∷ []) ++ part) a
       ∙ ap Some is,
   (
     lead width t earlier mark ++ (p ∷ q ∷ r ∷ s ∷ []),
     sym (append_assoc (lead width t earlier mark) (p ∷ q ∷ r ∷ s ∷ []) part),
-    columns_of-append (lead width t earlier mark) (p ∷ q ∷ r ∷ s ∷ []) ∙ omega (arith, columns_of-map (lead_at width t earlier) 0 (anchor mark) (lead_at-narrow width t n earlier)),
+    columns_of-append (lead width t earlier mark) (p ∷ q ∷ r ∷ s ∷ []) ∙ omega (arith, columns_of-map (lead_at width t earlier) 0 mark.anchor (lead_at-narrow width t n earlier)),
   ),
 )
 
 -- a mark's first part hangs from its anchor at the top of its own rows
 own_rows : (width : ℕ → ℕ) (t : Characters) (n : IsNarrow width t) (earlier : List Mark) (mark : Mark) (part : List ℕ) (parts : List (List ℕ)) →
-    HangsFrom t (anchor mark) (map (code_piece width) part) (plain_parts width t earlier mark (part ∷ parts))
+    HangsFrom t mark.anchor (map (code_piece width) part) (plain_parts width t earlier mark (part ∷ parts))
 own_rows width t n earlier mark part [] =
     inl (cornered width t n earlier mark (code_piece width t.lbot) (code_piece width t.hbar) (code_piece width t.hbar) (code_piece width 32) (map (code_piece width) part) refl n.lbot n.hbar n.hbar n.space)
 own_rows width t n earlier mark part (next ∷ parts) =
     inl (cornered width t n earlier mark (code_piece width t.lbot) (code_piece width t.hbar) (code_piece width t.rcross) (code_piece width 32) (map (code_piece width) part) refl n.lbot n.hbar n.rcross n.space)
 
 hangs_at_top : (width : ℕ → ℕ) (t : Characters) (n : IsNarrow width t) (earlier : List Mark) (mark : Mark) (above : List (List Piece)) (parts : List (List ℕ)) →
-    AllByRecursion (HasBar t (anchor mark)) above → PartHangs width t (above ++ plain_parts width t earlier mark parts) (anchor mark) parts
+    AllByRecursion (HasBar t mark.anchor) above → PartHangs width t (above ++ plain_parts width t earlier mark parts) mark.anchor parts
 hangs_at_top width t n earlier mark above [] bars = tt
 hangs_at_top width t n earlier mark above (part ∷ parts) bars =
-    hang_under t (anchor mark) (map (code_piece width) part) above (plain_parts width t earlier mark (part ∷ parts)) bars (own_rows width t n earlier mark part parts)
+    hang_under t mark.anchor (map (code_piece width) part) above (plain_parts width t earlier mark (part ∷ parts)) bars (own_rows width t n earlier mark part parts)
 
 part_more : (width : ℕ → ℕ) (t : Characters) (rows more : List (List Piece)) (column : ℕ) (parts : List (List ℕ)) → PartHangs width t rows column parts → PartHangs width t (rows ++ more) column parts
 part_more width t rows more column [] h = tt
@@ -147,7 +146,7 @@ part_more width t rows more column (part ∷ parts) h = hang_more t column (map 
 
 pub all_more : (width : ℕ → ℕ) (t : Characters) (start : ℕ) (rows more : List (List Piece)) (ms : List Mark) → AllByRecursion (Hangs width t rows start) ms → AllByRecursion (Hangs width t (rows ++ more) start) ms
 all_more width t start rows more [] h = tt
-all_more width t start rows more (m ∷ ms) h = (part_more width t rows more (start + anchor m) m.label.parts h.0, all_more width t start rows more ms h.1)
+all_more width t start rows more (m ∷ ms) h = (part_more width t rows more (start + m.anchor) m.label.parts h.0, all_more width t start rows more ms h.1)
 
 part_at : (width : ℕ → ℕ) (t : Characters) (rows : List (List Piece)) (a b : ℕ) (parts : List (List ℕ)) → a ≡ b → PartHangs width t rows a parts → PartHangs width t rows b parts
 part_at width t rows a b parts e h = rw (← e) h
@@ -155,9 +154,9 @@ part_at width t rows a b parts e h = rw (← e) h
 hang_from : (width : ℕ → ℕ) (t : Characters) (n : IsNarrow width t) (earlier ms : List Mark) (reached : ℕ) → AreApart reached ms → AllByRecursion (Hangs width t (plain_below width t earlier ms) 0) ms
 hang_from width t n earlier [] reached h = tt
 hang_from width t n earlier (m ∷ ms) reached h = (
-  part_at width t (plain_below width t earlier (m ∷ ms)) (anchor m) (0 + anchor m) m.label.parts (omega arith)
+  part_at width t (plain_below width t earlier (m ∷ ms)) m.anchor (0 + m.anchor) m.label.parts (omega arith)
       (hangs_at_top width t n earlier m (plain_below width t (earlier ++ m ∷ []) ms) m.label.parts
-      (bars_below width t n (earlier ++ m ∷ []) ms m.until (anchor m) h.2 (anchor-within m h.1).1 (any_last (λ k. eqb (anchor m) (anchor k)) earlier m (eq-eqb (anchor m) (anchor m) refl)))),
+      (bars_below width t n (earlier ++ m ∷ []) ms m.until m.anchor h.2 h.1.1 (any_last (λ k. eqb m.anchor k.anchor) earlier m (eq-eqb m.anchor m.anchor refl)))),
   all_more width t 0 (plain_below width t (earlier ++ m ∷ []) ms) (plain_parts width t earlier m m.label.parts) ms (hang_from width t n (earlier ++ m ∷ []) ms m.until h.2),
 )
 
@@ -188,6 +187,6 @@ part_beside width t gutter rows column (part ∷ parts) h = hang_beside t gutter
 pub all_beside : (width : ℕ → ℕ) (t : Characters) (gutter : List Piece) (rows : List (List Piece)) (ms : List Mark) → AllByRecursion (Hangs width t rows 0) ms → AllByRecursion (Hangs width t (map (λ row. gutter ++ row) rows) (columns_of gutter)) ms
 all_beside width t gutter rows [] h = tt
 all_beside width t gutter rows (m ∷ ms) h = (
-  part_at width t (map (λ row. gutter ++ row) rows) (columns_of gutter + (0 + anchor m)) (columns_of gutter + anchor m) m.label.parts (omega arith) (part_beside width t gutter rows (0 + anchor m) m.label.parts h.0),
+  part_at width t (map (λ row. gutter ++ row) rows) (columns_of gutter + (0 + m.anchor)) (columns_of gutter + m.anchor) m.label.parts (omega arith) (part_beside width t gutter rows (0 + m.anchor) m.label.parts h.0),
   all_beside width t gutter rows ms h.1,
 )

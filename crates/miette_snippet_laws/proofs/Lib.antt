@@ -3,7 +3,12 @@ pub mod Belonging
 pub mod Beneath
 pub mod Bleaching
 pub mod CleanTexts
-pub mod Columns
+pub mod CutEnds
+pub mod CutFading
+pub mod CutLaws
+pub mod CutShowing
+pub mod CutWidth
+mod Columns
 pub mod MaximalRanges
 pub mod Ending
 pub mod Flat

@@ -6,7 +6,7 @@ use Rattle.miette_newlines.specs.rules.Lines.{Line}
 use Rattle.miette_protocol.specs.views.Meaning.{Label}
 use Rattle.miette_protocol.specs.rules.Reading.{Span, Source, Contents}
 use Rattle.miette_lines.specs.rules.Answers.{Answers, Highlight, next_answer, later_answers, first_of, later_of}
-use Rattle.miette_snippets.specs.rules.PrintedCells.{printed_cells, line_runs}
+use Rattle.miette_snippets.specs.rules.CutLines.{cut_line, shown_marks, shown_runs}
 use Rattle.miette_lines.specs.rules.Cells.{Cell, characters}
 use Rattle.miette_snippet_laws.specs.laws.Clean.{IsClean, IsCleanText, IsCleanRow, IsCleanLabel, IsCleanSource, AreCleanDrawings}
 use Rattle.miette_lines.specs.rules.Contexts.{contents, lines_of_contents, is_accepted}
@@ -17,13 +17,14 @@ use Rattle.miette_snippets.specs.rules.Frames.{SnippetSettings, Place, text_or_n
 use Rattle.miette_lines.specs.rules.Groups.{Refusal, refusal, in_order, groups_of, some_fails, groups_fail}
 use Rattle.miette_snippets.specs.rules.Gutters.{number_gutter, other_gutter, break_gutter, closing_rows, gutter_columns}
 use Rattle.miette_lines.specs.rules.Labels.{DrawnLabel, some_shows_end, one_line, multi_line, closing_labels, is_one_line, is_multi_line, ends_on, starts_on}
-use Rattle.miette_snippets.specs.rules.SnippetLayout.{text_of_cells, cells_of, before_each, line_rows_of, line_rows, break_row, line_or_break, rows_of_lines, left_out, body_rows, place_of, drawn_labels, snippet, all_snippets, settings_around, rows_unless, snippet_rows}
+use Rattle.miette_snippets.specs.rules.SnippetLayout.{text_of_cells, cells_of, before_each, line_rows_of, line_rows, break_row, line_or_break, rows_of_lines, left_out, body_rows, place_of, drawn_labels, snippet, all_snippets, settings_around, rows_unless, snippet_rows, line_cut}
 use Rattle.miette_snippets.specs.rules.Marks.{marks}
 use Rattle.miette_page.specs.rules.Rows.{Run, Row, pieces_of, plain_run}
 use Rattle.miette_style.specs.rules.Styles.{plain}
 use Rattle.miette_snippet_laws.proofs.Bleaching.{filter_bleached, all_filter, marks_bleached, marks_clean, gutter_bleached, drawn_bleached, drawn_clean, ordered_clean}
-use Rattle.miette_snippet_laws.proofs.CleanTexts.{AreCleanCells, clean_cons, clean_append, clean_replicate, clean_if, clean_range, clean_decimal, clean_characters, clean_cells, clean_line, line_same}
-use Rattle.miette_snippet_laws.proofs.Paling.{bleached, HasCleanParts, PaleRow, PaleRows, pale_nil, pale_cons, pale_append, pale_if, rows_nil, rows_cons, rows_append, pale_styled, pale_blank, pale_number_gutter, pale_other_gutter, pale_break_gutter, pale_closing_rows, pale_marked, all_append}
+use Rattle.miette_snippet_laws.proofs.CleanTexts.{AreCleanCells, clean_cons, clean_append, clean_replicate, clean_if, clean_range, clean_decimal, clean_characters, clean_cells}
+use Rattle.miette_snippet_laws.proofs.Paling.{bleached, HasCleanParts, PaleRow, PaleRows, pale_nil, pale_cons, pale_append, pale_if, rows_nil, rows_cons, rows_append, pale_styled, pale_blank, pale_number_gutter, pale_other_gutter, pale_break_gutter, pale_closing_rows, pale_marked, all_append, bleached_mark}
+use Rattle.miette_snippet_laws.proofs.CutFading.{cut_bleached, cut_clean, pale_shown, shown_bleached, shown_clean}
 use Rattle.miette_snippet_laws.proofs.Flat.{pieces_of-append}
 
 before_all : (Q : Run → Type 0) (front : Row) (rows : List Row) → AllByRecursion Q front → AllByRecursion (AllByRecursion Q) rows → AllByRecursion (AllByRecursion Q) (before_each front rows)
@@ -97,9 +98,6 @@ module _ (P : Type 0) (s : SnippetSettings) (clean : P → AreCleanDrawings s.ch
 
   -- ---- the rows of a line
 
-  pale_line : (pieces : List Highlight) (cells : List Cell) → (P → AreCleanCells cells) → PaleRow P (line_runs [] cells) (line_runs pieces cells)
-  pale_line pieces cells h = record { plain = (refl, tt); same = append-nil (printed_cells cells) ∙ sym (line_same pieces cells); clean = λ p. clean_line pieces cells (h p) }
-
   pale_before : {x y : Row} (xs ys : List Row) → PaleRow P x y → PaleRows P xs ys → PaleRows P (before_each x xs) (before_each y ys)
   pale_before {x} {y} xs ys h k = record {
     plain = before_all (λ run. run.style ≡ plain) x xs h.plain k.plain;
@@ -114,20 +112,28 @@ module _ (P : Type 0) (s : SnippetSettings) (clean : P → AreCleanDrawings s.ch
       let t = s.characters in
       let text = text_of_cells cells line.text_end in
       let found = marks text one in
+      let pale_found = marks text (map bleached one) in
+      let cut = line_cut s line cells one in
+      let pale_cut_is : line_cut s line cells (map bleached one) ≡ cut = ap (λ ms. cut_line s.line_columns ms cells) (marks_bleached text one) ∙ cut_bleached s.line_columns found cells in
+      let pale_text : PaleRow P (shown_runs (line_cut s line cells (map bleached one)) [] cells) (shown_runs cut pieces cells) =
+      subst (λ o. PaleRow P (shown_runs o [] cells) (shown_runs cut pieces cells)) (sym pale_cut_is) (pale_shown P cut pieces cells j (λ p. cut_clean s.line_columns found cells (j p))) in
+      let shown_pale : shown_marks (line_cut s line cells (map bleached one)) pale_found ≡ map bleached_mark (shown_marks cut found) =
+      ap₂ shown_marks pale_cut_is (marks_bleached text one) ∙ shown_bleached cut found in
       let numbers = pale_number_gutter P s.width t clean line columns multi in
       let others = pale_other_gutter P s.width t clean line columns multi in
       let start = pale_append P (number_start (colourless s) w number) (number_start s w number) (number_gutter s.width t line columns (map bleached multi)) (number_gutter s.width t line columns multi) (pale_number_start w number) numbers in
-      let first = pale_append P (number_start (colourless s) w number ++ number_gutter s.width t line columns (map bleached multi)) (number_start s w number ++ number_gutter s.width t line columns multi) (line_runs [] cells) (line_runs pieces cells) start (pale_line pieces cells j) in
+      let first = pale_append P (number_start (colourless s) w number ++ number_gutter s.width t line columns (map bleached multi)) (number_start s w number ++ number_gutter s.width t line columns multi) (shown_runs (line_cut s line cells (map bleached one)) [] cells) (shown_runs cut pieces cells) start pale_text in
       let below = pale_append P (other_start (colourless s) w) (other_start s w) (other_gutter s.width t line columns (map bleached multi)) (other_gutter s.width t line columns multi) (pale_other_start w) others in
-      let marked : PaleRows P (marked_rows s.width t (marks text (map bleached one))) (marked_rows s.width t found) =
-      subst (λ ms. PaleRows P (marked_rows s.width t ms) (marked_rows s.width t found)) (sym (marks_bleached text one)) (pale_marked P s.width t clean found (λ p. marks_clean text one (h p))) in
+      let pale_marks = shown_marks (line_cut s line cells (map bleached one)) pale_found in
+      let marked : PaleRows P (marked_rows s.width t pale_marks) (marked_rows s.width t (shown_marks cut found)) =
+      subst (λ ms. PaleRows P (marked_rows s.width t ms) (marked_rows s.width t (shown_marks cut found))) (sym shown_pale) (pale_marked P s.width t clean (shown_marks cut found) (λ p. shown_clean cut found (marks_clean text one (h p)))) in
       let ends : PaleRows P (closing_rows s.width t line columns (map bleached multi) (closing_labels line (map bleached multi))) (closing_rows s.width t line columns multi (closing_labels line multi)) =
       subst (λ ls. PaleRows P (closing_rows s.width t line columns (map bleached multi) ls) (closing_rows s.width t line columns multi (closing_labels line multi))) (sym (filter_bleached (λ label. ends_on line label && not (starts_on line label)) (λ label. refl) multi))
       (pale_closing_rows P s.width t clean line columns multi (closing_labels line multi) (λ p. all_filter HasCleanParts (λ label. ends_on line label && not (starts_on line label)) multi (k p))) in
       rows_cons P first
-      (rows_append P (before_each (other_start (colourless s) w ++ other_gutter s.width t line columns (map bleached multi)) (marked_rows s.width t (marks text (map bleached one)))) (before_each (other_start s w ++ other_gutter s.width t line columns multi) (marked_rows s.width t found))
+      (rows_append P (before_each (other_start (colourless s) w ++ other_gutter s.width t line columns (map bleached multi)) (marked_rows s.width t pale_marks)) (before_each (other_start s w ++ other_gutter s.width t line columns multi) (marked_rows s.width t (shown_marks cut found)))
       (before_each (other_start (colourless s) w) (closing_rows s.width t line columns (map bleached multi) (closing_labels line (map bleached multi)))) (before_each (other_start s w) (closing_rows s.width t line columns multi (closing_labels line multi)))
-      (pale_before (marked_rows s.width t (marks text (map bleached one))) (marked_rows s.width t found) below marked)
+      (pale_before (marked_rows s.width t pale_marks) (marked_rows s.width t (shown_marks cut found)) below marked)
       (pale_before (closing_rows s.width t line columns (map bleached multi) (closing_labels line (map bleached multi))) (closing_rows s.width t line columns multi (closing_labels line multi)) (pale_other_start w) ends))
 
   pale_line_rows : (w columns : ℕ) (labels : List DrawnLabel) (line : Line) (number : ℕ) (cells : List Cell) (pieces : List Highlight) →

@@ -9,7 +9,7 @@ use Rattle.miette_snippets.specs.rules.Drawing.{blank, code_with_parts, mark_cod
 use Rattle.miette_snippet_laws.specs.laws.Fading.{IsPlainRow}
 use Rattle.miette_snippets.specs.rules.Gutters.{ending_corner, arrow, bar, number_gutter, break_gutter, other_gutter, open_gutter, part_run, closing_parts, closing_rows}
 use Rattle.miette_lines.specs.rules.Labels.{DrawnLabel, is_empty, starts_on, ends_on}
-use Rattle.miette_snippets.specs.rules.Marks.{Mark, anchor}
+use Rattle.miette_snippets.specs.rules.Marks.{Mark}
 use Rattle.miette_page.specs.rules.Rows.{Run, Row, pieces_of, styled_run}
 use Rattle.miette_style.specs.rules.Styles.{plain}
 use Rattle.miette_snippet_laws.proofs.CleanTexts.{AreCleanPieces, clean_cons, clean_append, clean_replicate, clean_code_if, clean_copies, clean_drawn, clean_each}
@@ -175,7 +175,7 @@ module _ (P : Type 0) where
 
     code_clean : (mark : Mark) (column : ℕ) → P → IsCleanCode (mark_code t mark column)
     code_clean mark column p =
-        clean_code_if (column == anchor mark) (if is_empty mark.label then t.uarrow else code_with_parts t mark.label.parts) t.underline
+        clean_code_if (column == mark.anchor) (if is_empty mark.label then t.uarrow else code_with_parts t mark.label.parts) t.underline
         (clean_code_if (is_empty mark.label) t.uarrow (code_with_parts t mark.label.parts) (clean p).uarrow (under_clean mark.label.parts p)) (clean p).underline
 
     pale_mark : (mark : Mark) → PaleRun P (mark_run width t (bleached_mark mark)) (mark_run width t mark)
@@ -187,15 +187,15 @@ module _ (P : Type 0) where
 
     pale_leads : (reached : ℕ) (marks : List Mark) (column : ℕ) → PaleRow P (lead_runs width t reached (map bleached_mark marks) column) (lead_runs width t reached marks column)
     pale_leads reached [] column = pale_cons (pale_blank width (column - reached)) pale_nil
-    pale_leads reached (mark ∷ marks) column = pale_cons (pale_blank width (anchor mark - reached)) (pale_cons (vbar_run mark.label.style) (pale_leads (anchor mark + 1) marks column))
+    pale_leads reached (mark ∷ marks) column = pale_cons (pale_blank width (mark.anchor - reached)) (pale_cons (vbar_run mark.label.style) (pale_leads (mark.anchor + 1) marks column))
 
     -- ---- texts under marks
 
     pale_text : (earlier : List Mark) (mark : Mark) (front part : List ℕ) → (P → IsClean front) → (P → IsClean part) →
         PaleRow P (text_row width t (map bleached_mark earlier) (bleached_mark mark) front part) (text_row width t earlier mark front part)
     pale_text earlier mark front part h k =
-        pale_append (lead_runs width t 0 (map bleached_mark earlier) (anchor mark)) (lead_runs width t 0 earlier (anchor mark)) (styled_run width plain (front ++ part) ∷ []) (styled_run width mark.label.style (front ++ part) ∷ [])
-        (pale_leads 0 earlier (anchor mark)) (pale_cons (pale_styled width mark.label.style (front ++ part) (λ p. clean_append front part (h p) (k p))) pale_nil)
+        pale_append (lead_runs width t 0 (map bleached_mark earlier) mark.anchor) (lead_runs width t 0 earlier mark.anchor) (styled_run width plain (front ++ part) ∷ []) (styled_run width mark.label.style (front ++ part) ∷ [])
+        (pale_leads 0 earlier mark.anchor) (pale_cons (pale_styled width mark.label.style (front ++ part) (λ p. clean_append front part (h p) (k p))) pale_nil)
 
     four_clean : (a b c : ℕ) → IsCleanCode a → IsCleanCode b → IsCleanCode c → IsClean (a ∷ b ∷ c ∷ 32 ∷ [])
     four_clean a b c h k j = clean_cons a (b ∷ c ∷ 32 ∷ []) h (clean_cons b (c ∷ 32 ∷ []) k (clean_cons c (32 ∷ []) j refl))

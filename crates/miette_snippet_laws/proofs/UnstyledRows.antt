@@ -2,7 +2,7 @@
 use Rattle.std.proofs.Common.{ℕ, List, [], ◌∷◌, ◌++◌, map, cond, eqb}
 use Rattle.std.specs.List.{range_with_len}
 use Rattle.miette_page.specs.rules.Rows.{Piece, code_piece}
-use Rattle.miette_snippets.specs.rules.Marks.{Mark, anchor}
+use Rattle.miette_snippets.specs.rules.Marks.{Mark}
 use Rattle.miette_snippet_laws.specs.laws.Pictures.{mark_at, marks_end}
 use Rattle.miette_style.specs.rules.Themes.{Characters}
 
@@ -11,10 +11,10 @@ mark_row width t marks = map (mark_at width t marks) (range_with_len 0 (marks_en
 
 abbrev pub lead_at : (ℕ → ℕ) → Characters → List Mark → ℕ → Piece
 lead_at width t [] column = code_piece width 32
-lead_at width t (mark ∷ marks) column = cond (eqb column (anchor mark)) (code_piece width t.vbar) (lead_at width t marks column)
+lead_at width t (mark ∷ marks) column = cond (eqb column mark.anchor) (code_piece width t.vbar) (lead_at width t marks column)
 
 abbrev pub lead : (ℕ → ℕ) → Characters → List Mark → Mark → List Piece
-lead width t earlier mark = map (lead_at width t earlier) (range_with_len 0 (anchor mark))
+lead width t earlier mark = map (lead_at width t earlier) (range_with_len 0 mark.anchor)
 
 abbrev pub corner_pieces : (ℕ → ℕ) → Characters → ℕ → List Piece
 corner_pieces width t third = code_piece width t.lbot ∷ code_piece width t.hbar ∷ code_piece width third ∷ code_piece width 32 ∷ []

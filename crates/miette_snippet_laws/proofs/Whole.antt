@@ -1,19 +1,31 @@
 -- The rows of a whole snippet.
-use Rattle.std.proofs.Common.{ℕ, ◌+◌, ◌≤◌, ◌≡◌, List, [], ◌∷◌, length, arith}
-use Rattle.std.specs.Prelude.{decimal}
+use Rattle.std.proofs.Common.{ℕ, ◌+◌, ◌≤◌, ◌≡◌, false, List, [], ◌∷◌, length, arith}
+use Rattle.std.specs.Prelude.{decimal, slice_range}
 use Rattle.std.specs.List.{AllByRecursion}
 use Rattle.miette_newlines.specs.rules.Lines.{Line}
 use Rattle.miette_protocol.specs.rules.Reading.{Contents}
 use Rattle.miette_lines.specs.rules.Answers.{Highlight, first_of, later_of}
 use Rattle.miette_lines.specs.rules.Contexts.{lines_of_contents}
-use Rattle.miette_lines.specs.rules.Labels.{DrawnLabel}
+use Rattle.miette_lines.specs.rules.Labels.{DrawnLabel, one_line}
 use Rattle.miette_snippets.specs.rules.Drawing.{IsNarrow}
 use Rattle.miette_snippets.specs.rules.Gutters.{gutter_columns}
 use Rattle.miette_snippets.specs.rules.Frames.{SnippetSettings, width_of_lines}
-use Rattle.miette_snippets.specs.rules.SnippetLayout.{cells_of}
-use Rattle.miette_snippet_laws.specs.laws.Pictures.{LinesShow, BodyShows}
+use Rattle.miette_snippets.specs.rules.SnippetLayout.{cells_of, line_marks, text_of_cells}
+use Rattle.miette_snippet_laws.specs.laws.Pictures.{LinesShow, BodyShows, marks_of_line}
+use Rattle.miette_snippets.specs.rules.Marks.{AreApart}
+use Rattle.miette_snippet_laws.proofs.Apart.{marks_apart}
+use Rattle.miette_lines.specs.rules.Cells.{characters}
+use Rattle.miette_snippets.proofs.CutColumns.{AreColumns, columns_from, shown_apart}
 use Rattle.miette_snippet_laws.proofs.Numerals.{decimal-mono}
 use Rattle.miette_snippet_laws.proofs.Beneath.{HasRoom, line_shows, line_begins, all_room}
+
+pub line_columns : (s : SnippetSettings) (source : List ℕ) (line : Line) → AreColumns 0 (cells_of s source line)
+line_columns s source line = columns_from s.width s.tab false line.start 0 (characters (slice_range source line.start line.text_end))
+
+pub row_apart : (s : SnippetSettings) (labels : List DrawnLabel) (source : List ℕ) (line : Line) → AreApart 0 (marks_of_line s labels line (cells_of s source line))
+row_apart s labels source line =
+    shown_apart s.line_columns (line_marks line (cells_of s source line) (one_line line labels)) (cells_of s source line) (line_columns s source line)
+    (marks_apart (text_of_cells (cells_of s source line) line.text_end) (one_line line labels))
 
 lines_show : (s : SnippetSettings) (w columns last : ℕ) (labels : List DrawnLabel) (source : List ℕ) (number : ℕ) (pieces : List (List Highlight)) (lines : List Line) → IsNarrow s.width s.characters →
     number + length lines ≡ last + 1 → length (decimal last) ≤ w → AllByRecursion (λ line. HasRoom labels line columns) lines → LinesShow s w columns labels source number pieces lines
@@ -22,7 +34,7 @@ lines_show s w columns last labels source number pieces (line ∷ lines) n sum f
     let below : number ≤ last = omega (arith, sum) in
     let own : length (decimal number) ≤ w = omega (arith, decimal-mono number last below, fits) in (
       line_begins s w columns labels line number (cells_of s source line) (first_of pieces) n room.0 own,
-      line_shows s w columns labels line number (cells_of s source line) (first_of pieces) n room.0,
+      line_shows s w columns labels line number (cells_of s source line) (first_of pieces) n room.0 (line_columns s source line),
       lines_show s w columns last labels source (number + 1) (later_of pieces) lines n (omega (arith, sum)) fits room.1,
     )
 

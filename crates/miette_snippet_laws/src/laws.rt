@@ -11,20 +11,27 @@ ghost use Rattle.miette_protocol.specs.views.Meaning.{Label};
 ghost use Rattle.miette_protocol.specs.rules.Reading.{Source, Contents, Span};
 ghost use Rattle.miette_snippet_laws.specs.laws.Belonging.{HasOneGroup};
 ghost use Rattle.miette_snippet_laws.specs.laws.Clean.{AreCleanDrawings, IsCleanLabel, IsCleanRow, IsCleanSource};
-ghost use Rattle.miette_snippet_laws.specs.laws.Ends.{AreBehindText, EndsStandBehind, with_ends};
+ghost use Rattle.miette_snippet_laws.specs.laws.Ends.{AreBehindText, EndsStandBehind, with_ends, AreBehindShown};
 ghost use Rattle.miette_snippet_laws.specs.laws.Folding.{EndsPass, FitsIn, IsInside};
+ghost use Rattle.miette_snippet_laws.specs.laws.Cuts.{AreAsWide, AreStretches, Fits, IsWithin, by_nearness, by_stretch};
+ghost use Rattle.miette_snippet_laws.specs.laws.Cuts.{most_columns, pieces_shown};
 ghost use Rattle.miette_snippet_laws.specs.laws.Fading.{IsPlainRow, colourless, unhighlighted_answers};
-ghost use Rattle.miette_page.specs.rules.Rows.{pieces_of};
+ghost use Rattle.miette_page.specs.rules.Rows.{columns_of, pieces_of};
 ghost use Rattle.miette_lines.specs.rules.Answers.{Answers, AlwaysReads, Highlight, NoneFails};
 ghost use Rattle.miette_lines.specs.rules.Around.{HaveContext, group_context};
 ghost use Rattle.miette_lines.specs.rules.Groups.{AreAccepted, in_order, groups_of, lines_of_groups};
 ghost use Rattle.miette_snippets.specs.rules.Snippets.{snippets, shown_numbers, is_kept};
-ghost use Rattle.miette_lines.specs.rules.Labels.{DrawnLabel, drawn_from, multi_line, some_shows_end};
-ghost use Rattle.miette_snippets.specs.rules.Marks.{Text, marks, anchor, marks_at, AreApart};
+ghost use Rattle.miette_lines.specs.rules.Labels.{DrawnLabel, drawn_from, multi_line, some_shows_end, one_line};
+ghost use Rattle.miette_snippets.specs.rules.Marks.{Text, marks, marks_at, AreApart};
+ghost use Rattle.miette_newlines.specs.rules.Lines.{Line};
+ghost use Rattle.miette_lines.specs.rules.Cells.{Cell};
+ghost use Rattle.miette_lines.specs.rules.Contexts.{lines_of_contents};
+ghost use Rattle.miette_snippets.specs.rules.CutLines.{Stretch, cut_runs, is_within, stretches};
 ghost use Rattle.miette_snippets.specs.rules.Drawing.{IsNarrow};
+ghost use Rattle.miette_snippets.specs.rules.Folds.{Spread};
 ghost use Rattle.miette_snippets.specs.rules.Frames.{SnippetSettings};
-ghost use Rattle.miette_snippets.specs.rules.SnippetLayout.{snippet_rows};
-ghost use Rattle.miette_snippet_laws.specs.laws.Pictures.{BodyShows};
+ghost use Rattle.miette_snippets.specs.rules.SnippetLayout.{snippet_rows, body_rows, cells_of};
+ghost use Rattle.miette_snippet_laws.specs.laws.Pictures.{BodyShows, marks_of_line, text_of_line};
 ghost use Rattle.miette_snippets.specs.rules.ShownLines.{framed_ranges, line_at};
 
 /// Where no read fails, and there is at least one line of context for each label, the lines that the groups of labels
@@ -90,21 +97,62 @@ pub fn short_labels_stay()
 {}
 
 /// The marks of a line's labels are not empty, and each begins where the one before it ends, or later. So an anchor
-/// lies in its own mark and in no other.
+/// lies in its own mark and in no other. The same holds of the marks in a line's row, where it may be cut.
 pub fn marks_are_apart()
     ensures apart { (text : Text) (labels : List DrawnLabel) → AreApart 0 (marks text labels) }
     ensures anchors { (text : Text) (labels : List DrawnLabel) →
-        AllByRecursion (λ mark. marks_at (anchor mark) (marks text labels) ≡ mark ∷ []) (marks text labels) }
+        AllByRecursion (λ mark. marks_at mark.anchor (marks text labels) ≡ mark ∷ []) (marks text labels) }
+    ensures row { (s : SnippetSettings) (labels : List DrawnLabel) (source : List ℕ) (line : Line) →
+        AreApart 0 (marks_of_line s labels line (cells_of s source line)) }
+    ensures row_anchors { (s : SnippetSettings) (labels : List DrawnLabel) (source : List ℕ) (line : Line) →
+        AllByRecursion (λ mark. marks_at mark.anchor (marks_of_line s labels line (cells_of s source line)) ≡ mark ∷ [])
+        (marks_of_line s labels line (cells_of s source line)) }
+{}
+
+/// The stretches of a line that is cut have its cells, each once and in order, in a stretch that is near where the cell
+/// is; no stretch is empty, and of two that follow one another one is near. A cell that has columns is within so many
+/// columns of an end where one of its own columns is. Of each stretch that is near or at most three columns wide all
+/// cells are printed, and three dots in place of each other one.
+pub fn cut_lines_are_parted()
+    ensures cells { (near : Cell → Bool) (cells : List Cell) →
+        by_stretch (stretches near false cells) ≡ by_nearness near false cells }
+    ensures parted { (near : Cell → Bool) (cells : List Cell) → AreStretches (stretches near false cells) }
+    ensures within { (reach : ℕ) (cell : Cell) (column : ℕ) → cell.from < cell.until →
+        (is_within reach cell column ≡ true → IsWithin reach cell column)
+        × (IsWithin reach cell column → is_within reach cell column ≡ true) }
+    ensures printed { (pieces : List Highlight) (cut : List Stretch) →
+        pieces_of (cut_runs pieces 0 cut) ≡ pieces_shown cut }
+{}
+
+/// Where there is a limit, the columns of a line's text in its row are bounded by it, the number of labels that lie on
+/// the line alone, and the widest cell of the line.
+pub fn cut_rows_are_narrow()
+    ensures { (s : SnippetSettings) (labels : List DrawnLabel) (source : List ℕ) (line : Line)
+        (pieces : List Highlight) (limit widest : ℕ) → s.line_columns ≡ Some limit →
+        AreAsWide widest (cells_of s source line) →
+        columns_of (pieces_of (text_of_line s labels line (cells_of s source line) pieces))
+        ≤ most_columns limit (length (one_line line labels)) widest }
+{}
+
+/// Where no line of a snippet has more columns than the limit, its rows are those without a limit.
+pub fn lines_that_fit_stay()
+    ensures { (s : SnippetSettings) (spreads : List Spread) (labels : List DrawnLabel) (source : List ℕ)
+        (read : Contents) (pieces : List (List Highlight)) →
+        AllByRecursion (λ line. Fits s.line_columns (cells_of s source line)) (lines_of_contents read) →
+        body_rows s spreads labels source read pieces
+        ≡ body_rows (record s { line_columns = None }) spreads labels source read pieces }
 {}
 
 /// Where the labels at the end of a source are drawn, and one of them has a line of context, just these labels stand
 /// behind the text of the last line, each as an empty label that lies on that line alone; its mark begins behind the
-/// columns of the text. Where none of them has one, or no label is at the end, or the source is empty, the rows are
-/// those of before.
+/// columns of the text, in its row behind what is shown of it. Where none of them has one, or no label is at the end,
+/// or the source is empty, the rows are those of before.
 pub fn ends_are_drawn()
     ensures lines { (s : SnippetSettings) (bytes : List ℕ) (labels : List Label) → s.end_labels ≡ true →
         some_shows_end s.context (length bytes) labels ≡ true → EndsStandBehind s bytes labels }
     ensures marks { (text : Text) (labels : List DrawnLabel) → AreBehindText text labels }
+    ensures row { (s : SnippetSettings) (labels : List DrawnLabel) (source : List ℕ) (line : Line)
+        (pieces : List Highlight) → AreBehindShown s labels line (cells_of s source line) pieces }
     ensures others { (ends : Bool) (s : SnippetSettings) (source : Source) (labels : List Label) (answers : Answers) →
         some_shows_end s.context (length source.bytes) labels ≡ false →
         snippet_rows (with_ends ends s) source labels answers

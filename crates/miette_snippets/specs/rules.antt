@@ -1,4 +1,5 @@
 -- What users rely on, in the words of docs/RULES.md.
+pub mod CutLines
 pub mod Drawing
 pub mod Folds
 pub mod Frames

@@ -16,6 +16,8 @@ pub struct LayoutOptions {
     pub end_labels: bool,
     /// A label over more lines than these is folded: only the lines around its first and its last one are shown.
     pub label_lines: Option<usize>,
+    /// A line of more columns is cut around its labels.
+    pub line_columns: Option<usize>,
 }
 
 /// How snippets look: a theme's characters and styles, and the layout; and where the memory that they need comes from.

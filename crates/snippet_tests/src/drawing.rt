@@ -21,6 +21,7 @@ pub(crate) const OPTIONS: LayoutOptions = LayoutOptions {
     primary_start: true,
     end_labels: false,
     label_lines: None,
+    line_columns: None,
 };
 
 /// Nine lines of a digit each.

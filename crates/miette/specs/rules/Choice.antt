@@ -63,6 +63,7 @@ picture_settings o t =
     record default {
       width = chosen_width o t;
       tab = unwrap_or o.tab default.tab;
+      line_columns = option_or o.line_columns default.line_columns;
       context = unwrap_or o.context default.context;
       urls = chosen_urls o t;
       chain = unwrap_or o.chain default.chain;

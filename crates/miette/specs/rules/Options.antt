@@ -18,6 +18,7 @@ pub record Options (H : Type 0) : Type 0 where
   pub context : Option ℕ
   pub chain : Option Bool
   pub tab : Option ℕ
+  pub line_columns : Option ℕ
   pub nested : Option Bool
   pub wraps : Option Bool
   pub breaks : Option Bool
@@ -41,6 +42,7 @@ no_options = record {
   context = None;
   chain = None;
   tab = None;
+  line_columns = None;
   nested = None;
   wraps = None;
   breaks = None;

@@ -52,6 +52,7 @@ pub struct MietteHandlerOpts<H = Box<dyn Highlighter>> {
     context_lines: Option<usize>,
     cause_chain: Option<bool>,
     tab_width: Option<usize>,
+    line_columns: Option<usize>,
     related_as_nested: Option<bool>,
     wrap_lines: Option<bool>,
     break_words: Option<bool>,
@@ -84,6 +85,7 @@ impl<H> Model for MietteHandlerOpts<H> {
       context = it.context_lines;
       chain = it.cause_chain;
       tab = it.tab_width;
+      line_columns = it.line_columns;
       nested = it.related_as_nested;
       wraps = it.wrap_lines;
       breaks = it.break_words;
@@ -117,6 +119,7 @@ impl<H> Default for MietteHandlerOpts<H> {
             context_lines: None,
             cause_chain: None,
             tab_width: None,
+            line_columns: None,
             related_as_nested: None,
             wrap_lines: None,
             break_words: None,
@@ -334,6 +337,15 @@ impl<H: Highlighter> MietteHandlerOpts<H> {
         ensures { result ≡ record self { tab = Some width } }
     {
         self.tab_width = Some(width);
+        self
+    }
+
+    /// A line of more than so many columns is cut in pictures: it shows what stands near its labels, and dots in place
+    /// of the rest.
+    pub fn line_columns(mut self, columns: usize) -> Self
+        ensures { result ≡ record self { line_columns = Some columns } }
+    {
+        self.line_columns = Some(columns);
         self
     }
 }

@@ -9,7 +9,16 @@ use Rattle.miette_snippets.specs.rules.Marks.{Mark}
 use Rattle.miette_lines.specs.views.GivenLabels.{drawn_of}
 
 abbrev pub mark_of : List Label → MadeMark → Mark
-mark_of labels m = record { from = m.from; until = m.until; label = drawn_of labels m.label }
+mark_of labels m = record {
+  from = m.from;
+  until = m.until;
+  anchor = m.anchor;
+  label = drawn_of labels m.label;
+}
+
+-- its anchor is one of a mark's columns
+abbrev pub HasAnchor : MadeMark → Type 0
+HasAnchor m = (m.from ≤ m.anchor) × (m.anchor < m.until)
 
 -- each cell has a byte, and begins where the one before it ends or later
 abbrev pub ComeFrom : ℕ → List Cell → Type 0

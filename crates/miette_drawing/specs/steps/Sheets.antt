@@ -10,9 +10,7 @@ use Rattle.miette_snippets.specs.views.ThemeSettings.{settings_of}
 use Rattle.miette_lines.specs.views.GivenLabels.{drawn_of, width_of}
 use Rattle.miette_snippets.specs.rules.Gutters.{number_gutter, other_gutter, open_gutter, part_run}
 use Rattle.miette_snippets.specs.rules.Frames.{SnippetSettings, number_start, other_start}
-use Rattle.miette_snippets.specs.rules.PrintedCells.{line_runs}
 use Rattle.miette_lines.specs.rules.Cells.{Cell, cells_from, characters}
-use Rattle.miette_snippets.specs.rules.Highlighting.{highlight_of}
 use Rattle.miette_newlines.specs.views.Walking.{line_of_text}
 
 abbrev pub settings : Sheet → SnippetSettings
@@ -58,9 +56,9 @@ shown_cells sheet shown =
 abbrev pub labels_alone : Sheet → ShownLine → List DrawnLabel
 labels_alone sheet shown = map (drawn_of sheet.labels.now) shown.one.now
 
--- the number row of the line
-abbrev pub number_row : Sheet → ShownLine → Row
-number_row sheet shown =
+-- the number row of the line, with what is shown of its text
+abbrev pub number_row : Sheet → ShownLine → Row → Row
+number_row sheet shown text =
     number_start (settings sheet) sheet.number_width shown.number
     ++ number_gutter (settings sheet).width (settings sheet).characters (line_of_text sheet.line) sheet.gutter
-    (multi_labels sheet) ++ line_runs (map highlight_of shown.pieces.now) (shown_cells sheet shown)
+    (multi_labels sheet) ++ text

@@ -1,23 +1,29 @@
 -- What holds of the snippets of each printed diagnostic, over its effective source and by its labels.
-use Rattle.std.specs.Prelude.{◌≡◌, ◌<◌, ◌+◌, ℕ, Bool, true, false, List, [], ◌∷◌, length, Some, None, IfSome}
+use Rattle.std.specs.Prelude.{◌≡◌, ◌<◌, ◌+◌, ℕ, Bool, true, false, List, [], ◌∷◌, length, Some, None, IfSome, ◌≤◌}
 use Rattle.std.specs.List.{AllByRecursion, concat}
-use Rattle.miette_newlines.specs.rules.Lines.{lines_of}
+use Rattle.miette_newlines.specs.rules.Lines.{Line, lines_of}
 use Rattle.miette_protocol.specs.views.Meaning.{Label}
 use Rattle.miette_protocol.specs.rules.Reading.{Source, Span}
 use Rattle.miette_lines.specs.rules.Answers.{Highlight}
 use Rattle.miette_lines.specs.rules.Around.{HaveContext}
-use Rattle.miette_lines.specs.rules.Contexts.{contents}
+use Rattle.miette_lines.specs.rules.Contexts.{contents, lines_of_contents}
+use Rattle.miette_snippets.specs.rules.Folds.{Spread}
 use Rattle.miette_snippets.specs.rules.Frames as frames
 use Rattle.miette_lines.specs.rules.Groups as grouping
 use Rattle.miette_lines.specs.rules.Groups.{AreAccepted, in_order, lines_of_groups}
 use Rattle.miette_lines.specs.rules.Labels.{DrawnLabel, multi_line, one_line, some_shows_end}
 use Rattle.miette_snippets.specs.rules.SnippetLayout as layout
-use Rattle.miette_snippets.specs.rules.SnippetLayout.{cells_of, settings_around, text_of_cells}
-use Rattle.miette_snippets.specs.rules.Marks.{Mark, Text, anchor, marks, marks_at, AreApart}
+use Rattle.miette_snippets.specs.rules.SnippetLayout.{body_rows, cells_of, line_cut, line_marks, settings_around}
+use Rattle.miette_page.specs.rules.Rows.{Row, columns_of, pieces_of}
+use Rattle.miette_lines.specs.rules.Cells.{Cell}
+use Rattle.miette_snippets.specs.rules.CutLines.{Stretch, ends, is_near}
+use Rattle.miette_snippet_laws.specs.laws.Cuts.{AreAsWide, AreStretches, Fits, by_nearness, by_stretch}
+use Rattle.miette_snippet_laws.specs.laws.Cuts.{most_columns, pieces_shown}
+use Rattle.miette_snippets.specs.rules.Marks.{Mark, marks_at, AreApart}
 use Rattle.miette_snippets.specs.rules.Numbers.{ranges, IsRange, AreParted}
-use Rattle.miette_snippet_laws.specs.laws.Ends.{AreBehindText, EndsStandBehind}
+use Rattle.miette_snippet_laws.specs.laws.Ends.{EndsStandBehind, AreBehindShown}
 use Rattle.miette_snippet_laws.specs.laws.Folding.{EndsPass, FitsIn, IsInside}
-use Rattle.miette_snippet_laws.specs.laws.Pictures.{BodyShows}
+use Rattle.miette_snippet_laws.specs.laws.Pictures.{BodyShows, marks_of_line, text_of_line}
 use Rattle.miette_snippets.specs.rules.ShownLines.{framed_ranges, line_at}
 use Rattle.miette_snippets.specs.rules.Snippets.{shown_numbers, snippets, is_kept}
 use Rattle.miette_graphical.specs.rules.Answers.{pieces_listed}
@@ -70,25 +76,27 @@ abbrev pub drawn_labels : Settings → Source → List Label → List DrawnLabel
 drawn_labels s source labels =
     layout.drawn_labels (group_settings s labels) (length source.bytes) (in_order labels)
 
--- the text of line k
-abbrev pub text_under : Settings → Source → ℕ → Text
-text_under s source k =
-    text_of_cells (cells_of (layout_settings s) source.bytes (line_at (lines_of source.bytes) k))
-    (line_at (lines_of source.bytes) k).text_end
+-- line k and its cells
+abbrev pub line_of : Source → ℕ → Line
+line_of source k = line_at (lines_of source.bytes) k
+
+abbrev pub cells_under : Settings → Source → ℕ → List Cell
+cells_under s source k = cells_of (layout_settings s) source.bytes (line_of source k)
 
 -- the labels that lie on line k alone
 abbrev pub labels_under : Settings → Source → List Label → ℕ → List DrawnLabel
-labels_under s source labels k = one_line (line_at (lines_of source.bytes) k) (drawn_labels s source labels)
+labels_under s source labels k = one_line (line_of source k) (drawn_labels s source labels)
 
--- their marks
+-- their marks, by the columns of the line's row
 abbrev pub marks_under : Settings → Source → List Label → ℕ → List Mark
-marks_under s source labels k = marks (text_under s source k) (labels_under s source labels k)
+marks_under s source labels k =
+    marks_of_line (layout_settings s) (drawn_labels s source labels) (line_of source k) (cells_under s source k)
 
 -- no mark is empty, each begins where the one before it ends or later, and each anchor lies in its own mark and in no
 -- other
 pub record AreOwnMarks (marks : List Mark) : Type 0 where
   pub apart : AreApart 0 marks
-  pub anchors : AllByRecursion (λ mark. marks_at (anchor mark) marks ≡ mark ∷ []) marks
+  pub anchors : AllByRecursion (λ mark. marks_at mark.anchor marks ≡ mark ∷ []) marks
 
 -- under each line of a diagnostic's source
 abbrev pub MarksAreApart : Settings → PrintedDiagnostic → Type 0
@@ -127,6 +135,52 @@ LabelsAreFolded s p =
     source.always_reads ≡ true → AreAccepted source.bytes (given_labels p.meaning.labels) →
     HaveContext s.context (given_labels p.meaning.labels) → FoldsTo limit s source (given_labels p.meaning.labels)))
 
+-- ---- lines that are cut
+
+-- what is shown of line k, in these pieces of a highlighter
+abbrev pub text_shown : Settings → Source → List Label → ℕ → List Highlight → Row
+text_shown s source labels k pieces =
+    text_of_line (layout_settings s) (drawn_labels s source labels) (line_of source k) (cells_under s source k) pieces
+
+-- Line k is cut into stretches that have its cells, each once and in order, and are near where the cells are. Of each
+-- stretch that is near or at most three columns wide the cells are printed, and dots in place of each other one, in no
+-- more columns than limit, labels and widest cell ask for.
+pub record IsCutExactly (s : Settings) (source : Source) (labels : List Label) (k limit : ℕ) (cut : List Stretch) :
+    Type 0 where
+  pub cells : by_stretch cut
+      ≡ by_nearness (is_near limit (ends (line_marks (line_of source k) (cells_under s source k)
+      (labels_under s source labels k)))) false (cells_under s source k)
+  pub parted : AreStretches cut
+  pub printed : (pieces : List Highlight) → pieces_of (text_shown s source labels k pieces) ≡ pieces_shown cut
+  pub narrow : (pieces : List Highlight) (widest : ℕ) → AreAsWide widest (cells_under s source k) →
+      columns_of (pieces_of (text_shown s source labels k pieces))
+      ≤ most_columns limit (length (labels_under s source labels k)) widest
+
+-- each line of a diagnostic's source that is cut
+abbrev pub CutsAreExact : Settings → PrintedDiagnostic → Type 0
+CutsAreExact s p = IfSome p.source (λ source. (k limit : ℕ) (cut : List Stretch) → s.line_columns ≡ Some limit →
+    line_cut (layout_settings s) (line_of source k) (cells_under s source k)
+    (labels_under s source (given_labels p.meaning.labels) k) ≡ Some cut →
+    IsCutExactly s source (given_labels p.meaning.labels) k limit cut)
+
+-- In the rows of a snippet, however its labels are folded and in whatever pieces its lines are, nothing changes where
+-- none of its lines has more columns than the limit.
+abbrev pub SnippetStays : Settings → Source → List Label → Span → Type 0
+SnippetStays s source labels group =
+    (spreads : List Spread) (pieces : List (List Highlight)) →
+    AllByRecursion (λ line. Fits s.line_columns (cells_of (layout_settings s) source.bytes line))
+    (lines_of_contents (contents (group_settings s labels).context source group)) →
+    body_rows (group_settings s labels) spreads (drawn_labels s source labels) source.bytes
+    (contents (group_settings s labels).context source group) pieces
+    ≡ body_rows (record (group_settings s labels) { line_columns = None }) spreads (drawn_labels s source labels)
+    source.bytes (contents (group_settings s labels).context source group) pieces
+
+-- in each snippet of a diagnostic
+abbrev pub LinesThatFitStay : Settings → PrintedDiagnostic → Type 0
+LinesThatFitStay s p =
+    IfSome p.source (λ source. AllByRecursion (SnippetStays s source (given_labels p.meaning.labels))
+    (groups_of s source (given_labels p.meaning.labels)))
+
 -- ---- the texts of labels
 
 -- in the rows of a snippet, in whatever pieces its lines are, each text of a label that lies on one line hangs from
@@ -146,11 +200,13 @@ TextsHang s p =
 
 -- ---- labels at the end of the source
 
--- Just these labels stand behind the text of the last line, and under each line the marks of such labels begin behind
--- the columns of its text.
+-- Just these labels stand behind the text of the last line, and in the row of each line, in whatever pieces, the marks
+-- of such labels begin behind what is shown of its text.
 pub record EndsBehind (s : Settings) (source : Source) (labels : List Label) : Type 0 where
   pub lines : EndsStandBehind (group_settings s labels) source.bytes (in_order labels)
-  pub marks : (k : ℕ) → AreBehindText (text_under s source k) (labels_under s source labels k)
+  pub marks : (k : ℕ) (pieces : List Highlight) →
+      AreBehindShown (layout_settings s) (drawn_labels s source labels) (line_of source k) (cells_under s source k)
+      pieces
 
 -- where labels at the end are drawn, and one of them has a line of context
 abbrev pub EndsAreDrawn : Settings → PrintedDiagnostic → Type 0

@@ -19,6 +19,7 @@ pub record Settings : Type 0 where
   pub context : ℕ
   pub primary_start : Bool
   pub end_labels : Bool
+  pub line_columns : Option ℕ
   pub urls : Urls
   pub link_text : List ℕ
   pub chain : Bool
@@ -58,6 +59,7 @@ default_settings characters styles = record {
   context = 1;
   primary_start = true;
   end_labels = false;
+  line_columns = None;
   urls = AsLinks;
   link_text = chars (codes "(link)");
   chain = true;

@@ -25,6 +25,7 @@ layout_settings s = record {
   primary_start = s.primary_start;
   end_labels = s.end_labels;
   label_lines = s.label_lines;
+  line_columns = s.line_columns;
 }
 
 -- a run's characters, as their bytes read

@@ -15,6 +15,7 @@ settings_of l = record {
   primary_start = l.primary_start;
   end_labels = l.end_labels;
   label_lines = l.label_lines;
+  line_columns = l.line_columns;
   urls = urls_of l.urls;
   link_text = chars l.link_text.now;
   chain = l.chain;

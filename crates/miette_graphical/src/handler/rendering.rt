@@ -12,7 +12,7 @@ ghost use Rattle.miette_graphical.specs.rules.Text.{report_text};
 ghost use Rattle.miette_graphical.specs.laws.Clean.{AreCleanSettings, IsCleanTree};
 ghost use Rattle.miette_graphical.specs.laws.Colourless.{IsColouredText, IsRestyledText, colourless};
 ghost use Rattle.miette_graphical.specs.laws.Headline.{EndsAreDrawn, LabelsAreFolded, LinesAreShown, MarksAreApart};
-ghost use Rattle.miette_graphical.specs.laws.Headline.{TextsHang};
+ghost use Rattle.miette_graphical.specs.laws.Headline.{TextsHang, CutsAreExact, LinesThatFitStay};
 ghost use Rattle.miette_graphical.specs.views.Handling.{AreCallsOf, draws_plain, follows_of};
 ghost use Rattle.miette_graphical.specs.steps.SettingsView.{settings_of};
 ghost use Rattle.miette_tree.specs.views.Handler.{AppendsOne};
@@ -65,6 +65,7 @@ impl<H: Highlighter> GraphicalReportHandler<H> {
             primary_start: self.primary_span_start,
             end_labels: self.end_labels,
             label_lines: self.label_lines,
+            line_columns: self.line_columns,
             urls: self.urls,
             link_text: self.link_text(),
             chain: self.cause_chain,
@@ -164,12 +165,20 @@ impl<H: Highlighter> GraphicalReportHandler<H> {
         ensures marks { let tree = tree_of ⟦<Box<dyn Diagnostic> as Diagnostic>⟧.meaning
             ⟦<Box<dyn SourceCode> as SourceCode>⟧.source report.now in
             OnOk result (AllByRecursion (MarksAreApart self.old.settings) (diagnostics_of self.old.settings tree)) }
+        // each line that is cut shows what is near its marks, and is no wider than that needs,
+        ensures cuts { let tree = tree_of ⟦<Box<dyn Diagnostic> as Diagnostic>⟧.meaning
+            ⟦<Box<dyn SourceCode> as SourceCode>⟧.source report.now in
+            OnOk result (AllByRecursion (CutsAreExact self.old.settings) (diagnostics_of self.old.settings tree)) }
+        // and where no line of a snippet has more columns than the limit, its rows are those without one,
+        ensures fits { let tree = tree_of ⟦<Box<dyn Diagnostic> as Diagnostic>⟧.meaning
+            ⟦<Box<dyn SourceCode> as SourceCode>⟧.source report.now in
+            OnOk result (AllByRecursion (LinesThatFitStay self.old.settings) (diagnostics_of self.old.settings tree)) }
         // each text of a label on one line hangs from its own mark,
         ensures texts { let tree = tree_of ⟦<Box<dyn Diagnostic> as Diagnostic>⟧.meaning
             ⟦<Box<dyn SourceCode> as SourceCode>⟧.source report.now in
             OnOk result (AllByRecursion (TextsHang self.old.settings) (diagnostics_of self.old.settings tree)) }
         // where labels at the end of its source are drawn, just these stand behind the text of the last line, and
-        // their marks behind its columns,
+        // their marks behind what is shown of it,
         ensures ends { let tree = tree_of ⟦<Box<dyn Diagnostic> as Diagnostic>⟧.meaning
             ⟦<Box<dyn SourceCode> as SourceCode>⟧.source report.now in
             OnOk result (AllByRecursion (EndsAreDrawn self.old.settings) (diagnostics_of self.old.settings tree)) }

@@ -27,6 +27,7 @@ pub data OptionAsk : Type 0 where
   Context : ℕ → OptionAsk
   LabelLines : ℕ → OptionAsk
   Tab : ℕ → OptionAsk
+  LineColumns : ℕ → OptionAsk
   Drawn : Theme → OptionAsk
   Unicode : Bool → OptionAsk
   Color : Bool → OptionAsk
@@ -71,14 +72,15 @@ text_ask word value =
     if bytes_eq word (codes "--footer") then Some (OfOptions (Footer value))
     else (if bytes_eq word (codes "--no-graphics") then Some (OfTerminal (NoGraphics value)) else None)
 
--- a word whose value is a number; tabs of no columns and labels of no lines can't be asked for
+-- a word whose value is a number; tabs and lines of no columns, and labels of no lines, can't be asked for
 abbrev pub number_ask : List ℕ → ℕ → Option Ask
 number_ask word n =
     if bytes_eq word (codes "--width") then Some (OfOptions (Width n))
     else (if bytes_eq word (codes "--context") then Some (OfOptions (Context n))
     else (if bytes_eq word (codes "--label-lines") then (if n == 0 then None else Some (OfOptions (LabelLines n)))
     else (if bytes_eq word (codes "--tab") then (if n == 0 then None else Some (OfOptions (Tab n)))
-    else (if bytes_eq word (codes "--term-width") then Some (OfTerminal (Columns n)) else None))))
+    else (if bytes_eq word (codes "--line-columns") then (if n == 0 then None else Some (OfOptions (LineColumns n)))
+    else (if bytes_eq word (codes "--term-width") then Some (OfTerminal (Columns n)) else None)))))
 
 -- a word whose value is `yes` or `no`
 abbrev pub answer_ask : List ℕ → Bool → Option Ask
@@ -222,6 +224,7 @@ by_language o = record {
   context = o.context;
   chain = o.chain;
   tab = o.tab;
+  line_columns = o.line_columns;
   nested = o.nested;
   wraps = o.wraps;
   breaks = o.breaks;
@@ -248,6 +251,7 @@ options_with (Width n) o = record o { width = Some n }
 options_with (Context n) o = record o { context = Some n }
 options_with (LabelLines n) o = record o { label_lines = Some (max n 1) }
 options_with (Tab n) o = record o { tab = Some (max n 1) }
+options_with (LineColumns n) o = record o { line_columns = Some n }
 options_with (Drawn theme) o = record o { theme = Some theme }
 options_with (Unicode on) o = record o { unicode = Some on }
 options_with (Color on) o = record o { color = Some on }

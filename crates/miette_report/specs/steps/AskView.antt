@@ -13,7 +13,7 @@ use Rattle.miette_report.specs.declared.option_words.ThemeAsked.TheVariants as t
 use Rattle.miette_report.specs.rules.OptionWords.{Ask, OfHandler, OfOptions, OfTerminal}
 use Rattle.miette_report.specs.rules.OptionWords.{OptionAsk, Brief, Narrated, Graphical, Width, Context, LabelLines}
 use Rattle.miette_report.specs.rules.OptionWords.{Tab, Drawn, Unicode, Color, Links, Chain, Break, Wrap, Hyphens}
-use Rattle.miette_report.specs.rules.OptionWords.{Nested, EndLabels, Rgb, Footer, Highlighted}
+use Rattle.miette_report.specs.rules.OptionWords.{Nested, EndLabels, Rgb, Footer, Highlighted, LineColumns}
 use Rattle.miette_report.specs.rules.OptionWords.{TerminalAsk, Columns, Colours, DrawsUnicode, ShowsLinks, NoGraphics}
 
 abbrev pub theme_named : ThemeAsked → Theme
@@ -30,6 +30,7 @@ option_ask (option.Width n) = Width n
 option_ask (option.Context n) = Context n
 option_ask (option.LabelLines n) = LabelLines n
 option_ask (option.Tab n) = Tab n
+option_ask (option.LineColumns n) = LineColumns n
 option_ask (option.Theme name) = Drawn (theme_named name)
 option_ask (option.Unicode on) = Unicode on
 option_ask (option.Color on) = Color on

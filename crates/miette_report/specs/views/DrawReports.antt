@@ -37,22 +37,22 @@ over_input name meaning input = with_source (named_source (plain_source input) n
 abbrev pub drawn_tree : List ℕ → ℕ → ℕ → List ℕ → List ℕ → List ℕ → Tree
 drawn_tree name offset length label message input = over_input name (drawn_meaning offset length label message) input
 
--- in the characters of Unicode, plain, and 80 columns wide
-abbrev pub draw_settings : Settings
-draw_settings = record (default_settings unicode_characters no_styles) { width = 80 }
+-- in the characters of Unicode, plain, and 80 columns wide, with lines cut at a limit, if there is one
+abbrev pub draw_settings : Option ℕ → Settings
+draw_settings limit = record (default_settings unicode_characters no_styles) { width = 80; line_columns = limit }
 
 -- no read of its labels is refused
-abbrev pub IsReadWhole : Tree → Type 0
-IsReadWhole t = all_read (diagnostics_of draw_settings t) ≡ true
+abbrev pub IsReadWhole : Option ℕ → Tree → Type 0
+IsReadWhole limit t = all_read (diagnostics_of (draw_settings limit) t) ≡ true
 
 -- the text of a report that is read whole
-abbrev pub IsPicture : Tree → List ℕ → Type 0
-IsPicture t text = text ≡ encode_utf8_all (report_text drawn_rows draw_settings t unlisted)
+abbrev pub IsPicture : Option ℕ → Tree → List ℕ → Type 0
+IsPicture limit t text = text ≡ encode_utf8_all (report_text drawn_rows (draw_settings limit) t unlisted)
 
 -- A fact of the picture for these words and this input.
 abbrev pub Pictures : List ℕ → ℕ → ℕ → List ℕ → List ℕ → List ℕ → (List ℕ → Type 0) → Type 0
 Pictures name offset length label message input holds =
-    (text : List ℕ) × IsPicture (drawn_tree name offset length label message input) text × holds text
+    (text : List ℕ) × IsPicture None (drawn_tree name offset length label message input) text × holds text
 
 -- The same for the words as the program is called with them.
 abbrev pub CallPictures : List (List ℕ) → List ℕ → (List ℕ → Type 0) → Type 0

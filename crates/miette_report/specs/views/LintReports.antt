@@ -16,15 +16,15 @@ count_text n = decimal n ++ codes " findings"
 abbrev pub warning : List Label → Meaning
 warning found = record (message_alone (count_text (length found))) { severity = Some Warning; labels = Some found }
 
--- the text of a report that is read whole: brief rows, or a picture
-abbrev pub IsShown : Bool → Tree → List ℕ → Type 0
-IsShown true t text = text ≡ rows.brief rows.default_settings t rows.unlisted
-IsShown false t text = IsPicture t text
+-- the text of a report that is read whole: brief rows, or a picture whose lines are cut at this many columns
+abbrev pub IsShown : Bool → ℕ → Tree → List ℕ → Type 0
+IsShown true width t text = text ≡ rows.brief rows.default_settings t rows.unlisted
+IsShown false width t text = IsPicture (Some width) t text
 
 -- the text for what is found in the input: nothing where that is nothing
-abbrev pub IsLinted : Bool → List ℕ → List ℕ → List Label → List ℕ → Type 0
-IsLinted brief name input [] text = text ≡ []
-IsLinted brief name input (l ∷ ls) text = IsShown brief (over_input name (warning (l ∷ ls)) input) text
+abbrev pub IsLinted : Bool → List ℕ → ℕ → List ℕ → List Label → List ℕ → Type 0
+IsLinted brief name width input [] text = text ≡ []
+IsLinted brief name width input (l ∷ ls) text = IsShown brief width (over_input name (warning (l ∷ ls)) input) text
 
 -- whether there is none
 abbrev pub IsClean : List Label → Bool → Type 0
@@ -35,12 +35,12 @@ IsClean found false = 0 < length found
 abbrev pub Lints : Bool → List ℕ → ℕ → List ℕ → Bool → (List ℕ → Type 0) → Type 0
 Lints brief name width input clean holds =
     (text : List ℕ) × IsClean (findings_of input width) clean
-    × IsLinted brief name input (findings_of input width) text × holds text
+    × IsLinted brief name width input (findings_of input width) text × holds text
 
 -- A fact of the text alone.
 abbrev pub LintsText : Bool → List ℕ → ℕ → List ℕ → (List ℕ → Type 0) → Type 0
 LintsText brief name width input holds =
-    (text : List ℕ) × IsLinted brief name input (findings_of input width) text × holds text
+    (text : List ℕ) × IsLinted brief name width input (findings_of input width) text × holds text
 
 -- A fact of the text for the words as the program is called with them, with whether nothing is found in the input.
 abbrev pub CallLints : List (List ℕ) → List ℕ → Bool → (List ℕ → Type 0) → Type 0

@@ -2,11 +2,15 @@
 use Rattle.std.specs.Prelude.{ℕ, ◌≡◌, ◌≤◌, true, List, [], ◌∷◌, map, length, Bool, ◌&&◌}
 use Rattle.std.specs.List.{AllByRecursion}
 use Rattle.miette_newlines.specs.rules.Lines.{Line, lines_of}
+use Rattle.miette_page.specs.rules.Rows.{columns_of, pieces_of}
 use Rattle.miette_protocol.specs.views.Meaning.{Label}
+use Rattle.miette_lines.specs.rules.Answers.{Highlight}
+use Rattle.miette_lines.specs.rules.Cells.{Cell}
 use Rattle.miette_lines.specs.rules.Labels.{DrawnLabel, is_at_end, is_empty, is_one_line}
 use Rattle.miette_snippets.specs.rules.Frames.{SnippetSettings}
 use Rattle.miette_snippets.specs.rules.Marks.{Text, marks}
 use Rattle.miette_snippets.specs.rules.SnippetLayout.{drawn_labels}
+use Rattle.miette_snippet_laws.specs.laws.Pictures.{marks_of_line, text_of_line}
 
 -- the last of some lines
 abbrev pub last_line : List Line → Line
@@ -28,6 +32,12 @@ EndsStandBehind s bytes labels =
 abbrev pub AreBehindText : Text → List DrawnLabel → Type 0
 AreBehindText text labels =
     AllByRecursion (λ mark. mark.label.behind ≡ true → text.width ≤ mark.from) (marks text labels)
+
+-- in a line's row such a mark begins behind what is shown of the text, also where the line is cut
+abbrev pub AreBehindShown : SnippetSettings → List DrawnLabel → Line → List Cell → List Highlight → Type 0
+AreBehindShown s labels line cells pieces =
+    AllByRecursion (λ mark. mark.label.behind ≡ true →
+    columns_of (pieces_of (text_of_line s labels line cells pieces)) ≤ mark.from) (marks_of_line s labels line cells)
 
 -- the same settings, but for whether labels at the end are drawn
 abbrev pub with_ends : Bool → SnippetSettings → SnippetSettings

@@ -3,17 +3,17 @@ use Rattle.std.specs.Prelude.{ℕ, ◌+◌, ◌<◌, ◌≡◌, ◌⊎◌, List,
 use Rattle.std.specs.List.{AllByRecursion}
 use Rattle.miette_page.specs.rules.Rows.{Piece, Row, pieces_of, code_piece, code_at, Begins}
 use Rattle.miette_newlines.specs.rules.Lines.{Line}
-use Rattle.miette_snippets.specs.rules.PrintedCells.{line_runs}
 use Rattle.miette_lines.specs.rules.Cells.{Cell}
 use Rattle.miette_lines.specs.rules.Labels.{DrawnLabel, one_line}
-use Rattle.miette_snippets.specs.rules.Marks.{Mark, marks, anchor}
+use Rattle.miette_snippets.specs.rules.CutLines.{shown_runs, shown_marks}
+use Rattle.miette_snippets.specs.rules.Marks.{Mark}
 use Rattle.miette_snippets.specs.rules.Drawing.{mark_code}
 use Rattle.miette_snippets.specs.rules.Frames.{SnippetSettings, number_width}
 use Rattle.miette_protocol.specs.rules.Reading.{Contents}
 use Rattle.miette_lines.specs.rules.Answers.{Highlight, first_of, later_of}
 use Rattle.miette_lines.specs.rules.Contexts.{lines_of_contents}
 use Rattle.miette_snippets.specs.rules.Gutters.{gutter_columns}
-use Rattle.miette_snippets.specs.rules.SnippetLayout.{line_rows, text_of_cells, cells_of}
+use Rattle.miette_snippets.specs.rules.SnippetLayout.{line_rows, line_marks, line_cut, cells_of}
 use Rattle.miette_style.specs.rules.Themes.{Characters}
 
 -- what stands at a column of the mark row
@@ -42,11 +42,16 @@ PartHangs width t rows column [] = Unit {0}
 PartHangs width t rows column (part ∷ parts) = HangsFrom t column (map (code_piece width) part) rows
 
 abbrev pub Hangs : (ℕ → ℕ) → Characters → List (List Piece) → ℕ → Mark → Type 0
-Hangs width t rows start mark = PartHangs width t rows (start + anchor mark) mark.label.parts
+Hangs width t rows start mark = PartHangs width t rows (start + mark.anchor) mark.label.parts
 
--- the marks of a line
-abbrev pub marks_of_line : List DrawnLabel → Line → List Cell → List Mark
-marks_of_line labels line cells = marks (text_of_cells cells line.text_end) (one_line line labels)
+-- the marks of a line, by the columns of its row
+abbrev pub marks_of_line : SnippetSettings → List DrawnLabel → Line → List Cell → List Mark
+marks_of_line s labels line cells =
+    shown_marks (line_cut s line cells (one_line line labels)) (line_marks line cells (one_line line labels))
+
+-- what is shown of its text
+abbrev pub text_of_line : SnippetSettings → List DrawnLabel → Line → List Cell → List Highlight → Row
+text_of_line s labels line cells pieces = shown_runs (line_cut s line cells (one_line line labels)) pieces cells
 
 -- where the text of the rows begins
 abbrev pub text_start : ℕ → ℕ → ℕ
@@ -81,9 +86,9 @@ abbrev pub LinesShow : SnippetSettings → ℕ → ℕ → List DrawnLabel → L
     Type 0
 LinesShow s w columns labels source number pieces [] = Unit {0}
 LinesShow s w columns labels source number pieces (line ∷ lines) =
-    HasText (text_start w columns) (line_runs (first_of pieces) (cells_of s source line))
+    HasText (text_start w columns) (text_of_line s labels line (cells_of s source line) (first_of pieces))
     (line_rows s w columns labels line number (cells_of s source line) (first_of pieces))
-    × ShowMarks s (text_start w columns) (marks_of_line labels line (cells_of s source line))
+    × ShowMarks s (text_start w columns) (marks_of_line s labels line (cells_of s source line))
     (line_rows s w columns labels line number (cells_of s source line) (first_of pieces))
     × LinesShow s w columns labels source (number + 1) (later_of pieces) lines
 

@@ -4,7 +4,7 @@ use Rattle.std.specs.List.{range_with_len}
 use Rattle.miette_page.specs.rules.Rows.{Run, Row, code_piece, styled_run}
 use Rattle.miette_style.specs.rules.Styles.{plain}
 use Rattle.miette_lines.specs.rules.Labels.{is_empty}
-use Rattle.miette_snippets.specs.rules.Marks.{Mark, anchor}
+use Rattle.miette_snippets.specs.rules.Marks.{Mark}
 use Rattle.miette_style.specs.rules.Themes.{Characters}
 
 -- the drawing characters are one column wide, and so are a space and the digits
@@ -33,7 +33,7 @@ code_with_parts t (part ∷ parts) = t.underbar
 -- the character at a column of a mark
 abbrev pub mark_code : Characters → Mark → ℕ → ℕ
 mark_code t mark column =
-    if column == anchor mark then (if is_empty mark.label then t.uarrow else code_with_parts t mark.label.parts)
+    if column == mark.anchor then (if is_empty mark.label then t.uarrow else code_with_parts t mark.label.parts)
     else t.underline
 
 abbrev pub mark_run : (ℕ → ℕ) → Characters → Mark → Run
@@ -53,12 +53,12 @@ mark_runs width t reached (mark ∷ marks) = blank width (mark.from - reached) �
 abbrev pub lead_runs : (ℕ → ℕ) → Characters → ℕ → List Mark → ℕ → Row
 lead_runs width t reached [] column = blank width (column - reached) ∷ []
 lead_runs width t reached (mark ∷ marks) column =
-    blank width (anchor mark - reached) ∷ styled_run width mark.label.style (t.vbar ∷ [])
-    ∷ lead_runs width t (anchor mark + 1) marks column
+    blank width (mark.anchor - reached) ∷ styled_run width mark.label.style (t.vbar ∷ [])
+    ∷ lead_runs width t (mark.anchor + 1) marks column
 
 -- a row of a text: the leads of the earlier marks, then these characters and a part in the label's style
 abbrev pub text_row : (ℕ → ℕ) → Characters → List Mark → Mark → List ℕ → List ℕ → Row
-text_row width t earlier mark corner part = lead_runs width t 0 earlier (anchor mark)
+text_row width t earlier mark corner part = lead_runs width t 0 earlier mark.anchor
     ++ styled_run width mark.label.style (corner ++ part) ∷ []
 
 abbrev pub corner : Characters → List ℕ

@@ -17,7 +17,8 @@ pub record Styles : Type 0 where
   pub linum : Style
   pub highlights : List Style
 
--- the width is that of a character, 0 where it has none; a label over more lines than label_lines is folded
+-- The width is that of a character, 0 where it has none. A label over more lines than `label_lines` is folded, and a
+-- line of more columns than `line_columns` is cut.
 pub record SnippetSettings : Type 0 where
   pub characters : Characters
   pub styles : Styles
@@ -27,6 +28,7 @@ pub record SnippetSettings : Type 0 where
   pub primary_start : Bool
   pub end_labels : Bool
   pub label_lines : Option ℕ
+  pub line_columns : Option ℕ
 
 -- the text of a label, whose bytes are given
 abbrev pub text_or_none : Option (List ℕ) → List ℕ

@@ -11,10 +11,11 @@ pub record Text : Type 0 where
   pub text_end : ℕ
   pub width : ℕ
 
--- the columns from the one up to the other
+-- the columns from the one up to the other, and the one of them from which the label's text hangs
 pub record Mark : Type 0 where
   pub from : ℕ
   pub until : ℕ
+  pub anchor : ℕ
   pub label : DrawnLabel
 
 -- the column of a label's first byte; where it stands behind the text, the one after the text's columns
@@ -30,23 +31,33 @@ mark_until text reached label =
     if is_empty label then mark_from text reached label + 1
     else max (last_column text.cells text.text_end text.width label.after) (mark_from text reached label + 1)
 
+-- the middle column, rounded down
+abbrev pub mark_anchor : Text → ℕ → DrawnLabel → ℕ
+mark_anchor text reached label = (mark_from text reached label + mark_until text reached label) / 2
+
 -- each mark begins at its own first column or where the mark before it ends, whichever is later
 abbrev pub marks_from : Text → ℕ → List DrawnLabel → List Mark
 marks_from text reached [] = []
 marks_from text reached (label ∷ labels) =
-    record { from = mark_from text reached label; until = mark_until text reached label; label = label }
+    record {
+      from = mark_from text reached label;
+      until = mark_until text reached label;
+      anchor = mark_anchor text reached label;
+      label = label;
+    }
     ∷ marks_from text (mark_until text reached label) labels
 
 abbrev pub marks : Text → List DrawnLabel → List Mark
 marks text labels = marks_from text 0 labels
 
-abbrev pub anchor : Mark → ℕ
-anchor mark = (mark.from + mark.until) / 2
+-- a mark's anchor is one of its columns, so it has one
+abbrev pub HasAnchor : Mark → Type 0
+HasAnchor mark = (mark.from ≤ mark.anchor) × (mark.anchor < mark.until)
 
--- each mark has a column, and begins where the one before it ends or later
+-- each mark has its anchor, and begins where the one before it ends or later
 abbrev pub AreApart : ℕ → List Mark → Type 0
 AreApart reached [] = Unit {0}
-AreApart reached (mark ∷ marks) = (reached ≤ mark.from) × (mark.from < mark.until) × AreApart mark.until marks
+AreApart reached (mark ∷ marks) = (reached ≤ mark.from) × HasAnchor mark × AreApart mark.until marks
 
 -- the marks in which a column lies
 abbrev pub marks_at : ℕ → List Mark → List Mark

@@ -11,11 +11,12 @@ use Rattle.miette_lines.specs.rules.Answers.{Answers, Highlight, first_of, later
 use Rattle.miette_lines.specs.rules.Around.{has_own, group_context}
 use Rattle.miette_lines.specs.rules.Contexts.{end_of_span, contents, lines_of_contents}
 use Rattle.miette_lines.specs.rules.Groups.{in_order, refusal, groups_of, some_fails, groups_fail}
-use Rattle.miette_snippets.specs.rules.PrintedCells.{cells_width, line_runs}
+use Rattle.miette_snippets.specs.rules.PrintedCells.{cells_width}
 use Rattle.miette_lines.specs.rules.Cells.{Cell, characters, cells_from}
 use Rattle.miette_lines.specs.rules.Labels.{DrawnLabel, drawn_from, some_shows_end, one_line, multi_line}
 use Rattle.miette_lines.specs.rules.Labels.{closing_labels}
-use Rattle.miette_snippets.specs.rules.Marks.{Text, marks}
+use Rattle.miette_snippets.specs.rules.Marks.{Text, Mark, marks}
+use Rattle.miette_snippets.specs.rules.CutLines.{Stretch, cut_line, shown_runs, shown_marks}
 use Rattle.miette_snippets.specs.rules.Drawing.{marked_rows}
 use Rattle.miette_snippets.specs.rules.Gutters.{gutter_columns, number_gutter, other_gutter, break_gutter, closing_rows}
 use Rattle.miette_snippets.specs.rules.Folds.{Spread, spreads_of, leaves_out}
@@ -34,15 +35,24 @@ cells_of s source line = cells_from s.width s.tab false line.start 0
 abbrev pub before_each : Row → List Row → List Row
 before_each prefix rows = map (λ row. prefix ++ row) rows
 
+-- the marks of the labels that lie on a line alone, by the columns of the whole line
+abbrev pub line_marks : Line → List Cell → List DrawnLabel → List Mark
+line_marks line cells one = marks (text_of_cells cells line.text_end) one
+
+-- how a line is cut around them, if it is
+abbrev pub line_cut : SnippetSettings → Line → List Cell → List DrawnLabel → Option (List Stretch)
+line_cut s line cells one = cut_line s.line_columns (line_marks line cells one) cells
+
 -- The rows of a line with this number: the number row, the marks and texts of the labels that lie on it alone, and
 -- the texts of those of several lines that end there.
 abbrev pub line_rows_of : SnippetSettings → ℕ → ℕ → List DrawnLabel → List DrawnLabel → Line → ℕ → List Cell → List
     Highlight →
     List Row
 line_rows_of s w columns one multi line number cells pieces =
-    (number_start s w number ++ number_gutter s.width s.characters line columns multi ++ line_runs pieces cells)
+    (number_start s w number ++ number_gutter s.width s.characters line columns multi
+    ++ shown_runs (line_cut s line cells one) pieces cells)
     ∷ before_each (other_start s w ++ other_gutter s.width s.characters line columns multi)
-    (marked_rows s.width s.characters (marks (text_of_cells cells line.text_end) one))
+    (marked_rows s.width s.characters (shown_marks (line_cut s line cells one) (line_marks line cells one)))
     ++ before_each (other_start s w) (closing_rows s.width s.characters line columns multi (closing_labels line multi))
 
 abbrev pub line_rows : SnippetSettings → ℕ → ℕ → List DrawnLabel → Line → ℕ → List Cell → List Highlight → List Row

@@ -26,4 +26,5 @@ settings_of theme options = record {
   primary_start = options.primary_start;
   end_labels = options.end_labels;
   label_lines = options.label_lines;
+  line_columns = options.line_columns;
 }

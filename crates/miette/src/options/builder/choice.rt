@@ -72,6 +72,7 @@ impl<H: Highlighter> MietteHandlerOpts<H> {
             .with_links(self.shows_links(terminal));
         let handler = self.with_tabs_and_related(handler);
         let handler = self.with_end_labels(handler);
+        let handler = self.with_cut_lines(handler);
         let handler = self.with_wrapping(handler);
         let handler = self.with_highlighter(handler, terminal);
         Ok(self.with_parts(handler))
@@ -211,6 +212,19 @@ impl<H: Highlighter> MietteHandlerOpts<H> {
         match self.end_labels {
             Some(true) => handler.with_end_labels(),
             Some(false) => handler.without_end_labels(),
+            None => handler,
+        }
+    }
+
+    fn with_cut_lines(&self, handler: GraphicalReportHandler<H>) -> GraphicalReportHandler<H>
+        ensures { result ≡ record handler {
+          settings = record handler.settings {
+            line_columns = option_or self.now.line_columns handler.settings.line_columns;
+          };
+        } }
+    {
+        match self.line_columns {
+            Some(columns) => handler.with_line_columns(columns),
             None => handler,
         }
     }

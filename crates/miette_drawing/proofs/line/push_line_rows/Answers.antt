@@ -1,29 +1,63 @@
 use Rattle.miette_page.specs.views.Printouts.{◌⊕◌}
-use Rattle.std.proofs.Common.{List, ◌∙◌, map, ap}
+use Rattle.std.proofs.Common.{◌≡◌, List, Option, [], ◌∷◌, ◌∙◌, false, map, ap, option_map}
 use Rattle.miette_page.specs.rules.Rows.{Row}
 use Rattle.miette_page.specs.views.Tokens.{rows_tokens}
+use Rattle.miette_lines.specs.rules.Answers.{Highlight}
+use Rattle.miette_lines.specs.rules.Cells.{Cell, characters}
 use Rattle.miette_lines.specs.rules.Labels.{closing_labels}
+use Rattle.miette_lines.specs.views.GivenLabels.{width_of}
+use Rattle.miette_snippets.specs.rules.CutLines.{Stretch, cut_line, shown_marks, shown_runs}
 use Rattle.miette_snippets.specs.rules.Marks.{Mark, marks}
 use Rattle.miette_snippets.specs.rules.Drawing.{marked_rows}
 use Rattle.miette_snippets.specs.rules.Gutters.{closing_rows}
 use Rattle.miette_snippets.specs.rules.Frames.{other_start}
+use Rattle.miette_snippets.specs.rules.Highlighting.{highlight_of}
 use Rattle.miette_snippets.specs.rules.SnippetLayout.{before_each, text_of_cells}
-use Rattle.miette_lines.specs.views.GivenLabels.{width_of}
+use Rattle.miette_snippets.proofs.CutColumns.{columns_from}
+use Rattle.miette_drawing.specs.steps.Cut.{made_runs, measure}
 use Rattle.miette_drawing.specs.steps.Marks.{mark_of}
 use Rattle.miette_drawing.specs.steps.Sheets.{settings, multi_labels, before_marks, number_row, shown_cells, labels_alone}
 use Rattle.miette_newlines.specs.views.Walking.{line_of_text}
+use Rattle.miette_drawing.proofs.CutStretches.{shown_made_anchored}
+use Rattle.miette_drawing.proofs.CutTexting.{shown_made}
 use Rattle.miette_drawing.proofs.Lining.{line_put}
 use Rattle.miette_drawing.proofs.line.push_line_rows.Goals as goal
 use Rattle.miette_style.specs.rules.Themes.{characters_of}
+
+pub push_marked_rows-requires : goal.push_marked_rows-requires
+push_marked_rows-requires g c =
+    let sheet = c.args.sheet.now in
+    let shown = c.args.shown.now in
+    let cells : List Cell = shown_cells sheet shown in
+    let own : List Mark = marks (text_of_cells cells sheet.line.text_end) (labels_alone sheet shown) in
+    let ls = sheet.labels.now in
+    let o : Option (List Stretch) = cut_line sheet.options.line_columns own cells in
+    let made : option_map (λ v. v.items) c.in_ok-cut.cut ≡ option_map (map measure) o =
+    c.in_ok-cut.ensures ls ∙ ap (λ ms. option_map (map measure) (cut_line sheet.options.line_columns (map (mark_of ls) ms) cells)) c.deref.ensures.value
+    ∙ ap (λ ms. option_map (map measure) (cut_line sheet.options.line_columns ms cells)) c.in_ok-whole.ensures.marks in
+    rw c.deref-2.ensures.value (shown_made_anchored ls sheet.options.line_columns own cells c.in_ok-whole.whole.items c.in_ok-marks.marks.items
+    (columns_from width_of sheet.options.tab_width false sheet.line.start 0 (characters shown.text.now)) c.in_ok-whole.ensures.marks c.in_ok-whole.ensures.anchored
+    (c.in_ok-marks.ensures ls o made ∙ ap (shown_marks o) c.in_ok-whole.ensures.marks))
 
 pub returns : goal.returns
 returns g c =
     let sheet = c.args.sheet.now in
     let shown = c.args.shown.now in
+    let ls = sheet.labels.now in
+    let cells : List Cell = shown_cells sheet shown in
+    let pieces : List Highlight = map highlight_of shown.pieces.now in
+    let own : List Mark = marks (text_of_cells cells sheet.line.text_end) (labels_alone sheet shown) in
+    let o : Option (List Stretch) = cut_line sheet.options.line_columns own cells in
     let drawn : List Mark → List Row = λ ms. before_each (before_marks sheet) (marked_rows width_of (characters_of sheet.theme.now.characters) ms) in
-    line_put (number_row sheet shown)
-    (drawn (marks (text_of_cells (shown_cells sheet shown) sheet.line.text_end) (labels_alone sheet shown)))
+    let made : option_map (λ v. v.items) c.in_ok-cut.cut ≡ option_map (map measure) o =
+    c.in_ok-cut.ensures ls ∙ ap (λ ms. option_map (map measure) (cut_line sheet.options.line_columns (map (mark_of ls) ms) cells)) c.deref.ensures.value
+    ∙ ap (λ ms. option_map (map measure) (cut_line sheet.options.line_columns ms cells)) c.in_ok-whole.ensures.marks in
+    let text : made_runs (option_map (λ v. v.items) c.in_ok-cut.cut) pieces cells ≡ shown_runs o pieces cells =
+    ap (λ x. made_runs x pieces cells) made ∙ shown_made sheet.options.line_columns own cells pieces in
+    let moved : map (mark_of ls) c.in_ok-marks.marks.items ≡ shown_marks o own = c.in_ok-marks.ensures ls o made ∙ ap (shown_marks o) c.in_ok-whole.ensures.marks in
+    line_put (number_row sheet shown (shown_runs o pieces cells)) (drawn (shown_marks o own))
     (before_each (other_start (settings sheet) sheet.number_width) (closing_rows width_of (characters_of sheet.theme.now.characters) (line_of_text sheet.line) sheet.gutter (multi_labels sheet) (closing_labels (line_of_text sheet.line) (multi_labels sheet))))
-    c.args.page.now c.push_number_row.new.page c.push_marked_rows.new.page c.push_closings.new.page c.in_ok-push_number_row.ensures
-    (c.in_ok-push_marked_rows.ensures ∙ ap (λ ms. c.push_number_row.new.page ⊕ rows_tokens (drawn (map (mark_of sheet.labels.now) ms))) c.deref.ensures.value ∙ ap (λ ms. c.push_number_row.new.page ⊕ rows_tokens (drawn ms)) c.in_ok-marks.ensures.marks)
+    c.args.page.now c.push_number_row.new.page c.push_marked_rows.new.page c.push_closings.new.page
+    (c.in_ok-push_number_row.ensures ∙ ap (λ runs. c.args.page.now ⊕ rows_tokens (number_row sheet shown runs ∷ [])) text)
+    (c.in_ok-push_marked_rows.ensures ∙ ap (λ ms. c.push_number_row.new.page ⊕ rows_tokens (drawn (map (mark_of ls) ms))) c.deref-2.ensures.value ∙ ap (λ ms. c.push_number_row.new.page ⊕ rows_tokens (drawn ms)) moved)
     c.in_ok-push_closings.ensures

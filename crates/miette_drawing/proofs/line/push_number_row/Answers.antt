@@ -1,5 +1,6 @@
 use Rattle.std.proofs.Common.{map}
-use Rattle.miette_snippets.specs.rules.PrintedCells.{line_runs}
+use Rattle.std.specs.Option.{option_map}
+use Rattle.miette_drawing.specs.steps.Cut.{made_runs}
 use Rattle.miette_snippets.specs.rules.Frames.{number_start}
 use Rattle.miette_snippets.specs.rules.Gutters.{number_gutter}
 use Rattle.miette_lines.specs.views.GivenLabels.{width_of}
@@ -15,6 +16,6 @@ returns g c =
     let sheet = c.args.sheet.now in
     number_row_put (number_start (settings sheet) sheet.number_width c.args.shown.now.number)
     (number_gutter width_of (characters_of sheet.theme.now.characters) (line_of_text sheet.line) sheet.gutter (multi_labels sheet))
-    (line_runs (map highlight_of c.args.shown.now.pieces.now) (shown_cells sheet c.args.shown.now))
-    c.args.page.now c.push_number_start.new.page c.push_number_gutter.new.page c.push_text.new.page c.end_row.new.self
-    c.in_ok-push_number_start.ensures c.in_ok-push_number_gutter.ensures c.in_ok-push_text.ensures c.in_ok-end_row.ensures
+    (made_runs (option_map (λ made. made.items) c.args.cut.now) (map highlight_of c.args.shown.now.pieces.now) (shown_cells sheet c.args.shown.now))
+    c.args.page.now c.push_number_start.new.page c.push_number_gutter.new.page c.push_shown_text.new.page c.end_row.new.self
+    c.in_ok-push_number_start.ensures c.in_ok-push_number_gutter.ensures c.in_ok-push_shown_text.ensures c.in_ok-end_row.ensures

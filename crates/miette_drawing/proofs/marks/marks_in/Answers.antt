@@ -1,4 +1,5 @@
-use Rattle.std.proofs.Common.{◌<◌, sym, subst}
+use Rattle.std.proofs.Common.{sym, subst}
+use Rattle.miette_drawing.specs.steps.Marks.{HasAnchor}
 use Rattle.std.specs.List.{All}
 use Rattle.std.proofs.lemmas.List.Elements.{All-push}
 use Rattle.miette_drawing.proofs.Placing.{mark_more, mark_end}
@@ -7,8 +8,8 @@ use Rattle.miette_drawing.proofs.marks.marks_in.Goals as goal
 pub loop-label-preserved : goal.loop-label-preserved
 loop-label-preserved c = record {
   told = λ labels. mark_more labels c.loop-label.made.items c.push.new.self.items c.in_ok-mark.mark c.args.columns.now c.loop-label.reached c.args.placed.now c.loop-label.label-index
-      c.loop-label-test.true c.in_ok-push.ensures.items c.in_ok-mark.ensures.from c.in_ok-mark.ensures.until c.in_ok-mark.ensures.label _ (c.loop-label.invariant.told labels);
-  apart = subst (λ marks. All (λ mark. mark.from < mark.until) marks) (sym c.in_ok-push.ensures.items) (All-push (λ mark. mark.from < mark.until) c.loop-label.made.items c.in_ok-mark.mark c.loop-label.invariant.apart c.in_ok-mark.ensures.some);
+      c.loop-label-test.true c.in_ok-push.ensures.items c.in_ok-mark.ensures.from c.in_ok-mark.ensures.until c.in_ok-mark.ensures.anchor c.in_ok-mark.ensures.label _ (c.loop-label.invariant.told labels);
+  apart = subst (λ marks. All HasAnchor marks) (sym c.in_ok-push.ensures.items) (All-push HasAnchor c.loop-label.made.items c.in_ok-mark.mark c.loop-label.invariant.apart c.in_ok-mark.ensures.anchored);
 }
 
 pub returns-clause-is : goal.returns-clause-is

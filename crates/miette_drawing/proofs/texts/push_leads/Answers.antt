@@ -1,3 +1,8 @@
+use Rattle.std.proofs.Common.{refl, ap, map, drop, ◌+◌, ◌∙◌}
+use Rattle.miette_page.specs.views.Printouts.{◌⊕◌}
+use Rattle.miette_page.specs.views.Tokens.{row_tokens}
+use Rattle.miette_snippets.specs.rules.Drawing.{lead_runs}
+use Rattle.miette_drawing.specs.steps.Marks.{mark_of}
 use Rattle.miette_lines.specs.views.GivenLabels.{width_of}
 use Rattle.miette_drawing.proofs.Placing.{no_mark}
 use Rattle.miette_drawing.proofs.Texting.{lead_more, lead_end}
@@ -6,8 +11,9 @@ use Rattle.miette_style.specs.rules.Themes.{characters_of}
 
 pub loop-mark-preserved : goal.loop-mark-preserved
 loop-mark-preserved g c =
-    lead_more width_of (characters_of c.args.sheet.now.theme.now.characters) c.args.sheet.now.labels.now c.args.earlier.now c.loop-mark.mark-index c.loop-mark.reached c.saturating_sub.result c.anchor_of-anchor.result c.args.column no_mark
-    c.loop-mark.page c.push_blank.new.self c.push_line.new.self _ c.loop-mark-test.true c.anchor_of-anchor.ensures.is c.saturating_sub.ensures c.in_ok-push_blank.ensures c.in_ok-push_line.ensures c.loop-mark.invariant
+    ap (λ n. c.push_line.new.self ⊕ row_tokens (lead_runs width_of (characters_of c.args.sheet.now.theme.now.characters) n (map (mark_of c.args.sheet.now.labels.now) (drop (c.loop-mark.mark-index + 1) c.args.earlier.now)) c.args.column)) c.behind_anchor-reached.ensures
+    ∙ lead_more width_of (characters_of c.args.sheet.now.theme.now.characters) c.args.sheet.now.labels.now c.args.earlier.now c.loop-mark.mark-index c.loop-mark.reached c.saturating_sub.result _ c.args.column no_mark
+    c.loop-mark.page c.push_blank.new.self c.push_line.new.self _ c.loop-mark-test.true refl c.saturating_sub.ensures c.in_ok-push_blank.ensures c.in_ok-push_line.ensures c.loop-mark.invariant
 
 pub returns : goal.returns
 returns g c =

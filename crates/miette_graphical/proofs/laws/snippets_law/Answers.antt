@@ -1,12 +1,20 @@
-use Rattle.std.proofs.Common.{ℕ, ◌≡◌, List, [], ◌∷◌, Option, Some, None, IfSome, refl, ap, ◌∙◌}
+use Rattle.std.proofs.Common.{ℕ, ◌≡◌, List, [], ◌∷◌, Option, Some, None, IfSome, refl, ap, ◌∙◌, false, cond, ltb, sym, subst}
 use Rattle.std.specs.List.{AllByRecursion}
 use Rattle.miette_protocol.specs.views.Meaning.{Label}
 use Rattle.miette_protocol.specs.rules.Reading.{Source}
 use Rattle.miette_lines.specs.rules.Contexts.{contents}
 use Rattle.miette_lines.specs.rules.Groups.{in_order}
+use Rattle.miette_lines.specs.rules.Cells.{Cell}
+use Rattle.miette_lines.proofs.Numbers.{by_cases}
+use Rattle.miette_page.specs.rules.Rows.{pieces_of}
+use Rattle.miette_snippets.specs.rules.CutLines.{Stretch, cut_line, ends, is_near, shown_runs, stretches}
+use Rattle.miette_snippets.specs.rules.Marks.{Mark}
+use Rattle.miette_snippets.specs.rules.PrintedCells.{cells_width}
+use Rattle.miette_snippets.specs.rules.SnippetLayout.{line_marks}
+use Rattle.miette_snippet_laws.specs.laws.Cuts.{AreStretches, by_stretch}
 use Rattle.miette_graphical.specs.rules.Answers.{pieces_listed}
 use Rattle.miette_graphical.specs.rules.Settings.{Settings}
-use Rattle.miette_graphical.specs.laws.Headline.{EndsAreDrawn, LabelsAreFolded, LinesAreShown, MarksAreApart, TextsHang, SnippetHangs, drawn_labels, groups_of, group_settings, labels_under, shown_lines, text_under}
+use Rattle.miette_graphical.specs.laws.Headline.{EndsAreDrawn, LabelsAreFolded, LinesAreShown, MarksAreApart, TextsHang, SnippetHangs, drawn_labels, groups_of, group_settings, labels_under, shown_lines, CutsAreExact, LinesThatFitStay, SnippetStays, cells_under, line_of}
 use Rattle.miette_tree.specs.rules.DiagnosticParts.{given_labels}
 use Rattle.miette_graphical.specs.rules.PrintedDiagnostics.{diagnostics_of}
 use Rattle.miette_graphical.specs.rules.Snippets.{drawn_rows, layout_settings, shown_rows}
@@ -19,6 +27,17 @@ use Rattle.miette_graphical.proofs.laws.snippets_law.Goals as goal
 each : {A : Type 0} (P : A → Type 0) → ((x : A) → P x) → (xs : List A) → AllByRecursion P xs
 each P f [] = tt
 each P f (x ∷ xs) = (f x, each P f xs)
+
+-- a line that is cut is cut at the limit
+cut_whole : (o : Option ℕ) (limit : ℕ) (ms : List Mark) (cells : List Cell) (cut : List Stretch) → o ≡ Some limit → cut_line o ms cells ≡ Some cut → cut ≡ stretches (is_near limit (ends ms)) false cells
+cut_whole None limit ms cells cut some is = absurd (cc)
+cut_whole (Some n) limit ms cells cut some is =
+    let same : n ≡ limit = cc in
+    by_cases {C = cut ≡ stretches (is_near limit (ends ms)) false cells} (ltb n (cells_width 0 cells))
+    (λ y. let there : Some (stretches (is_near n (ends ms)) false cells) ≡ Some cut = sym (ap (λ b. cond b (Some (stretches (is_near n (ends ms)) false cells)) None) y) ∙ is in
+    let own : stretches (is_near n (ends ms)) false cells ≡ cut = cc in
+    sym own ∙ ap (λ m. stretches (is_near m (ends ms)) false cells) same)
+    (λ f. let none : None ≡ Some cut = sym (ap (λ b. cond b (Some (stretches (is_near n (ends ms)) false cells)) None) f) ∙ is in absurd (cc))
 
 if_some : {A : Type 0} (P : A → Type 0) → ((x : A) → P x) → (o : Option A) → IfSome o P
 if_some P f None = tt
@@ -50,9 +69,30 @@ returns-clause-lines c = λ s t. each (LinesAreShown s) (λ p.
 pub returns-clause-marks : goal.returns-clause-marks
 returns-clause-marks c = λ s t. each (MarksAreApart s) (λ p.
     if_some _ (λ source k. record {
-      apart = c.marks_are_apart.ensures.apart _ _;
-      anchors = c.marks_are_apart.ensures.anchors _ _;
+      apart = c.marks_are_apart.ensures.row (layout_settings s) (drawn_labels s source (given_labels p.meaning.labels)) source.bytes (line_of source k);
+      anchors = c.marks_are_apart.ensures.row_anchors (layout_settings s) (drawn_labels s source (given_labels p.meaning.labels)) source.bytes (line_of source k);
     }) p.source) (diagnostics_of s t)
+
+pub returns-clause-cuts : goal.returns-clause-cuts
+returns-clause-cuts c = λ s t. each (CutsAreExact s) (λ p.
+    let labels = given_labels p.meaning.labels in
+    if_some _ (λ source k limit cut some is.
+    let lay = layout_settings s in
+    let cells = cells_under s source k in
+    let own = line_marks (line_of source k) cells (labels_under s source labels k) in
+    let whole : cut ≡ stretches (is_near limit (ends own)) false cells = cut_whole lay.line_columns limit own cells cut some is in record {
+      cells = ap by_stretch whole ∙ c.cut_lines_are_parted.ensures.cells (is_near limit (ends own)) cells;
+      parted = subst AreStretches (sym whole) (c.cut_lines_are_parted.ensures.parted (is_near limit (ends own)) cells);
+      printed = λ pieces. ap (λ o. pieces_of (shown_runs o pieces cells)) is ∙ c.cut_lines_are_parted.ensures.printed pieces cut;
+      narrow = λ pieces widest wide. c.cut_rows_are_narrow.ensures lay (drawn_labels s source labels) source.bytes (line_of source k) pieces limit widest some wide;
+    }) p.source) (diagnostics_of s t)
+
+pub returns-clause-fits : goal.returns-clause-fits
+returns-clause-fits c = λ s t. each (LinesThatFitStay s) (λ p.
+    let labels = given_labels p.meaning.labels in
+    if_some _ (λ source. each (SnippetStays s source labels)
+    (λ group spreads pieces fit. c.lines_that_fit_stay.ensures (group_settings s labels) spreads (drawn_labels s source labels) source.bytes (contents (group_settings s labels).context source group) pieces fit)
+    (groups_of s source labels)) p.source) (diagnostics_of s t)
 
 pub returns-clause-texts : goal.returns-clause-texts
 returns-clause-texts c = λ s t. each (TextsHang s) (λ p.
@@ -66,7 +106,7 @@ returns-clause-ends c = λ s t. each (EndsAreDrawn s) (λ p.
     let labels = given_labels p.meaning.labels in
     if_some _ (λ source on shows. record {
       lines = c.ends_are_drawn.ensures.lines (group_settings s labels) source.bytes (in_order labels) on shows;
-      marks = λ k. c.ends_are_drawn.ensures.marks (text_under s source k) (labels_under s source labels k);
+      marks = λ k pieces. c.ends_are_drawn.ensures.row (layout_settings s) (drawn_labels s source labels) source.bytes (line_of source k) pieces;
     }) p.source) (diagnostics_of s t)
 
 pub returns-clause-folds : goal.returns-clause-folds

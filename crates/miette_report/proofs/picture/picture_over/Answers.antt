@@ -2,7 +2,7 @@ use Rattle.miette_report.proofs.PictureSteps.{IfOk-same, reads-over}
 use Rattle.miette_report.proofs.picture.picture_over.Goals as goal
 
 pub draw-requires : goal.draw-requires
-draw-requires c = record { reads = reads-over _ _ _ _ c.in-Ok.ensures }
+draw-requires c = record { reads = reads-over c.args.limit _ _ _ _ c.in-Ok.ensures }
 
 pub returns-clause-ok : goal.returns-clause-ok
-returns-clause-ok c = IfOk-same c.draw.result _ _ c.in-Ok.ensures c.draw.ensures.ok
+returns-clause-ok c = IfOk-same c.args.limit c.draw.result _ _ c.in-Ok.ensures c.draw.ensures.ok

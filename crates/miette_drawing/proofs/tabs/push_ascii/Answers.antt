@@ -3,7 +3,7 @@ use Rattle.std.proofs.Common.{◌∙◌, ap}
 use Rattle.std.specs.Str.{chars}
 use Rattle.std.proofs.lemmas.Str.{IsUtf8-from_ascii, chars-IsAscii}
 use Rattle.miette_page.specs.views.Tokens.{text_tokens}
-use Rattle.miette_drawing.proofs.tabs.push_stretch.Goals as goal
+use Rattle.miette_drawing.proofs.tabs.push_ascii.Goals as goal
 
 pub unreachable-requires : goal.unreachable-requires
 unreachable-requires g c = c.in_default.ensures.cases.0 (IsUtf8-from_ascii c.args.bytes.now c.requires)
