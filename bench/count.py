@@ -74,7 +74,8 @@ def command(who, workload, times, asked, suffix=""):
     """How a program is called to render so many times; nothing where it can't."""
     name = workload.program
     if who == OURS:
-        return [built(name), *([] if name == "draw" else [str(times)]), *workload.words]
+        repeated = [] if name == "draw" else [str(times)]
+        return [built(name), *repeated, *workload.words, *workload.ours]
     words, programs = peer_words(who, workload), PEER_PROGRAMS[who]
     if not asked.peers or name not in programs or words is None:
         return None

@@ -7,7 +7,7 @@ of a workload that is drawn by `draw`.
 
 The bytes are the same each time. The manifest says of each workload its name, its family (the rows
 of a family differ in size alone), its file, its program and its words, and the words that the
-original takes beside them. count.py makes what it counts by itself.
+original takes beside them, and ours. count.py makes what it counts by itself.
 """
 import json
 import os
@@ -24,6 +24,7 @@ JSON = ("--json",)
 NESTED = (*PLAIN, "--nested", "yes")
 WIDE_NESTED = (*NESTED, "--width", "400")
 WIDTH = ("--width", "80")
+CUT = ("--line-columns", "80")
 MB = 1 << 20
 
 
@@ -35,8 +36,9 @@ class Workload(NamedTuple):
     words: tuple
     make: Callable[[], bytes]
     program: str = "bench"
-    # What the original takes beside the words.
+    # What the original takes beside the words, and what ours takes, which no peer knows.
     original: tuple = ()
+    ours: tuple = ()
 
     def file(self):
         """The name of its file."""
@@ -48,9 +50,10 @@ def described(report):
     return json.dumps(report, ensure_ascii=False).encode()
 
 
-def bench(name, family, options, make, *given, original=()):
+def bench(name, family, options, make, *given, original=(), ours=()):
     """A workload of `bench`."""
-    return Workload(name, family, options, lambda: described(make(*given)), original=original)
+    made = lambda: described(make(*given))
+    return Workload(name, family, options, made, original=original, ours=ours)
 
 
 def everyday():
@@ -83,6 +86,7 @@ def long_lines():
     for size in (512, 1024, 2048):
         yield bench(f"e_line_{size}kb", "e", PLAIN, of.long_line, size)
         yield bench(f"e_head_{size}kb", "e_head", PLAIN, of.long_line, size, True)
+        yield bench(f"e_cut_{size}kb", "e_cut", PLAIN, of.long_line, size, ours=CUT)
     for size in (30, 60, 120):
         yield bench(f"e_short_{size}kb", "e_short", PLAIN, of.long_line, size)
     for count in (100, 200, 400):
