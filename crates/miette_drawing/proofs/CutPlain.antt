@@ -18,7 +18,7 @@ use Rattle.miette_lines.proofs.Plaining.{plain_byte}
 use Rattle.miette_snippets.specs.rules.PrintedCells.{line_runs, printed_pieces, printed_cells, text_bytes}
 use Rattle.miette_snippets.specs.rules.CutLines.{agree, cut_line, dots, ends, is_near, is_near_after, is_within, stretches}
 use Rattle.miette_snippets.proofs.Telling.{then, told-append}
-use Rattle.miette_drawing.specs.declared.cutting.Stretch.{Stretch as MadeStretch}
+use Rattle.miette_drawing.specs.declared.stretch.Stretch.{Stretch as MadeStretch}
 use Rattle.miette_drawing.specs.steps.Cut.{measure, lone, onto_made, is_kept, even, cell_at, cut_cells, plain_run, plain_told}
 use Rattle.miette_drawing.proofs.CutStretches.{cut_is, cut_none, first_stretch, near_found, near_later, near_nowhere, onto-same}
 use Rattle.miette_drawing.proofs.Plaining.{plain_columns, printable_cells}

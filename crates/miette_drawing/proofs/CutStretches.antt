@@ -12,7 +12,7 @@ use Rattle.miette_snippets.specs.rules.Marks.{Mark, HasAnchor}
 use Rattle.miette_snippets.specs.rules.PrintedCells.{cells_width, text_bytes}
 use Rattle.miette_snippets.specs.rules.CutLines.{Stretch, agree, bytes_in, columns_in, cut_line, ends, is_near, is_near_after, is_within, onto_stretches, row_column, row_mark, shown_marks, stretches}
 use Rattle.miette_snippets.proofs.CutColumns.{AreColumns, columns_in-append, shown_anchored}
-use Rattle.miette_drawing.specs.declared.cutting.Stretch.{Stretch as MadeStretch}
+use Rattle.miette_drawing.specs.declared.stretch.Stretch.{Stretch as MadeStretch}
 use Rattle.miette_drawing.specs.declared.marks.Mark.{Mark as MadeMark}
 use Rattle.miette_drawing.specs.steps.Cut.{measure, lone, grown, onto_made, is_kept, kept_columns, made_column, made_mark}
 use Rattle.miette_drawing.specs.steps.Marks.{mark_of, HasAnchor as MadeAnchor}

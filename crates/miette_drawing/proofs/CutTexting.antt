@@ -15,7 +15,7 @@ use Rattle.miette_snippets.specs.rules.Marks.{Mark}
 use Rattle.miette_snippets.specs.rules.PrintedCells.{cells_width, cells_within, cells_beyond, line_runs}
 use Rattle.miette_snippets.specs.rules.CutLines.{Stretch, agree, bytes_in, cut_line, cut_runs, dots, ends, is_near, is_near_after, onto_stretches, pieces_within, shown_runs, stretches}
 use Rattle.miette_snippets.proofs.Telling.{then, told-append}
-use Rattle.miette_drawing.specs.declared.cutting.Stretch.{Stretch as MadeStretch}
+use Rattle.miette_drawing.specs.declared.stretch.Stretch.{Stretch as MadeStretch}
 use Rattle.miette_drawing.specs.steps.Cut.{measure, is_kept, cut_cells, made_runs}
 use Rattle.miette_drawing.specs.steps.CellTokens.{cells_tokens}
 

@@ -9,9 +9,9 @@ ghost use Rattle.miette_snippets.specs.rules.PrintedCells.{cells_within, cells_b
 ghost use Rattle.miette_drawing.specs.steps.Cut.{cut_cells, is_kept};
 ghost use Rattle.miette_drawing.specs.steps.CellTokens.{cells_tokens};
 
-use crate::cutting::{Stretch, is_shown, sum};
-use crate::line::push_cell;
+use crate::cells::push_cell;
 use crate::sheet::Outcome;
+use crate::stretch::{Stretch, is_shown, sum};
 use miette_lines::cells::Walk;
 use miette_page::canvas::Canvas;
 use miette_page::page::{PLAIN, Page};
@@ -25,7 +25,8 @@ fn push_some<O: Canvas>(
     many: usize,
     bytes: usize,
 ) -> Result<usize, AllocError>
-    ensures within { IfOk result (λ left. page.new ≡ page.old ⊕ cells_tokens (cells_within bytes (take many walk.old))) }
+    ensures within { IfOk result (λ left. page.new ≡ page.old
+        ⊕ cells_tokens (cells_within bytes (take many walk.old))) }
     ensures beyond { IfOk result (λ left. take left walk.new ≡ cells_beyond bytes (take many walk.old)) }
     ensures later { IfOk result (λ left. drop left walk.new ≡ drop many walk.old) }
 {

@@ -1,9 +1,8 @@
 //! Lines that are wider than the layout lets them be: into which stretches they are cut, and where their marks are in
 //! the row.
 
-ghost use Rattle.std.specs.Prelude.{◌≡◌, ◌++◌, ◌+◌, ◌^◌, ◌<◌, ℕ, List, Option, Some, map, length, true, false};
+ghost use Rattle.std.specs.Prelude.{◌≡◌, ◌+◌, ◌^◌, ◌<◌, ℕ, List, Option, Some, map, length, true, false, IfOk};
 ghost use Rattle.std.specs.Prelude.{if◌then◌else◌};
-ghost use Rattle.std.specs.Prelude.{IfOk, OnOk};
 ghost use Rattle.std.specs.List.{list_all};
 ghost use Rattle.std.specs.Option.{option_map};
 ghost use Rattle.miette_protocol.specs.views.Meaning.{Label};
@@ -13,44 +12,17 @@ ghost use Rattle.miette_snippets.specs.rules.PrintedCells.{cells_width};
 ghost use Rattle.miette_snippets.specs.rules.CutLines.{cut_line, ends, is_near, is_near_after, is_within};
 ghost use Rattle.miette_snippets.specs.rules.CutLines.{shown_marks, stretches};
 ghost use Rattle.miette_snippets.specs.rules.CutLines.{Stretch as RuledStretch};
-ghost use Rattle.miette_drawing.specs.steps.Cut.{measure, grown, lone, is_kept, kept_columns, made_column, made_mark};
-ghost use Rattle.miette_drawing.specs.steps.Cut.{onto_made};
+ghost use Rattle.miette_drawing.specs.steps.Cut.{measure, lone, is_kept, kept_columns, made_column, made_mark, onto_made};
 ghost use Rattle.miette_drawing.specs.steps.Marks.{mark_of};
 ghost use Rattle.miette_drawing.specs.steps.Sheets.{shown_cells};
 
 use crate::marks::Mark;
 use crate::plain_cut::plain_stretches;
 use crate::sheet::{Sheet, ShownLine};
+use crate::stretch::{Cut, Stretch, is_shown, put_stretch, sum};
 use miette_lines::cells::{Cell, Walk};
 use miette_lines::plain::all_printable;
 use std::alloc::{AllocError, Global};
-
-/// Cells one after the other that are all near an end of a mark, or of which none is: how many, and how many columns
-/// and bytes they have.
-#[derive(Clone, Copy, Debug, PartialEq, Eq, Drop)]
-pub(crate) struct Stretch {
-    /// Whether the cells are near.
-    pub(crate) near: bool,
-    /// How many they are.
-    pub(crate) cells: usize,
-    /// Their columns.
-    pub(crate) columns: usize,
-    /// The bytes that their characters have in a text.
-    pub(crate) bytes: usize,
-}
-
-/// A line's stretches; none where it isn't cut.
-pub(crate) type Cut = Option<Vec<Stretch>>;
-
-/// A sum, which is refused as want of memory where it is past the largest `usize`.
-pub(crate) fn sum(a: usize, b: usize) -> Result<usize, AllocError>
-    ensures { IfOk result (λ n. n ≡ a + b) }
-{
-    match a.checked_add(b) {
-        Some(n) => Ok(n),
-        None => Err(AllocError),
-    }
-}
 
 // Whether some column of a cell is at most so many columns away from this one.
 fn is_within_of(reach: usize, cell: &Cell, column: usize) -> bool
@@ -92,38 +64,6 @@ fn lone_stretch(limit: usize, ends: &[usize], before: bool, cell: &Cell) -> Stre
     }
 }
 
-// A stretch and the one behind it, as near as the first.
-fn grown_stretch(first: &Stretch, next: &Stretch) -> Result<Stretch, AllocError>
-    ensures { IfOk result (λ both. both ≡ grown first.now next.now) }
-{
-    Ok(Stretch {
-        near: first.near,
-        cells: sum(first.cells, next.cells)?,
-        columns: sum(first.columns, next.columns)?,
-        bytes: sum(first.bytes, next.bytes)?,
-    })
-}
-
-/// Puts a stretch behind the last one that was reached, which goes on into it where both are near, or neither.
-pub(crate) fn put_stretch(
-    made: &mut Vec<Stretch>,
-    reached: &mut Stretch,
-    next: Stretch,
-) -> Result<(), AllocError>
-    ensures put { OnOk result ((rest : List Stretch) → made.new.items ++ onto_made reached.new rest
-        ≡ made.old.items ++ onto_made reached.old (onto_made next rest)) }
-    ensures near { OnOk result (reached.new.near ≡ next.near) }
-{
-    let same = next.near == reached.near;
-    if same {
-        *reached = grown_stretch(reached, &next)?;
-        return Ok(());
-    }
-    made.push(*reached)?;
-    *reached = next;
-    Ok(())
-}
-
 // The stretches of cells behind this one in a line with these ends, and it in front.
 fn stretches_behind(
     alloc: Global,
@@ -162,13 +102,6 @@ fn stretches_of(
     let first = lone_stretch(limit, ends, false, &cell);
     let made = stretches_behind(alloc, walk, limit, ends, first)?;
     Ok(made)
-}
-
-/// Whether a stretch is shown: it is near, or three dots would be no shorter.
-pub(crate) fn is_shown(stretch: &Stretch) -> bool
-    ensures { result ≡ is_kept stretch.now }
-{
-    stretch.near || stretch.columns <= 3
 }
 
 // The columns of a stretch in the row: its own, or those of its dots.

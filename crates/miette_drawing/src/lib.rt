@@ -1,10 +1,11 @@
 //! The rows of one snippet: how its lines are numbered and marked, and where texts stand.
 #![tactic(auto)]
 
+mod cells;
 mod closings;
-pub mod folds;
 mod cut_text;
 mod cutting;
+pub mod folds;
 pub mod frame;
 mod gutters;
 mod highlighting;
@@ -14,6 +15,7 @@ mod marks;
 mod plain_cut;
 mod sheet;
 pub mod snippet;
+mod stretch;
 mod strokes;
 mod tabs;
 mod texts;

@@ -2,17 +2,15 @@
 
 ghost use Rattle.std.specs.Prelude.{◌≡◌, ◌++◌, ◌+◌, ◌^◌, ◌<◌, ◌∷◌, [], map, length, IfOk, OnOk, if◌then◌else◌};
 ghost use Rattle.std.specs.List.{All};
-ghost use Rattle.miette_snippets.specs.rules.PrintedCells.{printed_pieces, cells_within, cells_beyond, line_runs};
+ghost use Rattle.miette_snippets.specs.rules.PrintedCells.{line_runs};
 ghost use Rattle.miette_snippets.specs.rules.Marks.{marks};
 ghost use Rattle.miette_snippets.specs.rules.Drawing.{marked_rows};
 ghost use Rattle.miette_snippets.specs.rules.Frames.{number_start};
 ghost use Rattle.miette_snippets.specs.rules.SnippetLayout.{before_each, line_rows_of, text_of_cells};
 ghost use Rattle.miette_snippets.specs.rules.SnippetLayout.{break_row, line_or_break_of};
 ghost use Rattle.miette_page.specs.views.Printouts.{◌⊕◌};
-ghost use Rattle.miette_page.specs.views.Tokens.{row_tokens, rows_tokens, text_tokens};
-ghost use Rattle.miette_drawing.specs.steps.CellTokens.{cells_tokens};
+ghost use Rattle.miette_page.specs.views.Tokens.{row_tokens, rows_tokens};
 ghost use Rattle.miette_snippets.specs.rules.Highlighting.{highlight_of};
-ghost use Rattle.miette_lines.specs.views.Walking.{cell_of};
 ghost use Rattle.std.specs.Option.{option_map};
 ghost use Rattle.miette_drawing.specs.steps.Cut.{made_runs};
 ghost use Rattle.miette_drawing.specs.steps.Marks.{mark_of, HasAnchor};
@@ -20,17 +18,19 @@ ghost use Rattle.miette_drawing.specs.steps.Sheets.{settings, multi_labels, befo
 ghost use Rattle.miette_drawing.specs.steps.Sheets.{labels_alone};
 ghost use Rattle.miette_newlines.specs.views.Walking.{line_of_text};
 
+use crate::cells::{push_cells, push_cells_within};
 use crate::closings::push_closings;
-use crate::gutters::{push_break_gutter, push_number_gutter};
 use crate::cut_text::push_cut;
-use crate::cutting::{Cut, cut_around, marks_shown};
+use crate::cutting::{cut_around, marks_shown};
+use crate::gutters::{push_break_gutter, push_number_gutter};
 use crate::marks::{Mark, marks_on};
 use crate::plain_cut::push_plain_cut;
 use crate::sheet::{Outcome, Sheet, ShownLine};
+use crate::stretch::Cut;
 use crate::strokes::push_marks;
 use crate::tabs::{all_tabbed, push_tabbed, untabbed};
 use crate::texts::{push_before_marks, push_texts};
-use miette_lines::cells::{Cell, Walk};
+use miette_lines::cells::Walk;
 use miette_lines::plain::all_printable;
 use miette_page::canvas::Canvas;
 use miette_page::page::{PLAIN, Page};
@@ -47,44 +47,6 @@ fn push_number_start<O: Canvas>(page: &mut Page<O>, sheet: &Sheet, number: usize
     page.push_right(number, sheet.number_width)?;
     page.push_line(PLAIN, ' ', sheet.theme.characters.vbar, 1)?;
     page.push(' ')?;
-    Ok(())
-}
-
-/// A character as it prints, a tab as spaces. `AllocError` where memory is refused.
-pub(crate) fn push_cell<O: Canvas>(page: &mut Page<O>, cell: &Cell) -> Outcome
-    ensures { OnOk result (page.new ≡ page.old ⊕ text_tokens (map (λ p. p.code) (printed_pieces (cell_of cell.now)))) }
-{
-    if cell.code == '\t' {
-        page.push_copies(' ', cell.until.saturating_sub(cell.from))?;
-    } else {
-        page.push(cell.code)?;
-    }
-    Ok(())
-}
-
-// The characters that fill so many bytes.
-fn push_cells_within<O: Canvas>(page: &mut Page<O>, walk: &mut Walk, bytes: usize) -> Outcome
-    ensures within { OnOk result (page.new ≡ page.old ⊕ cells_tokens (cells_within bytes walk.old)) }
-    ensures beyond { OnOk result (walk.new ≡ cells_beyond bytes walk.old) }
-{
-    let mut left = bytes;
-    while left > 0 {
-        let Some(cell) = walk.next()? else {
-            return Ok(());
-        };
-        push_cell(page, &cell)?;
-        left = left.saturating_sub(cell.code.len_utf8());
-    }
-    Ok(())
-}
-
-// All characters that are left.
-fn push_cells<O: Canvas>(page: &mut Page<O>, walk: &mut Walk) -> Outcome
-    ensures { OnOk result (page.new ≡ page.old ⊕ cells_tokens walk.old) }
-{
-    while let Some(cell) = walk.next()? {
-        push_cell(page, &cell)?;
-    }
     Ok(())
 }
 

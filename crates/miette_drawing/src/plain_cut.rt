@@ -1,15 +1,15 @@
 //! Lines of printable ASCII that are cut: their stretches by the ends of marks, and what is printed of them, with no
 //! walk over their characters.
 
-ghost use Rattle.std.specs.Prelude.{◌≡◌, ◌<◌, ◌≤◌, ◌+◌, ℕ, List, true, false, map, take, length, nat_lt, IfOk, OnOk};
+ghost use Rattle.std.specs.Prelude.{◌≡◌, ◌<◌, ◌≤◌, ◌+◌, ℕ, List, true, false, map, take, nat_lt, IfOk, OnOk};
 ghost use Rattle.std.specs.List.{list_all};
 ghost use Rattle.miette_page.specs.views.Printouts.{◌⊕◌};
 ghost use Rattle.miette_lines.specs.views.Printable.{is_printable, plain_cells};
 ghost use Rattle.miette_snippets.specs.rules.CutLines.{is_near, stretches};
 ghost use Rattle.miette_drawing.specs.steps.Cut.{cell_at, even, measure, plain_run, plain_told};
 
-use crate::cutting::{Stretch, is_shown, put_stretch};
 use crate::sheet::Outcome;
+use crate::stretch::{Stretch, is_shown, put_stretch};
 use crate::tabs::push_ascii;
 use miette_page::canvas::Canvas;
 use miette_page::page::{PLAIN, Page};

@@ -9,7 +9,7 @@ use Rattle.miette_lines.specs.rules.Answers.{Highlight}
 use Rattle.miette_lines.specs.rules.Cells.{Cell}
 use Rattle.miette_snippets.specs.rules.PrintedCells.{line_runs, text_bytes}
 use Rattle.miette_snippets.specs.rules.CutLines.{Stretch, agree, bytes_in, columns_in, dots, pieces_within}
-use Rattle.miette_drawing.specs.declared.cutting.Stretch.{Stretch as MadeStretch}
+use Rattle.miette_drawing.specs.declared.stretch.Stretch.{Stretch as MadeStretch}
 use Rattle.miette_drawing.specs.declared.marks.Mark.{Mark as MadeMark}
 
 abbrev pub measure : Stretch → MadeStretch

@@ -1,6 +1,6 @@
 use Rattle.miette_lines.specs.views.Walking.{cell_of}
 use Rattle.miette_drawing.proofs.Lining.{tab_put}
-use Rattle.miette_drawing.proofs.line.push_cell.Goals as goal
+use Rattle.miette_drawing.proofs.cells.push_cell.Goals as goal
 
 pub returns-in_ok-push_copies : goal.returns-in_ok-push_copies
 returns-in_ok-push_copies g c =

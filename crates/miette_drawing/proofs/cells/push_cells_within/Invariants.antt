@@ -2,7 +2,7 @@ use Rattle.miette_page.specs.views.Printouts.{◌⊕◌}
 use Rattle.std.proofs.Common.{◌≡◌}
 use Rattle.miette_snippets.specs.rules.PrintedCells.{cells_within, cells_beyond}
 use Rattle.miette_drawing.specs.steps.CellTokens.{cells_tokens}
-use Rattle.miette_drawing.proofs.line.push_cells_within.Given as goal
+use Rattle.miette_drawing.proofs.cells.push_cells_within.Given as goal
 
 abbrev pub invariant-loop-left : goal.invariant-loop-left
 invariant-loop-left g l = record {

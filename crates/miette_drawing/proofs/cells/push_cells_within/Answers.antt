@@ -1,7 +1,7 @@
 use Rattle.std.proofs.Common.{◌≡◌, ◌∷◌, ◌-◌, ◌∙◌, ap, rules}
 use Rattle.miette_lines.specs.views.Walking.{cell_of}
 use Rattle.miette_drawing.proofs.Lining.{within_more, beyond_more, within_end, beyond_end}
-use Rattle.miette_drawing.proofs.line.push_cells_within.Goals as goal
+use Rattle.miette_drawing.proofs.cells.push_cells_within.Goals as goal
 
 pub loop-left-preserved : goal.loop-left-preserved
 loop-left-preserved g c =

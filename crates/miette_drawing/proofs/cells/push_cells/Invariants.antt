@@ -1,7 +1,7 @@
 use Rattle.miette_page.specs.views.Printouts.{◌⊕◌}
 use Rattle.std.proofs.Common.{◌≡◌, length}
 use Rattle.miette_drawing.specs.steps.CellTokens.{cells_tokens}
-use Rattle.miette_drawing.proofs.line.push_cells.Given as goal
+use Rattle.miette_drawing.proofs.cells.push_cells.Given as goal
 
 abbrev pub invariant-loop-cell : goal.invariant-loop-cell
 invariant-loop-cell g l = l.page ⊕ cells_tokens l.walk ≡ l.fn.page ⊕ cells_tokens l.fn.walk

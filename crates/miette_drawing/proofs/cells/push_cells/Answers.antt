@@ -1,7 +1,7 @@
 use Rattle.std.proofs.Common.{◌≡◌, ◌∷◌, rules}
 use Rattle.miette_lines.specs.views.Walking.{cell_of}
 use Rattle.miette_drawing.proofs.Lining.{cells_more}
-use Rattle.miette_drawing.proofs.line.push_cells.Goals as goal
+use Rattle.miette_drawing.proofs.cells.push_cells.Goals as goal
 
 pub loop-cell-preserved : goal.loop-cell-preserved
 loop-cell-preserved g c =
