@@ -12,7 +12,8 @@ ghost use Rattle.miette_snippets.specs.rules.PrintedCells.{cells_width};
 ghost use Rattle.miette_snippets.specs.rules.CutLines.{cut_line, ends, is_near, is_near_after, is_within};
 ghost use Rattle.miette_snippets.specs.rules.CutLines.{shown_marks, stretches};
 ghost use Rattle.miette_snippets.specs.rules.CutLines.{Stretch as RuledStretch};
-ghost use Rattle.miette_drawing.specs.steps.Cut.{measure, lone, is_kept, kept_columns, made_column, made_mark, onto_made};
+ghost use Rattle.miette_drawing.specs.steps.Cut.{measure, lone, is_kept, kept_columns, made_column, made_mark};
+ghost use Rattle.miette_drawing.specs.steps.Cut.{onto_made};
 ghost use Rattle.miette_drawing.specs.steps.Marks.{mark_of};
 ghost use Rattle.miette_drawing.specs.steps.Sheets.{shown_cells};
 
