@@ -1,7 +1,7 @@
 -- What the rows of texts of labels that end on a line tell.
 use Rattle.miette_page.proofs.Paging.{put_append}
 use Rattle.miette_page.specs.views.Printouts.{Printout, ◌⊕◌}
-use Rattle.std.proofs.Common.{ℕ, ◌+◌, ◌-◌, ◌<◌, ◌≤◌, ◌≡◌, Bool, true, false, cond, List, [], ◌∷◌, ◌++◌, map, length, drop, get_or, refl, sym, ap, ◌∙◌, append_assoc, append-nil}
+use Rattle.std.proofs.Common.{ℕ, ◌+◌, ◌-◌, ◌<◌, ◌≡◌, Bool, true, false, cond, List, [], ◌∷◌, ◌++◌, map, length, drop, get_or, refl, sym, ap, ◌∙◌}
 use Rattle.std.specs.Prelude.{not, ◌&&◌}
 use Rattle.std.proofs.lemmas.List.{at_drop_more, map-append}
 use Rattle.miette_newlines.specs.rules.Lines.{Line}

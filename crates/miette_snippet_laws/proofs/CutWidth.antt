@@ -1,17 +1,17 @@
 -- How many columns a line's text has in its row: a number that no longer grows with the line.
-use Rattle.std.proofs.Common.{◌≡◌, ℕ, zero, suc, ◌+◌, ◌-◌, ◌*◌, ◌/◌, ◌<◌, ◌≤◌, Bool, true, false, cond, ltb, leb, eqb, List, [], ◌∷◌, ◌++◌, map, length, replicate, refl, sym, ap, ap₂, ◌∙◌, ◌||◌, ◌&&◌, Option, Some, None, arith}
-use Rattle.std.proofs.lemmas.Bool.{ltb-true, ltb-false, leb-true, leb-false, eqb-true, and_parts}
+use Rattle.std.proofs.Common.{◌≡◌, ℕ, zero, suc, ◌+◌, ◌-◌, ◌*◌, ◌/◌, ◌<◌, ◌≤◌, Bool, true, false, cond, ltb, leb, eqb, List, [], ◌∷◌, length, replicate, refl, sym, ap, ap₂, ◌∙◌, ◌||◌, Some, arith}
+use Rattle.std.proofs.lemmas.Bool.{ltb-true, ltb-false, leb-true, eqb-true, and_parts}
 use Rattle.std.proofs.lemmas.Bool.Decides.{nat_tests}
 use Rattle.std.proofs.Math.Nat.{suc-mul}
 use Rattle.std.specs.List.{list_any}
 use Rattle.miette_lines.specs.rules.Answers.{Highlight}
 use Rattle.miette_lines.specs.rules.Cells.{Cell}
 use Rattle.miette_lines.proofs.Numbers.{by_cases}
-use Rattle.miette_page.specs.rules.Rows.{Run, Piece, pieces_of, columns_of}
-use Rattle.miette_snippets.specs.rules.CutLines.{Stretch, agree, columns_in, cut_line, dots, ends, is_kept, is_near, is_near_after, is_within, kept_columns, onto_stretches, shown_runs, stretches}
+use Rattle.miette_page.specs.rules.Rows.{pieces_of, columns_of}
+use Rattle.miette_snippets.specs.rules.CutLines.{Stretch, columns_in, cut_line, dots, ends, is_kept, is_near, is_near_after, is_within, kept_columns, onto_stretches, shown_runs, stretches}
 use Rattle.miette_snippets.specs.rules.Marks.{Mark}
-use Rattle.miette_snippets.specs.rules.PrintedCells.{cells_width, line_runs, printed_pieces, printed_cells}
-use Rattle.miette_snippets.proofs.CutColumns.{AreColumns, columns_in-append}
+use Rattle.miette_snippets.specs.rules.PrintedCells.{cells_width, printed_pieces, printed_cells}
+use Rattle.miette_snippets.proofs.CutColumns.{AreColumns}
 use Rattle.miette_snippet_laws.specs.laws.Cuts.{AreAsWide, most_columns, pieces_shown}
 use Rattle.miette_snippet_laws.proofs.CleanTexts.{line_same}
 use Rattle.miette_snippet_laws.proofs.Columns.{columns_of-append}

@@ -1,11 +1,11 @@
 -- Columns of a line that is cut, in its row: marks stay apart.
-use Rattle.std.proofs.Common.{ℕ, ◌+◌, ◌-◌, ◌/◌, ◌<◌, ◌≤◌, ◌≡◌, Bool, true, false, cond, not, eqb, ltb, leb, List, [], ◌∷◌, ◌++◌, map, refl, sym, ap, ◌∙◌, subst, ◌||◌, ◌&&◌, Option, Some, None, arith}
-use Rattle.std.proofs.lemmas.Bool.{lt-ltb, le-ltb, le-leb, lt-leb, ne_eqb, ltb-true, ltb-false, and_from, or_left, or_right}
+use Rattle.std.proofs.Common.{ℕ, ◌+◌, ◌-◌, ◌/◌, ◌<◌, ◌≤◌, ◌≡◌, Bool, true, false, cond, eqb, ltb, leb, List, [], ◌∷◌, ◌++◌, map, refl, sym, ap, ◌∙◌, ◌||◌, Option, Some, None, arith}
+use Rattle.std.proofs.lemmas.Bool.{lt-ltb, le-ltb, le-leb, ne_eqb, ltb-true, ltb-false, and_from, or_left, or_right}
 use Rattle.std.specs.List.{list_any, AllByRecursion}
 use Rattle.miette_lines.specs.rules.Cells.{Character, Cell, cells_from, hides_next, width_at}
 use Rattle.miette_snippets.specs.rules.Marks.{Mark, AreApart, HasAnchor}
 use Rattle.miette_snippets.specs.rules.PrintedCells.{cells_width}
-use Rattle.miette_snippets.specs.rules.CutLines.{Stretch, agree, columns_in, cut_line, ends, is_kept, is_near, is_near_after, is_within, kept_columns, onto_stretches, row_column, row_mark, shown_marks, stretches}
+use Rattle.miette_snippets.specs.rules.CutLines.{Stretch, agree, columns_in, cut_line, ends, is_kept, is_near, is_near_after, is_within, onto_stretches, row_column, row_mark, shown_marks, stretches}
 use Rattle.miette_lines.proofs.Numbers.{by_cases}
 
 -- ---- cells one after the other, from a column on

@@ -3,7 +3,6 @@ use Rattle.std.proofs.Common.{ℕ, ◌≡◌, true, false, Bool, if◌then◌els
 use Rattle.std.specs.Option.{option_map}
 use Rattle.miette_style.specs.rules.Styles.{plain}
 use Rattle.miette_page.specs.rules.Rows.{pieces_of}
-use Rattle.miette_lines.specs.rules.Answers.{Highlight}
 use Rattle.miette_lines.specs.rules.Cells.{Cell, cells_from}
 use Rattle.miette_lines.specs.rules.Labels.{DrawnLabel}
 use Rattle.miette_snippets.specs.rules.Marks.{Mark, marks}

@@ -1,5 +1,5 @@
 -- What holds of lines that are cut: which cells are shown and where dots stand, and how wide a row can be.
-use Rattle.std.specs.Prelude.{ℕ, ◌+◌, ◌*◌, ◌/◌, ◌<◌, ◌≤◌, ◌≡◌, ◌≢◌, List, [], ◌∷◌, ◌++◌, map, Bool, if◌then◌else◌}
+use Rattle.std.specs.Prelude.{ℕ, ◌+◌, ◌*◌, ◌/◌, ◌<◌, ◌≤◌, ◌≢◌, List, [], ◌∷◌, ◌++◌, map, Bool, if◌then◌else◌}
 use Rattle.std.specs.Prelude.{Option, Some, None, ◌-◌}
 use Rattle.miette_lines.specs.rules.Cells.{Cell}
 use Rattle.miette_page.specs.rules.Rows.{Piece}
