@@ -1,57 +1,40 @@
 //! What handlers give of reports.
 
+use crate::comparing::gives;
+use miette::error::RenderError;
 use miette::handlers::{GraphicalReportHandler, ReportHandler};
 use miette::report::Report;
-use miette::theme::GraphicalTheme;
-use std::alloc::Global;
+use std::alloc::{AllocError, Global};
 use std::process::Abort;
-use std::test::Fail;
-
-/// The handler that draws by this theme, in 80 columns, with a line around a label.
-pub(crate) fn themed(theme: GraphicalTheme) -> GraphicalReportHandler {
-    GraphicalReportHandler::themed(theme)
-        .with_width(80)
-        .with_context_lines(1)
-        .with_links(true)
-        .with_show_related_as_nested(false)
-}
-
-/// Such a handler, in the plain characters of the theme for terminals.
-pub(crate) fn plain(alloc: Global) -> Result<GraphicalReportHandler, Fail> {
-    Ok(themed(GraphicalTheme::unicode_nocolor(alloc)?))
-}
 
 /// What the handler, as any handler, gives of the report.
 pub(crate) fn given<H: ReportHandler>(
     alloc: Global,
     handler: &mut H,
-    report: &Report,
-) -> Result<String, Fail> {
+    report: Result<Report, AllocError>,
+) -> Result<String, RenderError> {
+    let report = report?;
     let mut out = String::new(alloc);
-    handler.debug(report, &mut out)?;
+    handler.debug(&report, &mut out)?;
     Ok(out)
 }
 
-/// What the handler draws of the report.
-fn told(
+/// What the handler draws of the report, where both were made.
+fn drawn(
     alloc: Global,
-    mut handler: GraphicalReportHandler,
-    report: &Report,
-) -> Result<String, Fail> {
-    let mut out = String::new(alloc);
-    handler.render_report(report, &mut out)?;
-    Ok(out)
+    handler: Result<GraphicalReportHandler, AllocError>,
+    report: Result<Report, AllocError>,
+) -> Result<String, RenderError> {
+    given(alloc, &mut handler?, report)
 }
 
 /// The handler draws the report so.
 pub(crate) fn draws(
     rt: &impl Abort,
     alloc: Global,
-    handler: GraphicalReportHandler,
-    report: &Report,
+    handler: Result<GraphicalReportHandler, AllocError>,
+    report: Result<Report, AllocError>,
     wanted: &str,
-) -> Result<(), Fail> {
-    let out = told(alloc, handler, report)?;
-    assert_eq!(rt; out.as_str(), wanted);
-    Ok(())
+) {
+    gives(rt, drawn(alloc, handler, report), wanted);
 }

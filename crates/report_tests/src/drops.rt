@@ -1,29 +1,43 @@
 //! Reports of many parts are let go: on the stack of any test, and each part once.
 
+use crate::comparing::same;
 use miette_protocol::protocol::{Diagnostic, LabeledSpan, Severity};
 use miette_tree::report::Report;
-use std::alloc::Global;
+use std::alloc::{AllocError, Global};
 use std::rc::Rc;
-use std::test::Fail;
+
+/// The report with this one as its cause.
+pub(crate) fn caused(
+    alloc: Global,
+    report: Result<Report, AllocError>,
+    cause: Result<Report, AllocError>,
+) -> Result<Report, AllocError> {
+    let cause = cause?;
+    match report?.with_diagnostic_cause(alloc, cause) {
+        Ok(made) => Ok(made),
+        Err(_) => Err(AllocError),
+    }
+}
 
 /// A report with so many causes, each the cause of the one before it.
-fn caused(alloc: Global, count: usize) -> Result<Report, Fail> {
+fn long_chain(alloc: Global, count: usize) -> Result<Report, AllocError> {
     let mut report: Report = Report::msg(alloc, "innermost")?;
     for _ in 0..count {
-        match Report::msg(alloc, "outer")?.with_diagnostic_cause(alloc, report) {
-            Ok(made) => report = made,
-            Err(_) => return Err(Fail::from("no memory")),
-        }
+        report = caused(alloc, Report::msg(alloc, "outer"), Ok(report))?;
     }
     Ok(report)
 }
 
-#[test]
-fn a_long_chain_of_causes_is_gone_through_and_let_go(rt: HostRuntime) -> Result<(), Fail> {
-    let report = caused(rt.alloc(), 100_000)?;
+/// The last message of its chain, and how many there are before it.
+fn last_of(report: &Report) -> (Option<&str>, usize) {
     let mut chain = report.chain();
-    assert_eq!(rt; chain.next_back(), Some("innermost"));
-    assert_eq!(rt; chain.len(), 100_000);
+    (chain.next_back(), chain.len())
+}
+
+#[test]
+fn a_long_chain_of_causes_is_gone_through_and_let_go(rt: HostRuntime) -> Result<(), AllocError> {
+    let report = long_chain(rt.alloc(), 100_000)?;
+    same(&rt, last_of(&report), (Some("innermost"), 100_000));
     Ok(())
 }
 
@@ -65,54 +79,61 @@ impl Diagnostic for Owner {
     }
 }
 
+fn made_owner(alloc: Global, message: &str, token: &Rc<u8>) -> Result<Owner, AllocError> {
+    let message = String::from_str(alloc, message)?;
+    let _token = token.clone()?;
+    Ok(Owner { message, _token })
+}
+
 /// A boxed owner.
 pub(crate) fn boxed_owner(
     alloc: Global,
     message: &str,
     token: &Rc<u8>,
-) -> Result<Box<dyn Diagnostic>, Fail> {
-    let owner = Owner {
-        message: String::from_str(alloc, message)?,
-        _token: token.clone()?,
-    };
-    let boxed: Box<dyn Diagnostic> = Box::new(alloc, owner)?;
+) -> Result<Box<dyn Diagnostic>, AllocError> {
+    let boxed: Box<dyn Diagnostic> = Box::new(alloc, made_owner(alloc, message, token)?)?;
     Ok(boxed)
 }
 
 /// A report of a boxed owner.
-fn owned(alloc: Global, token: &Rc<u8>) -> Result<Report, Fail> {
+fn owned(alloc: Global, token: &Rc<u8>) -> Result<Report, AllocError> {
     Ok(Report::new_boxed(boxed_owner(alloc, "m", token)?))
 }
 
 /// A report of an owner, with another one as its cause.
-fn owned_twice(alloc: Global, token: &Rc<u8>) -> Result<Report, Fail> {
-    let cause = owned(alloc, token)?;
-    match owned(alloc, token)?.with_diagnostic_cause(alloc, cause) {
-        Ok(report) => Ok(report),
-        Err(_) => Err(Fail::from("no memory")),
+fn owned_twice(alloc: Global, token: &Rc<u8>) -> Result<Report, AllocError> {
+    caused(alloc, owned(alloc, token), owned(alloc, token))
+}
+
+/// Three reports of two owners each.
+fn three_owned_twice(alloc: Global, token: &Rc<u8>) -> Result<Vec<Report>, AllocError> {
+    let mut list = Vec::new(alloc);
+    for _ in 0..3 {
+        list.push(owned_twice(alloc, token)?)?;
     }
+    Ok(list)
 }
 
 /// A report of two owners, with three related reports of two owners each.
-fn owned_often(alloc: Global, token: &Rc<u8>) -> Result<Report, Fail> {
-    let mut related = Vec::new(alloc);
-    for _ in 0..3 {
-        related.push(owned_twice(alloc, token)?)?;
-    }
+fn owned_often(alloc: Global, token: &Rc<u8>) -> Result<Report, AllocError> {
+    let related = three_owned_twice(alloc, token)?;
     Ok(owned_twice(alloc, token)?.with_related(related))
 }
 
-/// How many owners a token has with such a report, and without it.
-fn owners(alloc: Global) -> Result<(usize, usize), Fail> {
+/// How many owners a token has with such a report.
+fn owners_with(alloc: Global, token: &Rc<u8>) -> Result<usize, AllocError> {
+    let _report = owned_often(alloc, token)?;
+    Ok(Rc::strong_count(token))
+}
+
+/// The same, and how many it has without it.
+fn owners(alloc: Global) -> Result<(usize, usize), AllocError> {
     let token = Rc::new(alloc, 0u8)?;
-    let report = owned_often(alloc, &token)?;
-    let with = Rc::strong_count(&token);
-    drop(report);
+    let with = owners_with(alloc, &token)?;
     Ok((with, Rc::strong_count(&token)))
 }
 
 #[test]
-fn each_boxed_part_is_let_go_once(rt: HostRuntime) -> Result<(), Fail> {
-    assert_eq!(rt; owners(rt.alloc())?, (9, 1));
-    Ok(())
+fn each_boxed_part_is_let_go_once(rt: HostRuntime) {
+    same(&rt, owners(rt.alloc()), Ok((9, 1)));
 }

@@ -1,20 +1,19 @@
-//! Line feeds at the end of an inner report, with colours between them.
+//! Themes of a user's own: a bar that is a space, above line feeds at the end of an inner report, and no style for
+//! labels.
 
 use crate::drawn::draws;
-use crate::written::{related, report_of, saying};
+use crate::highlighting::labelled;
 use miette::handlers::GraphicalReportHandler;
-use miette::theme::{GraphicalTheme, ThemeCharacters, ThemeStyles};
-use std::alloc::Global;
-use std::test::Fail;
+use miette::report::Report;
+use miette::theme::GraphicalTheme;
+use std::alloc::{AllocError, Global};
 
 /// Colours, with a space where a bar goes down; related reports under arrows, and no wrapping.
-fn without_bars(alloc: Global) -> Result<GraphicalReportHandler, Fail> {
-    let characters = ThemeCharacters {
-        vbar: ' ',
-        ..ThemeCharacters::unicode(alloc)?
-    };
-    let styles = ThemeStyles::ansi(alloc)?;
-    let handler = GraphicalReportHandler::themed(GraphicalTheme { characters, styles });
+fn without_bars(alloc: Global) -> Result<GraphicalReportHandler, AllocError> {
+    let mut theme = GraphicalTheme::unicode(alloc)?;
+    let bar = ' ';
+    theme.characters.vbar = bar;
+    let handler = GraphicalReportHandler::themed(theme);
     Ok(
         handler
             .with_show_related_as_nested(true)
@@ -22,12 +21,45 @@ fn without_bars(alloc: Global) -> Result<GraphicalReportHandler, Fail> {
     )
 }
 
+/// One report with line feeds behind its message.
+fn line_feeds(alloc: Global) -> Result<Vec<Report>, AllocError> {
+    let mut related = Vec::new(alloc);
+    related.push(Report::msg(alloc, "r\n\n")?)?;
+    Ok(related)
+}
+
+/// The same below another one.
+fn nested(alloc: Global) -> Result<Report, AllocError> {
+    let related = line_feeds(alloc)?;
+    Ok(Report::msg(alloc, "top")?.with_related(related))
+}
+
 /// Behind the message of the related report stand a line feed, the colours of a bar without spaces, and two line feeds.
 #[test]
-fn line_feeds_around_colours_at_the_end(rt: HostRuntime) -> Result<(), Fail> {
+fn line_feeds_around_colours_at_the_end(rt: HostRuntime) {
     let alloc = rt.alloc();
-    let report = related(alloc, report_of(alloc, &saying("top"))?, &[saying("r\n\n")])?;
     let wanted =
         "  \u{1B}[31m×\u{1B}[0m top\n\u{1B}[31m  ╰─▶ \u{1B}[0m  \u{1B}[31m×\u{1B}[0m r\u{1B}[31m\u{1B}[0m\n";
-    draws(&rt, alloc, without_bars(alloc)?, &report, wanted)
+    draws(&rt, alloc, without_bars(alloc), nested(alloc), wanted);
+}
+
+/// In colours, but with no style for labels.
+fn without_highlights(alloc: Global) -> Result<GraphicalReportHandler, AllocError> {
+    let mut theme = GraphicalTheme::unicode(alloc)?;
+    theme.styles.highlights = Vec::new(alloc);
+    Ok(GraphicalReportHandler::themed(theme))
+}
+
+#[test]
+fn no_style_for_labels(rt: HostRuntime) {
+    let alloc = rt.alloc();
+    let wanted =
+        "  \u{1b}[31m×\u{1b}[0m m\n   ╭────\n \u{1b}[2m1\u{1b}[0m │ ab\n   · ─\n   ╰────\n";
+    draws(
+        &rt,
+        alloc,
+        without_highlights(alloc),
+        labelled(alloc),
+        wanted,
+    );
 }

@@ -1,8 +1,7 @@
 //! Reports whose source lines a highlighter styles.
 
-use crate::drawn::{draws, given};
+use crate::drawn::draws;
 use miette::diagnostic::MietteDiagnostic;
-use miette::error::RenderError;
 use miette::handlers::GraphicalReportHandler;
 use miette::highlight::{BlankHighlighter, Highlighter};
 use miette::protocol::LabeledSpan;
@@ -11,7 +10,6 @@ use miette::source::MietteSpanContents;
 use miette::style::{Color, Style};
 use miette::theme::GraphicalTheme;
 use std::alloc::{AllocError, Global};
-use std::test::Fail;
 
 /// A red first byte, and the rest plain.
 #[derive(Drop)]
@@ -34,78 +32,60 @@ impl Highlighter for FirstRed {
     fn restart(&mut self, _contents: &MietteSpanContents<'_>) {}
 }
 
-/// Never finds memory.
-#[derive(Drop)]
-struct Wanting;
-
-impl Highlighter for Wanting {
-    fn highlight_line(
-        &mut self,
-        _alloc: Global,
-        _line: &str,
-    ) -> Result<Vec<(usize, Style)>, AllocError> {
-        Err(AllocError)
-    }
-
-    fn restart(&mut self, _contents: &MietteSpanContents<'_>) {}
-}
-
-/// The message `m` with a label on the first byte of `ab`.
-pub(crate) fn labelled(alloc: Global) -> Result<Report, AllocError> {
-    let label = LabeledSpan::new(None, 0, 1);
-    let diagnostic = MietteDiagnostic::new(alloc, "m")?.with_label(alloc, label)?;
+/// The message `m` with this label over the source `ab`.
+fn over_ab(alloc: Global, label: LabeledSpan) -> Result<Report, AllocError> {
     let source = OwnedSource::new(alloc, b"ab".to_vec(alloc)?)?;
+    let diagnostic = MietteDiagnostic::new(alloc, "m")?.with_label(alloc, label)?;
     Ok(Report::new(diagnostic).with_owned_source(source))
 }
 
-const PLAIN: &str = "  × m\n   ╭────\n 1 │ ab\n   · ─\n   ╰────\n";
+/// A label on its first byte.
+pub(crate) fn labelled(alloc: Global) -> Result<Report, AllocError> {
+    over_ab(alloc, LabeledSpan::new(None, 0, 1))
+}
+
+pub(crate) const PLAIN: &str = "  × m\n   ╭────\n 1 │ ab\n   · ─\n   ╰────\n";
 
 /// A plain handler whose source lines this highlighter styles.
 fn highlighted(
     alloc: Global,
     highlighter: Box<dyn Highlighter>,
-) -> Result<GraphicalReportHandler, Fail> {
+) -> Result<GraphicalReportHandler, AllocError> {
     let theme = GraphicalTheme::unicode_nocolor(alloc)?;
     Ok(GraphicalReportHandler::themed(theme).with_syntax_highlighting(highlighter))
 }
 
-#[test]
-fn pieces_are_styled(rt: HostRuntime) -> Result<(), Fail> {
-    let alloc = rt.alloc();
-    let report = labelled(alloc)?;
-    let mut handler = highlighted(alloc, Box::new(alloc, FirstRed)?)?;
-    let out = given(alloc, &mut handler, &report)?;
-    assert_eq!(rt;
-        out.as_str(),
-        "  × m\n   ╭────\n 1 │ \u{1b}[31ma\u{1b}[0mb\n   · ─\n   ╰────\n"
-    );
-    draws(
-        &rt,
-        alloc,
-        handler.without_syntax_highlighting(),
-        &report,
-        PLAIN,
+fn with_red(alloc: Global) -> Result<GraphicalReportHandler, AllocError> {
+    highlighted(alloc, Box::new(alloc, FirstRed)?)
+}
+
+fn with_blank(alloc: Global) -> Result<GraphicalReportHandler, AllocError> {
+    highlighted(alloc, Box::new(alloc, BlankHighlighter)?)
+}
+
+/// Such a handler that styles nothing, and draws no label at the end: both are taken back.
+fn taken_back(alloc: Global) -> Result<GraphicalReportHandler, AllocError> {
+    Ok(
+        with_red(alloc)?
+            .with_end_labels()
+            .without_end_labels()
+            .without_syntax_highlighting(),
     )
 }
 
 #[test]
-fn a_blank_highlighter_is_as_none(rt: HostRuntime) -> Result<(), Fail> {
+fn pieces_are_styled(rt: HostRuntime) {
     let alloc = rt.alloc();
-    let handler = highlighted(alloc, Box::new(alloc, BlankHighlighter)?)?;
-    draws(&rt, alloc, handler, &labelled(alloc)?, PLAIN)
+    let styled = "  × m\n   ╭────\n 1 │ \u{1b}[31ma\u{1b}[0mb\n   · ─\n   ╰────\n";
+    draws(&rt, alloc, with_red(alloc), labelled(alloc), styled);
+    draws(&rt, alloc, with_blank(alloc), labelled(alloc), PLAIN);
 }
 
 #[test]
-fn want_of_memory_of_the_highlighter(rt: HostRuntime) -> Result<(), Fail> {
+fn what_is_taken_back(rt: HostRuntime) {
     let alloc = rt.alloc();
-    let mut handler = highlighted(alloc, Box::new(alloc, Wanting)?)?;
-    let mut out = String::from_str(alloc, "before")?;
-    assert!(rt;
-        matches!(
-            handler.render_report(&labelled(alloc)?, &mut out),
-            Err(RenderError::Memory)
-        )
-    );
-    assert_eq!(rt; out.as_str(), "before");
-    Ok(())
+    draws(&rt, alloc, taken_back(alloc), labelled(alloc), PLAIN);
+    let at_the_end = over_ab(alloc, LabeledSpan::new(None, 2, 0));
+    let bare = "  × m\n   ╭────\n 1 │ ab\n   ╰────\n";
+    draws(&rt, alloc, taken_back(alloc), at_the_end, bare);
 }

@@ -1,12 +1,12 @@
 //! Tests of reports and handlers as callers write them: chains, causes, sources, highlighters, options. The expected
-//! texts were written by hand from the rules. What a description can say stands in `cases/`.
+//! texts were written by hand from the rules. What a description can say stands in `cases/`, and so does what the
+//! program `calls` prints of each call, with refused memory and over sources that stop.
 #![tactic(auto)]
 
 #[cfg(test)]
-mod brief;
-pub mod clauses;
+mod comparing;
 #[cfg(test)]
-mod debug;
+mod contexts;
 #[cfg(test)]
 mod drawn;
 #[cfg(test)]
@@ -14,30 +14,14 @@ mod drops;
 #[cfg(test)]
 mod edges;
 #[cfg(test)]
-mod end_labels;
-#[cfg(test)]
 mod first_chapter;
 #[cfg(test)]
 mod highlighting;
 #[cfg(test)]
 mod json;
-pub mod load;
 #[cfg(test)]
 mod narrated;
 #[cfg(test)]
 mod options;
 #[cfg(test)]
-mod own_context;
-#[cfg(test)]
-mod reports;
-#[cfg(test)]
-mod sizes;
-#[cfg(test)]
-mod snippets;
-#[cfg(test)]
-mod sources;
-pub mod told;
-#[cfg(test)]
 mod trees;
-#[cfg(test)]
-mod written;

@@ -1,14 +1,15 @@
-//! Narrated reports by calls. More of them, by `job`, stand in `cases/worked.jsonl`.
+//! A line of bytes that no description can hold, narrated. More narrated reports stand in `cases/`.
 
-use crate::drawn::given;
-use crate::written::{Label, M, Written, report_of, told_why};
-use miette::handlers::{NarratableReportHandler, ReportHandler};
-use miette::report::Report;
-use std::alloc::Global;
-use std::test::Fail;
+use crate::comparing::gives;
+use miette::diagnostic::MietteDiagnostic;
+use miette::error::RenderError;
+use miette::handlers::NarratableReportHandler;
+use miette::protocol::LabeledSpan;
+use miette::report::{OwnedSource, Report};
+use std::alloc::{AllocError, Global};
 
 /// The narrated text of the report.
-fn told(alloc: Global, report: &Report) -> Result<String, Fail> {
+fn told(alloc: Global, report: &Report) -> Result<String, RenderError> {
     let mut out = String::new(alloc);
     NarratableReportHandler::new().render_report(report, &mut out)?;
     Ok(out)
@@ -21,6 +22,25 @@ const LONG: &[u8] =
     \xff\xf0\x9f\x91\xa8\xe2\x80\x8d\xf0\x9f\x91\xa9\xe2\x80\x8d\xf0\x9f\x91\xa70123456789012345\
     678901234567890123456789012345678901234567890123456789\xf0\x9f\x87\xa9\xf0\x9f\x87\xaa\xc3\
     \xa9 then a tail of plain words that goes on well past all of that, end\n";
+
+/// Labels on it: offset, length, text.
+const LABELS: [(usize, usize, &str); 15] = [
+    (0, 221, "whole"),
+    (1, 6, "wide"),
+    (2, 3, "inside both"),
+    (8, 2, "the accent"),
+    (9, 0, "inside it"),
+    (26, 3, "fox"),
+    (55, 1, "no text"),
+    (56, 18, "people"),
+    (58, 10, "inside two of them"),
+    (63, 4, "one of them"),
+    (100, 10, "digits"),
+    (148, 4, "half a flag"),
+    (152, 2, "a letter"),
+    (218, 3, "end"),
+    (221, 1, "the line feed"),
+];
 
 /// What is narrated of it.
 const LONG_ROWS: &str =
@@ -42,57 +62,28 @@ const LONG_ROWS: &str =
     label at line 1, columns 192 to 194: end\n    \
     label at line 1, columns 195 to 197: the line feed\n";
 
-#[test]
-fn labels_on_a_long_line(rt: HostRuntime) -> Result<(), Fail> {
-    let labels: &[Label<'_>] = &[
-        (0, 221, "whole"),
-        (1, 6, "wide"),
-        (2, 3, "inside both"),
-        (8, 2, "the accent"),
-        (9, 0, "inside it"),
-        (26, 3, "fox"),
-        (55, 1, "no text"),
-        (56, 18, "people"),
-        (58, 10, "inside two of them"),
-        (63, 4, "one of them"),
-        (100, 10, "digits"),
-        (148, 4, "half a flag"),
-        (152, 2, "a letter"),
-        (218, 3, "end"),
-        (221, 1, "the line feed"),
-    ];
-    let written = Written {
-        labels,
-        source: Some(LONG),
-        ..M
-    };
-    let report = report_of(rt.alloc(), &written)?;
-    assert_eq!(rt; told(rt.alloc(), &report)?.as_str(), LONG_ROWS);
-    Ok(())
+fn labels(alloc: Global) -> Result<Vec<LabeledSpan>, AllocError> {
+    let mut list = Vec::new(alloc);
+    for (offset, length, text) in LABELS {
+        list.push(LabeledSpan::at(alloc, (offset, length), text)?)?;
+    }
+    Ok(list)
 }
 
-/// What a clone of a handler with the footer `bye` gives as a `ReportHandler`.
-fn footed(alloc: Global, report: &Report) -> Result<String, Fail> {
-    let footer = String::from_str(alloc, "bye")?;
-    let mut handler = NarratableReportHandler::new().with_footer(footer).clone()?;
-    given(alloc, &mut handler, report)
+/// The message `m` with these labels.
+fn labelled(alloc: Global) -> Result<MietteDiagnostic, AllocError> {
+    let labels = labels(alloc)?;
+    Ok(MietteDiagnostic::new(alloc, "m")?.with_labels(labels))
 }
 
-/// The messages of the chain.
-fn chain(alloc: Global, report: &Report) -> Result<String, Fail> {
-    let mut out = String::new(alloc);
-    NarratableReportHandler::new().display(report, true, &mut out)?;
-    Ok(out)
+/// What is told of them over that line.
+fn told_of_labels(alloc: Global) -> Result<String, RenderError> {
+    let source = OwnedSource::new(alloc, LONG.to_vec(alloc)?)?;
+    let report = Report::new(labelled(alloc)?).with_owned_source(source);
+    told(alloc, &report)
 }
 
 #[test]
-fn a_url_causes_and_a_footer(rt: HostRuntime) -> Result<(), Fail> {
-    let alloc = rt.alloc();
-    let linked = report_of(alloc, &Written { url: "u", ..M })?;
-    let report = told_why(alloc, linked, &["a", "b"])?;
-    let wanted =
-        "m\n    Diagnostic severity: error\n    Caused by: a\n    Caused by: b\nFor more details, see:\nu\nbye\n";
-    assert_eq!(rt; footed(alloc, &report)?.as_str(), wanted);
-    assert_eq!(rt; chain(alloc, &report)?.as_str(), "m: a: b");
-    Ok(())
+fn labels_on_a_long_line(rt: HostRuntime) {
+    gives(&rt, told_of_labels(rt.alloc()), LONG_ROWS);
 }

@@ -1,36 +1,25 @@
 //! Reports as they are made, wrapped and looked into.
 
-use crate::drops::boxed_owner;
-use crate::load;
+use crate::comparing::{gives, same};
+use crate::drops::{boxed_owner, caused};
+use miette::error::RenderError;
 use miette_protocol::diagnostic::MietteDiagnostic;
-use miette_protocol::protocol::{Diagnostic, LabeledSpan, Severity, SourceOffset, SourceSpan};
-use miette_protocol::source::SourceCode;
-use miette_tree::report::{
-    Cause, Chain, Context, IntoDiagnostic, OwnedSource, Report, ReportKind, Result, SourceRef,
-    WrapErr,
-};
-use miette_tree::{bail, diagnostic, ensure, miette};
+use miette_protocol::protocol::{Diagnostic, SourceOffset, SourceSpan};
+use miette_protocol::source::{MietteSpanContents, SourceCode};
+use miette_tree::report::{Cause, Chain, OwnedSource, Report, ReportKind, SourceRef};
 use std::alloc::{AllocError, Global};
 use std::process::Abort;
 use std::rc::Rc;
 use std::test::Fail;
 
-fn refused<T>(_back: T) -> Fail
-where
-    T: Drop,
-{
-    Fail::from("no memory")
-}
+/// A report, where there was memory for it.
+type Made = Result<Report, AllocError>;
 
-/// One text, owned.
-fn texts_of(alloc: Global, text: &str) -> Result<Vec<String>, AllocError> {
-    let mut texts = Vec::new(alloc);
-    texts.push(String::from_str(alloc, text)?)?;
-    Ok(texts)
-}
+/// A text, where there was memory for it.
+pub(crate) type Text = Result<String, RenderError>;
 
 /// The texts of a cause that is a list, joined by a space.
-fn joined(alloc: Global, cause: Cause<'_>) -> Result<String, AllocError> {
+pub(crate) fn joined(alloc: Global, cause: Cause<'_>) -> Text {
     let mut all = String::new(alloc);
     if let Cause::Texts(texts) = cause {
         for text in texts {
@@ -42,7 +31,7 @@ fn joined(alloc: Global, cause: Cause<'_>) -> Result<String, AllocError> {
 }
 
 /// The items of a chain, joined by a space.
-fn listed(alloc: Global, chain: Chain<'_>) -> Result<String, AllocError> {
+pub(crate) fn listed(alloc: Global, chain: Chain<'_>) -> Text {
     let mut all = String::new(alloc);
     for text in chain {
         all.push_str(text)?;
@@ -51,371 +40,183 @@ fn listed(alloc: Global, chain: Chain<'_>) -> Result<String, AllocError> {
     Ok(all)
 }
 
-/// What a read of a source gives, with no context.
-fn read<'a>(source: SourceRef<'a>, offset: usize, len: usize) -> Option<&'a [u8]> {
-    match source.read_span(&SourceSpan::new(SourceOffset::from(offset), len), 0, 0) {
-        Ok(contents) => Some(contents.data()),
+/// One text, owned.
+fn texts_of(alloc: Global, text: &str) -> Result<Vec<String>, AllocError> {
+    let mut texts = Vec::new(alloc);
+    texts.push(String::from_str(alloc, text)?)?;
+    Ok(texts)
+}
+
+/// `b` with the cause text `c`.
+fn b_with_c(alloc: Global) -> Made {
+    let texts = texts_of(alloc, "c")?;
+    Ok(Report::msg(alloc, "b")?.with_cause_texts(texts))
+}
+
+/// `a`, a diagnostic, caused by it.
+fn three_long(alloc: Global) -> Made {
+    let report = Report::new(MietteDiagnostic::new(alloc, "a")?);
+    caused(alloc, Ok(report), b_with_c(alloc))
+}
+
+/// The same with `x` put in front.
+fn with_x_in_front(alloc: Global) -> Made {
+    match three_long(alloc)?.wrap_err(alloc, "x") {
+        Ok(report) => Ok(report),
+        Err(_) => Err(AllocError),
+    }
+}
+
+/// The message of the diagnostic that a report was made of, if any.
+fn built_message(report: &Report) -> Option<&str> {
+    match report.kind() {
+        ReportKind::Built(diagnostic) => Some(diagnostic.message.as_str()),
+        _ => None,
+    }
+}
+
+#[test]
+fn a_message_in_front_turns_the_chain_into_causes(rt: HostRuntime) -> Result<(), AllocError> {
+    let alloc = rt.alloc();
+    let report = with_x_in_front(alloc)?;
+    same(&rt, (report.message(), report.root_cause()), ("x", "c"));
+    same(&rt, built_message(&report), Some("a"));
+    gives(&rt, joined(alloc, report.cause()), "a b c ");
+    gives(&rt, listed(alloc, report.chain()), "x a b c ");
+    Ok(())
+}
+
+/// The chain has three items, from both ends.
+fn has_two_ends(rt: &impl Abort, mut chain: Chain<'_>) {
+    same(rt, chain.len(), 3);
+    same(
+        rt,
+        (chain.next(), chain.next_back()),
+        (Some("a"), Some("c")),
+    );
+    same(rt, chain.next(), Some("b"));
+    same(rt, (chain.next(), chain.next_back()), (None, None));
+}
+
+/// The items of a clone of the chain, which is at its second one then.
+fn listed_again(alloc: Global, mut chain: Chain<'_>) -> Text {
+    let again = chain.clone()?;
+    chain.next();
+    listed(alloc, again)
+}
+
+#[test]
+fn a_chain_from_both_ends(rt: HostRuntime) -> Result<(), AllocError> {
+    let report = three_long(rt.alloc())?;
+    has_two_ends(&rt, report.chain());
+    gives(&rt, listed_again(rt.alloc(), report.chain()), "a b c ");
+    let empty: Chain<'_> = Chain::default();
+    same(&rt, empty.len(), 0);
+    Ok(())
+}
+
+fn named_source(alloc: Global) -> Result<OwnedSource, AllocError> {
+    OwnedSource::named(alloc, "main.x", Some("x"), b"one\ntwo\n".to_vec(alloc)?)
+}
+
+/// The message `m` over it.
+fn of_a_named_source(alloc: Global) -> Made {
+    let source = named_source(alloc)?;
+    Ok(Report::msg(alloc, "m")?.with_owned_source(source))
+}
+
+fn boxed_source(alloc: Global) -> Result<Box<dyn SourceCode>, AllocError> {
+    let boxed: Box<dyn SourceCode> = Box::new(alloc, String::from_str(alloc, "one\nxyz")?)?;
+    Ok(boxed)
+}
+
+/// The report with a boxed source.
+fn with_a_boxed_source(alloc: Global, report: Made) -> Made {
+    let boxed = boxed_source(alloc)?;
+    Ok(report?.with_source_code(boxed))
+}
+
+/// The data, the name and the language that are read.
+type Seen<'a> = (&'a [u8], Option<&'a str>, Option<&'a str>);
+
+fn seen<'a>(contents: &MietteSpanContents<'a>) -> Seen<'a> {
+    (contents.data(), contents.name(), contents.language())
+}
+
+/// What a source gives around its sixth byte, with a line in front.
+fn read<'a>(source: SourceRef<'a>) -> Option<Seen<'a>> {
+    match source.read_span(&SourceSpan::new(SourceOffset::from(5), 1), 1, 0) {
+        Ok(contents) => Some(seen(&contents)),
         Err(_) => None,
     }
 }
 
-/// `a`, caused by a report `b` with the cause text `c`, and `x` put in front.
-fn with_x_in_front(alloc: Global) -> Result<Report, Fail> {
-    let cause = Report::msg(alloc, "b")?.with_cause_texts(texts_of(alloc, "c")?);
-    Report::new(MietteDiagnostic::new(alloc, "a")?)
-        .with_diagnostic_cause(alloc, cause)
-        .map_err(refused)?
-        .wrap_err(alloc, "x")
-        .map_err(refused)
-}
-
+/// A source stays where another one is given later.
 #[test]
-fn a_message_in_front_turns_the_chain_into_causes(rt: HostRuntime) -> Result<(), Fail> {
-    let alloc = rt.alloc();
-    let report = with_x_in_front(alloc)?;
-    assert_eq!(rt; (report.message(), report.root_cause()), ("x", "c"));
-    assert_eq!(rt; joined(alloc, report.cause())?.as_str(), "a b c ");
-    assert_eq!(rt; listed(alloc, report.chain())?.as_str(), "x a b c ");
-    Ok(())
-}
-
-#[test]
-fn a_message_in_front_keeps_the_kind(rt: HostRuntime) -> Result<(), Fail> {
-    match with_x_in_front(rt.alloc())?.kind() {
-        ReportKind::Built(diagnostic) => assert_eq!(rt; diagnostic.message.as_str(), "a"),
-        _ => assert!(rt; false, "it was made of a diagnostic"),
-    }
-    Ok(())
-}
-
-/// The report `m` with a boxed source `xyz`, and the one that is there before it, if any.
-fn with_two_sources(alloc: Global, first: Option<OwnedSource>) -> Result<Report, Fail> {
-    let boxed: Box<dyn SourceCode> = Box::new(alloc, String::from_str(alloc, "xyz")?)?;
-    let report = Report::msg(alloc, "m")?;
-    match first {
-        Some(first) => Ok(report.with_owned_source(first).with_source_code(boxed)),
-        None => Ok(report.with_source_code(boxed)),
-    }
-}
-
-#[test]
-fn a_source_stays(rt: HostRuntime) -> Result<(), Fail> {
-    let first = OwnedSource::new(rt.alloc(), b"abc".to_vec(rt.alloc())?)?;
-    let report = with_two_sources(rt.alloc(), Some(first))?;
-    let source = report.source_code().ok_or("a source")?;
-    assert_eq!(rt; read(source, 0, 3), Some(b"abc".as_slice()));
+fn an_owned_source_has_its_name_and_language(rt: HostRuntime) -> Result<(), Fail> {
+    let report = with_a_boxed_source(rt.alloc(), of_a_named_source(rt.alloc()))?;
+    let wanted = (b"one\ntw".as_slice(), Some("main.x"), Some("x"));
+    same(
+        &rt,
+        read(report.source_code().ok_or("a source")?),
+        Some(wanted),
+    );
     Ok(())
 }
 
 #[test]
 fn a_boxed_source_is_read(rt: HostRuntime) -> Result<(), Fail> {
-    let report = with_two_sources(rt.alloc(), None)?;
-    let source = report.source_code().ok_or("a source")?;
-    assert_eq!(rt; read(source, 1, 2), Some(b"yz".as_slice()));
-    Ok(())
-}
-
-#[test]
-fn an_owned_source_has_its_name_and_language(rt: HostRuntime) -> Result<(), Fail> {
-    let alloc = rt.alloc();
-    let owned = OwnedSource::named(alloc, "main.x", Some("x"), b"one\ntwo\n".to_vec(alloc)?)?;
-    let report = Report::msg(alloc, "m")?.with_owned_source(owned);
-    let source = report.source_code().ok_or("a source")?;
-    let span = SourceSpan::new(SourceOffset::from(5), 1);
-    let Ok(contents) = source.read_span(&span, 1, 0) else {
-        return Err(Fail::from("the span is accepted"));
-    };
-    assert_eq!(rt; contents.data(), b"one\ntw".as_slice());
-    assert_eq!(rt; contents.name(), Some("main.x"));
-    assert_eq!(rt; contents.language(), Some("x"));
-    Ok(())
-}
-
-#[test]
-fn a_missing_value_is_told(rt: HostRuntime) {
-    let missing: Option<u32> = None;
-    match missing.wrap_err(rt.alloc(), "no") {
-        Ok(_) => assert!(rt; false, "nothing was given"),
-        Err(report) => {
-            assert_eq!(rt; report.message(), "no");
-            assert!(rt; matches!(report.kind(), ReportKind::Message));
-            assert!(rt; matches!(report.cause(), Cause::None));
-        }
-    }
-}
-
-#[test]
-fn a_value_is_passed_on(rt: HostRuntime) {
-    match Some(3u32).wrap_err(rt.alloc(), "no") {
-        Ok(value) => assert_eq!(rt; value, 3),
-        Err(_) => assert!(rt; false, "a value was given"),
-    }
-}
-
-#[test]
-fn a_missing_value_in_its_context(rt: HostRuntime) {
-    let missing: Option<u32> = None;
-    match missing.context(rt.alloc(), "no") {
-        Ok(_) => assert!(rt; false, "nothing was given"),
-        Err(report) => assert_eq!(rt; report.message(), "no"),
-    }
-}
-
-#[test]
-fn a_missing_value_in_a_lazy_context(rt: HostRuntime) {
-    let alloc = rt.alloc();
-    let missing: Option<u32> = None;
-    match missing.with_context(alloc, || format!(in alloc; "no {}", 7)) {
-        Ok(_) => assert!(rt; false, "nothing was given"),
-        Err(report) => assert_eq!(rt; report.message(), "no 7"),
-    }
-}
-
-#[test]
-fn a_lazy_text_is_made_only_on_the_error_side(rt: HostRuntime) {
-    let alloc = rt.alloc();
-    let mut calls = 0u32;
-    let given = Some(3u32).wrap_err_with(alloc, || {
-        calls += 1;
-        format!(in alloc; "never")
-    });
-    assert!(rt; matches!(given, Ok(3)));
-    let fine: Result<u32, AllocError> = Ok(4);
-    let given = fine.with_context(alloc, || {
-        calls += 1;
-        format!(in alloc; "never")
-    });
-    assert!(rt; matches!(given, Ok(4)));
-    assert_eq!(rt; calls, 0);
-}
-
-/// An error with a lazy text in front, and how often that was made.
-fn failed_lazily(alloc: Global) -> (Result<u32>, u32) {
-    let mut calls = 0u32;
-    let failed: Result<u32, AllocError> = Err(AllocError);
-    let told = failed.wrap_err_with(alloc, || {
-        calls += 1;
-        format!(in alloc; "item {}", 7)
-    });
-    (told, calls)
-}
-
-#[test]
-fn a_lazy_text_is_made_once(rt: HostRuntime) -> Result<(), Fail> {
-    let alloc = rt.alloc();
-    let (told, calls) = failed_lazily(alloc);
-    assert_eq!(rt; calls, 1);
-    match told {
-        Ok(_) => assert!(rt; false, "it failed"),
-        Err(report) => {
-            let text = listed(alloc, report.chain())?;
-            assert_eq!(rt; text.as_str(), "item 7 memory allocation failed ");
-            assert!(rt; matches!(report.kind(), ReportKind::OutOfMemory));
-        }
-    }
-    Ok(())
-}
-
-/// A diagnostic with all parts.
-fn full(alloc: Global) -> Result<MietteDiagnostic, AllocError> {
-    let label = LabeledSpan::new(None, 2, 3);
-    let diagnostic = MietteDiagnostic::new(alloc, "inner")?
-        .with_label(alloc, label)?
-        .with_code(alloc, "a::b")?
-        .with_help(alloc, "try")?
-        .with_url(alloc, "http://x")?;
-    Ok(diagnostic.with_severity(Severity::Warning))
-}
-
-/// The same with `outer` put in front.
-fn full_in_context(alloc: Global) -> Result<Report, Fail> {
-    Report::from(full(alloc)?)
-        .context(alloc, "outer")
-        .map_err(refused)
-}
-
-#[test]
-fn a_message_in_front_keeps_the_parts(rt: HostRuntime) -> Result<(), Fail> {
-    let report = full_in_context(rt.alloc())?;
-    assert_eq!(rt; report.severity(), Some(Severity::Warning));
-    assert_eq!(rt;
-        (report.message(), report.code(), report.help(), report.url()),
-        ("outer", Some("a::b"), Some("try"), Some("http://x"))
+    let report = with_a_boxed_source(rt.alloc(), Report::msg(rt.alloc(), "m"))?;
+    let wanted = (b"one\nxy".as_slice(), None, None);
+    same(
+        &rt,
+        read(report.source_code().ok_or("a source")?),
+        Some(wanted),
     );
-    assert_eq!(rt; joined(rt.alloc(), report.cause())?.as_str(), "inner ");
     Ok(())
 }
 
-#[test]
-fn a_message_in_front_keeps_the_labels(rt: HostRuntime) -> Result<(), Fail> {
-    let report = full_in_context(rt.alloc())?;
-    let labels = report.labels().ok_or("labels")?;
-    assert_eq!(rt; labels.len(), 1);
-    for label in labels {
-        assert_eq!(rt; label.offset(), 2);
-    }
-    Ok(())
-}
-
-/// `a`, caused by a report `b` with the cause text `c`.
-fn three_long(alloc: Global) -> Result<Report, Fail> {
-    let inner = Report::msg(alloc, "b")?.with_cause_texts(texts_of(alloc, "c")?);
-    Report::msg(alloc, "a")?
-        .with_diagnostic_cause(alloc, inner)
-        .map_err(refused)
-}
-
-#[test]
-fn a_chain_from_both_ends(rt: HostRuntime) -> Result<(), Fail> {
-    let report = three_long(rt.alloc())?;
-    let mut chain = report.chain();
-    assert_eq!(rt; chain.len(), 3);
-    assert_eq!(rt; (chain.next(), chain.next_back()), (Some("a"), Some("c")));
-    assert_eq!(rt; chain.next(), Some("b"));
-    assert_eq!(rt; (chain.next(), chain.next_back()), (None, None));
-    Ok(())
-}
-
-#[test]
-fn a_clone_of_a_chain(rt: HostRuntime) -> Result<(), Fail> {
-    let report = three_long(rt.alloc())?;
-    let mut chain = report.chain();
-    let again = chain.clone()?;
-    assert_eq!(rt; chain.next(), Some("a"));
-    assert_eq!(rt; listed(rt.alloc(), again)?.as_str(), "a b c ");
-    let empty: Chain<'_> = Chain::default();
-    assert_eq!(rt; empty.len(), 0);
-    Ok(())
-}
-
-/// A report of a boxed diagnostic, with a related report and an empty list of cause texts.
-fn of_a_box(alloc: Global) -> Result<Report, Fail> {
-    let boxed = boxed_owner(alloc, "lost", &Rc::new(alloc, 0u8)?)?;
+fn one_related(alloc: Global) -> Result<Vec<Report>, AllocError> {
     let mut related = Vec::new(alloc);
     related.push(Report::msg(alloc, "r")?)?;
-    Ok(
-        Report::new_boxed(boxed)
-            .with_related(related)
-            .with_cause_texts(Vec::new(alloc)),
-    )
+    Ok(related)
+}
+
+/// A boxed diagnostic.
+fn lost(alloc: Global) -> Result<Box<dyn Diagnostic>, AllocError> {
+    boxed_owner(alloc, "lost", &Rc::new(alloc, 0u8)?)
+}
+
+/// Its report, with a related report and an empty list of cause texts.
+fn of_a_box(alloc: Global) -> Made {
+    let related = one_related(alloc)?;
+    let report = Report::new_boxed(lost(alloc)?).with_related(related);
+    Ok(report.with_cause_texts(Vec::new(alloc)))
+}
+
+/// The message of the boxed diagnostic that a report was made of, if any.
+fn boxed_message(report: &Report) -> Option<&str> {
+    match report.kind() {
+        ReportKind::Boxed(diagnostic) => Some(diagnostic.message()),
+        _ => None,
+    }
+}
+
+/// How a report prints.
+fn printed(alloc: Global, report: &Report) -> Text {
+    Ok(format!(in alloc; "{report}")?)
 }
 
 #[test]
-fn a_boxed_diagnostic(rt: HostRuntime) -> Result<(), Fail> {
+fn a_boxed_diagnostic(rt: HostRuntime) -> Result<(), AllocError> {
     let report = of_a_box(rt.alloc())?;
-    assert_eq!(rt; format!(in rt.alloc(); "{report}")?.as_str(), "lost");
-    assert!(rt; matches!(report.cause(), Cause::None));
-    assert_eq!(rt; (report.root_cause(), report.related().len()), ("lost", 1));
-    Ok(())
-}
-
-#[test]
-fn the_kind_of_a_box(rt: HostRuntime) -> Result<(), Fail> {
-    match of_a_box(rt.alloc())?.kind() {
-        ReportKind::Boxed(diagnostic) => assert_eq!(rt; diagnostic.message(), "lost"),
-        _ => assert!(rt; false, "it was made of a box"),
-    }
-    Ok(())
-}
-
-#[test]
-fn an_error_keeps_its_printed_text(rt: HostRuntime) -> Result<(), Fail> {
-    let alloc = rt.alloc();
-    assert_eq!(rt; Report::from_err(alloc, 17u8)?.message(), "17");
-    let failed: Result<u32, u8> = Err(4);
-    match failed.into_diagnostic(alloc).context(alloc, "at the start") {
-        Ok(_) => assert!(rt; false, "it failed"),
-        Err(report) => assert_eq!(rt; listed(alloc, report.chain())?.as_str(), "at the start 4 "),
-    }
-    let fine: Result<u32, u8> = Ok(5);
-    assert!(rt; matches!(fine.into_diagnostic(alloc), Ok(5)));
-    Ok(())
-}
-
-fn halved(alloc: Global, n: u32) -> Result<u32> {
-    ensure!(in alloc; n % 2 == 0, code = "odd::number", "{n} is odd");
-    if n > 100 {
-        bail!(in alloc; "{n} is past {}", 100);
-    }
-    Ok(n / 2)
-}
-
-#[test]
-fn a_message_by_macro(rt: HostRuntime) -> Result<(), Fail> {
-    let alloc = rt.alloc();
-    let x = 1u32;
-    let y = 2u32;
-    let report = miette!(in alloc; "{x} + {} = {z}", y, z = x + y);
-    assert_eq!(rt; format!(in alloc; "{report}")?.as_str(), "1 + 2 = 3");
-    Ok(())
-}
-
-/// A diagnostic of all parts, by macro.
-fn sum_of(alloc: Global, x: u8, y: u8) -> Result<MietteDiagnostic, AllocError> {
-    let sum = u32::from(x) + u32::from(y);
-    let label = LabeledSpan::new(None, 0, 1);
-    diagnostic!(in alloc; code = "a::b", help = "h", url = "u", severity = Severity::Warning,
-        labels = vec![in alloc; label]?, "{x} + {} = {z}", y, z = sum)
-}
-
-#[test]
-fn a_diagnostic_by_macro(rt: HostRuntime) -> Result<(), Fail> {
-    let report = Report::new(sum_of(rt.alloc(), 1, 2)?);
-    assert_eq!(rt;
-        (report.message(), report.code(), report.help(), report.url()),
-        ("1 + 2 = 3", Some("a::b"), Some("h"), Some("u"))
+    gives(&rt, printed(rt.alloc(), &report), "lost");
+    same(&rt, boxed_message(&report), Some("lost"));
+    same(&rt, matches!(report.cause(), Cause::None), true);
+    same(
+        &rt,
+        (report.root_cause(), report.related().len()),
+        ("lost", 1),
     );
-    assert_eq!(rt; report.severity(), Some(Severity::Warning));
-    assert!(rt; report.labels().is_some());
     Ok(())
-}
-
-#[test]
-fn what_is_ensured(rt: HostRuntime) {
-    assert!(rt; matches!(halved(rt.alloc(), 8), Ok(4)));
-    match halved(rt.alloc(), 3) {
-        Ok(_) => assert!(rt; false, "3 is odd"),
-        Err(report) => assert_eq!(rt;
-            (report.message(), report.code()),
-            ("3 is odd", Some("odd::number"))
-        ),
-    }
-}
-
-#[test]
-fn what_is_bailed_out_of(rt: HostRuntime) {
-    match halved(rt.alloc(), 102) {
-        Ok(_) => assert!(rt; false, "102 is past 100"),
-        Err(report) => assert_eq!(rt; report.message(), "102 is past 100"),
-    }
-}
-
-/// Checks the report of a file that is not there.
-fn check_missing_file(rt: &impl Abort, alloc: Global, report: &Report) -> Result<(), Fail> {
-    assert_eq!(rt; report.message(), "the settings could not be loaded");
-    assert_eq!(rt;
-        joined(alloc, report.cause())?.as_str(),
-        "could not read no/such/file No such file or directory (os error 2) "
-    );
-    assert_eq!(rt;
-        report.root_cause(),
-        "No such file or directory (os error 2)"
-    );
-    assert_eq!(rt; report.related().len(), 1);
-    for hint in report.related() {
-        assert_eq!(rt;
-            hint.message(),
-            "without no/such/file the default settings hold"
-        );
-        assert_eq!(rt; hint.severity(), Some(Severity::Advice));
-    }
-    Ok(())
-}
-
-#[test]
-fn a_file_that_cannot_be_read(rt: HostRuntime) -> Result<(), Fail> {
-    match load::settings_len_or_hint(&rt, "no/such/file") {
-        Ok(_) => Err(Fail::from("there is no such file")),
-        Err(report) => check_missing_file(&rt, rt.alloc(), &report),
-    }
 }

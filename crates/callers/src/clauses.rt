@@ -6,7 +6,7 @@ ghost use Rattle.miette_graphical.specs.rules.Snippets.{drawn_rows};
 ghost use Rattle.miette_graphical.specs.rules.Text.{report_text};
 ghost use Rattle.miette_runs.specs.rules.Sequences.{erase};
 ghost use Rattle.miette_tree.specs.views.Report.{tree_of};
-ghost use Rattle.report_tests.specs.Known.{HasOwnMark, ShowsBothLines, TextHangs, plain, warning_tree};
+ghost use Rattle.callers.specs.Known.{HasOwnMark, ShowsBothLines, TextHangs, plain, warning_tree};
 
 use miette::diagnostic::MietteDiagnostic;
 use miette::error::RenderError;

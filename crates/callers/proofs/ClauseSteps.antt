@@ -19,7 +19,7 @@ use Rattle.miette_graphical.specs.rules.Snippets.{drawn_rows}
 use Rattle.miette_graphical.specs.views.Handling.{Handling, draws_plain, without_highlighter}
 use Rattle.miette_runs.specs.rules.Sequences.{erase}
 use Rattle.miette_text.specs.rules.Tame.{AppendsErasing}
-use Rattle.report_tests.specs.Known.{HasOwnMark, ShowsBothLines, TextHangs, in_colours, plain, warning_tree}
+use Rattle.callers.specs.Known.{HasOwnMark, ShowsBothLines, TextHangs, in_colours, plain, warning_tree}
 
 -- ---- how the handlers are set
 
