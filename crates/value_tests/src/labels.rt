@@ -1,23 +1,25 @@
-//! Labels and their parts.
+//! Labels and their parts. What makes a label with a text is a row of the program `calls`.
 
+use crate::comparing::{equal, same};
 use miette_protocol::protocol::{LabeledSpan, SourceSpan};
-use std::test::Fail;
+use std::alloc::{AllocError, Global};
+use std::process::Abort;
+
+/// The label has this text and this span, and isn't primary.
+fn has(rt: &impl Abort, label: &LabeledSpan, text: Option<&str>, span: SourceSpan) {
+    same(rt, label.label(), text);
+    same(rt, *label.inner(), span);
+    same(rt, label.offset(), span.offset());
+    same(rt, label.len(), span.len());
+    assert!(rt; !label.primary());
+}
 
 #[test]
-fn labels(rt: HostRuntime) -> Result<(), Fail> {
+fn labels(rt: HostRuntime) -> Result<(), AllocError> {
     let text = String::from_str(rt.alloc(), "here")?;
     let mut label = LabeledSpan::new(Some(text), 3, 4);
-    assert_eq!(rt;
-        (
-            label.label(),
-            label.offset(),
-            label.len(),
-            label.is_empty(),
-            label.primary(),
-        ),
-        (Some("here"), 3, 4, false, false)
-    );
-    assert_eq!(rt; *label.inner(), SourceSpan::from((3, 4)));
+    has(&rt, &label, Some("here"), SourceSpan::from((3, 4)));
+    assert!(rt; !label.is_empty());
     label.set_label(None);
     assert!(rt; label == LabeledSpan::new_with_span(None, (3, 4)));
     Ok(())
@@ -33,34 +35,38 @@ fn labels_without_text(rt: HostRuntime) {
     assert!(rt; LabeledSpan::underline(5).is_empty());
 }
 
-#[test]
-fn labels_with_text(rt: HostRuntime) -> Result<(), Fail> {
-    let label = LabeledSpan::at(rt.alloc(), 2..5, "x")?;
-    assert_eq!(rt;
-        (label.label(), *label.inner()),
-        (Some("x"), SourceSpan::from(2..5))
-    );
-    let label = LabeledSpan::at_offset(rt.alloc(), 7, "y")?;
-    assert_eq!(rt;
-        (label.label(), *label.inner()),
-        (Some("y"), SourceSpan::from(7))
-    );
-    assert!(rt; label.clone()? == label);
-    Ok(())
+/// A label with a text.
+fn told(alloc: Global) -> Result<LabeledSpan, AllocError> {
+    LabeledSpan::at(alloc, 2..5, "x")
+}
+
+/// The same with context lines of its own.
+fn own(alloc: Global) -> Result<LabeledSpan, AllocError> {
+    Ok(told(alloc)?.with_context_lines(3))
+}
+
+fn clone_of_own(alloc: Global) -> Result<LabeledSpan, AllocError> {
+    own(alloc)?.clone()
 }
 
 #[test]
-fn labels_with_their_own_context(rt: HostRuntime) -> Result<(), Fail> {
-    let plain = LabeledSpan::at(rt.alloc(), 2..5, "x")?;
-    assert_eq!(rt; plain.context_lines(), None);
-    let own = plain.clone()?.with_context_lines(3);
-    assert_eq!(rt;
-        (own.context_lines(), own.label(), *own.inner()),
-        (Some(3), Some("x"), SourceSpan::from(2..5))
-    );
-    assert!(rt; own != plain);
-    assert!(rt; own.clone()? == own);
-    let wider = own.with_context_lines(4);
-    assert_eq!(rt; wider.context_lines(), Some(4));
+fn labels_with_their_own_context(rt: HostRuntime) -> Result<(), AllocError> {
+    let own = own(rt.alloc())?;
+    has(&rt, &own, Some("x"), SourceSpan::from(2..5));
+    same(&rt, own.with_context_lines(4).context_lines(), Some(4));
     Ok(())
+}
+
+/// How many context lines of its own a label has, if it was made.
+fn own_lines(label: Result<LabeledSpan, AllocError>) -> Result<Option<usize>, AllocError> {
+    Ok(label?.context_lines())
+}
+
+#[test]
+fn own_context_is_a_part(rt: HostRuntime) {
+    let alloc = rt.alloc();
+    same(&rt, own_lines(told(alloc)), Ok(None));
+    same(&rt, own_lines(own(alloc)), Ok(Some(3)));
+    same(&rt, equal(own(alloc), told(alloc)), Ok(false));
+    same(&rt, equal(clone_of_own(alloc), own(alloc)), Ok(true));
 }

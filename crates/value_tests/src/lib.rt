@@ -4,11 +4,15 @@
 #[cfg(test)]
 mod by_hand;
 #[cfg(test)]
+mod comparing;
+#[cfg(test)]
 mod diagnostics;
 #[cfg(test)]
 mod errors;
 #[cfg(test)]
 mod highlighters;
+#[cfg(test)]
+mod json;
 #[cfg(test)]
 mod labels;
 #[cfg(test)]

@@ -1,5 +1,6 @@
 //! Lines that rules style, with what they style in brackets and a letter behind them.
 
+use crate::comparing::same;
 use miette_highlight::highlight::{
     Delimiters, Highlighter, Pattern, PatternHighlighter, Rule, by_char,
 };
@@ -47,25 +48,27 @@ fn letter(style: Style) -> &'static str {
 fn painted(alloc: Global, it: &mut PatternHighlighter, line: &str) -> Result<String, Fail> {
     let mut out = String::new(alloc);
     let mut rest = line;
-    let pieces = it.highlight_line(alloc, line)?;
-    for piece in &pieces {
+    for piece in &it.highlight_line(alloc, line)? {
         let Some((text, tail)) = rest.split_at_checked(piece.0) else {
             return Err(Fail::from("a piece ends inside a character"));
         };
-        let letter = letter(piece.1);
-        if letter.is_empty() {
-            out.push_str(text)?;
-        } else {
-            out.push('[')?;
-            out.push_str(text)?;
-            out.push(']')?;
-            out.push_str(letter)?;
-        }
+        push_piece(&mut out, text, letter(piece.1))?;
         rest = tail;
     }
     out.push('|')?;
     out.push_str(rest)?;
     Ok(out)
+}
+
+// In brackets where its style has a letter.
+fn push_piece(out: &mut String, text: &str, letter: &str) -> Result<(), AllocError> {
+    if letter.is_empty() {
+        return out.push_str(text);
+    }
+    out.push('[')?;
+    out.push_str(text)?;
+    out.push(']')?;
+    out.push_str(letter)
 }
 
 // Each line as it is wanted, from the start of a snippet on.
@@ -77,24 +80,22 @@ fn paints(
 ) -> Result<(), Fail> {
     it.restart(&MietteSpanContents::new(b"", SourceSpan::from((0, 0)), 0, 0, 0));
     for (line, wanted) in lines {
-        let found = painted(alloc, it, line)?;
-        assert_eq!(rt; found.as_str(), *wanted);
+        same(rt, painted(alloc, it, line)?.as_str(), *wanted);
     }
     Ok(())
 }
 
 #[test]
-fn a_piece_for_each_character(rt: HostRuntime) -> Result<(), Fail> {
+fn a_piece_for_each_character(rt: HostRuntime) -> Result<(), AllocError> {
     let cyan = Style::new().color(Color::Cyan);
-    let pieces = Digits.highlight_line(rt.alloc(), "aé1")?;
     let wanted = [(1, Style::new()), (2, Style::new()), (1, cyan)];
-    assert_eq!(rt; pieces.as_slice(), wanted.as_slice());
+    let found = Digits.highlight_line(rt.alloc(), "aé1")?;
+    same(&rt, found.as_slice(), wanted.as_slice());
     Ok(())
 }
 
-#[test]
-fn the_first_rule_decides(rt: HostRuntime) -> Result<(), Fail> {
-    let alloc = rt.alloc();
+/// Two words, bytes and delimiters, one rule over another.
+fn three_rules(alloc: Global) -> Result<PatternHighlighter, AllocError> {
     let green = Style::new().color(Color::Green);
     let cyan = Style::new().color(Color::Cyan);
     let rules = vec![in alloc;
@@ -111,15 +112,15 @@ fn the_first_rule_decides(rt: HostRuntime) -> Result<(), Fail> {
             style: green,
         },
     ]?;
-    let mut it = PatternHighlighter::new(rules);
-    paints(
-        &rt,
-        alloc,
-        &mut it,
-        &[
-            ("if iff xif é éé", "[if]g [iff]c xif [é]g éé|"),
-            ("<é, éé> <x <é>", "[<é, éé>]g <x [<é>]g|"),
-            ("", "|"),
-        ],
-    )
+    Ok(PatternHighlighter::new(rules))
+}
+
+#[test]
+fn the_first_rule_decides(rt: HostRuntime) -> Result<(), Fail> {
+    let lines = [
+        ("if iff xif é éé", "[if]g [iff]c xif [é]g éé|"),
+        ("<é, éé> <x <é>", "[<é, éé>]g <x [<é>]g|"),
+        ("", "|"),
+    ];
+    paints(&rt, rt.alloc(), &mut three_rules(rt.alloc())?, &lines)
 }

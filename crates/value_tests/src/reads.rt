@@ -1,5 +1,6 @@
 //! Reads of sources, as values, and each call of the module `source` once.
 
+use crate::comparing::same;
 use miette_protocol::diagnostic::diagnostic_equality_law;
 use miette_protocol::error::{MietteError, RenderError, render_error_law};
 use miette_protocol::laws;
@@ -50,21 +51,18 @@ fn read<S: SourceCode>(
 #[test]
 fn reads_a_text(rt: HostRuntime) {
     let all = README.as_bytes();
-    assert_eq!(rt;
-        read(&README, 9, 4, 0, 0),
-        Some((&all[9..13], (9, 4), 1, 2, 0))
-    );
-    assert_eq!(rt; read(&README, 9, 4, 1, 1), Some((all, (0, 22), 0, 0, 2)));
-    assert_eq!(rt;
-        read(&README, 22, 1, 0, 0),
-        Some((&all[22..], (22, 0), 2, 8, 0))
-    );
+    let found = read(&README, 9, 4, 0, 0);
+    same(&rt, found, Some((&all[9..13], (9, 4), 1, 2, 0)));
+    let found = read(&README, 9, 4, 1, 1);
+    same(&rt, found, Some((all, (0, 22), 0, 0, 2)));
+    let found = read(&README, 22, 1, 0, 0);
+    same(&rt, found, Some((&all[22..], (22, 0), 2, 8, 0)));
 }
 
 #[test]
 fn refuses_what_lies_outside(rt: HostRuntime) {
-    assert_eq!(rt; read(&README, 22, 2, 0, 0), None);
-    assert_eq!(rt; read(&README, 23, 0, 0, 0), None);
+    same(&rt, read(&README, 22, 2, 0, 0), None);
+    same(&rt, read(&README, 23, 0, 0, 0), None);
     let outside = README.read_span(&span(23, 0), 0, 0);
     assert!(rt; matches!(outside, Err(MietteError::OutOfBounds)));
 }
@@ -72,51 +70,49 @@ fn refuses_what_lies_outside(rt: HostRuntime) {
 #[test]
 fn an_empty_source_accepts_one_byte(rt: HostRuntime) {
     let empty = b"".as_slice();
-    assert_eq!(rt; read(&empty, 0, 1, 1, 1), Some((empty, (0, 0), 0, 0, 0)));
-    assert_eq!(rt; read(&empty, 1, 1, 1, 1), None);
+    let found = read(&empty, 0, 1, 1, 1);
+    same(&rt, found, Some((empty, (0, 0), 0, 0, 0)));
+    same(&rt, read(&empty, 1, 1, 1, 1), None);
 }
 
 #[test]
-fn context_is_whole_lines(rt: HostRuntime) -> Result<(), Fail> {
+fn context_is_whole_lines(rt: HostRuntime) -> Result<(), AllocError> {
     let bytes = b"a\nb\nc\nd";
     let owned = bytes.to_vec(rt.alloc())?;
-    assert_eq!(rt;
-        read(&owned, 0, 2, 1, 1),
-        Some((&bytes[..6], (0, 6), 0, 0, 3))
-    );
+    let found = read(&owned, 0, 2, 1, 1);
+    same(&rt, found, Some((&bytes[..6], (0, 6), 0, 0, 3)));
     Ok(())
 }
 
 #[test]
-fn terminators_are_read_whole(rt: HostRuntime) -> Result<(), Fail> {
+fn terminators_are_read_whole(rt: HostRuntime) -> Result<(), AllocError> {
     let text = String::from_str(rt.alloc(), "foo\r\nbar")?;
     let foo = b"foo\r\n".as_slice();
-    assert_eq!(rt; read(&text, 0, 4, 0, 0), Some((foo, (0, 5), 0, 0, 1)));
+    let found = read(&text, 0, 4, 0, 0);
+    same(&rt, found, Some((foo, (0, 5), 0, 0, 1)));
     let bytes = b"\nx".as_slice();
-    assert_eq!(rt;
-        read(&bytes, 0, 0, 0, 0),
-        Some((b"\n".as_slice(), (0, 1), 0, 0, 1))
-    );
+    let found = read(&bytes, 0, 0, 0, 0);
+    same(&rt, found, Some((b"\n".as_slice(), (0, 1), 0, 0, 1)));
     Ok(())
+}
+
+fn indexed(alloc: Global, bytes: &[u8]) -> Result<IndexedSource, AllocError> {
+    IndexedSource::new(alloc, bytes.to_vec(alloc)?)
 }
 
 /// Sums past the largest number are refused or cut, and nothing wraps.
-#[test]
-fn the_largest_numbers(rt: HostRuntime) -> Result<(), Fail> {
+fn stops_at_its_end<S: SourceCode>(rt: &impl Abort, code: &S) {
     let most = usize::MAX;
-    let all = README.as_bytes();
-    assert_eq!(rt; read(&README, most, most, 0, 0), None);
-    assert_eq!(rt; read(&README, 1, most, 0, 0), None);
-    assert_eq!(rt;
-        read(&README, 9, 4, most, most),
-        Some((all, (0, 22), 0, 0, 2))
-    );
-    let indexed = IndexedSource::new(rt.alloc(), all.to_vec(rt.alloc())?)?;
-    assert_eq!(rt; read(&indexed, most, most, 0, 0), None);
-    assert_eq!(rt;
-        read(&indexed, 9, 4, most, most),
-        Some((all, (0, 22), 0, 0, 2))
-    );
+    same(rt, read(code, most, most, 0, 0), None);
+    same(rt, read(code, 1, most, 0, 0), None);
+    let found = read(code, 9, 4, most, most);
+    same(rt, found, Some((README.as_bytes(), (0, 22), 0, 0, 2)));
+}
+
+#[test]
+fn the_largest_numbers(rt: HostRuntime) -> Result<(), AllocError> {
+    stops_at_its_end(&rt, &README);
+    stops_at_its_end(&rt, &indexed(rt.alloc(), README.as_bytes())?);
     Ok(())
 }
 
@@ -135,8 +131,9 @@ fn long_source(alloc: Global) -> Result<Vec<u8>, AllocError> {
 
 /// A line is found over more bytes than are counted together.
 #[test]
-fn long_sources(rt: HostRuntime) -> Result<(), Fail> {
+fn long_sources(rt: HostRuntime) -> Result<(), AllocError> {
     let bytes = long_source(rt.alloc())?;
+    let all = bytes.as_slice();
     let rows = [
         ((999, 1, 0), ((999, 1), 3, 298, 0)),
         ((224, 0, 0), ((224, 1), 0, 223, 1)),
@@ -144,8 +141,8 @@ fn long_sources(rt: HostRuntime) -> Result<(), Fail> {
         ((600, 1, 1), ((225, 775), 1, 0, 2)),
     ];
     for ((offset, len, context), numbers) in rows {
-        let found = read(&bytes, offset, len, context, context);
-        assert_eq!(rt; found.map(|it| (it.1, it.2, it.3, it.4)), Some(numbers));
+        let found = read(&all, offset, len, context, context);
+        same(&rt, found.map(|it| (it.1, it.2, it.3, it.4)), Some(numbers));
     }
     Ok(())
 }
@@ -174,22 +171,28 @@ fn boxed_readme(alloc: Global) -> Result<NamedSource<Vec<u8>>, AllocError> {
     NamedSource::new(alloc, "bad_file.rs", bytes)?.with_language(alloc, "Rust")
 }
 
+/// What is read of the word `text`, with so many lines around it, is this, in Rust and with this name.
+fn reads_the_word<S: SourceCode>(
+    rt: &impl Abort,
+    code: &S,
+    lines: usize,
+    wanted: Seen<'_>,
+    name: &str,
+) -> Result<(), MietteError> {
+    let contents = code.read_span(&span(9, 4), lines, lines)?;
+    says(rt, &contents, wanted, (Some(name), Some("Rust")));
+    Ok(())
+}
+
+fn boxed_source(alloc: Global) -> Result<Box<dyn SourceCode>, Fail> {
+    let code: Box<dyn SourceCode> = Box::new(alloc, boxed_readme(alloc)?)?;
+    Ok(code)
+}
+
 #[test]
 fn reads_through_a_box(rt: HostRuntime) -> Result<(), Fail> {
-    let code: Box<dyn SourceCode> = Box::new(rt.alloc(), boxed_readme(rt.alloc())?)?;
-    match code.read_span(&span(9, 4), 0, 0) {
-        Ok(contents) => {
-            assert_eq!(rt; contents.name(), Some("bad_file.rs"));
-            assert_eq!(rt; contents.language(), Some("Rust"));
-            assert_eq!(rt; contents.data(), b"text".as_slice());
-        }
-        Err(_) => assert!(rt; false),
-    }
-    let all = README.as_bytes();
-    assert_eq!(rt;
-        read(&code, 9, 4, 0, 0),
-        Some((&all[9..13], (9, 4), 1, 2, 0))
-    );
+    let wanted = (b"text".as_slice(), (9, 4), 1, 2, 0);
+    reads_the_word(&rt, &boxed_source(rt.alloc())?, 0, wanted, "bad_file.rs")?;
     Ok(())
 }
 
@@ -199,31 +202,31 @@ fn breaks<S: SourceCode>(rt: &impl Abort, code: &S) {
     assert!(rt; matches!(found, Err(MietteError::IoError(_))));
 }
 
+fn boxed_broken(alloc: Global) -> Result<Box<dyn SourceCode>, Fail> {
+    let boxed: Box<dyn SourceCode> = Box::new(alloc, Broken)?;
+    Ok(boxed)
+}
+
 #[test]
 fn broken_sources(rt: HostRuntime) -> Result<(), Fail> {
-    let boxed: Box<dyn SourceCode> = Box::new(rt.alloc(), Broken)?;
-    breaks(&rt, &boxed);
+    breaks(&rt, &boxed_broken(rt.alloc())?);
     breaks(&rt, &NamedSource::new(rt.alloc(), "f", Broken)?);
     Ok(())
 }
 
+/// A source that is named twice.
+fn named_twice(alloc: Global) -> Result<NamedSource<NamedSource<Vec<u8>>>, AllocError> {
+    NamedSource::new(alloc, "other.rs", boxed_readme(alloc)?)
+}
+
 #[test]
 fn names_pass_the_rest_on(rt: HostRuntime) -> Result<(), Fail> {
-    let inner = boxed_readme(rt.alloc())?;
-    let outer = NamedSource::new(rt.alloc(), "other.rs", inner)?;
-    assert_eq!(rt;
-        (outer.name(), outer.inner().name()),
-        ("other.rs", "bad_file.rs")
-    );
-    assert_eq!(rt; outer.inner().inner().as_slice(), README.as_bytes());
-    match outer.read_span(&span(9, 4), 1, 1) {
-        Ok(contents) => {
-            assert_eq!(rt; contents.name(), Some("other.rs"));
-            assert_eq!(rt; contents.language(), Some("Rust"));
-            assert_eq!(rt; seen(&contents), (README.as_bytes(), (0, 22), 0, 0, 2));
-        }
-        Err(_) => assert!(rt; false),
-    }
+    let outer = named_twice(rt.alloc())?;
+    same(&rt, outer.name(), "other.rs");
+    same(&rt, outer.inner().name(), "bad_file.rs");
+    same(&rt, outer.inner().inner().as_slice(), README.as_bytes());
+    let wanted = (README.as_bytes(), (0, 22), 0, 0, 2);
+    reads_the_word(&rt, &outer, 1, wanted, "other.rs")?;
     Ok(())
 }
 
@@ -234,8 +237,8 @@ fn says(
     wanted: Seen<'_>,
     names: (Option<&str>, Option<&str>),
 ) {
-    assert_eq!(rt; seen(contents), wanted);
-    assert_eq!(rt; (contents.name(), contents.language()), names);
+    same(rt, seen(contents), wanted);
+    same(rt, (contents.name(), contents.language()), names);
 }
 
 #[test]
@@ -249,21 +252,20 @@ fn contents_by_hand(rt: HostRuntime) {
 }
 
 #[test]
-fn few_looks_at_the_index(rt: HostRuntime) -> Result<(), Fail> {
-    let bytes = b"a\r\nb\rc\n";
-    let source = IndexedSource::new(rt.alloc(), bytes.to_vec(rt.alloc())?)?;
-    assert_eq!(rt; source.bytes(), bytes.as_slice());
+fn few_looks_at_the_index(rt: HostRuntime) -> Result<(), AllocError> {
+    let bytes = b"a\r\nb\rc\n".as_slice();
+    let source = indexed(rt.alloc(), bytes)?;
+    same(&rt, source.bytes(), bytes);
     for (offset, line) in [(0, 0), (2, 0), (3, 1), (5, 2), (7, 3), (9, 3)] {
         let (found, looks) = source.line_of(offset);
-        assert_eq!(rt; (found, looks <= 2), (line, true));
+        same(&rt, (found, looks <= 2), (line, true));
     }
     Ok(())
 }
 
 #[test]
-fn no_look_at_an_index_without_ends(rt: HostRuntime) -> Result<(), Fail> {
-    let none = IndexedSource::new(rt.alloc(), b"abc".to_vec(rt.alloc())?)?;
-    assert_eq!(rt; none.line_of(2), (0, 0));
+fn no_look_at_an_index_without_ends(rt: HostRuntime) -> Result<(), AllocError> {
+    same(&rt, indexed(rt.alloc(), b"abc")?.line_of(2), (0, 0));
     Ok(())
 }
 
@@ -276,9 +278,9 @@ fn lines_one_after_another(rt: HostRuntime) {
             text_end,
             end,
         };
-        assert_eq!(rt; lines.next(), Some(line));
+        same(&rt, lines.next(), Some(line));
     }
-    assert_eq!(rt; lines.next(), None);
+    same(&rt, lines.next(), None);
 }
 
 /// The source of a number below 200, each another one: up to five bytes of `a`, CR and LF, and behind odd ones an `a`.
@@ -301,24 +303,30 @@ fn source_of(alloc: Global, number: usize) -> Result<Vec<u8>, AllocError> {
     Ok(bytes)
 }
 
-#[test]
-fn index_and_scan_agree(rt: HostRuntime) -> Result<(), Fail> {
-    for number in 0..200 {
-        let bytes = source_of(rt.alloc(), number)?;
-        let indexed = IndexedSource::new(rt.alloc(), bytes.clone()?)?;
-        let plain = bytes.as_slice();
-        for offset in 0..8 {
-            for len in 0..8 {
-                for before in 0..3 {
-                    for after in 0..3 {
-                        assert_eq!(rt;
-                            read(&indexed, offset, len, before, after),
-                            read(&plain, offset, len, before, after)
-                        );
-                    }
-                }
-            }
+/// Both read a place alike, with each context of up to two lines.
+fn agree(rt: &impl Abort, indexed: &IndexedSource, plain: &[u8], offset: usize, len: usize) {
+    for before in 0..3 {
+        for after in 0..3 {
+            let found = read(indexed, offset, len, before, after);
+            same(rt, found, read(&plain, offset, len, before, after));
         }
+    }
+}
+
+/// Both read all places alike.
+fn agree_everywhere(rt: &impl Abort, indexed: &IndexedSource, plain: &[u8]) {
+    for offset in 0..8 {
+        for len in 0..8 {
+            agree(rt, indexed, plain, offset, len);
+        }
+    }
+}
+
+#[test]
+fn index_and_scan_agree(rt: HostRuntime) -> Result<(), AllocError> {
+    for number in 0..200 {
+        let indexed = IndexedSource::new(rt.alloc(), source_of(rt.alloc(), number)?)?;
+        agree_everywhere(&rt, &indexed, indexed.bytes());
     }
     Ok(())
 }
@@ -341,10 +349,9 @@ fn laws_do_nothing(_rt: HostRuntime) {
 #[test]
 fn contents_are_cloned(rt: HostRuntime) -> Result<(), Fail> {
     let bytes = b"abc".as_slice();
-    let contents = bytes.read_span(&SourceSpan::from((1, 1)), 0, 0)?;
+    let contents = bytes.read_span(&span(1, 1), 0, 0)?;
     let again = contents.clone()?;
-    assert_eq!(rt; again.data(), b"b".as_slice());
-    assert_eq!(rt; again.column(), 1);
-    assert_eq!(rt; RenderError::from(AllocError), RenderError::Memory);
+    same(&rt, seen(&again), (b"b".as_slice(), (1, 1), 0, 1, 0));
+    same(&rt, RenderError::from(AllocError), RenderError::Memory);
     Ok(())
 }

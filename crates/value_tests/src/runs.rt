@@ -1,3 +1,6 @@
+//! Texts as runs: read, wrapped and printed.
+
+use crate::comparing::gives;
 use crate::wrapping::SEQUENCES;
 use miette_style::style::{Color, Style};
 use miette_text::runs::Runs;
@@ -6,11 +9,21 @@ use miette_text::runs::reading::{print, read_text};
 use miette_text::wrap::cutting::{without_leading, without_trailing};
 use miette_text::wrap::{Plan, wrap};
 use std::alloc::{AllocError, Global};
-use std::test::Fail;
 
 fn wrapped(alloc: Global, text: &str, width: usize) -> Result<String, AllocError> {
-    let none = Runs::new(alloc);
     let read = read_text(alloc, text)?;
+    let mut out = Output::for_text(alloc);
+    wrap_plainly(alloc, &read, width, &mut out)?;
+    out.into_text(alloc)
+}
+
+fn wrap_plainly(
+    alloc: Global,
+    read: &Runs,
+    width: usize,
+    out: &mut Output,
+) -> Result<(), AllocError> {
+    let none = Runs::new(alloc);
     let plan = Plan {
         wraps: true,
         hyphens: true,
@@ -19,31 +32,41 @@ fn wrapped(alloc: Global, text: &str, width: usize) -> Result<String, AllocError
         first: &none,
         further: &none,
     };
-    let mut out = Output::for_text(alloc);
-    wrap(alloc, plan, &read, &mut out)?;
-    out.into_text(alloc)
+    wrap(alloc, plan, read, out)
 }
 
 #[test]
-fn rows_of_runs(rt: HostRuntime) -> Result<(), Fail> {
+fn rows_of_runs(rt: HostRuntime) {
     for (text, width, wanted) in SEQUENCES {
-        assert_eq!(rt; wrapped(rt.alloc(), text, width)?.as_str(), wanted);
+        gives(&rt, wrapped(rt.alloc(), text, width), wanted);
     }
-    Ok(())
 }
 
-#[test]
-fn runs_without_line_feeds(rt: HostRuntime) -> Result<(), Fail> {
-    let alloc = rt.alloc();
+/// Line feeds in red, between letters in red, and plain.
+fn with_line_feeds(alloc: Global) -> Result<Runs, AllocError> {
     let mut runs = Runs::new(alloc);
     runs.push_run(Style::new().color(Color::Red), "\n\na\nb\n")?;
     runs.push('\n')?;
-    let runs = without_leading(alloc, runs)?;
-    assert_eq!(rt;
-        print(alloc, &runs)?.as_str(),
-        "\u{1B}[31ma\nb\n\u{1B}[0m\n"
-    );
-    let runs = without_trailing(alloc, runs)?;
-    assert_eq!(rt; print(alloc, &runs)?.as_str(), "\u{1B}[31ma\nb\u{1B}[0m");
-    Ok(())
+    Ok(runs)
+}
+
+fn leading_cut(alloc: Global) -> Result<Runs, AllocError> {
+    without_leading(alloc, with_line_feeds(alloc)?)
+}
+
+fn both_cut(alloc: Global) -> Result<Runs, AllocError> {
+    without_trailing(alloc, leading_cut(alloc)?)
+}
+
+fn spelled(alloc: Global, runs: Result<Runs, AllocError>) -> Result<String, AllocError> {
+    print(alloc, &runs?)
+}
+
+#[test]
+fn runs_without_line_feeds(rt: HostRuntime) {
+    let alloc = rt.alloc();
+    let wanted = "\u{1B}[31ma\nb\n\u{1B}[0m\n";
+    gives(&rt, spelled(alloc, leading_cut(alloc)), wanted);
+    let wanted = "\u{1B}[31ma\nb\u{1B}[0m";
+    gives(&rt, spelled(alloc, both_cut(alloc)), wanted);
 }

@@ -1,8 +1,8 @@
 //! Places in texts, and what a span is made from.
 
+use crate::comparing::{gives, printed, same};
 use miette_protocol::protocol::{LabeledSpan, LengthOverflow, SourceOffset, SourceSpan};
 use std::alloc::{AllocError, Global};
-use std::test::Fail;
 
 fn located(text: &str, line: usize, column: usize) -> usize {
     SourceOffset::from_location(text, line, column).offset()
@@ -27,7 +27,11 @@ fn locations(rt: HostRuntime) {
         ("漢x", 1, 2, 3),
     ];
     for (text, line, column, offset) in rows {
-        assert_eq!(rt; located(text, line, column), offset, "at {line}:{column}");
+        same(
+            &rt,
+            (line, column, located(text, line, column)),
+            (line, column, offset),
+        );
     }
 }
 
@@ -40,10 +44,8 @@ fn spans_from_a_line_and_a_column(rt: HostRuntime) {
         ((9, 1, 2), (13, 2)),
     ];
     for ((line, column, length), wanted) in rows {
-        assert_eq!(rt;
-            parts(SourceSpan::at_line_column(text, line, column, length)),
-            wanted
-        );
+        let span = SourceSpan::at_line_column(text, line, column, length);
+        same(&rt, parts(span), wanted);
     }
 }
 
@@ -63,18 +65,19 @@ fn json_label(
     )
 }
 
-#[test]
-fn a_label_where_json_ends(rt: HostRuntime) -> Result<(), Fail> {
-    let alloc = rt.alloc();
-    for (text, offset) in [("{\n  \"é\": x\n}", 10), ("{\n  \"a\": ", 8), ("[1,\n", 4)] {
-        match serde_json::Value::from_str(alloc, text) {
-            Ok(_) => assert!(rt; false, "it is no JSON"),
-            Err(error) => {
-                assert_eq!(rt; json_label(alloc, text, &error)?.offset(), offset);
-            }
-        }
+/// Where that label begins; nowhere where the text is JSON.
+fn json_ends(alloc: Global, text: &str) -> Result<Option<usize>, AllocError> {
+    match serde_json::Value::from_str(alloc, text) {
+        Ok(_) => Ok(None),
+        Err(error) => Ok(Some(json_label(alloc, text, &error)?.offset())),
     }
-    Ok(())
+}
+
+#[test]
+fn a_label_where_json_ends(rt: HostRuntime) {
+    for (text, offset) in [("{\n  \"é\": x\n}", 10), ("{\n  \"a\": ", 8), ("[1,\n", 4)] {
+        same(&rt, json_ends(rt.alloc(), text), Ok(Some(offset)));
+    }
 }
 
 fn parts(span: SourceSpan) -> (usize, usize) {
@@ -93,26 +96,34 @@ fn conversions(rt: HostRuntime) {
         (SourceSpan::from(7), (7, 0)),
     ];
     for (span, wanted) in rows {
-        assert_eq!(rt; parts(span), wanted);
+        same(&rt, parts(span), wanted);
     }
     assert!(rt; SourceSpan::from(7).is_empty());
 }
 
 #[test]
 fn inclusive_ranges(rt: HostRuntime) {
-    assert_eq!(rt; SourceSpan::try_from(2..=5), Ok(SourceSpan::from((2, 4))));
-    assert_eq!(rt; SourceSpan::try_from(5..=3), Ok(SourceSpan::from((5, 0))));
-    assert_eq!(rt; SourceSpan::try_from(0..=usize::MAX), Err(LengthOverflow));
+    same(
+        &rt,
+        SourceSpan::try_from(2..=5),
+        Ok(SourceSpan::from((2, 4))),
+    );
+    same(
+        &rt,
+        SourceSpan::try_from(5..=3),
+        Ok(SourceSpan::from((5, 0))),
+    );
+    same(
+        &rt,
+        SourceSpan::try_from(0..=usize::MAX),
+        Err(LengthOverflow),
+    );
 }
 
 #[test]
-fn a_length_that_is_too_great_prints(rt: HostRuntime) -> Result<(), Fail> {
-    let text = format!(in rt.alloc(); "{}", LengthOverflow)?;
-    assert_eq!(rt;
-        text.as_str(),
-        "the length of the range is greater than a usize can say"
-    );
-    Ok(())
+fn a_length_that_is_too_great_prints(rt: HostRuntime) {
+    let wanted = "the length of the range is greater than a usize can say";
+    gives(&rt, printed(rt.alloc(), &LengthOverflow), wanted);
 }
 
 #[test]

@@ -1,10 +1,12 @@
+//! Texts in rows.
+
+use crate::comparing::{gives, same};
 use miette_text::runs::output::Output;
 use miette_text::runs::reading::read_text;
 use miette_text::wrap::fitting::push_fitting;
 use miette_text::wrap::{WordSeparator, WordSplitter, WrapOptions, fill};
 use std::alloc::{AllocError, Global};
 use std::process::Abort;
-use std::test::Fail;
 
 /// Rows of 80 columns without indents; words are cut behind hyphens and where they are too wide.
 const PLAIN: WrapOptions<'static> = WrapOptions {
@@ -40,36 +42,26 @@ fn filled_behind(
 }
 
 /// The options make these rows, but for their width.
-fn fills(
-    rt: &impl Abort,
-    alloc: Global,
-    options: WrapOptions<'_>,
-    rows: &[Row<'_>],
-) -> Result<(), Fail> {
+fn fills(rt: &impl Abort, alloc: Global, options: WrapOptions<'_>, rows: &[Row<'_>]) {
     for (text, width, wanted) in rows {
         let options = WrapOptions {
             width: *width,
             ..options
         };
-        assert_eq!(rt; filled_behind(alloc, "", &options, text)?.as_str(), *wanted);
+        gives(rt, filled_behind(alloc, "", &options, text), *wanted);
     }
-    Ok(())
 }
 
 #[test]
-fn hyphens(rt: HostRuntime) -> Result<(), Fail> {
+fn hyphens(rt: HostRuntime) {
     let rows = [("ab-cd ef", 5, "ab-cd\nef"), ("ab-cd ef", 4, "ab-\ncd\nef")];
-    fills(&rt, rt.alloc(), PLAIN, &rows)?;
+    fills(&rt, rt.alloc(), PLAIN, &rows);
     let whole_words = WrapOptions {
         splitter: WordSplitter::NoHyphenation,
         ..PLAIN
     };
-    fills(
-        &rt,
-        rt.alloc(),
-        whole_words,
-        &[("ab-cd ef", 4, "ab-c\nd ef")],
-    )
+    let rows = [("ab-cd ef", 4, "ab-c\nd ef")];
+    fills(&rt, rt.alloc(), whole_words, &rows);
 }
 
 /// Texts with sequences.
@@ -82,36 +74,36 @@ pub(crate) const SEQUENCES: [Row<'static>; 5] = [
 ];
 
 #[test]
-fn sequences(rt: HostRuntime) -> Result<(), Fail> {
-    fills(&rt, rt.alloc(), PLAIN, &SEQUENCES)
+fn sequences(rt: HostRuntime) {
+    fills(&rt, rt.alloc(), PLAIN, &SEQUENCES);
 }
 
 #[test]
-fn whole(rt: HostRuntime) -> Result<(), Fail> {
+fn whole(rt: HostRuntime) {
     let options = WrapOptions {
         wrap_lines: false,
         ..INDENTED
     };
-    let out = filled_behind(rt.alloc(), "x", &options, "a\n\n")?;
-    assert_eq!(rt; out.as_str(), "x> a\n.\n");
+    let out = filled_behind(rt.alloc(), "x", &options, "a\n\n");
+    gives(&rt, out, "x> a\n.\n");
     // what is white loses its indent's last spaces, and sequences behind the last line feed stay
     let rows = [("\u{A0}\t\na\n\u{1B}[0m", 80, ">\u{A0}\t\n. a\n\u{1B}[0m")];
-    fills(&rt, rt.alloc(), options, &rows)
+    fills(&rt, rt.alloc(), options, &rows);
 }
 
 #[test]
-fn indents(rt: HostRuntime) -> Result<(), Fail> {
+fn indents(rt: HostRuntime) {
     let options = WrapOptions {
         first_indent: "  \u{1B}[31m×\u{1B}[0m ",
         further_indent: "  | ",
         ..PLAIN
     };
     let wanted = "  \u{1B}[31m×\u{1B}[0m alpha\n  | 漢字 é\n  | ";
-    fills(&rt, rt.alloc(), options, &[("alpha 漢字 é\n", 10, wanted)])
+    fills(&rt, rt.alloc(), options, &[("alpha 漢字 é\n", 10, wanted)]);
 }
 
 #[test]
-fn spaces_of_indents(rt: HostRuntime) -> Result<(), Fail> {
+fn spaces_of_indents(rt: HostRuntime) {
     // wrapped, an indent keeps its spaces, also where nothing else is left in the row
     let rows = [
         ("", 80, "> "),
@@ -120,19 +112,21 @@ fn spaces_of_indents(rt: HostRuntime) -> Result<(), Fail> {
         ("ab c", 1, "> a\n. b\n. c"),
         ("a b", usize::MAX, "> a b"),
     ];
-    fills(&rt, rt.alloc(), INDENTED, &rows)
+    fills(&rt, rt.alloc(), INDENTED, &rows);
 }
 
 #[test]
-fn narrow_rows(rt: HostRuntime) -> Result<(), Fail> {
-    let alloc = rt.alloc();
-    fills(&rt, alloc, PLAIN, &[("漢a", 0, "漢\na")])?;
-    fills(&rt, alloc, PLAIN, &[("漢\u{301}", 1, "漢\n\u{301}")])?;
-    fills(&rt, alloc, PLAIN, &[("\u{301}漢", 1, "\u{301}漢")])
+fn narrow_rows(rt: HostRuntime) {
+    let rows = [
+        ("漢a", 0, "漢\na"),
+        ("漢\u{301}", 1, "漢\n\u{301}"),
+        ("\u{301}漢", 1, "\u{301}漢"),
+    ];
+    fills(&rt, rt.alloc(), PLAIN, &rows);
 }
 
 #[test]
-fn nothing_to_indent(rt: HostRuntime) -> Result<(), Fail> {
+fn nothing_to_indent(rt: HostRuntime) {
     // without wrapping: no text, sequences alone, white space under an indent with sequences among its spaces
     let options = WrapOptions {
         first_indent: "|\u{1B}[31m \u{1B}[0m ",
@@ -145,26 +139,35 @@ fn nothing_to_indent(rt: HostRuntime) -> Result<(), Fail> {
         ("\t", 80, "|\u{1B}[31m\u{1B}[0m\t"),
         ("a\n\t", 80, "|\u{1B}[31m \u{1B}[0m a\n.\t"),
     ];
-    fills(&rt, rt.alloc(), options, &rows)
+    fills(&rt, rt.alloc(), options, &rows);
 }
 
-/// What is appended behind a red indent of two columns, where the text fits.
+/// What is appended behind a red indent of two columns, and whether the text fits.
 fn fitted(
     alloc: Global,
     wraps: bool,
     width: usize,
     text: &str,
-) -> Result<Option<String>, AllocError> {
+) -> Result<(bool, String), AllocError> {
     let first = read_text(alloc, "\u{1B}[31m>\u{1B}[0m ")?;
     let mut out = Output::for_text(alloc);
     let fits = push_fitting(wraps, width, &first, text, &mut out)?;
-    let out = out.into_text(alloc)?;
-    Ok(if fits { Some(out) } else { None })
+    Ok((fits, out.into_text(alloc)?))
+}
+
+/// Whether it fits.
+fn fits(alloc: Global, wraps: bool, width: usize, text: &str) -> Result<bool, AllocError> {
+    Ok(fitted(alloc, wraps, width, text)?.0)
+}
+
+/// Whether it fits, and then stands behind the indent.
+fn stands(alloc: Global, width: usize, text: &str) -> Result<bool, AllocError> {
+    let (fits, found) = fitted(alloc, true, width, text)?;
+    Ok(fits && found.as_str().strip_prefix("\u{1B}[31m>\u{1B}[0m ") == Some(text))
 }
 
 #[test]
-fn fitting(rt: HostRuntime) -> Result<(), Fail> {
-    let alloc = rt.alloc();
+fn fitting(rt: HostRuntime) {
     // a text, its columns with the indent's, and whether it fits these
     let rows = [
         ("", 2, true),
@@ -178,27 +181,24 @@ fn fitting(rt: HostRuntime) -> Result<(), Fail> {
         ("漢\n", 5, false),
         ("\u{1B}[31ma", 8, false),
     ];
-    for (text, width, fits) in rows {
-        let wanted = format!(in alloc; "\u{1B}[31m>\u{1B}[0m {text}")?;
-        let found = fitted(alloc, true, width, text)?;
-        assert_eq!(&rt;
-            found.as_deref(),
-            if fits { Some(wanted.as_str()) } else { None }
-        );
-        assert_eq!(&rt;
-            fitted(alloc, true, width.saturating_sub(1), text)?.as_deref(),
-            None
-        );
+    for (text, width, wanted) in rows {
+        same(&rt, stands(rt.alloc(), width, text), Ok(wanted));
+        same(&rt, fits(rt.alloc(), true, width, text), Ok(wanted));
+        let less = width.saturating_sub(1);
+        same(&rt, fits(rt.alloc(), true, less, text), Ok(false));
     }
+}
+
+#[test]
+fn fitting_without_wrapping(rt: HostRuntime) {
     // lines that stay whole have any width; those that are white have another indent
-    for (text, fits) in [
+    for (text, wanted) in [
         ("a ", true),
         (" é", true),
         ("", false),
         (" ", false),
         ("\u{A0}", false),
     ] {
-        assert_eq!(&rt; fitted(alloc, false, 0, text)?.is_some(), fits);
+        same(&rt, fits(rt.alloc(), false, 0, text), Ok(wanted));
     }
-    Ok(())
 }
