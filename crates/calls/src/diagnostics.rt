@@ -1,6 +1,6 @@
 //! Diagnostics.
 
-use crate::rows::{Done, answered, cloned, given};
+use crate::rows::{Done, Stop, answered, cloned, given};
 use miette::diagnostic::MietteDiagnostic;
 use miette::protocol::{LabeledSpan, Severity};
 use miette_tree::diagnostic;
@@ -37,55 +37,67 @@ pub fn make<W: Write>(alloc: Global, name: &str, out: &mut W) -> Done {
             ),
         ),
         "MietteDiagnostic::clone" => cloned(out, &full(alloc)?),
-        "MietteDiagnostic::copied" => {
-            let full = full(alloc)?;
-            given(out, &full)?;
-            answered(out, MietteDiagnostic::copied(alloc, &full))
+        _ => {
+            let full = given_full(alloc, out)?;
+            answered(out, changed(alloc, name, full)?)
         }
-        "MietteDiagnostic::with_code"
-        | "MietteDiagnostic::with_help"
-        | "MietteDiagnostic::with_url" => { with_text(alloc, name, out) }
-        _ => with_labels(alloc, name, out),
     }
 }
 
-fn with_text<W: Write>(alloc: Global, name: &str, out: &mut W) -> Done {
+/// The diagnostic that a call is given, which the row shows.
+///
+/// # Errors
+/// `Memory` where it can't be made, `Write` where standard output took no more.
+pub fn given_full<W: Write>(alloc: Global, out: &mut W) -> Result<MietteDiagnostic, Stop> {
     let full = full(alloc)?;
     given(out, &full)?;
+    Ok(full)
+}
+
+/// What the call of this name makes of a diagnostic; an error where what it needs can't be made.
+fn changed(
+    alloc: Global,
+    name: &str,
+    full: MietteDiagnostic,
+) -> Result<Result<MietteDiagnostic, AllocError>, Stop> {
     match name {
-        "MietteDiagnostic::with_code" => answered(out, full.with_code(alloc, "c::d")),
-        "MietteDiagnostic::with_help" => answered(out, full.with_help(alloc, "try again")),
-        "MietteDiagnostic::with_url" => answered(out, full.with_url(alloc, "http://y")),
-        _ => Ok(()),
+        "MietteDiagnostic::copied" => Ok(MietteDiagnostic::copied(alloc, &full)),
+        "MietteDiagnostic::with_code" => Ok(full.with_code(alloc, "c::d")),
+        "MietteDiagnostic::with_help" => Ok(full.with_help(alloc, "try again")),
+        "MietteDiagnostic::with_url" => Ok(full.with_url(alloc, "http://y")),
+        _ => with_labels(alloc, name, full),
     }
 }
 
-fn with_labels<W: Write>(alloc: Global, name: &str, out: &mut W) -> Done {
-    let full = full(alloc)?;
-    let label = LabeledSpan::at(alloc, (0, 6), "and this")?;
-    let more = two(alloc)?;
-    given(out, &full)?;
+fn with_labels(
+    alloc: Global,
+    name: &str,
+    full: MietteDiagnostic,
+) -> Result<Result<MietteDiagnostic, AllocError>, Stop> {
     match name {
-        "MietteDiagnostic::with_label" => answered(out, full.with_label(alloc, label)),
-        "MietteDiagnostic::with_labels_from" => {
+        "MietteDiagnostic::with_label" => Ok(full.with_label(alloc, and_this(alloc)?)),
+        "MietteDiagnostic::and_label" => Ok(full.and_label(alloc, and_this(alloc)?)),
+        "MietteDiagnostic::and_labels" => Ok(full.and_labels(alloc, two(alloc)?)),
+        _ => {
             let spans = [4, 7].into_iter().map(LabeledSpan::underline);
-            answered(out, full.with_labels_from(alloc, spans))
+            Ok(full.with_labels_from(alloc, spans))
         }
-        "MietteDiagnostic::and_label" => answered(out, full.and_label(alloc, label)),
-        "MietteDiagnostic::and_labels" => answered(out, full.and_labels(alloc, more)),
-        _ => Ok(()),
     }
+}
+
+fn and_this(alloc: Global) -> Result<LabeledSpan, AllocError> {
+    LabeledSpan::at(alloc, (0, 6), "and this")
 }
 
 /// A diagnostic with all parts.
 pub fn full(alloc: Global) -> Result<MietteDiagnostic, AllocError> {
     let label = LabeledSpan::at(alloc, (9, 4), "This bit here")?;
-    let made = MietteDiagnostic::new(alloc, "oops!")?
+    MietteDiagnostic::new(alloc, "oops!")?
+        .with_severity(Severity::Warning)
         .with_label(alloc, label)?
         .with_code(alloc, "a::b")?
         .with_help(alloc, "try")?
-        .with_url(alloc, "http://x")?;
-    Ok(made.with_severity(Severity::Warning))
+        .with_url(alloc, "http://x")
 }
 
 fn two(alloc: Global) -> Result<Vec<LabeledSpan>, AllocError> {

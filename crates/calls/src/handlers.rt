@@ -12,7 +12,7 @@ use miette::handlers::{
 use miette::highlight::BlankHighlighter;
 use miette::options::{MietteHandler, MietteHandlerOpts};
 use miette::report::{OwnedSource, Report};
-use miette::theme::GraphicalTheme;
+use miette::theme::{GraphicalTheme, Terminal};
 use std::alloc::{AllocError, Global};
 use std::io::Write;
 
@@ -51,15 +51,22 @@ pub fn make<W: Write>(alloc: Global, name: &str, out: &mut W) -> Done {
         "GraphicalReportHandler::new" | "MietteHandlerOpts::build" | "MietteHandler::new" => {
             made(alloc, name, out)
         }
-        _ => {
-            let source = OwnedSource::named(alloc, "bad_file.rs", None, README.to_vec(alloc)?)?;
-            let report = caused(alloc)?.with_owned_source(source);
-            let mut text = String::from_str(alloc, "> ")?;
-            given(out, &text)?;
-            let answer = rendered(alloc, name, &report, &mut text)?;
-            appended(out, answer, &text)
-        }
+        _ => behind(alloc, name, out, &sourced(alloc)?),
     }
+}
+
+/// The report that is rendered.
+fn sourced(alloc: Global) -> Result<Report, AllocError> {
+    let source = OwnedSource::named(alloc, "bad_file.rs", None, README.to_vec(alloc)?)?;
+    Ok(caused(alloc)?.with_owned_source(source))
+}
+
+/// The text `> ` and what the call of this name puts behind it.
+fn behind<W: Write>(alloc: Global, name: &str, out: &mut W, report: &Report) -> Done {
+    let mut text = String::from_str(alloc, "> ")?;
+    given(out, &text)?;
+    let answer = rendered(alloc, name, report, &mut text)?;
+    appended(out, answer, &text)
 }
 
 /// What the call of this name answers; nothing where it has no handler.
@@ -69,22 +76,32 @@ fn rendered(
     report: &Report,
     text: &mut String,
 ) -> Result<Result<(), RenderError>, Stop> {
-    let mut telling = NarratableReportHandler::new();
-    let mut listing = BriefReportHandler::new();
-    let mut spelling = JSONReportHandler::new();
-    let mut showing = DebugReportHandler::new();
     Ok(match name {
-        "NarratableReportHandler::render_report" => telling.render_report(report, text),
-        "NarratableReportHandler::render" => telling.render(report, text),
-        "ReportHandler::debug for NarratableReportHandler" => telling.debug(report, text),
-        "BriefReportHandler::render_report" => listing.render_report(report, text),
-        "BriefReportHandler::render" => listing.render(report, text),
-        "ReportHandler::debug for BriefReportHandler" => listing.debug(report, text),
-        "JSONReportHandler::render_report" => spelling.render_report(report, text),
-        "ReportHandler::debug for JSONReportHandler" => spelling.debug(report, text),
-        "DebugReportHandler::render_report" => showing.render_report(report, text),
-        "ReportHandler::debug for DebugReportHandler" => showing.debug(report, text),
-        "ReportHandler::display" => showing.display(report, true, text),
+        "NarratableReportHandler::render_report" => {
+            NarratableReportHandler::new().render_report(report, text)
+        }
+        "NarratableReportHandler::render" => NarratableReportHandler::new().render(report, text),
+        "ReportHandler::debug for NarratableReportHandler" => {
+            NarratableReportHandler::new().debug(report, text)
+        }
+        "BriefReportHandler::render_report" => {
+            BriefReportHandler::new().render_report(report, text)
+        }
+        "BriefReportHandler::render" => BriefReportHandler::new().render(report, text),
+        "ReportHandler::debug for BriefReportHandler" => {
+            BriefReportHandler::new().debug(report, text)
+        }
+        "JSONReportHandler::render_report" => JSONReportHandler::new().render_report(report, text),
+        "ReportHandler::debug for JSONReportHandler" => {
+            JSONReportHandler::new().debug(report, text)
+        }
+        "DebugReportHandler::render_report" => {
+            DebugReportHandler::new().render_report(report, text)
+        }
+        "ReportHandler::debug for DebugReportHandler" => {
+            DebugReportHandler::new().debug(report, text)
+        }
+        "ReportHandler::display" => DebugReportHandler::new().display(report, true, text),
         _ => return drawn(alloc, name, report, text),
     })
 }
@@ -112,16 +129,18 @@ fn drawn(
 fn made<W: Write>(alloc: Global, name: &str, out: &mut W) -> Done {
     let terminal = terminal(alloc)?;
     given(out, &terminal)?;
+    chosen(alloc, name, out, &terminal)
+}
+
+fn chosen<W: Write>(alloc: Global, name: &str, out: &mut W, terminal: &Terminal) -> Done {
     match name {
-        "GraphicalReportHandler::new" => shown(
-            alloc,
-            out,
-            GraphicalReportHandler::new(alloc, &terminal),
-        ),
-        "MietteHandler::new" => shown(alloc, out, MietteHandler::new(alloc, &terminal)),
+        "GraphicalReportHandler::new" => {
+            shown(alloc, out, GraphicalReportHandler::new(alloc, terminal))
+        }
+        "MietteHandler::new" => shown(alloc, out, MietteHandler::new(alloc, terminal)),
         _ => {
             let options: MietteHandlerOpts<BlankHighlighter> = MietteHandlerOpts::default();
-            shown(alloc, out, options.width(20).build(alloc, &terminal))
+            shown(alloc, out, options.width(20).build(alloc, terminal))
         }
     }
 }

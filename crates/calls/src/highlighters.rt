@@ -84,15 +84,21 @@ fn rule(alloc: Global) -> Result<Rule, AllocError> {
     })
 }
 
+fn by_rule(alloc: Global) -> Result<PatternHighlighter, AllocError> {
+    Ok(PatternHighlighter::new(vec![in alloc; rule(alloc)?]?))
+}
+
 fn of_rule<W: Write>(alloc: Global, name: &str, out: &mut W) -> Done {
-    let rule = rule(alloc)?;
-    if name == "Rule::clone" {
-        return cloned(out, &rule);
+    match name {
+        "Rule::clone" => cloned(out, &rule(alloc)?),
+        "PatternHighlighter::clone" => cloned(out, &by_rule(alloc)?),
+        _ => highlighted(alloc, out, by_rule(alloc)?),
     }
-    let mut highlighter = PatternHighlighter::new(vec![in alloc; rule]?);
-    if name == "PatternHighlighter::clone" {
-        return cloned(out, &highlighter);
-    }
+}
+
+/// The pieces of a line that leaves a comment open.
+fn highlighted<W: Write>(alloc: Global, out: &mut W, highlighter: PatternHighlighter) -> Done {
+    let mut highlighter = highlighter;
     given(out, &highlighter)?;
     let answer = highlighter.highlight_line(alloc, "a /*b");
     kept(out, answer, &highlighter)

@@ -42,16 +42,24 @@ pub fn make<R: Env + AllocGlobal + Streams, W: Write>(rt: &R, name: &str, out: &
 
 fn printed<R: Env + AllocGlobal + Streams, W: Write>(rt: &R, name: &str, out: &mut W) -> Done {
     let report = Report::msg(rt.alloc(), "oops!")?;
-    let options: MietteHandlerOpts<BlankHighlighter> = MietteHandlerOpts::default();
     writeln!(out, "\tprints:")?;
-    let _ = match name {
-        "print_report" => print_report(rt, &report),
-        "print_report_with" => print_report_with(rt, options.color(true), &report),
-        "eprint_report" => eprint_report(rt, &report),
-        _ => eprint_report_with(rt, options.color(true), &report),
-    };
+    print(rt, name, &report);
     write!(out, "{name}\tprinted")?;
     Ok(())
+}
+
+/// Prints a report; how a program would end with it isn't looked at.
+fn print<R: Env + AllocGlobal + Streams>(rt: &R, name: &str, report: &Report) {
+    let _ = match name {
+        "print_report" => print_report(rt, report),
+        "print_report_with" => print_report_with(rt, in_colours(), report),
+        "eprint_report" => eprint_report(rt, report),
+        _ => eprint_report_with(rt, in_colours(), report),
+    };
+}
+
+fn in_colours() -> MietteHandlerOpts<BlankHighlighter> {
+    MietteHandlerOpts::default().color(true)
 }
 
 /// Takes as many bytes as there is room for from the start.
@@ -72,32 +80,40 @@ impl Write for Room {
 }
 
 fn written<R: Env + AllocGlobal + Streams, W: Write>(rt: &R, name: &str, out: &mut W) -> Done {
-    let alloc = rt.alloc();
-    let report = caused(alloc)?;
+    let report = caused(rt.alloc())?;
     let mut room = Room {
-        held: Vec::with_capacity(alloc, 4096)?,
+        held: Vec::with_capacity(rt.alloc(), 4096)?,
     };
-    let answer = if name == "print_to" {
+    let answer = narrated(rt, name, &report, &mut room);
+    told(out, answer, &room)
+}
+
+fn narrated<R: Env + AllocGlobal + Streams>(
+    rt: &R,
+    name: &str,
+    report: &Report,
+    room: &mut Room,
+) -> Result<(), PrintError> {
+    if name == "print_to" {
         let options: MietteHandlerOpts<BlankHighlighter> = MietteHandlerOpts::default();
         print_to(
             rt,
             Stream::Stdout,
             options.force_narrated(true),
-            &report,
-            &mut room,
+            report,
+            room,
         )
     } else {
         write_report(
-            alloc,
+            rt.alloc(),
             &mut NarratableReportHandler::new(),
-            &report,
-            &mut room,
+            report,
+            room,
         )
-    };
-    told(out, answer, room)
+    }
 }
 
-fn told<W: Write>(out: &mut W, answer: Result<(), PrintError>, room: Room) -> Done {
+fn told<W: Write>(out: &mut W, answer: Result<(), PrintError>, room: &Room) -> Done {
     let held = str::from_utf8(room.held.as_slice()).unwrap_or("no text");
     match answer {
         Ok(()) => write!(out, "\t{held:?}")?,

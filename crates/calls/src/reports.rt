@@ -1,7 +1,7 @@
 //! Reports: what makes them, and what is put in front of them and below them.
 
-use crate::diagnostics::full;
-use crate::rows::{Done, given, parts, report_answered, report_changed, report_given};
+use crate::diagnostics::{full, given_full};
+use crate::rows::{Done, Stop, given, parts, report_answered, report_changed, report_given};
 use miette::error::MietteError;
 use miette::report::{IntoDiagnostic, Report, Result, WrapErr};
 use miette_tree::{bail, ensure, miette};
@@ -37,21 +37,18 @@ pub const NAMES: [&str; 18] = [
 pub fn make<W: Write>(alloc: Global, name: &str, out: &mut W) -> Done {
     match name {
         "Report::copied" => {
-            let full = full(alloc)?;
-            given(out, &full)?;
+            let full = given_full(alloc, out)?;
             made(out, Report::copied(alloc, &full))
         }
         "Report::msg" => made(out, Report::msg(alloc, "oops!")),
         "Report::from_err" => made(out, Report::from_err(alloc, MietteError::OutOfBounds)),
         "Report::with_diagnostic_cause" => over(alloc, out),
         "Report::wrap_err" => {
-            let report = caused(alloc)?;
-            report_given(out, &report)?;
+            let report = given_caused(alloc, out)?;
             report_changed(out, report.wrap_err(alloc, "in front"))
         }
         "Report::context" => {
-            let report = caused(alloc)?;
-            report_given(out, &report)?;
+            let report = given_caused(alloc, out)?;
             report_changed(out, report.context(alloc, "in front"))
         }
         "miette!" => report_answered(
@@ -90,35 +87,31 @@ fn in_front<W: Write>(alloc: Global, name: &str, out: &mut W) -> Done {
 }
 
 fn in_front_of_error<W: Write>(alloc: Global, name: &str, out: &mut W) -> Done {
-    let report = caused(alloc)?;
-    report_given(out, &report)?;
-    let error: Result<u32> = Err(report);
+    let report = given_caused(alloc, out)?;
+    failed(out, put_in_front(alloc, name, Err(report)))
+}
+
+fn put_in_front(alloc: Global, name: &str, error: Result<u32>) -> Result<u32> {
     match name {
-        "WrapErr::wrap_err for Result" => failed(out, error.wrap_err(alloc, "in front")),
-        "WrapErr::context for Result" => failed(out, error.context(alloc, "in front")),
+        "WrapErr::wrap_err for Result" => error.wrap_err(alloc, "in front"),
+        "WrapErr::context for Result" => error.context(alloc, "in front"),
         "WrapErr::wrap_err_with for Result" => {
-            failed(
-                out,
-                error.wrap_err_with(alloc, || format!(in alloc; "{} in front", 7)),
-            )
+            error.wrap_err_with(alloc, || format!(in alloc; "{} in front", 7))
         }
-        "WrapErr::with_context for Result" => {
-            failed(
-                out,
-                error.with_context(alloc, || format!(in alloc; "{} in front", 7)),
-            )
-        }
-        _ => Ok(()),
+        _ => error.with_context(alloc, || format!(in alloc; "{} in front", 7)),
     }
 }
 
 /// A report over another one; where memory is refused both come back.
 fn over<W: Write>(alloc: Global, out: &mut W) -> Done {
     let report = Report::new(full(alloc)?);
-    let cause = caused(alloc)?;
     report_given(out, &report)?;
-    report_given(out, &cause)?;
-    match report.with_diagnostic_cause(alloc, cause) {
+    let cause = given_caused(alloc, out)?;
+    over_answered(out, report.with_diagnostic_cause(alloc, cause))
+}
+
+fn over_answered<W: Write>(out: &mut W, answer: Result<Report, (Report, Report)>) -> Done {
+    match answer {
         Ok(made) => report_given(out, &made),
         Err((report, cause)) => {
             write!(out, "\trefused: ")?;
@@ -126,6 +119,13 @@ fn over<W: Write>(alloc: Global, out: &mut W) -> Done {
             report_given(out, &cause)
         }
     }
+}
+
+/// The report that a call is given, which the row shows.
+fn given_caused<W: Write>(alloc: Global, out: &mut W) -> Result<Report, Stop> {
+    let report = caused(alloc)?;
+    report_given(out, &report)?;
+    Ok(report)
 }
 
 /// `oops!` with all parts, over two texts.

@@ -66,7 +66,12 @@ fn pushed<W: Write>(alloc: Global, name: &str, out: &mut W) -> Done {
     let mut runs = Runs::new(alloc);
     let more = read_text(alloc, "\u{1b}[32mb\u{1b}[0mc")?;
     given(out, &runs)?;
-    let answer = match name {
+    let answer = push(name, &mut runs, &more);
+    changed(out, answer, &runs)
+}
+
+fn push(name: &str, runs: &mut Runs, more: &Runs) -> Result<(), AllocError> {
+    match name {
         "Runs::push" => runs.push('x'),
         "Runs::push_chars" => runs.push_chars(&['x', 'y']),
         "Runs::push_str" => runs.push_str("xyz"),
@@ -76,15 +81,19 @@ fn pushed<W: Write>(alloc: Global, name: &str, out: &mut W) -> Done {
         "Runs::push_run_chars" => runs.push_run_chars(red().dimmed(), &['x', 'y']),
         "Runs::push_link" => runs.push_link("http://x"),
         "Runs::push_link_end" => runs.push_link_end(),
-        "Runs::append" => runs.append(&more),
+        "Runs::append" => runs.append(more),
         _ => Ok(()),
-    };
-    changed(out, answer, &runs)
+    }
 }
 
 fn put<W: Write>(name: &str, out: &mut W, output: Output) -> Done {
     let mut output = output;
-    let answer = match name {
+    let answer = push_to(name, &mut output);
+    changed(out, answer, &output)
+}
+
+fn push_to(name: &str, output: &mut Output) -> Result<(), AllocError> {
+    match name {
         "Output::reserve" => output.reserve('x', 3),
         "Output::push" => output.push('x'),
         "Output::push_chars" => output.push_chars(&['x', 'y']),
@@ -95,8 +104,7 @@ fn put<W: Write>(name: &str, out: &mut W, output: Output) -> Done {
         "Output::push_link" => output.push_link("http://x"),
         "Output::push_link_end" => output.push_link_end(),
         _ => Ok(()),
-    };
-    changed(out, answer, &output)
+    }
 }
 
 /// An output with a red text, which prints or collects.
@@ -111,13 +119,14 @@ fn filled(alloc: Global, prints: bool) -> Result<Output, AllocError> {
 }
 
 fn ended<W: Write>(alloc: Global, out: &mut W, as_text: bool) -> Done {
-    let printed = filled(alloc, true)?;
-    let collected = filled(alloc, false)?;
+    ended_as(alloc, out, filled(alloc, true)?, as_text)?;
+    ended_as(alloc, out, filled(alloc, false)?, as_text)
+}
+
+fn ended_as<W: Write>(alloc: Global, out: &mut W, output: Output, as_text: bool) -> Done {
     if as_text {
-        answered(out, printed.into_text(alloc))?;
-        answered(out, collected.into_text(alloc))
+        answered(out, output.into_text(alloc))
     } else {
-        answered(out, printed.into_runs(alloc))?;
-        answered(out, collected.into_runs(alloc))
+        answered(out, output.into_runs(alloc))
     }
 }

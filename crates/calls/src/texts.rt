@@ -3,12 +3,13 @@
 use crate::rows::{Done, answered, appended, changed, given};
 use miette::error::RenderError;
 use miette::wrap::{Plan, WordSeparator, WordSplitter, WrapOptions, fill, wrap};
+use miette_text::runs::Runs;
 use miette_text::runs::output::Output;
 use miette_text::runs::reading::{columns_of, print, read, read_text};
 use miette_text::wrap::cutting::{without_leading, without_trailing};
 use miette_text::wrap::fitting::push_fitting;
 use miette_tree::report_handler::append_whole;
-use std::alloc::Global;
+use std::alloc::{AllocError, Global};
 use std::io::Write;
 
 /// The calls of this module.
@@ -56,6 +57,10 @@ pub fn make<W: Write>(alloc: Global, name: &str, out: &mut W) -> Done {
 fn of_runs<W: Write>(alloc: Global, name: &str, out: &mut W) -> Done {
     let runs = read_text(alloc, "\n\u{1b}[31m\nred\u{1b}[0m\n")?;
     given(out, &runs)?;
+    cut(alloc, name, out, runs)
+}
+
+fn cut<W: Write>(alloc: Global, name: &str, out: &mut W, runs: Runs) -> Done {
     match name {
         "without_leading" => answered(out, without_leading(alloc, runs)),
         "without_trailing" => answered(out, without_trailing(alloc, runs)),
@@ -82,8 +87,17 @@ fn filled<W: Write>(alloc: Global, out: &mut W) -> Done {
 }
 
 fn wrapped<W: Write>(alloc: Global, out: &mut W) -> Done {
+    let mut output = Output::for_runs(alloc);
+    given(out, &output)?;
+    let answer = wrap_text(alloc, &mut output)?;
+    changed(out, answer, &output)
+}
+
+/// What the call answers; an error where what it is given can't be made.
+fn wrap_text(alloc: Global, output: &mut Output) -> Result<Result<(), AllocError>, AllocError> {
     let text = read_text(alloc, TEXT)?;
-    let (first, further) = (read_text(alloc, "* ")?, read_text(alloc, "| ")?);
+    let first = read_text(alloc, "* ")?;
+    let further = read_text(alloc, "| ")?;
     let plan = Plan {
         wraps: true,
         hyphens: true,
@@ -92,10 +106,7 @@ fn wrapped<W: Write>(alloc: Global, out: &mut W) -> Done {
         first: &first,
         further: &further,
     };
-    let mut output = Output::for_runs(alloc);
-    given(out, &output)?;
-    let answer = wrap(alloc, plan, &text, &mut output);
-    changed(out, answer, &output)
+    Ok(wrap(alloc, plan, &text, output))
 }
 
 fn fitted<W: Write>(alloc: Global, out: &mut W) -> Done {
