@@ -1,6 +1,7 @@
 //! Devices whose calls fail.
 ghost use Rattle.std.specs.Prelude.{Some};
 
+use crate::comparing::same;
 use miette_report::device::Device;
 use miette_report::fault::Fault;
 use miette_report::job::{Arguments, JobError, job_with, run};
@@ -62,82 +63,94 @@ impl<'a> Read for Slow<'a> {
     }
 }
 
-#[test]
-fn a_mark_is_set_by_a_fault_alone(rt: HostRuntime) -> Result<(), Fail> {
-    let alloc = rt.alloc();
-    for errs in [false, true] {
-        let held = Vec::new(alloc);
-        let limited = Limited {
-            held,
-            room: 2,
-            at_once: 9,
-            errs,
-        };
-        let mut writer = Device::new(limited);
-        assert_eq!(rt; writer.write(b"abc")?, 2);
-        assert!(rt; !writer.failed());
-        if !errs {
-            assert_eq!(rt; writer.write(b"")?, 0);
-            assert!(rt; !writer.failed());
-        }
-        assert_eq!(rt; writer.write(b"c").is_err(), errs);
-        assert!(rt; writer.failed());
-        assert_eq!(rt; writer.into_inner().held.as_slice(), b"ab".as_slice());
+/// A writer with room for so many bytes, at most so many a call.
+fn with_room(alloc: Global, (room, at_once, errs): (usize, usize, bool)) -> Limited {
+    Limited {
+        held: Vec::new(alloc),
+        room,
+        at_once,
+        errs,
     }
+}
 
-    let mut reader = Device::new(Slow {
+/// How many bytes a device takes, if it answers no error, and whether it is marked then.
+fn written(device: &mut Device<Limited>, bytes: &[u8]) -> (Option<usize>, bool) {
+    let answer = device.write(bytes).ok();
+    (answer, device.failed())
+}
+
+/// How many bytes a device gives, if it answers no error, and whether it is marked then.
+fn read(device: &mut Device<Slow<'_>>) -> (Option<usize>, bool) {
+    let mut buf = [0; 4];
+    let answer = device.read(&mut buf).ok();
+    (answer, device.failed())
+}
+
+/// A writer with room for two bytes is marked by what it doesn't take, and by nothing else.
+fn marks_a_writer(rt: &impl Abort, alloc: Global, errs: bool) {
+    let mut device = Device::new(with_room(alloc, (2, 9, errs)));
+    same(rt, written(&mut device, b"abc"), (Some(2), false));
+    if !errs {
+        same(rt, written(&mut device, b""), (Some(0), false));
+    }
+    let answer = if errs { None } else { Some(0) };
+    same(rt, written(&mut device, b"c"), (answer, true));
+    let taken = device.into_inner().held;
+    same(rt, taken.as_slice(), b"ab".as_slice());
+}
+
+/// A reader is marked by its error, and not by its end.
+fn marks_a_reader(rt: &impl Abort) {
+    let mut device = Device::new(Slow {
         rest: b"a",
         fails_in: 2,
     });
-    let mut buf = [0; 4];
-    assert_eq!(rt; reader.read(&mut buf)?, 1);
-    assert_eq!(rt; reader.read(&mut buf)?, 0);
-    assert!(rt; !reader.failed());
-    assert!(rt; reader.read(&mut buf).is_err());
-    assert!(rt; reader.failed());
-    Ok(())
+    same(rt, read(&mut device), (Some(1), false));
+    same(rt, read(&mut device), (Some(0), false));
+    same(rt, read(&mut device), (None, true));
 }
 
 #[test]
-fn a_device_that_fails_leaves_a_beginning(rt: HostRuntime) -> Result<(), Fail> {
-    let alloc = rt.alloc();
+fn a_mark_is_set_by_a_fault_alone(rt: HostRuntime) {
+    marks_a_writer(&rt, rt.alloc(), false);
+    marks_a_writer(&rt, rt.alloc(), true);
+    marks_a_reader(&rt);
+}
+
+/// Of three bytes a writer takes a beginning; where it isn't all, that is a fault.
+fn takes_a_beginning(rt: &impl Abort, alloc: Global, (room, at_once, errs): (usize, usize, bool)) {
+    let mut device = Device::new(with_room(alloc, (room, at_once, errs)));
+    let answer = write_whole(&mut device, b"abc");
+    let wanted = if room < 3 { Err(Fault::Write) } else { Ok(()) };
+    same(rt, (answer, device.failed()), (wanted, room < 3));
+    let taken = device.into_inner().held;
+    same(rt, taken.as_slice(), &b"abc"[..room.min(3)]);
+}
+
+/// Of three bytes a reader gives all, in four calls, or there is a fault.
+fn gives_all(rt: &impl Abort, alloc: Global, fails_in: usize) {
+    let mut device = Device::new(Slow {
+        rest: b"abc",
+        fails_in,
+    });
+    match read_whole(alloc, &mut device) {
+        Ok(bytes) => same(rt, (bytes.as_slice(), fails_in), (b"abc".as_slice(), 4)),
+        Err(fault) => same(rt, (fault, fails_in < 4), (Fault::Read, true)),
+    }
+    same(rt, device.failed(), fails_in < 4);
+}
+
+#[test]
+fn a_device_that_fails_leaves_a_beginning(rt: HostRuntime) {
     for room in 0..4usize {
         for at_once in 1..4usize {
-            for errs in [false, true] {
-                let held = Vec::new(alloc);
-                let mut writer = Device::new(Limited {
-                    held,
-                    room,
-                    at_once,
-                    errs,
-                });
-                let answer = write_whole(&mut writer, b"abc");
-                let wanted = if room < 3 { Err(Fault::Write) } else { Ok(()) };
-                assert_eq!(rt; answer, wanted);
-                assert_eq!(rt; writer.failed(), room < 3);
-                let Limited { held, .. } = writer.into_inner();
-                assert_eq!(rt; held.as_slice(), &b"abc"[..room.min(3)]);
-            }
+            takes_a_beginning(&rt, rt.alloc(), (room, at_once, false));
+            takes_a_beginning(&rt, rt.alloc(), (room, at_once, true));
         }
     }
     for fails_in in 0..5 {
-        let mut reader = Device::new(Slow {
-            rest: b"abc",
-            fails_in,
-        });
-        match read_whole(alloc, &mut reader) {
-            Ok(bytes) => {
-                assert_eq!(rt; fails_in, 4);
-                assert_eq!(rt; bytes.as_slice(), b"abc".as_slice());
-            }
-            Err(error) => {
-                assert!(rt; fails_in < 4);
-                assert_eq!(rt; error, Fault::Read);
-            }
-        }
-        assert_eq!(rt; reader.failed(), fails_in < 4);
+        gives_all(&rt, rt.alloc(), fails_in);
     }
-    Ok(())
 }
 
 const SMALL: &str = "{\"message\":\"m\"}";
@@ -154,7 +167,7 @@ type Job<'a> = (&'a [&'a str], &'a str);
 /// The smallest description as JSON.
 const AS_JSON: Job<'static> = (&["--json"], SMALL);
 
-fn words_of(alloc: Global, words: &[&str]) -> Result<Vec<String>, AllocError> {
+pub(crate) fn words_of(alloc: Global, words: &[&str]) -> Result<Vec<String>, AllocError> {
     let mut list = Vec::new(alloc);
     for word in words {
         list.push(String::from_str(alloc, word)?)?;
@@ -162,23 +175,15 @@ fn words_of(alloc: Global, words: &[&str]) -> Result<Vec<String>, AllocError> {
     Ok(list)
 }
 
-/// A writer with room for so many bytes, at most so many a call.
-fn with_room(alloc: Global, (room, at_once, errs): (usize, usize, bool)) -> Limited {
-    Limited {
-        held: Vec::new(alloc),
-        room,
-        at_once,
-        errs,
-    }
-}
-
 /// What a job leaves: its status, the text of its fault, and what the writer took.
+type Left = (u8, Vec<u8>, Vec<u8>);
+
 fn job_over(
     alloc: Global,
     (words, description): Job<'_>,
     mut writer: Limited,
     fails_in: usize,
-) -> Result<(u8, Vec<u8>, Vec<u8>), AllocError> {
+) -> Result<Left, AllocError> {
     let words = words_of(alloc, words)?;
     let reader = Slow {
         rest: description.as_bytes(),
@@ -189,29 +194,52 @@ fn job_over(
     Ok((status, faults, writer.held))
 }
 
+/// This was left: status, fault and text.
+fn leaves(rt: &impl Abort, (status, faults, held): &Left, wanted: (u8, &str, Option<&[u8]>)) {
+    same(
+        rt,
+        (*status, faults.as_slice(), Some(held.as_slice())),
+        (wanted.0, wanted.1.as_bytes(), wanted.2),
+    );
+}
+
 /// With room for so many bytes of the text the writer holds these in the end, and a job that isn't done says so.
 fn leaves_a_beginning(
     rt: &impl Abort,
     alloc: Global,
     (job, text): (Job<'_>, &[u8]),
     (room, errs): (usize, bool),
-) -> Result<(), Fail> {
-    let writer = with_room(alloc, (room, 1, errs));
-    let (status, faults, held) = job_over(alloc, job, writer, 999)?;
-    let wanted = if room < text.len() {
+) -> Result<(), AllocError> {
+    let left = job_over(alloc, job, with_room(alloc, (room, 1, errs)), 999)?;
+    let (status, fault) = if room < text.len() {
         (1, "job: write fault\n")
     } else {
         (0, "")
     };
-    assert_eq!(rt; status, wanted.0, "{job:?} {room}");
-    assert_eq!(rt; faults.as_slice(), wanted.1.as_bytes(), "{job:?} {room}");
-    assert_eq!(rt; Some(held.as_slice()), text.get(..room), "{job:?} {room}");
+    leaves(rt, &left, (status, fault, text.get(..room)));
+    Ok(())
+}
+
+/// The job's text, which a writer with room for it takes.
+fn whole_text(rt: &impl Abort, alloc: Global, job: Job<'_>) -> Result<Vec<u8>, AllocError> {
+    let (status, faults, text) = job_over(alloc, job, with_room(alloc, (999, 99, true)), 999)?;
+    same(rt, (status, faults.len()), (0, 0));
+    Ok(text)
+}
+
+/// The job leaves a beginning of its text, wherever the writer fails.
+fn fails_anywhere(rt: &impl Abort, alloc: Global, job: Job<'_>) -> Result<(), AllocError> {
+    let text = whole_text(rt, alloc, job)?;
+    for room in 0..=text.len() {
+        for errs in [false, true] {
+            leaves_a_beginning(rt, alloc, (job, text.as_slice()), (room, errs))?;
+        }
+    }
     Ok(())
 }
 
 #[test]
-fn a_job_over_a_writer_that_fails(rt: HostRuntime) -> Result<(), Fail> {
-    let alloc = rt.alloc();
+fn a_job_over_a_writer_that_fails(rt: HostRuntime) -> Result<(), AllocError> {
     let chosen: [&[&str]; 5] = [
         &["--term-unicode", "yes"],
         &["--theme", "unicode"],
@@ -220,28 +248,17 @@ fn a_job_over_a_writer_that_fails(rt: HostRuntime) -> Result<(), Fail> {
         &["--debug"],
     ];
     for words in chosen {
-        let job = (words, LABELLED);
-        let (status, faults, text) = job_over(alloc, job, with_room(alloc, (999, 99, true)), 999)?;
-        assert_eq!(rt; status, 0, "{words:?}");
-        assert_eq!(rt; faults.len(), 0, "{words:?}");
-        for room in 0..=text.len() {
-            for errs in [false, true] {
-                leaves_a_beginning(&rt, alloc, (job, text.as_slice()), (room, errs))?;
-            }
-        }
+        fails_anywhere(&rt, rt.alloc(), (words, LABELLED))?;
     }
     Ok(())
 }
 
 #[test]
-fn a_job_over_a_reader_that_fails(rt: HostRuntime) -> Result<(), Fail> {
+fn a_job_over_a_reader_that_fails(rt: HostRuntime) -> Result<(), AllocError> {
     let alloc = rt.alloc();
     for fails_in in 0..=SMALL.len() {
-        let writer = with_room(alloc, (99, 99, true));
-        let (status, faults, held) = job_over(alloc, AS_JSON, writer, fails_in)?;
-        assert_eq!(rt; status, 1, "{fails_in}");
-        assert_eq!(rt; faults.as_slice(), b"job: read fault\n".as_slice());
-        assert_eq!(rt; held.len(), 0, "{fails_in}");
+        let left = job_over(alloc, AS_JSON, with_room(alloc, (99, 99, true)), fails_in)?;
+        leaves(&rt, &left, (1, "job: read fault\n", Some(b"".as_slice())));
     }
     Ok(())
 }
@@ -254,35 +271,51 @@ fn json(alloc: Global) -> Result<Arguments, Fail> {
     }
 }
 
+/// A run over a writer with so much room is done, or marks the writer.
+fn is_done_or_marked(
+    rt: &impl Abort,
+    alloc: Global,
+    settings: Arguments,
+    (room, errs): (usize, bool),
+) {
+    let mut reader = Device::new(SMALL.as_bytes());
+    let mut writer = Device::new(with_room(alloc, (room, 9, errs)));
+    let answer = run(alloc, &mut reader, &mut writer, settings);
+    let is_done = room == SMALL_TEXT.len();
+    same(rt, (answer.is_ok(), writer.failed()), (is_done, !is_done));
+    let taken = writer.into_inner().held;
+    same(
+        rt,
+        Some(taken.as_slice()),
+        SMALL_TEXT.as_bytes().get(..room),
+    );
+}
+
 #[test]
 fn a_run_marks_a_writer_that_fails(rt: HostRuntime) -> Result<(), Fail> {
-    let alloc = rt.alloc();
     for room in 0..=SMALL_TEXT.len() {
         for errs in [false, true] {
-            let mut reader = Device::new(SMALL.as_bytes());
-            let mut writer = Device::new(with_room(alloc, (room, 9, errs)));
-            let answer = run(alloc, &mut reader, &mut writer, json(alloc)?);
-            assert_eq!(rt; answer.is_ok(), room == SMALL_TEXT.len());
-            assert_eq!(rt; writer.failed(), room < SMALL_TEXT.len());
-            let held = writer.into_inner().held;
-            assert_eq!(rt; Some(held.as_slice()), SMALL_TEXT.as_bytes().get(..room));
+            is_done_or_marked(&rt, rt.alloc(), json(rt.alloc())?, (room, errs));
         }
     }
     Ok(())
 }
 
-#[test]
-fn a_run_marks_a_reader_that_fails(rt: HostRuntime) -> Result<(), Fail> {
-    let alloc = rt.alloc();
+/// A run over a reader that fails marks it, and writes nothing.
+fn marks_the_reader(rt: &impl Abort, alloc: Global, settings: Arguments) {
     let mut reader = Device::new(Slow {
         rest: SMALL.as_bytes(),
         fails_in: 1,
     });
     let mut writer = Device::new(Vec::new(alloc));
-    let answer = run(alloc, &mut reader, &mut writer, json(alloc)?);
-    assert_eq!(rt; answer, Err(JobError::Read));
-    assert!(rt; reader.failed());
-    assert!(rt; !writer.failed());
-    assert_eq!(rt; writer.into_inner().len(), 0);
+    let answer = run(alloc, &mut reader, &mut writer, settings);
+    same(rt, answer, Err(JobError::Read));
+    same(rt, (reader.failed(), writer.failed()), (true, false));
+    same(rt, writer.into_inner().len(), 0);
+}
+
+#[test]
+fn a_run_marks_a_reader_that_fails(rt: HostRuntime) -> Result<(), Fail> {
+    marks_the_reader(&rt, rt.alloc(), json(rt.alloc())?);
     Ok(())
 }

@@ -1,5 +1,6 @@
 //! What `lint` finds in a source: each label by its text, its offset and its length.
 
+use crate::comparing::same;
 use miette_protocol::protocol::LabeledSpan;
 use miette_report::lint::findings;
 use std::alloc::Global;
@@ -9,8 +10,16 @@ use std::test::Fail;
 /// A label by its text, its offset and its length.
 type Told<'a> = (&'a str, usize, usize);
 
-fn is_told(label: &LabeledSpan, (text, offset, length): Told<'_>) -> bool {
-    label.label() == Some(text) && label.offset() == offset && label.len() == length
+fn told_of(label: &LabeledSpan) -> (Option<&str>, usize, usize) {
+    (label.label(), label.offset(), label.len())
+}
+
+/// The labels are these.
+fn are_told(rt: &impl Abort, found: &[LabeledSpan], wanted: &[Told<'_>]) {
+    same(rt, found.len(), wanted.len());
+    for (label, (text, offset, length)) in found.iter().zip(wanted) {
+        same(rt, told_of(label), (Some(*text), *offset, *length));
+    }
 }
 
 /// These are the labels that are found in a source.
@@ -21,10 +30,7 @@ fn expect(
     wanted: &[Told<'_>],
 ) -> Result<(), Fail> {
     let found = findings(alloc, source, width)?;
-    assert_eq!(rt; found.len(), wanted.len(), "{source:?}");
-    for (label, told) in found.iter().zip(wanted) {
-        assert!(rt; is_told(label, *told), "{source:?}");
-    }
+    are_told(rt, found.as_slice(), wanted);
     Ok(())
 }
 

@@ -1,5 +1,7 @@
 //! The words of programs as a caller reads them, and programs whose words could not be had.
 
+use crate::comparing::same;
+use crate::devices::words_of;
 use miette_report::draw::DrawWords;
 use miette_report::words::WordsFault;
 use miette_report::{bench, draw, job, lint};
@@ -7,9 +9,8 @@ use std::process::Abort;
 use std::test::Fail;
 
 /// A program ended with this status and this row.
-fn ended(rt: &impl Abort, (status, row): (u8, &[u8]), wanted: (u8, &str)) {
-    assert_eq!(rt; status, wanted.0);
-    assert_eq!(rt; row, wanted.1.as_bytes());
+fn ended(rt: &impl Abort, found: (u8, &[u8]), (status, row): (u8, &str)) {
+    same(rt, found, (status, row.as_bytes()));
 }
 
 #[test]
@@ -31,11 +32,7 @@ fn no_memory_for_the_words(rt: HostRuntime) -> Result<(), Fail> {
 
 #[test]
 fn five_words_are_read(rt: HostRuntime) -> Result<(), Fail> {
-    let alloc = rt.alloc();
-    let mut words = Vec::new(alloc);
-    for word in ["f", "09", "4", "", "m"] {
-        words.push(String::from_str(alloc, word)?)?;
-    }
+    let words = words_of(rt.alloc(), &["f", "09", "4", "", "m"])?;
     let wanted = DrawWords {
         name: "f",
         offset: 9,
@@ -43,6 +40,6 @@ fn five_words_are_read(rt: HostRuntime) -> Result<(), Fail> {
         label: "",
         message: "m",
     };
-    assert_eq!(rt; DrawWords::read(words.as_slice()), Some(wanted));
+    same(&rt, DrawWords::read(words.as_slice()), Some(wanted));
     Ok(())
 }
