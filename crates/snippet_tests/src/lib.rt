@@ -1,13 +1,8 @@
-//! Tests of snippets: the rows of single lines, and of whole snippets.
+//! Tests of what a highlighter is told of the snippets that are drawn. What stands in their rows, by `job`, is in
+//! `cases/`, and so are snippets over sources that stop.
 #![tactic(auto)]
 
 #[cfg(test)]
-mod drawing;
+mod comparing;
 #[cfg(test)]
-mod folded;
-#[cfg(test)]
-mod lines;
-#[cfg(test)]
-mod own_context;
-#[cfg(test)]
-mod snippets;
+mod highlighters;

@@ -1,0 +1,19 @@
+//! What tests compare. A test is proved too, and a comparison in its own body, beside values that are let go, is dear:
+//! so it calls one of these.
+
+use miette_protocol::error::RenderError;
+use std::fmt::Debug;
+use std::process::Abort;
+
+/// Both are the same value.
+pub(crate) fn same<T: PartialEq + Debug + Copy>(rt: &impl Abort, found: T, wanted: T) {
+    assert_eq!(rt; found, wanted);
+}
+
+/// The text was made, and is this one.
+pub(crate) fn gives(rt: &impl Abort, made: Result<String, RenderError>, wanted: &str) {
+    match made {
+        Ok(text) => same(rt, text.as_str(), wanted),
+        Err(_) => panic!(rt; "no text was made"),
+    }
+}
