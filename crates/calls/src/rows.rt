@@ -44,11 +44,12 @@ pub type Done = Result<(), Stop>;
 /// # Errors
 /// `Write` where standard output took no more.
 pub fn end_row<W: Write>(out: &mut W, done: Done) -> Done {
-    match done {
-        Ok(()) => writeln!(out)?,
-        Err(Stop::Memory) => writeln!(out, "\tno memory before the call")?,
-        Err(stop) => return Err(stop),
+    if let Err(Stop::Memory) = done {
+        writeln!(out, "\tno memory before the call")?;
+        return Ok(());
     }
+    done?;
+    writeln!(out)?;
     Ok(())
 }
 

@@ -113,11 +113,7 @@ fn push_drawn<S: SourceCode, H: Highlighter>(
         },
     };
     let page = Page::over(mem::replace(out, Output::for_text(pen.alloc)));
-    let page = match snippets(&mut pen.highlighter, &look, &source, labels, page) {
-        Ok(page) => page,
-        Err(RenderError::Refused) => return Err(RenderError::Refused),
-        Err(RenderError::Memory) => return Err(RenderError::Memory),
-    };
+    let page = snippets(&mut pen.highlighter, &look, &source, labels, page)?;
     *out = page.into_output()?;
     Ok(())
 }

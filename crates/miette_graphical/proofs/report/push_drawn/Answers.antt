@@ -1,3 +1,4 @@
+use Rattle.miette_protocol.specs.declared.error.RenderError.TheVariants as errors
 use Rattle.miette_page.specs.views.Printouts.{printout_of}
 use Rattle.miette_tree.specs.views.Handler.{AppendsOne}
 use Rattle.miette_graphical.specs.rules.PossibleAnswers.{AreDrawn}
@@ -10,10 +11,11 @@ use Rattle.miette_graphical.specs.steps.SettingsView.{settings_of}
 use Rattle.miette_graphical.proofs.DrawnRows.{drawn_page, refused_page}
 use Rattle.miette_graphical.proofs.report.push_drawn.Goals as goal
 
-pub returns-in-Err-Refused-clause-refused : goal.returns-in-Err-Refused-clause-refused
-returns-in-Err-Refused-clause-refused g c = λ h.
+pub returns-in_err-page-clause-refused : goal.returns-in_err-page-clause-refused
+returns-in_err-page-clause-refused g c = λ h.
+    let refused : c.in_err-page.field-0 ≡ errors.Refused = search rules in
     refused_page (settings_of c.args.layout) (shown_source g.S.SourceCode.source c.args.source) c.args.labels.now (leaves_plain g.H.Highlighter.is_blank c.args.pen.now.highlighter) c.over-page.result
-    (subst (λ e. RefusesWith (layout_settings (settings_of c.args.layout)) (shown_source g.S.SourceCode.source c.args.source) c.args.labels.now (leaves_plain g.H.Highlighter.is_blank c.args.pen.now.highlighter) (AreCallsOn g.H.Highlighter.may_follow c.args.pen.now.highlighter c.snippets.new.highlighter) c.over-page.result e) c.in-Err-Refused.field-0-is c.in-Err-Refused.ensures.gives)
+    (subst (λ e. RefusesWith (layout_settings (settings_of c.args.layout)) (shown_source g.S.SourceCode.source c.args.source) c.args.labels.now (leaves_plain g.H.Highlighter.is_blank c.args.pen.now.highlighter) (AreCallsOn g.H.Highlighter.may_follow c.args.pen.now.highlighter c.snippets.new.highlighter) c.over-page.result e) refused c.in_err-page.ensures.gives)
 
 pub returns-clause-ok : goal.returns-clause-ok
 returns-clause-ok g c =
@@ -23,5 +25,5 @@ returns-clause-ok g c =
     let happen = AreCallsOn g.H.Highlighter.may_follow c.args.pen.now.highlighter c.snippets.new.highlighter in
     let over : c.over-page.result ≡ printout_of c.args.out.now = search rules in
     subst (λ out. AppendsOne (AreDrawn s blank happen source c.args.labels.now) c.args.out.now out) (sym c.in_ok-out.ensures)
-    (drawn_page s source c.args.labels.now blank c.args.out.now c.in-Ok.page
-    (subst (λ before. MayGive (layout_settings s) source c.args.labels.now blank happen before (Some c.in-Ok.page)) over c.in-Ok.ensures.gives))
+    (drawn_page s source c.args.labels.now blank c.args.out.now c.in_ok-page.page
+    (subst (λ before. MayGive (layout_settings s) source c.args.labels.now blank happen before (Some c.in_ok-page.page)) over c.in_ok-page.ensures.gives))
