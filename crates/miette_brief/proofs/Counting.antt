@@ -62,10 +62,6 @@ plain_none (b ∷ bs) h =
 pub plain_clean : (bs : List ℕ) → list_all is_plain bs ≡ true → NoCharPasses is_control bs
 plain_clean bs h = (let p = plain_none bs h in (bs, p.0, p.1))
 
--- a text that shows as printable ASCII
-pub shown_plain : (text shown : List ℕ) → spaced_text false (chars text) ≡ shown → list_all is_plain shown ≡ true → one_row text ≡ shown
-shown_plain text shown e h = ap encode_utf8_all e ∙ (plain_none shown h).0
-
 -- ---- digits
 
 glyph_is : (d : ℕ) → d < 10 → digit_glyph false d ≡ 48 + d

@@ -6,4 +6,3 @@ pub mod Causing
 pub mod Telling
 pub mod Counting
 pub mod ReadingBack
-pub mod Examples

@@ -7,11 +7,20 @@ use Rattle.miette_tree.specs.rules.Tree.{Tree, tree, Cause, diagnostic, texts, c
 use Rattle.std.specs.Borrow.{Bor}
 use Rattle.miette_protocol.specs.views.Meaning.{Meaning}
 use Rattle.miette_protocol.specs.rules.Reading.{Source}
-use Rattle.miette_tree.specs.rules.Chain.{spine, spine_below, tail, tail_below, texts_below}
+use Rattle.miette_tree.specs.rules.Chain.{spine, spine_below, texts_below}
 use Rattle.miette_tree.specs.views.Report.{cause_shown}
 use Rattle.miette_tree.specs.declared.tree.Report.{Report}
 use Rattle.miette_tree.specs.declared.tree.Cause as shown
 use Rattle.miette_tree.specs.declared.tree.Cause.TheVariants as seen
+
+-- the texts of a chain, behind the last of its messages
+abbrev mutual
+  pub tail : Tree → List (List ℕ)
+  tail (tree m s c r) = tail_below c
+
+  pub tail_below : Cause → List (List ℕ)
+  tail_below (diagnostic t) = tail t
+  tail_below (texts ts) = ts
 
 -- ---- down a chain
 

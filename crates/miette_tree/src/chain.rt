@@ -5,7 +5,7 @@ ghost use Rattle.std.specs.List.{last_or};
 ghost use Rattle.std.specs.Option.{option_map};
 ghost use Rattle.std.specs.Iterator.{YieldsFirstBy, YieldsLastBy, item_count};
 ghost use Rattle.miette_tree.specs.rules.Tree.{chain_of, cause_of};
-ghost use Rattle.miette_tree.specs.rules.Chain.{spine, spine_below, spine_from, tail, texts_below};
+ghost use Rattle.miette_tree.specs.rules.Chain.{spine, spine_below, spine_from, texts_below};
 ghost use Rattle.miette_tree.specs.views.Report.{tree_of};
 
 use crate::tree::{Cause, Report};

@@ -1,5 +1,5 @@
--- The two parts of a chain: the messages of a report and of the reports that are its causes, and the texts behind the
--- last of them.
+-- The first part of a chain: the messages of a report and of the reports that are its causes. Behind it stand the texts
+-- of the last of them.
 use Rattle.std.specs.Prelude.{ℕ, List, [], ◌∷◌, Option, Some, None}
 use Rattle.miette_tree.specs.rules.Tree.{Tree, tree, Cause, diagnostic, texts}
 
@@ -11,15 +11,6 @@ abbrev mutual
   pub spine_below : Cause → List (List ℕ)
   spine_below (diagnostic t) = spine t
   spine_below (texts ts) = []
-
--- the texts behind the last of them
-abbrev mutual
-  pub tail : Tree → List (List ℕ)
-  tail (tree m s c r) = tail_below c
-
-  pub tail_below : Cause → List (List ℕ)
-  tail_below (diagnostic t) = tail t
-  tail_below (texts ts) = ts
 
 abbrev pub spine_from : Option Tree → List (List ℕ)
 spine_from None = []

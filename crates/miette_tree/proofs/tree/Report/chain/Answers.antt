@@ -1,9 +1,9 @@
 use Rattle.std.proofs.Common.{◌≡◌, ℕ, ◌-◌, [], ◌++◌, length, map, take, string_bytes, ap, sym, ◌∙◌, arith}
 use Rattle.std.proofs.lemmas.List.{take-map}
 use Rattle.miette_tree.specs.rules.Tree.{cause_of}
-use Rattle.miette_tree.specs.rules.Chain.{spine, tail}
+use Rattle.miette_tree.specs.rules.Chain.{spine}
 use Rattle.miette_tree.specs.views.Report.{tree_of}
-use Rattle.miette_tree.proofs.Ends.{spine_down, tail_down, cut_chain, whole_chain, no_diagnostic}
+use Rattle.miette_tree.proofs.Ends.{tail, spine_down, tail_down, cut_chain, whole_chain, no_diagnostic}
 use Rattle.miette_tree.proofs.tree.Report.chain.Goals as goal
 
 pub returns-then-count : goal.returns-then-count

@@ -1,6 +1,7 @@
 use Rattle.std.proofs.Common.{◌≡◌, ◌+◌, ◌<◌, length}
-use Rattle.miette_tree.specs.rules.Chain.{spine, tail}
+use Rattle.miette_tree.specs.rules.Chain.{spine}
 use Rattle.miette_tree.specs.views.Report.{tree_of}
+use Rattle.miette_tree.proofs.Ends.{tail}
 use Rattle.miette_tree.proofs.tree.Report.chain.Given as goal
 
 -- how many reports were met, and that what lies below is still the rest of the chain
