@@ -1,4 +1,4 @@
-//! Words and styles: the layer that turns texts into styled rows.
+//! Text, wrapped under indents; styles, highlighters and runs by their old names.
 #![tactic(auto)]
 
 pub mod laws;
