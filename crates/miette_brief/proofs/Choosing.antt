@@ -4,9 +4,8 @@ use Rattle.std.specs.List.{list_all}
 use Rattle.std.proofs.Math.Seq.{drop-cons}
 use Rattle.std.proofs.lemmas.Bool.{and_parts}
 use Rattle.std.proofs.lemmas.List.{drop_all}
-use Rattle.miette_protocol.specs.rules.Reading.{Source, Span}
+use Rattle.miette_protocol.specs.rules.Reading.{Source, Span, is_accepted}
 use Rattle.miette_protocol.specs.views.Meaning.{Label}
-use Rattle.miette_lines.specs.rules.Contexts.{is_accepted}
 use Rattle.miette_brief.specs.rules.Places.{marked_span, primary_span}
 use Rattle.miette_brief.specs.rules.PossibleAnswers.{accepts}
 use Rattle.miette_brief.specs.steps.Reads.{IsUnread}

@@ -4,15 +4,16 @@ use Rattle.std.specs.List.{list_all}
 use Rattle.std.proofs.Math.Seq.{drop-cons}
 use Rattle.std.proofs.lemmas.Bool.{and_parts, leb-true}
 use Rattle.std.proofs.lemmas.List.{drop_all}
-use Rattle.miette_protocol.specs.rules.Reading.{Source, Span, IsAccepted}
+use Rattle.miette_protocol.specs.rules.Reading.{Source, Span, IsAccepted, is_accepted}
 use Rattle.miette_protocol.specs.views.Meaning.{Label}
-use Rattle.miette_lines.specs.rules.Contexts.{is_accepted, end_of_span}
+use Rattle.miette_lines.specs.rules.Contexts.{end_of_span}
 use Rattle.miette_brief.specs.rules.Rows.{rows_text}
 use Rattle.miette_brief.specs.rules.Places.{label_place}
 use Rattle.miette_brief.specs.rules.Report.{note_rows_of, note_rows}
 use Rattle.miette_brief.proofs.Putting.{rows_more}
-use Rattle.miette_brief.specs.rules.PossibleAnswers.{accepts, is_nil, HasAccepted}
+use Rattle.miette_brief.specs.rules.PossibleAnswers.{accepts, HasAccepted}
 use Rattle.miette_brief.specs.steps.Reads.{IsUnread, IsReadAt}
+use Rattle.miette_style.specs.rules.Codes.{is_nil}
 
 pub by_cases : {C : Type 0} (b : Bool) → (b ≡ true → C) → (b ≡ false → C) → C
 by_cases true t f = t refl

@@ -7,11 +7,13 @@ use Rattle.miette_protocol.specs.rules.Reading.{Source}
 use Rattle.miette_protocol.specs.views.Meaning.{Label}
 use Rattle.miette_tree.specs.rules.Tree.{Tree, tree, Cause, diagnostic, texts, Trees, no_trees, more_trees, trees, effective, head, source_of, cause_of, related_of}
 use Rattle.miette_tree.specs.rules.DiagnosticParts.{given_labels}
+use Rattle.miette_tree.specs.rules.Reads.{AlwaysReads, CauseAlwaysReads, AllAlwaysRead}
+use Rattle.miette_tree.specs.rules.Answers.{own_fault}
 use Rattle.miette_lines.specs.rules.Groups.{in_order}
 use Rattle.miette_brief.specs.rules.Rows.{Place, Row, rows_text}
 use Rattle.miette_brief.specs.rules.Places.{diagnostic_place, cause_place}
-use Rattle.miette_brief.specs.rules.Report.{BriefSettings, Answers, RelatedAnswers, unlisted, listed, no_more, and_more, own_fault, cause_answers, related_answers, first_answers, later_answers, finding_row, note_rows, cause_row, cause_rows, caused_rows, cause_rows_if, help_rows, rows_at, own_rows, report_rows, related_rows, brief}
-use Rattle.miette_brief.specs.rules.PossibleAnswers.{AlwaysReads, CauseAlwaysReads, AllAlwaysRead, accepts, accepts_report, accepts_related, MayMeet, HasAccepted, CausePossible, CausedPossible, ArePossible, AllPossible, AppendsCauses, AppendsOwn, AppendsReport, AppendsRelated, IsBrief}
+use Rattle.miette_brief.specs.rules.Report.{BriefSettings, Answers, RelatedAnswers, unlisted, listed, no_more, and_more, cause_answers, related_answers, first_answers, later_answers, finding_row, note_rows, cause_row, cause_rows, caused_rows, cause_rows_if, help_rows, rows_at, own_rows, report_rows, related_rows, brief}
+use Rattle.miette_brief.specs.rules.PossibleAnswers.{accepts, accepts_report, accepts_related, MayMeet, HasAccepted, CausePossible, CausedPossible, ArePossible, AllPossible, AppendsCauses, AppendsOwn, AppendsReport, AppendsRelated, IsBrief}
 use Rattle.miette_brief.specs.steps.Reads.{IsDiagnosticPlace}
 use Rattle.miette_brief.proofs.Putting.{rows_joined}
 

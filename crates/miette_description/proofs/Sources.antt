@@ -9,7 +9,7 @@ use Rattle.serde_json.specs.Written.{has_float}
 use Rattle.miette_protocol.specs.rules.Reading.{Source}
 use Rattle.miette_protocol.specs.views.Meaning.{Meaning}
 use Rattle.miette_tree.specs.rules.Tree.{Tree, tree, Trees, no_trees, wrapped_tree}
-use Rattle.miette_json.specs.rules.Reads.{AlwaysReads, CauseAlwaysReads, AllAlwaysRead}
+use Rattle.miette_tree.specs.rules.Reads.{AlwaysReads, CauseAlwaysReads, AllAlwaysRead}
 use Rattle.miette_description.specs.rules.Members.{and_then, at_key, optional_value, list_of, source_named, source_of, meaning_in}
 use Rattle.miette_description.specs.rules.Description.{one_cause, wrapped_in, tree_of_parts, report_from, nullable, report_in, cause_in, related_in, reports_in, each_in, described_tree}
 

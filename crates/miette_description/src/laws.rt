@@ -3,7 +3,7 @@
 ghost use Rattle.std.specs.Prelude.{◌≡◌, Some, codes};
 ghost use Rattle.serde_json.specs.Data.{Data};
 ghost use Rattle.miette_tree.specs.rules.Tree.{Tree};
-ghost use Rattle.miette_json.specs.rules.Reads.{AlwaysReads};
+ghost use Rattle.miette_tree.specs.rules.Reads.{AlwaysReads};
 ghost use Rattle.miette_description.specs.rules.Members.{optional_value, at_key};
 ghost use Rattle.miette_description.specs.rules.Description.{report_from, report_in, reports_in, described_tree};
 

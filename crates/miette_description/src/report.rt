@@ -9,7 +9,7 @@ ghost use Rattle.miette_description.specs.steps.ParsedValues.{value_data, list_d
 ghost use Rattle.miette_tree.specs.rules.Tree.{tree, head, source_of, cause_of, related_of, texts, no_trees, trees};
 ghost use Rattle.miette_tree.specs.rules.Tree.{with_source, with_cause, with_related};
 ghost use Rattle.miette_tree.specs.views.Report.{tree_of};
-ghost use Rattle.miette_json.specs.rules.Reads.{AlwaysReads};
+ghost use Rattle.miette_tree.specs.rules.Reads.{AlwaysReads};
 ghost use Rattle.miette_description.specs.rules.Members.{and_then, optional_value, at_key, all_of};
 ghost use Rattle.miette_protocol.specs.views.Diagnostic.{meaning_of};
 ghost use Rattle.miette_tree.specs.views.Owned.{owned_source};

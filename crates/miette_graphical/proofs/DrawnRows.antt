@@ -1,9 +1,9 @@
 -- The rows of snippets under answers: where nothing fails, they are those in which nothing is listed.
 use Rattle.std.proofs.Common.{◌≡◌, ◌≢◌, ℕ, Bool, true, false, ◌&&◌, ◌||◌, if◌then◌else◌, ◌⊎◌, inl, inr, List, [], ◌∷◌, refl, sym, ap, ap₂, ◌∙◌, subst, Option, Some, None, is_some, option_map, codes, length, ◌<◌, arith, ◌++◌}
 use Rattle.miette_protocol.specs.views.Meaning.{Label, Meaning}
-use Rattle.miette_protocol.specs.rules.Reading.{Source, Span}
+use Rattle.miette_protocol.specs.rules.Reading.{Source, Span, is_accepted}
 use Rattle.miette_lines.specs.rules.Answers.{Highlight, NoneFails, AlwaysReads, next_answer, later_answers}
-use Rattle.miette_lines.specs.rules.Contexts.{is_accepted, contents, lines_of_contents}
+use Rattle.miette_lines.specs.rules.Contexts.{contents, lines_of_contents}
 use Rattle.miette_highlight.specs.rules.HighlighterCalls.{Call, Leads}
 use Rattle.miette_layout.specs.views.Outcomes.{MayGive}
 use Rattle.miette_snippets.specs.rules.Folds.{spreads_of}

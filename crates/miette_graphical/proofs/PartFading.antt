@@ -15,8 +15,8 @@ use Rattle.miette_style.specs.rules.Themes.{Characters, Styles}
 use Rattle.miette_graphical.proofs.TextLaws.{TextLaws}
 use Rattle.miette_graphical.specs.rules.Answers.{Answer}
 use Rattle.miette_graphical.specs.rules.Indents.{bare_text, spaces, wrapped_under, icon_indent, bar_indent, arrow_text, stem_text, arrow_indent, stem_indent, help_indent, further_help_indent, footer_indent, narrow_settings}
-use Rattle.miette_graphical.specs.rules.DiagnosticText.{footer_of, line_feed, header, header_by, message_text, help_text, footer_text, under_arrow, severity_title, header_or_end, title_text, SnippetRows, rows_text}
-use Rattle.miette_tree.specs.rules.DiagnosticParts.{given_labels}
+use Rattle.miette_graphical.specs.rules.DiagnosticText.{footer_of, line_feed, header, header_by, message_text, help_text, footer_text, under_arrow, header_or_end, title_text, SnippetRows, rows_text}
+use Rattle.miette_tree.specs.rules.DiagnosticParts.{given_labels, severity_title}
 use Rattle.miette_graphical.specs.rules.Text.{cause_texts, body, inner_text}
 use Rattle.miette_tree.specs.rules.Tree.{effective}
 use Rattle.std.specs.List.{AllByRecursion}

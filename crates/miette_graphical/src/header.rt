@@ -6,6 +6,7 @@ ghost use Rattle.miette_style.specs.rules.Codes.{is_nil};
 ghost use Rattle.miette_graphical.specs.rules.DiagnosticText as parts;
 ghost use Rattle.miette_graphical.specs.views.Modes.{urls_of};
 ghost use Rattle.miette_graphical.specs.steps.SettingsView.{settings_of};
+ghost use Rattle.miette_tree.specs.rules.DiagnosticParts.{severity_title};
 
 use crate::settings::{Layout, UrlMode};
 use miette_page::page::PLAIN;
@@ -117,7 +118,7 @@ pub fn push_header(
 /// What names a severity; that of an error where there is none.
 #[tactic(auto, using(crate::proofs::Styling::advice, crate::proofs::Styling::warning, crate::proofs::Styling::error))]
 pub fn severity_title(severity: Option<Severity>) -> &'static str
-    ensures { chars result.now ≡ parts.severity_title severity }
+    ensures { chars result.now ≡ severity_title severity }
 {
     match severity {
         Some(Severity::Advice) => "Advice: ",

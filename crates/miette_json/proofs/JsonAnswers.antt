@@ -7,9 +7,11 @@ use Rattle.miette_protocol.specs.views.Meaning.{Label}
 use Rattle.miette_tree.specs.rules.Tree.{Tree, tree, Trees, no_trees, more_trees, trees, effective, head, source_of, cause_of, causes_of, related_of}
 use Rattle.miette_json.specs.rules.Json.{Json, string, array, object, Items, item, no_members, member, items_text, json_text}
 use Rattle.miette_json.specs.rules.Denotes.{Denotes, HasTokensOf}
-use Rattle.miette_json.specs.rules.JsonReport.{NameAnswers, unlisted, listed, RelatedNameAnswers, no_more, and_more, own_fault, related_answers, first_answers, later_answers, MayFail, ArePossible, AllPossible, report_json, reports_json, maybe, strings, labels_json, file_name}
+use Rattle.miette_json.specs.rules.JsonReport.{NameAnswers, unlisted, listed, RelatedNameAnswers, no_more, and_more, related_answers, first_answers, later_answers, MayFail, ArePossible, AllPossible, report_json, reports_json, maybe, strings, labels_json, file_name}
 use Rattle.miette_tree.specs.rules.DiagnosticParts.{given_labels, severity_text}
-use Rattle.miette_json.specs.rules.Reads.{AlwaysReads, AllAlwaysRead, NameAlwaysReads, NamesAlwaysRead, AllNamesAlwaysRead}
+use Rattle.miette_tree.specs.rules.Reads.{AlwaysReads, AllAlwaysRead}
+use Rattle.miette_tree.specs.rules.Answers.{own_fault}
+use Rattle.miette_json.specs.rules.Reads.{NameAlwaysReads, NamesAlwaysRead, AllNamesAlwaysRead}
 use Rattle.miette_json.specs.rules.JsonText.{IsJsonOf, rest_text, AppendsReport, AppendsRelated, AppendsPlaces, head_text, reasons_text, key_text}
 use Rattle.miette_json.proofs.JsonJoined.{last_piece, report_parts}
 

@@ -4,8 +4,9 @@ use Rattle.std.specs.Prelude.{if◌then◌else◌}
 use Rattle.miette_json.specs.rules.Json.{Json, string, array, object, Items, item, Members, no_members, member, quoted_text, json_text, items_text, more_members_text}
 use Rattle.miette_protocol.specs.rules.Reading.{Source}
 use Rattle.miette_tree.specs.rules.Tree.{Tree, tree, head, source_of, cause_of, causes_of, related_of, effective}
-use Rattle.miette_json.specs.rules.JsonReport.{NameAnswers, own_fault, related_answers, maybe, strings, labels_json, file_name, report_json, reports_json}
+use Rattle.miette_json.specs.rules.JsonReport.{NameAnswers, related_answers, maybe, strings, labels_json, file_name, report_json, reports_json}
 use Rattle.miette_tree.specs.rules.DiagnosticParts.{severity_text, given_labels}
+use Rattle.miette_tree.specs.rules.Answers.{own_fault}
 use Rattle.miette_json.specs.rules.JsonText.{key_text, maybe_text, rest_text, start_text, head_text, reasons_text, places_text}
 
 -- what is left to write grows shorter

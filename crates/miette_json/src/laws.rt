@@ -3,7 +3,8 @@
 
 ghost use Rattle.std.specs.Prelude.{◌≡◌, ℕ, List, None};
 ghost use Rattle.miette_tree.specs.rules.Tree.{Tree};
-ghost use Rattle.miette_json.specs.rules.Reads.{AlwaysReads, NamesAlwaysRead};
+ghost use Rattle.miette_tree.specs.rules.Reads.{AlwaysReads};
+ghost use Rattle.miette_json.specs.rules.Reads.{NamesAlwaysRead};
 ghost use Rattle.miette_json.specs.rules.Json.{Json, json_text};
 ghost use Rattle.miette_json.specs.rules.Denotes.{Denotes, HasTokensOf, HasUtf8Texts};
 

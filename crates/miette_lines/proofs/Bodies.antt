@@ -1,9 +1,8 @@
 -- Answers of reads, one by one.
 use Rattle.std.proofs.Common.{ℕ, ◌+◌, ◌≡◌, Bool, true, false, List, [], ◌∷◌, length, refl}
 use Rattle.std.proofs.lemmas.Bool.{le-leb, and_from}
-use Rattle.miette_protocol.specs.rules.Reading.{Span, IsAccepted}
+use Rattle.miette_protocol.specs.rules.Reading.{Span, IsAccepted, is_accepted}
 use Rattle.miette_lines.specs.rules.Answers.{next_answer, later_answers, NoneFails}
-use Rattle.miette_lines.specs.rules.Contexts.{is_accepted}
 use Rattle.miette_lines.specs.rules.Groups.{some_fails}
 use Rattle.miette_lines.proofs.Joining.{groups}
 

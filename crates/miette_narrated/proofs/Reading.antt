@@ -6,7 +6,7 @@ use Rattle.std.specs.List.{list_all}
 use Rattle.std.proofs.Math.Seq.{drop-cons}
 use Rattle.std.proofs.lemmas.Bool.{leb-true, leb-false, and_parts}
 use Rattle.miette_protocol.specs.views.Meaning.{Label}
-use Rattle.miette_protocol.specs.rules.Reading.{Span, Source, IsAccepted, contents_of}
+use Rattle.miette_protocol.specs.rules.Reading.{Span, Source, IsAccepted, contents_of, is_accepted}
 use Rattle.miette_lines.specs.declared.sweep.Placed.{Placed}
 use Rattle.miette_lines.specs.declared.grouping.Group.{Group}
 use Rattle.miette_lines.specs.declared.reading.ReadLabel.{ReadLabel}
@@ -14,7 +14,7 @@ use Rattle.miette_lines.specs.declared.reading.Refusal.{Refusal}
 use Rattle.miette_lines.specs.declared.reading.ReadLabels.{ReadLabels}
 use Rattle.miette_lines.specs.declared.reading.ReadLabels.TheVariants as reads
 use Rattle.miette_lines.specs.rules.Answers.{NoneFails}
-use Rattle.miette_lines.specs.rules.Contexts.{contents, end_of_span, is_accepted}
+use Rattle.miette_lines.specs.rules.Contexts.{contents, end_of_span}
 use Rattle.miette_lines.specs.views.GivenLabels.{label_at}
 use Rattle.miette_lines.specs.rules.Around.{has_own, lines_around, group_context}
 use Rattle.miette_lines.specs.rules.Groups.{put_label, in_order, refusal, AreAccepted, groups_of, some_fails}
@@ -24,10 +24,11 @@ use Rattle.miette_lines.specs.views.Reads.{IsRead, AreRead, IsLent, AreGroups, A
 use Rattle.miette_narrated.specs.rules.Labels.{LabelRange, label_range}
 use Rattle.miette_narrated.specs.steps.Conversions.{range_of, ranges_of}
 use Rattle.miette_narrated.specs.rules.Snippets.{snippet, snippets_of}
-use Rattle.miette_narrated.specs.rules.PossibleAnswers.{AppendsSnippets, accepts, is_nil}
+use Rattle.miette_narrated.specs.rules.PossibleAnswers.{AppendsSnippets, accepts}
 use Rattle.miette_narrated.specs.steps.Sweeping.{BeginsFrom, AreOrdered}
 use Rattle.miette_narrated.proofs.Sweeps.{by_cases}
 use Rattle.std.proofs.lemmas.List.{drop_all}
+use Rattle.miette_style.specs.rules.Codes.{is_nil}
 
 -- where a read's data end cuts a label as the source's end does
 abbrev pub Reaches : Type 0

@@ -1,7 +1,7 @@
 //! The rows of labels under a line.
 
 ghost use Rattle.std.specs.Prelude.{◌≡◌, ◌++◌, IfOk, OnOk, string_bytes, option_copied};
-ghost use Rattle.miette_narrated.specs.rules.Labels.{row, begins, begins_within, reaches_line, ends_before};
+ghost use Rattle.miette_narrated.specs.rules.Labels.{row, begins_within, reaches_line, ends_before};
 ghost use Rattle.miette_narrated.specs.rules.Labels.{first_number, last_number, columns_text, text_behind, whole_row};
 ghost use Rattle.miette_narrated.specs.rules.Labels.{column_row, start_row, end_row, begun_row, label_row};
 ghost use Rattle.miette_narrated.specs.rules.Labels.{label_rows};
@@ -25,7 +25,7 @@ use std::alloc::{AllocError, Global};
 
 /// Whether a label begins on the line or behind it.
 fn begins(it: &ShownLine<'_, '_>, label: &Placed) -> bool
-    ensures { result ≡ begins (shown_line it.now) label.now.start }
+    ensures { result ≡ reaches_line (shown_line it.now) label.now.start }
 {
     it.line.start <= label.start
 }

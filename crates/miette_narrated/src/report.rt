@@ -5,7 +5,8 @@ ghost use Rattle.std.specs.Option.{option_map};
 ghost use Rattle.miette_tree.specs.rules.Tree.{head, cause_of, causes_of, trees};
 ghost use Rattle.miette_tree.specs.views.Report.{tree_of};
 ghost use Rattle.miette_tree.specs.views.Owned.{shown_source};
-ghost use Rattle.miette_narrated.specs.rules.Report.{title, severity_row, head_rows, titled_rows, cause_rows};
+ghost use Rattle.miette_tree.specs.rules.DiagnosticParts.{severity_title};
+ghost use Rattle.miette_narrated.specs.rules.Report.{severity_row, head_rows, titled_rows, cause_rows};
 ghost use Rattle.miette_narrated.specs.rules.Report.{causes_if, advice_rows, url_rows, blank_before};
 ghost use Rattle.miette_narrated.specs.rules.PossibleAnswers.{AppendsSnippets, AppendsReport, AppendsRelated};
 ghost use Rattle.miette_narrated.specs.rules.PossibleAnswers.{IsNarrated};
@@ -23,7 +24,7 @@ use miette_tree::report::{Cause, Report, SourceRef};
 use std::alloc::{AllocError, Global};
 
 fn title_of(severity: Option<Severity>) -> &'static str
-    ensures { result.now ≡ title severity }
+    ensures { result.now ≡ severity_title severity }
 {
     match severity {
         Some(Severity::Advice) => "Advice: ",

@@ -4,14 +4,14 @@ use Rattle.std.proofs.lemmas.Bool.{le-leb}
 use Rattle.std.specs.List.{list_all}
 use Rattle.std.specs.Prelude.{◌&&◌, ◌||◌, if◌then◌else◌}
 use Rattle.miette_protocol.specs.views.Meaning.{Label, Meaning}
-use Rattle.miette_protocol.specs.rules.Reading.{Source, Span, IsAccepted}
-use Rattle.miette_lines.specs.rules.Contexts.{end_of_span, is_accepted}
+use Rattle.miette_protocol.specs.rules.Reading.{Source, Span, IsAccepted, is_accepted}
+use Rattle.miette_lines.specs.rules.Contexts.{end_of_span}
 use Rattle.miette_lines.specs.rules.Groups.{in_order, AreAccepted}
 use Rattle.miette_style.specs.rules.Codes.{is_nil}
 use Rattle.miette_tree.specs.rules.Tree.{Tree, tree, Cause, diagnostic, texts, Trees, no_trees, more_trees, effective}
 use Rattle.miette_tree.specs.rules.DiagnosticParts.{given_labels}
 use Rattle.miette_graphical.specs.rules.PrintedDiagnostics.{PrintedDiagnostic, over, diagnostics_of, printed_causes, printed_related, source_reads, always_reads, all_read}
-use Rattle.miette_json.specs.rules.Reads.{AlwaysReads, CauseAlwaysReads, AllAlwaysRead}
+use Rattle.miette_tree.specs.rules.Reads.{AlwaysReads, CauseAlwaysReads, AllAlwaysRead}
 use Rattle.miette_graphical.specs.rules.Settings.{Settings}
 use Rattle.miette_brief.specs.rules.PossibleAnswers as briefly
 use Rattle.miette_brief.specs.rules.Report as brief
@@ -94,7 +94,7 @@ either false b p = p
 
 one_told : (source : Option Source) (labels : List Label) → Reads source → told.always_reads source labels ≡ true
 one_told None labels p = refl
-one_told (Some s) labels p = either (told.is_nil labels) s.always_reads p
+one_told (Some s) labels p = either (is_nil labels) s.always_reads p
 
 mutual
   tree_told : (inherited : Option Source) (t : Tree) → Reads inherited → AlwaysReads t → told.holds_of told.always_reads inherited t ≡ true
@@ -121,7 +121,7 @@ accept_all bytes (l ∷ ls) h = both _ _ (accepted_is bytes l.span h.0) (accept_
 
 one_accepted : (source : Option Source) (labels : List Label) (fails : List Bool) → Reads source → told.IsAnswered source labels fails → told.accepts source labels ≡ true
 one_accepted None labels fails p a = refl
-one_accepted (Some s) labels fails p a = both _ _ (accept_all s.bytes (in_order labels) a.accepted) (either (told.is_nil labels) s.always_reads p)
+one_accepted (Some s) labels fails p a = both _ _ (accept_all s.bytes (in_order labels) a.accepted) (either (is_nil labels) s.always_reads p)
 
 mutual
   tree_accepted : (inherited : Option Source) (a : Answers) (t : Tree) → Reads inherited → AlwaysReads t → told.AreAnswers inherited a t → told.holds_of told.accepts inherited t ≡ true
@@ -140,21 +140,9 @@ told-accepted t a q k = tree_accepted None a t tt q k
 
 -- ---- a brief report
 
-mutual
-  pub brief-reads : (t : Tree) → AlwaysReads t → briefly.AlwaysReads t
-  brief-reads (tree m own c r) q = (q.0, brief_cause_reads c q.1, brief_trees_read r q.2)
-
-  brief_cause_reads : (c : Cause) → CauseAlwaysReads c → briefly.CauseAlwaysReads c
-  brief_cause_reads (texts ts) q = tt
-  brief_cause_reads (diagnostic t) q = brief-reads t q
-
-  brief_trees_read : (ts : Trees) → AllAlwaysRead ts → briefly.AllAlwaysRead ts
-  brief_trees_read no_trees q = tt
-  brief_trees_read (more_trees t ts) q = (brief-reads t q.0, brief_trees_read ts q.1)
-
 one_kept : (source : Option Source) (labels : List Label) → Reads source → briefly.HasAccepted source (in_order labels) → told.accepts source labels ≡ true
 one_kept None labels p a = refl
-one_kept (Some s) labels p a = both _ _ (accept_all s.bytes (in_order labels) a) (either (told.is_nil labels) s.always_reads p)
+one_kept (Some s) labels p a = both _ _ (accept_all s.bytes (in_order labels) a) (either (is_nil labels) s.always_reads p)
 
 mutual
   tree_kept : (inherited : Option Source) (a : brief.Answers) (t : Tree) → Reads inherited → AlwaysReads t → briefly.ArePossible inherited a t → told.holds_of told.accepts inherited t ≡ true
@@ -176,7 +164,7 @@ one_alike : (source : Option Source) (labels : List Label) → Reads source → 
 one_alike None labels p = refl
 one_alike (Some s) labels p =
     ap (λ b. list_all (λ label. is_accepted s.bytes label.span) (in_order labels) && b)
-    (either (told.is_nil labels) s.always_reads p ∙ sym (either (briefly.is_nil (in_order labels)) s.always_reads p))
+    (either (is_nil labels) s.always_reads p ∙ sym (either (is_nil (in_order labels)) s.always_reads p))
 
 mutual
   tree_alike : (inherited : Option Source) (t : Tree) → Reads inherited → AlwaysReads t → told.holds_of told.accepts inherited t ≡ briefly.accepts_report inherited t

@@ -12,11 +12,12 @@ use Rattle.miette_narrated.specs.rules.PossibleAnswers.{report_accepted, report_
 use Rattle.miette_narrated.specs.rules.Report as narrated
 use Rattle.miette_graphical.specs.rules.Answers.{unlisted}
 use Rattle.miette_tree.specs.views.Handler.{AppendsOne}
+use Rattle.miette_tree.specs.rules.Reads.{AlwaysReads}
 use Rattle.miette_handlers.specs.rules.DebugText.{IsDebugText}
 use Rattle.miette_graphical.specs.rules.PrintedDiagnostics.{all_read, diagnostics_of}
 use Rattle.miette_json.specs.rules.Json.{json_text}
 use Rattle.miette_json.specs.rules.JsonReport.{value_of}
-use Rattle.miette_json.specs.rules.Reads.{AlwaysReads, NamesAlwaysRead}
+use Rattle.miette_json.specs.rules.Reads.{NamesAlwaysRead}
 use Rattle.miette_json.proofs.JsonAnswers.{names_always_read}
 use Rattle.miette_graphical.specs.rules.PossibleAnswers as drawn
 use Rattle.miette_graphical.specs.views.Handling.{Handling, draws_plain}
@@ -28,7 +29,7 @@ use Rattle.miette_report.specs.rules.Job.{IsBuiltText, IsJobText, IsTelling, IsR
 use Rattle.miette_report.specs.declared.job_handler.JobHandler.{JobHandler}
 use Rattle.miette_report.specs.declared.job_handler.JobHandler.TheVariants as chosen
 use Rattle.miette_report.specs.declared.option_words.Choice.{Choice}
-use Rattle.miette_report.proofs.AlwaysRead.{printed-reads, told-reads, told-accepted, brief-reads, brief-accepted, brief-accepts}
+use Rattle.miette_report.proofs.AlwaysRead.{printed-reads, told-reads, told-accepted, brief-accepted, brief-accepts}
 
 -- ---- what a handler of the library appends
 
@@ -80,14 +81,14 @@ narrated-given is_blank h s t old new (Ok x) is reads text only =
     subst (λ k. AppendsOne (IsGiven is_blank k t) old new) (sym is) one
 
 pub brief-given : {A E H : Type 0} (is_blank : H → Bool) (h : JobHandler H) (s : brief.BriefSettings) (t : Tree) (old new : List ℕ) (r : Result A E) → h ≡ chosen.Built (handler.Brief s) → AlwaysReads t
-    → OnOk r (AppendsOne (briefly.IsBrief s t) old new) → OnOk r (briefly.AlwaysReads t → new ≡ old ++ brief.brief s t brief.unlisted) → OnOk r (AppendsOne (IsGiven is_blank h t) old new)
+    → OnOk r (AppendsOne (briefly.IsBrief s t) old new) → OnOk r (AlwaysReads t → new ≡ old ++ brief.brief s t brief.unlisted) → OnOk r (AppendsOne (IsGiven is_blank h t) old new)
 brief-given is_blank h s t old new (Err e) is reads text only = tt
 brief-given is_blank h s t old new (Ok x) is reads text only =
     let one : AppendsOne (IsGiven is_blank (chosen.Built (handler.Brief s)) t) old new =
     record {
       text = brief.brief s t brief.unlisted;
       is_given = (brief-accepted t text.is_given.answers reads text.is_given.possible, refl);
-      appended = only (brief-reads t reads);
+      appended = only reads;
     } in
     subst (λ k. AppendsOne (IsGiven is_blank k t) old new) (sym is) one
 

@@ -2,6 +2,7 @@
 use Rattle.std.proofs.Common.{◌≡◌, ℕ, Bool, List, [], ◌++◌, Option, Some, None, ◌↔◌, Result, Ok, Err, true, false, IfOk, OnOk, IfSome, refl, sym, ◌∙◌, ap, ap₂, subst, encode_utf8_all, string_bytes, String}
 use Rattle.miette_protocol.specs.views.Meaning.{Meaning}
 use Rattle.miette_tree.specs.rules.Tree.{Tree}
+use Rattle.miette_tree.specs.rules.Reads.{AlwaysReads}
 use Rattle.miette_style.specs.rules.Themes.{characters_of, no_styles, styles_of, theme_of, unicode_characters}
 use Rattle.miette_style.specs.declared.theme.GraphicalTheme.{GraphicalTheme}
 use Rattle.miette_graphical.specs.rules.Answers.{unlisted}
@@ -68,7 +69,7 @@ draw_called Q words name offset length label message are called = (λ q. absurd 
 -- ---- brief rows
 
 pub listed : (t : Tree) (name : List ℕ) (m : Meaning) (input : List ℕ) (s : rows.BriefSettings) (old new : List ℕ) → t ≡ over_input name m input → s ≡ rows.default_settings → old ≡ []
-    → (briefly.AlwaysReads t → new ≡ old ++ rows.brief s t rows.unlisted) → new ≡ rows.brief rows.default_settings (over_input name m input) rows.unlisted
+    → (AlwaysReads t → new ≡ old ++ rows.brief s t rows.unlisted) → new ≡ rows.brief rows.default_settings (over_input name m input) rows.unlisted
 listed t name m input s old new same is none only =
-    let over : briefly.AlwaysReads (over_input name m input) = (refl, tt, tt) in
-    only (subst briefly.AlwaysReads (sym same) over) ∙ ap (λ o. o ++ rows.brief s t rows.unlisted) none ∙ ap₂ (λ u v. rows.brief u v rows.unlisted) is same
+    let over : AlwaysReads (over_input name m input) = (refl, tt, tt) in
+    only (subst AlwaysReads (sym same) over) ∙ ap (λ o. o ++ rows.brief s t rows.unlisted) none ∙ ap₂ (λ u v. rows.brief u v rows.unlisted) is same

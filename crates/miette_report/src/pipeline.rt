@@ -5,7 +5,7 @@ ghost use Rattle.std.specs.Prelude.{IfSome, Some, None};
 ghost use Rattle.std.specs.Io.KnownBytes.{Appends};
 ghost use Rattle.miette_report.specs.views.Device.{TakesBeginning};
 ghost use Rattle.miette_tree.specs.views.Report.{tree_of};
-ghost use Rattle.miette_json.specs.rules.Reads.{AlwaysReads};
+ghost use Rattle.miette_tree.specs.rules.Reads.{AlwaysReads};
 ghost use Rattle.miette_description.specs.rules.Description.{tree_for};
 ghost use Rattle.miette_report.specs.rules.Job.{IsDescription, IsTelling, IsRefused, Writes};
 

@@ -4,12 +4,12 @@ use Rattle.std.specs.Prelude.{nat_lt, slice_range}
 use Rattle.std.specs.List.{AllByRecursion}
 use Rattle.miette_newlines.specs.rules.Lines.{Line}
 use Rattle.miette_protocol.specs.views.Meaning.{Label}
-use Rattle.miette_protocol.specs.rules.Reading.{Span, Source, Contents}
+use Rattle.miette_protocol.specs.rules.Reading.{Span, Source, Contents, is_accepted}
 use Rattle.miette_lines.specs.rules.Answers.{Answers, Highlight, next_answer, later_answers, first_of, later_of}
 use Rattle.miette_snippets.specs.rules.CutLines.{cut_line, shown_marks, shown_runs}
 use Rattle.miette_lines.specs.rules.Cells.{Cell, characters}
 use Rattle.miette_snippet_laws.specs.laws.Clean.{IsClean, IsCleanText, IsCleanRow, IsCleanLabel, IsCleanSource, AreCleanDrawings}
-use Rattle.miette_lines.specs.rules.Contexts.{contents, lines_of_contents, is_accepted}
+use Rattle.miette_lines.specs.rules.Contexts.{contents, lines_of_contents}
 use Rattle.miette_snippets.specs.rules.Drawing.{marked_rows}
 use Rattle.miette_snippet_laws.specs.laws.Fading.{colourless, unhighlighted_answers, IsPlainRow}
 use Rattle.miette_snippets.specs.rules.Folds.{Spread, spreads_of}

@@ -8,11 +8,12 @@ use Rattle.miette_newlines.specs.rules.Lines as P
 use Rattle.miette_newlines.specs.rules.Lines.{Line, lines_of}
 use Rattle.miette_protocol.specs.views.Meaning.{Label}
 use Rattle.miette_protocol.specs.rules.Reading as R
-use Rattle.miette_protocol.specs.rules.Reading.{Span, Source, IsAccepted}
+use Rattle.miette_protocol.specs.rules.Reading.{Span, Source, IsAccepted, is_accepted}
+use Rattle.miette_protocol.specs.rules.Context as around
 use Rattle.miette_snippets.specs.rules.Numbers.{last_of}
 use Rattle.miette_lines.specs.rules.Answers.{Highlight, next_answer, later_answers, first_of, later_of, NoneFails}
 use Rattle.miette_lines.specs.rules.Contexts as C
-use Rattle.miette_lines.specs.rules.Contexts.{contents, lines_of_contents, is_accepted}
+use Rattle.miette_lines.specs.rules.Contexts.{contents, lines_of_contents}
 use Rattle.miette_lines.specs.rules.Groups as G
 use Rattle.miette_lines.specs.rules.Groups.{joins_before, joined_span, groups_from, groups_answered, in_order, spans_of, put_label, refusal, AreAccepted}
 use Rattle.miette_snippets.specs.rules.Snippets as N
@@ -181,7 +182,7 @@ order_same (label ∷ labels) = put_same label (in_order labels) ∙ ap (put_by_
 
 pub context_same : (c : ℕ) (bytes : List ℕ) (k : ℕ) (span : Span) → N.is_in_context c bytes k span ≡ J.is_in_context c bytes k span
 context_same c bytes k span =
-    ap (λ n. leb n k && leb k (C.last_line c bytes span)) (first_same c bytes span)
+    ap (λ n. leb n k && leb k (around.last_line bytes span c)) (first_same c bytes span)
     ∙ ap (λ n. leb (first_line c bytes span) k && leb k n) (last_same c bytes span)
 
 -- the lines that the answered groups show, in the proofs' form

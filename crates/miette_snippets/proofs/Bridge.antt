@@ -8,6 +8,7 @@ use Rattle.miette_newlines.specs.rules.Lines as P
 use Rattle.miette_newlines.specs.rules.Lines.{Line}
 use Rattle.miette_protocol.specs.rules.Reading as R
 use Rattle.miette_protocol.specs.rules.Reading.{Span, Source}
+use Rattle.miette_protocol.specs.rules.Context as around
 use Rattle.miette_lines.specs.rules.Contexts as C
 use Rattle.miette_lines.proofs.Sources.{lines, is_ended, line_of, terminators_in, start_of, end_of_span, past_lf, reading_end, first_line, last_line, read}
 use Rattle.miette_snippets.proofs.Data.{first-lt}
@@ -61,10 +62,10 @@ one_end (suc n) = rw (ne_eqb (suc n) 0 (λ e. omega (arith, e))) (omega arith)
 pub reading_same : (bytes : List ℕ) (span : Span) → R.reading_end bytes span ≡ reading_end bytes (end_of_span span)
 reading_same bytes span = ap (past_lf bytes) (one_end (end_of_span span))
 
-pub first_same : (c : ℕ) (bytes : List ℕ) (span : Span) → C.first_line c bytes span ≡ first_line c bytes span
+pub first_same : (c : ℕ) (bytes : List ℕ) (span : Span) → around.first_line bytes span c ≡ first_line c bytes span
 first_same c bytes span = ap (λ n. n - c) (line_of_same bytes span.offset)
 
-pub last_same : (c : ℕ) (bytes : List ℕ) (span : Span) → C.last_line c bytes span ≡ last_line c bytes span
+pub last_same : (c : ℕ) (bytes : List ℕ) (span : Span) → around.last_line bytes span c ≡ last_line c bytes span
 last_same c bytes span = ap (λ n. n + c) (line_of_same bytes (R.reading_end bytes span) ∙ ap (line_of (lines bytes)) (reading_same bytes span))
 
 pub begin_same : (c : ℕ) (source : Source) (span : Span) → 1 ≤ c → 0 < length source.bytes → (C.contents c source span).span.offset ≡ (read c source.bytes span).begin

@@ -6,3 +6,4 @@ pub mod Chain
 pub mod WrapErr
 pub mod DiagnosticParts
 pub mod Display
+pub mod Reads

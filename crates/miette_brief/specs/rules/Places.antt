@@ -1,8 +1,8 @@
 -- Where the parts of a report lie.
 use Rattle.std.specs.Prelude.{◌+◌, List, [], ◌∷◌, Option, Some, None, Bool, not, ◌&&◌, if◌then◌else◌}
 use Rattle.miette_protocol.specs.views.Meaning.{Label}
-use Rattle.miette_protocol.specs.rules.Reading.{Span, Source}
-use Rattle.miette_lines.specs.rules.Contexts.{contents, is_accepted}
+use Rattle.miette_protocol.specs.rules.Reading.{Span, Source, is_accepted}
+use Rattle.miette_lines.specs.rules.Contexts.{contents}
 use Rattle.miette_brief.specs.rules.Rows.{Place, nowhere}
 
 -- the span of the first label that is marked as primary, else the first argument

@@ -1,37 +1,21 @@
 -- Which answers the sources of a report can have given where it was told, where nothing is refused, and what is
 -- appended.
-use Rattle.std.specs.Prelude.{◌≡◌, ℕ, Bool, true, false, ◌&&◌, ◌||◌, List, [], ◌∷◌, ◌++◌, Option, Some, None, IfSome}
+use Rattle.std.specs.Prelude.{◌≡◌, ℕ, Bool, true, false, ◌&&◌, ◌||◌, List, ◌++◌, Option, Some, None}
 use Rattle.std.specs.Prelude.{⊤}
 use Rattle.std.specs.List.{list_all}
+use Rattle.miette_style.specs.rules.Codes.{is_nil}
 use Rattle.miette_protocol.specs.views.Meaning.{Label, Meaning}
-use Rattle.miette_protocol.specs.rules.Reading.{Source}
+use Rattle.miette_protocol.specs.rules.Reading.{Source, is_accepted}
 use Rattle.miette_tree.specs.rules.Tree.{Tree, tree, Cause, diagnostic, texts, Trees, no_trees, more_trees, effective}
 use Rattle.miette_tree.specs.rules.DiagnosticParts.{given_labels}
-use Rattle.miette_lines.specs.rules.Contexts.{is_accepted}
+use Rattle.miette_tree.specs.rules.Answers.{own_fault}
 use Rattle.miette_lines.specs.rules.Groups.{in_order, AreAccepted}
 use Rattle.miette_brief.specs.rules.Rows.{Place, rows_text}
-use Rattle.miette_brief.specs.rules.Report.{BriefSettings, Answers, RelatedAnswers, own_fault, cause_answers}
+use Rattle.miette_brief.specs.rules.Report.{BriefSettings, Answers, RelatedAnswers, cause_answers}
 use Rattle.miette_brief.specs.rules.Report.{related_answers, first_answers, later_answers, cause_rows_if}
 use Rattle.miette_brief.specs.rules.Report.{own_rows, report_rows, related_rows, brief}
 
--- ---- where reads are determined, and where nothing is refused
-
--- every source of a report always reads: its own, those of its causes, and those of the reports related to it
-abbrev mutual
-  pub AlwaysReads : Tree → Type 0
-  AlwaysReads (tree m own c r) = IfSome own (λ s. s.always_reads ≡ true) × CauseAlwaysReads c × AllAlwaysRead r
-
-  pub CauseAlwaysReads : Cause → Type 0
-  CauseAlwaysReads (diagnostic t) = AlwaysReads t
-  CauseAlwaysReads (texts ts) = ⊤
-
-  pub AllAlwaysRead : Trees → Type 0
-  AllAlwaysRead no_trees = ⊤
-  AllAlwaysRead (more_trees t ts) = AlwaysReads t × AllAlwaysRead ts
-
-abbrev pub is_nil : List Label → Bool
-is_nil [] = true
-is_nil (label ∷ labels) = false
+-- ---- where nothing is refused
 
 -- labels by offset that are accepted, over a source that always reads
 abbrev pub accepts : Option Source → List Label → Bool

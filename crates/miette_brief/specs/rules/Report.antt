@@ -3,7 +3,7 @@ use Rattle.std.specs.Prelude.{ℕ, Bool, true, false, List, [], ◌∷◌, ◌++
 use Rattle.miette_protocol.specs.views.Meaning.{Label, Meaning}
 use Rattle.miette_protocol.specs.rules.Reading.{Source}
 use Rattle.miette_tree.specs.rules.Tree.{Tree, tree, Cause, diagnostic, texts, Trees, no_trees, more_trees, effective}
-use Rattle.miette_tree.specs.rules.Answers.{AnswerTree, AnswerTrees, own_or}
+use Rattle.miette_tree.specs.rules.Answers.{AnswerTree, AnswerTrees, own_fault}
 pub use Rattle.miette_tree.specs.rules.Answers.{unlisted, listed, no_more, and_more, cause_answers, related_answers}
 pub use Rattle.miette_tree.specs.rules.Answers.{first_answers, later_answers}
 use Rattle.miette_tree.specs.rules.DiagnosticParts.{given_labels}
@@ -28,9 +28,6 @@ Answers = AnswerTree Bool
 
 abbrev pub RelatedAnswers : Type 0
 RelatedAnswers = AnswerTrees Bool
-
-abbrev pub own_fault : Answers → Bool
-own_fault a = own_or false a
 
 -- ---- the rows of one diagnostic
 

@@ -5,11 +5,11 @@ use Rattle.miette_style.specs.declared.style.Style.{Style}
 use Rattle.miette_protocol.specs.views.Meaning.{Meaning, Label}
 use Rattle.miette_protocol.specs.rules.Reading.{Source}
 use Rattle.miette_protocol.specs.declared.protocol.Severity.{Severity}
-use Rattle.miette_protocol.specs.declared.protocol.Severity.TheVariants.{Advice, Warning, Error}
 use Rattle.miette_graphical.specs.rules.Settings.{Settings, Urls, AsLinks, AsText, Hidden, severity_style}
 use Rattle.miette_graphical.specs.rules.Answers.{Answer}
 use Rattle.miette_graphical.specs.rules.Indents.{bare_text, wrapped_under, icon_indent, bar_indent, arrow_indent}
 use Rattle.miette_graphical.specs.rules.Indents.{stem_indent, help_indent, further_help_indent, footer_indent}
+use Rattle.miette_tree.specs.rules.DiagnosticParts.{severity_title}
 
 abbrev pub line_feed : List ℕ
 line_feed = 10 ∷ []
@@ -72,13 +72,6 @@ footer_text s = footer_of s s.footer
 abbrev pub under_arrow : Settings → Option Severity → Bool → List ℕ → List ℕ
 under_arrow s outer is_last text = wrapped_under s (arrow_indent s outer is_last) (stem_indent s outer is_last) text
     ++ line_feed
-
--- what names the severity of a related report
-abbrev pub severity_title : Option Severity → List ℕ
-severity_title None = codes "Error: "
-severity_title (Some Error) = codes "Error: "
-severity_title (Some Warning) = codes "Warning: "
-severity_title (Some Advice) = codes "Advice: "
 
 -- a related report's header, or else the end of its row
 abbrev pub header_or_end : List Fragment → List Fragment

@@ -1,10 +1,10 @@
 -- The JSON value of a report, by its tree and by what the reads for its file names answered.
-use Rattle.std.specs.Prelude.{◌≡◌, ℕ, ◌+◌, Bool, true, false, ◌&&◌, nat_le, if◌then◌else◌, List, [], ◌∷◌, length}
+use Rattle.std.specs.Prelude.{◌≡◌, ℕ, Bool, true, false, if◌then◌else◌, List, [], ◌∷◌}
 use Rattle.std.specs.Prelude.{Option, Some, None, option_map, unwrap_or, codes, ⊤}
 use Rattle.miette_protocol.specs.views.Meaning.{Label}
-use Rattle.miette_protocol.specs.rules.Reading.{Source, Span}
+use Rattle.miette_protocol.specs.rules.Reading.{Source, Span, is_accepted}
 use Rattle.miette_tree.specs.rules.Tree.{Tree, tree, causes_of, Trees, no_trees, more_trees, effective}
-use Rattle.miette_tree.specs.rules.Answers.{AnswerTree, AnswerTrees, own_or}
+use Rattle.miette_tree.specs.rules.Answers.{AnswerTree, AnswerTrees, own_fault}
 pub use Rattle.miette_tree.specs.rules.Answers.{unlisted, listed, no_more, and_more, related_answers}
 pub use Rattle.miette_tree.specs.rules.Answers.{first_answers, later_answers}
 use Rattle.miette_json.specs.rules.Json.{Json, number, string, array, object, Items, no_items, item, Members}
@@ -20,9 +20,6 @@ NameAnswers = AnswerTree Bool
 
 abbrev pub RelatedNameAnswers : Type 0
 RelatedNameAnswers = AnswerTrees Bool
-
-abbrev pub own_fault : NameAnswers → Bool
-own_fault a = own_or false a
 
 abbrev pub MayFail : Option Source → Type 0
 MayFail None = ⊥
@@ -61,15 +58,11 @@ abbrev pub labels_json : List Label → Items
 labels_json [] = no_items
 labels_json (l ∷ ls) = item (label_json l) (labels_json ls)
 
--- whether a source accepts a span: it begins at the end at most, and ends at most one byte past it
-abbrev pub accepts : List ℕ → Span → Bool
-accepts bytes span = nat_le span.offset (length bytes) && nat_le (span.offset + span.len) (length bytes + 1)
-
 -- The name that the read of the first given label answers, without context; empty where it is refused, where there is
 -- no name, and where there is no label.
 abbrev pub file_name : Bool → List Label → Source → List ℕ
 file_name fault [] s = []
-file_name fault (l ∷ ls) s = if accepts s.bytes l.span then (if fault then [] else unwrap_or s.name []) else []
+file_name fault (l ∷ ls) s = if is_accepted s.bytes l.span then (if fault then [] else unwrap_or s.name []) else []
 
 -- ---- the value
 

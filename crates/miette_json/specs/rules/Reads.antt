@@ -1,24 +1,9 @@
--- Reports whose reads are determined.
+-- Reports whose file names are read from sources that always read.
 use Rattle.std.specs.Prelude.{◌≡◌, List, [], ◌∷◌, Option, true, IfSome, ⊤}
 use Rattle.miette_protocol.specs.views.Meaning.{Label}
 use Rattle.miette_protocol.specs.rules.Reading.{Source}
 use Rattle.miette_tree.specs.rules.DiagnosticParts.{given_labels}
-use Rattle.miette_tree.specs.rules.Tree.{Tree, tree, Cause, diagnostic, texts, Trees, no_trees, more_trees, effective}
-
--- every source in a report always reads: its own, those of its causes, and those of the reports that are related to it
-abbrev mutual
-  pub AlwaysReads : Tree → Type 0
-  AlwaysReads (tree m s c r) = IfSome s (λ own. own.always_reads ≡ true) × CauseAlwaysReads c × AllAlwaysRead r
-
-  pub CauseAlwaysReads : Cause → Type 0
-  CauseAlwaysReads (diagnostic t) = AlwaysReads t
-  CauseAlwaysReads (texts ts) = ⊤
-
-  pub AllAlwaysRead : Trees → Type 0
-  AllAlwaysRead no_trees = ⊤
-  AllAlwaysRead (more_trees t ts) = AlwaysReads t × AllAlwaysRead ts
-
--- ---- the sources that a JSON text is read from
+use Rattle.miette_tree.specs.rules.Tree.{Tree, tree, Trees, no_trees, more_trees, effective}
 
 -- a file name is read by the first label: without labels nothing is read
 abbrev pub NameAlwaysReads : Option Source → List Label → Type 0

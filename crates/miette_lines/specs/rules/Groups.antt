@@ -3,10 +3,10 @@ use Rattle.std.specs.Prelude.{ℕ, ◌+◌, ◌-◌, max, List, [], ◌∷◌, m
 use Rattle.std.specs.Prelude.{if◌then◌else◌, nat_le}
 use Rattle.std.specs.List.{AllByRecursion}
 use Rattle.miette_protocol.specs.views.Meaning.{Label}
-use Rattle.miette_protocol.specs.rules.Reading.{Span, Source, IsAccepted}
+use Rattle.miette_protocol.specs.rules.Reading.{Span, Source, IsAccepted, is_accepted}
 use Rattle.miette_lines.specs.rules.Answers.{next_answer, later_answers}
 use Rattle.miette_lines.specs.rules.Around.{has_own, contents_around}
-use Rattle.miette_lines.specs.rules.Contexts.{end_of_span, is_accepted, contents, lines_in}
+use Rattle.miette_lines.specs.rules.Contexts.{end_of_span, contents, lines_in}
 
 -- a label comes before the first one that doesn't begin before it
 abbrev pub put_label : Label → List Label → List Label

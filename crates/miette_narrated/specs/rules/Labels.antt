@@ -34,18 +34,15 @@ pub record SnippetLine : Type 0 where
   pub data_end : ℕ
   pub characters : List Character
 
--- Of a label from one offset to another: it begins on the line or behind it; it begins before the text's end; it
--- reaches the line.
-abbrev pub begins : SnippetLine → ℕ → Bool
-begins it start = nat_le it.line.start start
+-- Where an offset is: on the line or behind it; and before the text's end or there. A label whose start reaches the line
+-- begins on it or behind it.
+abbrev pub reaches_line : SnippetLine → ℕ → Bool
+reaches_line it at = nat_le it.line.start at
 
 abbrev pub begins_within : SnippetLine → ℕ → Bool
 begins_within it start = nat_le start it.line.text_end
 
-abbrev pub reaches_line : SnippetLine → ℕ → Bool
-reaches_line it after = nat_le it.line.start after
-
--- it ends before the text's end; on the last line also one does that begins in the data or where they end
+-- a label ends before the text's end; on the last line also one does that begins in the data or where they end
 abbrev pub ends_before : SnippetLine → ℕ → ℕ → Bool
 ends_before it start after = nat_le after it.line.text_end || (it.is_last && nat_le start it.data_end)
 
@@ -93,7 +90,7 @@ abbrev pub reaching_row : SnippetLine → LabelRange → List ℕ
 reaching_row it d = if ends_before it d.start d.after then end_row it d else []
 
 abbrev pub label_row : SnippetLine → LabelRange → List ℕ
-label_row it d = if begins it d.start then begun_row it d
+label_row it d = if reaches_line it d.start then begun_row it d
     else (if reaches_line it d.after then reaching_row it d else [])
 
 abbrev pub label_rows : SnippetLine → List LabelRange → List ℕ

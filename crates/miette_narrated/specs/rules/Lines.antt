@@ -1,7 +1,8 @@
 -- The rows of a snippet's lines.
-use Rattle.std.specs.Prelude.{ℕ, ◌+◌, ◌-◌, List, [], ◌∷◌, ◌++◌, map, length, Bool, true, false, slice_range, decimal}
+use Rattle.std.specs.Prelude.{ℕ, ◌+◌, ◌-◌, List, [], ◌∷◌, ◌++◌, map, length, Bool, slice_range, decimal}
 use Rattle.std.specs.Prelude.{codes, encode_utf8_all}
 use Rattle.miette_newlines.specs.rules.Lines.{Line}
+use Rattle.miette_style.specs.rules.Codes.{is_nil}
 use Rattle.miette_protocol.specs.rules.Reading.{Contents}
 use Rattle.miette_lines.specs.rules.Cells.{Character, characters}
 use Rattle.miette_narrated.specs.rules.Labels.{SnippetLine, LabelRange, row, label_rows}
@@ -23,10 +24,6 @@ snippet_line lent number is_last line = record {
   data_end = lent.span.offset + length lent.bytes;
   characters = characters (slice_range lent.bytes (line.start - lent.span.offset) (line.text_end - lent.span.offset));
 }
-
-abbrev pub is_nil : List Line → Bool
-is_nil [] = true
-is_nil (line ∷ lines) = false
 
 -- a line, and the labels on it
 abbrev pub rows_of_line : List LabelRange → SnippetLine → List ℕ

@@ -1,12 +1,12 @@
 -- Which answers the sources of a report can have given where it was told, where nothing is refused, and what is
 -- appended.
-use Rattle.std.specs.Prelude.{◌≡◌, ℕ, Bool, true, false, ◌&&◌, ◌||◌, List, [], ◌∷◌, ◌++◌, Option, Some, None}
+use Rattle.std.specs.Prelude.{◌≡◌, ℕ, Bool, true, ◌&&◌, ◌||◌, List, ◌++◌, Option, Some, None}
 use Rattle.std.specs.List.{list_all}
+use Rattle.miette_style.specs.rules.Codes.{is_nil}
 use Rattle.miette_protocol.specs.views.Meaning.{Label}
-use Rattle.miette_protocol.specs.rules.Reading.{Source}
+use Rattle.miette_protocol.specs.rules.Reading.{Source, is_accepted}
 use Rattle.miette_tree.specs.rules.Tree.{Tree, tree, Trees, no_trees, more_trees, effective}
 use Rattle.miette_lines.specs.rules.Answers.{NoneFails}
-use Rattle.miette_lines.specs.rules.Contexts.{is_accepted}
 use Rattle.miette_lines.specs.rules.Groups.{in_order, AreAccepted}
 use Rattle.miette_narrated.specs.rules.Report.{NarrationSettings, Answers, RelatedAnswers, own_answer, related_answers}
 use Rattle.miette_narrated.specs.rules.Report.{first_answers, later_answers, snippet_rows, related_report}
@@ -24,10 +24,6 @@ abbrev mutual
   pub holds_of_all : (Option Source → List Label → Bool) → Option Source → Trees → Bool
   holds_of_all test inherited no_trees = true
   holds_of_all test inherited (more_trees t ts) = holds_of test inherited t && holds_of_all test inherited ts
-
-abbrev pub is_nil : List Label → Bool
-is_nil [] = true
-is_nil (label ∷ labels) = false
 
 -- a diagnostic without labels reads nothing
 abbrev pub always_reads : Option Source → List Label → Bool

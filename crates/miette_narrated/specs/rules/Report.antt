@@ -3,14 +3,13 @@ use Rattle.std.specs.Prelude.{ℕ, Bool, true, false, List, [], ◌∷◌, ◌++
 use Rattle.miette_protocol.specs.views.Meaning.{Label, Meaning}
 use Rattle.miette_protocol.specs.rules.Reading.{Source}
 use Rattle.miette_protocol.specs.declared.protocol.Severity.{Severity}
-use Rattle.miette_protocol.specs.declared.protocol.Severity.TheVariants.{Advice, Warning, Error}
 use Rattle.miette_tree.specs.rules.Tree.{Tree, tree, causes_of, Trees, no_trees, more_trees, effective}
 use Rattle.miette_tree.specs.rules.Answers.{AnswerTree, AnswerTrees, own_or}
 pub use Rattle.miette_tree.specs.rules.Answers.{unlisted, listed, no_more, and_more, related_answers}
 pub use Rattle.miette_tree.specs.rules.Answers.{first_answers, later_answers}
 use Rattle.miette_narrated.specs.rules.Labels.{row}
 use Rattle.miette_narrated.specs.rules.Snippets.{snippets}
-use Rattle.miette_tree.specs.rules.DiagnosticParts.{given_labels, severity_text}
+use Rattle.miette_tree.specs.rules.DiagnosticParts.{given_labels, severity_text, severity_title}
 
 -- what a handler is set to: whether the causes of the report are told, the lines of context, and the last row
 pub record NarrationSettings : Type 0 where
@@ -36,12 +35,6 @@ own_answer a = own_or [] a
 
 -- ---- parts
 
-abbrev pub title : Option Severity → List ℕ
-title None = codes "Error: "
-title (Some Error) = codes "Error: "
-title (Some Warning) = codes "Warning: "
-title (Some Advice) = codes "Advice: "
-
 abbrev pub severity_row : Option Severity → List ℕ
 severity_row severity = row (codes "    Diagnostic severity: " ++ severity_text severity)
 
@@ -51,7 +44,7 @@ head_rows m = row m.message ++ severity_row m.severity
 
 -- a related report's head: its message behind its title, its severity, and a blank row
 abbrev pub titled_rows : Meaning → List ℕ
-titled_rows m = row (title m.severity ++ m.message) ++ (severity_row m.severity ++ row [])
+titled_rows m = row (severity_title m.severity ++ m.message) ++ (severity_row m.severity ++ row [])
 
 abbrev pub cause_rows : List (List ℕ) → List ℕ
 cause_rows [] = []

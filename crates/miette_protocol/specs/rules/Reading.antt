@@ -1,5 +1,5 @@
 -- What reading a span of a source gives.
-use Rattle.std.specs.Prelude.{ℕ, ◌+◌, ◌-◌, ◌≤◌, Bool, ◌&&◌, ◌==◌, if◌then◌else◌, min, List, length, slice_index}
+use Rattle.std.specs.Prelude.{ℕ, ◌+◌, ◌-◌, ◌≤◌, Bool, ◌&&◌, ◌==◌, if◌then◌else◌, min, List, length, slice_index, nat_le}
 use Rattle.std.specs.Prelude.{slice_range, Option, Some, None, is_some, true}
 use Rattle.miette_newlines.specs.rules.Lines.{LF, CR, line_of, line_start, line_end, column_of, terminators_in}
 
@@ -42,6 +42,10 @@ pub record Contents : Type 0 where
 pub record IsAccepted (bytes : List ℕ) (span : Span) : Type 0 where
   pub begins : span.offset ≤ length bytes
   pub ends : span.offset + span.len ≤ length bytes + 1
+
+-- the same as a test
+abbrev pub is_accepted : List ℕ → Span → Bool
+is_accepted bytes span = nat_le span.offset (length bytes) && nat_le (span.offset + span.len) (length bytes + 1)
 
 -- where a span ends; an empty span at 0 is read as the first byte
 abbrev pub span_end : Span → ℕ

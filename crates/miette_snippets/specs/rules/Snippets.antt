@@ -7,11 +7,11 @@ use Rattle.miette_protocol.specs.rules.Reading.{Span}
 use Rattle.miette_lines.specs.rules.Around.{lines_around}
 use Rattle.miette_snippets.specs.rules.Folds.{last_byte, hides}
 use Rattle.miette_snippets.specs.rules.Numbers.{ranges}
-use Rattle.miette_lines.specs.rules.Contexts.{first_line, last_line}
+use Rattle.miette_protocol.specs.rules.Context.{first_line, last_line}
 
 -- whether line k is in the context of a span
 abbrev pub is_in_context : ℕ → List ℕ → ℕ → Span → Bool
-is_in_context context bytes k span = nat_le (first_line context bytes span) k && nat_le k (last_line context bytes span)
+is_in_context context bytes k span = nat_le (first_line bytes span context) k && nat_le k (last_line bytes span context)
 
 -- whether line k is in the context of some label, of which each has the lines around it
 abbrev pub is_shown : ℕ → List ℕ → List Label → ℕ → Bool

@@ -15,3 +15,10 @@ severity_text None = codes "error"
 severity_text (Some Error) = codes "error"
 severity_text (Some Warning) = codes "warning"
 severity_text (Some Advice) = codes "advice"
+
+-- what names it in front of the message of a related report
+abbrev pub severity_title : Option Severity → List ℕ
+severity_title None = codes "Error: "
+severity_title (Some Error) = codes "Error: "
+severity_title (Some Warning) = codes "Warning: "
+severity_title (Some Advice) = codes "Advice: "

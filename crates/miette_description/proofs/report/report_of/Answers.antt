@@ -1,5 +1,5 @@
 use Rattle.std.proofs.Common.{rules, ◌≡◌, Some, sym, subst}
-use Rattle.miette_json.specs.rules.Reads.{AlwaysReads}
+use Rattle.miette_tree.specs.rules.Reads.{AlwaysReads}
 use Rattle.miette_tree.specs.views.Report.{tree_of}
 use Rattle.miette_description.specs.rules.Description.{described_tree}
 use Rattle.miette_description.specs.steps.ParsedValues.{value_data}
