@@ -12,9 +12,10 @@ use Rattle.miette_tree.specs.rules.DiagnosticParts.{given_labels}
 use Rattle.miette_lines.specs.rules.Groups.{in_order}
 use Rattle.miette_brief.specs.rules.Rows.{Place, rows_text}
 use Rattle.miette_brief.specs.rules.Report.{Answers, unlisted, listed, no_more, cause_row, cause_rows}
-use Rattle.miette_brief.specs.rules.PossibleAnswers.{CausePossible, AppendsCauses}
+use Rattle.miette_brief.specs.rules.PossibleAnswers.{CausePossible}
 use Rattle.miette_brief.specs.steps.Reads.{IsCausePlace}
 use Rattle.miette_brief.proofs.Putting.{rows_joined}
+use Rattle.miette_brief.specs.steps.AppendedParts.{AppendsCauses}
 
 -- Some causes are told, and these are left: whatever answers these have, the whole has some.
 pub record CausesSoFar (at : Place) (source : Option Source) (all left : Cause) (old now : List ℕ) : Type 0 where

@@ -13,9 +13,10 @@ use Rattle.miette_lines.specs.rules.Groups.{in_order}
 use Rattle.miette_brief.specs.rules.Rows.{Place, Row, rows_text}
 use Rattle.miette_brief.specs.rules.Places.{diagnostic_place, cause_place}
 use Rattle.miette_brief.specs.rules.Report.{BriefSettings, Answers, RelatedAnswers, unlisted, listed, no_more, and_more, cause_answers, related_answers, first_answers, later_answers, finding_row, note_rows, cause_row, cause_rows, caused_rows, cause_rows_if, help_rows, rows_at, own_rows, report_rows, related_rows, brief}
-use Rattle.miette_brief.specs.rules.PossibleAnswers.{accepts, accepts_report, accepts_related, MayMeet, HasAccepted, CausePossible, CausedPossible, ArePossible, AllPossible, AppendsCauses, AppendsOwn, AppendsReport, AppendsRelated, IsBrief}
+use Rattle.miette_brief.specs.rules.PossibleAnswers.{accepts, accepts_report, accepts_related, MayMeet, HasAccepted, CausePossible, CausedPossible, ArePossible, AllPossible, IsBrief}
 use Rattle.miette_brief.specs.steps.Reads.{IsDiagnosticPlace}
 use Rattle.miette_brief.proofs.Putting.{rows_joined}
+use Rattle.miette_brief.specs.steps.AppendedParts.{AppendsCauses, AppendsOwn, AppendsReport, AppendsRelated}
 
 -- ---- causes that aren't told
 

@@ -1,3 +1,4 @@
 -- The code's own steps, which no rule names.
 pub mod Reads
 pub mod Conversions
+pub mod AppendedParts

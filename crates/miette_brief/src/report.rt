@@ -14,10 +14,11 @@ ghost use Rattle.miette_brief.specs.rules.Rows.{rows_text};
 ghost use Rattle.miette_brief.specs.rules.Places.{label_place as place_of_label};
 ghost use Rattle.miette_brief.specs.rules.Report.{finding_row, note_rows_of, note_rows, cause_row, help_rows};
 ghost use Rattle.miette_brief.specs.rules.PossibleAnswers.{HasAccepted, accepts, accepts_report, accepts_related};
-ghost use Rattle.miette_brief.specs.rules.PossibleAnswers.{report_accepted, AppendsCauses, AppendsOwn, AppendsReport};
-ghost use Rattle.miette_brief.specs.rules.PossibleAnswers.{AppendsRelated, IsBrief};
+ghost use Rattle.miette_brief.specs.rules.PossibleAnswers.{report_accepted};
+ghost use Rattle.miette_brief.specs.rules.PossibleAnswers.{IsBrief};
 ghost use Rattle.miette_brief.specs.steps.Conversions.{place_of};
 ghost use Rattle.miette_brief.specs.steps.Reads.{IsUnread, IsReadAt};
+ghost use Rattle.miette_brief.specs.steps.AppendedParts.{AppendsCauses, AppendsOwn, AppendsReport, AppendsRelated};
 
 use crate::places::{cause_place, diagnostic_place, label_of, label_place};
 use crate::rows::{Kind, Place, push_row};

@@ -28,7 +28,8 @@ use Rattle.miette_snippets.specs.rules.Gutters.{gutter_columns, most_labels}
 use Rattle.miette_lines.specs.rules.Labels.{DrawnLabel, is_one_line, is_multi_line, one_line, multi_line}
 use Rattle.miette_snippets.specs.rules.SnippetLayout.{cells_of, line_or_break, line_or_break_of, rows_of_lines, left_out, body_rows}
 use Rattle.miette_snippets.specs.rules.Highlighting.{EachHasPieces, ArePieces, decoded_text, texts_of, line_calls, piece_of}
-use Rattle.miette_drawing.specs.views.SnippetRows.{cells_in, text_in, texts_in, lent_rows, lent_snippet, width_of_count, gutter_of, PutsRows}
+use Rattle.miette_drawing.specs.views.SnippetRows.{cells_in, text_in, texts_in, lent_rows, lent_snippet, PutsRows}
+use Rattle.miette_drawing.specs.steps.Widths.{width_of_count, gutter_of}
 use Rattle.miette_lines.specs.views.Placing.{end_drawn, is_told, placed_from}
 use Rattle.miette_lines.specs.views.Reads.{IsRead}
 use Rattle.miette_newlines.specs.views.Walking.{line_of_text}

@@ -6,3 +6,4 @@ pub mod Marks
 pub mod Sheets
 pub mod CellTokens
 pub mod Tabs
+pub mod Widths

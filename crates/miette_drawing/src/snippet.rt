@@ -31,7 +31,7 @@ ghost use Rattle.miette_highlight.specs.rules.HighlighterCalls.{restarted};
 ghost use Rattle.miette_drawing.specs.views.Spreads.{spread_of};
 ghost use Rattle.miette_drawing.specs.steps.Folding.{fold_in};
 ghost use Rattle.miette_drawing.specs.views.SnippetRows.{PutsRows, PutsSnippet, texts_in, lent_rows};
-ghost use Rattle.miette_drawing.specs.views.SnippetRows.{width_of_count, gutter_of};
+ghost use Rattle.miette_drawing.specs.steps.Widths.{width_of_count, gutter_of};
 ghost use Rattle.miette_lines.specs.views.Sweeping.{IsAt, AreSorted};
 
 use crate::folds::{Fold, Spread, folds_in, leaves_out};

@@ -14,12 +14,13 @@ use Rattle.miette_graphical.specs.laws.Colourless.{colourless, unhighlighted_ans
 use Rattle.miette_graphical.specs.rules.Indents.{narrow_settings}
 use Rattle.miette_graphical.specs.rules.DiagnosticText.{SnippetRows, rows_text, under_arrow, title_text}
 use Rattle.miette_tree.specs.rules.DiagnosticParts.{given_labels}
-use Rattle.miette_graphical.specs.rules.PrintedDiagnostics.{always_reads, all_read, diagnostics_of, printed_causes, printed_related, printed_inner, printed_sibling}
+use Rattle.miette_graphical.specs.rules.PrintedDiagnostics.{always_reads, all_read, diagnostics_of, printed_causes, printed_related}
 use Rattle.miette_graphical.specs.rules.Snippets.{layout_settings}
 use Rattle.miette_graphical.specs.rules.Text.{ends_there, are_last, only_if, body, inner_text, causes_text, related_text, report_text}
 use Rattle.miette_graphical.specs.rules.PossibleAnswers.{IsAnswer, AreCauseAnswers, AreRelatedAnswers, AreAnswers}
 use Rattle.miette_graphical.proofs.Lists.{both_read}
 use Rattle.miette_graphical.proofs.Outermost.{report_over}
+use Rattle.miette_graphical.specs.steps.PrintedParts.{printed_inner, printed_sibling}
 
 -- ---- the parts of such answers
 

@@ -18,13 +18,14 @@ use Rattle.miette_page.specs.views.Tokens.{rows_tokens}
 use Rattle.miette_page.specs.views.Printouts.{Printout, printout_of, ended_text, ◌⊕◌}
 use Rattle.miette_tree.specs.views.Handler.{AppendsOne}
 use Rattle.miette_graphical.specs.rules.Answers.{Answer, nothing_listed, pieces_listed}
-use Rattle.miette_graphical.specs.rules.PossibleAnswers.{HasRows, HasPieces, IsAnswerOf, AreDrawn, IsDrawn}
+use Rattle.miette_graphical.specs.rules.PossibleAnswers.{HasRows, HasPieces, IsAnswerOf}
 use Rattle.miette_graphical.specs.rules.PrintedDiagnostics.{always_reads}
 use Rattle.miette_graphical.specs.rules.DiagnosticText.{rows_text}
 use Rattle.miette_tree.specs.rules.DiagnosticParts.{given_labels}
 use Rattle.miette_graphical.specs.rules.Settings.{Settings}
 use Rattle.miette_graphical.specs.rules.Snippets.{layout_settings, shown_rows, drawn_rows}
 use Rattle.miette_graphical.proofs.PrintedRows.{rows_printed}
+use Rattle.miette_graphical.specs.steps.PartTexts.{AreDrawn, IsDrawn}
 
 next_none : (fails : List Bool) → NoneFails fails → next_answer fails ≡ false
 next_none [] h = refl

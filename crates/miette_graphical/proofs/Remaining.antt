@@ -10,7 +10,7 @@ use Rattle.miette_tree.specs.declared.tree.Report.{Report}
 use Rattle.miette_tree.specs.declared.tree.Cause as shown
 use Rattle.miette_tree.specs.declared.tree.Cause.TheVariants as seen
 use Rattle.miette_highlight.specs.rules.HighlighterCalls.{Call, Leads}
-use Rattle.miette_graphical.specs.rules.PossibleAnswers.{AreCauseAnswers, AreRelatedAnswers, AreCauses, AreRelated, IsOneCause, IsOneRelated}
+use Rattle.miette_graphical.specs.rules.PossibleAnswers.{AreCauseAnswers, AreRelatedAnswers}
 use Rattle.miette_graphical.specs.rules.Calls.{cause_calls, related_calls}
 use Rattle.miette_tree.specs.views.Handler.{AppendsOne}
 use Rattle.miette_tree.specs.rules.Chain.{texts_below}
@@ -21,6 +21,7 @@ use Rattle.miette_graphical.specs.rules.Snippets.{layout_settings}
 use Rattle.miette_graphical.specs.rules.Text.{are_last, causes_text, related_text}
 use Rattle.miette_graphical.proofs.Sizes.{cause_size, tree_size, trees_size, cause_falls}
 use Rattle.miette_graphical.proofs.Steps.{cause_step, later_cause_fails, related_step, later_related_fails}
+use Rattle.miette_graphical.specs.steps.PartTexts.{AreCauses, AreRelated, IsOneCause, IsOneRelated}
 
 -- Whatever answers there are for what remains, there are answers for all: the texts stand behind what is there, and the calls bring a highlighter from its first state over the state now. What remains reads where all reads, and is no larger.
 pub record Remains {X A : Type 0} (are : X → A → Type 0) (calls : X → A → List Call) (shows : X → A → List ℕ) (prints : X → List PrintedDiagnostic) (size : X → ℕ)

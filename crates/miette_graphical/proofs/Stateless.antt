@@ -28,13 +28,14 @@ use Rattle.miette_graphical.specs.rules.ByLine.{answers_by, causes_by, labels_by
 use Rattle.miette_graphical.specs.rules.Calls.{cause_calls, own_calls, related_calls, report_calls}
 use Rattle.miette_graphical.specs.rules.Indents.{narrow_settings}
 use Rattle.miette_graphical.specs.rules.DiagnosticText.{rows_text, title_text, under_arrow}
-use Rattle.miette_graphical.specs.rules.PrintedDiagnostics.{all_read, always_reads, diagnostics_of, printed_causes, printed_inner, printed_related, printed_sibling}
+use Rattle.miette_graphical.specs.rules.PrintedDiagnostics.{all_read, always_reads, diagnostics_of, printed_causes, printed_related}
 use Rattle.miette_graphical.specs.rules.Settings.{Settings}
 use Rattle.miette_graphical.specs.rules.Snippets.{drawn_rows, layout_settings, shown_rows}
 use Rattle.miette_graphical.specs.rules.Text.{are_last, body_over, causes_text, ends_there, inner_over, only_if, related_text, report_text}
 use Rattle.miette_graphical.proofs.DrawnRows.{groups_given, none_listed}
 use Rattle.miette_graphical.proofs.Lists.{both_read}
 use Rattle.miette_graphical.proofs.Outermost.{report_over}
+use Rattle.miette_graphical.specs.steps.PrintedParts.{printed_inner, printed_sibling}
 
 -- ---- the calls of parts
 

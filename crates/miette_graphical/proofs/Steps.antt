@@ -15,14 +15,16 @@ use Rattle.miette_tree.specs.rules.DiagnosticParts.{given_labels}
 use Rattle.miette_graphical.specs.rules.Text.{cause_texts, ends_there, are_last, body, body_over, inner_over, inner_text, causes_text, related_text, only_if}
 use Rattle.miette_tree.specs.rules.Tree.{effective}
 use Rattle.miette_snippets.specs.rules.Frames as frames
-use Rattle.miette_graphical.specs.rules.PrintedDiagnostics.{all_read, always_reads, over, diagnostics_of, printed_causes, printed_related, printed_inner, printed_sibling, printed_one, printed_root_causes}
+use Rattle.miette_graphical.specs.rules.PrintedDiagnostics.{all_read, always_reads, over, diagnostics_of, printed_causes, printed_related}
 use Rattle.miette_graphical.specs.rules.Snippets.{layout_settings}
 use Rattle.miette_graphical.proofs.DrawnRows.{unlisted_is}
 use Rattle.miette_graphical.proofs.Lists.{first_fails, later_fails}
 use Rattle.miette_graphical.proofs.Outermost.{report_over}
 use Rattle.miette_tree.specs.views.Handler.{AppendsOne}
-use Rattle.miette_graphical.specs.rules.PossibleAnswers.{IsAnswer, AreCauseAnswers, AreRelatedAnswers, IsDrawn, AreCauses, AreRelated, IsInner, IsSibling, IsOneCause, IsNested, IsOneRelated, AreRootCauses, IsBelow, IsAskedReport}
+use Rattle.miette_graphical.specs.rules.PossibleAnswers.{IsAnswer, AreCauseAnswers, AreRelatedAnswers, IsAskedReport}
 use Rattle.miette_graphical.specs.rules.Calls.{own_calls, cause_calls, related_calls}
+use Rattle.miette_graphical.specs.steps.PartTexts.{IsDrawn, AreCauses, AreRelated, IsInner, IsSibling, IsOneCause, IsNested, IsOneRelated, AreRootCauses, IsBelow}
+use Rattle.miette_graphical.specs.steps.PrintedParts.{printed_inner, printed_sibling, printed_one, printed_root_causes}
 use Rattle.miette_highlight.specs.rules.HighlighterCalls.{Call, Leads}
 
 pub not_last : {R : Type 0} (value : R → Tree) (rs : List R) → 1 ≤ length rs → false ≡ are_last (trees (map value rs))

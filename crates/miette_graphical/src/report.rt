@@ -2,13 +2,12 @@
 
 ghost use Rattle.std.specs.Prelude.{◌≡◌, IfOk, OnOk, option_map, map};
 ghost use Rattle.std.specs.Prelude.{false};
-ghost use Rattle.miette_graphical.specs.rules.PossibleAnswers.{AreCauses, AreDrawn, AreRelated, IsBelow, IsDrawn};
-ghost use Rattle.miette_graphical.specs.rules.PossibleAnswers.{IsInner};
-ghost use Rattle.miette_graphical.specs.rules.PossibleAnswers.{IsNested, IsOneCause, IsOneRelated, IsSibling};
+ghost use Rattle.miette_graphical.specs.steps.PartTexts.{AreCauses, AreDrawn, AreRelated, IsBelow, IsDrawn, IsInner};
+ghost use Rattle.miette_graphical.specs.steps.PartTexts.{IsNested, IsOneCause, IsOneRelated, IsSibling};
 ghost use Rattle.miette_tree.specs.views.Handler.{AppendsOne};
 ghost use Rattle.miette_graphical.specs.rules.PrintedDiagnostics.{all_read, always_reads, printed_causes};
-ghost use Rattle.miette_graphical.specs.rules.PrintedDiagnostics.{printed_inner};
-ghost use Rattle.miette_graphical.specs.rules.PrintedDiagnostics.{printed_one, printed_related, printed_sibling};
+ghost use Rattle.miette_graphical.specs.steps.PrintedParts.{printed_inner, printed_one, printed_sibling};
+ghost use Rattle.miette_graphical.specs.rules.PrintedDiagnostics.{printed_related};
 ghost use Rattle.miette_snippets.specs.rules.Highlighting.{AreCallsOn, leaves_plain};
 ghost use Rattle.miette_tree.specs.views.Owned.{shown_source};
 ghost use Rattle.miette_graphical.specs.rules.Snippets.{drawn_rows};

@@ -1,12 +1,14 @@
 //! The outermost report, from its header to its footer.
 
 ghost use Rattle.std.specs.Prelude.{◌≡◌, IfOk, OnOk, false};
-ghost use Rattle.miette_graphical.specs.rules.PossibleAnswers.{AreRootCauses, IsAskedReport};
+ghost use Rattle.miette_graphical.specs.rules.PossibleAnswers.{IsAskedReport};
 ghost use Rattle.miette_tree.specs.views.Handler.{AppendsOne};
-ghost use Rattle.miette_graphical.specs.rules.PrintedDiagnostics.{all_read, diagnostics_of, printed_root_causes};
+ghost use Rattle.miette_graphical.specs.rules.PrintedDiagnostics.{all_read, diagnostics_of};
 ghost use Rattle.miette_snippets.specs.rules.Highlighting.{AreCallsOn, leaves_plain};
 ghost use Rattle.miette_graphical.specs.rules.Snippets.{drawn_rows};
 ghost use Rattle.miette_graphical.specs.steps.SettingsView.{settings_of};
+ghost use Rattle.miette_graphical.specs.steps.PartTexts.{AreRootCauses};
+ghost use Rattle.miette_graphical.specs.steps.PrintedParts.{printed_root_causes};
 ghost use Rattle.miette_tree.specs.views.Report.{tree_of};
 
 use crate::diagnostic::{push_header_of, push_message_of};

@@ -12,8 +12,9 @@ use Rattle.miette_tree.specs.rules.DiagnosticParts.{given_labels, severity_text}
 use Rattle.miette_tree.specs.rules.Reads.{AlwaysReads, AllAlwaysRead}
 use Rattle.miette_tree.specs.rules.Answers.{own_fault}
 use Rattle.miette_json.specs.rules.Reads.{NameAlwaysReads, NamesAlwaysRead, AllNamesAlwaysRead}
-use Rattle.miette_json.specs.rules.JsonText.{IsJsonOf, rest_text, AppendsReport, AppendsRelated, AppendsPlaces, head_text, reasons_text, key_text}
+use Rattle.miette_json.specs.rules.JsonText.{IsJsonOf}
 use Rattle.miette_json.proofs.JsonJoined.{last_piece, report_parts}
+use Rattle.miette_json.specs.steps.JsonParts.{rest_text, AppendsReport, AppendsRelated, AppendsPlaces, head_text, reasons_text, key_text}
 
 -- Some related reports are written, and these are left: whatever answers these have, the whole has some.
 pub record RelatedSoFar (inherited : Option Source) (all left : Trees) (first : Bool) (old now : List ℕ) : Type 0 where

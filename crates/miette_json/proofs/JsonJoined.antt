@@ -7,7 +7,7 @@ use Rattle.miette_tree.specs.rules.Tree.{Tree, tree, head, source_of, cause_of, 
 use Rattle.miette_json.specs.rules.JsonReport.{NameAnswers, related_answers, maybe, strings, labels_json, file_name, report_json, reports_json}
 use Rattle.miette_tree.specs.rules.DiagnosticParts.{severity_text, given_labels}
 use Rattle.miette_tree.specs.rules.Answers.{own_fault}
-use Rattle.miette_json.specs.rules.JsonText.{key_text, maybe_text, rest_text, start_text, head_text, reasons_text, places_text}
+use Rattle.miette_json.specs.steps.JsonParts.{key_text, maybe_text, rest_text, start_text, head_text, reasons_text, places_text}
 
 -- what is left to write grows shorter
 pub step : (out new piece rest goal : List ℕ) → out ++ (piece ++ rest) ≡ goal → new ≡ out ++ piece → new ++ rest ≡ goal

@@ -7,9 +7,9 @@ ghost use Rattle.miette_tree.specs.views.Report.{tree_of};
 ghost use Rattle.miette_tree.specs.views.Owned.{shown_source};
 ghost use Rattle.miette_json.specs.rules.Json.{json_text, items_text};
 ghost use Rattle.miette_json.specs.rules.JsonReport.{strings, span_json, label_json, labels_json};
-ghost use Rattle.miette_json.specs.rules.JsonText.{key_text, maybe_text, rest_text, head_text, reasons_text};
-ghost use Rattle.miette_json.specs.rules.JsonText.{label_start, NamesFile, AppendsPlaces, AppendsReport};
-ghost use Rattle.miette_json.specs.rules.JsonText.{AppendsRelated};
+ghost use Rattle.miette_json.specs.steps.JsonParts.{key_text, maybe_text, rest_text, head_text, reasons_text};
+ghost use Rattle.miette_json.specs.steps.JsonParts.{label_start, NamesFile, AppendsPlaces, AppendsReport};
+ghost use Rattle.miette_json.specs.steps.JsonParts.{AppendsRelated};
 
 use crate::text::{push_number, push_quoted};
 use miette_protocol::protocol::{Diagnostic, LabeledSpan};

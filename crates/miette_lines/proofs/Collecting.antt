@@ -18,7 +18,7 @@ use Rattle.miette_lines.specs.rules.Around.{has_own, lines_around}
 use Rattle.miette_lines.specs.rules.Contexts.{contents, end_of_span}
 use Rattle.miette_lines.specs.views.GivenLabels.{label_at}
 use Rattle.miette_lines.specs.rules.Groups.{in_order, spans_of, joined_span, stretch, put_stretch, by_begin, stretches_from, joined_stretches, own_groups, groups_answered, groups_of, some_fails}
-use Rattle.miette_lines.specs.views.Reads.{IsRead, IsLent, AreJoined, AreGroups, AreGrouped}
+use Rattle.miette_lines.specs.views.Reads.{IsRead, IsLent, AreGroups, AreGrouped}
 use Rattle.miette_lines.proofs.Sources.{IsCut, lines}
 use Rattle.miette_lines.proofs.Numbers.{by_cases}
 use Rattle.miette_lines.proofs.Lines.{cut-le, end-in}
@@ -29,6 +29,7 @@ use Rattle.miette_lines.proofs.Gathering.{joined_accepted}
 use Rattle.miette_lines.proofs.Owning.{own_ordered, neither, none_around}
 use Rattle.miette_lines.proofs.Refusing.{read_of}
 use Rattle.miette_lines.proofs.Sorting.{put, sorted, sort_is}
+use Rattle.miette_lines.specs.steps.Reads.{AreJoined}
 
 -- ---- whether some label has its own number
 

@@ -8,8 +8,9 @@ use Rattle.miette_lines.specs.declared.grouping.Group.{Group}
 use Rattle.miette_lines.specs.declared.reading.ReadLabel.{ReadLabel}
 use Rattle.miette_lines.specs.rules.Answers.{NoneFails, next_answer, later_answers}
 use Rattle.miette_lines.specs.rules.Groups.{joined_span, joins_before, groups_from, groups_answered}
-use Rattle.miette_lines.specs.views.Reads.{IsLent, AreJoined}
+use Rattle.miette_lines.specs.views.Reads.{IsLent}
 use Rattle.miette_lines.proofs.Numbers.{by_cases}
+use Rattle.miette_lines.specs.steps.Reads.{AreJoined}
 
 -- the groups of what is left, in front of which some are done
 pub record AreGathered (context : ℕ) (source : Source) (spans rest : List Span) (done : List Group) (before : Group) : Type 0 where

@@ -17,10 +17,11 @@ use Rattle.miette_lines.specs.rules.Around.{has_own, contents_around}
 use Rattle.miette_lines.specs.rules.Contexts.{contents}
 use Rattle.miette_lines.specs.views.GivenLabels.{label_at}
 use Rattle.miette_lines.specs.rules.Groups.{refusal, AreAccepted}
-use Rattle.miette_lines.specs.views.Reads.{IsRead, AreRead, Reason, name_of}
+use Rattle.miette_lines.specs.views.Reads.{IsRead, AreRead, name_of}
 use Rattle.miette_lines.proofs.Numbers.{by_cases}
 use Rattle.miette_lines.proofs.Bodies.{accepted_is}
 use Rattle.miette_lines.proofs.Sorting.{label_got}
+use Rattle.miette_lines.specs.steps.Reads.{Reason}
 
 -- the labels of reads, and of turns
 abbrev pub read_of : List Label → ReadLabel → Label

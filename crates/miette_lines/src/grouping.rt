@@ -6,7 +6,8 @@ ghost use Rattle.std.specs.Option.{option_map};
 ghost use Rattle.miette_protocol.specs.rules.Reading.{IsAccepted};
 ghost use Rattle.miette_lines.specs.rules.Groups.{in_order, joined_span, joins_before, by_begin, joined_stretches};
 ghost use Rattle.miette_lines.specs.views.GivenLabels.{label_at};
-ghost use Rattle.miette_lines.specs.views.Reads.{IsLent, IsRead, AreJoined, AreGrouped};
+ghost use Rattle.miette_lines.specs.views.Reads.{IsLent, IsRead, AreGrouped};
+ghost use Rattle.miette_lines.specs.steps.Reads.{AreJoined};
 
 use crate::reading::{ReadLabel, some_own};
 pub use crate::spans::{end_of, join};

@@ -4,7 +4,8 @@ ghost use Rattle.std.specs.Prelude.{◌≡◌, ◌<◌, ℕ, List, map, length, 
 ghost use Rattle.std.specs.List.{All};
 ghost use Rattle.miette_lines.specs.rules.Around.{has_own};
 ghost use Rattle.miette_lines.specs.views.GivenLabels.{label_at};
-ghost use Rattle.miette_lines.specs.views.Reads.{AreRead, Reason};
+ghost use Rattle.miette_lines.specs.views.Reads.{AreRead};
+ghost use Rattle.miette_lines.specs.steps.Reads.{Reason};
 
 use crate::order::Turn;
 use miette_protocol::error::MietteError;

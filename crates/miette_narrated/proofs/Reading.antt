@@ -24,9 +24,10 @@ use Rattle.miette_lines.specs.views.Reads.{IsRead, AreRead, IsLent, AreGroups, A
 use Rattle.miette_narrated.specs.rules.Labels.{LabelRange, label_range}
 use Rattle.miette_narrated.specs.steps.Conversions.{range_of, ranges_of}
 use Rattle.miette_narrated.specs.rules.Snippets.{snippet, snippets_of}
-use Rattle.miette_narrated.specs.rules.PossibleAnswers.{AppendsSnippets, accepts}
+use Rattle.miette_narrated.specs.rules.PossibleAnswers.{accepts}
 use Rattle.miette_narrated.specs.steps.Sweeping.{BeginsFrom, AreOrdered}
 use Rattle.miette_narrated.proofs.Sweeps.{by_cases}
+use Rattle.miette_narrated.specs.steps.AppendedParts.{AppendsSnippets}
 use Rattle.std.proofs.lemmas.List.{drop_all}
 use Rattle.miette_style.specs.rules.Codes.{is_nil}
 

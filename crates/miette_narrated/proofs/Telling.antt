@@ -12,8 +12,9 @@ use Rattle.miette_narrated.specs.rules.Labels.{label_range}
 use Rattle.miette_narrated.specs.rules.Snippets.{snippets_of}
 use Rattle.miette_narrated.specs.rules.Report.{NarrationSettings, Answers, unlisted, listed, RelatedAnswers, no_more, and_more, own_answer, related_answers, first_answers, later_answers, head_rows, titled_rows, cause_rows, causes_if, advice_rows, row_if, snippet_rows, blank_before, related_report, related_reports, narration}
 use Rattle.miette_tree.specs.rules.DiagnosticParts.{given_labels}
-use Rattle.miette_narrated.specs.rules.PossibleAnswers.{holds_of, holds_of_all, always_reads, accepts, report_reads, IsAnswered, AreAnswers, AllAnswers, AppendsSnippets, AppendsReport, AppendsRelated, IsNarrated, Appends}
+use Rattle.miette_narrated.specs.rules.PossibleAnswers.{holds_of, holds_of_all, always_reads, accepts, report_reads, IsAnswered, AreAnswers, AllAnswers, IsNarrated, Appends}
 use Rattle.miette_narrated.proofs.Sweeps.{by_cases}
+use Rattle.miette_narrated.specs.steps.AppendedParts.{AppendsSnippets, AppendsReport, AppendsRelated}
 use Rattle.std.proofs.lemmas.List.{drop_all}
 
 -- ---- related reports, one after the other

@@ -6,3 +6,4 @@ pub mod Sweeping
 pub mod Ends
 pub mod Conversions
 pub mod NarrationSettings
+pub mod AppendedParts

@@ -8,7 +8,7 @@ ghost use Rattle.miette_tree.specs.views.Owned.{shown_source};
 ghost use Rattle.miette_tree.specs.rules.DiagnosticParts.{severity_title};
 ghost use Rattle.miette_narrated.specs.rules.Report.{severity_row, head_rows, titled_rows, cause_rows};
 ghost use Rattle.miette_narrated.specs.rules.Report.{causes_if, advice_rows, url_rows, blank_before};
-ghost use Rattle.miette_narrated.specs.rules.PossibleAnswers.{AppendsSnippets, AppendsReport, AppendsRelated};
+ghost use Rattle.miette_narrated.specs.steps.AppendedParts.{AppendsSnippets, AppendsReport, AppendsRelated};
 ghost use Rattle.miette_narrated.specs.rules.PossibleAnswers.{IsNarrated};
 ghost use Rattle.miette_narrated.specs.rules.PossibleAnswers.{accepts, holds_of, holds_of_all, report_accepted};
 ghost use Rattle.miette_narrated.specs.steps.NarrationSettings.{settings_of};

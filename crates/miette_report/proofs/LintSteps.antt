@@ -5,9 +5,10 @@ use Rattle.std.proofs.lemmas.List.{nil_from_length}
 use Rattle.miette_protocol.specs.views.Meaning.{Label, Meaning}
 use Rattle.miette_report.specs.views.DrawReports.{over_input}
 use Rattle.miette_report.specs.rules.Findings.{findings_of}
-use Rattle.miette_report.specs.views.LintReports.{warning, IsClean, IsShown, CallIsClean, CallLints, IsLinted, Lints, LintsText}
+use Rattle.miette_report.specs.views.LintReports.{warning, IsClean, IsShown, CallIsClean, IsLinted, Lints, LintsText}
 use Rattle.miette_report.specs.rules.Words.{brief_word, AreLintWords, IsNoLintCall, IsReadAs}
 use Rattle.miette_report.specs.declared.lint.LintWords.{LintWords}
+use Rattle.miette_report.specs.steps.LintCalls.{CallLints}
 
 -- three words, the first of which asks for rows
 pub three_words : (words : List (List ℕ)) (first name width : List ℕ) (r : Option LintWords) → words ≡ first ∷ name ∷ width ∷ [] → first ≡ codes "--brief"

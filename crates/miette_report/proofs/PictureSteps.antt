@@ -14,8 +14,9 @@ use Rattle.miette_graphical.specs.rules.Text.{report_text}
 use Rattle.miette_brief.specs.rules.PossibleAnswers as briefly
 use Rattle.miette_brief.specs.rules.Report as rows
 use Rattle.miette_report.proofs.AlwaysRead.{printed-reads}
-use Rattle.miette_report.specs.views.DrawReports.{draw_settings, drawn_tree, over_input, CallPictures, IsPicture, IsReadWhole, Pictures}
+use Rattle.miette_report.specs.views.DrawReports.{draw_settings, drawn_tree, over_input, IsPicture, Pictures}
 use Rattle.miette_report.specs.rules.Words.{AreDrawWords, IsNoDrawCall}
+use Rattle.miette_report.specs.steps.DrawCalls.{CallPictures, IsReadWhole}
 
 -- what the handler is made with
 pub plain-settings : {H : Type 0} (limit : Option ℕ) (theme : GraphicalTheme) (made : Handling H) → theme_of theme ≡ record { characters = unicode_characters; styles = no_styles }

@@ -5,11 +5,12 @@ ghost use Rattle.std.specs.Prelude.{string_bytes};
 ghost use Rattle.std.specs.Io.KnownBytes.{Appends};
 ghost use Rattle.miette.specs.Diagnostic.{meaning_of};
 ghost use Rattle.miette_report.specs.views.Device.{TakesBeginning};
-ghost use Rattle.miette_report.specs.views.DrawReports.{drawn_label, drawn_meaning, drawn_tree, CallPictures};
+ghost use Rattle.miette_report.specs.views.DrawReports.{drawn_label, drawn_meaning, drawn_tree};
 ghost use Rattle.miette_report.specs.views.DrawReports.{IsPicture};
 ghost use Rattle.miette_report.specs.views.DrawReports.{Pictures};
 ghost use Rattle.miette_report.specs.rules.Faults.{status_of};
 ghost use Rattle.miette_report.specs.rules.Words.{AreDrawWords, IsNoDrawCall};
+ghost use Rattle.miette_report.specs.steps.DrawCalls.{CallPictures};
 
 use crate::device::Device;
 use crate::fault::{Fault, Program};

@@ -6,9 +6,10 @@ ghost use Rattle.std.specs.Io.KnownBytes.{Appends};
 ghost use Rattle.miette.specs.Diagnostic.{meaning_of};
 ghost use Rattle.miette_report.specs.views.Device.{TakesBeginning};
 ghost use Rattle.miette_report.specs.views.DrawReports.{over_input};
-ghost use Rattle.miette_report.specs.views.LintReports.{count_text, warning, CallIsClean, CallLints, IsClean, IsLinted};
+ghost use Rattle.miette_report.specs.views.LintReports.{count_text, warning, CallIsClean, IsClean, IsLinted};
 ghost use Rattle.miette_report.specs.views.LintReports.{IsShown, Lints, LintsText};
 ghost use Rattle.miette_report.specs.rules.Words.{AreLintWords, IsNoLintCall, IsReadAs};
+ghost use Rattle.miette_report.specs.steps.LintCalls.{CallLints};
 
 use crate::device::Device;
 use crate::fault::{Fault, Program};

@@ -8,7 +8,8 @@ ghost use Rattle.miette_brief.specs.rules.Report.{default_settings as brief_sett
 ghost use Rattle.miette_graphical.specs.rules.Settings.{default_settings};
 ghost use Rattle.miette_graphical.specs.views.Handling.{without_highlighter};
 ghost use Rattle.miette_style.specs.rules.Themes.{characters_of, styles_of};
-ghost use Rattle.miette_report.specs.views.DrawReports.{over_input, IsPicture, IsReadWhole};
+ghost use Rattle.miette_report.specs.views.DrawReports.{over_input, IsPicture};
+ghost use Rattle.miette_report.specs.steps.DrawCalls.{IsReadWhole};
 
 use miette::diagnostic::MietteDiagnostic;
 use miette::error::RenderError;

@@ -7,12 +7,13 @@ use Rattle.miette_runs.specs.rules.Sequences.{Token, Character, Sequence, is_who
 use Rattle.miette_style.specs.rules.Escapes.{is_escape}
 use Rattle.miette_runs.specs.rules.Colours.{is_colour}
 use Rattle.miette_style.specs.rules.Escapes.{no_escape}
-use Rattle.miette_runs.specs.views.Interleaving.{tag_text, tag_token, upto, beyond, interleaving, are_whole}
+use Rattle.miette_runs.specs.views.Interleaving.{tag_text, tag_token, upto, beyond, interleaving}
 use Rattle.miette_runs.specs.declared.runs.sign.Tag.{Tag}
 use Rattle.miette_style.specs.declared.style.Style.{Style}
 use Rattle.miette_runs.proofs.Growing.{spell-characters}
 use Rattle.miette_runs.proofs.Tokens.{colour-sequence, tokens_character, tokens_sequence}
 use Rattle.miette_runs.proofs.Parameters.{start_colour}
+use Rattle.miette_runs.specs.steps.WholeTags.{are_whole}
 
 -- ---- a sequence at the front of a text is one whatever stands behind it
 

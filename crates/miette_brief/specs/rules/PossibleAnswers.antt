@@ -1,19 +1,17 @@
--- Which answers the sources of a report can have given where it was told, where nothing is refused, and what is
--- appended.
-use Rattle.std.specs.Prelude.{◌≡◌, ℕ, Bool, true, false, ◌&&◌, ◌||◌, List, ◌++◌, Option, Some, None}
+-- Which answers the sources of a report can have given where it was told, where nothing is refused, and its text.
+use Rattle.std.specs.Prelude.{◌≡◌, ℕ, Bool, true, false, ◌&&◌, ◌||◌, List, Option, Some, None}
 use Rattle.std.specs.Prelude.{⊤}
 use Rattle.std.specs.List.{list_all}
 use Rattle.miette_style.specs.rules.Codes.{is_nil}
-use Rattle.miette_protocol.specs.views.Meaning.{Label, Meaning}
+use Rattle.miette_protocol.specs.views.Meaning.{Label}
 use Rattle.miette_protocol.specs.rules.Reading.{Source, is_accepted}
 use Rattle.miette_tree.specs.rules.Tree.{Tree, tree, Cause, diagnostic, texts, Trees, no_trees, more_trees, effective}
 use Rattle.miette_tree.specs.rules.DiagnosticParts.{given_labels}
 use Rattle.miette_tree.specs.rules.Answers.{own_fault}
 use Rattle.miette_lines.specs.rules.Groups.{in_order, AreAccepted}
-use Rattle.miette_brief.specs.rules.Rows.{Place, rows_text}
 use Rattle.miette_brief.specs.rules.Report.{BriefSettings, Answers, RelatedAnswers, cause_answers}
-use Rattle.miette_brief.specs.rules.Report.{related_answers, first_answers, later_answers, cause_rows_if}
-use Rattle.miette_brief.specs.rules.Report.{own_rows, report_rows, related_rows, brief}
+use Rattle.miette_brief.specs.rules.Report.{related_answers, first_answers, later_answers}
+use Rattle.miette_brief.specs.rules.Report.{brief}
 
 -- ---- where nothing is refused
 
@@ -71,35 +69,7 @@ abbrev mutual
   AllPossible inherited more (more_trees t ts) =
       ArePossible inherited (first_answers more) t × AllPossible inherited (later_answers more) ts
 
--- ---- what is appended
-
--- new is old and then the rows of a cause where causes are told, for some answers
-pub record AppendsCauses (chain : Bool) (at : Place) (inherited : Option Source) (c : Cause) (old new : List ℕ) : Type 0
-  where
-    pub answers : Answers
-    pub possible : CausePossible inherited answers c
-    pub appended : new ≡ old ++ rows_text (cause_rows_if chain at inherited answers c)
-
--- new is old and then the rows of a diagnostic with its cause, for some answers
-pub record AppendsOwn (chain : Bool) (source : Option Source) (m : Meaning) (c : Cause) (old new : List ℕ) : Type 0
-  where
-    pub answers : Answers
-    pub accepted : HasAccepted source (in_order (given_labels m.labels))
-    pub possible : MayMeet source (own_fault answers)
-    pub causes : CausePossible source (cause_answers answers) c
-    pub appended : new ≡ old ++ rows_text (own_rows chain source answers m c)
-
--- new is old and then a report, for some answers
-pub record AppendsReport (chain : Bool) (inherited : Option Source) (t : Tree) (old new : List ℕ) : Type 0 where
-  pub answers : Answers
-  pub possible : ArePossible inherited answers t
-  pub appended : new ≡ old ++ rows_text (report_rows chain inherited answers t)
-
--- new is old and then related reports, for some answers
-pub record AppendsRelated (chain : Bool) (inherited : Option Source) (ts : Trees) (old new : List ℕ) : Type 0 where
-  pub answers : RelatedAnswers
-  pub possible : AllPossible inherited answers ts
-  pub appended : new ≡ old ++ rows_text (related_rows chain inherited answers ts)
+-- ---- the text of a report
 
 -- a brief text of a report: for answers that its sources can have given
 pub record IsBrief (s : BriefSettings) (t : Tree) (text : List ℕ) : Type 0 where

@@ -1,5 +1,5 @@
 -- The rows of a snippet from what its read lent, where nothing is known of the source beyond.
-use Rattle.std.specs.Prelude.{ℕ, ◌+◌, ◌-◌, ◌==◌, ◌≡◌, if◌then◌else◌, Bool, List, [], ◌∷◌, ◌++◌, length, map, decimal}
+use Rattle.std.specs.Prelude.{ℕ, ◌+◌, ◌-◌, ◌≡◌, Bool, List, [], ◌∷◌, ◌++◌, map}
 use Rattle.std.specs.Prelude.{slice_range, Option, false}
 use Rattle.std.specs.Option.{option_map}
 use Rattle.miette_newlines.specs.rules.Lines.{Line}
@@ -52,14 +52,6 @@ lent_snippet s spreads drawn lent place pieces =
     (gutter_columns drawn (lines_of_contents lent)) drawn lent.span.offset lent.bytes (lent.line + 1) pieces
     (lines_of_contents lent)
     ++ bottom_row s (number_width lent) ∷ []
-
--- the digits of the number of the last of so many lines, where this many stand before the first; 1 where there is none
-abbrev pub width_of_count : ℕ → ℕ → ℕ
-width_of_count before many = if many == 0 then 1 else length (decimal (before + many))
-
--- the columns of a gutter with room for so many labels
-abbrev pub gutter_of : ℕ → ℕ
-gutter_of most = if most == 0 then 0 else most + 3
 
 -- a line and a column as a place
 abbrev pub place_at : ℕ × ℕ → Place

@@ -1,15 +1,10 @@
--- What is appended for a report, and for each part of it.
-use Rattle.std.specs.Prelude.{◌≡◌, ℕ, Bool, true, false, List, [], ◌∷◌, ◌++◌, Option, Some, None, option_map, codes}
-use Rattle.miette_protocol.specs.views.Meaning.{Label, Meaning}
-use Rattle.miette_protocol.specs.rules.Reading.{Source}
-use Rattle.miette_tree.specs.rules.Tree.{Tree, Trees}
-use Rattle.miette_json.specs.rules.Json.{Json, Items, quoted_text, json_text, items_text, more_items_text}
+-- The JSON text of a report.
+use Rattle.std.specs.Prelude.{◌≡◌, ℕ, List, None}
+use Rattle.miette_tree.specs.rules.Tree.{Tree}
+use Rattle.miette_json.specs.rules.Json.{Json, json_text}
 use Rattle.miette_json.specs.rules.Denotes.{Denotes}
 use Rattle.miette_json.specs.rules.Reads.{NamesAlwaysRead}
-use Rattle.miette_json.specs.rules.JsonReport.{NameAnswers, RelatedNameAnswers, ArePossible, AllPossible, MayFail}
-use Rattle.miette_json.specs.rules.JsonReport.{IsValueOf, value_of, strings, labels_json, file_name, report_json}
-use Rattle.miette_json.specs.rules.JsonReport.{reports_json}
-use Rattle.miette_tree.specs.rules.DiagnosticParts.{severity_text}
+use Rattle.miette_json.specs.rules.JsonReport.{IsValueOf, value_of}
 
 -- the text of a report whose file names are read from sources that always read
 abbrev pub value_text : Tree → List ℕ
@@ -24,68 +19,3 @@ pub record IsJsonOf (t : Tree) (text : List ℕ) : Type 0 where
   pub spelled : text ≡ json_text value
   pub denotes : Denotes text value
   pub only : (other : Json) → Denotes text other → other ≡ value
-
--- ---- parts
-
--- new is old and then the text of a report, for some answers
-pub record AppendsReport (inherited : Option Source) (t : Tree) (old new : List ℕ) : Type 0 where
-  pub answers : NameAnswers
-  pub possible : ArePossible inherited answers t
-  pub appended : new ≡ old ++ json_text (report_json inherited answers t)
-
--- new is old and then the texts of related reports and the end of their list, for some answers
-pub record AppendsRelated (inherited : Option Source) (ts : Trees) (old new : List ℕ) : Type 0 where
-  pub answers : RelatedNameAnswers
-  pub possible : AllPossible inherited answers ts
-  pub appended : new ≡ old ++ items_text (reports_json inherited answers ts)
-
--- the file name under a source, where there is one; only a source that may fail meets a fault
-pub record NamesFile (source : Option Source) (labels : List Label) (name : Option (List ℕ)) : Type 0 where
-  pub fault : Bool
-  pub may_fail : fault ≡ true → MayFail source
-  pub is : name ≡ option_map (file_name fault labels) source
-
--- a key after a member
-abbrev pub key_text : List ℕ → List ℕ
-key_text key = 44 ∷ (quoted_text key ++ (58 ∷ 32 ∷ []))
-
--- a member after another, where there is a text
-abbrev pub maybe_text : List ℕ → Option (List ℕ) → List ℕ
-maybe_text key None = []
-maybe_text key (Some s) = key_text key ++ quoted_text s
-
--- the rest of a list and its end, from its first item on or from a later one on
-abbrev pub rest_text : Bool → Items → List ℕ
-rest_text true is = items_text is
-rest_text false is = more_items_text is
-
--- message, code and severity
-abbrev pub head_text : Meaning → List ℕ
-head_text m = 123 ∷ (quoted_text (codes "message")
-    ++ (58 ∷ 32 ∷ (quoted_text m.message ++ (maybe_text (codes "code") m.code
-    ++ (key_text (codes "severity") ++ quoted_text (severity_text m.severity))))))
-
--- causes, url and help
-abbrev pub reasons_text : List (List ℕ) → Meaning → List ℕ
-reasons_text causes m = key_text (codes "causes")
-    ++ (91 ∷ (items_text (strings causes) ++ (maybe_text (codes "url") m.url ++ maybe_text (codes "help") m.help)))
-
--- the file name and the labels
-abbrev pub places_text : Bool → Option Source → List Label → List ℕ
-places_text fault source labels = maybe_text (codes "filename") (option_map (file_name fault labels) source)
-    ++ (key_text (codes "labels") ++ (91 ∷ items_text (labels_json labels)))
-
--- new is old and then the file name and the labels, for some answer of the source
-pub record AppendsPlaces (source : Option Source) (labels : List Label) (old new : List ℕ) : Type 0 where
-  pub fault : Bool
-  pub may_fail : fault ≡ true → MayFail source
-  pub appended : new ≡ old ++ places_text fault source labels
-
--- the beginning of an object with a text, where there is one, up to the value behind the second key
-abbrev pub start_text : List ℕ → List ℕ → Option (List ℕ) → List ℕ
-start_text first second None = 123 ∷ (quoted_text second ++ (58 ∷ 32 ∷ []))
-start_text first second (Some s) = 123 ∷ (quoted_text first ++ (58 ∷ 32 ∷ (quoted_text s ++ key_text second)))
-
--- the beginning of a label, up to its span
-abbrev pub label_start : Option (List ℕ) → List ℕ
-label_start = start_text (codes "label") (codes "span")

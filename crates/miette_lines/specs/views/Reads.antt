@@ -3,8 +3,6 @@ use Rattle.std.specs.Prelude.{ℕ, ◌≡◌, ◌<◌, true, false, List, Bool, 
 use Rattle.std.specs.List.{All}
 use Rattle.miette_protocol.specs.views.Meaning.{Label}
 use Rattle.miette_protocol.specs.rules.Reading.{Span, Source, Contents, IsAccepted}
-use Rattle.miette_protocol.specs.declared.error.MietteError.{MietteError}
-use Rattle.miette_protocol.specs.declared.error.MietteError.TheVariants as errors
 use Rattle.miette_lines.specs.declared.reading.ReadLabel.{ReadLabel}
 use Rattle.miette_lines.specs.declared.reading.ReadLabels.{ReadLabels}
 use Rattle.miette_lines.specs.declared.reading.ReadLabels.TheVariants as reads
@@ -15,12 +13,7 @@ use Rattle.miette_lines.specs.rules.Answers.{NoneFails}
 use Rattle.miette_lines.specs.rules.Around.{contents_around, group_context}
 use Rattle.miette_lines.specs.rules.Contexts.{contents}
 use Rattle.miette_lines.specs.views.GivenLabels.{label_at}
-use Rattle.miette_lines.specs.rules.Groups.{refusal, groups_answered, groups_of, groups_fail}
-
--- an error's reason
-abbrev pub Reason : MietteError → Refusal → Type 0
-Reason (errors.IoError _) reason = reason ≡ reasons.IoError
-Reason errors.OutOfBounds reason = reason ≡ reasons.OutOfBounds
+use Rattle.miette_lines.specs.rules.Groups.{refusal, groups_of, groups_fail}
 
 -- the bare name of a reason
 abbrev pub name_of : Refusal → List ℕ
@@ -48,13 +41,6 @@ AreRead context source labels order (reads.Refused index reason) =
 pub record IsLent (context : ℕ) (source : Source) (span : Span) (lent : Contents) : Type 0 where
   pub accepted : IsAccepted source.bytes span
   pub is : lent ≡ contents context source span
-
--- spans joined where their lines touch, under some answers of the source
-pub record AreJoined (context : ℕ) (source : Source) (spans : List Span) (groups : List Group) : Type 0 where
-  pub fails : List Bool
-  pub always : source.always_reads ≡ true → NoneFails fails
-  pub are : map (λ group. group.span) groups ≡ groups_answered context source fails spans
-  pub lent : All (λ group. IsLent context source group.span group.contents) groups
 
 -- groups of these labels by offset, under some answers of the source, where the read of none fails
 pub record AreGroups (context : ℕ) (source : Source) (labels : List Label) (groups : List Group) : Type 0 where

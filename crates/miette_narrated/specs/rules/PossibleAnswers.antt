@@ -1,5 +1,4 @@
--- Which answers the sources of a report can have given where it was told, where nothing is refused, and what is
--- appended.
+-- Which answers the sources of a report can have given where it was told, where nothing is refused, and its text.
 use Rattle.std.specs.Prelude.{◌≡◌, ℕ, Bool, true, ◌&&◌, ◌||◌, List, ◌++◌, Option, Some, None}
 use Rattle.std.specs.List.{list_all}
 use Rattle.miette_style.specs.rules.Codes.{is_nil}
@@ -9,8 +8,8 @@ use Rattle.miette_tree.specs.rules.Tree.{Tree, tree, Trees, no_trees, more_trees
 use Rattle.miette_lines.specs.rules.Answers.{NoneFails}
 use Rattle.miette_lines.specs.rules.Groups.{in_order, AreAccepted}
 use Rattle.miette_narrated.specs.rules.Report.{NarrationSettings, Answers, RelatedAnswers, own_answer, related_answers}
-use Rattle.miette_narrated.specs.rules.Report.{first_answers, later_answers, snippet_rows, related_report}
-use Rattle.miette_narrated.specs.rules.Report.{related_reports, blank_before, narration}
+use Rattle.miette_narrated.specs.rules.Report.{first_answers, later_answers}
+use Rattle.miette_narrated.specs.rules.Report.{narration}
 use Rattle.miette_tree.specs.rules.DiagnosticParts.{given_labels}
 
 -- ---- where reads are determined, and where nothing is refused
@@ -65,26 +64,7 @@ abbrev mutual
   AllAnswers inherited more (more_trees t ts) =
       AreAnswers inherited (first_answers more) t × AllAnswers inherited (later_answers more) ts
 
--- ---- what is appended
-
--- new is old and then the snippets of these labels, for some answers
-pub record AppendsSnippets (context : ℕ) (source : Option Source) (labels : List Label) (old new : List ℕ) : Type 0
-  where
-    pub fails : List Bool
-    pub possible : IsAnswered source labels fails
-    pub appended : new ≡ old ++ snippet_rows context source fails labels
-
--- new is old and then a related report, for some answers
-pub record AppendsReport (context : ℕ) (inherited : Option Source) (t : Tree) (old new : List ℕ) : Type 0 where
-  pub answers : Answers
-  pub possible : AreAnswers inherited answers t
-  pub appended : new ≡ old ++ related_report context inherited answers t
-
--- new is old and then related reports behind a blank row, for some answers
-pub record AppendsRelated (context : ℕ) (inherited : Option Source) (ts : Trees) (old new : List ℕ) : Type 0 where
-  pub answers : RelatedAnswers
-  pub possible : AllAnswers inherited answers ts
-  pub appended : new ≡ old ++ (blank_before ts ++ related_reports context inherited answers ts)
+-- ---- the text of a report
 
 -- a narrated text of a report: for answers that its sources can have given
 pub record IsNarrated (s : NarrationSettings) (t : Tree) (text : List ℕ) : Type 0 where

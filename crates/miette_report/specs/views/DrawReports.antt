@@ -1,16 +1,14 @@
 -- What the program `draw` reports.
-use Rattle.std.specs.Prelude.{◌≡◌, ℕ, List, [], ◌∷◌, Option, Some, None, true, false, encode_utf8_all}
+use Rattle.std.specs.Prelude.{◌≡◌, ℕ, List, [], ◌∷◌, Option, Some, None, false, encode_utf8_all}
 use Rattle.miette.specs.Diagnostic.{message_alone}
 use Rattle.miette.specs.Meaning.{Label, Meaning}
 use Rattle.miette.specs.Reading.{named_source, plain_source}
 use Rattle.miette.specs.Tree.{Tree, alone, with_source}
 use Rattle.miette_style.specs.rules.Themes.{no_styles, unicode_characters}
 use Rattle.miette_graphical.specs.rules.Answers.{unlisted}
-use Rattle.miette_graphical.specs.rules.PrintedDiagnostics.{all_read, diagnostics_of}
 use Rattle.miette_graphical.specs.rules.Settings.{Settings, default_settings}
 use Rattle.miette_graphical.specs.rules.Snippets.{drawn_rows}
 use Rattle.miette_graphical.specs.rules.Text.{report_text}
-use Rattle.miette_report.specs.rules.Words.{AreDrawWords}
 
 -- a label without text where the word is empty
 abbrev pub label_text : List ℕ → Option (List ℕ)
@@ -41,10 +39,6 @@ drawn_tree name offset length label message input = over_input name (drawn_meani
 abbrev pub draw_settings : Option ℕ → Settings
 draw_settings limit = record (default_settings unicode_characters no_styles) { width = 80; line_columns = limit }
 
--- no read of its labels is refused
-abbrev pub IsReadWhole : Option ℕ → Tree → Type 0
-IsReadWhole limit t = all_read (diagnostics_of (draw_settings limit) t) ≡ true
-
 -- the text of a report that is read whole
 abbrev pub IsPicture : Option ℕ → Tree → List ℕ → Type 0
 IsPicture limit t text = text ≡ encode_utf8_all (report_text drawn_rows (draw_settings limit) t unlisted)
@@ -53,9 +47,3 @@ IsPicture limit t text = text ≡ encode_utf8_all (report_text drawn_rows (draw_
 abbrev pub Pictures : List ℕ → ℕ → ℕ → List ℕ → List ℕ → List ℕ → (List ℕ → Type 0) → Type 0
 Pictures name offset length label message input holds =
     (text : List ℕ) × IsPicture None (drawn_tree name offset length label message input) text × holds text
-
--- The same for the words as the program is called with them.
-abbrev pub CallPictures : List (List ℕ) → List ℕ → (List ℕ → Type 0) → Type 0
-CallPictures words input holds =
-    (name : List ℕ) × (offset : ℕ) × (length : ℕ) × (label : List ℕ) × (message : List ℕ)
-    × AreDrawWords words name offset length label message × Pictures name offset length label message input holds

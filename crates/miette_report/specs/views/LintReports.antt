@@ -42,11 +42,6 @@ abbrev pub LintsText : Bool → List ℕ → ℕ → List ℕ → (List ℕ → 
 LintsText brief name width input holds =
     (text : List ℕ) × IsLinted brief name width input (findings_of input width) text × holds text
 
--- A fact of the text for the words as the program is called with them, with whether nothing is found in the input.
-abbrev pub CallLints : List (List ℕ) → List ℕ → Bool → (List ℕ → Type 0) → Type 0
-CallLints words input clean holds = (brief : Bool) × (name : List ℕ) × (width : ℕ)
-    × AreLintWords words brief name width × Lints brief name width input clean holds
-
 -- By the words the program finds nothing in the input, or something.
 abbrev pub CallIsClean : List (List ℕ) → List ℕ → Bool → Type 0
 CallIsClean words input clean = (brief : Bool) × (name : List ℕ) × (width : ℕ)

@@ -1,9 +1,9 @@
 -- Runs: characters, and at their places the signs between them.
-use Rattle.std.specs.Prelude.{Bool, true, ◌&&◌, ℕ, suc, ◌≤◌, nat_le, if◌then◌else◌, List, [], ◌∷◌}
+use Rattle.std.specs.Prelude.{ℕ, suc, ◌≤◌, nat_le, if◌then◌else◌, List, [], ◌∷◌}
 use Rattle.std.specs.Prelude.{◌++◌, map}
 use Rattle.std.specs.List.{All}
 use Rattle.miette_style.specs.rules.Codes.{colour_start, colour_stop}
-use Rattle.miette_runs.specs.rules.Sequences.{Token, Character, Sequence, is_whole}
+use Rattle.miette_runs.specs.rules.Sequences.{Token, Character, Sequence}
 use Rattle.miette_runs.specs.rules.Cells.{Cell}
 use Rattle.miette_runs.specs.declared.runs.sign.Tag.{Tag}
 use Rattle.miette_runs.specs.declared.runs.sign.Sign.{Sign}
@@ -56,10 +56,3 @@ left_at at (c ∷ cs) tags = left_at (suc at) cs (beyond at tags)
 abbrev pub tags_spelled : List Tag → List ℕ
 tags_spelled [] = []
 tags_spelled (m ∷ ms) = tag_text m ++ tags_spelled ms
-
--- ---- sequences that are whole
-
--- each prints one
-abbrev pub are_whole : List Tag → Bool
-are_whole [] = true
-are_whole (m ∷ ms) = is_whole (tag_text m) && are_whole ms

@@ -3,8 +3,9 @@
 ghost use Rattle.std.specs.Prelude.{◌≡◌, IfOk, chars, encode_utf8_all, string_bytes, true};
 ghost use Rattle.miette_runs.specs.rules.Sequences.{are_settled, is_whole, spell, tokens};
 ghost use Rattle.miette_style.specs.rules.Escapes.{no_escape};
-ghost use Rattle.miette_runs.specs.views.Interleaving.{are_whole, sign_text, interleaving};
+ghost use Rattle.miette_runs.specs.views.Interleaving.{sign_text, interleaving};
 ghost use Rattle.miette_runs.specs.rules.Cells.{columns_of};
+ghost use Rattle.miette_runs.specs.steps.WholeTags.{are_whole};
 
 use crate::runs::cells::push_all;
 use crate::runs::columns::token_columns;

@@ -1,6 +1,6 @@
 use Rattle.std.proofs.Common.{subst, string_bytes, None, List, ℕ}
 use Rattle.miette_tree.specs.views.Report.{tree_of}
-use Rattle.miette_brief.specs.rules.PossibleAnswers.{AppendsReport}
+use Rattle.miette_brief.specs.steps.AppendedParts.{AppendsReport}
 use Rattle.miette_brief.proofs.Telling.{is_brief}
 use Rattle.miette_brief.proofs.report.brief_of.Goals as goal
 

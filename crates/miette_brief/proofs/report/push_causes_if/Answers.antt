@@ -3,7 +3,7 @@ use Rattle.std.specs.Option.{option_map}
 use Rattle.miette_tree.specs.rules.Tree.{cause_of}
 use Rattle.miette_tree.specs.views.Owned.{shown_source}
 use Rattle.miette_tree.specs.views.Report.{tree_of}
-use Rattle.miette_brief.specs.rules.PossibleAnswers.{AppendsCauses}
+use Rattle.miette_brief.specs.steps.AppendedParts.{AppendsCauses}
 use Rattle.miette_brief.specs.steps.Conversions.{place_of}
 use Rattle.miette_brief.proofs.Telling.{untold}
 use Rattle.miette_brief.proofs.report.push_causes_if.Goals as goal

@@ -6,9 +6,9 @@ use Rattle.miette_tree.specs.views.Report.{tree_of}
 use Rattle.miette_highlight.specs.rules.HighlighterCalls.{Call, Leads}
 use Rattle.miette_snippets.specs.rules.Highlighting.{AreCallsOn, follows, leaves_plain}
 use Rattle.miette_tree.specs.views.Owned.{shown_source}
-use Rattle.miette_graphical.specs.rules.PossibleAnswers.{IsBelow, AreCauses, AreRelated, IsInner, IsOneCause, IsOneRelated}
+use Rattle.miette_graphical.specs.steps.PartTexts.{IsBelow, AreCauses, AreRelated, IsInner, IsOneCause, IsOneRelated}
 use Rattle.miette_tree.specs.views.Handler.{AppendsOne}
-use Rattle.miette_graphical.specs.rules.PrintedDiagnostics.{all_read, printed_causes, printed_inner, printed_one, printed_related}
+use Rattle.miette_graphical.specs.rules.PrintedDiagnostics.{all_read, printed_causes, printed_related}
 use Rattle.miette_graphical.specs.rules.Snippets.{drawn_rows}
 use Rattle.miette_graphical.specs.rules.Indents.{narrow_settings}
 use Rattle.miette_graphical.specs.rules.DiagnosticText.{help_text, under_arrow}
@@ -18,6 +18,7 @@ use Rattle.miette_graphical.proofs.Remaining.{CausesRemain, RelatedRemain, all_r
 use Rattle.miette_graphical.proofs.Sizes.{tree_size, cause_size, trees_size, related_falls}
 use Rattle.miette_graphical.proofs.Steps.{cause_texts_behind, no_related_behind, below_behind, inner_whole, sibling_behind, first_and_more, one_cause_fails, inner_rows_fail, inner_related_fail, sibling_causes_fail, sibling_below_fails, one_related_fails}
 use Rattle.miette_graphical.proofs.report.+report.Goals as goal
+use Rattle.miette_graphical.specs.steps.PrintedParts.{printed_inner, printed_one}
 
 pub push_causes-loop-next-init : goal.push_causes-loop-next-init
 push_causes-loop-next-init g t c = (all_remain _ _ _ _ _ _ _ _, refl)

@@ -4,7 +4,7 @@ use Rattle.miette_snippets.specs.rules.Highlighting.{follows, leaves_plain}
 use Rattle.miette_tree.specs.views.Owned.{shown_source}
 use Rattle.miette_tree.specs.views.Report.{tree_of}
 use Rattle.miette_tree.specs.rules.Tree.{head}
-use Rattle.miette_graphical.specs.rules.PossibleAnswers.{IsDrawn}
+use Rattle.miette_graphical.specs.steps.PartTexts.{IsDrawn}
 use Rattle.miette_tree.specs.rules.DiagnosticParts.{given_labels}
 use Rattle.miette_graphical.specs.rules.Snippets.{drawn_rows}
 use Rattle.miette_graphical.specs.steps.SettingsView.{settings_of}

@@ -4,13 +4,14 @@ use Rattle.miette_tree.specs.views.Report.{tree_of}
 use Rattle.miette_highlight.specs.rules.HighlighterCalls.{Call, Leads}
 use Rattle.miette_snippets.specs.rules.Highlighting.{follows, leaves_plain}
 use Rattle.miette_tree.specs.views.Owned.{shown_source}
-use Rattle.miette_graphical.specs.rules.PossibleAnswers.{IsBelow}
+use Rattle.miette_graphical.specs.steps.PartTexts.{IsBelow}
 use Rattle.miette_tree.specs.views.Handler.{AppendsOne}
-use Rattle.miette_graphical.specs.rules.PrintedDiagnostics.{all_read, printed_inner}
+use Rattle.miette_graphical.specs.rules.PrintedDiagnostics.{all_read}
 use Rattle.miette_graphical.specs.rules.Snippets.{drawn_rows}
 use Rattle.miette_graphical.specs.steps.SettingsView.{settings_of}
 use Rattle.miette_graphical.proofs.Steps.{report_whole, root_causes_fail, root_below_fails}
 use Rattle.miette_graphical.proofs.whole.report_output.Goals as goal
+use Rattle.miette_graphical.specs.steps.PrintedParts.{printed_inner}
 
 pub returns-in_err-push_root_causes-clause-refused : goal.returns-in_err-push_root_causes-clause-refused
 returns-in_err-push_root_causes-clause-refused g c = λ h.

@@ -1,7 +1,7 @@
 use Rattle.std.proofs.Common.{subst, string_bytes, None}
 use Rattle.std.proofs.lemmas.Str.{IsUtf8-string_bytes}
 use Rattle.miette_tree.specs.views.Report.{tree_of}
-use Rattle.miette_json.specs.rules.JsonText.{AppendsReport}
+use Rattle.miette_json.specs.steps.JsonParts.{AppendsReport}
 use Rattle.miette_json.proofs.JsonAnswers.{is_json}
 use Rattle.miette_json.proofs.handler.json_of.Goals as goal
 

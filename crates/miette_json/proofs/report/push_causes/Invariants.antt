@@ -3,7 +3,7 @@ use Rattle.miette_tree.specs.rules.Tree.{cause_of, causes_of}
 use Rattle.miette_tree.specs.views.Report.{tree_of}
 use Rattle.miette_json.specs.rules.Json.{items_text}
 use Rattle.miette_json.specs.rules.JsonReport.{strings}
-use Rattle.miette_json.specs.rules.JsonText.{rest_text}
+use Rattle.miette_json.specs.steps.JsonParts.{rest_text}
 use Rattle.miette_tree.proofs.TreeSizes.{tree_size}
 use Rattle.miette_json.proofs.report.push_causes.Given as goal
 

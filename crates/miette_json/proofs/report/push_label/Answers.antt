@@ -1,7 +1,7 @@
 use Rattle.std.proofs.Common.{[], ◌∷◌, codes, ap, sym, ◌++◌, string_bytes}
 use Rattle.miette_json.specs.rules.Json.{json_text}
 use Rattle.miette_json.specs.rules.JsonReport.{span_json}
-use Rattle.miette_json.specs.rules.JsonText.{label_start}
+use Rattle.miette_json.specs.steps.JsonParts.{label_start}
 use Rattle.miette_json.proofs.JsonJoined.{step, last_step, label_parts}
 use Rattle.miette_json.proofs.report.push_label.Goals as goal
 

@@ -1,7 +1,7 @@
 use Rattle.std.proofs.Common.{codes, ap, ◌∙◌, ◌++◌, string_bytes}
 use Rattle.std.specs.Option.{option_map}
 use Rattle.miette_tree.specs.views.Owned.{shown_source}
-use Rattle.miette_json.specs.rules.JsonText.{maybe_text}
+use Rattle.miette_json.specs.steps.JsonParts.{maybe_text}
 use Rattle.miette_json.proofs.JsonJoined.{append_parts}
 use Rattle.miette_json.proofs.report.push_places.Goals as goal
 

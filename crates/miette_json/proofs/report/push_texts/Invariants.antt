@@ -1,6 +1,6 @@
 use Rattle.std.proofs.Common.{◌≡◌, ◌++◌, string_bytes, map, drop}
 use Rattle.miette_json.specs.rules.JsonReport.{strings}
-use Rattle.miette_json.specs.rules.JsonText.{rest_text}
+use Rattle.miette_json.specs.steps.JsonParts.{rest_text}
 use Rattle.miette_json.proofs.report.push_texts.Given as goal
 
 abbrev pub invariant-loop-text : goal.invariant-loop-text

@@ -1,5 +1,5 @@
 use Rattle.std.proofs.Common.{◌∙◌, ◌&&◌, ap, sym}
-use Rattle.miette_runs.specs.views.Interleaving.{are_whole}
+use Rattle.miette_runs.specs.steps.WholeTags.{are_whole}
 use Rattle.miette_runs.proofs.SettledRuns.{settled-exact, woven-settled}
 use Rattle.miette_runs.proofs.runs.reading.is_settled.Goals as goal
 

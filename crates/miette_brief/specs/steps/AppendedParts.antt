@@ -1,0 +1,40 @@
+-- What is appended for the parts of a report, under some answers.
+use Rattle.std.specs.Prelude.{◌≡◌, ℕ, Bool, List, ◌++◌, Option}
+use Rattle.miette_protocol.specs.views.Meaning.{Meaning}
+use Rattle.miette_protocol.specs.rules.Reading.{Source}
+use Rattle.miette_tree.specs.rules.Tree.{Tree, Cause, Trees}
+use Rattle.miette_tree.specs.rules.DiagnosticParts.{given_labels}
+use Rattle.miette_tree.specs.rules.Answers.{own_fault}
+use Rattle.miette_lines.specs.rules.Groups.{in_order}
+use Rattle.miette_brief.specs.rules.Rows.{Place, rows_text}
+use Rattle.miette_brief.specs.rules.Report.{Answers, RelatedAnswers, cause_answers, cause_rows_if, own_rows}
+use Rattle.miette_brief.specs.rules.Report.{report_rows, related_rows}
+use Rattle.miette_brief.specs.rules.PossibleAnswers.{MayMeet, HasAccepted, CausePossible, ArePossible, AllPossible}
+
+-- new is old and then the rows of a cause where causes are told, for some answers
+pub record AppendsCauses (chain : Bool) (at : Place) (inherited : Option Source) (c : Cause) (old new : List ℕ) : Type 0
+  where
+    pub answers : Answers
+    pub possible : CausePossible inherited answers c
+    pub appended : new ≡ old ++ rows_text (cause_rows_if chain at inherited answers c)
+
+-- new is old and then the rows of a diagnostic with its cause, for some answers
+pub record AppendsOwn (chain : Bool) (source : Option Source) (m : Meaning) (c : Cause) (old new : List ℕ) : Type 0
+  where
+    pub answers : Answers
+    pub accepted : HasAccepted source (in_order (given_labels m.labels))
+    pub possible : MayMeet source (own_fault answers)
+    pub causes : CausePossible source (cause_answers answers) c
+    pub appended : new ≡ old ++ rows_text (own_rows chain source answers m c)
+
+-- new is old and then a report, for some answers
+pub record AppendsReport (chain : Bool) (inherited : Option Source) (t : Tree) (old new : List ℕ) : Type 0 where
+  pub answers : Answers
+  pub possible : ArePossible inherited answers t
+  pub appended : new ≡ old ++ rows_text (report_rows chain inherited answers t)
+
+-- new is old and then related reports, for some answers
+pub record AppendsRelated (chain : Bool) (inherited : Option Source) (ts : Trees) (old new : List ℕ) : Type 0 where
+  pub answers : RelatedAnswers
+  pub possible : AllPossible inherited answers ts
+  pub appended : new ≡ old ++ rows_text (related_rows chain inherited answers ts)

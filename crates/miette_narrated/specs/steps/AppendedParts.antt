@@ -1,0 +1,27 @@
+-- What is appended for the parts of a report, under some answers.
+use Rattle.std.specs.Prelude.{◌≡◌, ℕ, Bool, List, ◌++◌, Option}
+use Rattle.miette_protocol.specs.views.Meaning.{Label}
+use Rattle.miette_protocol.specs.rules.Reading.{Source}
+use Rattle.miette_tree.specs.rules.Tree.{Tree, Trees}
+use Rattle.miette_narrated.specs.rules.Report.{Answers, RelatedAnswers, snippet_rows, related_report, related_reports}
+use Rattle.miette_narrated.specs.rules.Report.{blank_before}
+use Rattle.miette_narrated.specs.rules.PossibleAnswers.{IsAnswered, AreAnswers, AllAnswers}
+
+-- new is old and then the snippets of these labels, for some answers
+pub record AppendsSnippets (context : ℕ) (source : Option Source) (labels : List Label) (old new : List ℕ) : Type 0
+  where
+    pub fails : List Bool
+    pub possible : IsAnswered source labels fails
+    pub appended : new ≡ old ++ snippet_rows context source fails labels
+
+-- new is old and then a related report, for some answers
+pub record AppendsReport (context : ℕ) (inherited : Option Source) (t : Tree) (old new : List ℕ) : Type 0 where
+  pub answers : Answers
+  pub possible : AreAnswers inherited answers t
+  pub appended : new ≡ old ++ related_report context inherited answers t
+
+-- new is old and then related reports behind a blank row, for some answers
+pub record AppendsRelated (context : ℕ) (inherited : Option Source) (ts : Trees) (old new : List ℕ) : Type 0 where
+  pub answers : RelatedAnswers
+  pub possible : AllAnswers inherited answers ts
+  pub appended : new ≡ old ++ (blank_before ts ++ related_reports context inherited answers ts)
