@@ -94,7 +94,7 @@ pub fn eprint_report_with<
     ensures { exit_status result ≡ 1 }
 {
     let printed = print_to(rt, Stream::Stderr, options, report, &mut rt.faults());
-    failed(printed, rt.faults())
+    exit_code_of(printed, rt.faults())
 }
 
 /// As `print_report`, by the handler that these options choose.
@@ -107,7 +107,7 @@ pub fn print_report_with<
     ensures { exit_status result ≡ 1 }
 {
     let printed = print_to(rt, Stream::Stdout, options, report, &mut rt.output());
-    failed(printed, rt.faults())
+    exit_code_of(printed, rt.faults())
 }
 
 /// Writes a report, by the handler that the options choose for the terminal of the stream.
@@ -170,7 +170,7 @@ fn plain() -> MietteHandlerOpts<BlankHighlighter>
 }
 
 // The status of a program that printed a report, or tried to.
-fn failed<F: Write + Drop>(printed: Result<(), PrintError>, mut faults: F) -> ExitCode
+fn exit_code_of<F: Write + Drop>(printed: Result<(), PrintError>, mut faults: F) -> ExitCode
     ensures { exit_status result ≡ 1 }
 {
     if let Err(error) = printed {

@@ -5,7 +5,7 @@ pub mod error;
 pub mod laws;
 mod members;
 mod numbers;
-mod parsed;
+mod json_values;
 mod parts;
 mod reading;
 pub mod report;

@@ -6,7 +6,7 @@ ghost use Rattle.serde_json.specs.Find.{as_bool, as_str};
 ghost use Rattle.miette_description.specs.steps.ParsedValues.{value_data};
 ghost use Rattle.miette_description.specs.rules.Members.{and_then, at_key, optional_value, whole, lines_of};
 
-use crate::parsed::{member_at, text_in, truth_in, whole_in};
+use crate::json_values::{member_at, text_in, truth_in, whole_in};
 use json::Value;
 
 /// A text that may be absent; `None` where it is no text.

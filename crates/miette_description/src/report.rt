@@ -20,7 +20,7 @@ ghost use Rattle.miette_description.specs.steps.OptionalParts.{maybe_sourced, ma
 
 use crate::error::BuildError;
 use crate::numbers::{is_whole, value_has_float};
-use crate::parsed::{list_in, member_at};
+use crate::json_values::{list_in, member_at};
 use crate::parts::{diagnostic_from, push_texts, source_at, texts_at};
 use crate::reading::read_value;
 use json::{Reader, Scratch, Value};
@@ -233,7 +233,7 @@ fn report_of_parts<D: Diagnostic, S: SourceCode>(
 }
 
 /// A report in a place of its own, out of the stack.
-fn boxed<D: Diagnostic, S: SourceCode>(
+fn box_of<D: Diagnostic, S: SourceCode>(
     alloc: Global,
     report: Report<D, S>,
 ) -> Result<Box<Report<D, S>>, BuildError>
@@ -269,7 +269,7 @@ fn report_with<D: Diagnostic, S: SourceCode>(
     let contexts = texts_at(alloc, value, "contexts")?;
     let causes = Causes { one, several };
     let report = report_of_parts(alloc, diagnostic, source, causes, list, contexts)?;
-    boxed(alloc, report)
+    box_of(alloc, report)
 }
 
 /// The report of a description. What is nested in it is made first, and each report lies in a place of its own, so

@@ -28,7 +28,7 @@ use crate::plain_cut::push_plain_cut;
 use crate::sheet::{Outcome, Sheet, ShownLine};
 use crate::stretch::Cut;
 use crate::strokes::push_marks;
-use crate::tabs::{all_tabbed, push_tabbed, untabbed};
+use crate::tabs::{all_tabbed, push_tabbed, text_without_tabs};
 use crate::texts::{push_before_marks, push_texts};
 use miette_lines::cells::Walk;
 use miette_lines::plain::all_printable;
@@ -75,7 +75,7 @@ fn push_text<O: Canvas>(page: &mut Page<O>, sheet: &Sheet, shown: &ShownLine) ->
         ⊕ row_tokens (line_runs (map highlight_of shown.now.pieces.now) (shown_cells sheet.now shown.now))) }
 {
     if shown.pieces.is_empty() {
-        if let Some(text) = untabbed(shown.text) {
+        if let Some(text) = text_without_tabs(shown.text) {
             page.begin(PLAIN)?;
             page.push_str(text)?;
             return Ok(());

@@ -15,7 +15,7 @@ use std::alloc::AllocError;
 use std::str;
 
 /// These bytes as a text, where they are UTF-8 and none is a tab.
-pub(crate) fn untabbed(bytes: &[u8]) -> Option<&str>
+pub(crate) fn text_without_tabs(bytes: &[u8]) -> Option<&str>
     ensures same { IfSome result (λ text. text.now ≡ bytes.now) }
     ensures utf8 { IfSome result (λ text. IsUtf8 bytes.now) }
     ensures untabbed { IfSome result (λ text. list_all is_untabbed bytes.now ≡ true) }

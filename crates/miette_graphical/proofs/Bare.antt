@@ -10,7 +10,7 @@ use Rattle.miette_snippets.specs.rules.Frames as frames
 use Rattle.miette_style.specs.rules.Themes.{Styles}
 use Rattle.miette_graphical.specs.rules.Settings.{Settings}
 use Rattle.miette_graphical.specs.rules.Answers.{Answers, unlisted, listed, RelatedAnswers, no_more, and_more, nothing_listed, own_answer, cause_answers, related_answers, first_answers, later_answers}
-use Rattle.miette_graphical.specs.laws.Colourless.{colourless, unhighlighted_answer, unhighlighted, unhighlighted_related}
+use Rattle.miette_graphical.specs.laws.Colourless.{colourless, unhighlighted_answer, unhighlighted_answers, unhighlighted_related_answers}
 use Rattle.miette_graphical.specs.rules.Indents.{narrow_settings}
 use Rattle.miette_graphical.specs.rules.DiagnosticText.{SnippetRows, rows_text, under_arrow, title_text}
 use Rattle.miette_tree.specs.rules.DiagnosticParts.{given_labels}
@@ -24,29 +24,29 @@ use Rattle.miette_graphical.specs.steps.PrintedParts.{printed_inner, printed_sib
 
 -- ---- the parts of such answers
 
-pub own-bare : (a : Answers) → unhighlighted_answer (own_answer a) ≡ own_answer (unhighlighted a)
+pub own-bare : (a : Answers) → unhighlighted_answer (own_answer a) ≡ own_answer (unhighlighted_answers a)
 own-bare unlisted = refl
 own-bare (listed own cause related) = refl
 
-pub cause-bare : (a : Answers) → unhighlighted (cause_answers a) ≡ cause_answers (unhighlighted a)
+pub cause-bare : (a : Answers) → unhighlighted_answers (cause_answers a) ≡ cause_answers (unhighlighted_answers a)
 cause-bare unlisted = refl
 cause-bare (listed own cause related) = refl
 
-pub related-bare : (a : Answers) → unhighlighted_related (related_answers a) ≡ related_answers (unhighlighted a)
+pub related-bare : (a : Answers) → unhighlighted_related_answers (related_answers a) ≡ related_answers (unhighlighted_answers a)
 related-bare unlisted = refl
 related-bare (listed own cause related) = refl
 
-pub first-bare : (more : RelatedAnswers) → unhighlighted (first_answers more) ≡ first_answers (unhighlighted_related more)
+pub first-bare : (more : RelatedAnswers) → unhighlighted_answers (first_answers more) ≡ first_answers (unhighlighted_related_answers more)
 first-bare no_more = refl
 first-bare (and_more first more) = refl
 
-pub later-bare : (more : RelatedAnswers) → unhighlighted_related (later_answers more) ≡ later_answers (unhighlighted_related more)
+pub later-bare : (more : RelatedAnswers) → unhighlighted_related_answers (later_answers more) ≡ later_answers (unhighlighted_related_answers more)
 later-bare no_more = refl
 later-bare (and_more first more) = refl
 
 -- where every read succeeds, such an answer says nothing
 own-nothing : (l : frames.SnippetSettings) (blank : Bool) (source : Option Source) (m : Meaning) (a : Answers) → IsAnswer l blank source m (own_answer a) → always_reads source m ≡ true →
-    own_answer (unhighlighted a) ≡ nothing_listed
+    own_answer (unhighlighted_answers a) ≡ nothing_listed
 own-nothing l blank source m a h e = sym (own-bare a) ∙ ap unhighlighted_answer (h.read e)
 
 -- ---- texts
@@ -58,7 +58,7 @@ if_same false x u y v p q = q refl
 mutual
   bare-causes : (l : frames.SnippetSettings) (blank : Bool) (rows : SnippetRows) (s : Settings) (outer : Option Severity) (inherited : Option Source) (c : Cause) (a : Answers) (nested : Bool) → s.nested ≡ nested →
       AreCauseAnswers l blank inherited c a → all_read (printed_causes nested inherited c) ≡ true →
-      causes_text rows s outer inherited c (unhighlighted a) ≡ causes_text rows s outer inherited c unlisted
+      causes_text rows s outer inherited c (unhighlighted_answers a) ≡ causes_text rows s outer inherited c unlisted
   bare-causes l blank rows s outer inherited (texts ts) a nested w h e = refl
   bare-causes l blank rows s outer inherited (diagnostic (tree m own c r)) a nested w h e =
       let source = effective own inherited in
@@ -73,7 +73,7 @@ mutual
 
   bare-related : (l : frames.SnippetSettings) (blank : Bool) (rows : SnippetRows) (s : Settings) (outer : Option Severity) (inherited : Option Source) (ts : Trees) (more : RelatedAnswers) (nested : Bool) → s.nested ≡ nested →
       AreRelatedAnswers l blank inherited ts more → all_read (printed_related nested inherited ts) ≡ true →
-      related_text rows s outer inherited ts (unhighlighted_related more) ≡ related_text rows s outer inherited ts no_more
+      related_text rows s outer inherited ts (unhighlighted_related_answers more) ≡ related_text rows s outer inherited ts no_more
   bare-related l blank rows s outer inherited no_trees more nested w h e = refl
   bare-related l blank rows s outer inherited (more_trees t ts) no_more nested w h e = refl
   bare-related l blank rows s outer inherited (more_trees (tree m own c r) ts) (and_more a later) true w h e =
@@ -96,7 +96,7 @@ mutual
       ap₂ (λ x y. x ++ y)
       (if_same s.nested _ _ _ _
       (λ y. absurd (cc))
-      (λ y. ap (λ x. title_text s m ++ body rows s m source x (causes_text rows s m.severity source c (cause_answers (unhighlighted a))) (related_text rows s m.severity source r (related_answers (unhighlighted a)))) (own-nothing l blank source m a h.0 q.0)
+      (λ y. ap (λ x. title_text s m ++ body rows s m source x (causes_text rows s m.severity source c (cause_answers (unhighlighted_answers a))) (related_text rows s m.severity source r (related_answers (unhighlighted_answers a)))) (own-nothing l blank source m a h.0 q.0)
       ∙ ap₂ (λ x y. title_text s m ++ body rows s m source nothing_listed x y)
       (ap (causes_text rows s m.severity source c) (sym (cause-bare a)) ∙ bare-causes l blank rows s m.severity source c (cause_answers a) false w h.1 o.0)
       (ap (related_text rows s m.severity source r) (sym (related-bare a)) ∙ bare-related l blank rows s m.severity source r (related_answers a) false w h.2 o.1)))
@@ -104,19 +104,19 @@ mutual
 
 bare-root : (l : frames.SnippetSettings) (blank : Bool) (rows : SnippetRows) (s : Settings) (m : Meaning) (own : Option Source) (c : Cause) (a : Answers) (chain nested : Bool) → s.nested ≡ nested →
     (chain ≡ true → AreCauseAnswers l blank own c a) → all_read (if chain then printed_causes nested own c else []) ≡ true →
-    only_if chain (causes_text rows s m.severity own c (unhighlighted a)) ≡ only_if chain (causes_text rows s m.severity own c unlisted)
+    only_if chain (causes_text rows s m.severity own c (unhighlighted_answers a)) ≡ only_if chain (causes_text rows s m.severity own c unlisted)
 bare-root l blank rows s m own c a true nested w h e = bare-causes l blank rows s m.severity own c a nested w (h refl) e
 bare-root l blank rows s m own c a false nested w h e = refl
 
 pub bare-report : (rows : SnippetRows) (s : Settings) (blank : Bool) (t : Tree) (a : Answers) → AreAnswers s blank t a → all_read (diagnostics_of s t) ≡ true →
-    report_text rows (colourless s) t (unhighlighted a) ≡ report_text rows (colourless s) t unlisted
+    report_text rows (colourless s) t (unhighlighted_answers a) ≡ report_text rows (colourless s) t unlisted
 bare-report rows s blank (tree m own c r) a h e =
     let l = layout_settings s in
     let u = colourless s in
     let causes = if s.chain then printed_causes s.nested own c else [] in
     let p = and_parts (always_reads own m) (all_read (causes ++ printed_related s.nested own r)) e in
     let q = both_read causes (printed_related s.nested own r) p.1 in
-    ap (λ o. report_over u m (rows_text (rows u own (given_labels m.labels) o)) (only_if s.chain (causes_text rows u m.severity own c (cause_answers (unhighlighted a)))) (related_text rows u m.severity own r (related_answers (unhighlighted a)))) (own-nothing l blank own m a h.0 p.0)
+    ap (λ o. report_over u m (rows_text (rows u own (given_labels m.labels) o)) (only_if s.chain (causes_text rows u m.severity own c (cause_answers (unhighlighted_answers a)))) (related_text rows u m.severity own r (related_answers (unhighlighted_answers a)))) (own-nothing l blank own m a h.0 p.0)
     ∙ ap₂ (report_over u m (rows_text (rows u own (given_labels m.labels) nothing_listed)))
     (ap (λ b. only_if s.chain (causes_text rows u m.severity own c b)) (sym (cause-bare a)) ∙ bare-root l blank rows u m own c (cause_answers a) s.chain s.nested refl h.1 q.0)
     (ap (related_text rows u m.severity own r) (sym (related-bare a)) ∙ bare-related l blank rows u m.severity own r (related_answers a) s.nested refl h.2 q.1)

@@ -16,7 +16,7 @@ use Rattle.miette_graphical.specs.rules.Snippets.{layout_settings}
 use Rattle.miette_graphical.specs.rules.Answers.{Answer, Answers, unlisted, RelatedAnswers, no_more, and_more, own_answer, cause_answers, related_answers}
 use Rattle.miette_graphical.specs.rules.PossibleAnswers.{AreAnswers, AreCauseAnswers, AreRelatedAnswers, HasPieces, HasRows, IsAnswer, IsAnswerOf}
 use Rattle.miette_graphical.specs.rules.PrintedDiagnostics.{always_reads}
-use Rattle.miette_graphical.specs.laws.Colourless.{colourless, unhighlighted, unhighlighted_answer, unhighlighted_related}
+use Rattle.miette_graphical.specs.laws.Colourless.{colourless, unhighlighted_answers, unhighlighted_answer, unhighlighted_related_answers}
 use Rattle.miette_graphical.proofs.Bare.{own-bare, cause-bare, related-bare}
 use Rattle.miette_graphical.proofs.DrawnRows.{none_have}
 
@@ -49,13 +49,13 @@ module _ (kept : AreRowsKept) where
   }
 
   own_possible : (l : frames.SnippetSettings) (blank : Bool) (source : Option Source) (m : Meaning) (a : Answers) → IsAnswer l blank source m (own_answer a) →
-      IsAnswer (fading.colourless l) true source m (own_answer (unhighlighted a))
+      IsAnswer (fading.colourless l) true source m (own_answer (unhighlighted_answers a))
   own_possible l blank source m a h =
       subst (IsAnswer (fading.colourless l) true source m) (own-bare a) (answer_possible l blank source (given_labels m.labels) (always_reads source m) (own_answer a) h)
 
   mutual
     causes_possible : (l : frames.SnippetSettings) (blank : Bool) (inherited : Option Source) (c : Cause) (a : Answers) → AreCauseAnswers l blank inherited c a →
-        AreCauseAnswers (fading.colourless l) true inherited c (unhighlighted a)
+        AreCauseAnswers (fading.colourless l) true inherited c (unhighlighted_answers a)
     causes_possible l blank inherited (texts ts) a h = tt
     causes_possible l blank inherited (diagnostic (tree m own c r)) a h =
         let source = effective own inherited in (
@@ -65,7 +65,7 @@ module _ (kept : AreRowsKept) where
         )
 
     related_possible : (l : frames.SnippetSettings) (blank : Bool) (inherited : Option Source) (ts : Trees) (more : RelatedAnswers) → AreRelatedAnswers l blank inherited ts more →
-        AreRelatedAnswers (fading.colourless l) true inherited ts (unhighlighted_related more)
+        AreRelatedAnswers (fading.colourless l) true inherited ts (unhighlighted_related_answers more)
     related_possible l blank inherited no_trees more h = tt
     related_possible l blank inherited (more_trees (tree m own c r) ts) no_more h =
         let source = effective own inherited in (
@@ -82,7 +82,7 @@ module _ (kept : AreRowsKept) where
           related_possible l blank inherited ts later h.3,
         )
 
-  pub answers_possible : (s : Settings) (blank : Bool) (t : Tree) (a : Answers) → AreAnswers s blank t a → AreAnswers (colourless s) true t (unhighlighted a)
+  pub answers_possible : (s : Settings) (blank : Bool) (t : Tree) (a : Answers) → AreAnswers s blank t a → AreAnswers (colourless s) true t (unhighlighted_answers a)
   answers_possible s blank (tree m own c r) a h =
       let l = layout_settings s in (
         own_possible l blank own m a h.0,

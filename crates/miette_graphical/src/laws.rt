@@ -7,7 +7,7 @@ ghost use Rattle.miette_graphical.specs.rules.Answers.{Answers, unlisted};
 ghost use Rattle.miette_graphical.specs.laws.Clean.{AreCleanCharacters, AreCleanSettings, IsCleanTree};
 ghost use Rattle.miette_graphical.specs.laws.Alike.{AreAnsweredAlike, AreDrawnAlike};
 ghost use Rattle.miette_graphical.specs.laws.Colourless.{AreSnippets, IsColouredText, IsRestyledText};
-ghost use Rattle.miette_graphical.specs.laws.Colourless.{colourless, unhighlighted};
+ghost use Rattle.miette_graphical.specs.laws.Colourless.{colourless, unhighlighted_answers};
 ghost use Rattle.std.specs.List.{AllByRecursion, Contains};
 ghost use Rattle.miette_graphical.specs.laws.Headline.{EndsAreDrawn, LabelsAreFolded, LinesAreShown, MarksAreApart};
 ghost use Rattle.miette_graphical.specs.laws.Headline.{TextsHang, CutsAreExact, LinesThatFitStay};
@@ -40,14 +40,14 @@ use miette_text::wrap::laws::{
 pub fn colours_law()
     ensures erase { (rows : SnippetRows) (s : Settings) (t : Tree) (a : Answers) → AreSnippets rows →
         AreCleanSettings s → IsCleanTree t →
-        erase (report_text rows s t a) ≡ report_text rows (colourless s) t (unhighlighted a) }
+        erase (report_text rows s t a) ≡ report_text rows (colourless s) t (unhighlighted_answers a) }
     ensures tame { (rows : SnippetRows) (s : Settings) (t : Tree) (a : Answers) → AreSnippets rows →
         AreCleanSettings s → IsCleanTree t →
         IsTame (report_text rows s t a) }
     // Settings that differ in styles alone give the same text but for colours.
     ensures alike { (rows : SnippetRows) (s u : Settings) (t : Tree) (a b : Answers) → AreSnippets rows →
         AreCleanSettings s → AreCleanSettings u → IsCleanTree t →
-        colourless s ≡ colourless u → unhighlighted a ≡ unhighlighted b →
+        colourless s ≡ colourless u → unhighlighted_answers a ≡ unhighlighted_answers b →
         erase (report_text rows s t a) ≡ erase (report_text rows u t b) }
 {
     wrapping_law();

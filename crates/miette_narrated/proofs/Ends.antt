@@ -9,7 +9,7 @@ use Rattle.std.proofs.lemmas.List.Elements.{filter_agree}
 use Rattle.miette_newlines.specs.rules.Lines.{Line}
 use Rattle.miette_lines.specs.declared.sweep.Placed.{Placed}
 use Rattle.miette_lines.proofs.Sorting.{put, sorted, Rises, at_key, same_list, sorted_rises, sorted_at, rises_from, sort_is}
-use Rattle.miette_narrated.specs.declared.label_order.Ranked.{Ranked}
+use Rattle.miette_narrated.specs.declared.label_order.RankedLabel.{RankedLabel}
 use Rattle.miette_narrated.specs.steps.Ends.{ends_within, is_ended, ranked_labels, AreEnds}
 use Rattle.miette_narrated.specs.steps.Sweeping.{BeginsFrom, AreOrdered}
 use Rattle.miette_narrated.proofs.Sweeps.{by_cases}
@@ -88,62 +88,62 @@ sorted_kept n q (x ∷ xs) =
 
 -- ---- ranks
 
-abbrev rank_of : Ranked → ℕ
+abbrev rank_of : RankedLabel → ℕ
 rank_of end = end.rank
 
 rank_below : (v m : ℕ) (ps : List Placed) → v < m → at_key rank_of v (ranked_labels m ps) ≡ []
 rank_below v m [] lt = refl
 rank_below v m (p ∷ ps) lt = rw (ne_eqb m v (λ e. omega (arith, e))) (rank_below v (m + 1) ps (omega arith))
 
-one_rank : (n : Ranked → ℕ) (v m : ℕ) (ps : List Placed) → sorted n (at_key rank_of v (ranked_labels m ps)) ≡ at_key rank_of v (ranked_labels m ps)
+one_rank : (n : RankedLabel → ℕ) (v m : ℕ) (ps : List Placed) → sorted n (at_key rank_of v (ranked_labels m ps)) ≡ at_key rank_of v (ranked_labels m ps)
 one_rank n v m [] = refl
 one_rank n v m (p ∷ ps) =
     by_cases {C = sorted n (at_key rank_of v (ranked_labels m (p ∷ ps))) ≡ at_key rank_of v (ranked_labels m (p ∷ ps))} (eqb m v)
     (λ t. let none = rank_below v (m + 1) ps (omega (arith, eqb-true m v t)) in rw t (ap (λ r. put n (record { rank = m; label = p }) (sorted n r)) none ∙ sym (ap (λ r. record { rank = m; label = p } ∷ r) none)))
     (λ f. rw f (one_rank n v (m + 1) ps))
 
-pub are_ends : (ps : List Placed) (made ends : List Ranked) → made ≡ ranked_labels 0 ps → IsNonDecreasingBy (λ (end : Ranked). end.label.after) ends → IsStableByKey (λ (end : Ranked). end.label.after) nat_cmp made ends → AreEnds ps ends
+pub are_ends : (ps : List Placed) (made ends : List RankedLabel) → made ≡ ranked_labels 0 ps → IsNonDecreasingBy (λ (end : RankedLabel). end.label.after) ends → IsStableByKey (λ (end : RankedLabel). end.label.after) nat_cmp made ends → AreEnds ps ends
 are_ends ps made ends e up stable =
-    let n : Ranked → ℕ = λ end. end.label.after in
+    let n : RankedLabel → ℕ = λ end. end.label.after in
     let is : ends ≡ sorted n (ranked_labels 0 ps) = sort_is n made ends up stable ∙ ap (sorted n) e in
     record {
       rising = up;
       same = λ v. ap (at_key rank_of v) is ∙ sorted_kept n (λ end. eqb end.rank v) (ranked_labels 0 ps) ∙ one_rank n v 0 ps;
     }
 
-ranks_rise : (q : Ranked → Bool) (m : ℕ) (ps : List Placed) → Rises rank_of m (filter q (ranked_labels m ps))
+ranks_rise : (q : RankedLabel → Bool) (m : ℕ) (ps : List Placed) → Rises rank_of m (filter q (ranked_labels m ps))
 ranks_rise q m [] = tt
 ranks_rise q m (p ∷ ps) =
-    let end : Ranked = record { rank = m; label = p } in
+    let end : RankedLabel = record { rank = m; label = p } in
     let later = ranks_rise q (m + 1) ps in
     by_cases {C = Rises rank_of m (filter q (ranked_labels m (p ∷ ps)))} (q end)
     (λ t. rw t (omega arith, rises_lower rank_of m (m + 1) (filter q (ranked_labels (m + 1) ps)) (omega arith) later))
     (λ f. rw f (rises_lower rank_of m (m + 1) (filter q (ranked_labels (m + 1) ps)) (omega arith) later))
 
-kept_labels : (q : Placed → Bool) (m : ℕ) (ps : List Placed) → map (λ (end : Ranked). end.label) (filter (λ (end : Ranked). q end.label) (ranked_labels m ps)) ≡ filter q ps
+kept_labels : (q : Placed → Bool) (m : ℕ) (ps : List Placed) → map (λ (end : RankedLabel). end.label) (filter (λ (end : RankedLabel). q end.label) (ranked_labels m ps)) ≡ filter q ps
 kept_labels q m [] = refl
 kept_labels q m (p ∷ ps) =
-    by_cases {C = map (λ (end : Ranked). end.label) (filter (λ (end : Ranked). q end.label) (ranked_labels m (p ∷ ps))) ≡ filter q (p ∷ ps)} (q p)
+    by_cases {C = map (λ (end : RankedLabel). end.label) (filter (λ (end : RankedLabel). q end.label) (ranked_labels m (p ∷ ps))) ≡ filter q (p ∷ ps)} (q p)
     (λ t. rw t (ap (λ r. p ∷ r) (kept_labels q (m + 1) ps))) (λ f. rw f (kept_labels q (m + 1) ps))
 
 -- labels that pass, by rank, are those that pass by offset
-ranks_again : (q : Placed → Bool) (ps : List Placed) (ends kept ended : List Ranked) → AreEnds ps ends → kept ≡ filter (λ (end : Ranked). q end.label) ends →
-    IsNonDecreasingBy rank_of ended → IsStableByKey rank_of nat_cmp kept ended → map (λ (end : Ranked). end.label) ended ≡ filter q ps
+ranks_again : (q : Placed → Bool) (ps : List Placed) (ends kept ended : List RankedLabel) → AreEnds ps ends → kept ≡ filter (λ (end : RankedLabel). q end.label) ends →
+    IsNonDecreasingBy rank_of ended → IsStableByKey rank_of nat_cmp kept ended → map (λ (end : RankedLabel). end.label) ended ≡ filter q ps
 ranks_again q ps ends kept ended are e up stable =
-    let p : Ranked → Bool = λ end. q end.label in
+    let p : RankedLabel → Bool = λ end. q end.label in
     let is : ended ≡ sorted rank_of kept = sort_is rank_of kept ended up stable in
-    let at : (z : Ranked) → at_key rank_of z.rank ended ≡ at_key rank_of z.rank (filter p (ranked_labels 0 ps)) = λ z.
+    let at : (z : RankedLabel) → at_key rank_of z.rank ended ≡ at_key rank_of z.rank (filter p (ranked_labels 0 ps)) = λ z.
     ap (at_key rank_of z.rank) is ∙ sorted_at rank_of z.rank kept ∙ ap (at_key rank_of z.rank) e
-    ∙ filter_turn (λ (x : Ranked). eqb x.rank z.rank) p ends ∙ ap (filter p) (are.same z.rank) ∙ filter_turn p (λ (x : Ranked). eqb x.rank z.rank) (ranked_labels 0 ps) in
-    ap (map (λ (end : Ranked). end.label)) (same_list rank_of 0 0 ended (filter p (ranked_labels 0 ps)) (rises_from rank_of 0 ended up (λ d lt. omega arith)) (ranks_rise p 0 ps) at)
+    ∙ filter_turn (λ (x : RankedLabel). eqb x.rank z.rank) p ends ∙ ap (filter p) (are.same z.rank) ∙ filter_turn p (λ (x : RankedLabel). eqb x.rank z.rank) (ranked_labels 0 ps) in
+    ap (map (λ (end : RankedLabel). end.label)) (same_list rank_of 0 0 ended (filter p (ranked_labels 0 ps)) (rises_from rank_of 0 ended up (λ d lt. omega arith)) (ranks_rise p 0 ps) at)
     ∙ kept_labels q 0 ps
 
-pub ended_again : (line : Line) (ps : List Placed) (ends near kept ended : List Ranked) → AreEnds ps ends → near ≡ filter (λ (end : Ranked). ends_within line end.label) ends →
-    kept ≡ filter (λ (end : Ranked). ltb end.label.start line.start) near → IsNonDecreasingBy rank_of ended → IsStableByKey rank_of nat_cmp kept ended →
-    map (λ (end : Ranked). end.label) ended ≡ filter (is_ended line) ps
+pub ended_again : (line : Line) (ps : List Placed) (ends near kept ended : List RankedLabel) → AreEnds ps ends → near ≡ filter (λ (end : RankedLabel). ends_within line end.label) ends →
+    kept ≡ filter (λ (end : RankedLabel). ltb end.label.start line.start) near → IsNonDecreasingBy rank_of ended → IsStableByKey rank_of nat_cmp kept ended →
+    map (λ (end : RankedLabel). end.label) ended ≡ filter (is_ended line) ps
 ended_again line ps ends near kept ended are e k up stable =
     ranks_again (is_ended line) ps ends kept ended are
-    (k ∙ ap (filter (λ (end : Ranked). ltb end.label.start line.start)) e ∙ filter_both (λ (end : Ranked). ltb end.label.start line.start) (λ (end : Ranked). ends_within line end.label) ends) up stable
+    (k ∙ ap (filter (λ (end : RankedLabel). ltb end.label.start line.start)) e ∙ filter_both (λ (end : RankedLabel). ltb end.label.start line.start) (λ (end : RankedLabel). ends_within line end.label) ends) up stable
 
 -- ---- labels by offset rise
 

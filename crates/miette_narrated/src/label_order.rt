@@ -15,7 +15,7 @@ use std::alloc::{AllocError, Global};
 
 /// A label, and how many come before it by offset.
 #[derive(Clone, Copy, Drop)]
-pub(crate) struct Ranked {
+pub(crate) struct RankedLabel {
     pub(crate) rank: usize,
     pub(crate) label: Placed,
 }
@@ -25,16 +25,16 @@ pub(crate) struct Ranked {
 pub(crate) struct LabelOrder<'a> {
     pub(crate) labels: &'a [LabeledSpan],
     pub(crate) placed: &'a [Placed],
-    pub(crate) ends: &'a [Ranked],
+    pub(crate) ends: &'a [RankedLabel],
 }
 
 // Each label with its rank.
-fn with_ranks(alloc: Global, placed: &[Placed]) -> Result<Vec<Ranked>, AllocError>
+fn with_ranks(alloc: Global, placed: &[Placed]) -> Result<Vec<RankedLabel>, AllocError>
     ensures { IfOk result (λ v. v.items ≡ ranked_labels 0 placed.now) }
 {
     let mut made = Vec::new(alloc);
     for (rank, label) in placed.iter().enumerate() {
-        made.push(Ranked {
+        made.push(RankedLabel {
             rank,
             label: *label,
         })?;
@@ -43,7 +43,7 @@ fn with_ranks(alloc: Global, placed: &[Placed]) -> Result<Vec<Ranked>, AllocErro
 }
 
 /// Labels that come by offset, by where they end.
-pub(crate) fn by_end(alloc: Global, placed: &[Placed]) -> Result<Vec<Ranked>, AllocError>
+pub(crate) fn by_end(alloc: Global, placed: &[Placed]) -> Result<Vec<RankedLabel>, AllocError>
     ensures { IfOk result (λ v. AreEnds placed.now v.items) }
 {
     let mut ends = with_ranks(alloc, placed)?;
@@ -52,7 +52,7 @@ pub(crate) fn by_end(alloc: Global, placed: &[Placed]) -> Result<Vec<Ranked>, Al
 }
 
 // Of labels by where they end those that end within a line's text, found by halving.
-fn ending<'a>(ends: &'a [Ranked], line: &LineOfText) -> &'a [Ranked]
+fn ending<'a>(ends: &'a [RankedLabel], line: &LineOfText) -> &'a [RankedLabel]
     requires { IsNonDecreasingBy (λ end. end.label.after) ends.now }
     ensures { result.now ≡ filter (λ end. ends_within (line_of_text line.now) end.label) ends.now }
 {
@@ -62,7 +62,7 @@ fn ending<'a>(ends: &'a [Ranked], line: &LineOfText) -> &'a [Ranked]
 }
 
 // Those that begin before a place.
-fn begun_before(alloc: Global, ends: &[Ranked], place: usize) -> Result<Vec<Ranked>, AllocError>
+fn begun_before(alloc: Global, ends: &[RankedLabel], place: usize) -> Result<Vec<RankedLabel>, AllocError>
     ensures { IfOk result (λ v. v.items ≡ filter (λ end. nat_lt end.label.start place) ends.now) }
 {
     let mut kept = Vec::new(alloc);
@@ -79,7 +79,7 @@ pub(crate) fn ended_on(
     alloc: Global,
     order: &LabelOrder<'_>,
     line: &LineOfText,
-) -> Result<Vec<Ranked>, AllocError>
+) -> Result<Vec<RankedLabel>, AllocError>
     requires { IsOrder order.now }
     ensures { IfOk result (λ v. labels_of v.items ≡ filter (is_ended (line_of_text line.now)) order.now.placed.now) }
 {

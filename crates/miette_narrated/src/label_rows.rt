@@ -12,10 +12,10 @@ ghost use Rattle.miette_narrated.specs.steps.Places.{IsPlace};
 ghost use Rattle.miette_narrated.specs.steps.Trails.{IsTrail};
 
 use crate::columns::column;
-use crate::label_order::Ranked;
+use crate::label_order::RankedLabel;
 use crate::line_text::LineText;
 use crate::places::{Place, places};
-use crate::shown::ShownLine;
+use crate::snippet_line::ShownLine;
 use crate::trails::{Trail, trails};
 use crate::words::push_number;
 use miette_lines::drawn_labels::text_of;
@@ -222,7 +222,7 @@ impl LabelledLine<'_, '_, '_> {
         &self,
         alloc: Global,
         out: &mut String,
-        ended: &[Ranked],
+        ended: &[RankedLabel],
     ) -> Result<(), AllocError>
         ensures { OnOk result (string_bytes out.new ≡ string_bytes out.old
             ++ label_rows (shown_line self.now.line.now) (ranges_of self.now.labels.now (labels_of ended.now))) }
@@ -258,7 +258,7 @@ impl LabelledLine<'_, '_, '_> {
         &self,
         alloc: Global,
         out: &mut String,
-        ended: &[Ranked],
+        ended: &[RankedLabel],
         begun: &[Placed],
     ) -> Result<(), AllocError>
         ensures { OnOk result (string_bytes out.new ≡ (string_bytes out.old

@@ -13,7 +13,7 @@ mod parting;
 mod places;
 mod report;
 mod settings;
-mod shown;
+mod snippet_line;
 mod snippets;
 mod sweeping;
 mod trails;

@@ -13,7 +13,7 @@ use crate::columns::push_decoded;
 use crate::label_order::{LabelOrder, begun_on, ended_on};
 use crate::label_rows::LabelledLine;
 use crate::line_text::LineText;
-use crate::shown::ShownLine;
+use crate::snippet_line::ShownLine;
 use crate::sweeping::{Sweep, come_to};
 use crate::words::push_number;
 use miette_newlines::lines::{LineOfText, Lines};

@@ -12,7 +12,7 @@ ghost use Rattle.miette_report.specs.steps.AskView.{ask_of, option_ask, terminal
 use crate::fault::Fault;
 use crate::language::LanguageHighlighter;
 use crate::option_words::{
-    Asked, BuildAsked, Choice, OptionAsked, TerminalAsked, ThemeAsked, first_asked,
+    WordMeaning, BuildAsked, Choice, OptionAsked, TerminalAsked, ThemeAsked, first_asked,
 };
 use miette::options::MietteHandlerOpts;
 use miette::theme::{GraphicalTheme, Terminal};
@@ -79,7 +79,7 @@ impl Arguments {
     }
 
     /// The settings with what one word asks for.
-    fn with(self, alloc: Global, asked: Asked<'_>) -> Result<Arguments, AllocError>
+    fn with(self, alloc: Global, asked: WordMeaning<'_>) -> Result<Arguments, AllocError>
         ensures table { IfOk result (λ it. request_of it.choice it.options it.terminal
             ≡ with_ask (ask_of asked.entry) (request_of self.choice self.options self.terminal)) }
         ensures choice { IfOk result (λ it. it.choice ≡ chosen_by asked.entry self.choice) }
@@ -90,17 +90,17 @@ impl Arguments {
             terminal,
         } = self;
         match asked {
-            Asked::Choice(choice) => Ok(Arguments {
+            WordMeaning::Choice(choice) => Ok(Arguments {
                 choice,
                 options,
                 terminal,
             }),
-            Asked::Build(BuildAsked::Option(asked)) => Ok(Arguments {
+            WordMeaning::Build(BuildAsked::Option(asked)) => Ok(Arguments {
                 choice,
                 options: options_with(alloc, options, asked)?,
                 terminal,
             }),
-            Asked::Build(BuildAsked::Terminal(asked)) => Ok(Arguments {
+            WordMeaning::Build(BuildAsked::Terminal(asked)) => Ok(Arguments {
                 choice,
                 options,
                 terminal: terminal_with(alloc, terminal, asked)?,

@@ -44,16 +44,16 @@ impl<'a> LintWords<'a> {
         ensures none { IsNone result → IsNoLintCall (map string_bytes words.now) }
     {
         match words {
-            [name, width] => LintWords::named(false, name.as_str(), width.as_str()),
+            [name, width] => LintWords::with_name(false, name.as_str(), width.as_str()),
             [word, name, width] if word.as_str() == "--brief" => {
-                LintWords::named(true, name.as_str(), width.as_str())
+                LintWords::with_name(true, name.as_str(), width.as_str())
             }
             _ => None,
         }
     }
 
     // With this name and the width that this word writes. Nothing, where it is no number.
-    fn named(brief: bool, name: &'a str, width: &str) -> Option<Self>
+    fn with_name(brief: bool, name: &'a str, width: &str) -> Option<Self>
         ensures some { IfSome result (λ it. (it.brief ≡ brief) × (it.name.now ≡ name.now)
             × IsReadAs width.now (Some it.width)) }
         ensures none { IsNone result → IsReadAs width.now None }
@@ -96,7 +96,7 @@ fn diagnostic(alloc: Global, found: Vec<LabeledSpan>) -> Result<MietteDiagnostic
 }
 
 // The text of a diagnostic over the input: brief rows, or a picture whose lines are cut at the width.
-fn shown(
+fn diagnostic_text(
     alloc: Global,
     words: &LintWords<'_>,
     diagnostic: MietteDiagnostic,
@@ -126,7 +126,7 @@ fn text_of(
         return Ok(String::new(alloc));
     }
     let diagnostic = diagnostic(alloc, found)?;
-    match shown(alloc, words, diagnostic, input) {
+    match diagnostic_text(alloc, words, diagnostic, input) {
         Ok(text) => Ok(text),
         Err(_) => Err(AllocError),
     }

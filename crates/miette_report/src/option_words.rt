@@ -24,7 +24,7 @@ pub enum Choice {
 
 /// What one word asks for, with its value.
 #[derive(Clone, Copy)]
-pub(crate) enum Asked<'a> {
+pub(crate) enum WordMeaning<'a> {
     /// A handler.
     Choice(Choice),
     /// Something of the handler that is built.
@@ -87,7 +87,7 @@ pub(crate) enum ThemeAsked {
 }
 
 /// What the first of the words ask for, and the words behind them. Nothing, where they ask for nothing that there is.
-pub(crate) fn first_asked<'a>(words: &'a [String]) -> Option<(Asked<'a>, &'a [String])>
+pub(crate) fn first_asked<'a>(words: &'a [String]) -> Option<(WordMeaning<'a>, &'a [String])>
     ensures fewer { IfSome result (λ first. length first.1.now < length words.now) }
     ensures choice { IfSome result (λ first. (choice : Choice) →
         choice_in choice (map string_bytes words.now)
@@ -105,22 +105,22 @@ pub(crate) fn first_asked<'a>(words: &'a [String]) -> Option<(Asked<'a>, &'a [St
         return None;
     };
     let asked = with_value(word.as_str(), value.as_str())?;
-    Some((Asked::Build(asked), rest))
+    Some((WordMeaning::Build(asked), rest))
 }
 
 /// What a word without a value asks for.
-fn alone<'a>(word: &str) -> Option<Asked<'a>>
+fn alone<'a>(word: &str) -> Option<WordMeaning<'a>>
     ensures some { IfSome result (λ asked. (is_alone word.now ≡ true)
         × ((choice : Choice) → chosen_by asked choice ≡ named_choice choice word.now)) }
     ensures none { IsNone result → is_alone word.now ≡ false }
     ensures table { option_map ask_of result ≡ word_ask word.now }
 {
     match word {
-        "--json" => Some(Asked::Choice(Choice::Json)),
-        "--debug" => Some(Asked::Choice(Choice::Debug)),
-        "--brief" => Some(Asked::Build(BuildAsked::Option(OptionAsked::Brief))),
-        "--narrated" => Some(Asked::Build(BuildAsked::Option(OptionAsked::Narrated))),
-        "--graphical" => Some(Asked::Build(BuildAsked::Option(OptionAsked::Graphical))),
+        "--json" => Some(WordMeaning::Choice(Choice::Json)),
+        "--debug" => Some(WordMeaning::Choice(Choice::Debug)),
+        "--brief" => Some(WordMeaning::Build(BuildAsked::Option(OptionAsked::Brief))),
+        "--narrated" => Some(WordMeaning::Build(BuildAsked::Option(OptionAsked::Narrated))),
+        "--graphical" => Some(WordMeaning::Build(BuildAsked::Option(OptionAsked::Graphical))),
         _ => None,
     }
 }

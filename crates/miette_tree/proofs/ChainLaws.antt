@@ -2,11 +2,11 @@
 use Rattle.std.proofs.Common.{◌≡◌, List, [], ◌∷◌, ◌++◌, None, map, reverse, sym, ap, ◌∙◌, append-nil, append_assoc}
 use Rattle.std.specs.Iterator.{YieldsFirstBy, YieldsLastBy, Yields}
 use Rattle.std.proofs.lemmas.List.{reverse-append}
-use Rattle.miette_tree.specs.laws.BothEnds.{Taken, in_front, behind, Gives, front_of, back_of}
+use Rattle.miette_tree.specs.laws.BothEnds.{EndItem, in_front, behind, Gives, front_of, back_of}
 
 module _ {S A B : Type 0} (view : A → B) (rest : S → List B) where
   -- each item once: what was left is what was given in front, what is left now, and what was given behind
-  pub mixed : (taken : List (Taken A)) (s t : S) → Gives (YieldsFirstBy view rest) (YieldsLastBy view rest) s taken t → rest s ≡ front_of view taken ++ (rest t ++ back_of view taken)
+  pub mixed : (taken : List (EndItem A)) (s t : S) → Gives (YieldsFirstBy view rest) (YieldsLastBy view rest) s taken t → rest s ≡ front_of view taken ++ (rest t ++ back_of view taken)
   mixed [] s t same = ap rest same ∙ sym (append-nil (rest t))
   mixed (in_front x ∷ more) s t given = given.1 ∙ ap (λ l. view x ∷ l) (mixed more given.0 t given.2)
   mixed (behind x ∷ more) s t given =

@@ -26,8 +26,8 @@ pub struct OwnedSource {
 impl OwnedSource {
     ghost use Rattle.miette_tree.specs.views.Owned.{bytes_source, owned_source};
 
-    // In a place of its own.
-    fn placed(alloc: Global, bytes: Bytes) -> Result<OwnedSource, AllocError>
+    // Of these bytes, in a place of its own.
+    fn of_bytes(alloc: Global, bytes: Bytes) -> Result<OwnedSource, AllocError>
         ensures { IfOk result (λ it. owned_source it ≡ bytes_source bytes) }
     {
         match Box::new(alloc, bytes) {
@@ -41,7 +41,7 @@ impl OwnedSource {
     pub fn new(alloc: Global, bytes: Vec<u8>) -> Result<OwnedSource, AllocError>
         ensures { IfOk result (λ it. owned_source it ≡ plain_source bytes.items) }
     {
-        OwnedSource::placed(alloc, Bytes::Plain(IndexedSource::new(alloc, bytes)?))
+        OwnedSource::of_bytes(alloc, Bytes::Plain(IndexedSource::new(alloc, bytes)?))
     }
 
     /// These bytes, with a name, and with a language where one is given. `AllocError` where there is no memory
@@ -60,7 +60,7 @@ impl OwnedSource {
             Some(language) => source.with_language(alloc, language)?,
             None => source,
         };
-        OwnedSource::placed(alloc, Bytes::Named(source))
+        OwnedSource::of_bytes(alloc, Bytes::Named(source))
     }
 }
 
@@ -85,14 +85,14 @@ impl SourceCode for OwnedSource {
 
 /// The source of a report: one that was given in a box, or an owned one.
 #[derive(Drop)]
-pub(crate) enum Kept<S> {
+pub(crate) enum OwnSource<S> {
     Boxed(S),
     Owned(OwnedSource),
 }
 
 /// The source of a report, lent: a reference to the place where the report keeps it.
 pub struct SourceRef<'a, S = Box<dyn SourceCode>> {
-    place: &'a Kept<S>,
+    place: &'a OwnSource<S>,
 }
 
 impl<'a, S> Clone for SourceRef<'a, S> {
@@ -108,7 +108,7 @@ impl<'a, S> Clone for SourceRef<'a, S> {
 impl<'a, S> Copy for SourceRef<'a, S> {}
 
 impl<'a, S> SourceRef<'a, S> {
-    pub(crate) fn to(place: &'a Kept<S>) -> SourceRef<'a, S>
+    pub(crate) fn to(place: &'a OwnSource<S>) -> SourceRef<'a, S>
         ensures { result.place.now ≡ place.now }
     {
         SourceRef { place }
@@ -130,8 +130,8 @@ impl<'a, S: SourceCode> SourceRef<'a, S> {
         ensures { Answers (shown_source S.source self.entry) span.now before after result }
     {
         match self.place {
-            Kept::Boxed(source) => source.read_span(span, before, after),
-            Kept::Owned(source) => source.read_span(span, before, after),
+            OwnSource::Boxed(source) => source.read_span(span, before, after),
+            OwnSource::Owned(source) => source.read_span(span, before, after),
         }
     }
 }

@@ -4,7 +4,7 @@ ghost use Rattle.std.specs.Option.{option_copied, option_map};
 
 use crate::cause_texts::CauseTexts;
 use crate::innermost::{Innermost, ReportKind};
-use crate::owned::{Kept, OwnedSource, SourceRef};
+use crate::owned::{OwnSource, OwnedSource, SourceRef};
 use miette_protocol::diagnostic::MietteDiagnostic;
 use miette_protocol::protocol::{Diagnostic, LabeledSpan, Severity};
 use miette_protocol::source::SourceCode;
@@ -18,7 +18,7 @@ use std::fmt::Display;
 pub struct Report<D = Box<dyn Diagnostic>, S = Box<dyn SourceCode>> {
     front: Option<Box<String>>,
     innermost: Innermost<D>,
-    source: Option<Kept<S>>,
+    source: Option<OwnSource<S>>,
     cause: KeptCause<Report<D, S>>,
     related: Option<Vec<Report<D, S>>>,
 }
@@ -137,7 +137,7 @@ impl<D: Diagnostic, S: SourceCode> Report<D, S> {
             ≡ with_source (S.source source) (tree_of D.meaning S.source self) }
         ensures kind { kind_of result ≡ kind_of self }
     {
-        self.with_kept(Kept::Boxed(source))
+        self.with_kept(OwnSource::Boxed(source))
     }
 
     /// With this source, where the report has none; it keeps the one that it has. Takes no memory.
@@ -146,10 +146,10 @@ impl<D: Diagnostic, S: SourceCode> Report<D, S> {
             ≡ with_source (owned_source source) (tree_of D.meaning S.source self) }
         ensures kind { kind_of result ≡ kind_of self }
     {
-        self.with_kept(Kept::Owned(source))
+        self.with_kept(OwnSource::Owned(source))
     }
 
-    fn with_kept(self, place: Kept<S>) -> Report<D, S>
+    fn with_kept(self, place: OwnSource<S>) -> Report<D, S>
         ensures tree { tree_of D.meaning S.source result
             ≡ with_source (kept_source S.source place) (tree_of D.meaning S.source self) }
         ensures kind { kind_of result ≡ kind_of self }

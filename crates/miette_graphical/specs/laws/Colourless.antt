@@ -34,14 +34,14 @@ abbrev pub unhighlighted_answer : Answer → Answer
 unhighlighted_answer a = record a { pieces = [] }
 
 abbrev mutual
-  pub unhighlighted : Answers → Answers
-  unhighlighted unlisted = unlisted
-  unhighlighted (listed own cause related) = listed (unhighlighted_answer own) (unhighlighted cause)
-      (unhighlighted_related related)
+  pub unhighlighted_answers : Answers → Answers
+  unhighlighted_answers unlisted = unlisted
+  unhighlighted_answers (listed own cause related) = listed (unhighlighted_answer own) (unhighlighted_answers cause)
+      (unhighlighted_related_answers related)
 
-  pub unhighlighted_related : RelatedAnswers → RelatedAnswers
-  unhighlighted_related no_more = no_more
-  unhighlighted_related (and_more first more) = and_more (unhighlighted first) (unhighlighted_related more)
+  pub unhighlighted_related_answers : RelatedAnswers → RelatedAnswers
+  unhighlighted_related_answers no_more = no_more
+  unhighlighted_related_answers (and_more first more) = and_more (unhighlighted_answers first) (unhighlighted_related_answers more)
 
 -- a text that may be printed with a theme of the same characters, in whatever styles and with whatever highlighter
 abbrev pub IsRestyledText : SnippetRows → Settings → Tree → List ℕ → Type 0
@@ -67,5 +67,5 @@ pub record IsColouredText (rows : SnippetRows) (s : Settings) (blank : Bool) (t 
   pub answers : Answers
   pub are : AreAnswers s blank t answers
   pub text : bytes ≡ encode_utf8_all (report_text rows s t answers)
-  pub possible : AreAnswers (colourless s) true t (unhighlighted answers)
-  pub erased : erase bytes ≡ encode_utf8_all (report_text rows (colourless s) t (unhighlighted answers))
+  pub possible : AreAnswers (colourless s) true t (unhighlighted_answers answers)
+  pub erased : erase bytes ≡ encode_utf8_all (report_text rows (colourless s) t (unhighlighted_answers answers))

@@ -5,7 +5,7 @@ use Rattle.miette_lines.specs.declared.sweep.Placed.{Placed}
 use Rattle.miette_lines.specs.rules.Cells.{characters}
 use Rattle.miette_lines.specs.views.GivenLabels.{text_at}
 use Rattle.miette_newlines.specs.views.Walking.{line_of_text}
-use Rattle.miette_narrated.specs.declared.shown.ShownLine.{ShownLine}
+use Rattle.miette_narrated.specs.declared.snippet_line.ShownLine.{ShownLine}
 use Rattle.miette_narrated.specs.rules.Labels.{LabelRange, SnippetLine}
 
 -- a label that the layout has placed, with the text that it has among these labels

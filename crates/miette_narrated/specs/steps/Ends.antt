@@ -5,7 +5,7 @@ use Rattle.std.specs.List.Sorted.{IsNonDecreasingBy}
 use Rattle.miette_newlines.specs.rules.Lines.{Line}
 use Rattle.miette_lines.specs.declared.sweep.Placed.{Placed}
 use Rattle.miette_narrated.specs.declared.label_order.LabelOrder.{LabelOrder}
-use Rattle.miette_narrated.specs.declared.label_order.Ranked.{Ranked}
+use Rattle.miette_narrated.specs.declared.label_order.RankedLabel.{RankedLabel}
 use Rattle.miette_narrated.specs.steps.Sweeping.{AreOrdered}
 
 -- whether a label ends within a line's text
@@ -21,15 +21,15 @@ abbrev pub is_begun : Line → Placed → Bool
 is_begun line p = nat_le line.start p.start && nat_le p.start line.text_end
 
 -- labels with their ranks, from this one on
-abbrev pub ranked_labels : ℕ → List Placed → List Ranked
+abbrev pub ranked_labels : ℕ → List Placed → List RankedLabel
 ranked_labels rank [] = []
 ranked_labels rank (p ∷ ps) = record { rank = rank; label = p } ∷ ranked_labels (rank + 1) ps
 
-abbrev pub labels_of : List Ranked → List Placed
+abbrev pub labels_of : List RankedLabel → List Placed
 labels_of ends = map (λ end. end.label) ends
 
 -- the same labels, by where they end
-pub record AreEnds (labels : List Placed) (ends : List Ranked) : Type 0 where
+pub record AreEnds (labels : List Placed) (ends : List RankedLabel) : Type 0 where
   pub rising : IsNonDecreasingBy (λ end. end.label.after) ends
   pub same : (rank : ℕ) → filter (λ end. end.rank == rank) ends
       ≡ filter (λ end. end.rank == rank) (ranked_labels 0 labels)

@@ -1,7 +1,7 @@
 -- Which handler a program's words choose.
 use Rattle.std.specs.Prelude.{ℕ, Bool, ◌||◌, List, [], ◌∷◌, if◌then◌else◌, codes, bytes_eq}
-use Rattle.miette_report.specs.declared.option_words.Asked.{Asked}
-use Rattle.miette_report.specs.declared.option_words.Asked.TheVariants as asked
+use Rattle.miette_report.specs.declared.option_words.WordMeaning.{WordMeaning}
+use Rattle.miette_report.specs.declared.option_words.WordMeaning.TheVariants as asked
 use Rattle.miette_report.specs.declared.option_words.Choice.{Choice}
 use Rattle.miette_report.specs.declared.option_words.Choice.TheVariants.{Json, Debug}
 
@@ -29,6 +29,6 @@ abbrev mutual
   choice_behind before (value ∷ words) = choice_in before words
 
 -- what one word chooses, or the one before
-abbrev pub chosen_by : Asked → Choice → Choice
+abbrev pub chosen_by : WordMeaning → Choice → Choice
 chosen_by (asked.Choice choice) before = choice
 chosen_by (asked.Build it) before = before

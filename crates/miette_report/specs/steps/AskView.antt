@@ -1,7 +1,7 @@
 -- What the words ask for, as the code keeps it.
 use Rattle.miette_style.specs.rules.Themes.{Theme, ansi_styles, ascii_characters, no_styles, unicode_characters}
-use Rattle.miette_report.specs.declared.option_words.Asked.{Asked}
-use Rattle.miette_report.specs.declared.option_words.Asked.TheVariants as asked
+use Rattle.miette_report.specs.declared.option_words.WordMeaning.{WordMeaning}
+use Rattle.miette_report.specs.declared.option_words.WordMeaning.TheVariants as asked
 use Rattle.miette_report.specs.declared.option_words.BuildAsked.{BuildAsked}
 use Rattle.miette_report.specs.declared.option_words.BuildAsked.TheVariants as built
 use Rattle.miette_report.specs.declared.option_words.OptionAsked.{OptionAsked}
@@ -56,6 +56,6 @@ abbrev pub built_ask : BuildAsked → Ask
 built_ask (built.Option it) = OfOptions (option_ask it)
 built_ask (built.Terminal it) = OfTerminal (terminal_ask it)
 
-abbrev pub ask_of : Asked → Ask
+abbrev pub ask_of : WordMeaning → Ask
 ask_of (asked.Choice choice) = OfHandler choice
 ask_of (asked.Build it) = built_ask it

@@ -4,8 +4,8 @@ use Rattle.miette_protocol.specs.views.Named.{inner_of, name_of, given_language}
 use Rattle.miette_tree.specs.declared.owned.Bytes.{Bytes}
 use Rattle.miette_tree.specs.declared.owned.Bytes.TheVariants as bytes
 use Rattle.miette_tree.specs.declared.owned.OwnedSource.{OwnedSource}
-use Rattle.miette_tree.specs.declared.owned.Kept.{Kept}
-use Rattle.miette_tree.specs.declared.owned.Kept.TheVariants as kept
+use Rattle.miette_tree.specs.declared.owned.OwnSource.{OwnSource}
+use Rattle.miette_tree.specs.declared.owned.OwnSource.TheVariants as kept
 use Rattle.miette_tree.specs.declared.owned.SourceRef.{SourceRef}
 
 abbrev pub bytes_source : Bytes → Source
@@ -16,7 +16,7 @@ abbrev pub owned_source : OwnedSource → Source
 owned_source it = bytes_source it.bytes.value
 
 -- a source that was given in a box, given what boxes mean, or an owned one
-abbrev pub kept_source : {S : Type 0} → (S → Source) → Kept S → Source
+abbrev pub kept_source : {S : Type 0} → (S → Source) → OwnSource S → Source
 kept_source is (kept.Boxed it) = is it
 kept_source is (kept.Owned it) = owned_source it
 

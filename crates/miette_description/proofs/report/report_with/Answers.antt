@@ -26,7 +26,7 @@ pub returns-clause-ok : goal.returns-clause-ok
 returns-clause-ok g c =
     let chain = given_some _ _ c.in_ok-diagnostic.ensures.ok ∙ given_some _ _ c.in_ok-source.ensures.ok
     ∙ given_some _ _ c.in_ok-several.ensures.ok ∙ given_some _ _ c.in_ok-contexts.ensures.ok ∙ c.in_ok-report.ensures.ok in
-    if_ok c.boxed.result (λ b p. chain ∙ ap (λ r. Some (tree_of g.D.Diagnostic.meaning g.S.SourceCode.source r)) (sym p)) c.boxed.ensures.ok
+    if_ok c.box_of.result (λ b p. chain ∙ ap (λ r. Some (tree_of g.D.Diagnostic.meaning g.S.SourceCode.source r)) (sym p)) c.box_of.ensures.ok
 
 pub returns-clause-description : goal.returns-clause-description
-returns-clause-description g c e = absurd (c.boxed.ensures.memory e)
+returns-clause-description g c e = absurd (c.box_of.ensures.memory e)

@@ -1,6 +1,6 @@
 use Rattle.std.proofs.Common.{refl, ap, ◌∙◌, encode_utf8_all, sym}
 use Rattle.miette_runs.specs.rules.Sequences.{erase}
-use Rattle.miette_graphical.specs.laws.Colourless.{colourless, unhighlighted}
+use Rattle.miette_graphical.specs.laws.Colourless.{colourless, unhighlighted_answers}
 use Rattle.miette_graphical.specs.rules.PrintedDiagnostics.{all_read}
 use Rattle.miette_graphical.specs.rules.Snippets.{drawn_rows}
 use Rattle.miette_graphical.specs.rules.Text.{report_text}
@@ -21,8 +21,8 @@ returns-clause-text c = λ s blank t bytes settings tree printed. record {
 
 pub returns-clause-possible : goal.returns-clause-possible
 returns-clause-possible c = λ s blank t bytes settings tree printed. (
-  report_text drawn_rows (colourless s) t (unhighlighted printed.1.0),
-  (unhighlighted printed.1.0, answers_possible c.rows_fade.ensures.same s blank t printed.1.0 printed.1.1, refl),
+  report_text drawn_rows (colourless s) t (unhighlighted_answers printed.1.0),
+  (unhighlighted_answers printed.1.0, answers_possible c.rows_fade.ensures.same s blank t printed.1.0 printed.1.1, refl),
   ap erase printed.2 ∙ c.encoding_law.ensures printed.0
       ∙ ap (λ text. encode_utf8_all (erase text)) printed.1.2 ∙ ap encode_utf8_all (c.colours_law.ensures.erase drawn_rows s t printed.1.0 c.drawn_rows_law.ensures settings tree),
 )

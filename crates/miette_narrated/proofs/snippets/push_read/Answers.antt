@@ -5,7 +5,7 @@ use Rattle.miette_lines.specs.rules.Groups.{in_order}
 use Rattle.miette_lines.specs.declared.sweep.Placed.{Placed}
 use Rattle.miette_lines.specs.views.Reads.{AreGroups}
 use Rattle.miette_narrated.specs.steps.Ends.{AreEnds}
-use Rattle.miette_narrated.specs.declared.label_order.Ranked.{Ranked}
+use Rattle.miette_narrated.specs.declared.label_order.RankedLabel.{RankedLabel}
 use Rattle.miette_narrated.specs.steps.Conversions.{ranges_of}
 use Rattle.miette_narrated.proofs.Reading.{placed_ordered, groups_more, groups_end, snippets_told, are_grouped, unread_group}
 use Rattle.miette_narrated.proofs.snippets.push_read.Goals as goal
@@ -13,7 +13,7 @@ use Rattle.miette_narrated.proofs.snippets.push_read.Goals as goal
 pub push_snippet-requires-clause-order : goal.push_snippet-requires-clause-order
 push_snippet-requires-clause-order g c = record {
   ordered = placed_ordered c.args.context (g.S.SourceCode.source c.args.source.now) c.args.labels.now c.args.reads.now c.deref-2.result.now c.requires.each c.requires.order (c.deref-2.ensures.value ∙ c.in_ok-placed.ensures);
-  ended = subst (λ (es : List Ranked). AreEnds c.deref-2.result.now es) (sym c.deref-3.ensures.value)
+  ended = subst (λ (es : List RankedLabel). AreEnds c.deref-2.result.now es) (sym c.deref-3.ensures.value)
       (subst (λ (ps : List Placed). AreEnds ps c.in_ok-ends.ends.items) (c.deref.ensures.value ∙ sym c.deref-2.ensures.value) c.in_ok-ends.ensures);
 }
 
