@@ -18,7 +18,7 @@ use Rattle.miette_tree.specs.rules.DiagnosticParts.{given_labels, severity_text}
 use Rattle.miette_tree.specs.rules.Answers.{own_fault}
 use Rattle.miette_lines.specs.rules.Groups.{in_order, put_label}
 use Rattle.miette_brief.specs.declared.rows.Position.{Position}
-use Rattle.miette_brief.specs.rules.Rows.{Place, Kind, finding, note, cause, help, Row, gap, shown_for, spaced_text, one_row, position_text, behind_colon, place_text, code_text, kind_text, row_text, rows_text}
+use Rattle.miette_brief.specs.rules.Rows.{Place, Kind, finding, note, cause, help, ReportRow, gap, shown_for, spaced_text, one_row, position_text, behind_colon, place_text, code_text, kind_text, row_text, rows_text}
 use Rattle.miette_brief.specs.rules.Places.{label_place, diagnostic_place}
 use Rattle.miette_brief.specs.rules.Report.{BriefSettings, Answers, RelatedAnswers, cause_answers, related_answers, first_answers, later_answers, note_rows_of, note_rows, cause_row, cause_rows, caused_rows, cause_rows_if, help_rows, own_rows, report_rows, related_rows, brief}
 use Rattle.miette_brief.specs.laws.Parts.{one_if, texts_in, told_causes, parts, all_parts, text_of_rows, IsRows}
@@ -129,7 +129,7 @@ kind_clean note = plain_clean (codes "note: ") refl
 kind_clean cause = plain_clean (codes "note: caused by: ") refl
 kind_clean help = plain_clean (codes "help: ") refl
 
-text_clean : (row : Row) → NoCharPasses is_control (row_text row)
+text_clean : (row : ReportRow) → NoCharPasses is_control (row_text row)
 text_clean row =
     both_clean (place_text row.place.name row.place.position) (kind_text row.kind ++ one_row row.text) (place_clean row.place.name row.place.position)
     (both_clean (kind_text row.kind) (one_row row.text) (kind_clean row.kind) (row_clean row.text))
@@ -159,18 +159,18 @@ never_nil : (xs ys : List ℕ) (y : ℕ) (more : List ℕ) → ys ≡ y ∷ more
 never_nil [] ys y more e h = cc
 never_nil (x ∷ xs) ys y more e h = cc
 
-text_nonempty : (row : Row) → row_text row ≢ []
+text_nonempty : (row : ReportRow) → row_text row ≢ []
 text_nonempty row =
     let k = kind_cons row.kind (one_row row.text) in
     never_nil (place_text row.place.name row.place.position) (kind_text row.kind ++ one_row row.text) k.first k.more k.is
 
 -- ---- rows of a text
 
-ended_rows : (rows : List Row) → rows_text rows ≡ text_of_rows (map row_text rows)
+ended_rows : (rows : List ReportRow) → rows_text rows ≡ text_of_rows (map row_text rows)
 ended_rows [] = refl
 ended_rows (row ∷ rows) = ap (λ l. row_text row ++ (10 ∷ l)) (ended_rows rows)
 
-each_row : (rows : List Row) → AllByRecursion (λ row. NoCharPasses is_control row × (row ≢ [])) (map row_text rows)
+each_row : (rows : List ReportRow) → AllByRecursion (λ row. NoCharPasses is_control row × (row ≢ [])) (map row_text rows)
 each_row [] = tt
 each_row (row ∷ rows) = ((text_clean row, text_nonempty row), each_row rows)
 

@@ -1,16 +1,16 @@
 -- Parts of rows, and rows, put one behind the other.
 use Rattle.std.proofs.Common.{ℕ, suc, ◌+◌, ◌≡◌, ◌<◌, List, [], ◌∷◌, ◌++◌, length, get_or, drop, add-one, refl, sym, ap, ◌∙◌, append_assoc}
 use Rattle.std.proofs.Math.Seq.{drop-cons}
-use Rattle.miette_brief.specs.rules.Rows.{Row, row_text, rows_text}
+use Rattle.miette_brief.specs.rules.Rows.{ReportRow, row_text, rows_text}
 
 -- the text of rows and of rows behind them
-pub rows_joined : (rows more : List Row) → rows_text (rows ++ more) ≡ rows_text rows ++ rows_text more
+pub rows_joined : (rows more : List ReportRow) → rows_text (rows ++ more) ≡ rows_text rows ++ rows_text more
 rows_joined [] more = refl
 rows_joined (row ∷ rows) more =
     ap (λ x. row_text row ++ (10 ∷ x)) (rows_joined rows more) ∙ sym (append_assoc (row_text row) (10 ∷ rows_text rows) (rows_text more))
 
 -- what is left of a list of rows grows shorter
-pub rows_more : {X : Type 0} (f : X → List Row) (rows : List X → List Row) (xs : List X) (i : ℕ) (d x : X) (out new goal : List ℕ)
+pub rows_more : {X : Type 0} (f : X → List ReportRow) (rows : List X → List ReportRow) (xs : List X) (i : ℕ) (d x : X) (out new goal : List ℕ)
     → ((y : X) (more : List X) → rows (y ∷ more) ≡ f y ++ rows more) → i < length xs → x ≡ get_or xs i d → new ≡ out ++ rows_text (f x)
     → out ++ rows_text (rows (drop i xs)) ≡ goal → new ++ rows_text (rows (drop (i + 1) xs)) ≡ goal
 rows_more f rows xs i d x out new goal step lt is e h =

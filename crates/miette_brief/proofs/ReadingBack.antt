@@ -7,7 +7,7 @@ use Rattle.std.proofs.lemmas.Bool.{and_parts}
 use Rattle.std.proofs.lemmas.Bool.Decides.{nat_tests}
 use Rattle.std.proofs.lemmas.Fmt.{decimal_is_IsNumeral, decimal_nonempty}
 use Rattle.miette_brief.specs.declared.rows.Position.{Position}
-use Rattle.miette_brief.specs.rules.Rows.{Row, one_row, place_text, kind_text, row_text}
+use Rattle.miette_brief.specs.rules.Rows.{ReportRow, one_row, place_text, kind_text, row_text}
 use Rattle.miette_brief.specs.laws.ReadBack.{has_no_colon, before_colon, after_colon, number_before, position_in, ReadsBack}
 use Rattle.miette_brief.proofs.Counting.{decimal_all}
 
@@ -83,7 +83,7 @@ text_back name rest (Some at) free fits =
     back (one_row name) (line ++ (58 ∷ (column ++ (58 ∷ (32 ∷ rest))))) (place_text (Some name) (Some at) ++ rest) (Some at) free
     (shape (one_row name) line column rest) (position_past at (32 ∷ rest) fits.0 fits.1)
 
-pub place_back : (row : Row) (name : List ℕ) → row.place.name ≡ Some name → has_no_colon (one_row name) ≡ true
+pub place_back : (row : ReportRow) (name : List ℕ) → row.place.name ≡ Some name → has_no_colon (one_row name) ≡ true
     → IfSome row.place.position (λ at. (at.line < 2 ^ 64) × (at.column < 2 ^ 64)) → ReadsBack (one_row name) row.place.position (row_text row)
 place_back row name en free fits =
     let rest = kind_text row.kind ++ one_row row.text in

@@ -10,7 +10,7 @@ use Rattle.miette_tree.specs.rules.DiagnosticParts.{given_labels}
 use Rattle.miette_tree.specs.rules.Reads.{AlwaysReads, CauseAlwaysReads, AllAlwaysRead}
 use Rattle.miette_tree.specs.rules.Answers.{own_fault}
 use Rattle.miette_lines.specs.rules.Groups.{in_order}
-use Rattle.miette_brief.specs.rules.Rows.{Place, Row, rows_text}
+use Rattle.miette_brief.specs.rules.Rows.{Place, ReportRow, rows_text}
 use Rattle.miette_brief.specs.rules.Places.{diagnostic_place, cause_place}
 use Rattle.miette_brief.specs.rules.Report.{BriefSettings, Answers, RelatedAnswers, unlisted, listed, no_more, and_more, cause_answers, related_answers, first_answers, later_answers, finding_row, note_rows, cause_row, cause_rows, caused_rows, cause_rows_if, help_rows, rows_at, own_rows, report_rows, related_rows, brief}
 use Rattle.miette_brief.specs.rules.PossibleAnswers.{accepts, accepts_report, accepts_related, MayMeet, HasAccepted, CausePossible, CausedPossible, ArePossible, AllPossible, IsBrief}
@@ -40,7 +40,7 @@ untold at source c old new e = record { answers = unlisted; possible = none_met 
 four : (old a b p new x y z w : List ℕ) → a ≡ old ++ x → b ≡ a ++ y → p ≡ b ++ z → new ≡ p ++ w → new ≡ old ++ (x ++ (y ++ (z ++ w)))
 four old a b p new x y z w e f g h = h ∙ ap (λ l. l ++ w) (g ∙ ap (λ l. l ++ z) (f ∙ ap (λ l. l ++ y) e)) ∙ simp append_assoc
 
-rows_of_four : (row : Row) (notes causes help : List Row) → rows_text (row ∷ (notes ++ (causes ++ help))) ≡ rows_text (row ∷ []) ++ (rows_text notes ++ (rows_text causes ++ rows_text help))
+rows_of_four : (row : ReportRow) (notes causes help : List ReportRow) → rows_text (row ∷ (notes ++ (causes ++ help))) ≡ rows_text (row ∷ []) ++ (rows_text notes ++ (rows_text causes ++ rows_text help))
 rows_of_four row notes causes help =
     rows_joined (row ∷ []) (notes ++ (causes ++ help)) ∙ ap (λ l. rows_text (row ∷ []) ++ l) (rows_joined notes (causes ++ help) ∙ ap (λ l. rows_text notes ++ l) (rows_joined causes help))
 
@@ -76,8 +76,8 @@ report_told chain inherited (tree m s c rs) source related old mid new es er own
     let from = effective s inherited in
     let here : AppendsOwn chain from m c old mid = subst (λ (o : Option Source). AppendsOwn chain o m c old mid) es own in
     let there : AppendsRelated chain from rs mid new = subst (λ (ts : Trees). AppendsRelated chain from ts mid new) er (subst (λ (o : Option Source). AppendsRelated chain o related mid new) es others) in
-    let rows : List Row = own_rows chain from here.answers m c in
-    let more : List Row = related_rows chain from there.answers rs in
+    let rows : List ReportRow = own_rows chain from here.answers m c in
+    let more : List ReportRow = related_rows chain from there.answers rs in
     record {
       answers = listed (own_fault here.answers) (cause_answers here.answers) there.answers;
       possible = (here.accepted, here.possible, here.causes, there.possible);

@@ -3,7 +3,7 @@
 
 ghost use Rattle.std.specs.Prelude.{◌≡◌, ◌<◌, ◌^◌, ℕ, List, Some, IfSome, true};
 ghost use Rattle.miette_tree.specs.rules.Tree.{Tree};
-ghost use Rattle.miette_brief.specs.rules.Rows.{Row, one_row, row_text};
+ghost use Rattle.miette_brief.specs.rules.Rows.{ReportRow, one_row, row_text};
 ghost use Rattle.miette_brief.specs.rules.Report.{BriefSettings, Answers, brief};
 ghost use Rattle.miette_brief.specs.laws.Parts.{parts, IsRows};
 ghost use Rattle.miette_brief.specs.laws.ReadBack.{has_no_colon, ReadsBack};
@@ -19,7 +19,7 @@ pub fn each_part_has_one_row()
 /// In a row with a name that has no colon the place reads back: up to the first colon stands the name as it is spelled,
 /// and behind it the line and the column, each up to the next one, or a space where the row has no position.
 pub fn a_place_reads_back()
-    ensures { (row : Row) (name : List ℕ) → row.place.name ≡ Some name → has_no_colon (one_row name) ≡ true →
+    ensures { (row : ReportRow) (name : List ℕ) → row.place.name ≡ Some name → has_no_colon (one_row name) ≡ true →
         IfSome row.place.position (λ at. (at.line < 2 ^ 64) × (at.column < 2 ^ 64)) →
         ReadsBack (one_row name) row.place.position (row_text row) }
 {}

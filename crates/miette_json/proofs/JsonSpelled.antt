@@ -11,7 +11,7 @@ use Rattle.std.proofs.lemmas.Bool.{ltb-true, ltb-false, lt-ltb, le-ltb}
 use Rattle.std.proofs.lemmas.Bool.Decides.{eqb_tells, nat_tests}
 use Rattle.std.proofs.lemmas.Str.{encode_ascii, digit_value-digit_char}
 use Rattle.miette_json.specs.rules.Json.{Json, number, string, array, object, Items, no_items, item, Members, no_members, member, digits_within, numeral, is_escaped, escape_letter, escaped_byte, escaped_text, quoted_text, json_text, items_text, more_items_text, members_text, more_members_text}
-use Rattle.miette_json.specs.rules.Denotes.{Token, mark, text, whole, tokens_then, items_then, more_items_then, members_then, more_members_then, Piece, plain, short, unit, short_for, IsPiece, hex, piece_text, piece_value, ArePieces, all_written, all_meant, IsDigit, AreDigits, value_after, NoLeadingZero, NoDigitNext, IsMark, IsString, IsNumber, Begins, Next, AreTokens, HasTokensOf}
+use Rattle.miette_json.specs.rules.Denotes.{Token, mark, text, whole, tokens_then, items_then, more_items_then, members_then, more_members_then, StringPart, plain, short, unit, short_for, IsStringPart, hex, part_text, part_value, AreStringParts, all_written, all_meant, IsDigit, AreDigits, value_after, NoLeadingZero, NoDigitNext, IsMark, IsString, IsNumber, Begins, Next, AreTokens, HasTokensOf}
 
 -- ---- numbers
 
@@ -246,10 +246,10 @@ control_written out front mid new x h l is e i k f j m g =
 -- ---- a string stands for its bytes
 
 record SpellsByte (x : ℕ) : Type 0 where
-  piece : Piece
-  right : IsPiece piece
-  spelled : (rest : List ℕ) → escaped_byte x ++ rest ≡ piece_text piece rest
-  means : piece_value piece ≡ x ∷ []
+  piece : StringPart
+  right : IsStringPart piece
+  spelled : (rest : List ℕ) → escaped_byte x ++ rest ≡ part_text piece rest
+  means : part_value piece ≡ x ∷ []
 
 low_byte : (x : ℕ) → escape_letter x ≡ 0 → x < 32 → SpellsByte x
 low_byte x e h =
@@ -283,8 +283,8 @@ spells_byte x = elim (letter_cases x) [
 ]
 
 record SpellsAll (s : List ℕ) : Type 0 where
-  pieces : List Piece
-  right : ArePieces pieces
+  pieces : List StringPart
+  right : AreStringParts pieces
   spelled : (rest : List ℕ) → escaped_text s ++ rest ≡ all_written pieces rest
   means : all_meant pieces ≡ s
 
@@ -296,7 +296,7 @@ spells_all (x ∷ s) =
     record {
       pieces = b.piece ∷ r.pieces;
       right = (b.right, r.right);
-      spelled = λ rest. append_assoc (escaped_byte x) (escaped_text s) rest ∙ (b.spelled (escaped_text s ++ rest) ∙ ap (piece_text b.piece) (r.spelled rest));
+      spelled = λ rest. append_assoc (escaped_byte x) (escaped_text s) rest ∙ (b.spelled (escaped_text s ++ rest) ∙ ap (part_text b.piece) (r.spelled rest));
       means = ap (λ l. l ++ all_meant r.pieces) b.means ∙ ap (λ l. x ∷ l) r.means;
     }
 

@@ -2,7 +2,7 @@
 use Rattle.std.proofs.Common.{◌≡◌, ◌≢◌, ◌⊎◌, inl, inr, ℕ, ◌+◌, ◌-◌, ◌*◌, ◌<◌, ◌≤◌, List, [], ◌∷◌, ◌++◌, get_or, refl, sym, ap, ◌∙◌, subst, arith}
 use Rattle.std.specs.Char.{encode_utf8}
 use Rattle.miette_json.specs.rules.Json.{Json, number, string, array, object, Items, no_items, item, Members, no_members, member}
-use Rattle.miette_json.specs.rules.Denotes.{Token, mark, text, whole, tokens_then, items_then, more_items_then, members_then, more_members_then, Piece, plain, short, unit, pair, IsPiece, hex, piece_text, piece_value, ArePieces, all_written, all_meant, IsDigit, AreDigits, value_after, NoDigitNext, IsMark, IsBlank, AreBlank, IsString, IsNumber, Begins, Next, AreTokens, HasTokensOf}
+use Rattle.miette_json.specs.rules.Denotes.{Token, mark, text, whole, tokens_then, items_then, more_items_then, members_then, more_members_then, StringPart, plain, short, unit, pair, IsStringPart, hex, part_text, part_value, AreStringParts, all_written, all_meant, IsDigit, AreDigits, value_after, NoDigitNext, IsMark, IsBlank, AreBlank, IsString, IsNumber, Begins, Next, AreTokens, HasTokensOf}
 
 -- ---- the tokens of two values
 
@@ -125,18 +125,18 @@ pair_of l =
     encode_utf8 (0x10000 + (hex (get_or l 0 0) (get_or l 1 0) (get_or l 2 0) (get_or l 3 0) - 0xd800) * 1024 + (hex (get_or l 4 0) (get_or l 5 0) (get_or l 6 0) (get_or l 7 0) - 0xdc00))
 
 abbrev short_byte : ℕ → ℕ
-short_byte x = get_or (piece_value (short x)) 0 0
+short_byte x = get_or (part_value (short x)) 0 0
 
-letter_u : (l : ℕ) (xs ys : List ℕ) → IsPiece (short l) → 92 ∷ l ∷ xs ≡ 92 ∷ 117 ∷ ys → ⊥
+letter_u : (l : ℕ) (xs ys : List ℕ) → IsStringPart (short l) → 92 ∷ l ∷ xs ≡ 92 ∷ 117 ∷ ys → ⊥
 letter_u l xs ys r e = let h : l ≡ 117 = cc in r (ap short_byte h)
 
-piece_one : (p q : Piece) (x y : List ℕ) → IsPiece p → IsPiece q → piece_text p x ≡ piece_text q y → (piece_value p ≡ piece_value q) × (x ≡ y)
+piece_one : (p q : StringPart) (x y : List ℕ) → IsStringPart p → IsStringPart q → part_text p x ≡ part_text q y → (part_value p ≡ part_value q) × (x ≡ y)
 piece_one (plain b) (plain c) x y r s e = let h : b ≡ c = cc in (ap (λ n. n ∷ []) h, cc)
 piece_one (plain b) (short l) x y r s e = let h : b ≡ 92 = cc in absurd (r.2 h)
 piece_one (plain b) (unit k l m n) x y r s e = let h : b ≡ 92 = cc in absurd (r.2 h)
 piece_one (plain b) (pair k l m n o i j z) x y r s e = let h : b ≡ 92 = cc in absurd (r.2 h)
 piece_one (short l) (plain c) x y r s e = let h : c ≡ 92 = cc in absurd (s.2 h)
-piece_one (short l) (short m) x y r s e = let h : l ≡ m = cc in (ap (λ n. piece_value (short n)) h, cc)
+piece_one (short l) (short m) x y r s e = let h : l ≡ m = cc in (ap (λ n. part_value (short n)) h, cc)
 piece_one (short t) (unit k l m n) x y r s e = absurd (letter_u t _ _ r e)
 piece_one (short t) (pair k l m n o i j z) x y r s e = absurd (letter_u t _ _ r e)
 piece_one (unit a b c d) (plain n) x y r s e = let h : n ≡ 92 = cc in absurd (s.2 h)
@@ -157,13 +157,13 @@ piece_one (pair a b c d i j o z) (pair k l m n i' j' o' z') x y r s e =
     let h : a ∷ b ∷ c ∷ d ∷ i ∷ j ∷ o ∷ z ∷ [] ≡ k ∷ l ∷ m ∷ n ∷ i' ∷ j' ∷ o' ∷ z' ∷ [] = cc in (ap pair_of h, cc)
 
 -- no piece begins with a quote
-no_quote : (p : Piece) (x y : List ℕ) → IsPiece p → piece_text p x ≡ 34 ∷ y → ⊥
+no_quote : (p : StringPart) (x y : List ℕ) → IsStringPart p → part_text p x ≡ 34 ∷ y → ⊥
 no_quote (plain b) x y r e = let h : b ≡ 34 = cc in r.1 h
 no_quote (short l) x y r e = heads_differ 92 34 _ _ (λ h. omega arith) e
 no_quote (unit a b c d) x y r e = heads_differ 92 34 _ _ (λ h. omega arith) e
 no_quote (pair a b c d i j o z) x y r e = heads_differ 92 34 _ _ (λ h. omega arith) e
 
-pieces_one : (ps qs : List Piece) (x y : List ℕ) → ArePieces ps → ArePieces qs → all_written ps (34 ∷ x) ≡ all_written qs (34 ∷ y) → (all_meant ps ≡ all_meant qs) × (x ≡ y)
+pieces_one : (ps qs : List StringPart) (x y : List ℕ) → AreStringParts ps → AreStringParts qs → all_written ps (34 ∷ x) ≡ all_written qs (34 ∷ y) → (all_meant ps ≡ all_meant qs) × (x ≡ y)
 pieces_one [] [] x y r s e = (refl, cc)
 pieces_one [] (q ∷ qs) x y r s e = absurd (no_quote q _ _ s.0 (sym e))
 pieces_one (p ∷ ps) [] x y r s e = absurd (no_quote p _ _ r.0 e)

@@ -6,7 +6,7 @@ use Rattle.std.proofs.lemmas.Bool.{le-ltb}
 use Rattle.std.proofs.lemmas.Bool.Decides.{nat_tests}
 use Rattle.std.proofs.lemmas.Str.{encode_ascii, digit_value-digit_char, IsUtf8-nil, IsUtf8-append, IsUtf8-encode, IsUtf8-take, IsUtf8-drop, IsCharBoundary-before_ascii, IsCharBoundary-after_ascii}
 use Rattle.miette_json.specs.rules.Json.{Json, number, string, array, object, Items, no_items, item, Members, no_members, member, numeral, is_escaped, escape_letter, escaped_byte, escaped_text, quoted_text, json_text, items_text, more_items_text, members_text, more_members_text}
-use Rattle.miette_json.specs.rules.Denotes.{Token, mark, text, whole, tokens_then, items_then, more_items_then, members_then, more_members_then, Piece, plain, short, unit, pair, short_for, IsHex, AreHex, hex, ArePieces, all_written, all_meant, AreDigits, IsMark, AreBlank, IsBlank, IsString, Next, AreTokens, TextsAreUtf8, HasUtf8Texts}
+use Rattle.miette_json.specs.rules.Denotes.{Token, mark, text, whole, tokens_then, items_then, more_items_then, members_then, more_members_then, StringPart, plain, short, unit, pair, short_for, IsHex, AreHex, hex, AreStringParts, all_written, all_meant, AreDigits, IsMark, AreBlank, IsBlank, IsString, Next, AreTokens, TextsAreUtf8, HasUtf8Texts}
 use Rattle.miette_json.proofs.JsonSpelled.{letter_cases, ltb_cases, byte_short, byte_low, byte_itself, escaped_is_ascii, number_spelled}
 
 -- ---- texts are cut at ASCII bytes
@@ -182,7 +182,7 @@ pair_scalar m n a b c d =
     scalar_above code above below
 
 -- behind what stood before: bytes of a character stand for themselves one by one
-pieces_utf8 : (ps : List Piece) (pre rest : List ℕ) → ArePieces ps → IsUtf8 (pre ++ all_written ps (34 ∷ rest)) → IsUtf8 (pre ++ all_meant ps) × IsUtf8 rest
+pieces_utf8 : (ps : List StringPart) (pre rest : List ℕ) → AreStringParts ps → IsUtf8 (pre ++ all_written ps (34 ∷ rest)) → IsUtf8 (pre ++ all_meant ps) × IsUtf8 rest
 pieces_utf8 [] pre rest r u = let c = cut pre rest 34 (omega arith) u in (subst IsUtf8 (sym (append-nil pre)) c.0, c.1)
 pieces_utf8 (plain x ∷ ps) pre rest r u =
     let q = pieces_utf8 ps (pre ++ x ∷ []) rest r.1 (subst IsUtf8 (sym (append_assoc pre (x ∷ []) (all_written ps (34 ∷ rest)))) u) in

@@ -11,7 +11,7 @@ use Rattle.miette_lines.specs.views.GivenLabels.{width_of}
 use Rattle.miette_lines.proofs.Stepping.{IsFirst, made, characters_step, characters_end}
 use Rattle.miette_narrated.specs.rules.Columns.{begun_text, is_boundary, widths, column}
 use Rattle.miette_narrated.specs.rules.Lines.{decoded_text}
-use Rattle.miette_narrated.specs.declared.places.Place.{Place}
+use Rattle.miette_narrated.specs.declared.places.PartingPlace.{PartingPlace}
 use Rattle.miette_narrated.specs.steps.Places.{overlap_text, twice, column_behind}
 
 codes : (ps : List Decoded) → map (λ (c : Character). c.code) (map (λ (p : Decoded). made (or_replacement p.char) p.size) ps) ≡ map (λ (p : Decoded). or_replacement p.char) ps
@@ -96,25 +96,25 @@ at_boundary text bytes e = rw e refl
 pub off_boundary : (text : List ℕ) (bytes : ℕ) → is_boundary bytes (characters text) ≡ false → column bytes (characters text) ≡ widths (begun_text bytes (characters text))
 off_boundary text bytes e = rw e refl
 
-pub behind_boundary : (place : Place) (text : List ℕ) (bytes : ℕ) → is_boundary bytes (characters text) ≡ true →
+pub behind_boundary : (place : PartingPlace) (text : List ℕ) (bytes : ℕ) → is_boundary bytes (characters text) ≡ true →
     column_behind place bytes (characters text) ≡ place.column + str_width false (overlap_text place.overlap ++ begun_text bytes (characters text))
 behind_boundary place text bytes e = rw e refl
 
-pub behind_other : (place : Place) (text : List ℕ) (bytes : ℕ) → is_boundary bytes (characters text) ≡ false →
+pub behind_other : (place : PartingPlace) (text : List ℕ) (bytes : ℕ) → is_boundary bytes (characters text) ≡ false →
     column_behind place bytes (characters text) ≡ place.widths + widths (begun_text bytes (characters text))
 behind_other place text bytes e = rw e refl
 
-pub twice_boundary : (place : Place) (text : List ℕ) (bytes : ℕ) → is_boundary bytes (characters text) ≡ true → twice place bytes (characters text) ≡ place.twice
+pub twice_boundary : (place : PartingPlace) (text : List ℕ) (bytes : ℕ) → is_boundary bytes (characters text) ≡ true → twice place bytes (characters text) ≡ place.twice
 twice_boundary place text bytes e = rw e refl
 
-pub twice_other : (place : Place) (text : List ℕ) (bytes : ℕ) → is_boundary bytes (characters text) ≡ false → twice place bytes (characters text) ≡ 0
+pub twice_other : (place : PartingPlace) (text : List ℕ) (bytes : ℕ) → is_boundary bytes (characters text) ≡ false → twice place bytes (characters text) ≡ 0
 twice_other place text bytes e = rw e refl
 
 -- the column, where nothing is counted twice
-abbrev pub told_column : Place → ℕ → List Character → ℕ
+abbrev pub told_column : PartingPlace → ℕ → List Character → ℕ
 told_column place bytes cs = column_behind place bytes cs - twice place bytes cs
 
-told_other : (place : Place) (text : List ℕ) (bytes result : ℕ) → is_boundary bytes (characters text) ≡ false → result ≡ place.widths + widths (begun_text bytes (characters text)) → result ≡ told_column place bytes (characters text)
+told_other : (place : PartingPlace) (text : List ℕ) (bytes result : ℕ) → is_boundary bytes (characters text) ≡ false → result ≡ place.widths + widths (begun_text bytes (characters text)) → result ≡ told_column place bytes (characters text)
 told_other place text bytes result e r =
     let none = twice_other place text bytes e in
     let behind = behind_other place text bytes e in
@@ -128,7 +128,7 @@ all_at_zero front first text bytes over sum rest left h zero =
     let none : begun_text left (characters rest) ≡ [] = ap (λ k. begun_text k (characters rest)) zero ∙ begun_zero (characters rest) in
     sym (append-nil (chars over)) ∙ ap (λ o. chars over ++ o) (sym none) ∙ h.all
 
-pub over_at_zero : (place : Place) (text : List ℕ) (bytes : ℕ) (over : List ℕ) (sum : ℕ) (rest : List ℕ) (left result : ℕ) → IsOver (overlap_text place.overlap) place.widths text bytes over sum rest left → left ≡ 0 →
+pub over_at_zero : (place : PartingPlace) (text : List ℕ) (bytes : ℕ) (over : List ℕ) (sum : ℕ) (rest : List ℕ) (left result : ℕ) → IsOver (overlap_text place.overlap) place.widths text bytes over sum rest left → left ≡ 0 →
     result ≡ (place.column + str_width false (chars over)) - place.twice → result ≡ told_column place bytes (characters text)
 over_at_zero place text bytes over sum rest left result h zero r =
     let here = boundary_at_zero (overlap_text place.overlap) place.widths text bytes over sum rest left h zero in
@@ -137,7 +137,7 @@ over_at_zero place text bytes over sum rest left result h zero r =
     let behind = behind_boundary place text bytes here in
     omega (arith, r, wide, more, behind)
 
-pub over_past_end : (place : Place) (text : List ℕ) (bytes : ℕ) (over : List ℕ) (sum : ℕ) (rest : List ℕ) (left : ℕ) → IsOver (overlap_text place.overlap) place.widths text bytes over sum rest left → 0 < left → rest ≡ [] →
+pub over_past_end : (place : PartingPlace) (text : List ℕ) (bytes : ℕ) (over : List ℕ) (sum : ℕ) (rest : List ℕ) (left : ℕ) → IsOver (overlap_text place.overlap) place.widths text bytes over sum rest left → 0 < left → rest ≡ [] →
     sum ≡ told_column place bytes (characters text)
 over_past_end place text bytes over sum rest left h some e =
     let end = characters_end rest e in
@@ -146,7 +146,7 @@ over_past_end place text bytes over sum rest left h some e =
     let sums : sum ≡ place.widths + widths (begun_text bytes (characters text)) = omega (arith, none, h.width) in
     told_other place text bytes _ here sums
 
-pub over_inside : (place : Place) (text : List ℕ) (bytes : ℕ) (over : List ℕ) (sum wider : ℕ) (rest after : List ℕ) (left code size : ℕ) → IsOver (overlap_text place.overlap) place.widths text bytes over sum rest left → IsFirst rest after code size →
+pub over_inside : (place : PartingPlace) (text : List ℕ) (bytes : ℕ) (over : List ℕ) (sum wider : ℕ) (rest after : List ℕ) (left code size : ℕ) → IsOver (overlap_text place.overlap) place.widths text bytes over sum rest left → IsFirst rest after code size →
     wider ≡ sum + width_of code → 0 < left → left < size → wider ≡ told_column place bytes (characters text)
 over_inside place text bytes over sum wider rest after left code size h is w some inside =
     let cs = characters after in

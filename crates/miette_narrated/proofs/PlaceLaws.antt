@@ -11,7 +11,7 @@ use Rattle.miette_lines.specs.views.GivenLabels.{width_of}
 use Rattle.miette_lines.proofs.Stepping.{IsFirst, characters_step}
 use Rattle.miette_narrated.specs.declared.overlap.Overlap.{Overlap}
 use Rattle.miette_narrated.specs.declared.overlap.Overlap.TheVariants.{Nothing}
-use Rattle.miette_narrated.specs.declared.places.Place.{Place}
+use Rattle.miette_narrated.specs.declared.places.PartingPlace.{PartingPlace}
 use Rattle.miette_narrated.specs.rules.Columns.{begun_text, is_boundary, column}
 use Rattle.miette_narrated.specs.steps.Parting.{may_part, may_part_flags, opens, end_overlap, overlap_between}
 use Rattle.miette_narrated.specs.steps.Places.{overlap_text, IsHeld, twice, column_behind, IsPlace}
@@ -21,7 +21,7 @@ use Rattle.miette_narrated.proofs.SettledTexts.{Settles, settled, EndsIn, end_se
 use Rattle.miette_narrated.proofs.Flags.{EndsInFlags, flags_part}
 use Rattle.miette_narrated.proofs.Sweeps.{by_cases}
 
-pub first_place : (text : List ℕ) (place : Place) → place.bytes ≡ 0 → place.column ≡ 0 → place.widths ≡ 0 → place.overlap ≡ Nothing → place.twice ≡ 0 → IsPlace text place
+pub first_place : (text : List ℕ) (place : PartingPlace) → place.bytes ≡ 0 → place.column ≡ 0 → place.widths ≡ 0 → place.overlap ≡ Nothing → place.twice ≡ 0 → IsPlace text place
 first_place text place b c w f d = (
   omega (arith, b),
   (
@@ -48,7 +48,7 @@ first_place text place b c w f d = (
 )
 
 -- the column of an offset that lies behind a place
-pub column_from : (text : List ℕ) (place : Place) (bytes result : ℕ) → IsPlace text place → place.bytes ≤ bytes → result ≡ told_column place (bytes - place.bytes) (characters (drop place.bytes text)) →
+pub column_from : (text : List ℕ) (place : PartingPlace) (bytes result : ℕ) → IsPlace text place → place.bytes ≤ bytes → result ≡ told_column place (bytes - place.bytes) (characters (drop place.bytes text)) →
     result ≡ column bytes (characters text)
 column_from text place bytes result is le h =
     let at : place.bytes + (bytes - place.bytes) ≡ bytes = omega arith in
@@ -59,12 +59,12 @@ column_from text place bytes result is le h =
 -- ---- from one place to the next
 
 -- so many bytes of a text are over since a place
-pub record IsSince (text : List ℕ) (from : Place) (over : List ℕ) (sum bytes : ℕ) : Type 0 where
+pub record IsSince (text : List ℕ) (from : PartingPlace) (over : List ℕ) (sum bytes : ℕ) : Type 0 where
   pub behind : from.bytes ≤ bytes
   pub within : bytes ≤ length text
   pub each : (more : ℕ) → IsOver (overlap_text from.overlap) from.widths (drop from.bytes text) ((bytes - from.bytes) + more) over sum (drop bytes text) more
 
-pub none_since : (text : List ℕ) (from : Place) (over : List ℕ) → from.bytes ≤ length text → chars over ≡ overlap_text from.overlap → IsSince text from over from.widths from.bytes
+pub none_since : (text : List ℕ) (from : PartingPlace) (over : List ℕ) → from.bytes ≤ length text → chars over ≡ overlap_text from.overlap → IsSince text from over from.widths from.bytes
 none_since text from over le e =
     record {
       behind = omega arith;
@@ -74,7 +74,7 @@ none_since text from over le e =
           subst (λ k. IsOver (overlap_text from.overlap) from.widths (drop from.bytes text) k over from.widths (drop from.bytes text) more) at (none_over (overlap_text from.overlap) from.widths (drop from.bytes text) more over e);
     }
 
-pub one_since : (text : List ℕ) (from : Place) (over new : List ℕ) (sum wider bytes later code size : ℕ) → IsSince text from over sum bytes → IsFirst (drop bytes text) (drop size (drop bytes text)) code size →
+pub one_since : (text : List ℕ) (from : PartingPlace) (over new : List ℕ) (sum wider bytes later code size : ℕ) → IsSince text from over sum bytes → IsFirst (drop bytes text) (drop size (drop bytes text)) code size →
     IsUtf8 over → IsUtf8 new → new ≡ over ++ encode_utf8 code → wider ≡ sum + width_of code → 0 < size → later ≡ bytes + size → later ≤ length text → IsSince text from new wider later
 one_since text from over new sum wider bytes later code size h is u v e w some to le =
     record {
@@ -142,7 +142,7 @@ parted_begun over first code size (suc more) bytes after is part =
     ap (λ o. str_width false (chars over ++ o) + str_width false (overlap_text first)) step ∙ part later ∙ ap (λ o. str_width false (chars over) + str_width false (overlap_text first ++ o)) (sym step)
 
 -- what is counted twice at a place is counted in the columns behind it
-counted : (text : List ℕ) (from : Place) (over : List ℕ) (sum bytes : ℕ) → IsPlace text from → IsSince text from over sum bytes → from.twice ≤ from.column + str_width false (chars over)
+counted : (text : List ℕ) (from : PartingPlace) (over : List ℕ) (sum bytes : ℕ) → IsPlace text from → IsSince text from over sum bytes → from.twice ≤ from.column + str_width false (chars over)
 counted text from over sum bytes is h =
     let start = drop from.bytes text in
     let k = (bytes - from.bytes) + 0 in
@@ -155,7 +155,7 @@ counted text from over sum bytes is h =
     omega (arith, wide, told, behind, more)
 
 -- between characters where columns are told is a place
-pub next_place : (text : List ℕ) (from place : Place) (over after : List ℕ) (code size : ℕ) → IsPlace text from → IsSince text from over place.widths place.bytes →
+pub next_place : (text : List ℕ) (from place : PartingPlace) (over after : List ℕ) (code size : ℕ) → IsPlace text from → IsSince text from over place.widths place.bytes →
     IsFirst (drop place.bytes text) after code size → IsPart over code place.overlap → IsHeld place.overlap → place.column ≡ (from.column + str_width false (chars over)) - from.twice →
     place.twice ≡ str_width false (overlap_text place.overlap) → IsPlace text place
 next_place text from place over after code size is h first part free c d = (
@@ -217,7 +217,7 @@ holds over before last code half first one two flags some =
     (λ m. absurd (none-some first (sym (cond-false (opens code) ends None m) ∙ more))))
 
 -- so the next place is one
-pub is_next_place : (text : List ℕ) (from place : Place) (over after : List ℕ) (code size sum bytes before last : ℕ) (half : Bool) (front : Overlap) → IsPlace text from → IsSince text from over sum bytes →
+pub is_next_place : (text : List ℕ) (from place : PartingPlace) (over after : List ℕ) (code size sum bytes before last : ℕ) (half : Bool) (front : Overlap) → IsPlace text from → IsSince text from over sum bytes →
     IsFirst (drop bytes text) after code size → EndsIn over (last ∷ []) → EndsByEmoji over before last → EndsInFlags over last half → overlap_between before last half code ≡ Some front →
     place.bytes ≡ bytes → place.widths ≡ sum → place.overlap ≡ front → place.column ≡ (from.column + str_width false (chars over)) - from.twice → place.twice ≡ str_width false (overlap_text front) → IsPlace text place
 is_next_place text from place over after code size sum bytes before last half front is since first one two flags some b w f c d =

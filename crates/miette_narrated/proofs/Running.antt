@@ -7,7 +7,7 @@ use Rattle.std.proofs.lemmas.List.{drop-drop, take_rest}
 use Rattle.unicode_width.specs.Width.{str_width}
 use Rattle.miette_lines.specs.rules.Cells.{Character, characters}
 use Rattle.miette_lines.proofs.Stepping.{IsFirst, made, characters_step}
-use Rattle.miette_narrated.specs.declared.places.Place.{Place}
+use Rattle.miette_narrated.specs.declared.places.PartingPlace.{PartingPlace}
 use Rattle.miette_narrated.specs.declared.trails.Trail.{Trail}
 use Rattle.miette_narrated.specs.rules.Columns.{begun_text, is_boundary, widths, column}
 use Rattle.miette_narrated.specs.steps.Places.{overlap_text, IsPlace}
@@ -116,7 +116,7 @@ all_faint text from bytes h =
 
 -- ---- a trail behind its first character
 
-pub first_trail : (text : List ℕ) (from : Place) (over : List ℕ) (last : ℕ) (trail : Trail) → IsPlace text from → IsSince text from over trail.widths trail.bytes → EndsIn over (last ∷ []) → is_faint last ≡ true →
+pub first_trail : (text : List ℕ) (from : PartingPlace) (over : List ℕ) (last : ℕ) (trail : Trail) → IsPlace text from → IsSince text from over trail.widths trail.bytes → EndsIn over (last ∷ []) → is_faint last ≡ true →
     AreFaint text trail.bytes trail.until → trail.column ≡ (from.column + str_width false (chars over)) - from.twice → IsTrail text trail
 first_trail text from over last trail is h ends faint all c = (
   all,

@@ -7,7 +7,7 @@ ghost use Rattle.miette_narrated.specs.rules.Lines.{decoded_text};
 ghost use Rattle.miette_narrated.specs.steps.Places.{IsPlace};
 
 use crate::line_text::LineText;
-use crate::places::{Place, column_after, overlap_text, place_before};
+use crate::places::{PartingPlace, column_after, overlap_text, place_before};
 use crate::trails::{column_in, trail_at};
 use miette_lines::cells::{columns_of, first_character};
 use std::alloc::{AllocError, Global};
@@ -59,7 +59,7 @@ pub(crate) fn column(
 }
 
 /// The same, by a walk over the characters from a place on.
-fn walked_column(alloc: Global, text: &[u8], from: Place, bytes: usize) -> Result<usize, AllocError>
+fn walked_column(alloc: Global, text: &[u8], from: PartingPlace, bytes: usize) -> Result<usize, AllocError>
     requires place { IsPlace text.now from }
     requires before { from.bytes ≤ bytes }
     ensures { IfOk result (λ c. c ≡ column bytes (characters text.now)) }

@@ -14,7 +14,7 @@ ghost use Rattle.miette_narrated.specs.steps.Trails.{IsTrail};
 use crate::columns::column;
 use crate::label_order::RankedLabel;
 use crate::line_text::LineText;
-use crate::places::{Place, places};
+use crate::places::{PartingPlace, places};
 use crate::snippet_line::ShownLine;
 use crate::trails::{Trail, trails};
 use crate::words::push_number;
@@ -106,7 +106,7 @@ fn places_for(
     alloc: Global,
     text: LineText<'_, '_>,
     labels: usize,
-) -> Result<(Vec<Place>, Vec<Trail>), AllocError>
+) -> Result<(Vec<PartingPlace>, Vec<Trail>), AllocError>
     ensures places { IfOk result (λ made. All (IsPlace text.entry.bytes.now) made.0.items) }
     ensures trails { IfOk result (λ made. All (IsTrail text.entry.bytes.now) made.1.items) }
 {

@@ -6,7 +6,7 @@ ghost use Rattle.miette_lines.specs.views.Printable.{is_printable};
 ghost use Rattle.miette_narrated.specs.steps.Places.{IsPlace};
 ghost use Rattle.miette_narrated.specs.steps.Trails.{IsTrail};
 
-use crate::places::Place;
+use crate::places::PartingPlace;
 use crate::trails::Trail;
 use miette_lines::plain::all_printable;
 
@@ -16,7 +16,7 @@ use miette_lines::plain::all_printable;
 pub(crate) struct LineText<'a, 'p> {
     pub(crate) bytes: &'a [u8],
     pub(crate) is_plain: bool,
-    pub(crate) places: &'p [Place],
+    pub(crate) places: &'p [PartingPlace],
     pub(crate) trails: &'p [Trail],
     ghost plain: { is_plain ≡ list_all is_printable bytes.now },
     ghost placed: { All (IsPlace bytes.now) places.now },
@@ -38,7 +38,7 @@ impl<'a, 'p> LineText<'a, 'p> {
     /// The same text with these places and trails.
     pub(crate) fn with_places<'q>(
         self,
-        places: &'q [Place],
+        places: &'q [PartingPlace],
         trails: &'q [Trail],
     ) -> LineText<'a, 'q>
         requires places { All (IsPlace self.bytes.now) places.now }

@@ -15,7 +15,7 @@ use unicode_width::UnicodeWidthStr;
 /// How many bytes of the text lie before a place, how many columns they have, and how many their characters have each
 /// by itself.
 #[derive(Clone, Copy)]
-pub(crate) struct Place {
+pub(crate) struct PartingPlace {
     pub(crate) bytes: usize,
     pub(crate) column: usize,
     pub(crate) widths: usize,
@@ -28,11 +28,11 @@ pub(crate) struct Place {
 pub(crate) const APART: usize = 64;
 
 /// Where a text begins.
-pub(crate) fn start(text: &[u8]) -> Place
+pub(crate) fn start(text: &[u8]) -> PartingPlace
     ensures place { IsPlace text.now result }
     ensures first { result.bytes ≡ 0 }
 {
-    Place {
+    PartingPlace {
         bytes: 0,
         column: 0,
         widths: 0,
@@ -60,7 +60,7 @@ pub(crate) fn overlap_text(alloc: Global, first: Overlap) -> Result<String, Allo
 
 /// The column behind a place's own and a text's, which begins with what the place holds; past the largest `usize` it
 /// is refused as want of memory.
-pub(crate) fn column_after(from: Place, text: &str) -> Result<usize, AllocError>
+pub(crate) fn column_after(from: PartingPlace, text: &str) -> Result<usize, AllocError>
     ensures { IfOk result (λ column. column ≡ (from.column + str_width false (chars text.now)) - from.twice) }
 {
     match from.column.checked_add(text.width()) {
@@ -72,12 +72,12 @@ pub(crate) fn column_after(from: Place, text: &str) -> Result<usize, AllocError>
 // The place behind so many bytes, which holds some characters, where a text is over since another place.
 fn place_at(
     alloc: Global,
-    from: Place,
+    from: PartingPlace,
     over: &str,
     bytes: usize,
     widths: usize,
     first: Overlap,
-) -> Result<Place, AllocError>
+) -> Result<PartingPlace, AllocError>
     ensures bytes { IfOk result (λ place. place.bytes ≡ bytes) }
     ensures column { IfOk result (λ place. place.column
         ≡ (from.column + str_width false (chars over.now)) - from.twice) }
@@ -88,7 +88,7 @@ fn place_at(
     let column = column_after(from, over)?;
     let text = overlap_text(alloc, first)?;
     let twice = text.as_str().width();
-    Ok(Place {
+    Ok(PartingPlace {
         bytes,
         column,
         widths,
@@ -98,7 +98,7 @@ fn place_at(
 }
 
 // The next place behind one, if there is one.
-fn next_place(alloc: Global, text: &[u8], from: Place) -> Result<Option<Place>, AllocError>
+fn next_place(alloc: Global, text: &[u8], from: PartingPlace) -> Result<Option<PartingPlace>, AllocError>
     requires { IsPlace text.now from }
     ensures { IfOk result (λ next. IfSome next (λ place. IsPlace text.now place × (from.bytes < place.bytes))) }
 {
@@ -130,7 +130,7 @@ fn next_place(alloc: Global, text: &[u8], from: Place) -> Result<Option<Place>, 
 }
 
 /// Places of a text, in order, each where the text may first be parted after so many bytes more.
-pub(crate) fn places(alloc: Global, text: &[u8]) -> Result<Vec<Place>, AllocError>
+pub(crate) fn places(alloc: Global, text: &[u8]) -> Result<Vec<PartingPlace>, AllocError>
     ensures { IfOk result (λ places. All (IsPlace text.now) places.items) }
 {
     let mut places = Vec::new(alloc);
@@ -143,7 +143,7 @@ pub(crate) fn places(alloc: Global, text: &[u8]) -> Result<Vec<Place>, AllocErro
 }
 
 /// The last place that lies so many bytes from the start or fewer, found by halving.
-pub(crate) fn place_before(text: &[u8], places: &[Place], bytes: usize) -> Place
+pub(crate) fn place_before(text: &[u8], places: &[PartingPlace], bytes: usize) -> PartingPlace
     requires { All (IsPlace text.now) places.now }
     ensures place { IsPlace text.now result }
     ensures before { result.bytes ≤ bytes }

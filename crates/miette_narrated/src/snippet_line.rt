@@ -7,7 +7,7 @@ ghost use Rattle.miette_narrated.specs.steps.Places.{IsPlace};
 ghost use Rattle.miette_narrated.specs.steps.Trails.{IsTrail};
 
 use crate::line_text::LineText;
-use crate::places::Place;
+use crate::places::PartingPlace;
 use crate::trails::Trail;
 use miette_newlines::lines::LineOfText;
 
@@ -26,7 +26,7 @@ impl<'a, 'p> ShownLine<'a, 'p> {
     /// The same line, with places of its text from which a walk over its characters may go on, and trails.
     pub(crate) fn with_places<'q>(
         &self,
-        places: &'q [Place],
+        places: &'q [PartingPlace],
         trails: &'q [Trail],
     ) -> ShownLine<'a, 'q>
         requires places { All (IsPlace self.now.text.bytes.now) places.now }

@@ -9,7 +9,7 @@ ghost use Rattle.miette_narrated.specs.rules.Columns.{column};
 ghost use Rattle.miette_narrated.specs.steps.Places.{IsPlace};
 ghost use Rattle.miette_narrated.specs.steps.Trails.{is_faint, first_size, AreFaint, IsTrail};
 
-use crate::places::{APART, Place, column_after, overlap_text, start};
+use crate::places::{APART, PartingPlace, column_after, overlap_text, start};
 use miette_lines::cells::{columns_of, first_character};
 use std::alloc::{AllocError, Global};
 
@@ -91,7 +91,7 @@ fn push_trails(
     alloc: Global,
     text: &[u8],
     trails: &mut Vec<Trail>,
-    from: Place,
+    from: PartingPlace,
     end: usize,
 ) -> Result<(), AllocError>
     requires from { IsPlace text.now from }
@@ -129,7 +129,7 @@ fn push_trails(
 }
 
 /// Trails of a text in its stretches without a place.
-pub(crate) fn trails(alloc: Global, text: &[u8], places: &[Place]) -> Result<Vec<Trail>, AllocError>
+pub(crate) fn trails(alloc: Global, text: &[u8], places: &[PartingPlace]) -> Result<Vec<Trail>, AllocError>
     requires { All (IsPlace text.now) places.now }
     ensures { IfOk result (λ trails. All (IsTrail text.now) trails.items) }
 {

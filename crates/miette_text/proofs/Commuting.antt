@@ -5,7 +5,7 @@ use Rattle.std.proofs.lemmas.Bool.Decides.{nat_tests}
 use Rattle.std.proofs.lemmas.List.{map-append}
 use Rattle.miette_runs.specs.rules.Sequences.{Token, Character, Sequence, is_line_feed}
 use Rattle.miette_runs.specs.rules.Colours.{is_colour}
-use Rattle.miette_text.specs.rules.Wrapping.{Piece, Word, Cuts, Plan, map_indents, on_first, with_tag, with_code, no_characters, pieces, cell_tokens, columns, is_space, with_letter, with_space, words, onto, is_alphanumeric, begins_alphanumeric, hyphen_parts, broken_parts, with_spaces, first_room, further_room, cuts_of, hyphenated_parts, narrow_parts, parts, cut_words, word_cells, rows_behind, rows, only_spaces, trimmed_row, row_tokens, with_rest, piece_rows, text_rows, line_feed, joined_rows, filled_text, all_white, piece_tokens, indented_row, last_indented, whole_pieces, wrapped_tokens}
+use Rattle.miette_text.specs.rules.Wrapping.{TextLine, Word, Cuts, Plan, map_indents, on_first, with_tag, with_code, no_characters, text_lines, cell_tokens, columns, is_space, with_letter, with_space, words, onto, is_alphanumeric, begins_alphanumeric, hyphen_parts, broken_parts, with_spaces, first_room, further_room, cuts_of, hyphenated_parts, narrow_parts, parts, cut_words, word_cells, rows_behind, rows, only_spaces, trimmed_row, row_tokens, with_rest, text_line_rows, text_rows, line_feed, joined_rows, filled_text, all_white, text_line_tokens, indented_row, last_indented, whole_lines, wrapped_tokens}
 use Rattle.miette_runs.specs.rules.Cells.{Cell, width, token_width, columns_of}
 use Rattle.miette_text.proofs.ErasedTokens.{erased}
 
@@ -16,7 +16,7 @@ kept (m ∷ ms) = if is_colour m then kept ms else m ∷ kept ms
 abbrev pub strip : Cell → Cell
 strip c = record { tags = kept c.tags; code = c.code }
 
-abbrev pub strip_piece : Piece → Piece
+abbrev pub strip_piece : TextLine → TextLine
 strip_piece p = record { cells = map strip p.cells; rest = kept p.rest }
 
 abbrev pub strip_word : Word → Word
@@ -65,13 +65,13 @@ map-on_first : {A : Type 0} (f g h : A → A) → ((x : A) → f (g x) ≡ h (f 
 map-on_first f g h e [] = refl
 map-on_first f g h e (x ∷ xs) = ap (λ y. y ∷ map f xs) (e x)
 
-strip-tag : (s : List ℕ) → is_colour s ≡ false → (p : Piece) → strip_piece (with_tag s p) ≡ with_tag s (strip_piece p)
+strip-tag : (s : List ℕ) → is_colour s ≡ false → (p : TextLine) → strip_piece (with_tag s p) ≡ with_tag s (strip_piece p)
 strip-tag s h p = elim p.cells as (λ cs. strip_piece (with_tag s (record { cells = cs; rest = p.rest })) ≡ with_tag s (strip_piece (record { cells = cs; rest = p.rest }))) [
   | [] ↦ ap (λ (b : Bool). record { cells = []; rest = if b then kept p.rest else s ∷ kept p.rest }) h
   | c ∷ cs ↦ ap (λ (b : Bool). record { cells = record { tags = (if b then kept c.tags else s ∷ kept c.tags); code = c.code } ∷ map strip cs; rest = kept p.rest }) h
 ]
 
-strip-colour : (s : List ℕ) → is_colour s ≡ true → (p : Piece) → strip_piece (with_tag s p) ≡ strip_piece p
+strip-colour : (s : List ℕ) → is_colour s ≡ true → (p : TextLine) → strip_piece (with_tag s p) ≡ strip_piece p
 strip-colour s h p = elim p.cells as (λ cs. strip_piece (with_tag s (record { cells = cs; rest = p.rest })) ≡ strip_piece (record { cells = cs; rest = p.rest })) [
   | [] ↦ ap (λ (b : Bool). record { cells = []; rest = if b then kept p.rest else s ∷ kept p.rest }) h
   | c ∷ cs ↦ ap (λ (b : Bool). record { cells = record { tags = (if b then kept c.tags else s ∷ kept c.tags); code = c.code } ∷ map strip cs; rest = kept p.rest }) h
@@ -81,17 +81,17 @@ on_first_same : {A B : Type 0} (f : A → B) (g : A → A) → ((x : A) → f (g
 on_first_same f g e [] = refl
 on_first_same f g e (x ∷ xs) = ap (λ y. y ∷ map f xs) (e x)
 
-pub pieces-erased : (ts : List Token) → pieces (erased ts) ≡ map strip_piece (pieces ts)
+pub pieces-erased : (ts : List Token) → text_lines (erased ts) ≡ map strip_piece (text_lines ts)
 pieces-erased [] = refl
 pieces-erased (Character c ∷ ts) =
-    elim (is_line_feed c) as (λ b. (if b then no_characters ∷ pieces (erased ts) else on_first (with_code c) (pieces (erased ts))) ≡ map strip_piece (if b then no_characters ∷ pieces ts else on_first (with_code c) (pieces ts))) [
+    elim (is_line_feed c) as (λ b. (if b then no_characters ∷ text_lines (erased ts) else on_first (with_code c) (text_lines (erased ts))) ≡ map strip_piece (if b then no_characters ∷ text_lines ts else on_first (with_code c) (text_lines ts))) [
       | true ↦ ap (λ ps. no_characters ∷ ps) (pieces-erased ts)
-      | false ↦ ap (on_first (with_code c)) (pieces-erased ts) ∙ sym (map-on_first strip_piece (with_code c) (with_code c) (λ p. refl) (pieces ts))
+      | false ↦ ap (on_first (with_code c)) (pieces-erased ts) ∙ sym (map-on_first strip_piece (with_code c) (with_code c) (λ p. refl) (text_lines ts))
     ]
 pieces-erased (Sequence s ∷ ts) =
-    elim (is_colour s) as (λ b. is_colour s ≡ b → pieces (if b then erased ts else Sequence s ∷ erased ts) ≡ map strip_piece (on_first (with_tag s) (pieces ts))) [
-      | true ↦ λ h. pieces-erased ts ∙ sym (on_first_same strip_piece (with_tag s) (strip-colour s h) (pieces ts))
-      | false ↦ λ h. ap (on_first (with_tag s)) (pieces-erased ts) ∙ sym (map-on_first strip_piece (with_tag s) (with_tag s) (strip-tag s h) (pieces ts))
+    elim (is_colour s) as (λ b. is_colour s ≡ b → text_lines (if b then erased ts else Sequence s ∷ erased ts) ≡ map strip_piece (on_first (with_tag s) (text_lines ts))) [
+      | true ↦ λ h. pieces-erased ts ∙ sym (on_first_same strip_piece (with_tag s) (strip-colour s h) (text_lines ts))
+      | false ↦ λ h. ap (on_first (with_tag s)) (pieces-erased ts) ∙ sym (map-on_first strip_piece (with_tag s) (with_tag s) (strip-tag s h) (text_lines ts))
     ] refl
 
 -- ---- words
@@ -232,18 +232,18 @@ with_rest-erased rest [] = refl
 with_rest-erased rest (r ∷ []) = ap (λ us. us ∷ []) (ap (λ us. erased r ++ us) (sym (erased-tags rest)) ∙ sym (erased-append r (map Sequence rest)))
 with_rest-erased rest (r ∷ s ∷ rs) = ap (λ us. erased r ∷ us) (with_rest-erased rest (s ∷ rs))
 
-piece_rows-strip : (cuts : Cuts) (room further : ℕ) (p : Piece) → piece_rows cuts room further (strip_piece p) ≡ map erased (piece_rows cuts room further p)
+piece_rows-strip : (cuts : Cuts) (room further : ℕ) (p : TextLine) → text_line_rows cuts room further (strip_piece p) ≡ map erased (text_line_rows cuts room further p)
 piece_rows-strip cuts room further p =
     ap (λ ws. with_rest (kept p.rest) (map row_tokens (rows room further ws))) (cut_words-strip cuts p.cells)
     ∙ ap (λ rs. with_rest (kept p.rest) (map row_tokens rs)) (rows-strip room further (cut_words cuts p.cells))
     ∙ ap (with_rest (kept p.rest)) (map_along (map strip_word) row_tokens row_tokens erased row_tokens-strip (rows room further (cut_words cuts p.cells)))
     ∙ with_rest-erased p.rest (map row_tokens (rows room further (cut_words cuts p.cells)))
 
-text_rows-strip : (cuts : Cuts) (room further : ℕ) (ps : List Piece) → text_rows cuts room further (map strip_piece ps) ≡ map erased (text_rows cuts room further ps)
+text_rows-strip : (cuts : Cuts) (room further : ℕ) (ps : List TextLine) → text_rows cuts room further (map strip_piece ps) ≡ map erased (text_rows cuts room further ps)
 text_rows-strip cuts room further [] = refl
 text_rows-strip cuts room further (p ∷ ps) =
     ap₂ (λ us vs. us ++ vs) (piece_rows-strip cuts room further p) (text_rows-strip cuts further further ps)
-    ∙ sym (map-append erased (piece_rows cuts room further p) (text_rows cuts further further ps))
+    ∙ sym (map-append erased (text_line_rows cuts room further p) (text_rows cuts further further ps))
 
 erased-append_feed : (us vs ws : List Token) → erased (us ++ vs ++ line_feed ∷ ws) ≡ erased us ++ erased vs ++ line_feed ∷ erased ws
 erased-append_feed us vs ws = erased-append (us ++ vs) (line_feed ∷ ws) ∙ ap (λ ts. ts ++ line_feed ∷ erased ws) (erased-append us vs)
@@ -261,44 +261,44 @@ all_white-strip : (cs : List Cell) → all_white (map strip cs) ≡ all_white cs
 all_white-strip [] = refl
 all_white-strip (c ∷ cs) = ap (λ b. is_whitespace c.code && b) (all_white-strip cs)
 
-piece_tokens-strip : (p : Piece) → piece_tokens (strip_piece p) ≡ erased (piece_tokens p)
+piece_tokens-strip : (p : TextLine) → text_line_tokens (strip_piece p) ≡ erased (text_line_tokens p)
 piece_tokens-strip p = ap₂ (λ us vs. us ++ vs) (sym (erased-cells p.cells)) (sym (erased-tags p.rest)) ∙ sym (erased-append (flat_map cell_tokens p.cells) (map Sequence p.rest))
 
-indented-strip : (indent : List Token) (p : Piece) → indented_row (erased indent) (strip_piece p) ≡ erased (indented_row indent p)
+indented-strip : (indent : List Token) (p : TextLine) → indented_row (erased indent) (strip_piece p) ≡ erased (indented_row indent p)
 indented-strip indent p =
     ap₂ (λ (b : Bool) ts. (if b then trimmed_row (erased indent) else erased indent) ++ ts) (all_white-strip p.cells) (piece_tokens-strip p)
-    ∙ elim (all_white p.cells) as (λ b. (if b then trimmed_row (erased indent) else erased indent) ++ erased (piece_tokens p) ≡ erased ((if b then trimmed_row indent else indent) ++ piece_tokens p)) [
-      | true ↦ ap (λ ts. ts ++ erased (piece_tokens p)) (trimmed-erased indent) ∙ sym (erased-append (trimmed_row indent) (piece_tokens p))
-      | false ↦ sym (erased-append indent (piece_tokens p))
+    ∙ elim (all_white p.cells) as (λ b. (if b then trimmed_row (erased indent) else erased indent) ++ erased (text_line_tokens p) ≡ erased ((if b then trimmed_row indent else indent) ++ text_line_tokens p)) [
+      | true ↦ ap (λ ts. ts ++ erased (text_line_tokens p)) (trimmed-erased indent) ∙ sym (erased-append (trimmed_row indent) (text_line_tokens p))
+      | false ↦ sym (erased-append indent (text_line_tokens p))
     ]
 
-last_indented-strip : (indent : List Token) (p : Piece) → last_indented (erased indent) (strip_piece p) ≡ erased (last_indented indent p)
+last_indented-strip : (indent : List Token) (p : TextLine) → last_indented (erased indent) (strip_piece p) ≡ erased (last_indented indent p)
 last_indented-strip indent p = elim p.cells as (λ cs. last_indented (erased indent) (strip_piece (record { cells = cs; rest = p.rest })) ≡ erased (last_indented indent (record { cells = cs; rest = p.rest }))) [
   | [] ↦ sym (erased-tags p.rest)
   | c ∷ cs ↦ indented-strip indent (record { cells = c ∷ cs; rest = p.rest })
 ]
 
-pub whole_pieces-strip : (indent further : List Token) (ps : List Piece) → whole_pieces (erased indent) (erased further) (map strip_piece ps) ≡ erased (whole_pieces indent further ps)
+pub whole_pieces-strip : (indent further : List Token) (ps : List TextLine) → whole_lines (erased indent) (erased further) (map strip_piece ps) ≡ erased (whole_lines indent further ps)
 whole_pieces-strip indent further [] = refl
 whole_pieces-strip indent further (p ∷ []) = last_indented-strip indent p
 whole_pieces-strip indent further (p ∷ q ∷ ps) =
     ap₂ (λ us vs. us ++ line_feed ∷ vs) (indented-strip indent p) (whole_pieces-strip further further (q ∷ ps))
-    ∙ sym (erased-append (indented_row indent p) (line_feed ∷ whole_pieces further further (q ∷ ps)))
+    ∙ sym (erased-append (indented_row indent p) (line_feed ∷ whole_lines further further (q ∷ ps)))
 
 -- ---- all of it
 
 filled-erased : (p : Plan (List Token)) (ts : List Token) → filled_text (map_indents erased p) (erased ts) ≡ erased (filled_text p ts)
 filled-erased p ts =
-    ap₂ (λ m n. joined_rows (erased p.first) (erased p.further) (text_rows (record { hyphens = p.hyphens; breaks = p.breaks; narrow = min (p.room - m) (p.room - n) }) (p.room - m) (p.room - n) (pieces (erased ts)))) (columns_of-erased p.first) (columns_of-erased p.further)
+    ap₂ (λ m n. joined_rows (erased p.first) (erased p.further) (text_rows (record { hyphens = p.hyphens; breaks = p.breaks; narrow = min (p.room - m) (p.room - n) }) (p.room - m) (p.room - n) (text_lines (erased ts)))) (columns_of-erased p.first) (columns_of-erased p.further)
     ∙ ap (λ ps. joined_rows (erased p.first) (erased p.further) (text_rows (cuts_of p) (first_room p) (further_room p) ps)) (pieces-erased ts)
-    ∙ ap (joined_rows (erased p.first) (erased p.further)) (text_rows-strip (cuts_of p) (first_room p) (further_room p) (pieces ts))
-    ∙ joined-erased p.first p.further (text_rows (cuts_of p) (first_room p) (further_room p) (pieces ts))
+    ∙ ap (joined_rows (erased p.first) (erased p.further)) (text_rows-strip (cuts_of p) (first_room p) (further_room p) (text_lines ts))
+    ∙ joined-erased p.first p.further (text_rows (cuts_of p) (first_room p) (further_room p) (text_lines ts))
 
-whole-erased : (p : Plan (List Token)) (ts : List Token) → whole_pieces (erased p.first) (erased p.further) (pieces (erased ts)) ≡ erased (whole_pieces p.first p.further (pieces ts))
-whole-erased p ts = ap (whole_pieces (erased p.first) (erased p.further)) (pieces-erased ts) ∙ whole_pieces-strip p.first p.further (pieces ts)
+whole-erased : (p : Plan (List Token)) (ts : List Token) → whole_lines (erased p.first) (erased p.further) (text_lines (erased ts)) ≡ erased (whole_lines p.first p.further (text_lines ts))
+whole-erased p ts = ap (whole_lines (erased p.first) (erased p.further)) (pieces-erased ts) ∙ whole_pieces-strip p.first p.further (text_lines ts)
 
 pub wrapped-erased : (p : Plan (List Token)) (ts : List Token) → wrapped_tokens (map_indents erased p) (erased ts) ≡ erased (wrapped_tokens p ts)
-wrapped-erased p ts = elim p.wraps as (λ b. (if b then filled_text (map_indents erased p) (erased ts) else whole_pieces (erased p.first) (erased p.further) (pieces (erased ts))) ≡ erased (if b then filled_text p ts else whole_pieces p.first p.further (pieces ts))) [
+wrapped-erased p ts = elim p.wraps as (λ b. (if b then filled_text (map_indents erased p) (erased ts) else whole_lines (erased p.first) (erased p.further) (text_lines (erased ts))) ≡ erased (if b then filled_text p ts else whole_lines p.first p.further (text_lines ts))) [
   | true ↦ filled-erased p ts
   | false ↦ whole-erased p ts
 ]

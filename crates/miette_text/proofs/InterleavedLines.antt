@@ -5,7 +5,7 @@ use Rattle.std.proofs.lemmas.List.{take_all}
 use Rattle.std.specs.Char.{is_whitespace}
 use Rattle.miette_runs.specs.rules.Sequences.{Token, Character, spell}
 use Rattle.miette_style.specs.rules.Codes.{is_nil}
-use Rattle.miette_text.specs.rules.Wrapping.{Piece, all_white, indented_row, is_space, line_feed, only_spaces, pieces, trimmed_row, whole_pieces}
+use Rattle.miette_text.specs.rules.Wrapping.{TextLine, all_white, indented_row, is_space, line_feed, only_spaces, text_lines, trimmed_row, whole_lines}
 use Rattle.miette_text.specs.steps.Ends.{all_spaces, bare_len, line_len}
 use Rattle.miette_runs.specs.steps.Cells.{plain_cells}
 use Rattle.miette_runs.specs.rules.Cells.{piece_text}
@@ -79,11 +79,11 @@ indent-codes last indent short at cs tags =
 
 -- what the lines from a place on print
 abbrev pub whole_at : List Token → List Token → ℕ → List ℕ → List Tag → List ℕ
-whole_at indent further at cs tags = spell (whole_pieces indent further (pieces (interleaving at cs tags)))
+whole_at indent further at cs tags = spell (whole_lines indent further (text_lines (interleaving at cs tags)))
 
-more-pieces : (indent further : List Token) (p : Piece) (ps : List Piece) → 0 < length ps → spell (whole_pieces indent further (p ∷ ps)) ≡ spell (indented_row indent p) ++ 10 ∷ spell (whole_pieces further further ps)
+more-pieces : (indent further : List Token) (p : TextLine) (ps : List TextLine) → 0 < length ps → spell (whole_lines indent further (p ∷ ps)) ≡ spell (indented_row indent p) ++ 10 ∷ spell (whole_lines further further ps)
 more-pieces indent further p [] h = absurd (omega arith)
-more-pieces indent further p (q ∷ ps) h = spell-append (indented_row indent p) (line_feed ∷ whole_pieces further further (q ∷ ps))
+more-pieces indent further p (q ∷ ps) h = spell-append (indented_row indent p) (line_feed ∷ whole_lines further further (q ∷ ps))
 
 -- the text of one line: its indent, its characters with their tags, and the tags at its end
 abbrev pub line_text : Bool → List Token → ℕ → List ℕ → List Tag → List Tag → List ℕ
@@ -99,12 +99,12 @@ line-indented indent at line tags rest =
 
 -- the first line is the first piece
 pieces-at : (at n : ℕ) (cs : List ℕ) (tags : List Tag) → n ≡ line_len cs → n < length cs →
-    pieces (interleaving at cs tags)
+    text_lines (interleaving at cs tags)
     ≡ record { cells = cells_at at (take n cs) tags; rest = map tag_text (upto (at + n) (left_at at (take n cs) tags)) }
-    ∷ pieces (interleaving ((at + n) + 1) (drop (suc n) cs) (beyond (at + n) (left_at at (take n cs) tags)))
+    ∷ text_lines (interleaving ((at + n) + 1) (drop (suc n) cs) (beyond (at + n) (left_at at (take n cs) tags)))
 pieces-at at n cs tags e l =
     line-first at cs tags (omega arith)
-    ∙ ap (λ k. record { cells = cells_at at (take k cs) tags; rest = map tag_text (upto (at + k) (left_at at (take k cs) tags)) } ∷ pieces (interleaving ((at + k) + 1) (drop (suc k) cs) (beyond (at + k) (left_at at (take k cs) tags)))) (sym e)
+    ∙ ap (λ k. record { cells = cells_at at (take k cs) tags; rest = map tag_text (upto (at + k) (left_at at (take k cs) tags)) } ∷ text_lines (interleaving ((at + k) + 1) (drop (suc k) cs) (beyond (at + k) (left_at at (take k cs) tags)))) (sym e)
 
 pub whole-line : (indent further : List Token) (at n : ℕ) (cs : List ℕ) (tags : List Tag) → n ≡ line_len cs → n < length cs →
     whole_at indent further at cs tags
@@ -113,18 +113,18 @@ pub whole-line : (indent further : List Token) (at n : ℕ) (cs : List ℕ) (tag
 whole-line indent further at n cs tags e l =
     let left = left_at at (take n cs) tags in
     let below = interleaving ((at + n) + 1) (drop (suc n) cs) (beyond (at + n) left) in
-    let p : Piece = record { cells = cells_at at (take n cs) tags; rest = map tag_text (upto (at + n) left) } in
-    let split : pieces (interleaving at cs tags) ≡ p ∷ pieces below = pieces-at at n cs tags e l in
-    ap (λ ps. spell (whole_pieces indent further ps)) split
-    ∙ more-pieces indent further p (pieces below) (pieces-some below)
-    ∙ ap (λ us. us ++ 10 ∷ spell (whole_pieces further further (pieces below))) (line-indented indent at (take n cs) tags (upto (at + n) left))
+    let p : TextLine = record { cells = cells_at at (take n cs) tags; rest = map tag_text (upto (at + n) left) } in
+    let split : text_lines (interleaving at cs tags) ≡ p ∷ text_lines below = pieces-at at n cs tags e l in
+    ap (λ ps. spell (whole_lines indent further ps)) split
+    ∙ more-pieces indent further p (text_lines below) (pieces-some below)
+    ∙ ap (λ us. us ++ 10 ∷ spell (whole_lines further further (text_lines below))) (line-indented indent at (take n cs) tags (upto (at + n) left))
 
 pub whole-end : (indent further : List Token) (at n : ℕ) (cs : List ℕ) (tags : List Tag) → n ≡ line_len cs → n ≡ length cs →
     whole_at indent further at cs tags ≡ line_text true indent at cs tags (left_at at cs tags)
 whole-end indent further at n cs tags e l =
     let cells = cells_at at cs tags in
     let left = left_at at cs tags in
-    ap (λ ps. spell (whole_pieces indent further ps)) (line-last at cs tags (omega arith))
+    ap (λ ps. spell (whole_lines indent further ps)) (line-last at cs tags (omega arith))
     ∙ spell-last indent (record { cells = cells; rest = map tag_text left })
     ∙ ap₂ (λ us vs. (us ++ piece_text cells) ++ vs) (indent-codes true (spell indent) (spell (trimmed_row indent)) at cs tags) (spelled-flat left)
     ∙ append_assoc (indent_text true (spell indent) (spell (trimmed_row indent)) (plain_cells cs)) (piece_text cells) (tags_spelled left)

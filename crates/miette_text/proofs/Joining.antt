@@ -2,7 +2,7 @@
 use Rattle.std.proofs.Common.{◌≡◌, ℕ, true, false, not, ◌&&◌, List, [], ◌∷◌, ◌++◌, map, flat_map, refl, sym, ap, ap₂, ◌∙◌, append_assoc, append-nil, if◌then◌else◌}
 use Rattle.std.proofs.lemmas.List.{map-append}
 use Rattle.miette_runs.specs.rules.Sequences.{concatenation, Token, Character, Sequence, spell}
-use Rattle.miette_text.specs.rules.Wrapping.{Cuts, Piece, Word, is_space, cell_tokens, cut_words, piece_rows, rows, text_rows, trimmed_row, only_spaces, row_tokens, with_rest, joined_rows, line_feed}
+use Rattle.miette_text.specs.rules.Wrapping.{Cuts, TextLine, Word, is_space, cell_tokens, cut_words, text_line_rows, rows, text_rows, trimmed_row, only_spaces, row_tokens, with_rest, joined_rows, line_feed}
 use Rattle.miette_runs.specs.rules.Cells.{Cell}
 use Rattle.miette_text.specs.steps.Ends.{all_spaces, row_cells}
 use Rattle.miette_text.proofs.RowTexts.{shown, lines_of, behind, joined_lines}
@@ -60,25 +60,25 @@ spell-joined first further (r ∷ s ∷ rs) =
 -- ---- what the rows of pieces spell
 
 -- the lines of a piece
-abbrev pub piece_lines : Cuts → ℕ → ℕ → Piece → List (List ℕ)
+abbrev pub piece_lines : Cuts → ℕ → ℕ → TextLine → List (List ℕ)
 piece_lines cuts room further p = lines_of p.rest (map row_cells (rows room further (cut_words cuts p.cells)))
 
 -- the lines of pieces
-abbrev pub lines_from : Cuts → ℕ → ℕ → List Piece → List (List ℕ)
+abbrev pub lines_from : Cuts → ℕ → ℕ → List TextLine → List (List ℕ)
 lines_from cuts room further [] = []
 lines_from cuts room further (p ∷ ps) = piece_lines cuts room further p ++ lines_from cuts further further ps
 
-spell-piece_rows : (cuts : Cuts) (room further : ℕ) (p : Piece) → map spell (piece_rows cuts room further p) ≡ piece_lines cuts room further p
+spell-piece_rows : (cuts : Cuts) (room further : ℕ) (p : TextLine) → map spell (text_line_rows cuts room further p) ≡ piece_lines cuts room further p
 spell-piece_rows cuts room further p = spell-rows p.rest (rows room further (cut_words cuts p.cells))
 
-pub spell-text_rows : (cuts : Cuts) (room further : ℕ) (ps : List Piece) → map spell (text_rows cuts room further ps) ≡ lines_from cuts room further ps
+pub spell-text_rows : (cuts : Cuts) (room further : ℕ) (ps : List TextLine) → map spell (text_rows cuts room further ps) ≡ lines_from cuts room further ps
 spell-text_rows cuts room further [] = refl
 spell-text_rows cuts room further (p ∷ ps) =
-    map-append spell (piece_rows cuts room further p) (text_rows cuts further further ps)
+    map-append spell (text_line_rows cuts room further p) (text_rows cuts further further ps)
     ∙ ap₂ (λ us vs. us ++ vs) (spell-piece_rows cuts room further p) (spell-text_rows cuts further further ps)
 
-pub piece-printed : (cuts : Cuts) (room further : ℕ) (indent : List Token) (p : Piece) → spell (joined_rows [] indent (piece_rows cuts room further p)) ≡ joined_lines [] (spell indent) (piece_lines cuts room further p)
-piece-printed cuts room further indent p = spell-joined [] indent (piece_rows cuts room further p) ∙ ap (joined_lines [] (spell indent)) (spell-piece_rows cuts room further p)
+pub piece-printed : (cuts : Cuts) (room further : ℕ) (indent : List Token) (p : TextLine) → spell (joined_rows [] indent (text_line_rows cuts room further p)) ≡ joined_lines [] (spell indent) (piece_lines cuts room further p)
+piece-printed cuts room further indent p = spell-joined [] indent (text_line_rows cuts room further p) ∙ ap (joined_lines [] (spell indent)) (spell-piece_rows cuts room further p)
 
-pub text-printed : (cuts : Cuts) (room further : ℕ) (indent : List Token) (ps : List Piece) → spell (joined_rows [] indent (text_rows cuts room further ps)) ≡ joined_lines [] (spell indent) (lines_from cuts room further ps)
+pub text-printed : (cuts : Cuts) (room further : ℕ) (indent : List Token) (ps : List TextLine) → spell (joined_rows [] indent (text_rows cuts room further ps)) ≡ joined_lines [] (spell indent) (lines_from cuts room further ps)
 text-printed cuts room further indent ps = spell-joined [] indent (text_rows cuts room further ps) ∙ ap (joined_lines [] (spell indent)) (spell-text_rows cuts room further ps)

@@ -2,7 +2,7 @@
 use Rattle.std.proofs.Common.{◌≡◌, ℕ, suc, ◌+◌, ◌-◌, ◌<◌, ◌≤◌, min, Bool, true, false, List, [], ◌∷◌, ◌++◌, map, length, take, drop, refl, sym, ap, ap₂, ◌∙◌, append_assoc, append-nil, if◌then◌else◌, arith, eqb-true}
 use Rattle.std.proofs.lemmas.List.{length-map}
 use Rattle.miette_runs.specs.rules.Sequences.{Token, Character, Sequence, is_line_feed, concatenation, spell}
-use Rattle.miette_text.specs.rules.Wrapping.{Cuts, Piece, Plan, Word, cut_words, filled_text, joined_rows, line_feed, text_rows, on_first, with_tag, with_code, no_characters, pieces, onto, rows, rows_behind, columns, word_cells}
+use Rattle.miette_text.specs.rules.Wrapping.{Cuts, TextLine, Plan, Word, cut_words, filled_text, joined_rows, line_feed, text_rows, on_first, with_tag, with_code, no_characters, text_lines, onto, rows, rows_behind, columns, word_cells}
 use Rattle.miette_runs.specs.rules.Cells.{Cell, columns_of}
 use Rattle.miette_text.specs.steps.Ends.{line_len, row_cells}
 use Rattle.miette_runs.specs.views.Interleaving.{beyond, cells_at, left_at, tag_text, tag_token, tags_spelled, upto, interleaving}
@@ -14,16 +14,16 @@ use Rattle.miette_text.proofs.InterleavedCells.{spelled-flat}
 
 -- ---- pieces
 
-on-some : (f : Piece → Piece) (ps : List Piece) → 0 < length ps → 0 < length (on_first f ps)
+on-some : (f : TextLine → TextLine) (ps : List TextLine) → 0 < length ps → 0 < length (on_first f ps)
 on-some f [] h = h
 on-some f (p ∷ ps) h = omega arith
 
-pub pieces-some : (ts : List Token) → 0 < length (pieces ts)
+pub pieces-some : (ts : List Token) → 0 < length (text_lines ts)
 pieces-some [] = omega arith
-pieces-some (Sequence s ∷ ts) = on-some (with_tag s) (pieces ts) (pieces-some ts)
-pieces-some (Character c ∷ ts) = elim (is_line_feed c) as (λ v. 0 < length (if v then no_characters ∷ pieces ts else on_first (with_code c) (pieces ts))) [
+pieces-some (Sequence s ∷ ts) = on-some (with_tag s) (text_lines ts) (pieces-some ts)
+pieces-some (Character c ∷ ts) = elim (is_line_feed c) as (λ v. 0 < length (if v then no_characters ∷ text_lines ts else on_first (with_code c) (text_lines ts))) [
   | true ↦ omega arith
-  | false ↦ on-some (with_code c) (pieces ts) (pieces-some ts)
+  | false ↦ on-some (with_code c) (text_lines ts) (pieces-some ts)
 ]
 
 -- ---- lines, joined
@@ -52,7 +52,7 @@ append-some (x ∷ xs) ys h = omega arith
 pub rows-some : (room further : ℕ) (ws : List Word) → 0 < length (map row_cells (rows room further ws))
 rows-some room further ws = map-some (rows room further ws) (all-some room further ws)
 
-lines-some : (cuts : Cuts) (room further : ℕ) (ps : List Piece) → 0 < length ps → 0 < length (lines_from cuts room further ps)
+lines-some : (cuts : Cuts) (room further : ℕ) (ps : List TextLine) → 0 < length ps → 0 < length (lines_from cuts room further ps)
 lines-some cuts room further [] l = l
 lines-some cuts room further (p ∷ ps) l = append-some (piece_lines cuts room further p) (lines_from cuts further further ps)
     (lines_of-some p.rest (map row_cells (rows room further (cut_words cuts p.cells))) (rows-some room further (cut_words cuts p.cells)))
@@ -77,25 +77,25 @@ bare-append further (x ∷ xs) (y ∷ ys) h k =
 
 -- the text of all lines
 abbrev pub text_of : Cuts → List ℕ → ℕ → ℕ → List Token → List ℕ
-text_of cuts further room room' ts = bare_lines further (lines_from cuts room room' (pieces ts))
+text_of cuts further room room' ts = bare_lines further (lines_from cuts room room' (text_lines ts))
 
 joined-first : (first further : List Token) (rs : List (List Token)) → 0 < length rs → joined_rows first further rs ≡ first ++ joined_rows [] further rs
 joined-first first further [] h = absurd (omega arith)
 joined-first first further (r ∷ []) h = refl
 joined-first first further (r ∷ s ∷ rs) h = append_assoc first r (line_feed ∷ joined_rows further further (s ∷ rs))
 
-rows-of-text : (cuts : Cuts) (room room' : ℕ) (ts : List Token) → 0 < length (text_rows cuts room room' (pieces ts))
-rows-of-text cuts room room' ts = omega (arith, lines-some cuts room room' (pieces ts) (pieces-some ts), ap length (spell-text_rows cuts room room' (pieces ts)), length-map (text_rows cuts room room' (pieces ts)) spell)
+rows-of-text : (cuts : Cuts) (room room' : ℕ) (ts : List Token) → 0 < length (text_rows cuts room room' (text_lines ts))
+rows-of-text cuts room room' ts = omega (arith, lines-some cuts room room' (text_lines ts) (pieces-some ts), ap length (spell-text_rows cuts room room' (text_lines ts)), length-map (text_rows cuts room room' (text_lines ts)) spell)
 
 -- behind the first indent
 pub filled-text : (p : Plan (List Token)) (text : List Token) (narrow room room' : ℕ) (f f' t : List Token) → f ≡ p.first → f' ≡ p.further → t ≡ text → room ≡ p.room - columns_of f → room' ≡ p.room - columns_of f' → narrow ≡ min room room' →
-    spell f ++ spell (joined_rows [] f' (text_rows (record { hyphens = p.hyphens; breaks = p.breaks; narrow = narrow }) room room' (pieces t))) ≡ spell (filled_text p text)
+    spell f ++ spell (joined_rows [] f' (text_rows (record { hyphens = p.hyphens; breaks = p.breaks; narrow = narrow }) room room' (text_lines t))) ≡ spell (filled_text p text)
 filled-text p text narrow room room' f f' t i j k q r e =
-    sym (spell-append f (joined_rows [] f' (text_rows (record { hyphens = p.hyphens; breaks = p.breaks; narrow = narrow }) room room' (pieces t))))
-    ∙ ap spell (sym (joined-first f f' (text_rows (record { hyphens = p.hyphens; breaks = p.breaks; narrow = narrow }) room room' (pieces t)) (rows-of-text (record { hyphens = p.hyphens; breaks = p.breaks; narrow = narrow }) room room' t)))
-    ∙ ap (λ n. spell (joined_rows f f' (text_rows (record { hyphens = p.hyphens; breaks = p.breaks; narrow = n }) room room' (pieces t)))) e
-    ∙ ap₂ (λ m n. spell (joined_rows f f' (text_rows (record { hyphens = p.hyphens; breaks = p.breaks; narrow = min m n }) m n (pieces t)))) q r
-    ∙ ap₂ (λ us vs. spell (joined_rows us vs (text_rows (record { hyphens = p.hyphens; breaks = p.breaks; narrow = min (p.room - columns_of us) (p.room - columns_of vs) }) (p.room - columns_of us) (p.room - columns_of vs) (pieces t)))) i j
+    sym (spell-append f (joined_rows [] f' (text_rows (record { hyphens = p.hyphens; breaks = p.breaks; narrow = narrow }) room room' (text_lines t))))
+    ∙ ap spell (sym (joined-first f f' (text_rows (record { hyphens = p.hyphens; breaks = p.breaks; narrow = narrow }) room room' (text_lines t)) (rows-of-text (record { hyphens = p.hyphens; breaks = p.breaks; narrow = narrow }) room room' t)))
+    ∙ ap (λ n. spell (joined_rows f f' (text_rows (record { hyphens = p.hyphens; breaks = p.breaks; narrow = n }) room room' (text_lines t)))) e
+    ∙ ap₂ (λ m n. spell (joined_rows f f' (text_rows (record { hyphens = p.hyphens; breaks = p.breaks; narrow = min m n }) m n (text_lines t)))) q r
+    ∙ ap₂ (λ us vs. spell (joined_rows us vs (text_rows (record { hyphens = p.hyphens; breaks = p.breaks; narrow = min (p.room - columns_of us) (p.room - columns_of vs) }) (p.room - columns_of us) (p.room - columns_of vs) (text_lines t)))) i j
     ∙ ap (λ us. spell (filled_text p us)) k
 
 -- ---- what stands behind the rows of a piece
@@ -117,23 +117,23 @@ rest-behind further rest (r ∷ s ∷ ss) h =
 
 -- ---- the pieces of what is woven
 
-abbrev with_tags : List (List ℕ) → Piece → Piece
+abbrev with_tags : List (List ℕ) → TextLine → TextLine
 with_tags [] p = p
 with_tags (m ∷ ms) p = with_tag m (with_tags ms p)
 
-on-tags : (m : List ℕ) (ms : List (List ℕ)) (ps : List Piece) → on_first (with_tag m) (on_first (with_tags ms) ps) ≡ on_first (with_tags (m ∷ ms)) ps
+on-tags : (m : List ℕ) (ms : List (List ℕ)) (ps : List TextLine) → on_first (with_tag m) (on_first (with_tags ms) ps) ≡ on_first (with_tags (m ∷ ms)) ps
 on-tags m ms [] = refl
 on-tags m ms (p ∷ ps) = refl
 
-on-nothing : (ps : List Piece) → ps ≡ on_first (with_tags []) ps
+on-nothing : (ps : List TextLine) → ps ≡ on_first (with_tags []) ps
 on-nothing [] = refl
 on-nothing (p ∷ ps) = refl
 
-tags-pieces : (ms : List Tag) (ts : List Token) → pieces (map tag_token ms ++ ts) ≡ on_first (with_tags (map tag_text ms)) (pieces ts)
-tags-pieces [] ts = on-nothing (pieces ts)
-tags-pieces (m ∷ ms) ts = ap (on_first (with_tag (tag_text m))) (tags-pieces ms ts) ∙ on-tags (tag_text m) (map tag_text ms) (pieces ts)
+tags-pieces : (ms : List Tag) (ts : List Token) → text_lines (map tag_token ms ++ ts) ≡ on_first (with_tags (map tag_text ms)) (text_lines ts)
+tags-pieces [] ts = on-nothing (text_lines ts)
+tags-pieces (m ∷ ms) ts = ap (on_first (with_tag (tag_text m))) (tags-pieces ms ts) ∙ on-tags (tag_text m) (map tag_text ms) (text_lines ts)
 
-tags-code : (c : ℕ) (ms : List (List ℕ)) (p : Piece) → with_tags ms (with_code c p) ≡ record { cells = record { tags = ms; code = c } ∷ p.cells; rest = p.rest }
+tags-code : (c : ℕ) (ms : List (List ℕ)) (p : TextLine) → with_tags ms (with_code c p) ≡ record { cells = record { tags = ms; code = c } ∷ p.cells; rest = p.rest }
 tags-code c [] p = refl
 tags-code c (m ∷ ms) p = ap (with_tag m) (tags-code c ms p)
 
@@ -142,25 +142,25 @@ tags-nothing [] = refl
 tags-nothing (m ∷ ms) = ap (with_tag m) (tags-nothing ms)
 
 -- the piece of a line
-abbrev line_piece : ℕ → List ℕ → List Tag → List (List ℕ) → Piece
+abbrev line_piece : ℕ → List ℕ → List Tag → List (List ℕ) → TextLine
 line_piece at line ms rest = record { cells = cells_at at line ms; rest = rest }
 
 -- a character in front of a line
-woven-more : (at c : ℕ) (ms : List Tag) (p : Piece) (ps : List Piece) (ts : List Token) → is_line_feed c ≡ false → pieces ts ≡ p ∷ ps →
-    pieces (map tag_token (upto at ms) ++ Character c ∷ ts) ≡ record { cells = record { tags = map tag_text (upto at ms); code = c } ∷ p.cells; rest = p.rest } ∷ ps
+woven-more : (at c : ℕ) (ms : List Tag) (p : TextLine) (ps : List TextLine) (ts : List Token) → is_line_feed c ≡ false → text_lines ts ≡ p ∷ ps →
+    text_lines (map tag_token (upto at ms) ++ Character c ∷ ts) ≡ record { cells = record { tags = map tag_text (upto at ms); code = c } ∷ p.cells; rest = p.rest } ∷ ps
 woven-more at c ms p ps ts f e =
     tags-pieces (upto at ms) (Character c ∷ ts)
     ∙ ap (on_first (with_tags (map tag_text (upto at ms)))) (ap₂ (λ (v : Bool) us. if v then no_characters ∷ us else on_first (with_code c) us) f e)
     ∙ ap (λ q. q ∷ ps) (tags-code c (map tag_text (upto at ms)) p)
 
 -- at a line's end
-woven-feed : (at : ℕ) (cs : List ℕ) (ms : List Tag) → pieces (interleaving at (10 ∷ cs) ms) ≡ line_piece at [] ms (map tag_text (upto at ms)) ∷ pieces (interleaving (suc at) cs (beyond at ms))
+woven-feed : (at : ℕ) (cs : List ℕ) (ms : List Tag) → text_lines (interleaving at (10 ∷ cs) ms) ≡ line_piece at [] ms (map tag_text (upto at ms)) ∷ text_lines (interleaving (suc at) cs (beyond at ms))
 woven-feed at cs ms =
     tags-pieces (upto at ms) (Character 10 ∷ interleaving (suc at) cs (beyond at ms))
-    ∙ ap (λ p. p ∷ pieces (interleaving (suc at) cs (beyond at ms))) (tags-nothing (map tag_text (upto at ms)))
+    ∙ ap (λ p. p ∷ text_lines (interleaving (suc at) cs (beyond at ms))) (tags-nothing (map tag_text (upto at ms)))
 
 -- at the text's end
-tags-end : (ms : List Tag) → pieces (map tag_token ms) ≡ record { cells = []; rest = map tag_text ms } ∷ []
+tags-end : (ms : List Tag) → text_lines (map tag_token ms) ≡ record { cells = []; rest = map tag_text ms } ∷ []
 tags-end [] = refl
 tags-end (m ∷ ms) = ap (on_first (with_tag (tag_text m))) (tags-end ms)
 
@@ -172,25 +172,25 @@ abbrev below_of : ℕ → ℕ → List ℕ → List Tag → List Token
 below_of n at cs ms = interleaving ((at + n) + 1) (drop (suc n) cs) (beyond (at + n) (left_at at (take n cs) ms))
 
 pub line-first : (at : ℕ) (cs : List ℕ) (ms : List Tag) → line_len cs < length cs →
-    pieces (interleaving at cs ms) ≡ line_piece at (take (line_len cs) cs) ms (rest_of (line_len cs) at cs ms) ∷ pieces (below_of (line_len cs) at cs ms)
+    text_lines (interleaving at cs ms) ≡ line_piece at (take (line_len cs) cs) ms (rest_of (line_len cs) at cs ms) ∷ text_lines (below_of (line_len cs) at cs ms)
 line-first at [] ms h = absurd (omega arith)
 line-first at (c ∷ cs) ms h = elim (is_line_feed c) as (λ v. is_line_feed c ≡ v → (if v then 0 else suc (line_len cs)) < suc (length cs) →
-    pieces (interleaving at (c ∷ cs) ms) ≡ line_piece at (take (if v then 0 else suc (line_len cs)) (c ∷ cs)) ms (rest_of (if v then 0 else suc (line_len cs)) at (c ∷ cs) ms) ∷ pieces (below_of (if v then 0 else suc (line_len cs)) at (c ∷ cs) ms)) [
+    text_lines (interleaving at (c ∷ cs) ms) ≡ line_piece at (take (if v then 0 else suc (line_len cs)) (c ∷ cs)) ms (rest_of (if v then 0 else suc (line_len cs)) at (c ∷ cs) ms) ∷ text_lines (below_of (if v then 0 else suc (line_len cs)) at (c ∷ cs) ms)) [
       | true ↦ λ e l.
-          ap (λ k. pieces (interleaving at (k ∷ cs) ms)) (eqb-true c 10 e)
+          ap (λ k. text_lines (interleaving at (k ∷ cs) ms)) (eqb-true c 10 e)
           ∙ woven-feed at cs ms
-          ∙ ap₂ (λ (i j : ℕ). line_piece at [] ms (map tag_text (upto i ms)) ∷ pieces (interleaving j cs (beyond i ms))) (omega arith) (omega arith)
+          ∙ ap₂ (λ (i j : ℕ). line_piece at [] ms (map tag_text (upto i ms)) ∷ text_lines (interleaving j cs (beyond i ms))) (omega arith) (omega arith)
       | false ↦ λ e l.
           (let n = line_len cs in
           let ms' = beyond at ms in
-          woven-more at c ms (line_piece (suc at) (take n cs) ms' (rest_of n (suc at) cs ms')) (pieces (below_of n (suc at) cs ms')) (interleaving (suc at) cs ms') e (line-first (suc at) cs ms' (omega arith))
-          ∙ ap₂ (λ (i j : ℕ). line_piece at (c ∷ take n cs) ms (map tag_text (upto i (left_at (suc at) (take n cs) ms'))) ∷ pieces (interleaving j (drop (suc n) cs) (beyond i (left_at (suc at) (take n cs) ms')))) (omega arith) (omega arith))
+          woven-more at c ms (line_piece (suc at) (take n cs) ms' (rest_of n (suc at) cs ms')) (text_lines (below_of n (suc at) cs ms')) (interleaving (suc at) cs ms') e (line-first (suc at) cs ms' (omega arith))
+          ∙ ap₂ (λ (i j : ℕ). line_piece at (c ∷ take n cs) ms (map tag_text (upto i (left_at (suc at) (take n cs) ms'))) ∷ text_lines (interleaving j (drop (suc n) cs) (beyond i (left_at (suc at) (take n cs) ms')))) (omega arith) (omega arith))
     ] refl h
 
-pub line-last : (at : ℕ) (cs : List ℕ) (ms : List Tag) → length cs ≤ line_len cs → pieces (interleaving at cs ms) ≡ line_piece at cs ms (map tag_text (left_at at cs ms)) ∷ []
+pub line-last : (at : ℕ) (cs : List ℕ) (ms : List Tag) → length cs ≤ line_len cs → text_lines (interleaving at cs ms) ≡ line_piece at cs ms (map tag_text (left_at at cs ms)) ∷ []
 line-last at [] ms h = tags-end ms
 line-last at (c ∷ cs) ms h = elim (is_line_feed c) as (λ v. is_line_feed c ≡ v → suc (length cs) ≤ (if v then 0 else suc (line_len cs)) →
-    pieces (interleaving at (c ∷ cs) ms) ≡ line_piece at (c ∷ cs) ms (map tag_text (left_at at (c ∷ cs) ms)) ∷ []) [
+    text_lines (interleaving at (c ∷ cs) ms) ≡ line_piece at (c ∷ cs) ms (map tag_text (left_at at (c ∷ cs) ms)) ∷ []) [
       | true ↦ λ e l. absurd (omega arith)
       | false ↦ λ e l. woven-more at c ms (line_piece (suc at) cs (beyond at ms) (map tag_text (left_at (suc at) cs (beyond at ms)))) [] (interleaving (suc at) cs (beyond at ms)) e (line-last (suc at) cs (beyond at ms) (omega arith))
     ] refl h
@@ -206,7 +206,7 @@ piece-text : (cuts : Cuts) (room room' at : ℕ) (further line : List ℕ) (ms :
 piece-text cuts room room' at further line ms rest =
     rest-behind further rest (map row_cells (rows room room' (cut_words cuts (cells_at at line ms)))) (rows-some room room' (cut_words cuts (cells_at at line ms)))
 
-piece-some : (cuts : Cuts) (room room' : ℕ) (p : Piece) → 0 < length (piece_lines cuts room room' p)
+piece-some : (cuts : Cuts) (room room' : ℕ) (p : TextLine) → 0 < length (piece_lines cuts room room' p)
 piece-some cuts room room' p = lines_of-some p.rest (map row_cells (rows room room' (cut_words cuts p.cells))) (rows-some room room' (cut_words cuts p.cells))
 
 pub line-at : (cuts : Cuts) (further : List ℕ) (room room' n at : ℕ) (cs : List ℕ) (ms : List Tag) → n ≡ line_len cs → n < length cs →
@@ -216,11 +216,11 @@ pub line-at : (cuts : Cuts) (further : List ℕ) (room room' n at : ℕ) (cs : L
 line-at cuts further room room' n at cs ms e l =
     let p = line_piece at (take n cs) ms (rest_of n at cs ms) in
     let below = below_of n at cs ms in
-    let split : pieces (interleaving at cs ms) ≡ p ∷ pieces below =
-    line-first at cs ms (omega arith) ∙ ap (λ k. line_piece at (take k cs) ms (rest_of k at cs ms) ∷ pieces (below_of k at cs ms)) (sym e) in
+    let split : text_lines (interleaving at cs ms) ≡ p ∷ text_lines below =
+    line-first at cs ms (omega arith) ∙ ap (λ k. line_piece at (take k cs) ms (rest_of k at cs ms) ∷ text_lines (below_of k at cs ms)) (sym e) in
     let next : suc n ≡ n + 1 = omega arith in
     ap (λ ps. bare_lines further (lines_from cuts room room' ps)) split
-    ∙ bare-append further (piece_lines cuts room room' p) (lines_from cuts room' room' (pieces below)) (piece-some cuts room room' p) (lines-some cuts room' room' (pieces below) (pieces-some below))
+    ∙ bare-append further (piece_lines cuts room room' p) (lines_from cuts room' room' (text_lines below)) (piece-some cuts room room' p) (lines-some cuts room' room' (text_lines below) (pieces-some below))
     ∙ ap (λ us. us ++ ((10 ∷ further) ++ text_of cuts further room' room' below)) (piece-text cuts room room' at further (take n cs) ms (rest_of n at cs ms))
     ∙ ap (λ k. (line_text cuts further room room' at (take n cs) ms ++ concatenation (rest_of n at cs ms)) ++ ((10 ∷ further) ++ text_of cuts further room' room' (interleaving ((at + n) + 1) (drop k cs) (beyond (at + n) (left_at at (take n cs) ms))))) next
 

@@ -7,7 +7,7 @@ use Rattle.std.specs.Char.{is_whitespace}
 use Rattle.miette_style.specs.rules.Escapes.{is_escape, no_escape}
 use Rattle.miette_runs.specs.rules.Sequences.{Token, Character, tokens, spell, is_line_feed, are_settled}
 use Rattle.miette_text.specs.rules.FilledRows.{Fits, IsFilled}
-use Rattle.miette_text.specs.rules.Wrapping.{Cuts, Piece, Plan, Word, all_white, cell_tokens, columns, cut_words, cuts_of, filled_text, first_room, further_room, is_space, joined_rows, map_indents, on_first, only_spaces, piece_rows, pieces, row_tokens, rows, text_rows, trimmed_row, whole_pieces, with_code, with_rest, word_cells, wrapped_text}
+use Rattle.miette_text.specs.rules.Wrapping.{Cuts, TextLine, Plan, Word, all_white, cell_tokens, columns, cut_words, cuts_of, filled_text, first_room, further_room, is_space, joined_rows, map_indents, on_first, only_spaces, text_line_rows, text_lines, row_tokens, rows, text_rows, trimmed_row, whole_lines, with_code, with_rest, word_cells, wrapped_text}
 use Rattle.miette_runs.specs.rules.Cells.{Cell, columns_of, width}
 use Rattle.miette_text.specs.steps.Ends.{codes_of, row_cells}
 use Rattle.miette_runs.specs.steps.Cells.{code_columns, plain_cells}
@@ -22,23 +22,23 @@ use Rattle.miette_text.proofs.Unique.{only_rows}
 
 -- ---- a line is one piece
 
-abbrev line_piece : List ℕ → Piece
+abbrev line_piece : List ℕ → TextLine
 line_piece cs = record { cells = plain_cells cs; rest = [] }
 
 no_escape-line : (cs : List ℕ) → is_line cs ≡ true → no_escape cs ≡ true
 no_escape-line [] h = refl
 no_escape-line (c ∷ cs) h = grind (arith, nat_tests, no_escape-line cs)
 
-pieces-line : (cs : List ℕ) → is_line cs ≡ true → pieces (map Character cs) ≡ line_piece cs ∷ []
+pieces-line : (cs : List ℕ) → is_line cs ≡ true → text_lines (map Character cs) ≡ line_piece cs ∷ []
 pieces-line [] h = refl
 pieces-line (c ∷ cs) h =
     let p = and_parts (not (is_escape c || is_line_feed c)) (is_line cs) h in
     let f : is_line_feed c ≡ false = grind (arith, nat_tests) in
-    ap (λ (b : Bool). if b then record { cells = []; rest = [] } ∷ pieces (map Character cs) else on_first (with_code c) (pieces (map Character cs))) f
+    ap (λ (b : Bool). if b then record { cells = []; rest = [] } ∷ text_lines (map Character cs) else on_first (with_code c) (text_lines (map Character cs))) f
     ∙ ap (on_first (with_code c)) (pieces-line cs p.1)
 
-text-line : (cs : List ℕ) → is_line cs ≡ true → pieces (tokens cs) ≡ line_piece cs ∷ []
-text-line cs h = ap pieces (tokens-plain cs (no_escape-line cs h)) ∙ pieces-line cs h
+text-line : (cs : List ℕ) → is_line cs ≡ true → text_lines (tokens cs) ≡ line_piece cs ∷ []
+text-line cs h = ap text_lines (tokens-plain cs (no_escape-line cs h)) ∙ pieces-line cs h
 
 codes-plain : (cs : List ℕ) → codes_of (plain_cells cs) ≡ cs
 codes-plain [] = refl
@@ -100,7 +100,7 @@ row-bare c cs h =
 columns-cut : (c : Cuts) (cs : List ℕ) → columns (row_cells (cut_words c (plain_cells cs))) ≡ code_columns cs
 columns-cut c cs = ap columns (cut_words-flat c (plain_cells cs)) ∙ columns-codes (plain_cells cs) ∙ ap code_columns (codes-plain cs)
 
-rows-line : (c : Cuts) (room further : ℕ) (cs : List ℕ) → ends_bare true cs ≡ true → code_columns cs ≤ room → piece_rows c room further (line_piece cs) ≡ map Character cs ∷ []
+rows-line : (c : Cuts) (room further : ℕ) (cs : List ℕ) → ends_bare true cs ≡ true → code_columns cs ≤ room → text_line_rows c room further (line_piece cs) ≡ map Character cs ∷ []
 rows-line c room further cs h k =
     ap (λ rs. with_rest [] (map row_tokens rs)) (one-row room further (cut_words c (plain_cells cs)) (omega (arith, columns-cut c cs)))
     ∙ ap (λ us. us ∷ []) (append-nil (row_tokens (cut_words c (plain_cells cs))) ∙ row-bare c cs h)
@@ -108,7 +108,7 @@ rows-line c room further cs h k =
 spell-row : (first : List Token) (cs : List ℕ) → spell (first ++ map Character cs) ≡ spell first ++ cs
 spell-row first cs = spell-append first (map Character cs) ∙ ap (λ us. spell first ++ us) (spell-characters cs)
 
-filled-line : (p : Plan (List Token)) (ts : List Token) (cs : List ℕ) → pieces ts ≡ line_piece cs ∷ [] → ends_bare true cs ≡ true → code_columns cs ≤ first_room p → spell (filled_text p ts) ≡ spell p.first ++ cs
+filled-line : (p : Plan (List Token)) (ts : List Token) (cs : List ℕ) → text_lines ts ≡ line_piece cs ∷ [] → ends_bare true cs ≡ true → code_columns cs ≤ first_room p → spell (filled_text p ts) ≡ spell p.first ++ cs
 filled-line p ts cs e h k =
     ap (λ ps. spell (joined_rows p.first p.further (text_rows (cuts_of p) (first_room p) (further_room p) ps))) e
     ∙ ap (λ rs. spell (joined_rows p.first p.further (rs ++ []))) (rows-line (cuts_of p) (first_room p) (further_room p) cs h k)
@@ -116,10 +116,10 @@ filled-line p ts cs e h k =
 
 -- ---- without wrapping
 
-whole-line : (first further : List Token) (ts : List Token) (cs : List ℕ) → pieces ts ≡ line_piece cs ∷ [] → all_white (plain_cells cs) ≡ false → spell (whole_pieces first further (pieces ts)) ≡ spell first ++ cs
+whole-line : (first further : List Token) (ts : List Token) (cs : List ℕ) → text_lines ts ≡ line_piece cs ∷ [] → all_white (plain_cells cs) ≡ false → spell (whole_lines first further (text_lines ts)) ≡ spell first ++ cs
 whole-line first further ts [] e h = absurd (cc)
 whole-line first further ts (c ∷ cs) e h =
-    ap (λ ps. spell (whole_pieces first further ps)) e
+    ap (λ ps. spell (whole_lines first further ps)) e
     ∙ ap (λ (b : Bool). spell ((if b then trimmed_row first else first) ++ (flat_map cell_tokens (plain_cells (c ∷ cs)) ++ []))) h
     ∙ ap (λ us. spell (first ++ us)) (append-nil (flat_map cell_tokens (plain_cells (c ∷ cs))) ∙ tokens-plain_cells (c ∷ cs))
     ∙ spell-row first (c ∷ cs)
@@ -134,7 +134,7 @@ wrapped-row p first room cs w i t r h =
     let under : tokens p.first ≡ first = ap tokens i ∙ t in
     let k : code_columns cs ≤ room = grind (arith, nat_tests) in
     let e : room ≡ first_room (map_indents tokens p) = r ∙ ap (λ us. p.room - columns_of us) (sym under) in
-    ap (λ (b : Bool). spell (if b then filled_text (map_indents tokens p) (tokens cs) else whole_pieces (tokens p.first) (tokens p.further) (pieces (tokens cs)))) w
+    ap (λ (b : Bool). spell (if b then filled_text (map_indents tokens p) (tokens cs) else whole_lines (tokens p.first) (tokens p.further) (text_lines (tokens cs)))) w
     ∙ filled-line (map_indents tokens p) (tokens cs) cs (text-line cs q.0) s.0 (omega arith)
     ∙ ap (λ us. spell us ++ cs) under
 
@@ -156,7 +156,7 @@ wrapped-shown p first cs w i t h =
     let q = and_parts (is_line cs) (has_ink cs) h in
     let under : tokens p.first ≡ first = ap tokens i ∙ t in
     let k : all_white (plain_cells cs) ≡ false = opposite (all_white (plain_cells cs)) (sym (ink-white cs) ∙ q.1) in
-    ap (λ (b : Bool). spell (if b then filled_text (map_indents tokens p) (tokens cs) else whole_pieces (tokens p.first) (tokens p.further) (pieces (tokens cs)))) w
+    ap (λ (b : Bool). spell (if b then filled_text (map_indents tokens p) (tokens cs) else whole_lines (tokens p.first) (tokens p.further) (text_lines (tokens cs)))) w
     ∙ whole-line (tokens p.first) (tokens p.further) (tokens cs) cs (text-line cs q.0) k
     ∙ ap (λ us. spell us ++ cs) under
 

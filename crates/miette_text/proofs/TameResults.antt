@@ -7,7 +7,7 @@ use Rattle.miette_style.specs.rules.Escapes.{is_escape}
 use Rattle.miette_text.specs.rules.Tame.{State, Free, Escaped, Opened, Waiting, Broken, step, state_behind, AreTame}
 use Rattle.miette_runs.specs.rules.Colours.{is_colour, is_link}
 use Rattle.miette_style.specs.rules.Codes.{is_nil}
-use Rattle.miette_text.specs.rules.Wrapping.{Piece, Word, Cuts, Plan, on_first, with_tag, with_code, no_characters, pieces, cell_tokens, columns, is_space, with_letter, with_space, words, onto, is_alphanumeric, begins_alphanumeric, hyphen_parts, broken_parts, with_spaces, first_room, further_room, cuts_of, hyphenated_parts, narrow_parts, parts, cut_words, word_cells, rows_behind, rows, only_spaces, trimmed_row, row_tokens, with_rest, piece_rows, text_rows, line_feed, joined_rows, filled_text, all_white, piece_tokens, indented_row, last_indented, whole_pieces, wrapped_tokens}
+use Rattle.miette_text.specs.rules.Wrapping.{TextLine, Word, Cuts, Plan, on_first, with_tag, with_code, no_characters, text_lines, cell_tokens, columns, is_space, with_letter, with_space, words, onto, is_alphanumeric, begins_alphanumeric, hyphen_parts, broken_parts, with_spaces, first_room, further_room, cuts_of, hyphenated_parts, narrow_parts, parts, cut_words, word_cells, rows_behind, rows, only_spaces, trimmed_row, row_tokens, with_rest, text_line_rows, text_rows, line_feed, joined_rows, filled_text, all_white, text_line_tokens, indented_row, last_indented, whole_lines, wrapped_tokens}
 use Rattle.miette_runs.specs.rules.Cells.{Cell, width}
 use Rattle.miette_text.proofs.Parsing.{broken_stays}
 
@@ -256,39 +256,39 @@ joined-run indent further a b w s c f (r ∷ q ∷ rs) h =
 -- ---- pieces
 
 -- A run over pieces, with line feeds between them.
-abbrev pub Passes : State → List Piece → Type 0
+abbrev pub Passes : State → List TextLine → Type 0
 Passes s [] = ⊥
 Passes s (p ∷ ps) = elim ps [
-  | [] ↦ state_behind s (piece_tokens p) ≡ Free
-  | q ∷ qs ↦ (alive (state_behind s (piece_tokens p)) ≡ true) × Passes (step (state_behind s (piece_tokens p)) line_feed) ps
+  | [] ↦ state_behind s (text_line_tokens p) ≡ Free
+  | q ∷ qs ↦ (alive (state_behind s (text_line_tokens p)) ≡ true) × Passes (step (state_behind s (text_line_tokens p)) line_feed) ps
 ]
 
-piece_tokens-tag : (q : List ℕ) (p : Piece) → piece_tokens (with_tag q p) ≡ Sequence q ∷ piece_tokens p
-piece_tokens-tag q p = elim p.cells as (λ cs. piece_tokens (with_tag q (record { cells = cs; rest = p.rest })) ≡ Sequence q ∷ piece_tokens (record { cells = cs; rest = p.rest })) [
+piece_tokens-tag : (q : List ℕ) (p : TextLine) → text_line_tokens (with_tag q p) ≡ Sequence q ∷ text_line_tokens p
+piece_tokens-tag q p = elim p.cells as (λ cs. text_line_tokens (with_tag q (record { cells = cs; rest = p.rest })) ≡ Sequence q ∷ text_line_tokens (record { cells = cs; rest = p.rest })) [
   | [] ↦ refl
   | c ∷ cs ↦ refl
 ]
 
 -- what is put in front of the first piece
-Passes-first : (s : State) (k : Token) (f : Piece → Piece) → ((p : Piece) → piece_tokens (f p) ≡ k ∷ piece_tokens p) → (ps : List Piece) → Passes (step s k) ps → Passes s (on_first f ps)
+Passes-first : (s : State) (k : Token) (f : TextLine → TextLine) → ((p : TextLine) → text_line_tokens (f p) ≡ k ∷ text_line_tokens p) → (ps : List TextLine) → Passes (step s k) ps → Passes s (on_first f ps)
 Passes-first s k f e [] h = h
 Passes-first s k f e (p ∷ []) h = ap (state_behind s) (e p) ∙ h
 Passes-first s k f e (p ∷ q ∷ ps) h = (ap (λ us. alive (state_behind s us)) (e p) ∙ h.0, let P : List Token → Type 0 = λ us. Passes (step (state_behind s us) line_feed) (q ∷ ps) in subst P (sym (e p)) h.1)
 
-Passes-feed : (s : State) (ps : List Piece) → alive s ≡ true → Passes (step s line_feed) ps → Passes s (no_characters ∷ ps)
+Passes-feed : (s : State) (ps : List TextLine) → alive s ≡ true → Passes (step s line_feed) ps → Passes s (no_characters ∷ ps)
 Passes-feed s [] a h = absurd h
 Passes-feed s (p ∷ ps) a h = (a, h)
 
-pub pieces-pass : (s : State) (ts : List Token) → state_behind s ts ≡ Free → Passes s (pieces ts)
+pub pieces-pass : (s : State) (ts : List Token) → state_behind s ts ≡ Free → Passes s (text_lines ts)
 pieces-pass s [] h = h
-pieces-pass s (Sequence q ∷ ts) h = Passes-first s (Sequence q) (with_tag q) (piece_tokens-tag q) (pieces ts) (pieces-pass (step s (Sequence q)) ts h)
+pieces-pass s (Sequence q ∷ ts) h = Passes-first s (Sequence q) (with_tag q) (piece_tokens-tag q) (text_lines ts) (pieces-pass (step s (Sequence q)) ts h)
 pieces-pass s (Character c ∷ ts) h =
-    elim (is_line_feed c) as (λ b. is_line_feed c ≡ b → Passes s (if b then no_characters ∷ pieces ts else on_first (with_code c) (pieces ts))) [
+    elim (is_line_feed c) as (λ b. is_line_feed c ≡ b → Passes s (if b then no_characters ∷ text_lines ts else on_first (with_code c) (text_lines ts))) [
       | true ↦ λ e.
           let a : alive s ≡ true = alive_before s (Character c ∷ ts) (alive_free (state_behind s (Character c ∷ ts)) h) in
-          let P : ℕ → Type 0 = λ x. Passes (step s (Character x)) (pieces ts) in
-          Passes-feed s (pieces ts) a (subst P (eqb-true c 10 e) (pieces-pass (step s (Character c)) ts h))
-      | false ↦ λ e. Passes-first s (Character c) (with_code c) (λ p. refl) (pieces ts) (pieces-pass (step s (Character c)) ts h)
+          let P : ℕ → Type 0 = λ x. Passes (step s (Character x)) (text_lines ts) in
+          Passes-feed s (text_lines ts) a (subst P (eqb-true c 10 e) (pieces-pass (step s (Character c)) ts h))
+      | false ↦ λ e. Passes-first s (Character c) (with_code c) (λ p. refl) (text_lines ts) (pieces-pass (step s (Character c)) ts h)
     ] refl
 
 -- ---- cutting loses nothing
@@ -425,28 +425,28 @@ rows-ends s e rest (r ∷ q ∷ rs) n a h =
       | x ∷ xs ↦ λ f. (ap alive t ∙ b, inl (let P : State → Type 0 = λ u. Ends (λ t. t ≡ e) u (with_rest rest (map row_tokens (q ∷ x ∷ xs))) in subst P (sym t) f))
     ] f
 
-cells-raw : (cuts : Cuts) (room further : ℕ) (p : Piece) → raw (flat (rows room further (cut_words cuts p.cells))) ++ map Sequence p.rest ≡ piece_tokens p
+cells-raw : (cuts : Cuts) (room further : ℕ) (p : TextLine) → raw (flat (rows room further (cut_words cuts p.cells))) ++ map Sequence p.rest ≡ text_line_tokens p
 cells-raw cuts room further p =
     ap (λ ws. raw ws ++ map Sequence p.rest) (rows-flat room further (cut_words cuts p.cells))
     ∙ ap (λ cs. flat_map cell_tokens cs ++ map Sequence p.rest) (cut_words-flat cuts p.cells)
 
-piece_rows-ends : (cuts : Cuts) (room further : ℕ) (s : State) (p : Piece) → alive (state_behind s (piece_tokens p)) ≡ true → Ends (λ t. t ≡ state_behind s (piece_tokens p)) s (piece_rows cuts room further p)
-piece_rows-ends cuts room further s p a = rows-ends s (state_behind s (piece_tokens p)) p.rest (rows room further (cut_words cuts p.cells)) (rows_some room further (cut_words cuts p.cells)) a (ap (state_behind s) (cells-raw cuts room further p))
+piece_rows-ends : (cuts : Cuts) (room further : ℕ) (s : State) (p : TextLine) → alive (state_behind s (text_line_tokens p)) ≡ true → Ends (λ t. t ≡ state_behind s (text_line_tokens p)) s (text_line_rows cuts room further p)
+piece_rows-ends cuts room further s p a = rows-ends s (state_behind s (text_line_tokens p)) p.rest (rows room further (cut_words cuts p.cells)) (rows_some room further (cut_words cuts p.cells)) a (ap (state_behind s) (cells-raw cuts room further p))
 
 -- the rows of a piece, and of those below it
-text_rows-ends : (cuts : Cuts) (room further : ℕ) (s : State) (ps : List Piece) → Passes s ps → Ends IsFree s (text_rows cuts room further ps)
+text_rows-ends : (cuts : Cuts) (room further : ℕ) (s : State) (ps : List TextLine) → Passes s ps → Ends IsFree s (text_rows cuts room further ps)
 text_rows-ends cuts room further s [] h = absurd h
 text_rows-ends cuts room further s (p ∷ []) h =
     let P : List (List Token) → Type 0 = Ends IsFree s in
-    let Q : State → Type 0 = λ e. Ends (λ t. t ≡ e) s (piece_rows cuts room further p) in
-    subst P (sym (append-nil (piece_rows cuts room further p))) (subst Q h (piece_rows-ends cuts room further s p (alive_free (state_behind s (piece_tokens p)) h)))
+    let Q : State → Type 0 = λ e. Ends (λ t. t ≡ e) s (text_line_rows cuts room further p) in
+    subst P (sym (append-nil (text_line_rows cuts room further p))) (subst Q h (piece_rows-ends cuts room further s p (alive_free (state_behind s (text_line_tokens p)) h)))
 text_rows-ends cuts room further s (p ∷ q ∷ ps) h =
-    Ends-append s (state_behind s (piece_tokens p)) (piece_rows cuts room further p) (piece_rows cuts further further q ++ text_rows cuts further further ps) h.0
+    Ends-append s (state_behind s (text_line_tokens p)) (text_line_rows cuts room further p) (text_line_rows cuts further further q ++ text_rows cuts further further ps) h.0
     (piece_rows-ends cuts room further s p h.0)
-    (text_rows-ends cuts further further (step (state_behind s (piece_tokens p)) line_feed) (q ∷ ps) h.1)
+    (text_rows-ends cuts further further (step (state_behind s (text_line_tokens p)) line_feed) (q ∷ ps) h.1)
 
 filled-tame : (p : Plan (List Token)) (ts : List Token) → AreTame p.first → AreTame p.further → AreTame ts → AreTame (filled_text p ts)
-filled-tame p ts a b h = joined-run p.first p.further a b Free Free refl refl (text_rows (cuts_of p) (first_room p) (further_room p) (pieces ts)) (text_rows-ends (cuts_of p) (first_room p) (further_room p) Free (pieces ts) (pieces-pass Free ts h))
+filled-tame p ts a b h = joined-run p.first p.further a b Free Free refl refl (text_rows (cuts_of p) (first_room p) (further_room p) (text_lines ts)) (text_rows-ends (cuts_of p) (first_room p) (further_room p) Free (text_lines ts) (pieces-pass Free ts h))
 
 -- ---- without wrapping
 
@@ -456,33 +456,33 @@ if-trimmed w true indent c h =
     ap (λ s. freer s w) (run-trimmed w indent (alive_freer (state_behind w indent) w f (alive_settled w c))) ∙ f
 if-trimmed w false indent c h = indent_freer w indent c h
 
-indented-freer : (w s : State) (indent : List Token) (p : Piece) → settled w ≡ true → freer w s ≡ true → AreTame indent → freer (state_behind w (indented_row indent p)) (state_behind s (piece_tokens p)) ≡ true
+indented-freer : (w s : State) (indent : List Token) (p : TextLine) → settled w ≡ true → freer w s ≡ true → AreTame indent → freer (state_behind w (indented_row indent p)) (state_behind s (text_line_tokens p)) ≡ true
 indented-freer w s indent p c f h =
     let i = if all_white p.cells then trimmed_row indent else indent in
-    ap (λ t. freer t (state_behind s (piece_tokens p))) (run-append w i (piece_tokens p))
-    ∙ freer-run (state_behind w i) s (piece_tokens p) (freer_trans (state_behind w i) w s (if-trimmed w (all_white p.cells) indent c h) f)
+    ap (λ t. freer t (state_behind s (text_line_tokens p))) (run-append w i (text_line_tokens p))
+    ∙ freer-run (state_behind w i) s (text_line_tokens p) (freer_trans (state_behind w i) w s (if-trimmed w (all_white p.cells) indent c h) f)
 
-last-freer : (w s : State) (indent : List Token) (p : Piece) → settled w ≡ true → freer w s ≡ true → AreTame indent → freer (state_behind w (last_indented indent p)) (state_behind s (piece_tokens p)) ≡ true
-last-freer w s indent p c f h = elim p.cells as (λ cs. freer (state_behind w (last_indented indent (record { cells = cs; rest = p.rest }))) (state_behind s (piece_tokens (record { cells = cs; rest = p.rest }))) ≡ true) [
+last-freer : (w s : State) (indent : List Token) (p : TextLine) → settled w ≡ true → freer w s ≡ true → AreTame indent → freer (state_behind w (last_indented indent p)) (state_behind s (text_line_tokens p)) ≡ true
+last-freer w s indent p c f h = elim p.cells as (λ cs. freer (state_behind w (last_indented indent (record { cells = cs; rest = p.rest }))) (state_behind s (text_line_tokens (record { cells = cs; rest = p.rest }))) ≡ true) [
   | [] ↦ freer-run w s (map Sequence p.rest) f
   | x ∷ cs ↦ indented-freer w s indent (record { cells = x ∷ cs; rest = p.rest }) c f h
 ]
 
-whole-run : (indent further : List Token) → AreTame indent → AreTame further → (w s : State) → settled w ≡ true → freer w s ≡ true → (ps : List Piece) → Passes s ps → state_behind w (whole_pieces indent further ps) ≡ Free
+whole-run : (indent further : List Token) → AreTame indent → AreTame further → (w s : State) → settled w ≡ true → freer w s ≡ true → (ps : List TextLine) → Passes s ps → state_behind w (whole_lines indent further ps) ≡ Free
 whole-run indent further a b w s c f [] h = absurd h
 whole-run indent further a b w s c f (p ∷ []) h =
     free_freer (state_behind w (last_indented indent p)) (let P : State → Type 0 = λ t. freer (state_behind w (last_indented indent p)) t ≡ true in subst P h (last-freer w s indent p c f a))
 whole-run indent further a b w s c f (p ∷ q ∷ ps) h =
     let v = state_behind w (indented_row indent p) in
-    let g : freer v (state_behind s (piece_tokens p)) ≡ true = indented-freer w s indent p c f a in
-    run-append w (indented_row indent p) (line_feed ∷ whole_pieces further further (q ∷ ps))
-    ∙ whole-run further further b b (step v line_feed) (step (state_behind s (piece_tokens p)) line_feed) (feed_settles v (alive_freer v (state_behind s (piece_tokens p)) g h.0)) (freer-step v (state_behind s (piece_tokens p)) line_feed g) (q ∷ ps) h.1
+    let g : freer v (state_behind s (text_line_tokens p)) ≡ true = indented-freer w s indent p c f a in
+    run-append w (indented_row indent p) (line_feed ∷ whole_lines further further (q ∷ ps))
+    ∙ whole-run further further b b (step v line_feed) (step (state_behind s (text_line_tokens p)) line_feed) (feed_settles v (alive_freer v (state_behind s (text_line_tokens p)) g h.0)) (freer-step v (state_behind s (text_line_tokens p)) line_feed g) (q ∷ ps) h.1
 
-whole-tame : (p : Plan (List Token)) (ts : List Token) → AreTame p.first → AreTame p.further → AreTame ts → AreTame (whole_pieces p.first p.further (pieces ts))
-whole-tame p ts a b h = whole-run p.first p.further a b Free Free refl refl (pieces ts) (pieces-pass Free ts h)
+whole-tame : (p : Plan (List Token)) (ts : List Token) → AreTame p.first → AreTame p.further → AreTame ts → AreTame (whole_lines p.first p.further (text_lines ts))
+whole-tame p ts a b h = whole-run p.first p.further a b Free Free refl refl (text_lines ts) (pieces-pass Free ts h)
 
 pub wrapped_tokens-tame : (p : Plan (List Token)) (ts : List Token) → AreTame p.first → AreTame p.further → AreTame ts → AreTame (wrapped_tokens p ts)
-wrapped_tokens-tame p ts a b h = elim p.wraps as (λ w. AreTame (if w then filled_text p ts else whole_pieces p.first p.further (pieces ts))) [
+wrapped_tokens-tame p ts a b h = elim p.wraps as (λ w. AreTame (if w then filled_text p ts else whole_lines p.first p.further (text_lines ts))) [
   | true ↦ filled-tame p ts a b h
   | false ↦ whole-tame p ts a b h
 ]

@@ -8,7 +8,7 @@ pub use Rattle.miette_tree.specs.rules.Answers.{unlisted, listed, no_more, and_m
 pub use Rattle.miette_tree.specs.rules.Answers.{first_answers, later_answers}
 use Rattle.miette_tree.specs.rules.DiagnosticParts.{given_labels}
 use Rattle.miette_lines.specs.rules.Groups.{in_order}
-use Rattle.miette_brief.specs.rules.Rows.{Place, Row, finding, note, cause, help, rows_text}
+use Rattle.miette_brief.specs.rules.Rows.{Place, ReportRow, finding, note, cause, help, rows_text}
 use Rattle.miette_brief.specs.rules.Places.{label_place, diagnostic_place, cause_place}
 
 -- what a handler is set to: whether causes are told
@@ -31,53 +31,53 @@ RelatedAnswers = AnswerTrees Bool
 
 -- ---- the rows of one diagnostic
 
-abbrev pub finding_row : Place → Meaning → Row
+abbrev pub finding_row : Place → Meaning → ReportRow
 finding_row at m = record { place = at; kind = finding m.severity m.code; text = m.message }
 
 -- a row for a text, where there is one
 
-abbrev pub note_rows_of : Place → Option (List ℕ) → List Row
+abbrev pub note_rows_of : Place → Option (List ℕ) → List ReportRow
 note_rows_of at None = []
 note_rows_of at (Some text) = record { place = at; kind = note; text = text } ∷ []
 
-abbrev pub help_rows : Place → Option (List ℕ) → List Row
+abbrev pub help_rows : Place → Option (List ℕ) → List ReportRow
 help_rows at None = []
 help_rows at (Some text) = record { place = at; kind = help; text = text } ∷ []
 
 -- a row for each of these labels that has a text
-abbrev pub note_rows : Option Source → List Label → List Row
+abbrev pub note_rows : Option Source → List Label → List ReportRow
 note_rows source [] = []
 note_rows source (label ∷ labels) = note_rows_of (label_place source label.span) label.text ++ note_rows source labels
 
-abbrev pub cause_row : Place → List ℕ → Row
+abbrev pub cause_row : Place → List ℕ → ReportRow
 cause_row at text = record { place = at; kind = cause; text = text }
 
 -- a row for each cause, the nearest first, below a diagnostic that lies at a place; each is over its own source, else
 -- over that of the diagnostic
 abbrev mutual
-  pub cause_rows : Place → Option Source → Answers → Cause → List Row
+  pub cause_rows : Place → Option Source → Answers → Cause → List ReportRow
   cause_rows at inherited a (diagnostic t) = caused_rows at inherited a t
   cause_rows at inherited a (texts ts) = map (cause_row at) ts
 
-  pub caused_rows : Place → Option Source → Answers → Tree → List Row
+  pub caused_rows : Place → Option Source → Answers → Tree → List ReportRow
   caused_rows at inherited a (tree m own c r) =
       cause_row (cause_place at (effective own inherited) (own_fault a) (in_order (given_labels m.labels)))
       m.message
       ∷ cause_rows at inherited (cause_answers a) c
 
 -- the causes where they are told
-abbrev pub cause_rows_if : Bool → Place → Option Source → Answers → Cause → List Row
+abbrev pub cause_rows_if : Bool → Place → Option Source → Answers → Cause → List ReportRow
 cause_rows_if true at source a c = cause_rows at source a c
 cause_rows_if false at source a c = []
 
 -- a diagnostic at a place over a source: itself, its labels by offset, its causes, its help
-abbrev pub rows_at : Bool → Place → Option Source → Answers → Meaning → Cause → List Row
+abbrev pub rows_at : Bool → Place → Option Source → Answers → Meaning → Cause → List ReportRow
 rows_at chain at source a m c =
     finding_row at m
     ∷ (note_rows source (in_order (given_labels m.labels))
     ++ (cause_rows_if chain at source (cause_answers a) c ++ help_rows at m.help))
 
-abbrev pub own_rows : Bool → Option Source → Answers → Meaning → Cause → List Row
+abbrev pub own_rows : Bool → Option Source → Answers → Meaning → Cause → List ReportRow
 own_rows chain source a m c =
     rows_at chain (diagnostic_place source (own_fault a) (in_order (given_labels m.labels))) source a m c
 
@@ -85,12 +85,12 @@ own_rows chain source a m c =
 
 -- a report and then each one related to it, each over its effective source
 abbrev mutual
-  pub report_rows : Bool → Option Source → Answers → Tree → List Row
+  pub report_rows : Bool → Option Source → Answers → Tree → List ReportRow
   report_rows chain inherited a (tree m own c r) =
       own_rows chain (effective own inherited) a m c
       ++ related_rows chain (effective own inherited) (related_answers a) r
 
-  pub related_rows : Bool → Option Source → RelatedAnswers → Trees → List Row
+  pub related_rows : Bool → Option Source → RelatedAnswers → Trees → List ReportRow
   related_rows chain inherited more no_trees = []
   related_rows chain inherited more (more_trees t ts) =
       report_rows chain inherited (first_answers more) t ++ related_rows chain inherited (later_answers more) ts

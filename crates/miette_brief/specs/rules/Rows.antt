@@ -25,7 +25,7 @@ pub data Kind : Type 0 where
   cause : Kind
   help : Kind
 
-pub record Row : Type 0 where
+pub record ReportRow : Type 0 where
   pub place : Place
   pub kind : Kind
   pub text : List ℕ
@@ -78,10 +78,10 @@ kind_text cause = codes "note: caused by: "
 kind_text help = codes "help: "
 
 -- a row without its line feed
-abbrev pub row_text : Row → List ℕ
+abbrev pub row_text : ReportRow → List ℕ
 row_text row = place_text row.place.name row.place.position ++ (kind_text row.kind ++ one_row row.text)
 
 -- rows, each with a line feed at its end
-abbrev pub rows_text : List Row → List ℕ
+abbrev pub rows_text : List ReportRow → List ℕ
 rows_text [] = []
 rows_text (row ∷ rows) = row_text row ++ (10 ∷ rows_text rows)

@@ -38,11 +38,11 @@ abbrev mutual
 -- ---- the characters of a string
 
 -- a byte that stands for itself; `\` and a letter; `\u` and four hex digits; two of these, a surrogate pair
-pub data Piece : Type 0 where
-  plain : ℕ → Piece
-  short : ℕ → Piece
-  unit : (a b c d : ℕ) → Piece
-  pair : (a b c d e f g h : ℕ) → Piece
+pub data StringPart : Type 0 where
+  plain : ℕ → StringPart
+  short : ℕ → StringPart
+  unit : (a b c d : ℕ) → StringPart
+  pair : (a b c d e f g h : ℕ) → StringPart
 
 -- what `\` and this letter stand for, or 0 where it is no such letter
 abbrev pub short_for : ℕ → ℕ
@@ -60,39 +60,39 @@ hex a b c d = digit_value a * 4096 + digit_value b * 256 + digit_value c * 16 + 
 abbrev pub AreHex : ℕ → ℕ → ℕ → ℕ → Type 0
 AreHex a b c d = IsHex a × IsHex b × IsHex c × IsHex d
 
-abbrev pub IsPiece : Piece → Type 0
-IsPiece (plain x) = (32 ≤ x) × (x ≢ 34) × (x ≢ 92)
-IsPiece (short letter) = short_for letter ≢ 0
-IsPiece (unit a b c d) = AreHex a b c d × ((hex a b c d < 0xd800) ⊎ (0xe000 ≤ hex a b c d))
-IsPiece (pair a b c d e f g h) =
+abbrev pub IsStringPart : StringPart → Type 0
+IsStringPart (plain x) = (32 ≤ x) × (x ≢ 34) × (x ≢ 92)
+IsStringPart (short letter) = short_for letter ≢ 0
+IsStringPart (unit a b c d) = AreHex a b c d × ((hex a b c d < 0xd800) ⊎ (0xe000 ≤ hex a b c d))
+IsStringPart (pair a b c d e f g h) =
     AreHex a b c d × AreHex e f g h × (0xd800 ≤ hex a b c d) × (hex a b c d < 0xdc00) × (0xdc00 ≤ hex e f g h)
     × (hex e f g h < 0xe000)
 
--- a piece as it is written, before these bytes
-abbrev pub piece_text : Piece → List ℕ → List ℕ
-piece_text (plain x) rest = x ∷ rest
-piece_text (short letter) rest = 92 ∷ letter ∷ rest
-piece_text (unit a b c d) rest = 92 ∷ 117 ∷ a ∷ b ∷ c ∷ d ∷ rest
-piece_text (pair a b c d e f g h) rest = 92 ∷ 117 ∷ a ∷ b ∷ c ∷ d ∷ 92 ∷ 117 ∷ e ∷ f ∷ g ∷ h ∷ rest
+-- a part as it is written, before these bytes
+abbrev pub part_text : StringPart → List ℕ → List ℕ
+part_text (plain x) rest = x ∷ rest
+part_text (short letter) rest = 92 ∷ letter ∷ rest
+part_text (unit a b c d) rest = 92 ∷ 117 ∷ a ∷ b ∷ c ∷ d ∷ rest
+part_text (pair a b c d e f g h) rest = 92 ∷ 117 ∷ a ∷ b ∷ c ∷ d ∷ 92 ∷ 117 ∷ e ∷ f ∷ g ∷ h ∷ rest
 
--- the bytes that a piece stands for
-abbrev pub piece_value : Piece → List ℕ
-piece_value (plain x) = x ∷ []
-piece_value (short letter) = short_for letter ∷ []
-piece_value (unit a b c d) = encode_utf8 (hex a b c d)
-piece_value (pair a b c d e f g h) = encode_utf8 (0x10000 + (hex a b c d - 0xd800) * 1024 + (hex e f g h - 0xdc00))
+-- the bytes that a part stands for
+abbrev pub part_value : StringPart → List ℕ
+part_value (plain x) = x ∷ []
+part_value (short letter) = short_for letter ∷ []
+part_value (unit a b c d) = encode_utf8 (hex a b c d)
+part_value (pair a b c d e f g h) = encode_utf8 (0x10000 + (hex a b c d - 0xd800) * 1024 + (hex e f g h - 0xdc00))
 
-abbrev pub ArePieces : List Piece → Type 0
-ArePieces [] = ⊤
-ArePieces (p ∷ ps) = IsPiece p × ArePieces ps
+abbrev pub AreStringParts : List StringPart → Type 0
+AreStringParts [] = ⊤
+AreStringParts (p ∷ ps) = IsStringPart p × AreStringParts ps
 
-abbrev pub all_written : List Piece → List ℕ → List ℕ
+abbrev pub all_written : List StringPart → List ℕ → List ℕ
 all_written [] rest = rest
-all_written (p ∷ ps) rest = piece_text p (all_written ps rest)
+all_written (p ∷ ps) rest = part_text p (all_written ps rest)
 
-abbrev pub all_meant : List Piece → List ℕ
+abbrev pub all_meant : List StringPart → List ℕ
 all_meant [] = []
-all_meant (p ∷ ps) = piece_value p ++ all_meant ps
+all_meant (p ∷ ps) = part_value p ++ all_meant ps
 
 -- ---- numbers
 
@@ -132,8 +132,8 @@ AreBlank [] = ⊤
 AreBlank (x ∷ xs) = IsBlank x × AreBlank xs
 
 pub record IsString (s : List ℕ) (bytes rest : List ℕ) : Type 0 where
-  pub pieces : List Piece
-  pub right : ArePieces pieces
+  pub pieces : List StringPart
+  pub right : AreStringParts pieces
   pub spelled : bytes ≡ 34 ∷ all_written pieces (34 ∷ rest)
   pub means : all_meant pieces ≡ s
 

@@ -5,7 +5,7 @@ use Rattle.unicode_width.specs.Width.{str_width, is_indicator}
 use Rattle.miette_lines.specs.rules.Cells.{Character, characters}
 use Rattle.miette_narrated.specs.declared.overlap.Overlap.{Overlap}
 use Rattle.miette_narrated.specs.declared.overlap.Overlap.TheVariants.{Nothing, One, Selected}
-use Rattle.miette_narrated.specs.declared.places.Place.{Place}
+use Rattle.miette_narrated.specs.declared.places.PartingPlace.{PartingPlace}
 use Rattle.miette_narrated.specs.rules.Columns.{begun_text, is_boundary, widths, column}
 
 -- the characters before a place that a walk begins with
@@ -24,18 +24,18 @@ abbrev pub IsHeld : Overlap → Type 0
 IsHeld first = ends_in_flag first ≡ false
 
 -- the columns that are counted twice behind so many bytes: those of the characters that a walk begins with
-abbrev pub twice : Place → ℕ → List Character → ℕ
+abbrev pub twice : PartingPlace → ℕ → List Character → ℕ
 twice place bytes cs = if is_boundary bytes cs then place.twice else 0
 
 -- the column behind so many bytes more than those before a place, in the characters behind it, and what is counted
 -- twice
-abbrev pub column_behind : Place → ℕ → List Character → ℕ
+abbrev pub column_behind : PartingPlace → ℕ → List Character → ℕ
 column_behind place bytes cs = if is_boundary bytes cs
     then place.column + str_width false (overlap_text place.overlap ++ begun_text bytes cs)
     else place.widths + widths (begun_text bytes cs)
 
 -- from there on columns go on from the place's own
-abbrev pub IsPlace : List ℕ → Place → Type 0
+abbrev pub IsPlace : List ℕ → PartingPlace → Type 0
 IsPlace text place =
     (place.bytes ≤ length text)
     × (IsHeld place.overlap

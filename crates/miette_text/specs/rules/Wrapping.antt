@@ -5,10 +5,10 @@ use Rattle.std.specs.Char.{is_whitespace}
 use Rattle.miette_runs.specs.rules.Sequences.{Token, Character, Sequence, tokens, spell, is_line_feed}
 use Rattle.miette_runs.specs.rules.Cells.{Cell, width, columns_of}
 
--- ---- characters with their sequences, and pieces
+-- ---- characters with their sequences, and lines
 
 -- What stands between two line feeds: its characters, and the sequences behind the last of them.
-pub record Piece : Type 0 where
+pub record TextLine : Type 0 where
   pub cells : List Cell
   pub rest : List (List ℕ)
 
@@ -16,23 +16,23 @@ abbrev pub on_first : {A : Type 0} → (A → A) → List A → List A
 on_first f [] = []
 on_first f (x ∷ xs) = f x ∷ xs
 
-abbrev pub with_tag : List ℕ → Piece → Piece
+abbrev pub with_tag : List ℕ → TextLine → TextLine
 with_tag tag p = elim p.cells [
   | [] ↦ record { cells = []; rest = tag ∷ p.rest }
   | cell ∷ cells ↦ record { cells = record { tags = tag ∷ cell.tags; code = cell.code } ∷ cells; rest = p.rest }
 ]
 
-abbrev pub with_code : ℕ → Piece → Piece
+abbrev pub with_code : ℕ → TextLine → TextLine
 with_code c p = record { cells = record { tags = []; code = c } ∷ p.cells; rest = p.rest }
 
-abbrev pub no_characters : Piece
+abbrev pub no_characters : TextLine
 no_characters = record { cells = []; rest = [] }
 
 -- The text is cut at each line feed.
-abbrev pub pieces : List Token → List Piece
-pieces [] = no_characters ∷ []
-pieces (Sequence s ∷ ts) = on_first (with_tag s) (pieces ts)
-pieces (Character c ∷ ts) = if is_line_feed c then no_characters ∷ pieces ts else on_first (with_code c) (pieces ts)
+abbrev pub text_lines : List Token → List TextLine
+text_lines [] = no_characters ∷ []
+text_lines (Sequence s ∷ ts) = on_first (with_tag s) (text_lines ts)
+text_lines (Character c ∷ ts) = if is_line_feed c then no_characters ∷ text_lines ts else on_first (with_code c) (text_lines ts)
 
 abbrev pub cell_tokens : Cell → List Token
 cell_tokens c = map Sequence c.tags ++ Character c.code ∷ []
@@ -64,7 +64,7 @@ with_space c (w ∷ ws) = elim w.letters [
   | letter ∷ letters ↦ record { letters = []; spaces = c ∷ [] } ∷ w ∷ ws
 ]
 
--- The piece is cut behind each run of spaces.
+-- The line is cut behind each run of spaces.
 abbrev pub words : List Cell → List Word
 words [] = []
 words (c ∷ cs) = if is_space c.code then with_space c (words cs) else with_letter c (words cs)
@@ -157,18 +157,18 @@ trimmed_row (Sequence s ∷ ts) = Sequence s ∷ trimmed_row ts
 abbrev pub row_tokens : List Word → List Token
 row_tokens ws = trimmed_row (flat_map cell_tokens (flat_map word_cells ws))
 
--- the sequences at the piece's end go to the last row
+-- the sequences at the line's end go to the last row
 abbrev pub with_rest : List (List ℕ) → List (List Token) → List (List Token)
 with_rest rest [] = []
 with_rest rest (r ∷ rs) = elim rs [ [] ↦ (r ++ map Sequence rest) ∷ [] | s ∷ ss ↦ r ∷ with_rest rest rs ]
 
-abbrev pub piece_rows : Cuts → ℕ → ℕ → Piece → List (List Token)
-piece_rows c room further p = with_rest p.rest (map row_tokens (rows room further (cut_words c p.cells)))
+abbrev pub text_line_rows : Cuts → ℕ → ℕ → TextLine → List (List Token)
+text_line_rows c room further p = with_rest p.rest (map row_tokens (rows room further (cut_words c p.cells)))
 
 -- The first row has a room of its own.
-abbrev pub text_rows : Cuts → ℕ → ℕ → List Piece → List (List Token)
+abbrev pub text_rows : Cuts → ℕ → ℕ → List TextLine → List (List Token)
 text_rows c room further [] = []
-text_rows c room further (p ∷ ps) = piece_rows c room further p ++ text_rows c further further ps
+text_rows c room further (p ∷ ps) = text_line_rows c room further p ++ text_rows c further further ps
 
 abbrev pub line_feed : Token
 line_feed = Character 10
@@ -188,20 +188,20 @@ abbrev pub all_white : List Cell → Bool
 all_white [] = true
 all_white (c ∷ cs) = is_whitespace c.code && all_white cs
 
-abbrev pub piece_tokens : Piece → List Token
-piece_tokens p = flat_map cell_tokens p.cells ++ map Sequence p.rest
+abbrev pub text_line_tokens : TextLine → List Token
+text_line_tokens p = flat_map cell_tokens p.cells ++ map Sequence p.rest
 
-abbrev pub indented_row : List Token → Piece → List Token
-indented_row indent p = (if all_white p.cells then trimmed_row indent else indent) ++ piece_tokens p
+abbrev pub indented_row : List Token → TextLine → List Token
+indented_row indent p = (if all_white p.cells then trimmed_row indent else indent) ++ text_line_tokens p
 
--- Behind the last line feed there is no piece where there is no character; its sequences stay.
-abbrev pub last_indented : List Token → Piece → List Token
+-- Behind the last line feed there is no line where there is no character; its sequences stay.
+abbrev pub last_indented : List Token → TextLine → List Token
 last_indented indent p = elim p.cells [ [] ↦ map Sequence p.rest | cell ∷ cells ↦ indented_row indent p ]
 
-abbrev pub whole_pieces : List Token → List Token → List Piece → List Token
-whole_pieces indent further [] = []
-whole_pieces indent further (p ∷ ps) = elim ps
-    [ [] ↦ last_indented indent p | q ∷ qs ↦ indented_row indent p ++ line_feed ∷ whole_pieces further further ps ]
+abbrev pub whole_lines : List Token → List Token → List TextLine → List Token
+whole_lines indent further [] = []
+whole_lines indent further (p ∷ ps) = elim ps
+    [ [] ↦ last_indented indent p | q ∷ qs ↦ indented_row indent p ++ line_feed ∷ whole_lines further further ps ]
 
 -- ---- all of it
 
@@ -236,10 +236,10 @@ abbrev pub cuts_of : Plan (List Token) → Cuts
 cuts_of p = record { hyphens = p.hyphens; breaks = p.breaks; narrow = min (first_room p) (further_room p) }
 
 abbrev pub filled_text : Plan (List Token) → List Token → List Token
-filled_text p ts = joined_rows p.first p.further (text_rows (cuts_of p) (first_room p) (further_room p) (pieces ts))
+filled_text p ts = joined_rows p.first p.further (text_rows (cuts_of p) (first_room p) (further_room p) (text_lines ts))
 
 abbrev pub wrapped_tokens : Plan (List Token) → List Token → List Token
-wrapped_tokens p ts = if p.wraps then filled_text p ts else whole_pieces p.first p.further (pieces ts)
+wrapped_tokens p ts = if p.wraps then filled_text p ts else whole_lines p.first p.further (text_lines ts)
 
 abbrev pub wrapped_text : Plan (List ℕ) → List ℕ → List ℕ
 wrapped_text p text = spell (wrapped_tokens (map_indents tokens p) (tokens text))

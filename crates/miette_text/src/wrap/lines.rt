@@ -5,7 +5,7 @@ ghost use Rattle.miette_text.specs.steps.Ends.{bare_len, line_len};
 ghost use Rattle.miette_runs.specs.steps.Cells.{plain_cells};
 ghost use Rattle.miette_runs.specs.rules.Sequences.{spell};
 ghost use Rattle.miette_runs.specs.views.Interleaving.{cells_at, left_at, interleaving};
-ghost use Rattle.miette_text.specs.rules.Wrapping.{cell_tokens, joined_rows, piece_rows, pieces, text_rows};
+ghost use Rattle.miette_text.specs.rules.Wrapping.{cell_tokens, joined_rows, text_line_rows, text_lines, text_rows};
 ghost use Rattle.miette_text.specs.rules.Wrapping.{trimmed_row};
 
 use crate::wrap::ends::{Cuts, row_len};
@@ -76,7 +76,7 @@ fn push_rows<S: Sink>(
     requires { first ≤ length line.codes.now }
     ensures text { OnOk result (S.holds out.new ≡ S.holds out.old ++ S.spells (spell (joined_rows []
         (interleaving 0 under.entry.further.codes.now under.entry.further.tags.now)
-        (piece_rows cuts under.entry.room under.entry.further_room
+        (text_line_rows cuts under.entry.room under.entry.further_room
         (record { cells = cells_at first (drop first line.entry.codes.now) line.entry.tags.now; rest = [] }))))) }
     ensures left { IfOk result (λ n. drop n line.entry.tags.now
         ≡ left_at first (drop first line.entry.codes.now) line.entry.tags.now) }
@@ -130,7 +130,7 @@ pub(crate) fn push_filled<S: Sink>(
     ensures { OnOk result (S.holds out.new ≡ S.holds out.old ++ S.spells (spell (joined_rows []
         (interleaving 0 under.entry.further.codes.now under.entry.further.tags.now)
         (text_rows cuts under.entry.room under.entry.further_room
-        (pieces (interleaving 0 text.entry.codes.now text.entry.tags.now)))))) }
+        (text_lines (interleaving 0 text.entry.codes.now text.entry.tags.now)))))) }
 {
     let mut start: usize = 0;
     let mut used: usize = 0;

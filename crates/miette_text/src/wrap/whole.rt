@@ -5,7 +5,7 @@ ghost use Rattle.miette_runs.specs.steps.Cells.{plain_cells};
 ghost use Rattle.miette_runs.specs.rules.Sequences.{spell};
 ghost use Rattle.miette_text.specs.steps.WholeText.{indent_text};
 ghost use Rattle.miette_runs.specs.views.Interleaving.{interleaving};
-ghost use Rattle.miette_text.specs.rules.Wrapping.{all_white, pieces, trimmed_row, whole_pieces};
+ghost use Rattle.miette_text.specs.rules.Wrapping.{all_white, text_lines, trimmed_row, whole_lines};
 
 use crate::wrap::lines::{bare_len, line_len};
 use miette_runs::runs::RunsSlice;
@@ -68,9 +68,9 @@ pub(crate) fn push_whole<S: Sink>(
     text: RunsSlice<'_>,
 ) -> Result<(), AllocError>
     ensures { OnOk result (S.holds out.new ≡ S.holds out.old
-        ++ S.spells (spell (whole_pieces (interleaving 0 first.entry.codes.now first.entry.tags.now)
+        ++ S.spells (spell (whole_lines (interleaving 0 first.entry.codes.now first.entry.tags.now)
         (interleaving 0 further.entry.codes.now further.entry.tags.now)
-        (pieces (interleaving 0 text.entry.codes.now text.entry.tags.now))))) }
+        (text_lines (interleaving 0 text.entry.codes.now text.entry.tags.now))))) }
 {
     let further_short = trim_end(further);
     let mut indent = first;

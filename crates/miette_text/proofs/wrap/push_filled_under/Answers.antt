@@ -1,6 +1,6 @@
 use Rattle.std.proofs.Common.{◌≡◌, ◌∙◌, [], ◌-◌, ◌++◌, ap, min}
 use Rattle.miette_runs.specs.rules.Sequences.{spell}
-use Rattle.miette_text.specs.rules.Wrapping.{joined_rows, pieces, text_rows}
+use Rattle.miette_text.specs.rules.Wrapping.{joined_rows, text_lines, text_rows}
 use Rattle.miette_runs.specs.rules.Cells.{columns_of}
 use Rattle.miette_text.specs.views.Plans.{runs_plan}
 use Rattle.miette_runs.specs.views.Interleaving.{interleaving}
@@ -18,7 +18,7 @@ returns g c =
     let r1 : c.saturating_sub-room.result ≡ p.room - columns_of first = c.saturating_sub-room.ensures ∙ ap (λ n. p.room - n) c.in_ok-first_columns.ensures in
     let r2 : c.saturating_sub-further_room.result ≡ p.room - columns_of further = c.saturating_sub-further_room.ensures ∙ ap (λ n. p.room - n) c.in_ok-further_columns.ensures in
     let m : c.min-narrow.result ≡ min c.saturating_sub-room.result c.saturating_sub-further_room.result = c.min-narrow.ensures in
-    let rows = spell (joined_rows [] further (text_rows (record { hyphens = p.hyphens; breaks = p.breaks; narrow = c.min-narrow.result }) c.saturating_sub-room.result c.saturating_sub-further_room.result (pieces text))) in
+    let rows = spell (joined_rows [] further (text_rows (record { hyphens = p.hyphens; breaks = p.breaks; narrow = c.min-narrow.result }) c.saturating_sub-room.result c.saturating_sub-further_room.result (text_lines text))) in
     let e : g.S.Sink.holds c.push_all.new.out ≡ old ++ g.S.Sink.spells (spell first) = c.in_ok-push_all.ensures in
     let f : g.S.Sink.holds c.push_filled.new.out ≡ g.S.Sink.holds c.push_all.new.out ++ g.S.Sink.spells rows = c.in_ok-push_filled.ensures in
     f

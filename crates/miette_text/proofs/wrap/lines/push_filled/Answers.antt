@@ -3,7 +3,7 @@ use Rattle.std.proofs.lemmas.List.{drop-take, take_rest}
 use Rattle.miette_text.specs.steps.Ends.{line_len}
 use Rattle.miette_runs.specs.rules.Cells.{tags_text}
 use Rattle.miette_runs.specs.rules.Sequences.{concatenation, spell}
-use Rattle.miette_text.specs.rules.Wrapping.{pieces}
+use Rattle.miette_text.specs.rules.Wrapping.{text_lines}
 use Rattle.miette_runs.specs.views.Interleaving.{beyond, cells_at, left_at, tag_text, tags_spelled, upto, interleaving}
 use Rattle.miette_text.proofs.LineWise.{last-line, line-at, line_text, text_of}
 use Rattle.miette_text.proofs.InterleavedCells.{feed-tags}
@@ -41,7 +41,7 @@ returns-then-end-text g c =
     ∙ appended g.S.Sink.spells g.met.S.Sink.joins o text (tags_spelled (left_at s (drop s cs) (drop k all)))
     ∙ ap (λ us. o ++ g.S.Sink.spells us) (sym (last-line u further c.rest.room room n s (drop s cs) (drop k all) q (omega (arith, length-drop s cs))))
     ∙ c.rest.invariant.printed
-    ∙ ap (λ us. g.S.Sink.holds c.args.out.now ++ g.S.Sink.spells us) (sym (text-printed u under.room room (interleaving 0 under.further.codes.now under.further.tags.now) (pieces (interleaving 0 cs all))))
+    ∙ ap (λ us. g.S.Sink.holds c.args.out.now ++ g.S.Sink.spells us) (sym (text-printed u under.room room (interleaving 0 under.further.codes.now under.further.tags.now) (text_lines (interleaving 0 cs all))))
 
 pub rest-preserved : goal.rest-preserved
 rest-preserved g c =
