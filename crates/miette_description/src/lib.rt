@@ -2,10 +2,10 @@
 #![tactic(auto)]
 
 pub mod error;
+mod json_values;
 pub mod laws;
 mod members;
 mod numbers;
-mod json_values;
 mod parts;
 mod reading;
 pub mod report;

@@ -11,8 +11,8 @@ ghost use Rattle.miette_description.specs.rules.Members.{label_of};
 ghost use Rattle.miette_description.specs.rules.Members.{source_of, meaning_in};
 
 use crate::error::BuildError;
-use crate::members::{lines_at, needed_text_at, text_at, truth_at, whole_at};
 use crate::json_values::{list_in, member_at, text_in};
+use crate::members::{lines_at, needed_text_at, text_at, truth_at, whole_at};
 use json::Value;
 use miette_protocol::diagnostic::MietteDiagnostic;
 use miette_protocol::protocol::{LabeledSpan, Severity};

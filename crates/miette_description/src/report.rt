@@ -19,8 +19,8 @@ ghost use Rattle.miette_description.specs.rules.Description.{described_tree, rep
 ghost use Rattle.miette_description.specs.steps.OptionalParts.{maybe_sourced, maybe_related};
 
 use crate::error::BuildError;
-use crate::numbers::{is_whole, value_has_float};
 use crate::json_values::{list_in, member_at};
+use crate::numbers::{is_whole, value_has_float};
 use crate::parts::{diagnostic_from, push_texts, source_at, texts_at};
 use crate::reading::read_value;
 use json::{Reader, Scratch, Value};

@@ -59,7 +59,12 @@ pub(crate) fn column(
 }
 
 /// The same, by a walk over the characters from a place on.
-fn walked_column(alloc: Global, text: &[u8], from: PartingPlace, bytes: usize) -> Result<usize, AllocError>
+fn walked_column(
+    alloc: Global,
+    text: &[u8],
+    from: PartingPlace,
+    bytes: usize,
+) -> Result<usize, AllocError>
     requires place { IsPlace text.now from }
     requires before { from.bytes ≤ bytes }
     ensures { IfOk result (λ c. c ≡ column bytes (characters text.now)) }

@@ -62,7 +62,11 @@ fn ending<'a>(ends: &'a [RankedLabel], line: &LineOfText) -> &'a [RankedLabel]
 }
 
 // Those that begin before a place.
-fn begun_before(alloc: Global, ends: &[RankedLabel], place: usize) -> Result<Vec<RankedLabel>, AllocError>
+fn begun_before(
+    alloc: Global,
+    ends: &[RankedLabel],
+    place: usize,
+) -> Result<Vec<RankedLabel>, AllocError>
     ensures { IfOk result (λ v. v.items ≡ filter (λ end. nat_lt end.label.start place) ends.now) }
 {
     let mut kept = Vec::new(alloc);

@@ -98,7 +98,11 @@ fn place_at(
 }
 
 // The next place behind one, if there is one.
-fn next_place(alloc: Global, text: &[u8], from: PartingPlace) -> Result<Option<PartingPlace>, AllocError>
+fn next_place(
+    alloc: Global,
+    text: &[u8],
+    from: PartingPlace,
+) -> Result<Option<PartingPlace>, AllocError>
     requires { IsPlace text.now from }
     ensures { IfOk result (λ next. IfSome next (λ place. IsPlace text.now place × (from.bytes < place.bytes))) }
 {

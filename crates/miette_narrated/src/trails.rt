@@ -129,7 +129,11 @@ fn push_trails(
 }
 
 /// Trails of a text in its stretches without a place.
-pub(crate) fn trails(alloc: Global, text: &[u8], places: &[PartingPlace]) -> Result<Vec<Trail>, AllocError>
+pub(crate) fn trails(
+    alloc: Global,
+    text: &[u8],
+    places: &[PartingPlace],
+) -> Result<Vec<Trail>, AllocError>
     requires { All (IsPlace text.now) places.now }
     ensures { IfOk result (λ trails. All (IsTrail text.now) trails.items) }
 {

@@ -12,7 +12,7 @@ ghost use Rattle.miette_report.specs.steps.AskView.{ask_of, option_ask, terminal
 use crate::fault::Fault;
 use crate::language::LanguageHighlighter;
 use crate::option_words::{
-    WordMeaning, BuildAsked, Choice, OptionAsked, TerminalAsked, ThemeAsked, first_asked,
+    BuildAsked, Choice, OptionAsked, TerminalAsked, ThemeAsked, WordMeaning, first_asked,
 };
 use miette::options::MietteHandlerOpts;
 use miette::theme::{GraphicalTheme, Terminal};
