@@ -41,7 +41,8 @@ abbrev mutual
 
   pub unhighlighted_related_answers : RelatedAnswers → RelatedAnswers
   unhighlighted_related_answers no_more = no_more
-  unhighlighted_related_answers (and_more first more) = and_more (unhighlighted_answers first) (unhighlighted_related_answers more)
+  unhighlighted_related_answers (and_more first more) =
+      and_more (unhighlighted_answers first) (unhighlighted_related_answers more)
 
 -- a text that may be printed with a theme of the same characters, in whatever styles and with whatever highlighter
 abbrev pub IsRestyledText : SnippetRows → Settings → Tree → List ℕ → Type 0

@@ -32,7 +32,8 @@ no_characters = record { cells = []; rest = [] }
 abbrev pub text_lines : List Token → List TextLine
 text_lines [] = no_characters ∷ []
 text_lines (Sequence s ∷ ts) = on_first (with_tag s) (text_lines ts)
-text_lines (Character c ∷ ts) = if is_line_feed c then no_characters ∷ text_lines ts else on_first (with_code c) (text_lines ts)
+text_lines (Character c ∷ ts) =
+    if is_line_feed c then no_characters ∷ text_lines ts else on_first (with_code c) (text_lines ts)
 
 abbrev pub cell_tokens : Cell → List Token
 cell_tokens c = map Sequence c.tags ++ Character c.code ∷ []
