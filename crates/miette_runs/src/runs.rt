@@ -19,7 +19,7 @@ pub mod sink;
 pub mod tags;
 
 use crate::runs::sequences::sequence_at;
-use crate::runs::sign::{Sign, Tag, shared};
+use crate::runs::sign::{Sign, Tag, shared_sign};
 use miette_style::codes::begun_style;
 use miette_style::style::Style;
 use std::alloc::{AllocError, Global};
@@ -130,7 +130,7 @@ impl Runs {
         ensures tokens { OnOk result (self.new ≡ self.old ++ Sequence (sign_text sign) ∷ []) }
         ensures text { OnOk result (spell self.new ≡ spell self.old ++ sign_text sign) }
     {
-        let shared = shared(*self.codes.allocator(), &self.tags, sign)?;
+        let shared = shared_sign(*self.codes.allocator(), &self.tags, sign)?;
         self.push_tag(shared)
     }
 

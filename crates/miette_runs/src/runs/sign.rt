@@ -45,7 +45,7 @@ fn are_alike(one: &Sign, other: &Sign) -> bool
 }
 
 /// A sign to be shared: that of one of the last tags, where it prints the same.
-pub(crate) fn shared(alloc: Global, tags: &[Tag], sign: Sign) -> Result<Rc<Sign>, AllocError>
+pub(crate) fn shared_sign(alloc: Global, tags: &[Tag], sign: Sign) -> Result<Rc<Sign>, AllocError>
     ensures { IfOk result (λ s. sign_text s.value ≡ sign_text sign) }
 {
     for tag in &tags[tags.len().saturating_sub(RECENT)..] {

@@ -1,6 +1,6 @@
 use Rattle.std.proofs.Common.{◌∙◌, ap, sym}
 use Rattle.miette_runs.specs.views.Interleaving.{sign_text}
-use Rattle.miette_runs.proofs.runs.sign.shared.Goals as goal
+use Rattle.miette_runs.proofs.runs.sign.shared_sign.Goals as goal
 
 pub returns-then-are_alike : goal.returns-then-are_alike
 returns-then-are_alike c =
