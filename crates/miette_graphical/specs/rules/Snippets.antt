@@ -30,7 +30,7 @@ layout_settings s = record {
 
 -- a run's characters, as their bytes read
 abbrev pub run_text : layout.Run → List ℕ
-run_text run = chars (encode_utf8_all (map (λ p. p.code) run.pieces))
+run_text run = chars (encode_utf8_all (map (λ p. p.code) run.glyphs))
 
 abbrev pub run_of_row : layout.Run → Fragment
 run_of_row run = Styled run.style (run_text run)
