@@ -6,7 +6,7 @@ use Rattle.std.specs.Prelude.{not, ◌&&◌}
 use Rattle.std.proofs.lemmas.List.{at_drop_more, map-append}
 use Rattle.miette_newlines.specs.rules.Lines.{Line}
 use Rattle.miette_protocol.specs.views.Meaning.{Label}
-use Rattle.miette_lines.specs.declared.sweep.Placed.{Placed}
+use Rattle.miette_lines.specs.declared.sweep.PlacedLabel.{PlacedLabel}
 use Rattle.miette_page.specs.rules.Rows.{Row}
 use Rattle.miette_lines.specs.rules.Labels.{DrawnLabel, starts_on, ends_on, cut_at_lf, closing_labels}
 use Rattle.miette_snippets.specs.rules.Gutters.{other_gutter, open_gutter, part_run, closing_parts, closing_rows}
@@ -65,7 +65,7 @@ rest_of w t line columns multi start ls = rows_tokens (before_each start (closin
 abbrev chosen : (ℕ → ℕ) → Characters → Line → ℕ → List DrawnLabel → Row → DrawnLabel → List DrawnLabel → Bool → List Token
 chosen w t line columns multi start l ls b = rows_tokens (before_each start (closing_rows w t line columns multi (cond b (l ∷ closing_labels line ls) (closing_labels line ls))))
 
-pub closing_more : (w : ℕ → ℕ) (t : Characters) (line : Line) (columns : ℕ) (multi : List DrawnLabel) (start : Row) (ls : List Label) (placed : List Placed) (i : ℕ) (p q whole : Printout) → i < length placed →
+pub closing_more : (w : ℕ → ℕ) (t : Characters) (line : Line) (columns : ℕ) (multi : List DrawnLabel) (start : Row) (ls : List Label) (placed : List PlacedLabel) (i : ℕ) (p q whole : Printout) → i < length placed →
     (ends_on line (drawn_of ls (get_or placed i nothing)) && not (starts_on line (drawn_of ls (get_or placed i nothing)))) ≡ true →
     q ≡ p ⊕ rows_tokens (before_each start (closing_parts w t line columns multi (drawn_of ls (get_or placed i nothing)) (drawn_of ls (get_or placed i nothing)).parts)) →
     p ⊕ rest_of w t line columns multi start (map (drawn_of ls) (drop i placed)) ≡ whole → q ⊕ rest_of w t line columns multi start (map (drawn_of ls) (drop (i + 1) placed)) ≡ whole
@@ -79,7 +79,7 @@ closing_more w t line columns multi start ls placed i p q whole lt e hq h =
     ∙ ap (λ b. p ⊕ chosen w t line columns multi start l later b) (sym e)
     ∙ ap (λ xs. p ⊕ rest_of w t line columns multi start xs) (sym (at_drop_more (map (drawn_of ls)) placed i nothing lt)) ∙ h
 
-pub closing_skip : (w : ℕ → ℕ) (t : Characters) (line : Line) (columns : ℕ) (multi : List DrawnLabel) (start : Row) (ls : List Label) (placed : List Placed) (i : ℕ) (p whole : Printout) → i < length placed →
+pub closing_skip : (w : ℕ → ℕ) (t : Characters) (line : Line) (columns : ℕ) (multi : List DrawnLabel) (start : Row) (ls : List Label) (placed : List PlacedLabel) (i : ℕ) (p whole : Printout) → i < length placed →
     (ends_on line (drawn_of ls (get_or placed i nothing)) && not (starts_on line (drawn_of ls (get_or placed i nothing)))) ≡ false →
     p ⊕ rest_of w t line columns multi start (map (drawn_of ls) (drop i placed)) ≡ whole → p ⊕ rest_of w t line columns multi start (map (drawn_of ls) (drop (i + 1) placed)) ≡ whole
 closing_skip w t line columns multi start ls placed i p whole lt e h =

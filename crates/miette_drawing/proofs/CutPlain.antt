@@ -7,7 +7,7 @@ use Rattle.std.proofs.lemmas.Bool.{and_parts, lt-ltb, le-ltb, le-leb, lt-leb}
 use Rattle.std.proofs.lemmas.Bool.Decides.{nat_tests}
 use Rattle.std.proofs.lemmas.List.{at_drop_more, at_drop_all, drop-drop, drop_all, length-drop, map-append, nil_from_length}
 use Rattle.miette_style.specs.rules.Styles.{plain}
-use Rattle.miette_page.specs.rules.Rows.{Piece, Run}
+use Rattle.miette_page.specs.rules.Rows.{Glyph, Run}
 use Rattle.miette_page.specs.views.Tokens.{begins, row_tokens, styled_tokens, text_tokens}
 use Rattle.miette_page.proofs.Paging.{put_append, put_nil}
 use Rattle.miette_lines.specs.rules.Cells.{Cell, cells_from, characters}
@@ -15,7 +15,7 @@ use Rattle.miette_lines.specs.views.GivenLabels.{width_of}
 use Rattle.miette_lines.specs.views.Printable.{is_printable, plain_cells}
 use Rattle.miette_lines.proofs.Numbers.{by_cases}
 use Rattle.miette_lines.proofs.Plaining.{plain_byte}
-use Rattle.miette_snippets.specs.rules.PrintedCells.{line_runs, printed_pieces, printed_cells, text_bytes}
+use Rattle.miette_snippets.specs.rules.PrintedCells.{line_runs, printed_glyphs, printed_cells, text_bytes}
 use Rattle.miette_snippets.specs.rules.CutLines.{agree, cut_line, dots, ends, is_near, is_near_after, is_within, stretches}
 use Rattle.miette_snippets.proofs.Telling.{then, told-append}
 use Rattle.miette_drawing.specs.declared.stretch.Stretch.{Stretch as MadeStretch}
@@ -110,13 +110,13 @@ dropped zero bs h = h
 dropped (suc n) [] h = refl
 dropped (suc n) (b ∷ bs) h = dropped n bs (and_parts (is_printable b) (list_all is_printable bs) h).1
 
-plain_codes : (o c : ℕ) (bs : List ℕ) → list_all is_printable bs ≡ true → map (λ (p : Piece). p.code) (printed_cells (plain_cells o c bs)) ≡ bs
+plain_codes : (o c : ℕ) (bs : List ℕ) → list_all is_printable bs ≡ true → map (λ (p : Glyph). p.code) (printed_cells (plain_cells o c bs)) ≡ bs
 plain_codes o c [] h = refl
 plain_codes o c (b ∷ bs) h =
     let parts = and_parts (is_printable b) (list_all is_printable bs) h in
     let cell : Cell = cell_of_byte b o c in
-    map-append (λ (p : Piece). p.code) (printed_pieces cell) (printed_cells (plain_cells (o + 1) (c + 1) bs))
-    ∙ ap (λ r. r ++ map (λ (p : Piece). p.code) (printed_cells (plain_cells (o + 1) (c + 1) bs))) (printed_code cell (plain_byte b parts.0).tab)
+    map-append (λ (p : Glyph). p.code) (printed_glyphs cell) (printed_cells (plain_cells (o + 1) (c + 1) bs))
+    ∙ ap (λ r. r ++ map (λ (p : Glyph). p.code) (printed_cells (plain_cells (o + 1) (c + 1) bs))) (printed_code cell (plain_byte b parts.0).tab)
     ∙ ap (λ r. b ∷ r) (plain_codes (o + 1) (c + 1) bs parts.1)
 
 -- all that is shown of a text of printable ASCII
@@ -130,8 +130,8 @@ plain_shown o c before (s ∷ later) bs h =
     ∙ ap (λ cells. row_tokens (cut_cells [] (before + s.bytes) later cells)) (sym (drop_plain s.cells o c bs)) in
     let here : plain_run s bs ≡ row_tokens own =
     by_cases {C = plain_run s bs ≡ row_tokens own} (is_kept s)
-    (λ y. rw y (ap (styled_tokens plain) (sym (plain_codes o c (take s.cells bs) (taken s.cells bs h)) ∙ ap (λ cells. map (λ (p : Piece). p.code) (printed_cells cells)) (sym (take_plain s.cells o c bs)))
-    ∙ sym (append-nil (styled_tokens plain (map (λ (p : Piece). p.code) (printed_cells (take s.cells (plain_cells o c bs)))))))
+    (λ y. rw y (ap (styled_tokens plain) (sym (plain_codes o c (take s.cells bs) (taken s.cells bs h)) ∙ ap (λ cells. map (λ (p : Glyph). p.code) (printed_cells cells)) (sym (take_plain s.cells o c bs)))
+    ∙ sym (append-nil (styled_tokens plain (map (λ (p : Glyph). p.code) (printed_cells (take s.cells (plain_cells o c bs)))))))
     )
     (λ n. rw n refl) in
     ap₂ (λ a b. a ++ b) here below ∙ sym (told-append own rest)

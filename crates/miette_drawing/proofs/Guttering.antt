@@ -7,7 +7,7 @@ use Rattle.std.proofs.lemmas.List.{at_drop_more, at_drop_all}
 use Rattle.miette_newlines.specs.rules.Lines.{Line}
 use Rattle.miette_protocol.specs.views.Meaning.{Label}
 use Rattle.miette_style.specs.declared.style.Style.{Style}
-use Rattle.miette_lines.specs.declared.sweep.Placed.{Placed}
+use Rattle.miette_lines.specs.declared.sweep.PlacedLabel.{PlacedLabel}
 use Rattle.miette_page.specs.rules.Rows.{Row, styled_run}
 use Rattle.miette_style.specs.rules.Styles.{plain}
 use Rattle.miette_lines.specs.rules.Labels.{DrawnLabel, starts_on, ends_on, parts_of, cut_at_lf, onto_part}
@@ -24,12 +24,12 @@ use Rattle.miette_style.specs.rules.Themes.{Characters}
 abbrev Gutter : Type 0
 Gutter = List DrawnLabel → Row
 
-pub at_end : (f : Gutter) (ls : List Label) (placed : List Placed) (i : ℕ) (row new whole : Printout) (own : List Token) → length placed ≤ i →
+pub at_end : (f : Gutter) (ls : List Label) (placed : List PlacedLabel) (i : ℕ) (row new whole : Printout) (own : List Token) → length placed ≤ i →
     row_tokens (f []) ≡ own → new ≡ row ⊕ own → row ⊕ row_tokens (f (map (drawn_of ls) (drop i placed))) ≡ whole → new ≡ whole
 at_end f ls placed i row new whole own le e n h =
     n ∙ ap (λ r. row ⊕ r) (sym e) ∙ ap (λ r. row ⊕ row_tokens (f r)) (sym (at_drop_all (map (drawn_of ls)) placed i le)) ∙ h
 
-pub at_last : (f : Gutter) (ls : List Label) (placed : List Placed) (i : ℕ) (row new whole : Printout) (own : List Token) → i < length placed →
+pub at_last : (f : Gutter) (ls : List Label) (placed : List PlacedLabel) (i : ℕ) (row new whole : Printout) (own : List Token) → i < length placed →
     row_tokens (f (drawn_of ls (get_or placed i nothing) ∷ map (drawn_of ls) (drop (i + 1) placed))) ≡ own → new ≡ row ⊕ own → row ⊕ row_tokens (f (map (drawn_of ls) (drop i placed))) ≡ whole → new ≡ whole
 at_last f ls placed i row new whole own lt e n h =
     n ∙ ap (λ r. row ⊕ r) (sym e) ∙ ap (λ r. row ⊕ row_tokens (f r)) (sym (at_drop_more (map (drawn_of ls)) placed i nothing lt)) ∙ h

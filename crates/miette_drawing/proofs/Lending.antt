@@ -15,7 +15,7 @@ use Rattle.miette_style.specs.declared.style.Style.{Style}
 use Rattle.miette_highlight.specs.rules.HighlighterCalls.{Call, Leads, asked, restarted}
 use Rattle.miette_lines.specs.declared.reading.ReadLabel.{ReadLabel}
 use Rattle.miette_newlines.specs.declared.lines.LineOfText.{LineOfText}
-use Rattle.miette_lines.specs.declared.sweep.Placed.{Placed}
+use Rattle.miette_lines.specs.declared.sweep.PlacedLabel.{PlacedLabel}
 use Rattle.miette_lines.specs.rules.Answers.{Highlight, first_of, later_of}
 use Rattle.miette_page.specs.rules.Rows.{Row}
 use Rattle.miette_lines.specs.rules.Cells.{Cell, characters, cells_from}
@@ -117,23 +117,23 @@ lent_texts_are context source span =
 
 -- labels that are placed, and labels that are drawn
 
-filter_mapped : (f : Placed → DrawnLabel) (p : DrawnLabel → Bool) (q : Placed → Bool) (xs : List Placed) → ((x : Placed) → p (f x) ≡ q x) → filter p (map f xs) ≡ map f (filter q xs)
+filter_mapped : (f : PlacedLabel → DrawnLabel) (p : DrawnLabel → Bool) (q : PlacedLabel → Bool) (xs : List PlacedLabel) → ((x : PlacedLabel) → p (f x) ≡ q x) → filter p (map f xs) ≡ map f (filter q xs)
 filter_mapped f p q [] same = refl
 filter_mapped f p q (x ∷ xs) same =
     by_cases {C = filter p (map f (x ∷ xs)) ≡ map f (filter q (x ∷ xs))} (q x)
     (λ t. let u : p (f x) ≡ true = same x ∙ t in rw (u, t) (ap (λ r. f x ∷ r) (filter_mapped f p q xs same)))
     (λ g. let u : p (f x) ≡ false = same x ∙ g in rw (u, g) (filter_mapped f p q xs same))
 
-one_same : (labels : List Label) (placed : List Placed) (line : Line) → map (drawn_of labels) (filter (is_one line) placed) ≡ one_line line (map (drawn_of labels) placed)
+one_same : (labels : List Label) (placed : List PlacedLabel) (line : Line) → map (drawn_of labels) (filter (is_one line) placed) ≡ one_line line (map (drawn_of labels) placed)
 one_same labels placed line = sym (filter_mapped (drawn_of labels) (is_one_line line) (is_one line) placed (λ x. refl))
 
-multi_same : (labels : List Label) (placed : List Placed) (line : Line) → map (drawn_of labels) (filter (is_multi line) placed) ≡ multi_line line (map (drawn_of labels) placed)
+multi_same : (labels : List Label) (placed : List PlacedLabel) (line : Line) → map (drawn_of labels) (filter (is_multi line) placed) ≡ multi_line line (map (drawn_of labels) placed)
 multi_same labels placed line = sym (filter_mapped (drawn_of labels) (is_multi_line line) (is_multi line) placed (λ x. refl))
 
 tail_all : {X : Type 0} (P : X → Type 0) (x : X) (xs : List X) → All P (x ∷ xs) → All P xs
 tail_all P x xs h = λ k d lt. h (suc k) d (omega arith)
 
-pub most_is : (labels : List Label) (placed : List Placed) (lines : List Line) → most_multi placed lines ≡ most_labels (map (drawn_of labels) placed) lines
+pub most_is : (labels : List Label) (placed : List PlacedLabel) (lines : List Line) → most_multi placed lines ≡ most_labels (map (drawn_of labels) placed) lines
 most_is labels placed [] = refl
 most_is labels placed (line ∷ lines) =
     let many : length (filter (is_multi line) placed) ≡ length (multi_line line (map (drawn_of labels) placed)) = sym (length-map (filter (is_multi line) placed) (drawn_of labels)) ∙ ap length (multi_same labels placed line) in
@@ -154,23 +154,23 @@ told_snippet before top bottom body =
 
 -- placed labels come by offset
 
-abbrev Ascends : ℕ → List Placed → Type 0
+abbrev Ascends : ℕ → List PlacedLabel → Type 0
 Ascends from [] = Unit {0}
 Ascends from (p ∷ ps) = (from ≤ p.start) × (p.start ≤ p.after) × Ascends p.start ps
 
-ascends-low : (from k : ℕ) (ps : List Placed) → Ascends from ps → k < length ps → from ≤ start_at ps k
+ascends-low : (from k : ℕ) (ps : List PlacedLabel) → Ascends from ps → k < length ps → from ≤ start_at ps k
 ascends-low from k [] h lt = absurd (omega (arith, lt))
 ascends-low from zero (p ∷ ps) h lt = h.0
 ascends-low from (suc k) (p ∷ ps) h lt = omega (arith, h.0, ascends-low p.start k ps h.2 (omega (arith, lt)))
 
-ascends-order : (from j k : ℕ) (ps : List Placed) → Ascends from ps → j ≤ k → k < length ps → start_at ps j ≤ start_at ps k
+ascends-order : (from j k : ℕ) (ps : List PlacedLabel) → Ascends from ps → j ≤ k → k < length ps → start_at ps j ≤ start_at ps k
 ascends-order from j k [] h le lt = absurd (omega (arith, lt))
 ascends-order from zero zero (p ∷ ps) h le lt = omega arith
 ascends-order from zero (suc k) (p ∷ ps) h le lt = ascends-low p.start k ps h.2 (omega (arith, lt))
 ascends-order from (suc j) zero (p ∷ ps) h le lt = absurd (omega (arith, le))
 ascends-order from (suc j) (suc k) (p ∷ ps) h le lt = ascends-order p.start j k ps h.2 (omega (arith, le)) (omega (arith, lt))
 
-ascends-drawn : (from k : ℕ) (ps : List Placed) → Ascends from ps → k < length ps → start_at ps k ≤ (slice_index_or ps k nothing).after
+ascends-drawn : (from k : ℕ) (ps : List PlacedLabel) → Ascends from ps → k < length ps → start_at ps k ≤ (slice_index_or ps k nothing).after
 ascends-drawn from k [] h lt = absurd (omega (arith, lt))
 ascends-drawn from zero (p ∷ ps) h lt = h.1
 ascends-drawn from (suc k) (p ∷ ps) h lt = ascends-drawn p.start k ps h.2 (omega (arith, lt))
@@ -206,7 +206,7 @@ pub placed_sorted : (ends : Bool) (styles : List Style) (context : ℕ) (source 
 placed_sorted ends styles context source labels reads h e =
     let up : IsAscending 0 (spans_of (map (read_of labels) reads)) =
     subst (λ (ss : List Span). IsAscending 0 ss) (sym (ap spans_of e ∙ order_same labels)) (sorted (spans_of labels)) in
-    let ps : List Placed = placed_from (end_told ends (length source.bytes)) styles 0 reads in
+    let ps : List PlacedLabel = placed_from (end_told ends (length source.bytes)) styles 0 reads in
     let from : ℕ = cond (is_told (end_told ends (length source.bytes)) 0) (0 - 1) 0 in
     let k : Ascends from ps = placed_ascends ends styles context source labels 0 0 reads h up in
     record { order = λ i j le lt. ascends-order from i j ps k le lt; drawn = λ i lt. ascends-drawn from i ps k lt }
@@ -266,7 +266,7 @@ lines_more_of out gap left s w columns drawn start bytes first blank begun was n
           ∙ rest.3,
     )
 
-pub lines_more : (out : ℕ → Line → Bool) (gap left : Bool) (s : SnippetSettings) (w columns : ℕ) (labels : List Label) (placed : List Placed) (start : ℕ) (bytes : List ℕ) (first : ℕ) (blank : Bool) (begun was now : List Call → Type 0) (at number : ℕ) (line : LineOfText) (one multi : List Placed) (pieces : List Highlight) (before page more : Printout) →
+pub lines_more : (out : ℕ → Line → Bool) (gap left : Bool) (s : SnippetSettings) (w columns : ℕ) (labels : List Label) (placed : List PlacedLabel) (start : ℕ) (bytes : List ℕ) (first : ℕ) (blank : Bool) (begun was now : List Call → Type 0) (at number : ℕ) (line : LineOfText) (one multi : List PlacedLabel) (pieces : List Highlight) (before page more : Printout) →
     AreLined out gap s w columns (map (drawn_of labels) placed) start bytes first blank begun was at number before page → left ≡ out number (line_of_text line) →
     P.lines_from (start + at) (drop at bytes) ≡ line_of_text line ∷ P.lines_from line.end (drop (line.end - start) bytes) → start ≤ line.end →
     one ≡ filter (is_one (line_of_text line)) placed → multi ≡ filter (is_multi (line_of_text line)) placed →
@@ -296,7 +296,7 @@ lines_all out gap s w columns drawn start bytes first blank begun now at number 
     }
 
 -- the rows of a snippet whose lines are counted
-told_counted : (s : SnippetSettings) (spreads : List Spread) (labels : List Label) (placed : List Placed) (lent : Contents) (place : Option Place) (pieces : List (List Highlight)) (w columns lines most : ℕ) (p0 p1 p2 p3 : Printout) →
+told_counted : (s : SnippetSettings) (spreads : List Spread) (labels : List Label) (placed : List PlacedLabel) (lent : Contents) (place : Option Place) (pieces : List (List Highlight)) (w columns lines most : ℕ) (p0 p1 p2 p3 : Printout) →
     lines ≡ length (lines_of_contents lent) → most ≡ most_multi placed (lines_of_contents lent) → w ≡ width_of_count lent.line lines → columns ≡ gutter_of most →
     p1 ≡ p0 ⊕ rows_tokens (top_row_of s w lent.name (ltb 1 lines) place ∷ []) →
     p2 ≡ p1 ⊕ rows_tokens (lent_rows (left_out s lent.line (lines_of_contents lent) spreads) false s w columns (map (drawn_of labels) placed) lent.span.offset lent.bytes (lent.line + 1) pieces (lines_of_contents lent)) →
@@ -313,7 +313,7 @@ told_counted s spreads labels placed lent place pieces w columns lines most p0 p
     ∙ ap (λ n. p0 ⊕ rows_tokens (top_row s lent place ∷ lent_rows out false s (number_width lent) n drawn lent.span.offset lent.bytes (lent.line + 1) pieces real ++ bottom_row s (number_width lent) ∷ [])) room
 
 -- what the getters of a read gave stands for its parts
-pub told_lent : (s : SnippetSettings) (spreads : List Spread) (labels : List Label) (placed : List Placed) (lent : Contents) (place : Option Place) (blank : Bool) (happen : List Call → Type 0) (w columns lines most line start : ℕ) (name : Option (List ℕ)) (bytes : List ℕ) (p0 p1 p2 p3 : Printout) →
+pub told_lent : (s : SnippetSettings) (spreads : List Spread) (labels : List Label) (placed : List PlacedLabel) (lent : Contents) (place : Option Place) (blank : Bool) (happen : List Call → Type 0) (w columns lines most line start : ℕ) (name : Option (List ℕ)) (bytes : List ℕ) (p0 p1 p2 p3 : Printout) →
     line ≡ lent.line → start ≡ lent.span.offset → name ≡ lent.name → bytes ≡ lent.bytes →
     lines ≡ length (P.lines_from start bytes) → most ≡ most_multi placed (P.lines_from start bytes) → w ≡ width_of_count line lines → columns ≡ gutter_of most →
     p1 ≡ p0 ⊕ rows_tokens (top_row_of s w name (ltb 1 lines) place ∷ []) →

@@ -5,9 +5,9 @@ use Rattle.std.proofs.lemmas.Bool.Decides.{nat_tests}
 use Rattle.std.proofs.lemmas.List.{at_drop_more, at_drop_all, map-append}
 use Rattle.miette_style.specs.declared.style.Style.{Style}
 use Rattle.miette_lines.specs.rules.Answers.{Highlight}
-use Rattle.miette_page.specs.rules.Rows.{Row, Piece, styled_run}
+use Rattle.miette_page.specs.rules.Rows.{Row, Glyph, styled_run}
 use Rattle.miette_style.specs.rules.Styles.{plain}
-use Rattle.miette_snippets.specs.rules.PrintedCells.{printed_pieces, printed_cells, cells_within, cells_beyond, text_bytes, line_runs}
+use Rattle.miette_snippets.specs.rules.PrintedCells.{printed_glyphs, printed_cells, cells_within, cells_beyond, text_bytes, line_runs}
 use Rattle.miette_lines.specs.rules.Cells.{Cell}
 use Rattle.miette_drawing.specs.declared.marks.Mark.{Mark as MadeMark}
 use Rattle.miette_snippets.specs.rules.Marks.{Mark}
@@ -53,14 +53,14 @@ pub nothing_put : (p : Printout) → p ≡ p ⊕ rows_tokens []
 nothing_put p = sym (put_nil p)
 
 -- a cell
-pub codes_of_tab : (n : ℕ) → replicate n 32 ≡ map (λ (p : Piece). p.code) (replicate n (record { code = 32; columns = 1 }))
+pub codes_of_tab : (n : ℕ) → replicate n 32 ≡ map (λ (p : Glyph). p.code) (replicate n (record { code = 32; columns = 1 }))
 codes_of_tab zero = refl
 codes_of_tab (suc n) = ap (λ r. 32 ∷ r) (codes_of_tab n)
 
 abbrev print_by : Cell → Bool → List Token
-print_by cell b = text_tokens (map (λ (p : Piece). p.code) (cond b (replicate (cell.until - cell.from) (record { code = 32; columns = 1 })) (record { code = cell.code; columns = cell.until - cell.from } ∷ [])))
+print_by cell b = text_tokens (map (λ (p : Glyph). p.code) (cond b (replicate (cell.until - cell.from) (record { code = 32; columns = 1 })) (record { code = cell.code; columns = cell.until - cell.from } ∷ [])))
 
-pub tab_put : (cell : Cell) (n : ℕ) (p q : Printout) → cell.code ≡ 9 → n ≡ cell.until - cell.from → q ≡ p ⊕ text_tokens (replicate n 32) → q ≡ p ⊕ text_tokens (map (λ p. p.code) (printed_pieces cell))
+pub tab_put : (cell : Cell) (n : ℕ) (p q : Printout) → cell.code ≡ 9 → n ≡ cell.until - cell.from → q ≡ p ⊕ text_tokens (replicate n 32) → q ≡ p ⊕ text_tokens (map (λ p. p.code) (printed_glyphs cell))
 tab_put cell n p q e z h =
     h ∙ ap (λ k. p ⊕ text_tokens (replicate k 32)) z ∙ ap (λ cs. p ⊕ text_tokens cs) (codes_of_tab (cell.until - cell.from))
     ∙ ap (λ b. p ⊕ print_by cell b) (sym (same cell.code 9 e))
@@ -69,12 +69,12 @@ tab_put cell n p q e z h =
     same a b h = grind (arith, nat_tests)
 
 -- cells
-cells_told-cons : (cell : Cell) (cells : List Cell) → cells_tokens (cell ∷ cells) ≡ text_tokens (map (λ p. p.code) (printed_pieces cell)) ++ cells_tokens cells
-cells_told-cons cell cells = ap text_tokens (map-append _ (printed_pieces cell) (printed_cells cells)) ∙ told_append (map (λ p. p.code) (printed_pieces cell)) (map (λ p. p.code) (printed_cells cells))
+cells_told-cons : (cell : Cell) (cells : List Cell) → cells_tokens (cell ∷ cells) ≡ text_tokens (map (λ p. p.code) (printed_glyphs cell)) ++ cells_tokens cells
+cells_told-cons cell cells = ap text_tokens (map-append _ (printed_glyphs cell) (printed_cells cells)) ∙ told_append (map (λ p. p.code) (printed_glyphs cell)) (map (λ p. p.code) (printed_cells cells))
 
-pub cells_more : (cell : Cell) (cells later : List Cell) (p q whole : Printout) → cells ≡ cell ∷ later → q ≡ p ⊕ text_tokens (map (λ p. p.code) (printed_pieces cell)) → p ⊕ cells_tokens cells ≡ whole → q ⊕ cells_tokens later ≡ whole
+pub cells_more : (cell : Cell) (cells later : List Cell) (p q whole : Printout) → cells ≡ cell ∷ later → q ≡ p ⊕ text_tokens (map (λ p. p.code) (printed_glyphs cell)) → p ⊕ cells_tokens cells ≡ whole → q ⊕ cells_tokens later ≡ whole
 cells_more cell cells later p q whole e hq h =
-    ap (λ x. x ⊕ cells_tokens later) hq ∙ put_append p (text_tokens (map (λ p. p.code) (printed_pieces cell))) (cells_tokens later) ∙ ap (λ x. p ⊕ x) (sym (cells_told-cons cell later)) ∙ ap (λ x. p ⊕ cells_tokens x) (sym e) ∙ h
+    ap (λ x. x ⊕ cells_tokens later) hq ∙ put_append p (text_tokens (map (λ p. p.code) (printed_glyphs cell))) (cells_tokens later) ∙ ap (λ x. p ⊕ x) (sym (cells_told-cons cell later)) ∙ ap (λ x. p ⊕ cells_tokens x) (sym e) ∙ h
 
 -- the cells that fill so many bytes
 unequal : (n : ℕ) → 0 < n → eqb n 0 ≡ false
@@ -94,7 +94,7 @@ pub beyond_none : (cells : List Cell) → cells_beyond 0 cells ≡ cells
 beyond_none [] = refl
 beyond_none (c ∷ cs) = refl
 
-pub within_more : (bytes less : ℕ) (cell : Cell) (cells later : List Cell) (p q whole : Printout) → 0 < bytes → less ≡ bytes - text_bytes cell.code → cells ≡ cell ∷ later → q ≡ p ⊕ text_tokens (map (λ p. p.code) (printed_pieces cell)) →
+pub within_more : (bytes less : ℕ) (cell : Cell) (cells later : List Cell) (p q whole : Printout) → 0 < bytes → less ≡ bytes - text_bytes cell.code → cells ≡ cell ∷ later → q ≡ p ⊕ text_tokens (map (λ p. p.code) (printed_glyphs cell)) →
     p ⊕ cells_tokens (cells_within bytes cells) ≡ whole → q ⊕ cells_tokens (cells_within less later) ≡ whole
 within_more bytes less cell cells later p q whole some z e hq h =
     ap (λ k. q ⊕ cells_tokens (cells_within k later)) z

@@ -9,7 +9,7 @@ use Rattle.std.specs.List.{range_with_len}
 use Rattle.miette_protocol.specs.views.Meaning.{Label}
 use Rattle.miette_style.specs.declared.style.Style.{Style}
 use Rattle.miette_drawing.specs.declared.marks.Mark.{Mark as MadeMark}
-use Rattle.miette_page.specs.rules.Rows.{code_piece}
+use Rattle.miette_page.specs.rules.Rows.{glyph_of}
 use Rattle.miette_style.specs.rules.Styles.{plain}
 use Rattle.miette_lines.specs.rules.Labels.{parts_of, cut_at_lf, onto_part, is_empty}
 use Rattle.miette_snippets.specs.rules.Marks.{Mark}
@@ -21,7 +21,7 @@ use Rattle.miette_lines.proofs.Numbers.{by_cases}
 use Rattle.miette_snippets.proofs.Telling.{then, told_as, run_one, run_more, blank_told}
 use Rattle.miette_style.specs.rules.Themes.{Characters}
 
-mapped_codes : (w f : ℕ → ℕ) (ks : List ℕ) → map (λ p. p.code) (map (λ k. code_piece w (f k)) ks) ≡ map f ks
+mapped_codes : (w f : ℕ → ℕ) (ks : List ℕ) → map (λ p. p.code) (map (λ k. glyph_of w (f k)) ks) ≡ map f ks
 mapped_codes w f [] = refl
 mapped_codes w f (k ∷ ks) = ap (λ r. f k ∷ r) (mapped_codes w f ks)
 

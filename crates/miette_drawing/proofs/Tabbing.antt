@@ -10,7 +10,7 @@ use Rattle.bstr.specs.Utf8.{or_replacement}
 use Rattle.memchr.specs.Find.{Nowhere, Passes, is_byte}
 use Rattle.miette_style.specs.declared.style.Style.{Style}
 use Rattle.miette_style.specs.rules.Styles.{plain}
-use Rattle.miette_page.specs.rules.Rows.{Piece}
+use Rattle.miette_page.specs.rules.Rows.{Glyph}
 use Rattle.miette_page.specs.views.Tokens.{begins, row_tokens, text_tokens}
 use Rattle.miette_page.proofs.Paging.{told_append, put_append}
 use Rattle.miette_lines.specs.rules.Cells.{Cell, cells_from, characters, width_at}
@@ -19,7 +19,7 @@ use Rattle.miette_lines.specs.views.Printable.{is_printable}
 use Rattle.miette_lines.proofs.Stepping.{cells_step, cells_end}
 use Rattle.miette_lines.proofs.Numbers.{by_cases}
 use Rattle.miette_lines.proofs.Plaining.{ascii_decoded, one_column, plain_byte}
-use Rattle.miette_snippets.specs.rules.PrintedCells.{printed_pieces, printed_cells, line_runs}
+use Rattle.miette_snippets.specs.rules.PrintedCells.{printed_glyphs, printed_cells, line_runs}
 use Rattle.miette_snippets.specs.rules.Highlighting.{highlight_of}
 use Rattle.miette_snippets.proofs.Telling.{then}
 use Rattle.miette_drawing.specs.steps.CellTokens.{cells_tokens}
@@ -28,7 +28,7 @@ use Rattle.miette_drawing.proofs.Lining.{codes_of_tab}
 use Rattle.miette_drawing.proofs.Untabbing.{printed_code}
 
 abbrev codes : List Cell → List ℕ
-codes cells = map (λ (p : Piece). p.code) (printed_cells cells)
+codes cells = map (λ (p : Glyph). p.code) (printed_cells cells)
 
 abbrev cells : ℕ → ℕ → ℕ → List ℕ → List Cell
 cells tab offset column bs = cells_from width_of tab false offset column (characters bs)
@@ -38,14 +38,14 @@ cell b offset column until = record { code = b; start = offset; after = offset +
 
 -- one byte
 step : (tab offset column w b : ℕ) (bs : List ℕ) → b < 128 → eqb b 27 ≡ false → w ≡ width_at width_of tab false column b →
-    codes (cells tab offset column (b ∷ bs)) ≡ map (λ (p : Piece). p.code) (printed_pieces (cell b offset column (column + w))) ++ codes (cells tab (offset + 1) (column + w) bs)
+    codes (cells tab offset column (b ∷ bs)) ≡ map (λ (p : Glyph). p.code) (printed_glyphs (cell b offset column (column + w))) ++ codes (cells tab (offset + 1) (column + w) bs)
 step tab offset column w b bs low escape width =
     let is = ascii_decoded b bs low in
     ap codes (cells_step width_of tab false false offset column (b ∷ bs) bs b 1 w (column + w) (omega arith) refl
     (sym (ap (λ d. or_replacement d.char) is)) (sym (ap (λ d. d.size) is)) width refl (rw escape refl))
-    ∙ map-append (λ (p : Piece). p.code) (printed_pieces (cell b offset column (column + w))) (printed_cells (cells tab (offset + 1) (column + w) bs))
+    ∙ map-append (λ (p : Glyph). p.code) (printed_glyphs (cell b offset column (column + w))) (printed_cells (cells tab (offset + 1) (column + w) bs))
 
-printed_tab : (b offset column w : ℕ) → eqb b 9 ≡ true → map (λ (p : Piece). p.code) (printed_pieces (cell b offset column (column + w))) ≡ replicate w 32
+printed_tab : (b offset column w : ℕ) → eqb b 9 ≡ true → map (λ (p : Glyph). p.code) (printed_glyphs (cell b offset column (column + w))) ≡ replicate w 32
 printed_tab b offset column w h =
     let same : column + w - column ≡ w = omega arith in
     rw h (sym (codes_of_tab (column + w - column)) ∙ ap (λ n. replicate n 32) same)

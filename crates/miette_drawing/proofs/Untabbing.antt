@@ -14,13 +14,13 @@ use Rattle.bstr.proofs.lemmas.EncodeLemmas.{lossy_chars-encode}
 use Rattle.memchr.specs.Find.{Nowhere, Passes, IsFirstByte, is_byte}
 use Rattle.miette_style.specs.declared.style.Style.{Style}
 use Rattle.miette_style.specs.rules.Styles.{plain}
-use Rattle.miette_page.specs.rules.Rows.{Piece}
+use Rattle.miette_page.specs.rules.Rows.{Glyph}
 use Rattle.miette_page.specs.views.Tokens.{begins, row_tokens, text_tokens}
 use Rattle.miette_lines.specs.rules.Cells.{Character, Cell, cells_from, characters, width_at, hides_next}
 use Rattle.miette_lines.specs.views.GivenLabels.{width_of}
 use Rattle.miette_lines.proofs.Stepping.{made}
 use Rattle.miette_lines.proofs.Numbers.{by_cases}
-use Rattle.miette_snippets.specs.rules.PrintedCells.{printed_pieces, printed_cells, line_runs}
+use Rattle.miette_snippets.specs.rules.PrintedCells.{printed_glyphs, printed_cells, line_runs}
 use Rattle.miette_snippets.specs.rules.Highlighting.{highlight_of}
 use Rattle.miette_snippets.proofs.Telling.{then}
 use Rattle.miette_drawing.specs.steps.CellTokens.{cells_tokens}
@@ -68,19 +68,19 @@ characters_untabbed (c ∷ cs) h =
     rw (character_untabbed c parts.0) (characters_untabbed cs parts.1)
 
 -- characters print as they are
-pub printed_code : (cell : Cell) → eqb cell.code 9 ≡ false → map (λ (p : Piece). p.code) (printed_pieces cell) ≡ cell.code ∷ []
+pub printed_code : (cell : Cell) → eqb cell.code 9 ≡ false → map (λ (p : Glyph). p.code) (printed_glyphs cell) ≡ cell.code ∷ []
 printed_code cell h = rw h refl
 
 untabbed_codes : (tab offset column : ℕ) (hidden : Bool) (cs : List Character) → list_all is_untabbed (codes cs) ≡ true →
-    map (λ (p : Piece). p.code) (printed_cells (cells_from width_of tab hidden offset column cs)) ≡ codes cs
+    map (λ (p : Glyph). p.code) (printed_cells (cells_from width_of tab hidden offset column cs)) ≡ codes cs
 untabbed_codes tab offset column hidden [] h = refl
 untabbed_codes tab offset column hidden (c ∷ cs) h =
     let parts = and_parts (is_untabbed c.code) (list_all is_untabbed (codes cs)) h in
     let until : ℕ = column + width_at width_of tab hidden column c.code in
     let cell : Cell = record { code = c.code; start = offset; after = offset + c.bytes; from = column; until = until } in
     let cells : List Cell = cells_from width_of tab (hides_next hidden c.code) (offset + c.bytes) until cs in
-    map-append (λ (p : Piece). p.code) (printed_pieces cell) (printed_cells cells)
-    ∙ ap (λ r. r ++ map (λ (p : Piece). p.code) (printed_cells cells)) (printed_code cell (no_tab c.code parts.0))
+    map-append (λ (p : Glyph). p.code) (printed_glyphs cell) (printed_cells cells)
+    ∙ ap (λ r. r ++ map (λ (p : Glyph). p.code) (printed_cells cells)) (printed_code cell (no_tab c.code parts.0))
     ∙ ap (λ r. c.code ∷ r) (untabbed_codes tab (offset + c.bytes) until (hides_next hidden c.code) cs parts.1)
 
 untabbed_told : (tab offset : ℕ) (bs : List ℕ) → IsUtf8 bs → list_all is_untabbed bs ≡ true → text_tokens (chars bs) ≡ cells_tokens (cells_from width_of tab false offset 0 (characters bs))

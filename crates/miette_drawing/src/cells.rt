@@ -1,7 +1,7 @@
 //! Characters as they print.
 
 ghost use Rattle.std.specs.Prelude.{◌≡◌, map, OnOk};
-ghost use Rattle.miette_snippets.specs.rules.PrintedCells.{printed_pieces, cells_within, cells_beyond};
+ghost use Rattle.miette_snippets.specs.rules.PrintedCells.{printed_glyphs, cells_within, cells_beyond};
 ghost use Rattle.miette_page.specs.views.Printouts.{◌⊕◌};
 ghost use Rattle.miette_page.specs.views.Tokens.{text_tokens};
 ghost use Rattle.miette_drawing.specs.steps.CellTokens.{cells_tokens};
@@ -14,7 +14,7 @@ use miette_page::page::Page;
 
 /// A character as it prints, a tab as spaces. `AllocError` where memory is refused.
 pub(crate) fn push_cell<O: Canvas>(page: &mut Page<O>, cell: &Cell) -> Outcome
-    ensures { OnOk result (page.new ≡ page.old ⊕ text_tokens (map (λ p. p.code) (printed_pieces (cell_of cell.now)))) }
+    ensures { OnOk result (page.new ≡ page.old ⊕ text_tokens (map (λ p. p.code) (printed_glyphs (cell_of cell.now)))) }
 {
     if cell.code == '\t' {
         page.push_copies(' ', cell.until.saturating_sub(cell.from))?;

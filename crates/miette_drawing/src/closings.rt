@@ -17,14 +17,14 @@ use crate::label_text::first_part;
 use crate::sheet::{Outcome, Sheet};
 use crate::texts::push_other_start;
 use miette_lines::drawn_labels::text_of;
-use miette_lines::sweep::Placed;
+use miette_lines::sweep::PlacedLabel;
 use miette_newlines::lines::LineOfText;
 use miette_page::canvas::Canvas;
 use miette_page::page::Page;
 use miette_style::style::Style;
 
 // Whether a label ends on a line and began before it.
-fn closes(line: &LineOfText, label: &Placed) -> bool
+fn closes(line: &LineOfText, label: &PlacedLabel) -> bool
     ensures { result ≡ ends_on (line_of_text line.now) (label_of label.now)
         && not (starts_on (line_of_text line.now) (label_of label.now)) }
 {
@@ -46,7 +46,7 @@ fn push_closed_row<O: Canvas>(
     page: &mut Page<O>,
     sheet: &Sheet,
     columns: usize,
-    label: &Placed,
+    label: &PlacedLabel,
     bar: char,
     part: &str,
 ) -> Outcome
@@ -65,7 +65,7 @@ fn push_open_row<O: Canvas>(
     page: &mut Page<O>,
     sheet: &Sheet,
     columns: usize,
-    label: &Placed,
+    label: &PlacedLabel,
     part: &str,
 ) -> Outcome
     ensures { OnOk result (page.new ≡ page.old
@@ -82,7 +82,7 @@ fn push_open_rows<O: Canvas>(
     page: &mut Page<O>,
     sheet: &Sheet,
     columns: usize,
-    label: &Placed,
+    label: &PlacedLabel,
     text: &str,
 ) -> Outcome
     ensures { OnOk result (page.new ≡ page.old
@@ -99,7 +99,7 @@ fn push_open_rows<O: Canvas>(
 }
 
 // The rows of a label's text: `╰──── text`, or `╰───┤ text` and a row for each further part.
-fn push_closing<O: Canvas>(page: &mut Page<O>, sheet: &Sheet, label: &Placed) -> Outcome
+fn push_closing<O: Canvas>(page: &mut Page<O>, sheet: &Sheet, label: &PlacedLabel) -> Outcome
     ensures { OnOk result (page.new ≡ page.old
         ⊕ rows_tokens (before_each (other_start (settings sheet.now) sheet.now.number_width)
         (closing_parts (settings sheet.now).width (settings sheet.now).characters (line_of_text sheet.now.line)

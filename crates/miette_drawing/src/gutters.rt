@@ -13,21 +13,21 @@ ghost use Rattle.miette_newlines.specs.views.Walking.{line_of_text};
 
 use crate::sheet::{Outcome, Sheet};
 use miette_lines::drawn_labels::text_of;
-use miette_lines::sweep::Placed;
+use miette_lines::sweep::PlacedLabel;
 use miette_newlines::lines::LineOfText;
 use miette_page::canvas::Canvas;
 use miette_page::page::{PLAIN, Page};
 use miette_style::style::Style;
 
 // Whether a label starts on a line.
-pub(crate) fn starts(line: &LineOfText, label: &Placed) -> bool
+pub(crate) fn starts(line: &LineOfText, label: &PlacedLabel) -> bool
     ensures { result ≡ starts_on (line_of_text line.now) (label_of label.now) }
 {
     line.start <= label.start && label.start < line.end
 }
 
 // Whether a label ends on a line.
-pub(crate) fn ends(line: &LineOfText, label: &Placed) -> bool
+pub(crate) fn ends(line: &LineOfText, label: &PlacedLabel) -> bool
     ensures { result ≡ ends_on (line_of_text line.now) (label_of label.now) }
 {
     if label.start == label.after {
@@ -38,7 +38,7 @@ pub(crate) fn ends(line: &LineOfText, label: &Placed) -> bool
 }
 
 // The corner of a label that ends on the line.
-fn corner_at_end(sheet: &Sheet, label: &Placed) -> char
+fn corner_at_end(sheet: &Sheet, label: &PlacedLabel) -> char
     ensures { result ≡ ending_corner (settings sheet.now).characters (drawn_of sheet.now.labels.now label.now).parts }
 {
     match text_of(sheet.labels, label) {

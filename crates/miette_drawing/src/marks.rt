@@ -14,7 +14,7 @@ ghost use Rattle.miette_drawing.specs.steps.Marks.{mark_of, ComeFrom, HasAnchor,
 
 use miette_lines::cells::Walk;
 use miette_lines::plain::all_printable;
-use miette_lines::sweep::Placed;
+use miette_lines::sweep::PlacedLabel;
 use miette_newlines::lines::LineOfText;
 use std::alloc::{AllocError, Global};
 use std::marker::Model;
@@ -214,7 +214,7 @@ impl<'a> Columns<'a> {
 
     /// The column at which a label's mark begins, unless the mark before it ends behind that: the first one behind the
     /// text, or that of the label's first byte. `AllocError` as of `first_column`.
-    pub(crate) fn label_column(&self, label: &Placed) -> Result<usize, AllocError>
+    pub(crate) fn label_column(&self, label: &PlacedLabel) -> Result<usize, AllocError>
         ensures { IfOk result (λ column. column ≡ label_from self.now (label_of label.now)) }
     {
         if label.behind {
@@ -234,11 +234,11 @@ pub(crate) struct Mark {
     /// The one of its columns from which the label's text hangs.
     pub(crate) anchor: usize,
     /// The label that it marks.
-    pub(crate) label: Placed,
+    pub(crate) label: PlacedLabel,
 }
 
 // The mark of a label, where the mark before it ends at a column.
-fn next_mark(columns: &Columns<'_>, label: &Placed, reached: usize) -> Result<Mark, AllocError>
+fn next_mark(columns: &Columns<'_>, label: &PlacedLabel, reached: usize) -> Result<Mark, AllocError>
     ensures from { IfOk result (λ mark. mark.from ≡ mark_from columns.now reached (label_of label.now)) }
     ensures until { IfOk result (λ mark. mark.until ≡ mark_until columns.now reached (label_of label.now)) }
     ensures anchor { IfOk result (λ mark. mark.anchor ≡ mark_anchor columns.now reached (label_of label.now)) }
@@ -266,7 +266,7 @@ fn next_mark(columns: &Columns<'_>, label: &Placed, reached: usize) -> Result<Ma
 fn marks_in(
     alloc: Global,
     columns: &Columns<'_>,
-    placed: &[Placed],
+    placed: &[PlacedLabel],
 ) -> Result<Vec<Mark>, AllocError>
     ensures is { IfOk result (λ made. (labels : List Label) →
         map (mark_of labels) made.items ≡ marks columns.now (map (drawn_of labels) placed.now)) }
@@ -291,7 +291,7 @@ pub(crate) fn marks_on(
     line: &LineOfText,
     text: &[u8],
     tab: usize,
-    one: &[Placed],
+    one: &[PlacedLabel],
 ) -> Result<Vec<Mark>, AllocError>
     requires { line.now.start + length text.now < 2 ^ 64 }
     ensures is { IfOk result (λ made. (labels : List Label) → map (mark_of labels) made.items

@@ -2,7 +2,7 @@
 
 ghost use Rattle.std.specs.Prelude.{◌≡◌};
 
-use miette_lines::sweep::Placed;
+use miette_lines::sweep::PlacedLabel;
 use miette_newlines::lines::LineOfText;
 use miette_protocol::protocol::LabeledSpan;
 use miette_snippets::options::LayoutOptions;
@@ -29,7 +29,7 @@ pub(crate) struct Sheet<'a> {
     /// The diagnostic's labels, whose texts are drawn.
     pub(crate) labels: &'a [LabeledSpan],
     /// The labels of several lines that lie on the line, by offset.
-    pub(crate) multi: &'a [Placed],
+    pub(crate) multi: &'a [PlacedLabel],
 }
 
 /// A line as its own rows show it.
@@ -40,7 +40,7 @@ pub(crate) struct ShownLine<'a> {
     /// The bytes of its text.
     pub(crate) text: &'a [u8],
     /// The labels that lie on it alone, by offset.
-    pub(crate) one: &'a [Placed],
+    pub(crate) one: &'a [PlacedLabel],
     /// A highlighter's pieces of its text, each a length in bytes and a style.
     pub(crate) pieces: &'a [(usize, Style)],
     /// Whether it is left out.

@@ -42,7 +42,7 @@ use crate::sheet::{Outcome, Sheet, ShownLine};
 use itoa::Buffer;
 use miette_highlight::highlight::Highlighter;
 use miette_lines::line_sweep::{extent_of, line_at};
-use miette_lines::sweep::{Bounds, Placed, Sweep, advance};
+use miette_lines::sweep::{Bounds, PlacedLabel, Sweep, advance};
 use miette_newlines::lines::LineOfText;
 use miette_page::canvas::Canvas;
 use miette_page::page::Page;
@@ -64,7 +64,7 @@ pub struct Drawing<'a> {
     /// The labels as given, whose texts are drawn.
     pub labels: &'a [LabeledSpan],
     /// The labels as they are drawn, by offset.
-    pub placed: &'a [Placed],
+    pub placed: &'a [PlacedLabel],
     /// The labels as they may be folded; none where none is to be.
     pub spreads: &'a [Spread],
 }
@@ -135,7 +135,7 @@ fn gutter_width(most: usize) -> Result<usize, AllocError>
 }
 
 // Brings a sweep to an offset.
-fn seek(alloc: Global, labels: &[Placed], place: usize, passage: &mut Passage) -> Outcome
+fn seek(alloc: Global, labels: &[PlacedLabel], place: usize, passage: &mut Passage) -> Outcome
     requires sorted { AreSorted labels.now }
     requires at { IsAt labels.now passage.old.at passage.old.sweep.next passage.old.sweep.running.items }
     ensures { OnOk result (IsAt labels.now place passage.new.sweep.next passage.new.sweep.running.items) }
@@ -176,7 +176,7 @@ fn push_lines<'a, H: Highlighter, O: Canvas>(
     highlighter: &mut Option<H>,
     page: &mut Page<O>,
     sweep: &mut Sweep,
-    one: &mut Vec<Placed>,
+    one: &mut Vec<PlacedLabel>,
 ) -> Outcome
     requires sorted { AreSorted drawing.now.placed.now }
     requires at { IsAt drawing.now.placed.now body.now.start sweep.old.next sweep.old.running.items }

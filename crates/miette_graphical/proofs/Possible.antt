@@ -10,7 +10,7 @@ use Rattle.miette_lines.specs.rules.Groups.{groups_of, in_order}
 use Rattle.miette_snippet_laws.specs.laws.Fading as fading
 use Rattle.miette_snippets.specs.rules.Frames as frames
 use Rattle.miette_snippets.specs.rules.SnippetLayout.{snippet_rows}
-use Rattle.miette_page.specs.rules.Rows.{Row, pieces_of}
+use Rattle.miette_page.specs.rules.Rows.{Row, glyphs_of}
 use Rattle.miette_graphical.specs.rules.Settings.{Settings}
 use Rattle.miette_graphical.specs.rules.Snippets.{layout_settings}
 use Rattle.miette_graphical.specs.rules.Answers.{Answer, Answers, unlisted, RelatedAnswers, no_more, and_more, own_answer, cause_answers, related_answers}
@@ -23,9 +23,9 @@ use Rattle.miette_graphical.proofs.DrawnRows.{none_have}
 -- in plain styles the rows have the same characters, which the layer of snippets promises
 abbrev pub AreRowsKept : Type 0
 AreRowsKept = (s : frames.SnippetSettings) (source : Source) (labels : List Label) (answers : layout.Answers) →
-    option_map (map pieces_of) (snippet_rows (fading.colourless s) source labels (fading.unhighlighted_answers answers)) ≡ option_map (map pieces_of) (snippet_rows s source labels answers)
+    option_map (map glyphs_of) (snippet_rows (fading.colourless s) source labels (fading.unhighlighted_answers answers)) ≡ option_map (map glyphs_of) (snippet_rows s source labels answers)
 
-some_kept : (plain rows : Option (List Row)) → option_map (map pieces_of) plain ≡ option_map (map pieces_of) rows → is_some rows ≡ true → is_some plain ≡ true
+some_kept : (plain rows : Option (List Row)) → option_map (map glyphs_of) plain ≡ option_map (map glyphs_of) rows → is_some rows ≡ true → is_some plain ≡ true
 some_kept None None e h = h
 some_kept None (Some rows) e h = absurd (cc)
 some_kept (Some plain) rows e h = refl

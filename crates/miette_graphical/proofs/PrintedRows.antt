@@ -35,7 +35,7 @@ row_put p [] = sym (append-nil (ended_text p))
 row_put p (run ∷ row) =
     ap ended_text (sym (put_append p (run_tokens run) (row_tokens row)))
     ∙ row_put (p ⊕ run_tokens run) row
-    ∙ ap (λ t. t ++ print (runs_of_row row)) (run_put p run.style (map (λ p. p.code) run.pieces) ∙ ap (λ codes. ended_text p ++ printed_run run.style codes) (sym (run_codes run)))
+    ∙ ap (λ t. t ++ print (runs_of_row row)) (run_put p run.style (map (λ p. p.code) run.glyphs) ∙ ap (λ codes. ended_text p ++ printed_run run.style codes) (sym (run_codes run)))
     ∙ append_assoc (ended_text p) (printed_run run.style (run_text run)) (print (runs_of_row row))
 
 -- rows, where a row begins

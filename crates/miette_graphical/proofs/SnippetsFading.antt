@@ -17,7 +17,7 @@ use Rattle.miette_snippet_laws.specs.laws.Fading as fading
 use Rattle.miette_snippet_laws.specs.laws.Fading.{IsPlainRow}
 use Rattle.miette_snippets.specs.rules.Frames as frames
 use Rattle.miette_snippets.specs.rules.SnippetLayout.{snippet_rows}
-use Rattle.miette_page.specs.rules.Rows.{Piece, Row, Run, pieces_of}
+use Rattle.miette_page.specs.rules.Rows.{Glyph, Row, Run, glyphs_of}
 use Rattle.miette_graphical.specs.rules.Answers.{Answer}
 use Rattle.miette_graphical.specs.laws.Clean.{AreCleanSettings, HaveNoEscapes}
 use Rattle.miette_graphical.specs.laws.Colourless.{AreSnippets, colourless, unhighlighted_answer}
@@ -28,7 +28,7 @@ use Rattle.miette_graphical.specs.rules.Snippets.{drawn_rows, layout_settings, r
 -- the clauses of the laws of that layer
 pub record LayoutLaws : Type 0 where
   pub same : (s : frames.SnippetSettings) (source : Source) (labels : List Label) (answers : layout.Answers) →
-      option_map (map pieces_of) (snippet_rows (fading.colourless s) source labels (fading.unhighlighted_answers answers)) ≡ option_map (map pieces_of) (snippet_rows s source labels answers)
+      option_map (map glyphs_of) (snippet_rows (fading.colourless s) source labels (fading.unhighlighted_answers answers)) ≡ option_map (map glyphs_of) (snippet_rows s source labels answers)
   pub plain : (s : frames.SnippetSettings) (source : Source) (labels : List Label) (answers : layout.Answers) →
       IfSome (snippet_rows (fading.colourless s) source labels (fading.unhighlighted_answers answers)) (AllByRecursion IsPlainRow)
   pub clean : (s : frames.SnippetSettings) (source : Source) (labels : List Label) (answers : layout.Answers) →
@@ -88,48 +88,48 @@ encoded (c ∷ cs) = reads c (encode_utf8_all cs) ∙ ap (λ xs. c ∷ xs) (enco
 
 -- ---- what plain rows print
 
-abbrev codes_of : List Piece → List ℕ
+abbrev codes_of : List Glyph → List ℕ
 codes_of pieces = map (λ p. p.code) pieces
 
-pub run_codes : (run : Run) → run_text run ≡ codes_of run.pieces
-run_codes run = encoded (codes_of run.pieces)
+pub run_codes : (run : Run) → run_text run ≡ codes_of run.glyphs
+run_codes run = encoded (codes_of run.glyphs)
 
 plain_print : (text : List ℕ) → printed_run plain text ≡ text
 plain_print [] = refl
 plain_print (c ∷ text) = refl
 
 -- in plain, a row prints its characters
-bare_row : (row : Row) → print (map plain_run (runs_of_row row)) ≡ codes_of (pieces_of row)
+bare_row : (row : Row) → print (map plain_run (runs_of_row row)) ≡ codes_of (glyphs_of row)
 bare_row [] = refl
-bare_row (run ∷ row) = ap₂ (λ x y. x ++ y) (plain_print (run_text run) ∙ run_codes run) (bare_row row) ∙ sym (map-append (λ p. p.code) run.pieces (pieces_of row))
+bare_row (run ∷ row) = ap₂ (λ x y. x ++ y) (plain_print (run_text run) ∙ run_codes run) (bare_row row) ∙ sym (map-append (λ p. p.code) run.glyphs (glyphs_of row))
 
-plain_row : (row : Row) → IsPlainRow row → print (runs_of_row row) ≡ codes_of (pieces_of row)
+plain_row : (row : Row) → IsPlainRow row → print (runs_of_row row) ≡ codes_of (glyphs_of row)
 plain_row [] h = refl
 plain_row (run ∷ row) h =
     ap₂ (λ x y. x ++ y) (ap (λ style. printed_run style (run_text run)) h.0 ∙ plain_print (run_text run) ∙ run_codes run) (plain_row row h.1)
-    ∙ sym (map-append (λ p. p.code) run.pieces (pieces_of row))
+    ∙ sym (map-append (λ p. p.code) run.glyphs (glyphs_of row))
 
 -- rows by their characters
-abbrev text_of : List (List Piece) → List ℕ
+abbrev text_of : List (List Glyph) → List ℕ
 text_of [] = []
 text_of (pieces ∷ more) = codes_of pieces ++ line_feed ++ text_of more
 
-bare_rows : (rows : List Row) → rows_text (map (map plain_run) (map runs_of_row rows)) ≡ text_of (map pieces_of rows)
+bare_rows : (rows : List Row) → rows_text (map (map plain_run) (map runs_of_row rows)) ≡ text_of (map glyphs_of rows)
 bare_rows [] = refl
 bare_rows (row ∷ rows) = ap₂ (λ x y. x ++ line_feed ++ y) (bare_row row) (bare_rows rows)
 
-plain_rows : (rows : List Row) → AllByRecursion IsPlainRow rows → rows_text (map runs_of_row rows) ≡ text_of (map pieces_of rows)
+plain_rows : (rows : List Row) → AllByRecursion IsPlainRow rows → rows_text (map runs_of_row rows) ≡ text_of (map glyphs_of rows)
 plain_rows [] h = refl
 plain_rows (row ∷ rows) h = ap₂ (λ x y. x ++ line_feed ++ y) (plain_row row h.0) (plain_rows rows h.1)
 
-abbrev shown_text : Option (List (List Piece)) → List ℕ
+abbrev shown_text : Option (List (List Glyph)) → List ℕ
 shown_text rows = text_of (unwrap_or rows [])
 
-bare_shown : (rows : Option (List Row)) → rows_text (map (map plain_run) (shown_rows rows)) ≡ shown_text (option_map (map pieces_of) rows)
+bare_shown : (rows : Option (List Row)) → rows_text (map (map plain_run) (shown_rows rows)) ≡ shown_text (option_map (map glyphs_of) rows)
 bare_shown None = refl
 bare_shown (Some rows) = bare_rows rows
 
-plain_shown : (rows : Option (List Row)) → IfSome rows (AllByRecursion IsPlainRow) → rows_text (shown_rows rows) ≡ shown_text (option_map (map pieces_of) rows)
+plain_shown : (rows : Option (List Row)) → IfSome rows (AllByRecursion IsPlainRow) → rows_text (shown_rows rows) ≡ shown_text (option_map (map glyphs_of) rows)
 plain_shown None h = refl
 plain_shown (Some rows) h = plain_rows rows h
 

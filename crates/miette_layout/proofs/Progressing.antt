@@ -17,7 +17,7 @@ use Rattle.miette_lines.specs.declared.reading.ReadLabels.{ReadLabels}
 use Rattle.miette_lines.specs.declared.reading.ReadLabels.TheVariants as reads
 use Rattle.miette_lines.specs.declared.reading.Refusal.{Refusal}
 use Rattle.miette_lines.specs.declared.reading.Refusal.TheVariants as reasons
-use Rattle.miette_lines.specs.declared.sweep.Placed.{Placed}
+use Rattle.miette_lines.specs.declared.sweep.PlacedLabel.{PlacedLabel}
 use Rattle.miette_page.specs.rules.Rows.{Row}
 use Rattle.miette_lines.specs.rules.Answers.{Answers, Highlight, first_of, later_of}
 use Rattle.miette_lines.specs.rules.Around.{has_own, group_context}
@@ -243,7 +243,7 @@ gives_unread s source labels blank happen reads before order h g =
     }
 
 -- the labels as they are drawn, in order
-pub drawn_is : (s : SnippetSettings) (source : Source) (labels : List Label) (reads : List ReadLabel) (end : Option ℕ) (placed : List Placed) → map (read_of labels) reads ≡ in_order labels →
+pub drawn_is : (s : SnippetSettings) (source : Source) (labels : List Label) (reads : List ReadLabel) (end : Option ℕ) (placed : List PlacedLabel) → map (read_of labels) reads ≡ in_order labels →
     All (IsRead s.context source labels) reads → end ≡ cond s.end_labels (told_end reads) None → placed ≡ placed_from end s.styles.highlights 0 reads →
     map (drawn_of labels) placed ≡ drawn_labels (settings_around s (in_order labels)) (length source.bytes) (in_order labels)
 drawn_is s source labels reads end placed order h told e =
@@ -255,10 +255,10 @@ drawn_is s source labels reads end placed order h told e =
     ∙ sym (drawn_around s n (in_order labels))
 
 -- they come by offset
-pub placed_rise : (s : SnippetSettings) (source : Source) (labels : List Label) (reads : List ReadLabel) (end : Option ℕ) (placed : List Placed) → map (read_of labels) reads ≡ in_order labels →
+pub placed_rise : (s : SnippetSettings) (source : Source) (labels : List Label) (reads : List ReadLabel) (end : Option ℕ) (placed : List PlacedLabel) → map (read_of labels) reads ≡ in_order labels →
     All (IsRead s.context source labels) reads → end ≡ cond s.end_labels (told_end reads) None → placed ≡ placed_from end s.styles.highlights 0 reads → AreSorted placed
 placed_rise s source labels reads end placed order h told e =
-    subst (λ (ps : List Placed). AreSorted ps) (sym (e ∙ ap (λ x. placed_from x s.styles.highlights 0 reads) (told ∙ told_is s.end_labels s.context source labels reads h order)))
+    subst (λ (ps : List PlacedLabel). AreSorted ps) (sym (e ∙ ap (λ x. placed_from x s.styles.highlights 0 reads) (told ∙ told_is s.end_labels s.context source labels reads h order)))
     (placed_sorted (s.end_labels && some_shows_end s.context (length source.bytes) (in_order labels)) s.styles.highlights s.context source labels reads h order)
 
 pub place_ordered : (context : ℕ) (source : Source) (labels : List Label) (own : Bool) (group : Span) (reads : List ReadLabel) (found : Found) → own ≡ has_own labels → map (read_of labels) reads ≡ in_order labels →

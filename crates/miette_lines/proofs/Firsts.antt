@@ -6,7 +6,7 @@ use Rattle.miette_newlines.specs.rules.Lines as P
 use Rattle.miette_newlines.specs.rules.Lines.{Line}
 use Rattle.miette_newlines.specs.declared.lines.LineOfText.{LineOfText}
 use Rattle.miette_newlines.specs.views.Walking.{Rest, IsFirst, behind, line_of_text, lines_left}
-use Rattle.miette_lines.specs.declared.sweep.Placed.{Placed}
+use Rattle.miette_lines.specs.declared.sweep.PlacedLabel.{PlacedLabel}
 use Rattle.miette_lines.specs.views.Sweeping.{line_of_bounds, passes, is_multi, IsAt, IsOn, AreSorted}
 use Rattle.miette_lines.specs.views.LabelCounts.{most_multi}
 use Rattle.miette_lines.proofs.Swept.{left_at}
@@ -25,7 +25,7 @@ line_parted start at bytes rest line left h =
     (ap (drop (line.end - (start + at))) left ∙ drop-drop (line.end - (start + at)) at bytes ∙ ap (λ n. drop n bytes) sums)
 
 -- the sweep's place behind a line
-pub state_more : (labels : List Placed) (start at : ℕ) (line : LineOfText) (next next' : ℕ) (on left : List Placed) → AreSorted labels → line.start ≡ start + at → line.start < line.end →
+pub state_more : (labels : List PlacedLabel) (start at : ℕ) (line : LineOfText) (next next' : ℕ) (on left : List PlacedLabel) → AreSorted labels → line.start ≡ start + at → line.start < line.end →
     IsOn labels (line_of_bounds (record { start = line.start; after = line.end })) next on → next' ≡ next → left ≡ filter (passes line.end) on → IsAt labels (start + (line.end - start)) next' left
 state_more labels start at line next next' on left sorted from some is same passed =
     let sums : line.end ≡ start + (line.end - start) = omega (arith, from, some) in
@@ -33,7 +33,7 @@ state_more labels start at line next next' on left sorted from some is same pass
 
 -- So many lines before those that are left are counted, with the greatest number of labels of several lines on one of
 -- them, and the sweep's place.
-pub record AreCounted (labels : List Placed) (start : ℕ) (bytes : List ℕ) (rest : Rest) (lines most next : ℕ) (running : List Placed) : Type 0 where
+pub record AreCounted (labels : List PlacedLabel) (start : ℕ) (bytes : List ℕ) (rest : Rest) (lines most next : ℕ) (running : List PlacedLabel) : Type 0 where
   pub few : start + lines ≤ rest.start
   pub to : rest.start + length rest.bytes ≡ start + length bytes
   pub count : lines + length (lines_left rest) ≡ length (P.lines_from start bytes)
@@ -43,7 +43,7 @@ pub record AreCounted (labels : List Placed) (start : ℕ) (bytes : List ℕ) (r
 none_max : (a : ℕ) → max 0 a ≡ a
 none_max a = omega arith
 
-pub counted_first : (labels : List Placed) (start : ℕ) (bytes : List ℕ) (rest : Rest) (next next' : ℕ) (running running' : List Placed) → rest ≡ record { start = start; bytes = bytes } →
+pub counted_first : (labels : List PlacedLabel) (start : ℕ) (bytes : List ℕ) (rest : Rest) (next next' : ℕ) (running running' : List PlacedLabel) → rest ≡ record { start = start; bytes = bytes } →
     IsAt labels start next running → next' ≡ next → running' ≡ running → AreCounted labels start bytes rest 0 0 next' running'
 counted_first labels start bytes rest next next' running running' all is n r =
     subst (λ (left : Rest). AreCounted labels start bytes left 0 0 next' running') (sym all)
@@ -58,7 +58,7 @@ counted_first labels start bytes rest next next' running running' all is n r =
 max_turned : (a b c : ℕ) → max (max a b) c ≡ max b (max a c)
 max_turned a b c = omega arith
 
-pub counted_more : (labels : List Placed) (start : ℕ) (bytes : List ℕ) (rest after : Rest) (line : LineOfText) (lines most most' next next' : ℕ) (running on left : List Placed) → AreSorted labels →
+pub counted_more : (labels : List PlacedLabel) (start : ℕ) (bytes : List ℕ) (rest after : Rest) (line : LineOfText) (lines most most' next next' : ℕ) (running on left : List PlacedLabel) → AreSorted labels →
     AreCounted labels start bytes rest lines most next running → IsFirst rest line → after ≡ behind rest line →
     IsOn labels (line_of_bounds (record { start = line.start; after = line.end })) next' on → left ≡ filter (passes line.end) on → most' ≡ max (length on) most →
     AreCounted labels start bytes after (lines + 1) most' next' left
@@ -79,14 +79,14 @@ counted_more labels start bytes rest after line lines most most' next next' runn
     })
 
 -- the sweep's place before a line
-pub at_line : (labels : List Placed) (start : ℕ) (bytes : List ℕ) (rest : Rest) (line : LineOfText) (lines most next : ℕ) (running : List Placed) → AreCounted labels start bytes rest lines most next running → IsFirst rest line →
+pub at_line : (labels : List PlacedLabel) (start : ℕ) (bytes : List ℕ) (rest : Rest) (line : LineOfText) (lines most next : ℕ) (running : List PlacedLabel) → AreCounted labels start bytes rest lines most next running → IsFirst rest line →
     IsAt labels line.start next running
 at_line labels start bytes rest line lines most next running h first = subst (λ (n : ℕ). IsAt labels n next running) (sym first.from) h.state
 
 max_none : (a : ℕ) → max a 0 ≡ a
 max_none a = omega arith
 
-pub all_counted : (labels : List Placed) (start : ℕ) (bytes : List ℕ) (rest : Rest) (lines most next : ℕ) (running : List Placed) → AreCounted labels start bytes rest lines most next running → rest.bytes ≡ [] →
+pub all_counted : (labels : List PlacedLabel) (start : ℕ) (bytes : List ℕ) (rest : Rest) (lines most next : ℕ) (running : List PlacedLabel) → AreCounted labels start bytes rest lines most next running → rest.bytes ≡ [] →
     (lines ≡ length (P.lines_from start bytes)) × (most ≡ most_multi labels (P.lines_from start bytes))
 all_counted labels start bytes rest lines most next running h none =
     let zero' : length (lines_left rest) ≡ 0 = ap (λ bs. length (P.lines_from rest.start bs)) none in

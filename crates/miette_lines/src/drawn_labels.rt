@@ -7,7 +7,7 @@ ghost use Rattle.miette_lines.specs.views.Placing.{placed_from, placed_one, end_
 
 use crate::reading::ReadLabel;
 use crate::spans::end_of;
-use crate::sweep::Placed;
+use crate::sweep::PlacedLabel;
 use miette_protocol::protocol::LabeledSpan;
 use miette_style::style::Style;
 use std::alloc::{AllocError, Global};
@@ -72,7 +72,7 @@ fn placed_one(
     styles: &[Style],
     i: usize,
     read: &ReadLabel<'_>,
-) -> Result<Placed, AllocError>
+) -> Result<PlacedLabel, AllocError>
     ensures { IfOk result (λ placed. placed ≡ placed_one end styles.now i read.now) }
 {
     let offset = read.span.offset();
@@ -84,7 +84,7 @@ fn placed_one(
     } else {
         (offset, drawn)
     };
-    Ok(Placed {
+    Ok(PlacedLabel {
         start,
         after,
         style: style_of(styles, i),
@@ -101,7 +101,7 @@ pub fn placed_labels(
     styles: &[Style],
     end: Option<usize>,
     reads: &[ReadLabel<'_>],
-) -> Result<Vec<Placed>, AllocError>
+) -> Result<Vec<PlacedLabel>, AllocError>
     ensures { IfOk result (λ placed. placed.items ≡ placed_from end styles.now 0 reads.now) }
 {
     let mut placed = Vec::with_capacity(alloc, reads.len())?;
@@ -112,7 +112,7 @@ pub fn placed_labels(
 }
 
 /// The text of a placed label.
-pub fn text_of<'a>(labels: &'a [LabeledSpan], placed: &Placed) -> Option<&'a str>
+pub fn text_of<'a>(labels: &'a [LabeledSpan], placed: &PlacedLabel) -> Option<&'a str>
     ensures { option_copied result ≡ text_at labels.now placed.now.index }
 {
     match labels.get(placed.index) {

@@ -6,7 +6,7 @@ ghost use Rattle.miette_newlines.specs.views.Walking.{line_of_text};
 ghost use Rattle.miette_lines.specs.views.Sweeping.{IsAt, AreSorted};
 ghost use Rattle.miette_lines.specs.views.LabelCounts.{most_multi};
 
-use crate::sweep::{Bounds, Placed, Sweep};
+use crate::sweep::{Bounds, PlacedLabel, Sweep};
 use miette_newlines::lines::{LineOfText, Lines, first_line};
 use std::alloc::{AllocError, Global};
 
@@ -40,9 +40,9 @@ pub fn extent_of(
     alloc: Global,
     bytes: &[u8],
     start: usize,
-    labels: &[Placed],
+    labels: &[PlacedLabel],
     sweep: &Sweep,
-    one: &mut Vec<Placed>,
+    one: &mut Vec<PlacedLabel>,
 ) -> Result<Extent, AllocError>
     requires sorted { AreSorted labels.now }
     requires at { IsAt labels.now start sweep.now.next sweep.now.running.items }

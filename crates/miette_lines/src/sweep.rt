@@ -10,7 +10,7 @@ use std::alloc::{AllocError, Global};
 
 /// A label up to its drawn end, with its style, and which label it is.
 #[derive(Clone, Copy, Debug, PartialEq, Eq, Drop)]
-pub struct Placed {
+pub struct PlacedLabel {
     /// The offset where it begins, in bytes of the source.
     pub start: usize,
     /// The offset of its drawn end: its own end, or that of what its read lent where this comes first.
@@ -36,7 +36,7 @@ pub struct Bounds {
 #[derive(Debug, Drop)]
 pub struct Sweep {
     /// The labels that began before the place and go on past it, by offset.
-    pub running: Vec<Placed>,
+    pub running: Vec<PlacedLabel>,
     /// How many labels began before the place, which is the index of the next one by offset.
     pub next: usize,
 }
@@ -45,13 +45,13 @@ pub struct Sweep {
 #[derive(Debug, Drop)]
 pub struct OnLine {
     /// The labels that lie on the line alone, by offset.
-    pub one: Vec<Placed>,
+    pub one: Vec<PlacedLabel>,
     /// The labels of several lines that lie on the line, by offset.
-    pub multi: Vec<Placed>,
+    pub multi: Vec<PlacedLabel>,
 }
 
 // Whether a label goes on past a place.
-fn goes_past(label: &Placed, place: usize) -> bool
+fn goes_past(label: &PlacedLabel, place: usize) -> bool
     ensures { result ≡ passes place label.now }
 {
     if label.start == label.after {
@@ -88,9 +88,9 @@ impl Sweep {
     /// gets those that lie on it alone. `AllocError` where memory is refused; where the sweep then is, is open.
     pub fn enter(
         &mut self,
-        labels: &[Placed],
+        labels: &[PlacedLabel],
         line: &Bounds,
-        one: &mut Vec<Placed>,
+        one: &mut Vec<PlacedLabel>,
     ) -> Result<(), AllocError>
         requires sorted { AreSorted labels.now }
         requires some { line.now.start < line.now.after }
@@ -122,7 +122,7 @@ impl Sweep {
     }
 }
 
-fn copy_of(alloc: Global, labels: &[Placed]) -> Result<Vec<Placed>, AllocError>
+fn copy_of(alloc: Global, labels: &[PlacedLabel]) -> Result<Vec<PlacedLabel>, AllocError>
     ensures { IfOk result (λ copy. copy.items ≡ labels.now) }
 {
     let mut copy = Vec::with_capacity(alloc, labels.len())?;
@@ -136,7 +136,7 @@ fn copy_of(alloc: Global, labels: &[Placed]) -> Result<Vec<Placed>, AllocError>
 /// where the sweep then is, is open.
 pub fn advance(
     alloc: Global,
-    labels: &[Placed],
+    labels: &[PlacedLabel],
     line: &Bounds,
     sweep: &mut Sweep,
 ) -> Result<OnLine, AllocError>

@@ -7,7 +7,7 @@ use Rattle.std.proofs.lemmas.Bool.{leb-true, le-leb, ne_eqb, eqb-true, and_right
 use Rattle.std.proofs.lemmas.Bool.Decides.{nat_tests}
 use Rattle.std.proofs.lemmas.List.Elements.{filter_agree}
 use Rattle.miette_newlines.specs.rules.Lines.{Line}
-use Rattle.miette_lines.specs.declared.sweep.Placed.{Placed}
+use Rattle.miette_lines.specs.declared.sweep.PlacedLabel.{PlacedLabel}
 use Rattle.miette_lines.proofs.Sorting.{put, sorted, Rises, at_key, same_list, sorted_rises, sorted_at, rises_from, sort_is}
 use Rattle.miette_narrated.specs.declared.label_order.RankedLabel.{RankedLabel}
 use Rattle.miette_narrated.specs.steps.Ends.{ends_within, is_ended, ranked_labels, AreEnds}
@@ -91,18 +91,18 @@ sorted_kept n q (x ∷ xs) =
 abbrev rank_of : RankedLabel → ℕ
 rank_of end = end.rank
 
-rank_below : (v m : ℕ) (ps : List Placed) → v < m → at_key rank_of v (ranked_labels m ps) ≡ []
+rank_below : (v m : ℕ) (ps : List PlacedLabel) → v < m → at_key rank_of v (ranked_labels m ps) ≡ []
 rank_below v m [] lt = refl
 rank_below v m (p ∷ ps) lt = rw (ne_eqb m v (λ e. omega (arith, e))) (rank_below v (m + 1) ps (omega arith))
 
-one_rank : (n : RankedLabel → ℕ) (v m : ℕ) (ps : List Placed) → sorted n (at_key rank_of v (ranked_labels m ps)) ≡ at_key rank_of v (ranked_labels m ps)
+one_rank : (n : RankedLabel → ℕ) (v m : ℕ) (ps : List PlacedLabel) → sorted n (at_key rank_of v (ranked_labels m ps)) ≡ at_key rank_of v (ranked_labels m ps)
 one_rank n v m [] = refl
 one_rank n v m (p ∷ ps) =
     by_cases {C = sorted n (at_key rank_of v (ranked_labels m (p ∷ ps))) ≡ at_key rank_of v (ranked_labels m (p ∷ ps))} (eqb m v)
     (λ t. let none = rank_below v (m + 1) ps (omega (arith, eqb-true m v t)) in rw t (ap (λ r. put n (record { rank = m; label = p }) (sorted n r)) none ∙ sym (ap (λ r. record { rank = m; label = p } ∷ r) none)))
     (λ f. rw f (one_rank n v (m + 1) ps))
 
-pub are_ends : (ps : List Placed) (made ends : List RankedLabel) → made ≡ ranked_labels 0 ps → IsNonDecreasingBy (λ (end : RankedLabel). end.label.after) ends → IsStableByKey (λ (end : RankedLabel). end.label.after) nat_cmp made ends → AreEnds ps ends
+pub are_ends : (ps : List PlacedLabel) (made ends : List RankedLabel) → made ≡ ranked_labels 0 ps → IsNonDecreasingBy (λ (end : RankedLabel). end.label.after) ends → IsStableByKey (λ (end : RankedLabel). end.label.after) nat_cmp made ends → AreEnds ps ends
 are_ends ps made ends e up stable =
     let n : RankedLabel → ℕ = λ end. end.label.after in
     let is : ends ≡ sorted n (ranked_labels 0 ps) = sort_is n made ends up stable ∙ ap (sorted n) e in
@@ -111,7 +111,7 @@ are_ends ps made ends e up stable =
       same = λ v. ap (at_key rank_of v) is ∙ sorted_kept n (λ end. eqb end.rank v) (ranked_labels 0 ps) ∙ one_rank n v 0 ps;
     }
 
-ranks_rise : (q : RankedLabel → Bool) (m : ℕ) (ps : List Placed) → Rises rank_of m (filter q (ranked_labels m ps))
+ranks_rise : (q : RankedLabel → Bool) (m : ℕ) (ps : List PlacedLabel) → Rises rank_of m (filter q (ranked_labels m ps))
 ranks_rise q m [] = tt
 ranks_rise q m (p ∷ ps) =
     let end : RankedLabel = record { rank = m; label = p } in
@@ -120,14 +120,14 @@ ranks_rise q m (p ∷ ps) =
     (λ t. rw t (omega arith, rises_lower rank_of m (m + 1) (filter q (ranked_labels (m + 1) ps)) (omega arith) later))
     (λ f. rw f (rises_lower rank_of m (m + 1) (filter q (ranked_labels (m + 1) ps)) (omega arith) later))
 
-kept_labels : (q : Placed → Bool) (m : ℕ) (ps : List Placed) → map (λ (end : RankedLabel). end.label) (filter (λ (end : RankedLabel). q end.label) (ranked_labels m ps)) ≡ filter q ps
+kept_labels : (q : PlacedLabel → Bool) (m : ℕ) (ps : List PlacedLabel) → map (λ (end : RankedLabel). end.label) (filter (λ (end : RankedLabel). q end.label) (ranked_labels m ps)) ≡ filter q ps
 kept_labels q m [] = refl
 kept_labels q m (p ∷ ps) =
     by_cases {C = map (λ (end : RankedLabel). end.label) (filter (λ (end : RankedLabel). q end.label) (ranked_labels m (p ∷ ps))) ≡ filter q (p ∷ ps)} (q p)
     (λ t. rw t (ap (λ r. p ∷ r) (kept_labels q (m + 1) ps))) (λ f. rw f (kept_labels q (m + 1) ps))
 
 -- labels that pass, by rank, are those that pass by offset
-ranks_again : (q : Placed → Bool) (ps : List Placed) (ends kept ended : List RankedLabel) → AreEnds ps ends → kept ≡ filter (λ (end : RankedLabel). q end.label) ends →
+ranks_again : (q : PlacedLabel → Bool) (ps : List PlacedLabel) (ends kept ended : List RankedLabel) → AreEnds ps ends → kept ≡ filter (λ (end : RankedLabel). q end.label) ends →
     IsNonDecreasingBy rank_of ended → IsStableByKey rank_of nat_cmp kept ended → map (λ (end : RankedLabel). end.label) ended ≡ filter q ps
 ranks_again q ps ends kept ended are e up stable =
     let p : RankedLabel → Bool = λ end. q end.label in
@@ -138,7 +138,7 @@ ranks_again q ps ends kept ended are e up stable =
     ap (map (λ (end : RankedLabel). end.label)) (same_list rank_of 0 0 ended (filter p (ranked_labels 0 ps)) (rises_from rank_of 0 ended up (λ d lt. omega arith)) (ranks_rise p 0 ps) at)
     ∙ kept_labels q 0 ps
 
-pub ended_again : (line : Line) (ps : List Placed) (ends near kept ended : List RankedLabel) → AreEnds ps ends → near ≡ filter (λ (end : RankedLabel). ends_within line end.label) ends →
+pub ended_again : (line : Line) (ps : List PlacedLabel) (ends near kept ended : List RankedLabel) → AreEnds ps ends → near ≡ filter (λ (end : RankedLabel). ends_within line end.label) ends →
     kept ≡ filter (λ (end : RankedLabel). ltb end.label.start line.start) near → IsNonDecreasingBy rank_of ended → IsStableByKey rank_of nat_cmp kept ended →
     map (λ (end : RankedLabel). end.label) ended ≡ filter (is_ended line) ps
 ended_again line ps ends near kept ended are e k up stable =
@@ -147,12 +147,12 @@ ended_again line ps ends near kept ended are e k up stable =
 
 -- ---- labels by offset rise
 
-from_first : (ps : List Placed) (a : ℕ) → BeginsFrom a ps → AreOrdered ps → (j : ℕ) (d : Placed) → j < length ps → a ≤ (get_or ps j d).start
+from_first : (ps : List PlacedLabel) (a : ℕ) → BeginsFrom a ps → AreOrdered ps → (j : ℕ) (d : PlacedLabel) → j < length ps → a ≤ (get_or ps j d).start
 from_first [] a h o j d lt = absurd (omega arith)
 from_first (p ∷ ps) a h o zero d lt = h
 from_first (p ∷ ps) a h o (suc j) d lt = let later = from_first ps p.start o.1 o.2 j d (omega arith) in omega (arith, h, later)
 
-pub starts_rise : (ps : List Placed) → AreOrdered ps → IsNonDecreasingBy (λ (p : Placed). p.start) ps
+pub starts_rise : (ps : List PlacedLabel) → AreOrdered ps → IsNonDecreasingBy (λ (p : PlacedLabel). p.start) ps
 starts_rise [] o i j d le lt = absurd (omega arith)
 starts_rise (p ∷ ps) o zero zero d le lt = omega arith
 starts_rise (p ∷ ps) o zero (suc j) d le lt = from_first ps p.start o.1 o.2 j d (omega arith)

@@ -5,36 +5,36 @@ use Rattle.std.proofs.lemmas.Bool.{leb-true, leb-false, le-ltb}
 use Rattle.std.proofs.lemmas.Bool.Decides.{nat_tests}
 use Rattle.miette_protocol.specs.views.Meaning.{Label}
 use Rattle.miette_newlines.specs.rules.Lines.{Line}
-use Rattle.miette_lines.specs.declared.sweep.Placed.{Placed}
+use Rattle.miette_lines.specs.declared.sweep.PlacedLabel.{PlacedLabel}
 use Rattle.miette_narrated.specs.rules.Labels.{SnippetLine, label_row, label_rows}
 use Rattle.miette_narrated.specs.steps.Ends.{is_ended, is_begun}
 use Rattle.miette_narrated.specs.steps.Conversions.{range_of, ranges_of}
 use Rattle.miette_narrated.specs.steps.Sweeping.{BeginsFrom, AreOrdered}
 use Rattle.miette_narrated.proofs.Sweeps.{by_cases, lower, row_beyond}
 
-row_before : (it : SnippetLine) (labels : List Label) (p : Placed) → it.is_last ≡ false → leb it.line.start p.start ≡ false → (leb it.line.start p.after && leb p.after it.line.text_end) ≡ false →
+row_before : (it : SnippetLine) (labels : List Label) (p : PlacedLabel) → it.is_last ≡ false → leb it.line.start p.start ≡ false → (leb it.line.start p.after && leb p.after it.line.text_end) ≡ false →
     label_row it (range_of labels p) ≡ []
 row_before it labels p last f n =
     by_cases {C = label_row it (range_of labels p) ≡ []} (leb it.line.start p.after)
     (λ t. let g : leb p.after it.line.text_end ≡ false = sym (ap (λ b. b && leb p.after it.line.text_end) t) ∙ n in rw (f, t, g, last) refl)
     (λ g. rw (f, g) refl)
 
-none_ended : (line : Line) (ps : List Placed) → BeginsFrom line.start ps → AreOrdered ps → filter (is_ended line) ps ≡ []
+none_ended : (line : Line) (ps : List PlacedLabel) → BeginsFrom line.start ps → AreOrdered ps → filter (is_ended line) ps ≡ []
 none_ended line [] h o = refl
 none_ended line (p ∷ ps) h o = rw (le-ltb p.start line.start h) (none_ended line ps (lower line.start p.start ps h o.1) o.2)
 
 before_begun : (start k : ℕ) → leb start k ≡ false → ltb k start ≡ true
 before_begun start k f = grind (arith, nat_tests)
 
-row_behind : (it : SnippetLine) (labels : List Label) (p : Placed) → it.is_last ≡ false → p.start ≤ p.after → leb p.start it.line.text_end ≡ false → label_row it (range_of labels p) ≡ []
+row_behind : (it : SnippetLine) (labels : List Label) (p : PlacedLabel) → it.is_last ≡ false → p.start ≤ p.after → leb p.start it.line.text_end ≡ false → label_row it (range_of labels p) ≡ []
 row_behind it labels p last le f = row_beyond it labels p le (rw last (omega (arith, leb-false p.start it.line.text_end f)))
 
 -- one more label before those that end and those that begin on the line, where it does so itself
-abbrev apart : SnippetLine → List Label → Placed → List Placed → List Placed → Bool → Bool → List ℕ
+abbrev apart : SnippetLine → List Label → PlacedLabel → List PlacedLabel → List PlacedLabel → Bool → Bool → List ℕ
 apart it labels p ended begun ends begins =
     label_rows it (ranges_of labels (cond ends (p ∷ ended) ended)) ++ label_rows it (ranges_of labels (cond begins (p ∷ begun) begun))
 
-pub rows_apart : (it : SnippetLine) (labels : List Label) (ps : List Placed) → it.is_last ≡ false → AreOrdered ps →
+pub rows_apart : (it : SnippetLine) (labels : List Label) (ps : List PlacedLabel) → it.is_last ≡ false → AreOrdered ps →
     label_rows it (ranges_of labels ps) ≡ label_rows it (ranges_of labels (filter (is_ended it.line) ps)) ++ label_rows it (ranges_of labels (filter (is_begun it.line) ps))
 rows_apart it labels [] last o = refl
 rows_apart it labels (p ∷ ps) last o =

@@ -7,7 +7,7 @@ use Rattle.std.proofs.Math.Seq.{drop-cons}
 use Rattle.std.proofs.lemmas.Bool.{leb-true, leb-false, and_parts}
 use Rattle.miette_protocol.specs.views.Meaning.{Label}
 use Rattle.miette_protocol.specs.rules.Reading.{Span, Source, IsAccepted, contents_of, is_accepted}
-use Rattle.miette_lines.specs.declared.sweep.Placed.{Placed}
+use Rattle.miette_lines.specs.declared.sweep.PlacedLabel.{PlacedLabel}
 use Rattle.miette_lines.specs.declared.grouping.Group.{Group}
 use Rattle.miette_lines.specs.declared.reading.ReadLabel.{ReadLabel}
 use Rattle.miette_lines.specs.declared.reading.Refusal.{Refusal}
@@ -71,7 +71,7 @@ told_reads context source labels i (r ∷ rs) law h =
     ap₂ (λ x xs. x ∷ xs) (told_one context source labels i r law (All-head (IsRead context source labels) r rs h))
     (told_reads context source labels (i + 1) rs law (All-tail (IsRead context source labels) r rs h))
 
-pub told_in_order : (context : ℕ) (source : Source) (labels : List Label) (rs : List ReadLabel) (ps : List Placed) → Reaches → All (IsRead context source labels) rs → map (label_of_read labels) rs ≡ in_order labels →
+pub told_in_order : (context : ℕ) (source : Source) (labels : List Label) (rs : List ReadLabel) (ps : List PlacedLabel) → Reaches → All (IsRead context source labels) rs → map (label_of_read labels) rs ≡ in_order labels →
     ps ≡ placed_from None [] 0 rs → ranges_of labels ps ≡ map (label_range (length source.bytes)) (in_order labels)
 told_in_order context source labels rs ps law h order e =
     ap (ranges_of labels) e ∙ told_reads context source labels 0 rs law h ∙ ap (map (label_range (length source.bytes))) order
@@ -102,10 +102,10 @@ ordered_reads context source labels i from (r ∷ rs) h up =
     (subst (λ k. Rises k (map (label_of_read labels) rs)) (sym start) up.1) in
     ((omega arith, more.1, more.0), omega (arith, start, up.0))
 
-pub placed_ordered : (context : ℕ) (source : Source) (labels : List Label) (rs : List ReadLabel) (ps : List Placed) → All (IsRead context source labels) rs → map (label_of_read labels) rs ≡ in_order labels →
+pub placed_ordered : (context : ℕ) (source : Source) (labels : List Label) (rs : List ReadLabel) (ps : List PlacedLabel) → All (IsRead context source labels) rs → map (label_of_read labels) rs ≡ in_order labels →
     ps ≡ placed_from None [] 0 rs → AreOrdered ps
 placed_ordered context source labels rs ps h order e =
-    subst (λ (xs : List Placed). AreOrdered xs) (sym e)
+    subst (λ (xs : List PlacedLabel). AreOrdered xs) (sym e)
     (ordered_reads context source labels 0 0 rs h (subst (λ (ls : List Label). Rises 0 ls) (sym order) (order_rises labels))).0
 
 -- ---- acceptance
@@ -136,7 +136,7 @@ pub groups_end : (context : ℕ) (source : Source) (labels : List LabelRange) (g
 groups_end context source labels gs i out goal le h =
     sym (append-nil out) ∙ ap (λ xs. out ++ snippets_of context source labels (map (λ g. g.span) xs)) (sym (drop_all i gs le)) ∙ h
 
-pub snippets_told : (context : ℕ) (source : Source) (labels : List Label) (rs : List ReadLabel) (ps : List Placed) (gs : List Group) (old new : List ℕ) → Reaches → All (IsRead context source labels) rs →
+pub snippets_told : (context : ℕ) (source : Source) (labels : List Label) (rs : List ReadLabel) (ps : List PlacedLabel) (gs : List Group) (old new : List ℕ) → Reaches → All (IsRead context source labels) rs →
     map (label_of_read labels) rs ≡ in_order labels → ps ≡ placed_from None [] 0 rs → AreGroups context source (in_order labels) gs →
     new ≡ old ++ snippets_of (group_context context (in_order labels)) source (ranges_of labels ps) (map (λ g. g.span) gs) → AppendsSnippets context (Some source) labels old new
 snippets_told context source labels rs ps gs old new law h order e are text =

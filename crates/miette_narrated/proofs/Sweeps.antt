@@ -4,7 +4,7 @@ use Rattle.std.specs.Prelude.{if◌then◌else◌}
 use Rattle.std.specs.List.{filter}
 use Rattle.std.proofs.lemmas.Bool.{leb-false, lt-leb}
 use Rattle.miette_protocol.specs.views.Meaning.{Label}
-use Rattle.miette_lines.specs.declared.sweep.Placed.{Placed}
+use Rattle.miette_lines.specs.declared.sweep.PlacedLabel.{PlacedLabel}
 use Rattle.miette_narrated.specs.rules.Labels.{SnippetLine, ends_before, whole_row, start_row, end_row, label_row, label_rows}
 use Rattle.miette_narrated.specs.steps.Conversions.{range_of, ranges_of}
 use Rattle.miette_narrated.specs.steps.Sweeping.{reaches, IsAt, BeginsFrom, AreOrdered, last_start}
@@ -15,7 +15,7 @@ by_cases false f g = g refl
 
 -- ---- the labels that reach a place
 
-pub reach_later : (a b : ℕ) (ps : List Placed) → a ≤ b → filter (reaches b) (filter (reaches a) ps) ≡ filter (reaches b) ps
+pub reach_later : (a b : ℕ) (ps : List PlacedLabel) → a ≤ b → filter (reaches b) (filter (reaches a) ps) ≡ filter (reaches b) ps
 reach_later a b [] le = refl
 reach_later a b (p ∷ ps) le =
     by_cases {C = filter (reaches b) (filter (reaches a) (p ∷ ps)) ≡ filter (reaches b) (p ∷ ps)} (leb a p.after)
@@ -32,7 +32,7 @@ beyond true reached x y z = refl
 beyond false true x y z = refl
 beyond false false x y z = refl
 
-row_unreached : (it : SnippetLine) (labels : List Label) (p : Placed) → p.start ≤ p.after → leb it.line.start p.after ≡ false → label_row it (range_of labels p) ≡ []
+row_unreached : (it : SnippetLine) (labels : List Label) (p : PlacedLabel) → p.start ≤ p.after → leb it.line.start p.after ≡ false → label_row it (range_of labels p) ≡ []
 row_unreached it labels p le f =
     let d = range_of labels p in
     let begun : leb it.line.start p.start ≡ false = lt-leb it.line.start p.start (omega (arith, leb-false it.line.start p.after f)) in
@@ -46,7 +46,7 @@ last_text : (is_last : Bool) (far text at : ℕ) → (if is_last then max far te
 last_text true far text at lt = omega arith
 last_text false far text at lt = lt
 
-pub row_beyond : (it : SnippetLine) (labels : List Label) (p : Placed) → p.start ≤ p.after → last_start it < p.start → label_row it (range_of labels p) ≡ []
+pub row_beyond : (it : SnippetLine) (labels : List Label) (p : PlacedLabel) → p.start ≤ p.after → last_start it < p.start → label_row it (range_of labels p) ≡ []
 row_beyond it labels p le lt =
     let d = range_of labels p in
     let text : it.line.text_end < p.start = last_text it.is_last it.data_end it.line.text_end p.start lt in
@@ -58,23 +58,23 @@ row_beyond it labels p le lt =
 
 -- ---- the rows of many labels
 
-abbrev AreDrawn : List Placed → Type 0
+abbrev AreDrawn : List PlacedLabel → Type 0
 AreDrawn [] = Unit {0}
 AreDrawn (p ∷ ps) = (p.start ≤ p.after) × AreDrawn ps
 
-drawn_taken : (n : ℕ) (ps : List Placed) → AreOrdered ps → AreDrawn (take n ps)
+drawn_taken : (n : ℕ) (ps : List PlacedLabel) → AreOrdered ps → AreDrawn (take n ps)
 drawn_taken zero [] o = tt
 drawn_taken (suc n) [] o = tt
 drawn_taken zero (p ∷ ps) o = tt
 drawn_taken (suc n) (p ∷ ps) o = (o.0, drawn_taken n ps o.2)
 
-ordered_dropped : (n : ℕ) (ps : List Placed) → AreOrdered ps → AreOrdered (drop n ps)
+ordered_dropped : (n : ℕ) (ps : List PlacedLabel) → AreOrdered ps → AreOrdered (drop n ps)
 ordered_dropped zero [] o = tt
 ordered_dropped (suc n) [] o = tt
 ordered_dropped zero (p ∷ ps) o = o
 ordered_dropped (suc n) (p ∷ ps) o = ordered_dropped n ps o.2
 
-rows_reached : (it : SnippetLine) (labels : List Label) (ps : List Placed) → AreDrawn ps → label_rows it (ranges_of labels (filter (reaches it.line.start) ps)) ≡ label_rows it (ranges_of labels ps)
+rows_reached : (it : SnippetLine) (labels : List Label) (ps : List PlacedLabel) → AreDrawn ps → label_rows it (ranges_of labels (filter (reaches it.line.start) ps)) ≡ label_rows it (ranges_of labels ps)
 rows_reached it labels [] h = refl
 rows_reached it labels (p ∷ ps) h =
     let f : Bool → List ℕ = λ b. label_rows it (ranges_of labels (cond b (p ∷ filter (reaches it.line.start) ps) (filter (reaches it.line.start) ps))) in
@@ -82,17 +82,17 @@ rows_reached it labels (p ∷ ps) h =
     (λ t. ap f t ∙ ap (λ r. label_row it (range_of labels p) ++ r) (rows_reached it labels ps h.1))
     (λ g. ap f g ∙ rows_reached it labels ps h.1 ∙ sym (ap (λ r. r ++ label_rows it (ranges_of labels ps)) (row_unreached it labels p h.0 g)))
 
-pub lower : (a b : ℕ) (ps : List Placed) → a ≤ b → BeginsFrom b ps → BeginsFrom a ps
+pub lower : (a b : ℕ) (ps : List PlacedLabel) → a ≤ b → BeginsFrom b ps → BeginsFrom a ps
 lower a b [] le h = h
 lower a b (p ∷ ps) le h = omega (arith, h)
 
-rows_beyond : (it : SnippetLine) (labels : List Label) (ps : List Placed) → AreOrdered ps → BeginsFrom (suc (last_start it)) ps → label_rows it (ranges_of labels ps) ≡ []
+rows_beyond : (it : SnippetLine) (labels : List Label) (ps : List PlacedLabel) → AreOrdered ps → BeginsFrom (suc (last_start it)) ps → label_rows it (ranges_of labels ps) ≡ []
 rows_beyond it labels [] o h = refl
 rows_beyond it labels (p ∷ ps) o h =
     ap (λ r. r ++ label_rows it (ranges_of labels ps)) (row_beyond it labels p o.0 (omega (arith, h)))
     ∙ rows_beyond it labels ps o.2 (lower (suc (last_start it)) p.start ps h o.1)
 
-rows_split : (it : SnippetLine) (labels : List Label) (n : ℕ) (ps : List Placed) → label_rows it (ranges_of labels (take n ps)) ++ label_rows it (ranges_of labels (drop n ps)) ≡ label_rows it (ranges_of labels ps)
+rows_split : (it : SnippetLine) (labels : List Label) (n : ℕ) (ps : List PlacedLabel) → label_rows it (ranges_of labels (take n ps)) ++ label_rows it (ranges_of labels (drop n ps)) ≡ label_rows it (ranges_of labels ps)
 rows_split it labels zero [] = refl
 rows_split it labels (suc n) [] = refl
 rows_split it labels zero (p ∷ ps) = refl
@@ -101,7 +101,7 @@ rows_split it labels (suc n) (p ∷ ps) =
     ∙ ap (λ r. label_row it (range_of labels p) ++ r) (rows_split it labels n ps)
 
 -- the labels that run have all the rows of a line
-pub rows_swept : (it : SnippetLine) (labels : List Label) (ps : List Placed) (place next : ℕ) (running : List Placed) → AreOrdered ps → place ≡ it.line.start → IsAt ps place next running →
+pub rows_swept : (it : SnippetLine) (labels : List Label) (ps : List PlacedLabel) (place next : ℕ) (running : List PlacedLabel) → AreOrdered ps → place ≡ it.line.start → IsAt ps place next running →
     BeginsFrom (suc (last_start it)) (drop next ps) → label_rows it (ranges_of labels running) ≡ label_rows it (ranges_of labels ps)
 rows_swept it labels ps place next running o e at end =
     ap (λ r. label_rows it (ranges_of labels r)) (at ∙ ap (λ k. filter (reaches k) (take next ps)) e)

@@ -8,7 +8,7 @@ ghost use Rattle.miette_narrated.specs.steps.Ends.{is_begun, is_ended, ends_with
 ghost use Rattle.miette_narrated.specs.steps.Ends.{IsOrder};
 ghost use Rattle.miette_narrated.specs.steps.Sweeping.{AreOrdered};
 
-use miette_lines::sweep::Placed;
+use miette_lines::sweep::PlacedLabel;
 use miette_newlines::lines::LineOfText;
 use miette_protocol::protocol::LabeledSpan;
 use std::alloc::{AllocError, Global};
@@ -17,19 +17,19 @@ use std::alloc::{AllocError, Global};
 #[derive(Clone, Copy, Drop)]
 pub(crate) struct RankedLabel {
     pub(crate) rank: usize,
-    pub(crate) label: Placed,
+    pub(crate) label: PlacedLabel,
 }
 
 /// The labels as given, as they are placed by offset, and the placed ones by where they end.
 #[derive(Clone, Copy)]
 pub(crate) struct LabelOrder<'a> {
     pub(crate) labels: &'a [LabeledSpan],
-    pub(crate) placed: &'a [Placed],
+    pub(crate) placed: &'a [PlacedLabel],
     pub(crate) ends: &'a [RankedLabel],
 }
 
 // Each label with its rank.
-fn with_ranks(alloc: Global, placed: &[Placed]) -> Result<Vec<RankedLabel>, AllocError>
+fn with_ranks(alloc: Global, placed: &[PlacedLabel]) -> Result<Vec<RankedLabel>, AllocError>
     ensures { IfOk result (λ v. v.items ≡ ranked_labels 0 placed.now) }
 {
     let mut made = Vec::new(alloc);
@@ -43,7 +43,7 @@ fn with_ranks(alloc: Global, placed: &[Placed]) -> Result<Vec<RankedLabel>, Allo
 }
 
 /// Labels that come by offset, by where they end.
-pub(crate) fn by_end(alloc: Global, placed: &[Placed]) -> Result<Vec<RankedLabel>, AllocError>
+pub(crate) fn by_end(alloc: Global, placed: &[PlacedLabel]) -> Result<Vec<RankedLabel>, AllocError>
     ensures { IfOk result (λ v. AreEnds placed.now v.items) }
 {
     let mut ends = with_ranks(alloc, placed)?;
@@ -93,7 +93,7 @@ pub(crate) fn ended_on(
 }
 
 /// The labels that begin within a line's text, found by halving.
-pub(crate) fn begun_on<'a>(placed: &'a [Placed], line: &LineOfText) -> &'a [Placed]
+pub(crate) fn begun_on<'a>(placed: &'a [PlacedLabel], line: &LineOfText) -> &'a [PlacedLabel]
     requires { AreOrdered placed.now }
     ensures { result.now ≡ filter (is_begun (line_of_text line.now)) placed.now }
 {

@@ -19,26 +19,26 @@ use crate::snippet_line::ShownLine;
 use crate::trails::{Trail, trails};
 use crate::words::push_number;
 use miette_lines::drawn_labels::text_of;
-use miette_lines::sweep::Placed;
+use miette_lines::sweep::PlacedLabel;
 use miette_protocol::protocol::LabeledSpan;
 use std::alloc::{AllocError, Global};
 
 /// Whether a label begins on the line or behind it.
-fn begins(it: &ShownLine<'_, '_>, label: &Placed) -> bool
+fn begins(it: &ShownLine<'_, '_>, label: &PlacedLabel) -> bool
     ensures { result ≡ reaches_line (shown_line it.now) label.now.start }
 {
     it.line.start <= label.start
 }
 
 /// Whether a label begins before the text's end.
-fn begins_within(it: &ShownLine<'_, '_>, label: &Placed) -> bool
+fn begins_within(it: &ShownLine<'_, '_>, label: &PlacedLabel) -> bool
     ensures { result ≡ begins_within (shown_line it.now) label.now.start }
 {
     label.start <= it.line.text_end
 }
 
 /// Whether a label reaches the line.
-fn reaches(it: &ShownLine<'_, '_>, label: &Placed) -> bool
+fn reaches(it: &ShownLine<'_, '_>, label: &PlacedLabel) -> bool
     ensures { result ≡ reaches_line (shown_line it.now) label.now.after }
 {
     it.line.start <= label.after
@@ -46,14 +46,18 @@ fn reaches(it: &ShownLine<'_, '_>, label: &Placed) -> bool
 
 /// Whether a label ends before the text's end; on a snippet's last line also one does that begins in the data or
 /// where they end.
-fn ends_before(it: &ShownLine<'_, '_>, label: &Placed) -> bool
+fn ends_before(it: &ShownLine<'_, '_>, label: &PlacedLabel) -> bool
     ensures { result ≡ ends_before (shown_line it.now) label.now.start label.now.after }
 {
     label.after <= it.line.text_end || it.is_last && label.start <= it.data_end
 }
 
 /// The number of a label's first column.
-fn first_number(alloc: Global, it: &ShownLine<'_, '_>, label: &Placed) -> Result<usize, AllocError>
+fn first_number(
+    alloc: Global,
+    it: &ShownLine<'_, '_>,
+    label: &PlacedLabel,
+) -> Result<usize, AllocError>
     ensures { IfOk result (λ n. n ≡ first_number (shown_line it.now) label.now.start) }
 {
     let before = column(alloc, it.text, label.start.saturating_sub(it.line.start))?;
@@ -64,7 +68,11 @@ fn first_number(alloc: Global, it: &ShownLine<'_, '_>, label: &Placed) -> Result
 }
 
 /// The number of its last column; an empty label has one column.
-fn last_number(alloc: Global, it: &ShownLine<'_, '_>, label: &Placed) -> Result<usize, AllocError>
+fn last_number(
+    alloc: Global,
+    it: &ShownLine<'_, '_>,
+    label: &PlacedLabel,
+) -> Result<usize, AllocError>
     ensures { IfOk result (λ n. n ≡ last_number (shown_line it.now) label.now.start label.now.after) }
 {
     if label.start == label.after {
@@ -129,7 +137,12 @@ pub(crate) struct LabelledLine<'r, 'a, 'p> {
 
 impl LabelledLine<'_, '_, '_> {
     /// `    label at line 2, columns 3 to 6: This bit here`
-    fn push_whole(&self, alloc: Global, out: &mut String, label: &Placed) -> Result<(), AllocError>
+    fn push_whole(
+        &self,
+        alloc: Global,
+        out: &mut String,
+        label: &PlacedLabel,
+    ) -> Result<(), AllocError>
         ensures { OnOk result (string_bytes out.new
             ≡ string_bytes out.old
             ++ whole_row (shown_line self.now.line.now) (range_of self.now.labels.now label.now)) }
@@ -148,7 +161,7 @@ impl LabelledLine<'_, '_, '_> {
         out: &mut String,
         words: &str,
         column: usize,
-        label: &Placed,
+        label: &PlacedLabel,
     ) -> Result<(), AllocError>
         ensures { OnOk result (string_bytes out.new ≡ string_bytes out.old
             ++ column_row words.now (shown_line self.now.line.now) column (range_of self.now.labels.now label.now)) }
@@ -160,7 +173,12 @@ impl LabelledLine<'_, '_, '_> {
     }
 
     /// `    label starting at line 1, column 1`
-    fn push_start(&self, alloc: Global, out: &mut String, label: &Placed) -> Result<(), AllocError>
+    fn push_start(
+        &self,
+        alloc: Global,
+        out: &mut String,
+        label: &PlacedLabel,
+    ) -> Result<(), AllocError>
         ensures { OnOk result (string_bytes out.new
             ≡ string_bytes out.old
             ++ start_row (shown_line self.now.line.now) (range_of self.now.labels.now label.now)) }
@@ -170,7 +188,12 @@ impl LabelledLine<'_, '_, '_> {
     }
 
     /// `    label ending at line 2, column 0`
-    fn push_ending(&self, alloc: Global, out: &mut String, label: &Placed) -> Result<(), AllocError>
+    fn push_ending(
+        &self,
+        alloc: Global,
+        out: &mut String,
+        label: &PlacedLabel,
+    ) -> Result<(), AllocError>
         ensures { OnOk result (string_bytes out.new
             ≡ string_bytes out.old ++ end_row (shown_line self.now.line.now) (range_of self.now.labels.now label.now)) }
     {
@@ -179,7 +202,12 @@ impl LabelledLine<'_, '_, '_> {
     }
 
     /// The row of a label that begins on the line or behind it, where it has one there.
-    fn push_begun(&self, alloc: Global, out: &mut String, label: &Placed) -> Result<(), AllocError>
+    fn push_begun(
+        &self,
+        alloc: Global,
+        out: &mut String,
+        label: &PlacedLabel,
+    ) -> Result<(), AllocError>
         ensures { OnOk result (string_bytes out.new
             ≡ string_bytes out.old
             ++ begun_row (shown_line self.now.line.now) (range_of self.now.labels.now label.now)) }
@@ -193,7 +221,12 @@ impl LabelledLine<'_, '_, '_> {
     }
 
     /// The row of a label under the line, where it has one there; one that began before the line has one where it ends.
-    fn push_label(&self, alloc: Global, out: &mut String, label: &Placed) -> Result<(), AllocError>
+    fn push_label(
+        &self,
+        alloc: Global,
+        out: &mut String,
+        label: &PlacedLabel,
+    ) -> Result<(), AllocError>
         ensures { OnOk result (string_bytes out.new
             ≡ string_bytes out.old
             ++ label_row (shown_line self.now.line.now) (range_of self.now.labels.now label.now)) }
@@ -207,7 +240,12 @@ impl LabelledLine<'_, '_, '_> {
     }
 
     // The rows of labels under the line, in order, where it has the places of its text.
-    fn push_all(&self, alloc: Global, out: &mut String, placed: &[Placed]) -> Result<(), AllocError>
+    fn push_all(
+        &self,
+        alloc: Global,
+        out: &mut String,
+        placed: &[PlacedLabel],
+    ) -> Result<(), AllocError>
         ensures { OnOk result (string_bytes out.new ≡ string_bytes out.old
             ++ label_rows (shown_line self.now.line.now) (ranges_of self.now.labels.now placed.now)) }
     {
@@ -238,7 +276,7 @@ impl LabelledLine<'_, '_, '_> {
         &self,
         alloc: Global,
         out: &mut String,
-        placed: &[Placed],
+        placed: &[PlacedLabel],
     ) -> Result<(), AllocError>
         ensures { OnOk result (string_bytes out.new ≡ string_bytes out.old
             ++ label_rows (shown_line self.now.line.now) (ranges_of self.now.labels.now placed.now)) }
@@ -259,7 +297,7 @@ impl LabelledLine<'_, '_, '_> {
         alloc: Global,
         out: &mut String,
         ended: &[RankedLabel],
-        begun: &[Placed],
+        begun: &[PlacedLabel],
     ) -> Result<(), AllocError>
         ensures { OnOk result (string_bytes out.new ≡ (string_bytes out.old
             ++ label_rows (shown_line self.now.line.now) (ranges_of self.now.labels.now (labels_of ended.now)))

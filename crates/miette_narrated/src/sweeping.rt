@@ -4,7 +4,7 @@ ghost use Rattle.std.specs.Prelude.{◌≡◌, OnOk, drop, suc};
 ghost use Rattle.std.specs.List.{filter};
 ghost use Rattle.miette_narrated.specs.steps.Sweeping.{reaches, IsAt, BeginsFrom};
 
-use miette_lines::sweep::Placed;
+use miette_lines::sweep::PlacedLabel;
 use std::alloc::{AllocError, Global};
 
 /// A sweep that has come to a place: how many labels have come, and those of them that reach the place.
@@ -12,18 +12,18 @@ use std::alloc::{AllocError, Global};
 pub(crate) struct Sweep {
     pub(crate) at: usize,
     pub(crate) next: usize,
-    pub(crate) running: Vec<Placed>,
+    pub(crate) running: Vec<PlacedLabel>,
 }
 
 /// Keeps the labels that reach a place.
-fn keep_reaching(running: &mut Vec<Placed>, place: usize)
+fn keep_reaching(running: &mut Vec<PlacedLabel>, place: usize)
     ensures { running.new.items ≡ filter (reaches place) running.old.items }
 {
     running.retain(|label| place <= label.after);
 }
 
 /// Puts the labels that begin at `last` or before behind those that run, where they reach the sweep's place.
-fn take_more(labels: &[Placed], last: usize, sweep: &mut Sweep) -> Result<(), AllocError>
+fn take_more(labels: &[PlacedLabel], last: usize, sweep: &mut Sweep) -> Result<(), AllocError>
     requires { IsAt labels.now sweep.old.at sweep.old.next sweep.old.running.items }
     ensures place { sweep.new.at ≡ sweep.old.at }
     ensures at { OnOk result (IsAt labels.now sweep.new.at sweep.new.next sweep.new.running.items) }
@@ -44,7 +44,7 @@ fn take_more(labels: &[Placed], last: usize, sweep: &mut Sweep) -> Result<(), Al
 /// Comes to a line that begins at a place: those labels run that began at `last` or before and reach the place.
 pub(crate) fn come_to(
     alloc: Global,
-    labels: &[Placed],
+    labels: &[PlacedLabel],
     place: usize,
     last: usize,
     sweep: &mut Sweep,

@@ -4,7 +4,7 @@ use Rattle.std.specs.Prelude.{decimal}
 use Rattle.std.proofs.lemmas.Bool.{eqb-true}
 use Rattle.std.proofs.lemmas.List.{map-append}
 use Rattle.std.specs.List.{AllByRecursion, range_with_len}
-use Rattle.miette_page.specs.rules.Rows.{Piece, Run, Row, pieces_of, columns_of, code_at, code_piece, styled_run}
+use Rattle.miette_page.specs.rules.Rows.{Glyph, Run, Row, glyphs_of, columns_of, code_at, glyph_of, styled_run}
 use Rattle.miette_style.specs.rules.Styles.{plain}
 use Rattle.miette_newlines.specs.rules.Lines.{Line}
 use Rattle.miette_lines.specs.rules.Cells.{Cell}
@@ -23,76 +23,76 @@ use Rattle.miette_snippet_laws.proofs.Columns.{columns_of-append, code_at-append
 use Rattle.miette_snippet_laws.proofs.UnstyledRows.{mark_row, plain_below}
 use Rattle.miette_snippet_laws.proofs.Hanging.{mark_row-at, plain_hang, all_beside, all_more}
 use Rattle.miette_snippet_laws.proofs.Numerals.{AreDigits, are_digits}
-use Rattle.miette_snippet_laws.proofs.Flat.{pieces_of-append, flat_marks, flat_below}
+use Rattle.miette_snippet_laws.proofs.Flat.{glyphs_of-append, flat_marks, flat_below}
 use Rattle.miette_style.specs.rules.Themes.{Characters}
 
 -- the gutter has room for the labels of several lines that lie on a line
 abbrev pub HasRoom : List DrawnLabel → Line → ℕ → Type 0
 HasRoom labels line columns = length (multi_line line labels) ≤ columns - 2
 
-pub columns_of-copies : (width : ℕ → ℕ) (code many : ℕ) → width code ≡ 1 → columns_of (map (code_piece width) (replicate many code)) ≡ many
+pub columns_of-copies : (width : ℕ → ℕ) (code many : ℕ) → width code ≡ 1 → columns_of (map (glyph_of width) (replicate many code)) ≡ many
 columns_of-copies width code zero h = refl
 columns_of-copies width code (suc many) h = omega (arith, h, columns_of-copies width code many h)
 
-pub columns_of-blank : (width : ℕ → ℕ) (many : ℕ) → width 32 ≡ 1 → columns_of (replicate many (code_piece width 32)) ≡ many
+pub columns_of-blank : (width : ℕ → ℕ) (many : ℕ) → width 32 ≡ 1 → columns_of (replicate many (glyph_of width 32)) ≡ many
 columns_of-blank width zero h = refl
 columns_of-blank width (suc many) h = omega (arith, h, columns_of-blank width many h)
 
 -- a run alone, and one in front
-alone : (run : Run) → columns_of (pieces_of (run ∷ [])) ≡ columns_of run.pieces
-alone run = ap columns_of (append-nil run.pieces)
+alone : (run : Run) → columns_of (glyphs_of (run ∷ [])) ≡ columns_of run.glyphs
+alone run = ap columns_of (append-nil run.glyphs)
 
-front : (run : Run) (row : Row) → columns_of (pieces_of (run ∷ row)) ≡ columns_of run.pieces + columns_of (pieces_of row)
-front run row = columns_of-append run.pieces (pieces_of row)
+front : (run : Run) (row : Row) → columns_of (glyphs_of (run ∷ row)) ≡ columns_of run.glyphs + columns_of (glyphs_of row)
+front run row = columns_of-append run.glyphs (glyphs_of row)
 
 pub other_gutter-columns : (width : ℕ → ℕ) (t : Characters) (n : IsNarrow width t) (line : Line) (left : ℕ) (labels : List DrawnLabel) → length labels ≤ left - 2 →
-    columns_of (pieces_of (other_gutter width t line left labels)) ≡ left
+    columns_of (glyphs_of (other_gutter width t line left labels)) ≡ left
 other_gutter-columns width t n line left [] h = alone (blank width left) ∙ columns_of-blank width left n.space
 other_gutter-columns width t n line left (label ∷ labels) h =
-    by_cases {C = columns_of (pieces_of (other_gutter width t line left (label ∷ labels))) ≡ left} (ends_on line label)
+    by_cases {C = columns_of (glyphs_of (other_gutter width t line left (label ∷ labels))) ≡ left} (ends_on line label)
     (λ y. rw y (alone (styled_run width label.style (t.lbot ∷ replicate (left - 1) t.hbar)) ∙ omega (arith, n.lbot, columns_of-copies width t.hbar (left - 1) n.hbar, h)))
     (λ f. rw f (front (styled_run width label.style (t.vbar ∷ [])) (other_gutter width t line (left - 1) labels)
     ∙ omega (arith, n.vbar, h, other_gutter-columns width t n line (left - 1) labels (omega (arith, h)))))
 
-pub other_start-columns : (s : SnippetSettings) (w : ℕ) → IsNarrow s.width s.characters → columns_of (pieces_of (other_start s w)) ≡ w + 4
+pub other_start-columns : (s : SnippetSettings) (w : ℕ) → IsNarrow s.width s.characters → columns_of (glyphs_of (other_start s w)) ≡ w + 4
 other_start-columns s w n =
-    columns_of-append (replicate (w + 2) (code_piece s.width 32)) (code_piece s.width s.characters.vbar_break ∷ code_piece s.width 32 ∷ [])
+    columns_of-append (replicate (w + 2) (glyph_of s.width 32)) (glyph_of s.width s.characters.vbar_break ∷ glyph_of s.width 32 ∷ [])
     ∙ omega (arith, n.space, n.vbar_break, columns_of-blank s.width (w + 2) n.space)
 
 pub other-columns : (s : SnippetSettings) (w columns : ℕ) (labels : List DrawnLabel) (line : Line) → IsNarrow s.width s.characters → HasRoom labels line columns →
-    columns_of (pieces_of (other_start s w ++ other_gutter s.width s.characters line columns (multi_line line labels))) ≡ text_start w columns
+    columns_of (glyphs_of (other_start s w ++ other_gutter s.width s.characters line columns (multi_line line labels))) ≡ text_start w columns
 other-columns s w columns labels line n room =
     let gutter : Row = other_gutter s.width s.characters line columns (multi_line line labels) in
-    ap columns_of (pieces_of-append (other_start s w) gutter) ∙ columns_of-append (pieces_of (other_start s w)) (pieces_of gutter)
+    ap columns_of (glyphs_of-append (other_start s w) gutter) ∙ columns_of-append (glyphs_of (other_start s w)) (glyphs_of gutter)
     ∙ omega (arith, other_start-columns s w n, other_gutter-columns s.width s.characters n line columns (multi_line line labels) room)
 
 -- rows behind one prefix
-behind : (prefix : Row) (rows : List Row) → map pieces_of (before_each prefix rows) ≡ map (λ row. pieces_of prefix ++ row) (map pieces_of rows)
+behind : (prefix : Row) (rows : List Row) → map glyphs_of (before_each prefix rows) ≡ map (λ row. glyphs_of prefix ++ row) (map glyphs_of rows)
 behind prefix [] = refl
 behind prefix (row ∷ rows) =
-    ap (λ r. r ∷ map pieces_of (before_each prefix rows)) (pieces_of-append prefix row) ∙ ap (λ r. (pieces_of prefix ++ pieces_of row) ∷ r) (behind prefix rows)
+    ap (λ r. r ∷ map glyphs_of (before_each prefix rows)) (glyphs_of-append prefix row) ∙ ap (λ r. (glyphs_of prefix ++ glyphs_of row) ∷ r) (behind prefix rows)
 
 -- marks and texts behind a prefix, with more rows below
 marked : (s : SnippetSettings) (n : IsNarrow s.width s.characters) (prefix : Row) (more : List Row) (ms : List Mark) → AreApart 0 ms →
-    AreMarked s (columns_of (pieces_of prefix)) ms ((prefix ++ mark_runs s.width s.characters 0 ms) ∷ (before_each prefix (rows_below s.width s.characters [] ms) ++ more))
+    AreMarked s (columns_of (glyphs_of prefix)) ms ((prefix ++ mark_runs s.width s.characters 0 ms) ∷ (before_each prefix (rows_below s.width s.characters [] ms) ++ more))
 marked s n prefix more ms apart =
     let width : ℕ → ℕ = s.width in
     let t : Characters = s.characters in
-    let start : ℕ = columns_of (pieces_of prefix) in
+    let start : ℕ = columns_of (glyphs_of prefix) in
     let z : marks_end 0 ms - 0 ≡ marks_end 0 ms = omega arith in
-    let flat : pieces_of (mark_runs width t 0 ms) ≡ mark_row width t ms = flat_marks width t 0 ms apart ∙ ap (λ k. map (mark_at width t ms) (range_with_len 0 k)) z in
-    let below : List (List Piece) = map (λ row. pieces_of prefix ++ row) (plain_below width t [] ms) in
-    let under : map pieces_of (before_each prefix (rows_below width t [] ms) ++ more) ≡ below ++ map pieces_of more =
-    map-append pieces_of (before_each prefix (rows_below width t [] ms)) more
-    ∙ ap (λ r. r ++ map pieces_of more) (behind prefix (rows_below width t [] ms) ∙ ap (map (λ row. pieces_of prefix ++ row)) (flat_below width t [] ms apart)) in (
-      λ column lt. ap (λ r. code_at r (start + column)) (pieces_of-append prefix (mark_runs width t 0 ms))
-          ∙ code_at-append (pieces_of prefix) (pieces_of (mark_runs width t 0 ms)) column ∙ ap (λ r. code_at r column) flat ∙ mark_row-at width t n ms column lt,
-      subst (λ (rows : List (List Piece)). AllByRecursion (Hangs width t rows start) ms) (sym under)
-          (all_more width t start below (map pieces_of more) ms (all_beside width t (pieces_of prefix) (plain_below width t [] ms) ms (plain_hang width t ms n apart))),
+    let flat : glyphs_of (mark_runs width t 0 ms) ≡ mark_row width t ms = flat_marks width t 0 ms apart ∙ ap (λ k. map (mark_at width t ms) (range_with_len 0 k)) z in
+    let below : List (List Glyph) = map (λ row. glyphs_of prefix ++ row) (plain_below width t [] ms) in
+    let under : map glyphs_of (before_each prefix (rows_below width t [] ms) ++ more) ≡ below ++ map glyphs_of more =
+    map-append glyphs_of (before_each prefix (rows_below width t [] ms)) more
+    ∙ ap (λ r. r ++ map glyphs_of more) (behind prefix (rows_below width t [] ms) ∙ ap (map (λ row. glyphs_of prefix ++ row)) (flat_below width t [] ms apart)) in (
+      λ column lt. ap (λ r. code_at r (start + column)) (glyphs_of-append prefix (mark_runs width t 0 ms))
+          ∙ code_at-append (glyphs_of prefix) (glyphs_of (mark_runs width t 0 ms)) column ∙ ap (λ r. code_at r column) flat ∙ mark_row-at width t n ms column lt,
+      subst (λ (rows : List (List Glyph)). AllByRecursion (Hangs width t rows start) ms) (sym under)
+          (all_more width t start below (map glyphs_of more) ms (all_beside width t (glyphs_of prefix) (plain_below width t [] ms) ms (plain_hang width t ms n apart))),
     )
 
 shown : (s : SnippetSettings) (n : IsNarrow s.width s.characters) (prefix : Row) (number : Row) (more : List Row) (ms : List Mark) → AreApart 0 ms →
-    ShowMarks s (columns_of (pieces_of prefix)) ms (number ∷ before_each prefix (marked_rows s.width s.characters ms) ++ more)
+    ShowMarks s (columns_of (glyphs_of prefix)) ms (number ∷ before_each prefix (marked_rows s.width s.characters ms) ++ more)
 shown s n prefix number more [] apart = tt
 shown s n prefix number more (m ∷ ms) apart = marked s n prefix more (m ∷ ms) apart
 
@@ -127,21 +127,21 @@ all_room labels lines = room-of labels (most_labels labels lines) lines (most-ge
 
 -- a row of digits
 
-digits-columns : (width : ℕ → ℕ) (t : Characters) (n : IsNarrow width t) (ds : List ℕ) → AreDigits ds → columns_of (map (code_piece width) ds) ≡ length ds
+digits-columns : (width : ℕ → ℕ) (t : Characters) (n : IsNarrow width t) (ds : List ℕ) → AreDigits ds → columns_of (map (glyph_of width) ds) ≡ length ds
 digits-columns width t n [] h = refl
 digits-columns width t n (d ∷ ds) h =
     omega (arith, n.digits d h.0.0 h.0.1, digits-columns width t n ds h.1)
 
-decimal-columns : (width : ℕ → ℕ) (t : Characters) (n : IsNarrow width t) (number : ℕ) → columns_of (map (code_piece width) (decimal number)) ≡ length (decimal number)
+decimal-columns : (width : ℕ → ℕ) (t : Characters) (n : IsNarrow width t) (number : ℕ) → columns_of (map (glyph_of width) (decimal number)) ≡ length (decimal number)
 decimal-columns width t n number = digits-columns width t n (decimal number) (are_digits number)
 
 -- a text of spaces and more
-padded : (width : ℕ → ℕ) (t : Characters) (n : IsNarrow width t) (many : ℕ) (text : List ℕ) → columns_of (map (code_piece width) (replicate many 32 ++ text)) ≡ many + columns_of (map (code_piece width) text)
+padded : (width : ℕ → ℕ) (t : Characters) (n : IsNarrow width t) (many : ℕ) (text : List ℕ) → columns_of (map (glyph_of width) (replicate many 32 ++ text)) ≡ many + columns_of (map (glyph_of width) text)
 padded width t n many text =
-    ap columns_of (map-append (code_piece width) (replicate many 32) text) ∙ columns_of-append (map (code_piece width) (replicate many 32)) (map (code_piece width) text)
+    ap columns_of (map-append (glyph_of width) (replicate many 32) text) ∙ columns_of-append (map (glyph_of width) (replicate many 32)) (map (glyph_of width) text)
     ∙ omega (arith, columns_of-copies width 32 many n.space)
 
-number_start-columns : (s : SnippetSettings) (w number : ℕ) → IsNarrow s.width s.characters → length (decimal number) ≤ w → columns_of (pieces_of (number_start s w number)) ≡ w + 4
+number_start-columns : (s : SnippetSettings) (w number : ℕ) → IsNarrow s.width s.characters → length (decimal number) ≤ w → columns_of (glyphs_of (number_start s w number)) ≡ w + 4
 number_start-columns s w number n fits =
     let width : ℕ → ℕ = s.width in
     let num : Run = styled_run width s.styles.linum (replicate (w - length (decimal number)) 32 ++ decimal number) in
@@ -153,7 +153,7 @@ corner-narrow : (width : ℕ → ℕ) (t : Characters) (n : IsNarrow width t) (p
 corner-narrow width t n [] = n.lbot
 corner-narrow width t n (part ∷ parts) = n.lcross
 
-arrow-columns : (width : ℕ → ℕ) (t : Characters) (n : IsNarrow width t) (label : DrawnLabel) (corner left : ℕ) → width corner ≡ 1 → 3 ≤ left → columns_of (pieces_of (arrow width t label corner left ∷ blank width 1 ∷ [])) ≡ left
+arrow-columns : (width : ℕ → ℕ) (t : Characters) (n : IsNarrow width t) (label : DrawnLabel) (corner left : ℕ) → width corner ≡ 1 → 3 ≤ left → columns_of (glyphs_of (arrow width t label corner left ∷ blank width 1 ∷ [])) ≡ left
 arrow-columns width t n label corner left one le =
     front (arrow width t label corner left) (blank width 1 ∷ [])
     ∙ omega (
@@ -164,17 +164,17 @@ arrow-columns width t n label corner left one le =
       columns_of-blank width 1 n.space,
       n.rarrow,
       columns_of-copies width t.hbar (left - 3) n.hbar,
-      ap columns_of (map-append (code_piece width) (replicate (left - 3) t.hbar) (t.rarrow ∷ [])),
-      columns_of-append (map (code_piece width) (replicate (left - 3) t.hbar)) (code_piece width t.rarrow ∷ []),
+      ap columns_of (map-append (glyph_of width) (replicate (left - 3) t.hbar) (t.rarrow ∷ [])),
+      columns_of-append (map (glyph_of width) (replicate (left - 3) t.hbar)) (glyph_of width t.rarrow ∷ []),
     )
 
 number_gutter-columns : (width : ℕ → ℕ) (t : Characters) (n : IsNarrow width t) (line : Line) (left : ℕ) (labels : List DrawnLabel) → length labels ≤ left - 2 →
-    columns_of (pieces_of (number_gutter width t line left labels)) ≡ left
+    columns_of (glyphs_of (number_gutter width t line left labels)) ≡ left
 number_gutter-columns width t n line left [] h = alone (blank width left) ∙ columns_of-blank width left n.space
 number_gutter-columns width t n line left (label ∷ labels) h =
-    by_cases {C = columns_of (pieces_of (number_gutter width t line left (label ∷ labels))) ≡ left} (starts_on line label)
+    by_cases {C = columns_of (glyphs_of (number_gutter width t line left (label ∷ labels))) ≡ left} (starts_on line label)
     (λ y. rw y (arrow-columns width t n label t.ltop left n.ltop (omega (arith, h))))
-    (λ f. by_cases {C = columns_of (pieces_of (number_gutter width t line left (label ∷ labels))) ≡ left} (ends_on line label)
+    (λ f. by_cases {C = columns_of (glyphs_of (number_gutter width t line left (label ∷ labels))) ≡ left} (ends_on line label)
     (λ y. rw (f, y) (arrow-columns width t n label (ending_corner t label.parts) left (corner-narrow width t n label.parts) (omega (arith, h))))
     (λ g. rw (f, g) (front (styled_run width label.style (t.vbar ∷ [])) (number_gutter width t line (left - 1) labels)
     ∙ omega (arith, n.vbar, h, number_gutter-columns width t n line (left - 1) labels (omega (arith, h))))))
@@ -186,7 +186,7 @@ line_begins s w columns labels line number cells pieces n room fits =
     let start : Row = number_start s w number in
     let gutter : Row = number_gutter s.width s.characters line columns (multi_line line labels) in
     let text : Row = text_of_line s labels line cells pieces in (
-      pieces_of start ++ pieces_of gutter,
-      pieces_of-append (start ++ gutter) text ∙ ap (λ r. r ++ pieces_of text) (pieces_of-append start gutter),
-      columns_of-append (pieces_of start) (pieces_of gutter) ∙ omega (arith, number_start-columns s w number n fits, number_gutter-columns s.width s.characters n line columns (multi_line line labels) room),
+      glyphs_of start ++ glyphs_of gutter,
+      glyphs_of-append (start ++ gutter) text ∙ ap (λ r. r ++ glyphs_of text) (glyphs_of-append start gutter),
+      columns_of-append (glyphs_of start) (glyphs_of gutter) ∙ omega (arith, number_start-columns s w number n fits, number_gutter-columns s.width s.characters n line columns (multi_line line labels) room),
     )

@@ -12,11 +12,11 @@ use Rattle.bstr.proofs.lemmas.SoundLemmas.{SpellsChar-decoded}
 use Rattle.miette_style.specs.rules.Escapes.{is_escape}
 use Rattle.miette_style.specs.rules.Escapes.{no_escape}
 use Rattle.miette_lines.specs.rules.Answers.{Highlight}
-use Rattle.miette_snippets.specs.rules.PrintedCells.{printed_pieces, printed_cells, cells_within, cells_beyond, line_runs, text_bytes}
+use Rattle.miette_snippets.specs.rules.PrintedCells.{printed_glyphs, printed_cells, cells_within, cells_beyond, line_runs, text_bytes}
 use Rattle.miette_lines.specs.rules.Cells.{Character, Cell, cells_from, characters, hides_next, width_at}
 use Rattle.miette_snippet_laws.specs.laws.Clean.{IsCleanCode, IsClean, IsCleanRow}
 use Rattle.miette_lines.specs.rules.Labels.{cut_at_lf, onto_part}
-use Rattle.miette_page.specs.rules.Rows.{Piece, pieces_of, code_piece}
+use Rattle.miette_page.specs.rules.Rows.{Glyph, glyphs_of, glyph_of}
 use Rattle.miette_snippets.proofs.Telling.{codes_drawn}
 
 -- ---- joining and cutting
@@ -138,21 +138,21 @@ clean_cells width tab hidden offset column (c ∷ cs) h =
     let rest = clean_cells width tab (hides_next hidden c.code) (offset + c.bytes) (column + width_at width tab hidden column c.code) cs (clean_rest c.code (map (λ (c : Character). c.code) cs) h) in
     ap₂ (λ a b. not a && b) (clean_first c.code (map (λ (c : Character). c.code) cs) h) rest
 
-abbrev pub AreCleanPieces : List Piece → Type 0
-AreCleanPieces pieces = IsClean (map (λ (p : Piece). p.code) pieces)
+abbrev pub AreCleanPieces : List Glyph → Type 0
+AreCleanPieces pieces = IsClean (map (λ (p : Glyph). p.code) pieces)
 
 pub clean_copies : (many columns code : ℕ) → IsCleanCode code → AreCleanPieces (replicate many (record { code = code; columns = columns }))
 clean_copies zero columns code h = refl
 clean_copies (suc many) columns code h = ap₂ (λ a b. not a && b) h (clean_copies many columns code h)
 
-pub clean_pieces-append : (x y : List Piece) → AreCleanPieces x → AreCleanPieces y → AreCleanPieces (x ++ y)
-clean_pieces-append x y h k = ap no_escape (map-append (λ (p : Piece). p.code) x y) ∙ clean_append (map (λ (p : Piece). p.code) x) (map (λ (p : Piece). p.code) y) h k
+pub clean_pieces-append : (x y : List Glyph) → AreCleanPieces x → AreCleanPieces y → AreCleanPieces (x ++ y)
+clean_pieces-append x y h k = ap no_escape (map-append (λ (p : Glyph). p.code) x y) ∙ clean_append (map (λ (p : Glyph). p.code) x) (map (λ (p : Glyph). p.code) y) h k
 
-pieces_if : (b : Bool) (x y : List Piece) → AreCleanPieces x → AreCleanPieces y → AreCleanPieces (if b then x else y)
+pieces_if : (b : Bool) (x y : List Glyph) → AreCleanPieces x → AreCleanPieces y → AreCleanPieces (if b then x else y)
 pieces_if true x y h k = h
 pieces_if false x y h k = k
 
-clean_printed : (cell : Cell) → IsCleanCode cell.code → AreCleanPieces (printed_pieces cell)
+clean_printed : (cell : Cell) → IsCleanCode cell.code → AreCleanPieces (printed_glyphs cell)
 clean_printed cell h =
     pieces_if (cell.code == 9) (replicate (cell.until - cell.from) (record { code = 32; columns = 1 })) (record { code = cell.code; columns = cell.until - cell.from } ∷ [])
     (clean_copies (cell.until - cell.from) 1 32 refl) (clean_cons cell.code [] h refl)
@@ -161,7 +161,7 @@ pub clean_printed_cells : (cells : List Cell) → AreCleanCells cells → AreCle
 clean_printed_cells [] h = refl
 clean_printed_cells (cell ∷ cells) h =
     let codes = map (λ (c : Cell). c.code) cells in
-    clean_pieces-append (printed_pieces cell) (printed_cells cells) (clean_printed cell (clean_first cell.code codes h)) (clean_printed_cells cells (clean_rest cell.code codes h))
+    clean_pieces-append (printed_glyphs cell) (printed_cells cells) (clean_printed cell (clean_first cell.code codes h)) (clean_printed_cells cells (clean_rest cell.code codes h))
 
 cells_if : (b : Bool) (x y : List Cell) → AreCleanCells x → AreCleanCells y → AreCleanCells (if b then x else y)
 cells_if true x y h k = h
@@ -191,22 +191,22 @@ printed_cut : (bytes : ℕ) (cells : List Cell) → printed_cells (cells_within 
 printed_cut bytes [] = refl
 printed_cut bytes (cell ∷ cells) = elim (bytes == 0) as (λ b.
     printed_cells (if b then [] else cell ∷ cells_within (bytes - text_bytes cell.code) cells) ++ printed_cells (if b then cell ∷ cells else cells_beyond (bytes - text_bytes cell.code) cells)
-    ≡ printed_pieces cell ++ printed_cells cells) [
+    ≡ printed_glyphs cell ++ printed_cells cells) [
       | true ↦ refl
       | false ↦
-          append_assoc (printed_pieces cell) (printed_cells (cells_within (bytes - text_bytes cell.code) cells)) (printed_cells (cells_beyond (bytes - text_bytes cell.code) cells))
-          ∙ ap (λ r. printed_pieces cell ++ r) (printed_cut (bytes - text_bytes cell.code) cells)
+          append_assoc (printed_glyphs cell) (printed_cells (cells_within (bytes - text_bytes cell.code) cells)) (printed_cells (cells_beyond (bytes - text_bytes cell.code) cells))
+          ∙ ap (λ r. printed_glyphs cell ++ r) (printed_cut (bytes - text_bytes cell.code) cells)
     ]
 
-pub line_same : (hs : List Highlight) (cells : List Cell) → pieces_of (line_runs hs cells) ≡ printed_cells cells
+pub line_same : (hs : List Highlight) (cells : List Cell) → glyphs_of (line_runs hs cells) ≡ printed_cells cells
 line_same [] cells = append-nil (printed_cells cells)
 line_same (p ∷ hs) cells = ap (λ r. printed_cells (cells_within p.bytes cells) ++ r) (line_same hs (cells_beyond p.bytes cells)) ∙ printed_cut p.bytes cells
 
 -- ---- drawn characters
 
-pub clean_drawn : (width : ℕ → ℕ) (text : List ℕ) → IsClean text → AreCleanPieces (map (code_piece width) text)
+pub clean_drawn : (width : ℕ → ℕ) (text : List ℕ) → IsClean text → AreCleanPieces (map (glyph_of width) text)
 clean_drawn width text h = ap no_escape (codes_drawn width text) ∙ h
 
-pub clean_each : (width : ℕ → ℕ) (f : ℕ → ℕ) → ((k : ℕ) → IsCleanCode (f k)) → (ks : List ℕ) → AreCleanPieces (map (λ k. code_piece width (f k)) ks)
+pub clean_each : (width : ℕ → ℕ) (f : ℕ → ℕ) → ((k : ℕ) → IsCleanCode (f k)) → (ks : List ℕ) → AreCleanPieces (map (λ k. glyph_of width (f k)) ks)
 clean_each width f h [] = refl
 clean_each width f h (k ∷ ks) = ap₂ (λ a b. not a && b) (h k) (clean_each width f h ks)

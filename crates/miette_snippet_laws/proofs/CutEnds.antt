@@ -7,7 +7,7 @@ use Rattle.miette_lines.specs.rules.Answers.{Highlight}
 use Rattle.miette_lines.specs.rules.Cells.{Cell}
 use Rattle.miette_lines.specs.rules.Labels.{DrawnLabel, one_line}
 use Rattle.miette_lines.proofs.Numbers.{by_cases}
-use Rattle.miette_page.specs.rules.Rows.{columns_of, pieces_of}
+use Rattle.miette_page.specs.rules.Rows.{columns_of, glyphs_of}
 use Rattle.miette_snippets.specs.rules.CutLines.{Stretch, agree, columns_in, cut_line, ends, is_near, is_near_after, onto_stretches, row_column, row_mark, shown_marks, shown_runs, stretches}
 use Rattle.miette_snippets.specs.rules.Marks.{Mark}
 use Rattle.miette_snippets.specs.rules.Frames.{SnippetSettings}
@@ -69,16 +69,16 @@ line_width : (cells : List Cell) → AreColumns 0 cells → columns_in cells ≡
 line_width cells h = omega (arith, whole-columns 0 cells h)
 
 shown_behind : (limit : Option ℕ) (ms : List Mark) (cells : List Cell) (pieces : List Highlight) → AreColumns 0 cells → AreBehind (cells_width 0 cells) ms →
-    AreBehind (columns_of (pieces_of (shown_runs (cut_line limit ms cells) pieces cells))) (shown_marks (cut_line limit ms cells) ms)
+    AreBehind (columns_of (glyphs_of (shown_runs (cut_line limit ms cells) pieces cells))) (shown_marks (cut_line limit ms cells) ms)
 shown_behind None ms cells pieces h behind =
-    same_behind (cells_width 0 cells) (columns_of (pieces_of (shown_runs None pieces cells))) ms
+    same_behind (cells_width 0 cells) (columns_of (glyphs_of (shown_runs None pieces cells))) ms
     (ap columns_of (line_same pieces cells) ∙ cells-columns cells ∙ line_width cells h) behind
 shown_behind (Some limit) ms cells pieces h behind =
     let near : Cell → Bool = is_near limit (ends ms) in
     let ss : List Stretch = stretches near false cells in
-    by_cases {C = AreBehind (columns_of (pieces_of (shown_runs (cut_line (Some limit) ms cells) pieces cells))) (shown_marks (cut_line (Some limit) ms cells) ms)} (ltb limit (cells_width 0 cells))
-    (λ y. rw y (moved_behind ss (cells_width 0 cells) (columns_of (pieces_of (shown_runs (Some ss) pieces cells))) ms (all_stretches near false cells ∙ line_width cells h) (ap columns_of (cut_pieces pieces 0 ss) ∙ pieces-columns ss) behind))
-    (λ n. rw n (same_behind (cells_width 0 cells) (columns_of (pieces_of (shown_runs None pieces cells))) ms (ap columns_of (line_same pieces cells) ∙ cells-columns cells ∙ line_width cells h) behind))
+    by_cases {C = AreBehind (columns_of (glyphs_of (shown_runs (cut_line (Some limit) ms cells) pieces cells))) (shown_marks (cut_line (Some limit) ms cells) ms)} (ltb limit (cells_width 0 cells))
+    (λ y. rw y (moved_behind ss (cells_width 0 cells) (columns_of (glyphs_of (shown_runs (Some ss) pieces cells))) ms (all_stretches near false cells ∙ line_width cells h) (ap columns_of (cut_pieces pieces 0 ss) ∙ pieces-columns ss) behind))
+    (λ n. rw n (same_behind (cells_width 0 cells) (columns_of (glyphs_of (shown_runs None pieces cells))) ms (ap columns_of (line_same pieces cells) ∙ cells-columns cells ∙ line_width cells h) behind))
 
 pub behind_shown : (s : SnippetSettings) (labels : List DrawnLabel) (source : List ℕ) (line : Line) (pieces : List Highlight) → AreBehindShown s labels line (cells_of s source line) pieces
 behind_shown s labels source line pieces =

@@ -8,7 +8,7 @@ use Rattle.miette_lines.specs.rules.Answers.{Highlight, first_of, later_of}
 use Rattle.miette_lines.specs.rules.Cells.{Cell}
 use Rattle.miette_lines.specs.rules.Contexts.{lines_of_contents}
 use Rattle.miette_lines.specs.rules.Labels.{DrawnLabel, one_line, multi_line}
-use Rattle.miette_page.specs.rules.Rows.{columns_of, pieces_of}
+use Rattle.miette_page.specs.rules.Rows.{columns_of, glyphs_of}
 use Rattle.miette_snippets.specs.rules.CutLines.{cut_line, shown_marks, shown_runs}
 use Rattle.miette_snippets.specs.rules.Drawing.{marked_rows}
 use Rattle.miette_snippets.specs.rules.Folds.{Spread}
@@ -29,12 +29,12 @@ marks-length text reached [] = refl
 marks-length text reached (label ∷ labels) = ap suc (marks-length text (mark_until text reached label) labels)
 
 pub rows_narrow : (s : SnippetSettings) (labels : List DrawnLabel) (source : List ℕ) (line : Line) (pieces : List Highlight) (limit widest : ℕ) → s.line_columns ≡ Some limit → AreAsWide widest (cells_of s source line) →
-    columns_of (pieces_of (text_of_line s labels line (cells_of s source line) pieces)) ≤ most_columns limit (length (one_line line labels)) widest
+    columns_of (glyphs_of (text_of_line s labels line (cells_of s source line) pieces)) ≤ most_columns limit (length (one_line line labels)) widest
 rows_narrow s labels source line pieces limit widest is wide =
     let cells : List Cell = cells_of s source line in
     let own : List Mark = line_marks line cells (one_line line labels) in
-    subst (λ (many : ℕ). columns_of (pieces_of (text_of_line s labels line cells pieces)) ≤ most_columns limit many widest) (marks-length (text_of_cells cells line.text_end) 0 (one_line line labels))
-    (subst (λ (o : Option ℕ). columns_of (pieces_of (shown_runs (cut_line o own cells) pieces cells)) ≤ most_columns limit (length own) widest) (sym is)
+    subst (λ (many : ℕ). columns_of (glyphs_of (text_of_line s labels line cells pieces)) ≤ most_columns limit many widest) (marks-length (text_of_cells cells line.text_end) 0 (one_line line labels))
+    (subst (λ (o : Option ℕ). columns_of (glyphs_of (shown_runs (cut_line o own cells) pieces cells)) ≤ most_columns limit (length own) widest) (sym is)
     (row_bound limit widest pieces own cells (line_columns s source line) wide))
 
 -- ---- lines that fit

@@ -5,12 +5,12 @@ use Rattle.std.proofs.lemmas.List.{map-append}
 use Rattle.miette_lines.specs.rules.Answers.{Highlight}
 use Rattle.miette_lines.specs.rules.Cells.{Cell}
 use Rattle.miette_lines.proofs.Numbers.{by_cases}
-use Rattle.miette_page.specs.rules.Rows.{pieces_of}
+use Rattle.miette_page.specs.rules.Rows.{glyphs_of}
 use Rattle.miette_snippets.specs.rules.CutLines.{Stretch, agree, bytes_in, cut_runs, dots, is_kept, is_near_after, is_within, onto_stretches, pieces_within, stretches}
 use Rattle.miette_snippets.specs.rules.PrintedCells.{line_runs, printed_cells}
 use Rattle.miette_snippet_laws.specs.laws.Cuts.{AreStretches, IsWithin, by_nearness, by_stretch, pieces_shown}
 use Rattle.miette_snippet_laws.proofs.CleanTexts.{line_same}
-use Rattle.miette_snippet_laws.proofs.Flat.{pieces_of-append}
+use Rattle.miette_snippet_laws.proofs.Flat.{glyphs_of-append}
 
 agree-same : (a b : Bool) → agree a b ≡ true → b ≡ a
 agree-same true b h = h
@@ -79,13 +79,13 @@ is_within_of reach cell column h =
 
 -- ---- what is printed
 
-pub cut_pieces : (pieces : List Highlight) (before : ℕ) (ss : List Stretch) → pieces_of (cut_runs pieces before ss) ≡ pieces_shown ss
+pub cut_pieces : (pieces : List Highlight) (before : ℕ) (ss : List Stretch) → glyphs_of (cut_runs pieces before ss) ≡ pieces_shown ss
 cut_pieces pieces before [] = refl
 cut_pieces pieces before (s ∷ later) =
     let own : List Highlight = pieces_within before (bytes_in s.cells) pieces in
-    pieces_of-append (cond (is_kept s) (line_runs own s.cells) (dots ∷ [])) (cut_runs pieces (before + bytes_in s.cells) later)
+    glyphs_of-append (cond (is_kept s) (line_runs own s.cells) (dots ∷ [])) (cut_runs pieces (before + bytes_in s.cells) later)
     ∙ ap₂ (λ a b. a ++ b) (choice (is_kept s) own s.cells) (cut_pieces pieces (before + bytes_in s.cells) later)
   where
-    choice : (b : Bool) (own : List Highlight) (cells : List Cell) → pieces_of (cond b (line_runs own cells) (dots ∷ [])) ≡ cond b (printed_cells cells) dots.pieces
+    choice : (b : Bool) (own : List Highlight) (cells : List Cell) → glyphs_of (cond b (line_runs own cells) (dots ∷ [])) ≡ cond b (printed_cells cells) dots.glyphs
     choice true own cells = line_same own cells
-    choice false own cells = append-nil dots.pieces
+    choice false own cells = append-nil dots.glyphs

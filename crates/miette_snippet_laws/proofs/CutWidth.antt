@@ -7,10 +7,10 @@ use Rattle.std.specs.List.{list_any}
 use Rattle.miette_lines.specs.rules.Answers.{Highlight}
 use Rattle.miette_lines.specs.rules.Cells.{Cell}
 use Rattle.miette_lines.proofs.Numbers.{by_cases}
-use Rattle.miette_page.specs.rules.Rows.{pieces_of, columns_of}
+use Rattle.miette_page.specs.rules.Rows.{glyphs_of, columns_of}
 use Rattle.miette_snippets.specs.rules.CutLines.{Stretch, columns_in, cut_line, dots, ends, is_kept, is_near, is_near_after, is_within, kept_columns, onto_stretches, shown_runs, stretches}
 use Rattle.miette_snippets.specs.rules.Marks.{Mark}
-use Rattle.miette_snippets.specs.rules.PrintedCells.{cells_width, printed_pieces, printed_cells}
+use Rattle.miette_snippets.specs.rules.PrintedCells.{cells_width, printed_glyphs, printed_cells}
 use Rattle.miette_snippets.proofs.CutColumns.{AreColumns}
 use Rattle.miette_snippet_laws.specs.laws.Cuts.{AreAsWide, most_columns, pieces_shown}
 use Rattle.miette_snippet_laws.proofs.CleanTexts.{line_same}
@@ -23,13 +23,13 @@ spaces-columns : (many : ℕ) → columns_of (replicate many (record { code = 32
 spaces-columns zero = refl
 spaces-columns (suc many) = omega (arith, spaces-columns many)
 
-printed-columns : (c : Cell) → columns_of (printed_pieces c) ≡ c.until - c.from
+printed-columns : (c : Cell) → columns_of (printed_glyphs c) ≡ c.until - c.from
 printed-columns c =
-    by_cases {C = columns_of (printed_pieces c) ≡ c.until - c.from} (eqb c.code 9) (λ y. rw y (spaces-columns (c.until - c.from))) (λ n. rw n (omega arith))
+    by_cases {C = columns_of (printed_glyphs c) ≡ c.until - c.from} (eqb c.code 9) (λ y. rw y (spaces-columns (c.until - c.from))) (λ n. rw n (omega arith))
 
 pub cells-columns : (cells : List Cell) → columns_of (printed_cells cells) ≡ columns_in cells
 cells-columns [] = refl
-cells-columns (c ∷ cs) = columns_of-append (printed_pieces c) (printed_cells cs) ∙ ap₂ (λ a b. a + b) (printed-columns c) (cells-columns cs)
+cells-columns (c ∷ cs) = columns_of-append (printed_glyphs c) (printed_cells cs) ∙ ap₂ (λ a b. a + b) (printed-columns c) (cells-columns cs)
 
 -- the columns of a row of stretches
 abbrev pub row_width : List Stretch → ℕ
@@ -39,9 +39,9 @@ row_width (s ∷ later) = kept_columns s + row_width later
 pub pieces-columns : (ss : List Stretch) → columns_of (pieces_shown ss) ≡ row_width ss
 pieces-columns [] = refl
 pieces-columns (s ∷ later) =
-    columns_of-append (cond (is_kept s) (printed_cells s.cells) dots.pieces) (pieces_shown later) ∙ ap₂ (λ a b. a + b) (choice (is_kept s) s.cells) (pieces-columns later)
+    columns_of-append (cond (is_kept s) (printed_cells s.cells) dots.glyphs) (pieces_shown later) ∙ ap₂ (λ a b. a + b) (choice (is_kept s) s.cells) (pieces-columns later)
   where
-    choice : (b : Bool) (cells : List Cell) → columns_of (cond b (printed_cells cells) dots.pieces) ≡ cond b (columns_in cells) 3
+    choice : (b : Bool) (cells : List Cell) → columns_of (cond b (printed_cells cells) dots.glyphs) ≡ cond b (columns_in cells) 3
     choice true cells = cells-columns cells
     choice false cells = refl
 
@@ -187,14 +187,14 @@ whole-columns column [] h = omega arith
 whole-columns column (c ∷ cs) h = omega (arith, h.0, h.1, whole-columns c.until cs h.2)
 
 pub row_bound : (limit widest : ℕ) (pieces : List Highlight) (ms : List Mark) (cells : List Cell) → AreColumns 0 cells → AreAsWide widest cells →
-    columns_of (pieces_of (shown_runs (cut_line (Some limit) ms cells) pieces cells)) ≤ most_columns limit (length ms) widest
+    columns_of (glyphs_of (shown_runs (cut_line (Some limit) ms cells) pieces cells)) ≤ most_columns limit (length ms) widest
 row_bound limit widest pieces ms cells h w =
     let near : Cell → Bool = is_near limit (ends ms) in
     let ss : List Stretch = stretches near false cells in
     let own : ℕ = limit / 4 * 2 + widest * 2 in
     let bound : near_columns near cells ≤ limit + widest + length ms * (3 * own) = omega (arith, near_bound limit widest (ends ms) cells h w, for_ends own ms) in
-    by_cases {C = columns_of (pieces_of (shown_runs (cut_line (Some limit) ms cells) pieces cells)) ≤ most_columns limit (length ms) widest} (ltb limit (cells_width 0 cells))
-    (λ y. let cut : columns_of (pieces_of (shown_runs (cut_line (Some limit) ms cells) pieces cells)) ≡ row_width ss = rw y (ap columns_of (cut_pieces pieces 0 ss) ∙ pieces-columns ss) in
+    by_cases {C = columns_of (glyphs_of (shown_runs (cut_line (Some limit) ms cells) pieces cells)) ≤ most_columns limit (length ms) widest} (ltb limit (cells_width 0 cells))
+    (λ y. let cut : columns_of (glyphs_of (shown_runs (cut_line (Some limit) ms cells) pieces cells)) ≡ row_width ss = rw y (ap columns_of (cut_pieces pieces 0 ss) ∙ pieces-columns ss) in
     omega (arith, cut, row_at_most ss, most_first (near_columns near cells) ss (from_first near false 0 cells h), bound))
-    (λ n. let whole : columns_of (pieces_of (shown_runs (cut_line (Some limit) ms cells) pieces cells)) ≡ columns_in cells = rw n (ap columns_of (line_same pieces cells) ∙ cells-columns cells) in
+    (λ n. let whole : columns_of (glyphs_of (shown_runs (cut_line (Some limit) ms cells) pieces cells)) ≡ columns_in cells = rw n (ap columns_of (line_same pieces cells) ∙ cells-columns cells) in
     omega (arith, whole, whole-columns 0 cells h, ltb-false limit (cells_width 0 cells) n))

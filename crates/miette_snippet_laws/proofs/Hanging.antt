@@ -2,7 +2,7 @@
 use Rattle.std.proofs.Common.{ℕ, ◌+◌, ◌<◌, ◌≡◌, Bool, true, ltb, leb, eqb, List, [], ◌∷◌, ◌++◌, map, Some, refl, sym, ap, ◌∙◌, inl, inr, ⊎_elim, ◌&&◌, append_assoc, append-nil, arith}
 use Rattle.std.proofs.lemmas.Bool.{eq-eqb, or_right}
 use Rattle.std.specs.List.{AllByRecursion, list_any}
-use Rattle.miette_page.specs.rules.Rows.{Piece, code_piece, code_at, columns_of, Begins}
+use Rattle.miette_page.specs.rules.Rows.{Glyph, glyph_of, code_at, columns_of, Begins}
 use Rattle.miette_lines.specs.rules.Labels.{is_empty}
 use Rattle.miette_snippets.specs.rules.Marks.{Mark, AreApart}
 use Rattle.miette_snippets.specs.rules.Drawing.{IsNarrow, code_with_parts, mark_code}
@@ -56,30 +56,30 @@ lead-bar width t (m ∷ ms) column h =
     (λ a. rw a refl) (λ a. rw a (lead-bar width t ms column (rw a at h)))
 
 -- a row that begins as those above a corner do has vbar there
-led : (width : ℕ → ℕ) (t : Characters) (n : IsNarrow width t) (earlier : List Mark) (mark : Mark) (column : ℕ) (rest : List Piece) → column < mark.anchor → has_anchor column earlier ≡ true →
+led : (width : ℕ → ℕ) (t : Characters) (n : IsNarrow width t) (earlier : List Mark) (mark : Mark) (column : ℕ) (rest : List Glyph) → column < mark.anchor → has_anchor column earlier ≡ true →
     code_at (lead width t earlier mark ++ rest) column ≡ Some t.vbar
 led width t n earlier mark column rest lt h =
     code_at-front (lead_at width t earlier) 0 mark.anchor column rest (lead_at-narrow width t n earlier) lt
     ∙ ap (λ k. Some (lead_at width t earlier k).code) (omega arith)
     ∙ ap Some (lead-bar width t earlier column h)
 
-abbrev HasBar : Characters → ℕ → List Piece → Type 0
+abbrev HasBar : Characters → ℕ → List Glyph → Type 0
 HasBar t column row = code_at row column ≡ Some t.vbar
 
 bars_of_rest : (width : ℕ → ℕ) (t : Characters) (n : IsNarrow width t) (earlier : List Mark) (mark : Mark) (column : ℕ) (parts : List (List ℕ)) → column < mark.anchor → has_anchor column earlier ≡ true →
-    AllByRecursion (HasBar t column) (map (λ p. lead width t earlier mark ++ (beside_pieces width t ++ map (code_piece width) p)) parts)
+    AllByRecursion (HasBar t column) (map (λ p. lead width t earlier mark ++ (beside_pieces width t ++ map (glyph_of width) p)) parts)
 bars_of_rest width t n earlier mark column [] lt h = tt
 bars_of_rest width t n earlier mark column (part ∷ parts) lt h =
-    (led width t n earlier mark column (beside_pieces width t ++ map (code_piece width) part) lt h, bars_of_rest width t n earlier mark column parts lt h)
+    (led width t n earlier mark column (beside_pieces width t ++ map (glyph_of width) part) lt h, bars_of_rest width t n earlier mark column parts lt h)
 
 bars_of_parts : (width : ℕ → ℕ) (t : Characters) (n : IsNarrow width t) (earlier : List Mark) (mark : Mark) (column : ℕ) (parts : List (List ℕ)) → column < mark.anchor → has_anchor column earlier ≡ true →
     AllByRecursion (HasBar t column) (plain_parts width t earlier mark parts)
 bars_of_parts width t n earlier mark column [] lt h = tt
-bars_of_parts width t n earlier mark column (part ∷ []) lt h = (led width t n earlier mark column (corner_pieces width t t.hbar ++ map (code_piece width) part) lt h, tt)
+bars_of_parts width t n earlier mark column (part ∷ []) lt h = (led width t n earlier mark column (corner_pieces width t t.hbar ++ map (glyph_of width) part) lt h, tt)
 bars_of_parts width t n earlier mark column (part ∷ next ∷ parts) lt h =
-    (led width t n earlier mark column (corner_pieces width t t.rcross ++ map (code_piece width) part) lt h, bars_of_rest width t n earlier mark column (next ∷ parts) lt h)
+    (led width t n earlier mark column (corner_pieces width t t.rcross ++ map (glyph_of width) part) lt h, bars_of_rest width t n earlier mark column (next ∷ parts) lt h)
 
-all_append : (P : List Piece → Type 0) (xs ys : List (List Piece)) → AllByRecursion P xs → AllByRecursion P ys → AllByRecursion P (xs ++ ys)
+all_append : (P : List Glyph → Type 0) (xs ys : List (List Glyph)) → AllByRecursion P xs → AllByRecursion P ys → AllByRecursion P (xs ++ ys)
 all_append P [] ys h k = k
 all_append P (x ∷ xs) ys h k = (h.0, all_append P xs ys h.1 k)
 
@@ -101,17 +101,17 @@ bars_below width t n earlier (m ∷ ms) reached column h lt has =
     (bars_of_parts width t n earlier m column m.label.parts (omega (arith, h.0, h.1.0)) has)
 
 -- hanging under rows that have vbar, and with more rows below
-hang_under : (t : Characters) (column : ℕ) (part : List Piece) (above rows : List (List Piece)) → AllByRecursion (HasBar t column) above → HangsFrom t column part rows → HangsFrom t column part (above ++ rows)
+hang_under : (t : Characters) (column : ℕ) (part : List Glyph) (above rows : List (List Glyph)) → AllByRecursion (HasBar t column) above → HangsFrom t column part rows → HangsFrom t column part (above ++ rows)
 hang_under t column part [] rows bars h = h
 hang_under t column part (row ∷ above) rows bars h = inr (bars.0, hang_under t column part above rows bars.1 h)
 
-hang_more : (t : Characters) (column : ℕ) (part : List Piece) (rows more : List (List Piece)) → HangsFrom t column part rows → HangsFrom t column part (rows ++ more)
+hang_more : (t : Characters) (column : ℕ) (part : List Glyph) (rows more : List (List Glyph)) → HangsFrom t column part rows → HangsFrom t column part (rows ++ more)
 hang_more t column part [] more h = absurd h
 hang_more t column part (row ∷ rows) more h =
     ⊎_elim {C = HangsFrom t column part ((row ∷ rows) ++ more)} (λ a. inl a) (λ b. inr (b.0, hang_more t column part rows more b.1)) h
 
 -- a row with a corner, and the text behind it
-cornered : (width : ℕ → ℕ) (t : Characters) (n : IsNarrow width t) (earlier : List Mark) (mark : Mark) (p q r s : Piece) (part : List Piece) → p.code ≡ t.lbot → p.columns ≡ 1 → q.columns ≡ 1 → r.columns ≡ 1 → s.columns ≡ 1 →
+cornered : (width : ℕ → ℕ) (t : Characters) (n : IsNarrow width t) (earlier : List Mark) (mark : Mark) (p q r s : Glyph) (part : List Glyph) → p.code ≡ t.lbot → p.columns ≡ 1 → q.columns ≡ 1 → r.columns ≡ 1 → s.columns ≡ 1 →
     (code_at (lead width t earlier mark ++ ((p ∷ q ∷ r ∷ s ∷ []) ++ part)) mark.anchor ≡ Some t.lbot)
     × Begins (lead width t earlier mark ++ ((p ∷ q ∷ r ∷ s ∷ []) ++ part)) (mark.anchor + 4) part
 cornered width t n earlier mark p q r s part is a b c d = (
@@ -128,27 +128,27 @@ cornered width t n earlier mark p q r s part is a b c d = (
 
 -- a mark's first part hangs from its anchor at the top of its own rows
 own_rows : (width : ℕ → ℕ) (t : Characters) (n : IsNarrow width t) (earlier : List Mark) (mark : Mark) (part : List ℕ) (parts : List (List ℕ)) →
-    HangsFrom t mark.anchor (map (code_piece width) part) (plain_parts width t earlier mark (part ∷ parts))
+    HangsFrom t mark.anchor (map (glyph_of width) part) (plain_parts width t earlier mark (part ∷ parts))
 own_rows width t n earlier mark part [] =
-    inl (cornered width t n earlier mark (code_piece width t.lbot) (code_piece width t.hbar) (code_piece width t.hbar) (code_piece width 32) (map (code_piece width) part) refl n.lbot n.hbar n.hbar n.space)
+    inl (cornered width t n earlier mark (glyph_of width t.lbot) (glyph_of width t.hbar) (glyph_of width t.hbar) (glyph_of width 32) (map (glyph_of width) part) refl n.lbot n.hbar n.hbar n.space)
 own_rows width t n earlier mark part (next ∷ parts) =
-    inl (cornered width t n earlier mark (code_piece width t.lbot) (code_piece width t.hbar) (code_piece width t.rcross) (code_piece width 32) (map (code_piece width) part) refl n.lbot n.hbar n.rcross n.space)
+    inl (cornered width t n earlier mark (glyph_of width t.lbot) (glyph_of width t.hbar) (glyph_of width t.rcross) (glyph_of width 32) (map (glyph_of width) part) refl n.lbot n.hbar n.rcross n.space)
 
-hangs_at_top : (width : ℕ → ℕ) (t : Characters) (n : IsNarrow width t) (earlier : List Mark) (mark : Mark) (above : List (List Piece)) (parts : List (List ℕ)) →
+hangs_at_top : (width : ℕ → ℕ) (t : Characters) (n : IsNarrow width t) (earlier : List Mark) (mark : Mark) (above : List (List Glyph)) (parts : List (List ℕ)) →
     AllByRecursion (HasBar t mark.anchor) above → PartHangs width t (above ++ plain_parts width t earlier mark parts) mark.anchor parts
 hangs_at_top width t n earlier mark above [] bars = tt
 hangs_at_top width t n earlier mark above (part ∷ parts) bars =
-    hang_under t mark.anchor (map (code_piece width) part) above (plain_parts width t earlier mark (part ∷ parts)) bars (own_rows width t n earlier mark part parts)
+    hang_under t mark.anchor (map (glyph_of width) part) above (plain_parts width t earlier mark (part ∷ parts)) bars (own_rows width t n earlier mark part parts)
 
-part_more : (width : ℕ → ℕ) (t : Characters) (rows more : List (List Piece)) (column : ℕ) (parts : List (List ℕ)) → PartHangs width t rows column parts → PartHangs width t (rows ++ more) column parts
+part_more : (width : ℕ → ℕ) (t : Characters) (rows more : List (List Glyph)) (column : ℕ) (parts : List (List ℕ)) → PartHangs width t rows column parts → PartHangs width t (rows ++ more) column parts
 part_more width t rows more column [] h = tt
-part_more width t rows more column (part ∷ parts) h = hang_more t column (map (code_piece width) part) rows more h
+part_more width t rows more column (part ∷ parts) h = hang_more t column (map (glyph_of width) part) rows more h
 
-pub all_more : (width : ℕ → ℕ) (t : Characters) (start : ℕ) (rows more : List (List Piece)) (ms : List Mark) → AllByRecursion (Hangs width t rows start) ms → AllByRecursion (Hangs width t (rows ++ more) start) ms
+pub all_more : (width : ℕ → ℕ) (t : Characters) (start : ℕ) (rows more : List (List Glyph)) (ms : List Mark) → AllByRecursion (Hangs width t rows start) ms → AllByRecursion (Hangs width t (rows ++ more) start) ms
 all_more width t start rows more [] h = tt
 all_more width t start rows more (m ∷ ms) h = (part_more width t rows more (start + m.anchor) m.label.parts h.0, all_more width t start rows more ms h.1)
 
-part_at : (width : ℕ → ℕ) (t : Characters) (rows : List (List Piece)) (a b : ℕ) (parts : List (List ℕ)) → a ≡ b → PartHangs width t rows a parts → PartHangs width t rows b parts
+part_at : (width : ℕ → ℕ) (t : Characters) (rows : List (List Glyph)) (a b : ℕ) (parts : List (List ℕ)) → a ≡ b → PartHangs width t rows a parts → PartHangs width t rows b parts
 part_at width t rows a b parts e h = rw (← e) h
 
 hang_from : (width : ℕ → ℕ) (t : Characters) (n : IsNarrow width t) (earlier ms : List Mark) (reached : ℕ) → AreApart reached ms → AllByRecursion (Hangs width t (plain_below width t earlier ms) 0) ms
@@ -165,7 +165,7 @@ pub plain_hang : (width : ℕ → ℕ) (t : Characters) (ms : List Mark) → IsN
 plain_hang width t ms n h = hang_from width t n [] ms 0 h
 
 -- a text hangs as well where the same gutter stands before each row
-pub hang_beside : (t : Characters) (gutter : List Piece) (column : ℕ) (part : List Piece) (rows : List (List Piece)) → HangsFrom t column part rows → HangsFrom t (columns_of gutter + column) part (map (λ row. gutter ++ row) rows)
+pub hang_beside : (t : Characters) (gutter : List Glyph) (column : ℕ) (part : List Glyph) (rows : List (List Glyph)) → HangsFrom t column part rows → HangsFrom t (columns_of gutter + column) part (map (λ row. gutter ++ row) rows)
 hang_beside t gutter column part [] h = h
 hang_beside t gutter column part (row ∷ rows) h =
     ⊎_elim {C = HangsFrom t (columns_of gutter + column) part (map (λ r. gutter ++ r) (row ∷ rows))}
@@ -180,11 +180,11 @@ hang_beside t gutter column part (row ∷ rows) h =
     (λ below. inr (code_at-append gutter row column ∙ below.0, hang_beside t gutter column part rows below.1))
     h
 
-part_beside : (width : ℕ → ℕ) (t : Characters) (gutter : List Piece) (rows : List (List Piece)) (column : ℕ) (parts : List (List ℕ)) → PartHangs width t rows column parts → PartHangs width t (map (λ row. gutter ++ row) rows) (columns_of gutter + column) parts
+part_beside : (width : ℕ → ℕ) (t : Characters) (gutter : List Glyph) (rows : List (List Glyph)) (column : ℕ) (parts : List (List ℕ)) → PartHangs width t rows column parts → PartHangs width t (map (λ row. gutter ++ row) rows) (columns_of gutter + column) parts
 part_beside width t gutter rows column [] h = tt
-part_beside width t gutter rows column (part ∷ parts) h = hang_beside t gutter column (map (code_piece width) part) rows h
+part_beside width t gutter rows column (part ∷ parts) h = hang_beside t gutter column (map (glyph_of width) part) rows h
 
-pub all_beside : (width : ℕ → ℕ) (t : Characters) (gutter : List Piece) (rows : List (List Piece)) (ms : List Mark) → AllByRecursion (Hangs width t rows 0) ms → AllByRecursion (Hangs width t (map (λ row. gutter ++ row) rows) (columns_of gutter)) ms
+pub all_beside : (width : ℕ → ℕ) (t : Characters) (gutter : List Glyph) (rows : List (List Glyph)) (ms : List Mark) → AllByRecursion (Hangs width t rows 0) ms → AllByRecursion (Hangs width t (map (λ row. gutter ++ row) rows) (columns_of gutter)) ms
 all_beside width t gutter rows [] h = tt
 all_beside width t gutter rows (m ∷ ms) h = (
   part_at width t (map (λ row. gutter ++ row) rows) (columns_of gutter + (0 + m.anchor)) (columns_of gutter + m.anchor) m.label.parts (omega arith) (part_beside width t gutter rows (0 + m.anchor) m.label.parts h.0),

@@ -19,21 +19,21 @@ use Rattle.miette_snippets.specs.rules.Gutters.{number_gutter, other_gutter, bre
 use Rattle.miette_lines.specs.rules.Labels.{DrawnLabel, some_shows_end, one_line, multi_line, closing_labels, is_one_line, is_multi_line, ends_on, starts_on}
 use Rattle.miette_snippets.specs.rules.SnippetLayout.{text_of_cells, cells_of, before_each, line_rows_of, line_rows, break_row, line_or_break, rows_of_lines, left_out, body_rows, place_of, drawn_labels, snippet, all_snippets, settings_around, rows_unless, snippet_rows, line_cut}
 use Rattle.miette_snippets.specs.rules.Marks.{marks}
-use Rattle.miette_page.specs.rules.Rows.{Run, Row, pieces_of, plain_run}
+use Rattle.miette_page.specs.rules.Rows.{Run, Row, glyphs_of, plain_run}
 use Rattle.miette_style.specs.rules.Styles.{plain}
 use Rattle.miette_snippet_laws.proofs.Bleaching.{filter_bleached, all_filter, marks_bleached, marks_clean, gutter_bleached, drawn_bleached, drawn_clean, ordered_clean}
 use Rattle.miette_snippet_laws.proofs.CleanTexts.{AreCleanCells, clean_cons, clean_append, clean_replicate, clean_if, clean_range, clean_decimal, clean_characters, clean_cells}
 use Rattle.miette_snippet_laws.proofs.Paling.{bleached, HasCleanParts, PaleRow, PaleRows, pale_nil, pale_cons, pale_append, pale_if, rows_nil, rows_cons, rows_append, pale_styled, pale_blank, pale_number_gutter, pale_other_gutter, pale_break_gutter, pale_closing_rows, pale_marked, all_append, bleached_mark}
 use Rattle.miette_snippet_laws.proofs.CutFading.{cut_bleached, cut_clean, pale_shown, shown_bleached, shown_clean}
-use Rattle.miette_snippet_laws.proofs.Flat.{pieces_of-append}
+use Rattle.miette_snippet_laws.proofs.Flat.{glyphs_of-append}
 
 before_all : (Q : Run → Type 0) (front : Row) (rows : List Row) → AllByRecursion Q front → AllByRecursion (AllByRecursion Q) rows → AllByRecursion (AllByRecursion Q) (before_each front rows)
 before_all Q front [] h k = tt
 before_all Q front (row ∷ rows) h k = (all_append Q front row h k.0, before_all Q front rows h k.1)
 
-before_pieces : (front : Row) (rows : List Row) → map pieces_of (before_each front rows) ≡ map (λ r. pieces_of front ++ r) (map pieces_of rows)
+before_pieces : (front : Row) (rows : List Row) → map glyphs_of (before_each front rows) ≡ map (λ r. glyphs_of front ++ r) (map glyphs_of rows)
 before_pieces front [] = refl
-before_pieces front (row ∷ rows) = ap₂ (λ a b. a ∷ b) (pieces_of-append front row) (before_pieces front rows)
+before_pieces front (row ∷ rows) = ap₂ (λ a b. a ∷ b) (glyphs_of-append front row) (before_pieces front rows)
 
 record IsCleanRefusal (refused : Refusal) : Type 0 where
   pub label : IsCleanLabel refused.label
@@ -41,7 +41,7 @@ record IsCleanRefusal (refused : Refusal) : Type 0 where
 
 -- rows for rows, and none for none
 pub record PaleGiven (P : Type 0) (x y : Option (List Row)) : Type 0 where
-  pub same : option_map (map pieces_of) x ≡ option_map (map pieces_of) y
+  pub same : option_map (map glyphs_of) x ≡ option_map (map glyphs_of) y
   pub plain : IfSome x (AllByRecursion IsPlainRow)
   pub clean : P → IfSome y (AllByRecursion IsCleanRow)
 
@@ -102,7 +102,7 @@ module _ (P : Type 0) (s : SnippetSettings) (clean : P → AreCleanDrawings s.ch
   pale_before {x} {y} xs ys h k = record {
     plain = before_all (λ run. run.style ≡ plain) x xs h.plain k.plain;
     same = before_pieces x xs ∙ ap₂ (λ front pieces. map (λ r. front ++ r) pieces) h.same k.same ∙ sym (before_pieces y ys);
-    clean = λ p. before_all (λ run. IsClean (map (λ q. q.code) run.pieces)) y ys (h.clean p) (k.clean p);
+    clean = λ p. before_all (λ run. IsClean (map (λ q. q.code) run.glyphs)) y ys (h.clean p) (k.clean p);
   }
 
   pale_line_rows_of : (w columns : ℕ) (one multi : List DrawnLabel) (line : Line) (number : ℕ) (cells : List Cell) (pieces : List Highlight) →

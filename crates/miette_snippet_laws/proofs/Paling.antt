@@ -10,10 +10,10 @@ use Rattle.miette_snippet_laws.specs.laws.Fading.{IsPlainRow}
 use Rattle.miette_snippets.specs.rules.Gutters.{ending_corner, arrow, bar, number_gutter, break_gutter, other_gutter, open_gutter, part_run, closing_parts, closing_rows}
 use Rattle.miette_lines.specs.rules.Labels.{DrawnLabel, is_empty, starts_on, ends_on}
 use Rattle.miette_snippets.specs.rules.Marks.{Mark}
-use Rattle.miette_page.specs.rules.Rows.{Run, Row, pieces_of, styled_run}
+use Rattle.miette_page.specs.rules.Rows.{Run, Row, glyphs_of, styled_run}
 use Rattle.miette_style.specs.rules.Styles.{plain}
 use Rattle.miette_snippet_laws.proofs.CleanTexts.{AreCleanPieces, clean_cons, clean_append, clean_replicate, clean_code_if, clean_copies, clean_drawn, clean_each}
-use Rattle.miette_snippet_laws.proofs.Flat.{pieces_of-append}
+use Rattle.miette_snippet_laws.proofs.Flat.{glyphs_of-append}
 use Rattle.miette_style.specs.rules.Themes.{Characters}
 
 -- a label and a mark in plain
@@ -34,17 +34,17 @@ IsCleanMark mark = HasCleanParts mark.label
 
 pub record PaleRun (P : Type 0) (x y : Run) : Type 0 where
   pub plain : x.style ≡ plain
-  pub same : x.pieces ≡ y.pieces
-  pub clean : P → AreCleanPieces y.pieces
+  pub same : x.glyphs ≡ y.glyphs
+  pub clean : P → AreCleanPieces y.glyphs
 
 pub record PaleRow (P : Type 0) (x y : Row) : Type 0 where
   pub plain : IsPlainRow x
-  pub same : pieces_of x ≡ pieces_of y
+  pub same : glyphs_of x ≡ glyphs_of y
   pub clean : P → IsCleanRow y
 
 pub record PaleRows (P : Type 0) (xs ys : List Row) : Type 0 where
   pub plain : AllByRecursion IsPlainRow xs
-  pub same : map pieces_of xs ≡ map pieces_of ys
+  pub same : map glyphs_of xs ≡ map glyphs_of ys
   pub clean : P → AllByRecursion IsCleanRow ys
 
 pub all_append : {A : Type 0} (Q : A → Type 0) (xs ys : List A) → AllByRecursion Q xs → AllByRecursion Q ys → AllByRecursion Q (xs ++ ys)
@@ -61,8 +61,8 @@ module _ (P : Type 0) where
   pub pale_append : (x y u v : Row) → PaleRow P x y → PaleRow P u v → PaleRow P (x ++ u) (y ++ v)
   pale_append x y u v h k = record {
     plain = all_append (λ (run : Run). run.style ≡ plain) x u h.plain k.plain;
-    same = pieces_of-append x u ∙ ap₂ (λ a b. a ++ b) h.same k.same ∙ sym (pieces_of-append y v);
-    clean = λ p. all_append (λ (run : Run). AreCleanPieces run.pieces) y v (h.clean p) (k.clean p);
+    same = glyphs_of-append x u ∙ ap₂ (λ a b. a ++ b) h.same k.same ∙ sym (glyphs_of-append y v);
+    clean = λ p. all_append (λ (run : Run). AreCleanPieces run.glyphs) y v (h.clean p) (k.clean p);
   }
 
   pub pale_if : (b : Bool) {x y u v : Row} → PaleRow P x y → PaleRow P u v → PaleRow P (if b then x else u) (if b then y else v)
@@ -78,7 +78,7 @@ module _ (P : Type 0) where
   pub rows_append : (xs ys us vs : List Row) → PaleRows P xs ys → PaleRows P us vs → PaleRows P (xs ++ us) (ys ++ vs)
   rows_append xs ys us vs h k = record {
     plain = all_append IsPlainRow xs us h.plain k.plain;
-    same = map-append pieces_of xs us ∙ ap₂ (λ a b. a ++ b) h.same k.same ∙ sym (map-append pieces_of ys vs);
+    same = map-append glyphs_of xs us ∙ ap₂ (λ a b. a ++ b) h.same k.same ∙ sym (map-append glyphs_of ys vs);
     clean = λ p. all_append IsCleanRow ys vs (h.clean p) (k.clean p);
   }
 

@@ -16,7 +16,7 @@ ghost use Rattle.miette_snippet_laws.specs.laws.Folding.{EndsPass, FitsIn, IsIns
 ghost use Rattle.miette_snippet_laws.specs.laws.Cuts.{AreAsWide, AreStretches, Fits, IsWithin, by_nearness, by_stretch};
 ghost use Rattle.miette_snippet_laws.specs.laws.Cuts.{most_columns, pieces_shown};
 ghost use Rattle.miette_snippet_laws.specs.laws.Fading.{IsPlainRow, colourless, unhighlighted_answers};
-ghost use Rattle.miette_page.specs.rules.Rows.{columns_of, pieces_of};
+ghost use Rattle.miette_page.specs.rules.Rows.{columns_of, glyphs_of};
 ghost use Rattle.miette_lines.specs.rules.Answers.{Answers, AlwaysReads, Highlight, NoneFails};
 ghost use Rattle.miette_lines.specs.rules.Around.{HaveContext, group_context};
 ghost use Rattle.miette_lines.specs.rules.Groups.{AreAccepted, in_order, groups_of, lines_of_groups};
@@ -121,7 +121,7 @@ pub fn cut_lines_are_parted()
         (is_within reach cell column ≡ true → IsWithin reach cell column)
         × (IsWithin reach cell column → is_within reach cell column ≡ true) }
     ensures printed { (pieces : List Highlight) (cut : List Stretch) →
-        pieces_of (cut_runs pieces 0 cut) ≡ pieces_shown cut }
+        glyphs_of (cut_runs pieces 0 cut) ≡ pieces_shown cut }
 {}
 
 /// Where there is a limit, the columns of a line's text in its row are bounded by it, the number of labels that lie on
@@ -130,7 +130,7 @@ pub fn cut_rows_are_narrow()
     ensures { (s : SnippetSettings) (labels : List DrawnLabel) (source : List ℕ) (line : Line)
         (pieces : List Highlight) (limit widest : ℕ) → s.line_columns ≡ Some limit →
         AreAsWide widest (cells_of s source line) →
-        columns_of (pieces_of (text_of_line s labels line (cells_of s source line) pieces))
+        columns_of (glyphs_of (text_of_line s labels line (cells_of s source line) pieces))
         ≤ most_columns limit (length (one_line line labels)) widest }
 {}
 
@@ -171,8 +171,8 @@ pub fn texts_hang()
 /// same columns, and all of them are plain.
 pub fn rows_fade()
     ensures same { (s : SnippetSettings) (source : Source) (labels : List Label) (answers : Answers) →
-        option_map (map pieces_of) (snippet_rows (colourless s) source labels (unhighlighted_answers answers))
-        ≡ option_map (map pieces_of) (snippet_rows s source labels answers) }
+        option_map (map glyphs_of) (snippet_rows (colourless s) source labels (unhighlighted_answers answers))
+        ≡ option_map (map glyphs_of) (snippet_rows s source labels answers) }
     ensures plain { (s : SnippetSettings) (source : Source) (labels : List Label) (answers : Answers) →
         IfSome (snippet_rows (colourless s) source labels (unhighlighted_answers answers)) (AllByRecursion IsPlainRow) }
 {}

@@ -2,7 +2,7 @@
 use Rattle.std.proofs.Common.{ℕ, ◌≡◌, true, false, Bool, if◌then◌else◌, ◌==◌, List, [], ◌∷◌, ◌++◌, map, replicate, refl, Some, None, Option}
 use Rattle.std.specs.Option.{option_map}
 use Rattle.miette_style.specs.rules.Styles.{plain}
-use Rattle.miette_page.specs.rules.Rows.{pieces_of}
+use Rattle.miette_page.specs.rules.Rows.{glyphs_of}
 use Rattle.miette_lines.specs.rules.Cells.{Cell, cells_from}
 use Rattle.miette_lines.specs.rules.Labels.{DrawnLabel}
 use Rattle.miette_snippets.specs.rules.Marks.{Mark, marks}
@@ -31,7 +31,7 @@ abbrev stretches_in : ℕ → List ℕ → List DrawnLabel → Option (List (Boo
 stretches_in limit codes labels = option_map (map (λ (s : Stretch). (is_kept s, columns_in s.cells))) (cut limit codes labels)
 
 abbrev codes_in : ℕ → List ℕ → List DrawnLabel → List ℕ
-codes_in limit codes labels = map (λ p. p.code) (pieces_of (shown_runs (cut limit codes labels) [] (line codes)))
+codes_in limit codes labels = map (λ p. p.code) (glyphs_of (shown_runs (cut limit codes labels) [] (line codes)))
 
 abbrev marks_in : ℕ → List ℕ → List DrawnLabel → List (ℕ × ℕ × ℕ)
 marks_in limit codes labels =

@@ -2,7 +2,7 @@
 use Rattle.miette_page.specs.views.Printouts.{Printout, ◌⊕◌}
 use Rattle.std.proofs.Common.{ℕ, zero, suc, Bool, true, ◌<◌, ◌≡◌, arith, List, [], ◌∷◌, ◌++◌, map, replicate, refl, sym, ap, ◌∙◌, append_assoc, append-nil}
 use Rattle.miette_style.specs.declared.style.Style.{Style}
-use Rattle.miette_page.specs.rules.Rows.{Row, code_piece, styled_run}
+use Rattle.miette_page.specs.rules.Rows.{Row, glyph_of, styled_run}
 use Rattle.miette_style.specs.rules.Styles.{plain}
 use Rattle.miette_snippets.specs.rules.Drawing.{blank}
 use Rattle.std.specs.Prelude.{chars}
@@ -14,11 +14,11 @@ use Rattle.std.proofs.lemmas.Str.Ascii.{IsAscii-from_all}
 use Rattle.miette_page.specs.views.Tokens.{Token, begins, row_end, row_tokens, run_tokens, rows_tokens, styled_tokens, text_tokens}
 use Rattle.miette_page.proofs.Paging.{told_append, put_append}
 
-pub codes_drawn : (w : ℕ → ℕ) (text : List ℕ) → map (λ p. p.code) (map (code_piece w) text) ≡ text
+pub codes_drawn : (w : ℕ → ℕ) (text : List ℕ) → map (λ p. p.code) (map (glyph_of w) text) ≡ text
 codes_drawn w [] = refl
 codes_drawn w (c ∷ text) = ap (λ r. c ∷ r) (codes_drawn w text)
 
-codes_blank : (w : ℕ → ℕ) (many : ℕ) → map (λ p. p.code) (replicate many (code_piece w 32)) ≡ replicate many 32
+codes_blank : (w : ℕ → ℕ) (many : ℕ) → map (λ p. p.code) (replicate many (glyph_of w 32)) ≡ replicate many 32
 codes_blank w zero = refl
 codes_blank w (suc many) = ap (λ r. 32 ∷ r) (codes_blank w many)
 

@@ -14,7 +14,7 @@ use Rattle.miette_lines.specs.rules.Groups.{AreAccepted, in_order, lines_of_grou
 use Rattle.miette_lines.specs.rules.Labels.{DrawnLabel, multi_line, one_line, some_shows_end}
 use Rattle.miette_snippets.specs.rules.SnippetLayout as layout
 use Rattle.miette_snippets.specs.rules.SnippetLayout.{body_rows, cells_of, line_cut, line_marks, settings_around}
-use Rattle.miette_page.specs.rules.Rows.{Row, columns_of, pieces_of}
+use Rattle.miette_page.specs.rules.Rows.{Row, columns_of, glyphs_of}
 use Rattle.miette_lines.specs.rules.Cells.{Cell}
 use Rattle.miette_snippets.specs.rules.CutLines.{Stretch, ends, is_near}
 use Rattle.miette_snippet_laws.specs.laws.Cuts.{AreAsWide, AreStretches, Fits, by_nearness, by_stretch}
@@ -151,9 +151,9 @@ pub record IsCutExactly (s : Settings) (source : Source) (labels : List Label) (
       ≡ by_nearness (is_near limit (ends (line_marks (line_of source k) (cells_under s source k)
       (labels_under s source labels k)))) false (cells_under s source k)
   pub parted : AreStretches cut
-  pub printed : (pieces : List Highlight) → pieces_of (text_shown s source labels k pieces) ≡ pieces_shown cut
+  pub printed : (pieces : List Highlight) → glyphs_of (text_shown s source labels k pieces) ≡ pieces_shown cut
   pub narrow : (pieces : List Highlight) (widest : ℕ) → AreAsWide widest (cells_under s source k) →
-      columns_of (pieces_of (text_shown s source labels k pieces))
+      columns_of (glyphs_of (text_shown s source labels k pieces))
       ≤ most_columns limit (length (labels_under s source labels k)) widest
 
 -- each line of a diagnostic's source that is cut

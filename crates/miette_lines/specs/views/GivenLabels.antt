@@ -3,7 +3,7 @@ use Rattle.std.specs.Prelude.{ℕ, false, List, Option, None, slice_get, unwrap_
 use Rattle.std.specs.Option.{option_map_or}
 use Rattle.unicode_width.specs.Width.{char_width}
 use Rattle.miette_protocol.specs.views.Meaning.{Label}
-use Rattle.miette_lines.specs.declared.sweep.Placed.{Placed}
+use Rattle.miette_lines.specs.declared.sweep.PlacedLabel.{PlacedLabel}
 use Rattle.miette_lines.specs.rules.Labels.{DrawnLabel, parts_of}
 
 -- the columns of a character; 0 where it has none
@@ -15,7 +15,7 @@ abbrev pub text_at : List Label → ℕ → Option (List ℕ)
 text_at labels i = option_map_or (λ label. label.text) (slice_get labels i) None
 
 -- a label that a program has placed, with the text that it has among these labels
-abbrev pub drawn_of : List Label → Placed → DrawnLabel
+abbrev pub drawn_of : List Label → PlacedLabel → DrawnLabel
 drawn_of labels p = record {
   start = p.start;
   after = p.after;

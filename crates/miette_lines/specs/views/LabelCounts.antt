@@ -2,10 +2,10 @@
 use Rattle.std.specs.Prelude.{ℕ, max, List, [], ◌∷◌, length}
 use Rattle.std.specs.List.{filter}
 use Rattle.miette_newlines.specs.rules.Lines.{Line}
-use Rattle.miette_lines.specs.declared.sweep.Placed.{Placed}
+use Rattle.miette_lines.specs.declared.sweep.PlacedLabel.{PlacedLabel}
 use Rattle.miette_lines.specs.views.Sweeping.{is_multi}
 
 -- the greatest number of labels of several lines on one of the lines
-abbrev pub most_multi : List Placed → List Line → ℕ
+abbrev pub most_multi : List PlacedLabel → List Line → ℕ
 most_multi labels [] = 0
 most_multi labels (line ∷ lines) = max (length (filter (is_multi line) labels)) (most_multi labels lines)

@@ -3,7 +3,7 @@ use Rattle.std.specs.Prelude.{ℕ, ◌+◌, ◌-◌, min, max, List, [], ◌∷�
 use Rattle.std.specs.Prelude.{if◌then◌else◌}
 use Rattle.miette_style.specs.declared.style.Style.{Style}
 use Rattle.miette_lines.specs.declared.reading.ReadLabel.{ReadLabel}
-use Rattle.miette_lines.specs.declared.sweep.Placed.{Placed}
+use Rattle.miette_lines.specs.declared.sweep.PlacedLabel.{PlacedLabel}
 use Rattle.miette_lines.specs.rules.Contexts.{end_of_span}
 use Rattle.miette_lines.specs.rules.Labels.{style_at}
 
@@ -27,7 +27,7 @@ is_told None offset = false
 is_told (Some end) offset = offset == end
 
 -- a label at the told end stands behind the text of the last line, at the byte before
-abbrev pub placed_one : Option ℕ → List Style → ℕ → ReadLabel → Placed
+abbrev pub placed_one : Option ℕ → List Style → ℕ → ReadLabel → PlacedLabel
 placed_one end styles i read = record {
   start = if is_told end read.span.offset then read.span.offset - 1 else read.span.offset;
   after = if is_told end read.span.offset then read.span.offset - 1 else end_drawn read;
@@ -36,6 +36,6 @@ placed_one end styles i read = record {
   behind = is_told end read.span.offset;
 }
 
-abbrev pub placed_from : Option ℕ → List Style → ℕ → List ReadLabel → List Placed
+abbrev pub placed_from : Option ℕ → List Style → ℕ → List ReadLabel → List PlacedLabel
 placed_from end styles i [] = []
 placed_from end styles i (read ∷ reads) = placed_one end styles i read ∷ placed_from end styles (i + 1) reads

@@ -1,7 +1,7 @@
 -- What a program gives, in the words of the definitions.
 use Rattle.std.specs.Prelude.{List, map}
 use Rattle.miette_protocol.specs.views.Meaning.{Label}
-use Rattle.miette_lines.specs.declared.sweep.Placed.{Placed}
+use Rattle.miette_lines.specs.declared.sweep.PlacedLabel.{PlacedLabel}
 use Rattle.miette_lines.specs.rules.Cells.{characters}
 use Rattle.miette_lines.specs.views.GivenLabels.{text_at}
 use Rattle.miette_newlines.specs.views.Walking.{line_of_text}
@@ -9,10 +9,10 @@ use Rattle.miette_narrated.specs.declared.snippet_line.ShownLine.{ShownLine}
 use Rattle.miette_narrated.specs.rules.Labels.{LabelRange, SnippetLine}
 
 -- a label that the layout has placed, with the text that it has among these labels
-abbrev pub range_of : List Label → Placed → LabelRange
+abbrev pub range_of : List Label → PlacedLabel → LabelRange
 range_of labels p = record { start = p.start; after = p.after; text = text_at labels p.index }
 
-abbrev pub ranges_of : List Label → List Placed → List LabelRange
+abbrev pub ranges_of : List Label → List PlacedLabel → List LabelRange
 ranges_of labels ps = map (range_of labels) ps
 
 -- a line as a program shows it

@@ -3,33 +3,33 @@ use Rattle.std.specs.Prelude.{ℕ, ◌+◌, ◌≡◌, ◌==◌, map, List, [], 
 use Rattle.std.specs.List.{filter}
 use Rattle.std.specs.List.Sorted.{IsNonDecreasingBy}
 use Rattle.miette_newlines.specs.rules.Lines.{Line}
-use Rattle.miette_lines.specs.declared.sweep.Placed.{Placed}
+use Rattle.miette_lines.specs.declared.sweep.PlacedLabel.{PlacedLabel}
 use Rattle.miette_narrated.specs.declared.label_order.LabelOrder.{LabelOrder}
 use Rattle.miette_narrated.specs.declared.label_order.RankedLabel.{RankedLabel}
 use Rattle.miette_narrated.specs.steps.Sweeping.{AreOrdered}
 
 -- whether a label ends within a line's text
-abbrev pub ends_within : Line → Placed → Bool
+abbrev pub ends_within : Line → PlacedLabel → Bool
 ends_within line p = nat_le line.start p.after && nat_le p.after line.text_end
 
 -- whether it begins before the line and ends there
-abbrev pub is_ended : Line → Placed → Bool
+abbrev pub is_ended : Line → PlacedLabel → Bool
 is_ended line p = nat_lt p.start line.start && ends_within line p
 
 -- whether it begins within the line's text
-abbrev pub is_begun : Line → Placed → Bool
+abbrev pub is_begun : Line → PlacedLabel → Bool
 is_begun line p = nat_le line.start p.start && nat_le p.start line.text_end
 
 -- labels with their ranks, from this one on
-abbrev pub ranked_labels : ℕ → List Placed → List RankedLabel
+abbrev pub ranked_labels : ℕ → List PlacedLabel → List RankedLabel
 ranked_labels rank [] = []
 ranked_labels rank (p ∷ ps) = record { rank = rank; label = p } ∷ ranked_labels (rank + 1) ps
 
-abbrev pub labels_of : List RankedLabel → List Placed
+abbrev pub labels_of : List RankedLabel → List PlacedLabel
 labels_of ends = map (λ end. end.label) ends
 
 -- the same labels, by where they end
-pub record AreEnds (labels : List Placed) (ends : List RankedLabel) : Type 0 where
+pub record AreEnds (labels : List PlacedLabel) (ends : List RankedLabel) : Type 0 where
   pub rising : IsNonDecreasingBy (λ end. end.label.after) ends
   pub same : (rank : ℕ) → filter (λ end. end.rank == rank) ends
       ≡ filter (λ end. end.rank == rank) (ranked_labels 0 labels)

@@ -1,24 +1,24 @@
 -- What a sweep over labels by offset knows at a line.
 use Rattle.std.specs.Prelude.{ℕ, ◌≤◌, ◌≡◌, ⊤, List, [], ◌∷◌, take, max, Bool, nat_le, if◌then◌else◌}
 use Rattle.std.specs.List.{filter}
-use Rattle.miette_lines.specs.declared.sweep.Placed.{Placed}
+use Rattle.miette_lines.specs.declared.sweep.PlacedLabel.{PlacedLabel}
 use Rattle.miette_narrated.specs.rules.Labels.{SnippetLine}
 
 -- whether a label reaches a place
-abbrev pub reaches : ℕ → Placed → Bool
+abbrev pub reaches : ℕ → PlacedLabel → Bool
 reaches place p = nat_le place p.after
 
 -- so many labels have come, and these of them reach the place
-abbrev pub IsAt : List Placed → ℕ → ℕ → List Placed → Type 0
+abbrev pub IsAt : List PlacedLabel → ℕ → ℕ → List PlacedLabel → Type 0
 IsAt labels place next running = running ≡ filter (reaches place) (take next labels)
 
 -- the first of some labels begins at a place or behind it
-abbrev pub BeginsFrom : ℕ → List Placed → Type 0
+abbrev pub BeginsFrom : ℕ → List PlacedLabel → Type 0
 BeginsFrom place [] = ⊤
 BeginsFrom place (p ∷ ps) = place ≤ p.start
 
 -- labels by offset, none of which ends before it begins
-abbrev pub AreOrdered : List Placed → Type 0
+abbrev pub AreOrdered : List PlacedLabel → Type 0
 AreOrdered [] = ⊤
 AreOrdered (p ∷ ps) = (p.start ≤ p.after) × BeginsFrom p.start ps × AreOrdered ps
 

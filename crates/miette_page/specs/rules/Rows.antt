@@ -5,47 +5,47 @@ use Rattle.miette_style.specs.declared.style.Style.{Style}
 use Rattle.miette_style.specs.rules.Styles.{plain}
 
 -- a character, and how many columns it takes
-pub record Piece : Type 0 where
+pub record Glyph : Type 0 where
   pub code : ℕ
   pub columns : ℕ
 
 -- characters that are printed in one style, with one beginning and one end
 pub record Run : Type 0 where
   pub style : Style
-  pub pieces : List Piece
+  pub glyphs : List Glyph
 
 abbrev pub Row : Type 0
 Row = List Run
 
 -- a row's characters
-abbrev pub pieces_of : Row → List Piece
-pieces_of [] = []
-pieces_of (run ∷ row) = run.pieces ++ pieces_of row
+abbrev pub glyphs_of : Row → List Glyph
+glyphs_of [] = []
+glyphs_of (run ∷ row) = run.glyphs ++ glyphs_of row
 
 -- the columns of some characters
-abbrev pub columns_of : List Piece → ℕ
+abbrev pub columns_of : List Glyph → ℕ
 columns_of [] = 0
-columns_of (p ∷ pieces) = p.columns + columns_of pieces
+columns_of (g ∷ glyphs) = g.columns + columns_of glyphs
 
 -- the character that begins at a column; one without width has no place
-abbrev pub code_at : List Piece → ℕ → Option ℕ
+abbrev pub code_at : List Glyph → ℕ → Option ℕ
 code_at [] column = None
-code_at (p ∷ pieces) column =
-    if p.columns == 0 then code_at pieces column
-    else if column == 0 then Some p.code
-    else if nat_lt column p.columns then None
-    else code_at pieces (column - p.columns)
+code_at (g ∷ glyphs) column =
+    if g.columns == 0 then code_at glyphs column
+    else if column == 0 then Some g.code
+    else if nat_lt column g.columns then None
+    else code_at glyphs (column - g.columns)
 
 -- a text begins at a column and goes on to the end
-abbrev pub Begins : List Piece → ℕ → List Piece → Type 0
-Begins pieces column text = (front : List Piece) × (pieces ≡ front ++ text) × (columns_of front ≡ column)
+abbrev pub Begins : List Glyph → ℕ → List Glyph → Type 0
+Begins glyphs column text = (front : List Glyph) × (glyphs ≡ front ++ text) × (columns_of front ≡ column)
 
-abbrev pub code_piece : (ℕ → ℕ) → ℕ → Piece
-code_piece width code = record { code = code; columns = width code }
+abbrev pub glyph_of : (ℕ → ℕ) → ℕ → Glyph
+glyph_of width code = record { code = code; columns = width code }
 
 -- a text in a style
 abbrev pub styled_run : (ℕ → ℕ) → Style → List ℕ → Run
-styled_run width style text = record { style = style; pieces = map (code_piece width) text }
+styled_run width style text = record { style = style; glyphs = map (glyph_of width) text }
 
 abbrev pub plain_run : (ℕ → ℕ) → List ℕ → Run
 plain_run width text = styled_run width plain text

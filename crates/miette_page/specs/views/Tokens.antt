@@ -14,7 +14,7 @@ abbrev pub text_tokens : List ℕ → List Token
 text_tokens codes = map (λ code. character code) codes
 
 abbrev pub run_tokens : Run → List Token
-run_tokens run = begins run.style ∷ text_tokens (map (λ p. p.code) run.pieces)
+run_tokens run = begins run.style ∷ text_tokens (map (λ p. p.code) run.glyphs)
 
 -- what a row tells, without its end
 abbrev pub row_tokens : Row → List Token

@@ -44,4 +44,4 @@ IsCleanLabel l = IfSome l.text IsCleanText
 
 -- no run of a row holds an escape
 abbrev pub IsCleanRow : Row → Type 0
-IsCleanRow row = AllByRecursion (λ run. IsClean (map (λ p. p.code) run.pieces)) row
+IsCleanRow row = AllByRecursion (λ run. IsClean (map (λ p. p.code) run.glyphs)) row

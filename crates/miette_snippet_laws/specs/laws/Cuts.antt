@@ -2,7 +2,7 @@
 use Rattle.std.specs.Prelude.{ℕ, ◌+◌, ◌*◌, ◌/◌, ◌<◌, ◌≤◌, ◌≢◌, List, [], ◌∷◌, ◌++◌, map, Bool, if◌then◌else◌}
 use Rattle.std.specs.Prelude.{Option, Some, None, ◌-◌}
 use Rattle.miette_lines.specs.rules.Cells.{Cell}
-use Rattle.miette_page.specs.rules.Rows.{Piece}
+use Rattle.miette_page.specs.rules.Rows.{Glyph}
 use Rattle.miette_snippets.specs.rules.CutLines.{Stretch, dots, is_kept, is_near_after}
 use Rattle.miette_snippets.specs.rules.PrintedCells.{printed_cells, cells_width}
 
@@ -32,9 +32,9 @@ pub record IsWithin (reach : ℕ) (cell : Cell) (column : ℕ) : Type 0 where
   pub behind : column ≤ own + reach
 
 -- what stretches print: those that are shown their cells, each other one three dots
-abbrev pub pieces_shown : List Stretch → List Piece
+abbrev pub pieces_shown : List Stretch → List Glyph
 pieces_shown [] = []
-pieces_shown (s ∷ later) = (if is_kept s then printed_cells s.cells else dots.pieces) ++ pieces_shown later
+pieces_shown (s ∷ later) = (if is_kept s then printed_cells s.cells else dots.glyphs) ++ pieces_shown later
 
 -- each of some cells has at most so many columns
 abbrev pub AreAsWide : ℕ → List Cell → Type 0

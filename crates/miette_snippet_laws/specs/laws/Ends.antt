@@ -2,7 +2,7 @@
 use Rattle.std.specs.Prelude.{ℕ, ◌≡◌, ◌≤◌, true, List, [], ◌∷◌, map, length, Bool, ◌&&◌}
 use Rattle.std.specs.List.{AllByRecursion}
 use Rattle.miette_newlines.specs.rules.Lines.{Line, lines_of}
-use Rattle.miette_page.specs.rules.Rows.{columns_of, pieces_of}
+use Rattle.miette_page.specs.rules.Rows.{columns_of, glyphs_of}
 use Rattle.miette_protocol.specs.views.Meaning.{Label}
 use Rattle.miette_lines.specs.rules.Answers.{Highlight}
 use Rattle.miette_lines.specs.rules.Cells.{Cell}
@@ -37,7 +37,7 @@ AreBehindText text labels =
 abbrev pub AreBehindShown : SnippetSettings → List DrawnLabel → Line → List Cell → List Highlight → Type 0
 AreBehindShown s labels line cells pieces =
     AllByRecursion (λ mark. mark.label.behind ≡ true →
-    columns_of (pieces_of (text_of_line s labels line cells pieces)) ≤ mark.from) (marks_of_line s labels line cells)
+    columns_of (glyphs_of (text_of_line s labels line cells pieces)) ≤ mark.from) (marks_of_line s labels line cells)
 
 -- the same settings, but for whether labels at the end are drawn
 abbrev pub with_ends : Bool → SnippetSettings → SnippetSettings

@@ -1,7 +1,7 @@
 -- What the rows of a line show at their columns, and what it means that a text hangs from its mark.
 use Rattle.std.specs.Prelude.{ℕ, ◌+◌, ◌<◌, ◌≡◌, ◌⊎◌, List, [], ◌∷◌, map, Some, ◌&&◌, if◌then◌else◌, nat_lt, nat_le}
 use Rattle.std.specs.List.{AllByRecursion}
-use Rattle.miette_page.specs.rules.Rows.{Piece, Row, pieces_of, code_piece, code_at, Begins}
+use Rattle.miette_page.specs.rules.Rows.{Glyph, Row, glyphs_of, glyph_of, code_at, Begins}
 use Rattle.miette_newlines.specs.rules.Lines.{Line}
 use Rattle.miette_lines.specs.rules.Cells.{Cell}
 use Rattle.miette_lines.specs.rules.Labels.{DrawnLabel, one_line}
@@ -17,10 +17,10 @@ use Rattle.miette_snippets.specs.rules.SnippetLayout.{line_rows, line_marks, lin
 use Rattle.miette_style.specs.rules.Themes.{Characters}
 
 -- what stands at a column of the mark row
-abbrev pub mark_at : (ℕ → ℕ) → Characters → List Mark → ℕ → Piece
-mark_at width t [] column = code_piece width 32
+abbrev pub mark_at : (ℕ → ℕ) → Characters → List Mark → ℕ → Glyph
+mark_at width t [] column = glyph_of width 32
 mark_at width t (mark ∷ marks) column =
-    if nat_le mark.from column && nat_lt column mark.until then code_piece width (mark_code t mark column)
+    if nat_le mark.from column && nat_lt column mark.until then glyph_of width (mark_code t mark column)
     else mark_at width t marks column
 
 -- where the last mark ends
@@ -30,18 +30,18 @@ marks_end reached (mark ∷ marks) = marks_end mark.until marks
 
 -- A text hangs from a column: going down, there is vbar in that column until there is lbot, and the text begins four
 -- columns on.
-abbrev pub HangsFrom : Characters → ℕ → List Piece → List (List Piece) → Type 0
+abbrev pub HangsFrom : Characters → ℕ → List Glyph → List (List Glyph) → Type 0
 HangsFrom t column part [] = ⊥
 HangsFrom t column part (row ∷ rows) =
     ((code_at row column ≡ Some t.lbot) × Begins row (column + 4) part)
     ⊎ ((code_at row column ≡ Some t.vbar) × HangsFrom t column part rows)
 
 -- the first part of the mark's text, if it has one, hangs from its anchor, with columns counted from this one on
-abbrev pub PartHangs : (ℕ → ℕ) → Characters → List (List Piece) → ℕ → List (List ℕ) → Type 0
+abbrev pub PartHangs : (ℕ → ℕ) → Characters → List (List Glyph) → ℕ → List (List ℕ) → Type 0
 PartHangs width t rows column [] = Unit {0}
-PartHangs width t rows column (part ∷ parts) = HangsFrom t column (map (code_piece width) part) rows
+PartHangs width t rows column (part ∷ parts) = HangsFrom t column (map (glyph_of width) part) rows
 
-abbrev pub Hangs : (ℕ → ℕ) → Characters → List (List Piece) → ℕ → Mark → Type 0
+abbrev pub Hangs : (ℕ → ℕ) → Characters → List (List Glyph) → ℕ → Mark → Type 0
 Hangs width t rows start mark = PartHangs width t rows (start + mark.anchor) mark.label.parts
 
 -- the marks of a line, by the columns of its row
@@ -68,8 +68,8 @@ abbrev pub AreMarked : SnippetSettings → ℕ → List Mark → List Row → Ty
 AreMarked s start marks [] = ⊥
 AreMarked s start marks (row ∷ rows) =
     ((column : ℕ) → column < marks_end 0 marks →
-    code_at (pieces_of row) (start + column) ≡ Some (mark_at s.width s.characters marks column).code)
-    × AllByRecursion (Hangs s.width s.characters (map pieces_of rows) start) marks
+    code_at (glyphs_of row) (start + column) ≡ Some (mark_at s.width s.characters marks column).code)
+    × AllByRecursion (Hangs s.width s.characters (map glyphs_of rows) start) marks
 
 abbrev pub ShowMarks : SnippetSettings → ℕ → List Mark → List Row → Type 0
 ShowMarks s start [] rows = Unit {0}
@@ -78,7 +78,7 @@ ShowMarks s start (mark ∷ marks) rows = Below (AreMarked s start (mark ∷ mar
 -- the text of a number row begins at a column
 abbrev pub HasText : ℕ → Row → List Row → Type 0
 HasText start text [] = ⊥
-HasText start text (row ∷ rows) = Begins (pieces_of row) start (pieces_of text)
+HasText start text (row ∷ rows) = Begins (glyphs_of row) start (glyphs_of text)
 
 -- The rows of lines, numbered from here on: in each line's rows the text begins at one column, and the texts of the
 -- labels that lie on it alone hang from their marks.

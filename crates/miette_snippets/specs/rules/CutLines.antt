@@ -74,7 +74,7 @@ cut_line (Some limit) marks cells =
 
 -- three dots stand for a stretch that isn't shown
 abbrev pub dots : Run
-dots = record { style = plain; pieces = replicate 3 (record { code = 46; columns = 1 }) }
+dots = record { style = plain; glyphs = replicate 3 (record { code = 46; columns = 1 }) }
 
 -- how many bytes cells have in a text
 abbrev pub bytes_in : List Cell → ℕ

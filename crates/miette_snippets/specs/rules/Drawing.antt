@@ -1,7 +1,7 @@
 -- The mark row of a line and the rows of texts under it, and what it means that a text hangs from its mark.
 use Rattle.std.specs.Prelude.{ℕ, ◌+◌, ◌-◌, ◌<◌, ◌≤◌, ◌≡◌, List, [], ◌∷◌, ◌++◌, map, replicate, if◌then◌else◌, ◌==◌}
 use Rattle.std.specs.List.{range_with_len}
-use Rattle.miette_page.specs.rules.Rows.{Run, Row, code_piece, styled_run}
+use Rattle.miette_page.specs.rules.Rows.{Run, Row, glyph_of, styled_run}
 use Rattle.miette_style.specs.rules.Styles.{plain}
 use Rattle.miette_lines.specs.rules.Labels.{is_empty}
 use Rattle.miette_snippets.specs.rules.Marks.{Mark}
@@ -24,7 +24,7 @@ pub record IsNarrow (width : ℕ → ℕ) (t : Characters) : Type 0 where
   pub digits : (d : ℕ) → 48 ≤ d → d < 58 → width d ≡ 1
 
 abbrev pub blank : (ℕ → ℕ) → ℕ → Run
-blank width many = record { style = plain; pieces = replicate many (code_piece width 32) }
+blank width many = record { style = plain; glyphs = replicate many (glyph_of width 32) }
 
 abbrev pub code_with_parts : Characters → List (List ℕ) → ℕ
 code_with_parts t [] = t.underline
@@ -39,7 +39,7 @@ mark_code t mark column =
 abbrev pub mark_run : (ℕ → ℕ) → Characters → Mark → Run
 mark_run width t mark = record {
   style = mark.label.style;
-  pieces = map (λ column. code_piece width (mark_code t mark column))
+  glyphs = map (λ column. glyph_of width (mark_code t mark column))
       (range_with_len mark.from (mark.until - mark.from));
 }
 

@@ -1,6 +1,6 @@
 -- How the characters of a line's text print, and at which columns.
 use Rattle.std.specs.Prelude.{ℕ, ◌+◌, ◌-◌, List, [], ◌∷◌, ◌++◌, replicate, if◌then◌else◌, ◌==◌, nat_lt, nat_le}
-use Rattle.miette_page.specs.rules.Rows.{Piece, Run}
+use Rattle.miette_page.specs.rules.Rows.{Glyph, Run}
 use Rattle.miette_style.specs.rules.Styles.{plain}
 use Rattle.miette_lines.specs.rules.Answers.{Highlight}
 use Rattle.miette_lines.specs.rules.Cells.{Cell}
@@ -18,14 +18,14 @@ last_column (cell ∷ cells) text_end text_width offset =
     if nat_le offset cell.start then cell.from else last_column cells text_end text_width offset
 
 -- how a cell prints: a tab as spaces
-abbrev pub printed_pieces : Cell → List Piece
-printed_pieces cell =
+abbrev pub printed_glyphs : Cell → List Glyph
+printed_glyphs cell =
     if cell.code == 9 then replicate (cell.until - cell.from) (record { code = 32; columns = 1 })
     else record { code = cell.code; columns = cell.until - cell.from } ∷ []
 
-abbrev pub printed_cells : List Cell → List Piece
+abbrev pub printed_cells : List Cell → List Glyph
 printed_cells [] = []
-printed_cells (cell ∷ cells) = printed_pieces cell ++ printed_cells cells
+printed_cells (cell ∷ cells) = printed_glyphs cell ++ printed_cells cells
 
 -- the columns of a line
 abbrev pub cells_width : ℕ → List Cell → ℕ
@@ -48,6 +48,6 @@ cells_beyond bytes (cell ∷ cells) = if bytes == 0 then cell ∷ cells
 
 -- a line in a highlighter's pieces, each a count of bytes and a style; what they leave is plain
 abbrev pub line_runs : List Highlight → List Cell → List Run
-line_runs [] cells = record { style = plain; pieces = printed_cells cells } ∷ []
-line_runs (h ∷ hs) cells = record { style = h.style; pieces = printed_cells (cells_within h.bytes cells) }
+line_runs [] cells = record { style = plain; glyphs = printed_cells cells } ∷ []
+line_runs (h ∷ hs) cells = record { style = h.style; glyphs = printed_cells (cells_within h.bytes cells) }
     ∷ line_runs hs (cells_beyond h.bytes cells)

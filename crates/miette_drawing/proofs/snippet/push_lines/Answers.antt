@@ -1,5 +1,5 @@
 use Rattle.std.proofs.Common.{ℕ, ◌≡◌, ◌+◌, ◌≤◌, arith, length, map, refl, sym, subst, ◌∙◌, Bool, List}
-use Rattle.miette_lines.specs.declared.sweep.Placed.{Placed}
+use Rattle.miette_lines.specs.declared.sweep.PlacedLabel.{PlacedLabel}
 use Rattle.miette_snippets.specs.views.ThemeSettings.{settings_of}
 use Rattle.miette_lines.specs.views.GivenLabels.{drawn_of}
 use Rattle.miette_snippets.specs.rules.Highlighting.{leaves_plain, decoded_text, ArePieces, follows, highlight_of}
@@ -34,7 +34,7 @@ push_line_or_break-requires g c =
 pub loop-at-preserved : goal.loop-at-preserved
 loop-at-preserved g c =
     let body = c.args.body.now in
-    let placed : List Placed = c.args.drawing.now.placed.now in
+    let placed : List PlacedLabel = c.args.drawing.now.placed.now in
     let blank : Bool = leaves_plain g.H.Highlighter.is_blank c.args.highlighter.now in
     let begun : List Call → Type 0 = follows g.H.Highlighter.may_follow c.args.highlighter.now in
     let was : List Call → Type 0 = follows g.H.Highlighter.may_follow c.loop-at.highlighter in

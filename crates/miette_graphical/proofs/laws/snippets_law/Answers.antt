@@ -6,7 +6,7 @@ use Rattle.miette_lines.specs.rules.Contexts.{contents}
 use Rattle.miette_lines.specs.rules.Groups.{in_order}
 use Rattle.miette_lines.specs.rules.Cells.{Cell}
 use Rattle.miette_lines.proofs.Numbers.{by_cases}
-use Rattle.miette_page.specs.rules.Rows.{pieces_of}
+use Rattle.miette_page.specs.rules.Rows.{glyphs_of}
 use Rattle.miette_snippets.specs.rules.CutLines.{Stretch, cut_line, ends, is_near, shown_runs, stretches}
 use Rattle.miette_snippets.specs.rules.Marks.{Mark}
 use Rattle.miette_snippets.specs.rules.PrintedCells.{cells_width}
@@ -83,7 +83,7 @@ returns-clause-cuts c = λ s t. each (CutsAreExact s) (λ p.
     let whole : cut ≡ stretches (is_near limit (ends own)) false cells = cut_whole lay.line_columns limit own cells cut some is in record {
       cells = ap by_stretch whole ∙ c.cut_lines_are_parted.ensures.cells (is_near limit (ends own)) cells;
       parted = subst AreStretches (sym whole) (c.cut_lines_are_parted.ensures.parted (is_near limit (ends own)) cells);
-      printed = λ pieces. ap (λ o. pieces_of (shown_runs o pieces cells)) is ∙ c.cut_lines_are_parted.ensures.printed pieces cut;
+      printed = λ pieces. ap (λ o. glyphs_of (shown_runs o pieces cells)) is ∙ c.cut_lines_are_parted.ensures.printed pieces cut;
       narrow = λ pieces widest wide. c.cut_rows_are_narrow.ensures lay (drawn_labels s source labels) source.bytes (line_of source k) pieces limit widest some wide;
     }) p.source) (diagnostics_of s t)
 

@@ -1,5 +1,5 @@
 use Rattle.std.proofs.Common.{ℕ, List, ap, ap₂, sym, ◌∙◌, ◌++◌, append_assoc, string_bytes}
-use Rattle.miette_lines.specs.declared.sweep.Placed.{Placed}
+use Rattle.miette_lines.specs.declared.sweep.PlacedLabel.{PlacedLabel}
 use Rattle.miette_narrated.specs.steps.Ends.{labels_of}
 use Rattle.miette_narrated.specs.rules.Labels.{label_rows}
 use Rattle.miette_narrated.specs.steps.Conversions.{ranges_of, shown_line}
@@ -11,7 +11,7 @@ returns c =
     let it = shown_line c.args.it.now in
     let order = c.args.order.now in
     let out = string_bytes c.args.out.now in
-    let rows : List Placed → List ℕ = λ ps. label_rows it (ranges_of order.labels.now ps) in
+    let rows : List PlacedLabel → List ℕ = λ ps. label_rows it (ranges_of order.labels.now ps) in
     c.in_ok-push_ended_and_begun.ensures
     ∙ ap₂ (λ a b. (out ++ rows a) ++ rows b) (ap labels_of c.deref.ensures.value ∙ c.in_ok-ended.ensures) c.begun_on-begun.ensures
     ∙ append_assoc out _ _ ∙ ap (λ r. out ++ r) (sym (rows_apart it order.labels.now order.placed.now c.requires.inner c.requires.order.ordered))

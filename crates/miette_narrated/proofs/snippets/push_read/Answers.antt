@@ -2,7 +2,7 @@ use Rattle.std.proofs.Common.{ap, ◌∙◌, List, string_bytes, subst, sym}
 use Rattle.std.specs.Option.{option_map}
 use Rattle.miette_lines.specs.rules.Around.{group_context}
 use Rattle.miette_lines.specs.rules.Groups.{in_order}
-use Rattle.miette_lines.specs.declared.sweep.Placed.{Placed}
+use Rattle.miette_lines.specs.declared.sweep.PlacedLabel.{PlacedLabel}
 use Rattle.miette_lines.specs.views.Reads.{AreGroups}
 use Rattle.miette_narrated.specs.steps.Ends.{AreEnds}
 use Rattle.miette_narrated.specs.declared.label_order.RankedLabel.{RankedLabel}
@@ -14,7 +14,7 @@ pub push_snippet-requires-clause-order : goal.push_snippet-requires-clause-order
 push_snippet-requires-clause-order g c = record {
   ordered = placed_ordered c.args.context (g.S.SourceCode.source c.args.source.now) c.args.labels.now c.args.reads.now c.deref-2.result.now c.requires.each c.requires.order (c.deref-2.ensures.value ∙ c.in_ok-placed.ensures);
   ended = subst (λ (es : List RankedLabel). AreEnds c.deref-2.result.now es) (sym c.deref-3.ensures.value)
-      (subst (λ (ps : List Placed). AreEnds ps c.in_ok-ends.ends.items) (c.deref.ensures.value ∙ sym c.deref-2.ensures.value) c.in_ok-ends.ensures);
+      (subst (λ (ps : List PlacedLabel). AreEnds ps c.in_ok-ends.ends.items) (c.deref.ensures.value ∙ sym c.deref-2.ensures.value) c.in_ok-ends.ensures);
 }
 
 pub loop-group-preserved : goal.loop-group-preserved
