@@ -34,8 +34,8 @@ pub record SnippetLine : Type 0 where
   pub data_end : ℕ
   pub characters : List Character
 
--- Where an offset is: on the line or behind it; and before the text's end or there. A label begins on the line or behind
--- it where its start reaches it.
+-- Where an offset is: on the line or behind it; and before the text's end or there. A label begins on the line or
+-- behind it where its start reaches it.
 abbrev pub reaches_line : SnippetLine → ℕ → Bool
 reaches_line it at = nat_le it.line.start at
 
