@@ -2,7 +2,6 @@
 
 ghost use Rattle.std.specs.Prelude.{◌≡◌, ◌++◌, ◌+◌, ◌^◌, ◌<◌, ◌∷◌, [], map, length, IfOk, OnOk, if◌then◌else◌};
 ghost use Rattle.std.specs.List.{All};
-ghost use Rattle.miette_snippets.specs.rules.PrintedCells.{line_runs};
 ghost use Rattle.miette_snippets.specs.rules.Marks.{marks};
 ghost use Rattle.miette_snippets.specs.rules.Drawing.{marked_rows};
 ghost use Rattle.miette_snippets.specs.rules.Frames.{number_start};
@@ -12,29 +11,24 @@ ghost use Rattle.miette_page.specs.views.Printouts.{◌⊕◌};
 ghost use Rattle.miette_page.specs.views.Tokens.{row_tokens, rows_tokens};
 ghost use Rattle.miette_snippets.specs.rules.Highlighting.{highlight_of};
 ghost use Rattle.std.specs.Option.{option_map};
-ghost use Rattle.miette_drawing.specs.steps.Cut.{made_runs};
-ghost use Rattle.miette_drawing.specs.steps.Marks.{mark_of, HasAnchor};
+ghost use Rattle.miette_cuts.specs.views.Cuts.{made_runs};
+ghost use Rattle.miette_cuts.specs.views.LineTexts.{text_cells};
+ghost use Rattle.miette_cuts.specs.views.Marks.{mark_of, HasAnchor};
 ghost use Rattle.miette_drawing.specs.steps.Sheets.{settings, multi_labels, before_marks, number_row, shown_cells};
 ghost use Rattle.miette_drawing.specs.steps.Sheets.{labels_alone};
 ghost use Rattle.miette_newlines.specs.views.Walking.{line_of_text};
 
-use crate::cells::{push_cells, push_cells_within};
 use crate::closings::push_closings;
-use crate::cut_text::push_cut;
-use crate::cutting::{cut_around, marks_shown};
 use crate::gutters::{push_break_gutter, push_number_gutter};
-use crate::marks::{Mark, marks_on};
-use crate::plain_cut::push_plain_cut;
 use crate::sheet::{Outcome, Sheet, ShownLine};
-use crate::stretch::Cut;
 use crate::strokes::push_marks;
-use crate::tabs::{all_tabbed, push_tabbed, text_without_tabs};
 use crate::texts::{push_before_marks, push_texts};
-use miette_lines::cells::Walk;
-use miette_lines::plain::all_printable;
+use miette_cuts::cutting::{cut_around, marks_shown};
+use miette_cuts::line_text::{LineText, push_shown_text};
+use miette_cuts::marks::{Mark, marks_on};
+use miette_cuts::stretch::Cut;
 use miette_page::canvas::Canvas;
 use miette_page::page::{PLAIN, Page};
-use miette_style::style::Style;
 use std::alloc::{AllocError, Global};
 
 // The number of a line: ` 12 │ `.
@@ -50,86 +44,22 @@ fn push_number_start<O: Canvas>(page: &mut Page<O>, sheet: &Sheet, number: usize
     Ok(())
 }
 
-// The line's text in a highlighter's pieces, each a length in bytes and a style, and plain behind them.
-fn push_line_text<O: Canvas>(
-    page: &mut Page<O>,
-    walk: &mut Walk,
-    pieces: &[(usize, Style)],
-) -> Outcome
-    ensures { OnOk result (page.new ≡ page.old ⊕ row_tokens (line_runs (map highlight_of pieces.now) walk.old)) }
-{
-    for piece in pieces {
-        page.begin(piece.1)?;
-        push_cells_within(page, walk, piece.0)?;
-    }
-    page.begin(PLAIN)?;
-    push_cells(page, walk)?;
-    Ok(())
-}
-
-// The line's text: in no highlighter's pieces as it is where it's UTF-8 without tabs, and between its tabs where it's
-// printable ASCII; else character by character.
-fn push_text<O: Canvas>(page: &mut Page<O>, sheet: &Sheet, shown: &ShownLine) -> Outcome
-    requires { sheet.now.line.start + length shown.now.text.now < 2 ^ 64 }
-    ensures { OnOk result (page.new ≡ page.old
-        ⊕ row_tokens (line_runs (map highlight_of shown.now.pieces.now) (shown_cells sheet.now shown.now))) }
-{
-    if shown.pieces.is_empty() {
-        if let Some(text) = text_without_tabs(shown.text) {
-            page.begin(PLAIN)?;
-            page.push_str(text)?;
-            return Ok(());
-        }
-        if all_tabbed(shown.text) {
-            page.begin(PLAIN)?;
-            push_tabbed(page, shown.text, sheet.options.tab_width)?;
-            return Ok(());
-        }
-    }
-    let mut walk = Walk::new(shown.text, sheet.line.start, sheet.options.tab_width);
-    push_line_text(page, &mut walk, shown.pieces)?;
-    Ok(())
-}
-
-// What is shown of the line's text: its stretches, or all of it where it isn't cut.
-fn push_shown_text<O: Canvas>(
-    page: &mut Page<O>,
-    sheet: &Sheet,
-    shown: &ShownLine,
-    cut: &Cut,
-) -> Outcome
-    requires { sheet.now.line.start + length shown.now.text.now < 2 ^ 64 }
-    ensures { OnOk result (page.new ≡ page.old ⊕ row_tokens (made_runs (option_map (λ made. made.items) cut.now)
-        (map highlight_of shown.now.pieces.now) (shown_cells sheet.now shown.now))) }
-{
-    match cut {
-        Some(cut) => {
-            if shown.pieces.is_empty() && all_printable(shown.text) {
-                push_plain_cut(page, shown.text, cut)?;
-                return Ok(());
-            }
-            let mut walk = Walk::new(shown.text, sheet.line.start, sheet.options.tab_width);
-            push_cut(page, &mut walk, shown.pieces, cut)
-        }
-        None => push_text(page, sheet, shown),
-    }
-}
-
 // The number row: ` 12 │ ╭─▶ the line's text`.
 fn push_number_row<O: Canvas>(
     page: &mut Page<O>,
     sheet: &Sheet,
     shown: &ShownLine,
+    text: &LineText,
     cut: &Cut,
 ) -> Outcome
-    requires { sheet.now.line.start + length shown.now.text.now < 2 ^ 64 }
+    requires { text.now.start + length text.now.bytes.now < 2 ^ 64 }
     ensures { OnOk result (page.new ≡ page.old ⊕ rows_tokens (number_row sheet.now shown.now
         (made_runs (option_map (λ made. made.items) cut.now) (map highlight_of shown.now.pieces.now)
-        (shown_cells sheet.now shown.now)) ∷ [])) }
+        (text_cells text.now)) ∷ [])) }
 {
     push_number_start(page, sheet, shown.number)?;
     push_number_gutter(page, sheet)?;
-    push_shown_text(page, sheet, shown, cut)?;
+    push_shown_text(page, text, shown.pieces, cut)?;
     page.end_row()?;
     Ok(())
 }
@@ -211,8 +141,13 @@ fn push_line_rows<O: Canvas>(
         (shown_cells sheet.now shown.now) (map highlight_of shown.now.pieces.now))) }
 {
     let whole = marks_alone(alloc, sheet, shown)?;
-    let cut = cut_around(alloc, sheet, shown, &whole)?;
-    push_number_row(page, sheet, shown, &cut)?;
+    let text = LineText {
+        start: sheet.line.start,
+        bytes: shown.text,
+        tab: sheet.options.tab_width,
+    };
+    let cut = cut_around(alloc, &text, &whole, sheet.options.line_columns)?;
+    push_number_row(page, sheet, shown, &text, &cut)?;
     let marks = marks_shown(alloc, &cut, whole)?;
     push_marked_rows(page, sheet, &marks)?;
     push_closings(page, sheet)?;

@@ -16,9 +16,10 @@
 //! 3. `push_lines` goes on line by line: which labels lie on it (the sweep), a highlighter's pieces, whether it is left
 //!    out inside a folded label (`folds.rt`).
 //! 4. `push_line_or_break` (`line.rt`) puts the rows of a line: its number row over the gutter
-//!    (`gutters.rt`), the marks and their leaders (`marks.rt`, `strokes.rt`), the texts
-//!    (`texts.rt`), and the texts of labels that end there (`closings.rt`). A line that is too wide
-//!    is cut into stretches, by whose columns its marks then stand (`cutting.rt`, `cut_text.rt`).
+//!    (`gutters.rt`), the marks and their leaders (`strokes.rt`), the texts (`texts.rt`), and the
+//!    texts of labels that end there (`closings.rt`). Where a line's marks stand, and what is shown
+//!    of its text, says `miette_cuts`: a line that is too wide is cut into stretches, by whose
+//!    columns its marks then stand.
 
 ghost use Rattle.std.specs.Prelude.{◌≡◌, ◌∷◌, ◌+◌, ◌<◌, ◌^◌, List, map, length, decimal, false, IfOk, OnOk};
 ghost use Rattle.miette_newlines.specs.rules.Lines.{Line, lines_from};

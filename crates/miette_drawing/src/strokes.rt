@@ -7,11 +7,11 @@ ghost use Rattle.miette_page.specs.views.Tokens.{row_tokens, run_tokens};
 ghost use Rattle.miette_lines.specs.rules.Labels.{is_empty};
 ghost use Rattle.miette_lines.specs.views.GivenLabels.{drawn_of};
 ghost use Rattle.miette_snippets.specs.rules.Drawing.{code_with_parts, mark_run, mark_runs};
-ghost use Rattle.miette_drawing.specs.steps.Marks.{mark_of, HasAnchor};
+ghost use Rattle.miette_cuts.specs.views.Marks.{mark_of, HasAnchor};
 ghost use Rattle.miette_drawing.specs.steps.Sheets.{settings};
 
-use crate::marks::Mark;
 use crate::sheet::{Outcome, Sheet};
+use miette_cuts::marks::Mark;
 use miette_lines::drawn_labels::text_of;
 use miette_page::canvas::Canvas;
 use miette_page::page::Page;

@@ -9,13 +9,13 @@ ghost use Rattle.miette_snippets.specs.rules.Drawing.{lead_runs, beside, rows_of
 ghost use Rattle.miette_snippets.specs.rules.Frames.{other_start};
 ghost use Rattle.miette_snippets.specs.rules.SnippetLayout.{before_each};
 ghost use Rattle.miette_lines.specs.views.GivenLabels.{drawn_of};
-ghost use Rattle.miette_drawing.specs.steps.Marks.{mark_of, HasAnchor};
+ghost use Rattle.miette_cuts.specs.views.Marks.{mark_of, HasAnchor};
 ghost use Rattle.miette_drawing.specs.steps.Sheets.{settings, before_marks, text_line};
 
 use crate::gutters::push_other_gutter;
 use crate::label_text::first_part;
-use crate::marks::Mark;
 use crate::sheet::{Outcome, Sheet};
+use miette_cuts::marks::Mark;
 use miette_lines::drawn_labels::text_of;
 use miette_page::canvas::Canvas;
 use miette_page::page::{PLAIN, Page};

@@ -14,12 +14,12 @@ use Rattle.miette_snippets.specs.rules.Frames.{other_start}
 use Rattle.miette_snippets.specs.rules.Highlighting.{highlight_of}
 use Rattle.miette_snippets.specs.rules.SnippetLayout.{before_each, text_of_cells}
 use Rattle.miette_snippets.proofs.CutColumns.{columns_from}
-use Rattle.miette_drawing.specs.steps.Cut.{made_runs, measure}
-use Rattle.miette_drawing.specs.steps.Marks.{mark_of}
+use Rattle.miette_cuts.specs.views.Cuts.{made_runs, measure}
+use Rattle.miette_cuts.specs.views.Marks.{mark_of}
 use Rattle.miette_drawing.specs.steps.Sheets.{settings, multi_labels, before_marks, number_row, shown_cells, labels_alone}
 use Rattle.miette_newlines.specs.views.Walking.{line_of_text}
-use Rattle.miette_drawing.proofs.CutStretches.{shown_made_anchored}
-use Rattle.miette_drawing.proofs.CutTexting.{shown_made}
+use Rattle.miette_cuts.proofs.CutStretches.{shown_made_anchored}
+use Rattle.miette_cuts.proofs.CutTexting.{shown_made}
 use Rattle.miette_drawing.proofs.Lining.{line_put}
 use Rattle.miette_drawing.proofs.line.push_line_rows.Goals as goal
 use Rattle.miette_style.specs.rules.Themes.{characters_of}

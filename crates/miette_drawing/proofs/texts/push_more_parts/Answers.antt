@@ -3,7 +3,7 @@ use Rattle.std.specs.Prelude.{chars}
 use Rattle.std.specs.Option.{option_copied}
 use Rattle.miette_lines.specs.rules.Labels.{parts_of}
 use Rattle.miette_snippets.specs.rules.Drawing.{beside}
-use Rattle.miette_drawing.specs.steps.Marks.{mark_of}
+use Rattle.miette_cuts.specs.views.Marks.{mark_of}
 use Rattle.miette_drawing.specs.steps.Sheets.{settings, text_line}
 use Rattle.miette_drawing.proofs.Texting.{part_more}
 use Rattle.miette_drawing.proofs.texts.push_more_parts.Goals as goal

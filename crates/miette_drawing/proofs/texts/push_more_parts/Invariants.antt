@@ -5,7 +5,7 @@ use Rattle.std.specs.Option.{option_map_or, option_copied}
 use Rattle.miette_page.specs.views.Tokens.{rows_tokens}
 use Rattle.miette_lines.specs.rules.Labels.{cut_at_lf, parts_of}
 use Rattle.miette_snippets.specs.rules.Drawing.{beside}
-use Rattle.miette_drawing.specs.steps.Marks.{mark_of}
+use Rattle.miette_cuts.specs.views.Marks.{mark_of}
 use Rattle.miette_drawing.specs.steps.Sheets.{settings, text_line}
 use Rattle.miette_drawing.proofs.texts.push_more_parts.Given as goal
 

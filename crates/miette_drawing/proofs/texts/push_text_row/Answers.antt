@@ -1,7 +1,7 @@
 use Rattle.std.proofs.Common.{map, refl}
 use Rattle.std.specs.Prelude.{chars}
 use Rattle.miette_lines.specs.views.GivenLabels.{width_of}
-use Rattle.miette_drawing.specs.steps.Marks.{mark_of}
+use Rattle.miette_cuts.specs.views.Marks.{mark_of}
 use Rattle.miette_drawing.specs.steps.Sheets.{before_marks}
 use Rattle.miette_drawing.proofs.Texting.{text_put}
 use Rattle.miette_drawing.proofs.texts.push_text_row.Goals as goal

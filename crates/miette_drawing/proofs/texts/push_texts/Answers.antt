@@ -1,7 +1,7 @@
 use Rattle.std.proofs.Common.{◌<◌, ◌-◌, ◌+◌, ◌≡◌, ◌≤◌, length, arith}
 use Rattle.miette_lines.specs.views.GivenLabels.{width_of}
 use Rattle.miette_drawing.specs.steps.Sheets.{before_marks}
-use Rattle.miette_drawing.proofs.Placing.{no_mark}
+use Rattle.miette_cuts.proofs.Placing.{no_mark}
 use Rattle.miette_drawing.proofs.Texting.{below_more}
 use Rattle.miette_drawing.proofs.texts.push_texts.Goals as goal
 use Rattle.miette_style.specs.rules.Themes.{characters_of}

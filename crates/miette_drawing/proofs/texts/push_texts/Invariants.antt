@@ -3,7 +3,7 @@ use Rattle.std.proofs.Common.{◌≡◌, ◌≤◌, map, take, drop, length}
 use Rattle.miette_page.specs.views.Tokens.{rows_tokens}
 use Rattle.miette_snippets.specs.rules.Drawing.{rows_below}
 use Rattle.miette_snippets.specs.rules.SnippetLayout.{before_each}
-use Rattle.miette_drawing.specs.steps.Marks.{mark_of}
+use Rattle.miette_cuts.specs.views.Marks.{mark_of}
 use Rattle.miette_drawing.specs.steps.Sheets.{settings, before_marks}
 use Rattle.miette_drawing.proofs.texts.push_texts.Given as goal
 

@@ -1,0 +1,9 @@
+pub mod Cells
+pub mod CutPlain
+pub mod CutStretches
+pub mod CutTexting
+pub mod Placing
+pub mod Plaining
+pub mod Stopping
+pub mod Tabbing
+pub mod Untabbing

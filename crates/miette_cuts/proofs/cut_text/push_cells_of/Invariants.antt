@@ -1,0 +1,14 @@
+use Rattle.miette_page.specs.views.Printouts.{◌⊕◌}
+use Rattle.std.proofs.Common.{◌≡◌, map, take, drop}
+use Rattle.miette_page.specs.views.Tokens.{row_tokens}
+use Rattle.miette_snippets.specs.rules.CutLines.{pieces_within}
+use Rattle.miette_snippets.specs.rules.Highlighting.{highlight_of}
+use Rattle.miette_snippets.specs.rules.PrintedCells.{line_runs}
+use Rattle.miette_cuts.proofs.cut_text.push_cells_of.Given as goal
+
+abbrev pub invariant-loop-piece : goal.invariant-loop-piece
+invariant-loop-piece g l = record {
+  told : l.page ⊕ row_tokens (line_runs (pieces_within l.before l.bytes (map highlight_of (drop l.piece-index l.pieces))) (take l.many l.walk))
+      ≡ l.fn.page ⊕ row_tokens (line_runs (pieces_within l.fn.before l.fn.stretch.bytes (map highlight_of l.pieces)) (take l.fn.stretch.cells l.fn.walk));
+  later : drop l.many l.walk ≡ drop l.fn.stretch.cells l.fn.walk;
+}

@@ -1,0 +1,11 @@
+use Rattle.miette_page.specs.views.Printouts.{◌⊕◌}
+use Rattle.std.proofs.Common.{◌≡◌, map, drop}
+use Rattle.miette_page.specs.views.Tokens.{row_tokens}
+use Rattle.miette_snippets.specs.rules.Highlighting.{highlight_of}
+use Rattle.miette_cuts.specs.views.Cuts.{cut_cells}
+use Rattle.miette_cuts.proofs.cut_text.push_cut.Given as goal
+
+abbrev pub invariant-loop-stretch : goal.invariant-loop-stretch
+invariant-loop-stretch g l =
+    l.page ⊕ row_tokens (cut_cells (map highlight_of l.fn.pieces) l.before (drop l.stretch-index l.cut) l.walk)
+    ≡ l.fn.page ⊕ row_tokens (cut_cells (map highlight_of l.fn.pieces) 0 l.cut l.fn.walk)

@@ -1,0 +1,17 @@
+use Rattle.std.proofs.Common.{◌∙◌, map, sym, take}
+use Rattle.miette_snippets.specs.rules.CutLines.{pieces_within}
+use Rattle.miette_snippets.specs.rules.Highlighting.{highlight_of}
+use Rattle.miette_snippets.specs.rules.PrintedCells.{line_runs}
+use Rattle.miette_cuts.specs.views.Cuts.{is_kept}
+use Rattle.miette_cuts.proofs.CutTexting.{stretch_dots, stretch_shown}
+use Rattle.miette_cuts.proofs.cut_text.push_stretch.Goals as goal
+
+pub returns-then-is_shown-clause-told : goal.returns-then-is_shown-clause-told
+returns-then-is_shown-clause-told g c =
+    stretch_shown (is_kept c.args.stretch.now) (line_runs (pieces_within c.args.before c.args.stretch.now.bytes (map highlight_of c.args.pieces.now)) (take c.args.stretch.now.cells c.args.walk.now)) c.args.page.now c.push_cells_of.new.page
+    (sym c.is_shown.ensures ∙ c.if-is_shown.true) c.in_ok-push_cells_of.ensures.told
+
+pub returns-clause-told : goal.returns-clause-told
+returns-clause-told g c =
+    stretch_dots (is_kept c.args.stretch.now) (line_runs (pieces_within c.args.before c.args.stretch.now.bytes (map highlight_of c.args.pieces.now)) (take c.args.stretch.now.cells c.args.walk.now)) c.args.page.now c.begin.new.self c.push_copies.new.self
+    (sym c.is_shown.ensures ∙ c.if-is_shown.false) c.in_ok-begin.ensures c.in_ok-push_copies.ensures

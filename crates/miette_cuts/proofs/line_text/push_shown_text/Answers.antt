@@ -1,0 +1,19 @@
+use Rattle.std.proofs.Common.{◌∙◌, ap, eqb-true, map, option_map, sym}
+use Rattle.miette_page.specs.views.Printouts.{◌⊕◌}
+use Rattle.miette_page.specs.views.Tokens.{row_tokens}
+use Rattle.miette_snippets.specs.rules.Highlighting.{highlight_of}
+use Rattle.miette_cuts.specs.views.Cuts.{made_runs}
+use Rattle.miette_cuts.specs.steps.Cut.{plain_told}
+use Rattle.miette_cuts.specs.views.LineTexts.{text_cells}
+use Rattle.miette_cuts.proofs.CutPlain.{plain_cut_put}
+use Rattle.miette_cuts.proofs.line_text.push_shown_text.Goals as goal
+
+pub push_plain_cut-requires : goal.push_plain_cut-requires
+push_plain_cut-requires g c = sym c.all_printable.ensures ∙ c.if-all_printable.true
+
+pub returns-then-all_printable : goal.returns-then-all_printable
+returns-then-all_printable g c =
+    plain_cut_put c.args.text.now.tab c.args.text.now.start c.args.pieces.now c.in-Some.cut.items c.args.text.now.bytes.now c.args.page.now c.push_plain_cut.new.page
+    (eqb-true _ _ (sym c.is_empty.ensures ∙ c.if-is_empty.true)) (sym c.all_printable.ensures ∙ c.if-all_printable.true)
+    (c.in_ok-push_plain_cut-in-Some.ensures ∙ ap (λ cut. c.args.page.now ⊕ plain_told cut c.args.text.now.bytes.now) c.deref.ensures.value)
+    ∙ ap (λ cut. c.args.page.now ⊕ row_tokens (made_runs (option_map (λ made. made.items) cut) (map highlight_of c.args.pieces.now) (text_cells c.args.text.now))) (sym c.in-Some.is)

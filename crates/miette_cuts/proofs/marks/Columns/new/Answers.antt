@@ -1,0 +1,20 @@
+use Rattle.std.proofs.Common.{List, length, ◌≡◌, ◌++◌, [], ◌∙◌, false, refl, sym, ap, subst}
+use Rattle.miette_lines.specs.rules.Cells.{Cell}
+use Rattle.miette_snippets.specs.rules.Marks.{Text}
+use Rattle.miette_lines.specs.views.Printable.{plain_cells}
+use Rattle.miette_lines.specs.views.GivenLabels.{width_of}
+use Rattle.miette_cuts.specs.steps.Stops.{ComeFrom}
+use Rattle.miette_lines.proofs.Stepping.{cells_end}
+use Rattle.miette_cuts.proofs.Stopping.{cells_come}
+use Rattle.miette_cuts.proofs.Plaining.{plain_text}
+use Rattle.miette_cuts.proofs.marks.Columns.new.Goals as goal
+
+pub returns-then-all_printable : goal.returns-then-all_printable
+returns-then-all_printable c =
+    let made : List Cell → Text = λ cells. record { cells = plain_cells c.args.line.now.start 0 c.args.text.now ++ cells; text_end = c.args.line.now.text_end; width = length c.args.text.now } in
+    let none : c.new.result ≡ [] = c.new.ensures ∙ cells_end width_of c.args.tab false c.args.line.now.start 0 [] refl in
+    ap made none ∙ plain_text c.args.tab c.args.line.now.start c.args.line.now.text_end c.args.text.now (sym c.all_printable.ensures ∙ c.if-all_printable.true)
+
+pub stops_of-requires : goal.stops_of-requires
+stops_of-requires c =
+    subst (λ (cs : List Cell). ComeFrom 0 cs) (sym (c.copy.ensures ∙ c.new-whole.ensures)) (cells_come width_of c.args.tab false c.args.line.now.start 0 c.args.text.now)

@@ -1,0 +1,12 @@
+use Rattle.miette_page.specs.views.Printouts.{◌⊕◌}
+use Rattle.std.proofs.Common.{◌≡◌, true, drop}
+use Rattle.std.specs.List.{list_all}
+use Rattle.miette_lines.specs.views.Printable.{is_printable}
+use Rattle.miette_cuts.specs.steps.Cut.{plain_told}
+use Rattle.miette_cuts.proofs.plain_cut.push_plain_cut.Given as goal
+
+abbrev pub invariant-loop-stretch : goal.invariant-loop-stretch
+invariant-loop-stretch g l = record {
+  printable : list_all is_printable l.rest ≡ true;
+  told : l.page ⊕ plain_told (drop l.stretch-index l.cut) l.rest ≡ l.fn.page ⊕ plain_told l.cut l.fn.text;
+}

@@ -1,0 +1,12 @@
+use Rattle.miette_page.specs.views.Printouts.{◌⊕◌}
+use Rattle.std.proofs.Common.{◌∙◌, ap}
+use Rattle.std.specs.Str.{chars}
+use Rattle.std.proofs.lemmas.Str.{IsUtf8-from_ascii, chars-IsAscii}
+use Rattle.miette_page.specs.views.Tokens.{text_tokens}
+use Rattle.miette_cuts.proofs.tabs.push_ascii.Goals as goal
+
+pub unreachable-requires : goal.unreachable-requires
+unreachable-requires g c = c.in_default.ensures.cases.0 (IsUtf8-from_ascii c.args.bytes.now c.requires)
+
+pub returns : goal.returns
+returns g c = c.in_ok-push_str.ensures ∙ ap (λ x. c.args.page.now ⊕ text_tokens x) (ap chars c.in-Ok.ensures.cases.0 ∙ chars-IsAscii c.args.bytes.now c.requires)

@@ -1,0 +1,5 @@
+-- The code's own steps, which no rule names.
+pub mod CellTokens
+pub mod Cut
+pub mod Stops
+pub mod Tabs

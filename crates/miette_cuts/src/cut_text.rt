@@ -1,0 +1,148 @@
+//! The text of a line that is cut: the stretches of it that are shown, and dots for the others.
+
+ghost use Rattle.std.specs.Prelude.{◌≡◌, ◌∷◌, [], map, take, drop, if◌then◌else◌, IfOk, OnOk};
+ghost use Rattle.miette_page.specs.views.Printouts.{◌⊕◌};
+ghost use Rattle.miette_page.specs.views.Tokens.{row_tokens};
+ghost use Rattle.miette_snippets.specs.rules.CutLines.{dots, pieces_within};
+ghost use Rattle.miette_snippets.specs.rules.Highlighting.{highlight_of};
+ghost use Rattle.miette_snippets.specs.rules.PrintedCells.{cells_within, cells_beyond, line_runs};
+ghost use Rattle.miette_cuts.specs.views.Cuts.{cut_cells, is_kept};
+ghost use Rattle.miette_cuts.specs.steps.CellTokens.{cells_tokens};
+
+use crate::cells::push_cell;
+use crate::stretch::{Stretch, is_shown, sum};
+use miette_lines::cells::Walk;
+use miette_page::canvas::Canvas;
+use miette_page::page::{PLAIN, Page};
+use miette_style::style::Style;
+use std::alloc::AllocError;
+
+// Of so many cells, those whose characters fill so many bytes; gives how many of them are left.
+fn push_some<O: Canvas>(
+    page: &mut Page<O>,
+    walk: &mut Walk,
+    many: usize,
+    bytes: usize,
+) -> Result<usize, AllocError>
+    ensures within { IfOk result (λ left. page.new ≡ page.old
+        ⊕ cells_tokens (cells_within bytes (take many walk.old))) }
+    ensures beyond { IfOk result (λ left. take left walk.new ≡ cells_beyond bytes (take many walk.old)) }
+    ensures later { IfOk result (λ left. drop left walk.new ≡ drop many walk.old) }
+{
+    let mut many = many;
+    let mut left = bytes;
+    while left > 0 {
+        if many == 0 {
+            return Ok(0);
+        }
+        let Some(cell) = walk.next()? else {
+            return Ok(many);
+        };
+        push_cell(page, &cell)?;
+        left = left.saturating_sub(cell.code.len_utf8());
+        many -= 1;
+    }
+    Ok(many)
+}
+
+// So many cells.
+fn push_all<O: Canvas>(page: &mut Page<O>, walk: &mut Walk, many: usize) -> Result<(), AllocError>
+    ensures told { OnOk result (page.new ≡ page.old ⊕ cells_tokens (take many walk.old)) }
+    ensures later { OnOk result (walk.new ≡ drop many walk.old) }
+{
+    let mut left = many;
+    while left > 0 {
+        let Some(cell) = walk.next()? else {
+            return Ok(());
+        };
+        push_cell(page, &cell)?;
+        left -= 1;
+    }
+    Ok(())
+}
+
+// Goes past so many cells.
+fn skip(walk: &mut Walk, many: usize) -> Result<(), AllocError>
+    ensures { OnOk result (walk.new ≡ drop many walk.old) }
+{
+    let mut left = many;
+    while left > 0 {
+        let Some(cell) = walk.next()? else {
+            return Ok(());
+        };
+        let _passed = cell;
+        left -= 1;
+    }
+    Ok(())
+}
+
+// A stretch in what a highlighter's pieces say of it, where so many bytes of the line stand before it.
+fn push_cells_of<O: Canvas>(
+    page: &mut Page<O>,
+    walk: &mut Walk,
+    pieces: &[(usize, Style)],
+    before: usize,
+    stretch: &Stretch,
+) -> Result<(), AllocError>
+    ensures told { OnOk result (page.new ≡ page.old
+        ⊕ row_tokens (line_runs (pieces_within before stretch.now.bytes (map highlight_of pieces.now))
+        (take stretch.now.cells walk.old))) }
+    ensures later { OnOk result (walk.new ≡ drop stretch.now.cells walk.old) }
+{
+    let mut before = before;
+    let mut bytes = stretch.bytes;
+    let mut many = stretch.cells;
+    for piece in pieces {
+        let behind = piece.0.saturating_sub(before);
+        page.begin(piece.1)?;
+        many = push_some(page, walk, many, behind.min(bytes))?;
+        before = before.saturating_sub(piece.0);
+        bytes = bytes.saturating_sub(behind);
+    }
+    page.begin(PLAIN)?;
+    push_all(page, walk, many)?;
+    Ok(())
+}
+
+// A stretch, or its dots.
+fn push_stretch<O: Canvas>(
+    page: &mut Page<O>,
+    walk: &mut Walk,
+    pieces: &[(usize, Style)],
+    before: usize,
+    stretch: &Stretch,
+) -> Result<(), AllocError>
+    ensures told { OnOk result (page.new ≡ page.old ⊕ row_tokens (if is_kept stretch.now
+        then line_runs (pieces_within before stretch.now.bytes (map highlight_of pieces.now))
+        (take stretch.now.cells walk.old) else dots ∷ [])) }
+    ensures later { OnOk result (walk.new ≡ drop stretch.now.cells walk.old) }
+{
+    if is_shown(stretch) {
+        push_cells_of(page, walk, pieces, before, stretch)?;
+        return Ok(());
+    }
+    page.begin(PLAIN)?;
+    page.push_copies('.', 3)?;
+    skip(walk, stretch.cells)?;
+    Ok(())
+}
+
+/// The cells of a line, of which these are the stretches, in a highlighter's pieces, each a length in bytes and a
+/// style, and plain behind them. `AllocError` where memory is refused, or a column or a count of bytes is past the
+/// largest `usize`.
+pub(crate) fn push_cut<O: Canvas>(
+    page: &mut Page<O>,
+    walk: &mut Walk,
+    pieces: &[(usize, Style)],
+    cut: &[Stretch],
+) -> Result<(), AllocError>
+    ensures { OnOk result (page.new ≡ page.old
+        ⊕ row_tokens (cut_cells (map highlight_of pieces.now) 0 cut.now walk.old)) }
+{
+    let mut before: usize = 0;
+    for stretch in cut {
+        push_stretch(page, walk, pieces, before, stretch)?;
+        before = sum(before, stretch.bytes)?;
+    }
+    Ok(())
+}

@@ -1,0 +1,11 @@
+//! The text of a line: where the marks of its labels stand, into which stretches it is cut, and what is printed of it.
+#![tactic(auto)]
+
+mod cells;
+mod cut_text;
+pub mod cutting;
+pub mod line_text;
+pub mod marks;
+mod plain_cut;
+pub mod stretch;
+mod tabs;

@@ -1,0 +1,305 @@
+//! The marks of the labels that lie on a line alone: which columns each one has.
+
+ghost use Rattle.std.specs.Prelude.{◌≡◌, ◌+◌, ◌^◌, ◌<◌, ◌≤◌, [], ℕ, List, map, length, false, IfOk, MatchOption};
+ghost use Rattle.std.specs.List.{All};
+ghost use Rattle.miette_protocol.specs.views.Meaning.{Label};
+ghost use Rattle.miette_snippets.specs.rules.PrintedCells.{cells_width, first_column as first_of_cells};
+ghost use Rattle.miette_snippets.specs.rules.PrintedCells.{last_column as last_of_cells};
+ghost use Rattle.miette_lines.specs.rules.Cells.{cells_from, characters};
+ghost use Rattle.miette_snippets.specs.rules.Marks.{label_from, mark_from, mark_until, mark_anchor, marks};
+ghost use Rattle.miette_snippets.specs.rules.SnippetLayout.{text_of_cells};
+ghost use Rattle.miette_lines.specs.views.Sweeping.{label_of};
+ghost use Rattle.miette_lines.specs.views.GivenLabels.{drawn_of, width_of};
+ghost use Rattle.miette_cuts.specs.views.Marks.{mark_of, HasAnchor};
+ghost use Rattle.miette_cuts.specs.steps.Stops.{ComeFrom, IsStop};
+
+use miette_lines::cells::Walk;
+use miette_lines::plain::all_printable;
+use miette_lines::sweep::PlacedLabel;
+use miette_newlines::lines::LineOfText;
+use std::alloc::{AllocError, Global};
+use std::marker::Model;
+
+// How many characters stand between two stops of a line's text.
+const BETWEEN_STOPS: usize = 64;
+
+// A walk over the cells of a line's text from an offset on.
+#[derive(Drop)]
+struct Stop<'a> {
+    offset: usize,
+    walk: Walk<'a>,
+}
+
+/// Where the characters of a line's text stand, by offset. A text of printable ASCII characters needs no walk: its
+/// bytes are its columns.
+#[derive(Drop)]
+pub(crate) struct Columns<'a> {
+    plain: &'a [u8],
+    start: usize,
+    whole: Walk<'a>,
+    stops: Vec<Stop<'a>>,
+    text_end: usize,
+    width: usize,
+}
+
+impl<'a> Model for Columns<'a> {
+    ghost use Rattle.std.specs.Prelude.{◌++◌};
+    ghost use Rattle.std.specs.List.{All};
+    ghost use Rattle.miette_snippets.specs.rules.Marks.{Text};
+    ghost use Rattle.miette_cuts.specs.steps.Stops.{IsStop};
+    ghost use Rattle.miette_lines.specs.views.Printable.{plain_cells};
+
+    ghost Value = { Text };
+
+    ghost view = { λ c. record {
+      cells = plain_cells c.start 0 c.plain.now ++ c.whole;
+      text_end = c.text_end;
+      width = c.width;
+    } };
+
+    ghost invariant = { λ c. All (IsStop c.whole) c.stops.items };
+}
+
+// The first column of the first of these cells that ends behind an offset.
+fn column_behind(walk: Walk<'_>, offset: usize) -> Result<Option<usize>, AllocError>
+    ensures { IfOk result (λ found. (text_end width : ℕ) →
+        MatchOption found (first_of_cells [] text_end width offset ≡ first_of_cells walk.entry text_end width offset)
+        (λ column. column ≡ first_of_cells walk.entry text_end width offset)) }
+{
+    let mut walk = walk;
+    while let Some(cell) = walk.next()? {
+        if offset < cell.after {
+            return Ok(Some(cell.from));
+        }
+    }
+    Ok(None)
+}
+
+// The first column of the first of these cells that doesn't begin before an offset.
+fn column_from(walk: Walk<'_>, offset: usize) -> Result<Option<usize>, AllocError>
+    ensures { IfOk result (λ found. (text_end width : ℕ) →
+        MatchOption found (last_of_cells [] text_end width offset ≡ last_of_cells walk.entry text_end width offset)
+        (λ column. column ≡ last_of_cells walk.entry text_end width offset)) }
+{
+    let mut walk = walk;
+    while let Some(cell) = walk.next()? {
+        if offset <= cell.start {
+            return Ok(Some(cell.from));
+        }
+    }
+    Ok(None)
+}
+
+// The cells from the last of these stops that doesn't stand behind an offset, or all where none does.
+fn walk_to<'a>(whole: &Walk<'a>, stops: &[Stop<'a>], offset: usize) -> Walk<'a>
+    requires { All (IsStop whole.now) stops.now }
+    ensures first { (text_end width : ℕ) → first_of_cells result text_end width offset
+        ≡ first_of_cells whole.now text_end width offset }
+    ensures last { (text_end width : ℕ) → last_of_cells result text_end width offset
+        ≡ last_of_cells whole.now text_end width offset }
+{
+    let passed = stops.partition_point(|stop| stop.offset <= offset);
+    if passed > 0 && passed <= stops.len() {
+        let stop = &stops[passed - 1];
+        if stop.offset <= offset {
+            return stop.walk.copy();
+        }
+    }
+    whole.copy()
+}
+
+// The stops of a line's text, whose cells are given, and its columns.
+fn stops_of<'a>(alloc: Global, walk: Walk<'a>) -> Result<(Vec<Stop<'a>>, usize), AllocError>
+    requires { ComeFrom 0 walk }
+    ensures stops { IfOk result (λ made. All (IsStop walk.entry) made.0.items) }
+    ensures width { IfOk result (λ made. made.1 ≡ cells_width 0 walk.entry) }
+{
+    let mut walk = walk;
+    let mut stops = Vec::new(alloc);
+    let mut width = 0;
+    let mut reached = 0;
+    let mut left = BETWEEN_STOPS;
+    while let Some(cell) = walk.next()? {
+        width = cell.until;
+        reached = cell.after;
+        left -= 1;
+        if left == 0 {
+            stops.push(Stop {
+                offset: reached,
+                walk: walk.copy(),
+            })?;
+            left = BETWEEN_STOPS;
+        }
+    }
+    Ok((stops, width))
+}
+
+impl<'a> Columns<'a> {
+    /// The columns of a line's text, whose bytes are given, with tabs of so many columns. `AllocError` where memory
+    /// is refused, or the text has more columns than a `usize` counts.
+    pub(crate) fn new(
+        alloc: Global,
+        line: &LineOfText,
+        text: &'a [u8],
+        tab: usize,
+    ) -> Result<Self, AllocError>
+        requires { line.now.start + length text.now < 2 ^ 64 }
+        ensures { IfOk result (λ columns. columns
+            ≡ text_of_cells (cells_from width_of tab false line.now.start 0 (characters text.now)) line.now.text_end) }
+    {
+        if all_printable(text) {
+            return Ok(Columns {
+                plain: text,
+                start: line.start,
+                whole: Walk::new(&[], line.start, tab),
+                stops: Vec::new(alloc),
+                text_end: line.text_end,
+                width: text.len(),
+            });
+        }
+        let whole = Walk::new(text, line.start, tab);
+        let (stops, width) = stops_of(alloc, whole.copy())?;
+        Ok(Columns {
+            plain: &[],
+            start: line.start,
+            whole,
+            stops,
+            text_end: line.text_end,
+            width,
+        })
+    }
+
+    // The column of an offset at the text's end, or behind it.
+    fn column_at_end(&self, offset: usize) -> Result<usize, AllocError>
+        ensures { IfOk result (λ column. column ≡ first_of_cells [] self.now.text_end self.now.width offset) }
+    {
+        if offset <= self.text_end {
+            return Ok(self.width);
+        }
+        match self.width.checked_add(1) {
+            Some(column) => Ok(column),
+            None => Err(AllocError),
+        }
+    }
+
+    /// The column of an offset, rounded down to a character's start. A column past the largest `usize` is refused as
+    /// want of memory.
+    pub(crate) fn first_column(&self, offset: usize) -> Result<usize, AllocError>
+        ensures { IfOk result (λ column. column
+            ≡ first_of_cells self.now.cells self.now.text_end self.now.width offset) }
+    {
+        let at = offset.saturating_sub(self.start);
+        if at < self.plain.len() {
+            return Ok(at);
+        }
+        match column_behind(walk_to(&self.whole, &self.stops, offset), offset)? {
+            Some(column) => Ok(column),
+            None => self.column_at_end(offset),
+        }
+    }
+
+    /// The same, rounded up: `AllocError` too where that is past the largest `usize`.
+    pub(crate) fn last_column(&self, offset: usize) -> Result<usize, AllocError>
+        ensures { IfOk result (λ column. column
+            ≡ last_of_cells self.now.cells self.now.text_end self.now.width offset) }
+    {
+        let at = offset.saturating_sub(self.start);
+        if at < self.plain.len() {
+            return Ok(at);
+        }
+        match column_from(walk_to(&self.whole, &self.stops, offset), offset)? {
+            Some(column) => Ok(column),
+            None => self.column_at_end(offset),
+        }
+    }
+
+    /// The column at which a label's mark begins, unless the mark before it ends behind that: the first one behind the
+    /// text, or that of the label's first byte. `AllocError` as of `first_column`.
+    pub(crate) fn label_column(&self, label: &PlacedLabel) -> Result<usize, AllocError>
+        ensures { IfOk result (λ column. column ≡ label_from self.now (label_of label.now)) }
+    {
+        if label.behind {
+            return Ok(self.width);
+        }
+        self.first_column(label.start)
+    }
+}
+
+/// A mark: its columns from the one up to the other, and its label.
+#[derive(Clone, Copy, Debug, PartialEq, Eq, Drop)]
+pub struct Mark {
+    /// Its first column, counted from 0 where the line's text begins.
+    pub from: usize,
+    /// The column behind its last one.
+    pub until: usize,
+    /// The one of its columns from which the label's text hangs.
+    pub anchor: usize,
+    /// The label that it marks.
+    pub label: PlacedLabel,
+}
+
+// The mark of a label, where the mark before it ends at a column.
+fn next_mark(columns: &Columns<'_>, label: &PlacedLabel, reached: usize) -> Result<Mark, AllocError>
+    ensures from { IfOk result (λ mark. mark.from ≡ mark_from columns.now reached (label_of label.now)) }
+    ensures until { IfOk result (λ mark. mark.until ≡ mark_until columns.now reached (label_of label.now)) }
+    ensures anchor { IfOk result (λ mark. mark.anchor ≡ mark_anchor columns.now reached (label_of label.now)) }
+    ensures label { IfOk result (λ mark. mark.label ≡ label.now) }
+    ensures anchored { IfOk result HasAnchor }
+{
+    let from = columns.label_column(label)?.max(reached);
+    let Some(next) = from.checked_add(1) else {
+        return Err(AllocError);
+    };
+    let until = if label.start == label.after {
+        next
+    } else {
+        columns.last_column(label.after)?.max(next)
+    };
+    Ok(Mark {
+        from,
+        until,
+        anchor: from + (until - from) / 2,
+        label: *label,
+    })
+}
+
+// The marks of labels by offset, each behind the one before it.
+fn marks_in(
+    alloc: Global,
+    columns: &Columns<'_>,
+    placed: &[PlacedLabel],
+) -> Result<Vec<Mark>, AllocError>
+    ensures is { IfOk result (λ made. (labels : List Label) →
+        map (mark_of labels) made.items ≡ marks columns.now (map (drawn_of labels) placed.now)) }
+    ensures anchored { IfOk result (λ made. All HasAnchor made.items) }
+{
+    let mut made = Vec::new(alloc);
+    let mut reached = 0;
+    for label in placed {
+        let mark = next_mark(columns, label, reached)?;
+        made.push(mark)?;
+        reached = mark.until;
+    }
+    Ok(made)
+}
+
+/// The marks of the labels that lie on a line alone, by offset, where the line's text has these bytes and tabs so
+/// many columns.
+/// Each has at least one column, and begins at its label's first column or where the mark before it ends, whichever
+/// is later. `AllocError` where memory is refused, or a column is past the largest `usize`.
+pub fn marks_on(
+    alloc: Global,
+    line: &LineOfText,
+    text: &[u8],
+    tab: usize,
+    one: &[PlacedLabel],
+) -> Result<Vec<Mark>, AllocError>
+    requires { line.now.start + length text.now < 2 ^ 64 }
+    ensures is { IfOk result (λ made. (labels : List Label) → map (mark_of labels) made.items
+        ≡ marks (text_of_cells (cells_from width_of tab false line.now.start 0 (characters text.now)) line.now.text_end)
+        (map (drawn_of labels) one.now)) }
+    ensures anchored { IfOk result (λ made. All HasAnchor made.items) }
+{
+    let columns = Columns::new(alloc, line, text, tab)?;
+    marks_in(alloc, &columns, one)
+}

@@ -1,0 +1,137 @@
+//! Lines of printable ASCII that are cut: their stretches by the ends of marks, and what is printed of them, with no
+//! walk over their characters.
+
+ghost use Rattle.std.specs.Prelude.{◌≡◌, ◌<◌, ◌≤◌, ◌+◌, ℕ, List, true, false, map, take, nat_lt, IfOk, OnOk};
+ghost use Rattle.std.specs.List.{list_all};
+ghost use Rattle.miette_page.specs.views.Printouts.{◌⊕◌};
+ghost use Rattle.miette_lines.specs.views.Printable.{is_printable, plain_cells};
+ghost use Rattle.miette_snippets.specs.rules.CutLines.{is_near, stretches};
+ghost use Rattle.miette_cuts.specs.views.Cuts.{measure};
+ghost use Rattle.miette_cuts.specs.steps.Cut.{cell_at, even, plain_run, plain_told};
+
+use crate::stretch::{Stretch, is_shown, put_stretch};
+use crate::tabs::push_ascii;
+use miette_page::canvas::Canvas;
+use miette_page::page::{PLAIN, Page};
+use std::alloc::{AllocError, Global};
+
+// Whether a column is near where there is no end, as those before the limit are, and the column, at most `len`, up to
+// which those behind it are near where it is.
+fn turn_at(limit: usize, column: usize, len: usize) -> (bool, usize)
+    requires { column < len }
+    ensures more { column < result.1 }
+    ensures within { result.1 ≤ len }
+    ensures alike { (x : ℕ) → column ≤ x → x < result.1 → nat_lt x limit ≡ result.0 }
+{
+    if column < limit {
+        return (true, limit.min(len));
+    }
+    (false, len)
+}
+
+// Whether the cell of one column that stands at a column is near, and the column, at most `len`, up to which those
+// behind it are near where it is.
+fn turn_behind(limit: usize, ends: &[usize], column: usize, len: usize) -> (bool, usize)
+    requires { column < len }
+    ensures more { column < result.1 }
+    ensures within { result.1 ≤ len }
+    ensures alike { (x : ℕ) → column ≤ x → x < result.1 → is_near limit ends.now (cell_at x) ≡ result.0 }
+{
+    if ends.is_empty() {
+        return turn_at(limit, column, len);
+    }
+    let reach = limit / 4;
+    let mut until = len;
+    for end in ends {
+        let from = end.saturating_sub(reach);
+        let behind = end.saturating_add(reach).saturating_add(1);
+        if column < from {
+            until = until.min(from);
+        } else if column < behind {
+            return (true, until.min(behind));
+        }
+    }
+    (false, until)
+}
+
+// The stretch of cells of one column each from a column on, as far as they are as near as the first.
+fn even_stretch(limit: usize, ends: &[usize], column: usize, len: usize) -> Stretch
+    requires { column < len }
+    ensures even { result ≡ even result.near result.cells }
+    ensures some { 0 < result.cells }
+    ensures within { column + result.cells ≤ len }
+    ensures alike { (x : ℕ) → column ≤ x → x < column + result.cells →
+        is_near limit ends.now (cell_at x) ≡ result.near }
+{
+    let (near, until) = turn_behind(limit, ends, column, len);
+    let cells = until - column;
+    Stretch {
+        near,
+        cells,
+        columns: cells,
+        bytes: cells,
+    }
+}
+
+/// The stretches of a text of printable ASCII in a line with these ends.
+pub(crate) fn plain_stretches(
+    alloc: Global,
+    text: &[u8],
+    limit: usize,
+    ends: &[usize],
+) -> Result<Vec<Stretch>, AllocError>
+    requires { list_all is_printable text.now ≡ true }
+    ensures { IfOk result (λ made. (start : ℕ) → made.items
+        ≡ map measure (stretches (is_near limit ends.now) false (plain_cells start 0 text.now))) }
+{
+    let mut made = Vec::new(alloc);
+    if text.is_empty() {
+        return Ok(made);
+    }
+    let mut reached = even_stretch(limit, ends, 0, text.len());
+    let mut column = reached.cells;
+    while column < text.len() {
+        let next = even_stretch(limit, ends, column, text.len());
+        column += next.cells;
+        put_stretch(&mut made, &mut reached, next)?;
+    }
+    made.push(reached)?;
+    Ok(made)
+}
+
+// A stretch of printable ASCII that stands first in these bytes, or its dots.
+fn push_plain_stretch<O: Canvas>(
+    page: &mut Page<O>,
+    own: &[u8],
+    stretch: &Stretch,
+) -> Result<(), AllocError>
+    requires { list_all is_printable own.now ≡ true }
+    ensures { OnOk result ((bytes : List ℕ) → own.now ≡ take stretch.now.cells bytes →
+        page.new ≡ page.old ⊕ plain_run stretch.now bytes) }
+{
+    page.begin(PLAIN)?;
+    if is_shown(stretch) {
+        push_ascii(page, own)?;
+        return Ok(());
+    }
+    page.push_copies('.', 3)?;
+    Ok(())
+}
+
+/// The cells of a text of printable ASCII, of which these are the stretches. `AllocError` where memory is refused.
+pub(crate) fn push_plain_cut<O: Canvas>(
+    page: &mut Page<O>,
+    text: &[u8],
+    cut: &[Stretch],
+) -> Result<(), AllocError>
+    requires { list_all is_printable text.now ≡ true }
+    ensures { OnOk result (page.new ≡ page.old ⊕ plain_told cut.now text.now) }
+{
+    let mut rest = text;
+    for stretch in cut {
+        let (own, later) = rest.split_at(stretch.cells.min(rest.len()));
+        push_plain_stretch(page, own, stretch)?;
+        rest = later;
+    }
+    Ok(())
+}
