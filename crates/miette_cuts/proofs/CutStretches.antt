@@ -1,7 +1,7 @@
 -- The stretches of a line that is cut, by their counts, and its columns in the row.
-use Rattle.std.proofs.Common.{ℕ, ◌+◌, ◌-◌, ◌<◌, ◌≤◌, ◌≡◌, Bool, true, false, cond, ltb, leb, List, [], ◌∷◌, ◌++◌, map, length, drop, get_or, refl, sym, ap, ap₂, subst, ◌∙◌, ◌&&◌, ◌||◌, ◌/◌, append_assoc, append-nil, length-append, Option, Some, None, option_map, arith}
+use Rattle.std.proofs.Common.{ℕ, ◌+◌, ◌-◌, ◌<◌, ◌≤◌, ◌≡◌, Bool, true, false, cond, ltb, List, [], ◌∷◌, ◌++◌, map, length, drop, get_or, refl, sym, ap, subst, ◌∙◌, ◌||◌, ◌/◌, append_assoc, append-nil, length-append, Option, Some, None, option_map, arith}
 use Rattle.std.proofs.Math.Bool.{beq}
-use Rattle.std.proofs.lemmas.Bool.{lt-ltb, le-ltb, le-leb, lt-leb, ltb-true, ltb-false, leb-true, leb-false}
+use Rattle.std.proofs.lemmas.Bool.{lt-ltb, le-ltb}
 use Rattle.std.proofs.lemmas.List.{at_drop_more, at_drop_all}
 use Rattle.std.specs.List.{All, AllByRecursion, list_any}
 use Rattle.std.proofs.lemmas.List.Elements.{All-from_recursion, recursion_from_All}
@@ -119,9 +119,6 @@ pub stretches_end : (near : Cell → Bool) (walk : List Cell) (made new whole : 
     made ++ onto_made reached (map measure (stretches near reached.near walk)) ≡ whole → new ≡ whole
 stretches_end near walk made new whole reached e n inv = n ∙ ap (λ cells. made ++ onto_made reached (map measure (stretches near reached.near cells))) (sym e) ∙ inv
 
-pub none_stretches : (near : Cell → Bool) (walk : List Cell) (made : List MadeStretch) → walk ≡ [] → made ≡ [] → made ≡ map measure (stretches near false walk)
-none_stretches near walk made e none = none ∙ ap (λ cells. map measure (stretches near false cells)) (sym e)
-
 -- ---- columns
 
 pub column_here : (cut : List MadeStretch) (i left before own : ℕ) (d : MadeStretch) (whole : ℕ) → i < length cut → left < (get_or cut i d).columns → own ≡ cond (is_kept (get_or cut i d)) left 0 →
@@ -140,9 +137,6 @@ column_past cut i left before next d whole lt past n inv =
     let sum : next + rest ≡ before + (kept_columns s + rest) = omega (arith, n) in
     sum ∙ ap (λ b. before + cond b (cond (is_kept s) left 0) (kept_columns s + rest)) (sym (le-ltb left s.columns past))
     ∙ ap (λ xs. before + made_column xs left) (sym (at_drop_more (λ (xs : List MadeStretch). xs) cut i d lt)) ∙ inv
-
-pub column_end : (cut : List MadeStretch) (i left before : ℕ) (whole : ℕ) → length cut ≤ i → before + made_column (drop i cut) left ≡ whole → before + left ≡ whole
-column_end cut i left before whole le inv = ap (λ xs. before + made_column xs left) (sym (at_drop_all (λ (xs : List MadeStretch). xs) cut i le)) ∙ inv
 
 column-measured : (ss : List Stretch) (column : ℕ) → row_column ss column ≡ made_column (map measure ss) column
 column-measured [] column = refl
@@ -206,24 +200,6 @@ cut_none limit width ms cells w le =
     rw fits refl
 
 -- ---- whether a cell is near
-
-pub within_test : (from until column reach : ℕ) → (leb (from - column) reach && (ltb column until || ltb (column - until) reach)) ≡ (leb from (column + reach) && ltb column (until + reach))
-within_test from until column reach = ap₂ (λ a b. a && b) (low from column reach) (high column until reach)
-  where
-    low : (a b n : ℕ) → leb (a - b) n ≡ leb a (b + n)
-    low a b n =
-        by_cases {C = leb (a - b) n ≡ leb a (b + n)} (leb a (b + n))
-        (λ y. let le : a ≤ b + n = leb-true a (b + n) y in rw (y, le-leb (a - b) n (omega (arith, le))) refl)
-        (λ f. let lt : b + n < a = leb-false a (b + n) f in rw (f, lt-leb (a - b) n (omega (arith, lt))) refl)
-
-    high : (a b n : ℕ) → (ltb a b || ltb (a - b) n) ≡ ltb a (b + n)
-    high a b n =
-        by_cases {C = (ltb a b || ltb (a - b) n) ≡ ltb a (b + n)} (ltb a b)
-        (λ y. let lt : a < b = ltb-true a b y in rw (y, lt-ltb a (b + n) (omega (arith, lt))) refl)
-        (λ f. let ge : b ≤ a = ltb-false a b f in
-        by_cases {C = (ltb a b || ltb (a - b) n) ≡ ltb a (b + n)} (ltb a (b + n))
-        (λ y. let lt : a < b + n = ltb-true a (b + n) y in rw (f, y, lt-ltb (a - b) n (omega (arith, lt, ge))) refl)
-        (λ g. let le : b + n ≤ a = ltb-false a (b + n) g in rw (f, g, le-ltb (a - b) n (omega (arith, le))) refl))
 
 pub near_first_columns : (limit : ℕ) (es : List ℕ) (cell : Cell) → length es ≡ 0 → ltb cell.from limit ≡ is_near limit es cell
 near_first_columns limit [] cell h = refl

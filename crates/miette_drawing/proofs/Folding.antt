@@ -1,7 +1,7 @@
 -- Which lines a program leaves out.
-use Rattle.std.proofs.Common.{ℕ, ◌+◌, ◌-◌, ◌<◌, ◌≤◌, ◌≡◌, Bool, true, false, cond, leb, not, ◌&&◌, ◌||◌, List, [], ◌∷◌, ◌++◌, length, map, drop, get_or, Some, refl, sym, ap, ◌∙◌, subst, arith, append_assoc}
+use Rattle.std.proofs.Common.{ℕ, ◌+◌, ◌-◌, ◌≤◌, ◌≡◌, Bool, true, false, cond, leb, not, ◌&&◌, ◌||◌, List, [], ◌∷◌, length, map, drop, Some, refl, sym, ap, ◌∙◌, subst, arith}
 use Rattle.std.specs.List.{list_any}
-use Rattle.std.proofs.lemmas.List.{length-drop, at_drop_more}
+use Rattle.std.proofs.lemmas.List.{length-drop}
 use Rattle.std.proofs.lemmas.List.Sums.{sum_by-cons}
 use Rattle.miette_newlines.specs.rules.Lines as P
 use Rattle.miette_newlines.specs.rules.Lines.{Line}
@@ -57,17 +57,6 @@ pub all_placed : (start : ℕ) (bytes : List ℕ) (offset : ℕ) (rest : Rest) (
 all_placed start bytes offset rest place h none =
     let zero' : place_among (lines_left rest) offset ≡ 0 = ap (λ bs. place_among (P.lines_from rest.start bs) offset) none in
     omega (arith, zero', h.count)
-
--- ---- labels among lines
-
-pub folds_more : (f : MadeSpread → Fold) (labels : List MadeSpread) (i : ℕ) (d : MadeSpread) (fold : Fold) (folds more whole : List Fold) → i < length labels → fold ≡ f (get_or labels i d) → more ≡ folds ++ fold ∷ [] →
-    folds ++ map f (drop i labels) ≡ whole → more ++ map f (drop (i + 1) labels) ≡ whole
-folds_more f labels i d fold folds more whole lt own put h =
-    ap (λ fs. fs ++ map f (drop (i + 1) labels)) put
-    ∙ append_assoc folds (fold ∷ []) (map f (drop (i + 1) labels))
-    ∙ ap (λ x. folds ++ x ∷ map f (drop (i + 1) labels)) own
-    ∙ ap (λ r. folds ++ r) (sym (at_drop_more (map f) labels i d lt))
-    ∙ h
 
 -- ---- what is left out
 

@@ -1,7 +1,6 @@
 pub mod Bodies
 pub mod Bridge
 pub mod CutColumns
-mod CutExamples
 pub mod Data
 pub mod Endings
 pub mod Ends
