@@ -76,32 +76,22 @@ fn rendered(
     report: &Report,
     text: &mut String,
 ) -> Result<Result<(), RenderError>, Stop> {
+    let mut narrated = NarratableReportHandler::new();
+    let mut brief = BriefReportHandler::new();
+    let mut json = JSONReportHandler::new();
+    let mut debug = DebugReportHandler::new();
     Ok(match name {
-        "NarratableReportHandler::render_report" => {
-            NarratableReportHandler::new().render_report(report, text)
-        }
-        "NarratableReportHandler::render" => NarratableReportHandler::new().render(report, text),
-        "ReportHandler::debug for NarratableReportHandler" => {
-            NarratableReportHandler::new().debug(report, text)
-        }
-        "BriefReportHandler::render_report" => {
-            BriefReportHandler::new().render_report(report, text)
-        }
-        "BriefReportHandler::render" => BriefReportHandler::new().render(report, text),
-        "ReportHandler::debug for BriefReportHandler" => {
-            BriefReportHandler::new().debug(report, text)
-        }
-        "JSONReportHandler::render_report" => JSONReportHandler::new().render_report(report, text),
-        "ReportHandler::debug for JSONReportHandler" => {
-            JSONReportHandler::new().debug(report, text)
-        }
-        "DebugReportHandler::render_report" => {
-            DebugReportHandler::new().render_report(report, text)
-        }
-        "ReportHandler::debug for DebugReportHandler" => {
-            DebugReportHandler::new().debug(report, text)
-        }
-        "ReportHandler::display" => DebugReportHandler::new().display(report, true, text),
+        "NarratableReportHandler::render_report" => narrated.render_report(report, text),
+        "NarratableReportHandler::render" => narrated.render(report, text),
+        "ReportHandler::debug for NarratableReportHandler" => narrated.debug(report, text),
+        "BriefReportHandler::render_report" => brief.render_report(report, text),
+        "BriefReportHandler::render" => brief.render(report, text),
+        "ReportHandler::debug for BriefReportHandler" => brief.debug(report, text),
+        "JSONReportHandler::render_report" => json.render_report(report, text),
+        "ReportHandler::debug for JSONReportHandler" => json.debug(report, text),
+        "DebugReportHandler::render_report" => debug.render_report(report, text),
+        "ReportHandler::debug for DebugReportHandler" => debug.debug(report, text),
+        "ReportHandler::display" => debug.display(report, true, text),
         _ => return drawn(alloc, name, report, text),
     })
 }
