@@ -6,6 +6,9 @@ ghost use Rattle.miette_cuts.specs.steps.Cut.{grown, onto_made};
 
 use std::alloc::AllocError;
 
+/// A line's stretches; none where it isn't cut.
+pub type Cut = Option<Vec<Stretch>>;
+
 /// Cells one after the other that are all near an end of a mark, or of which none is: how many, and how many columns
 /// and bytes they have.
 #[derive(Clone, Copy, Debug, PartialEq, Eq, Drop)]
@@ -19,9 +22,6 @@ pub struct Stretch {
     /// The bytes that their characters have in a text.
     pub bytes: usize,
 }
-
-/// A line's stretches; none where it isn't cut.
-pub type Cut = Option<Vec<Stretch>>;
 
 /// A sum, which is refused as want of memory where it is past the largest `usize`.
 pub(crate) fn sum(a: usize, b: usize) -> Result<usize, AllocError>

@@ -1,6 +1,6 @@
 use Rattle.miette_cuts.proofs.Cells.{piece_end, piece_more}
 use Rattle.std.proofs.Common.{refl}
-use Rattle.miette_cuts.proofs.line_text.push_line_text.Goals as goal
+use Rattle.miette_cuts.proofs.shown.push_line_text.Goals as goal
 
 pub loop-piece-preserved : goal.loop-piece-preserved
 loop-piece-preserved g c =
