@@ -10,24 +10,18 @@ ghost use Rattle.miette_layout.specs.steps.Spreads.{read_spread, read_spreads};
 
 use miette_drawing::folds::Spread;
 use miette_lines::grouping::end_of;
-use miette_lines::reading::{ReadLabel, some_own};
+use miette_lines::reading::{ReadLabel, lines_around, some_own, usual_lines};
 use miette_protocol::protocol::{LabeledSpan, SourceSpan};
 use miette_snippets::options::Look;
 use std::alloc::{AllocError, Global};
 
-// The lines around the label at an index: its own number, else this one, which counts as at least 1 where some label
-// has its own.
-fn lines_around(context: usize, own: bool, labels: &[LabeledSpan], index: usize) -> usize
+// The lines around the label at an index.
+fn lines_at(context: usize, own: bool, labels: &[LabeledSpan], index: usize) -> usize
     ensures { result ≡ unwrap_or (label_at labels.now index).context (if own then max 1 context else context) }
 {
-    let number = match labels.get(index) {
-        Some(label) => label.context_lines(),
-        None => None,
-    };
-    match number {
-        Some(lines) => lines,
-        None if own => context.max(1),
-        None => context,
+    match labels.get(index) {
+        Some(label) => lines_around(context, own, label),
+        None => usual_lines(context, own),
     }
 }
 
@@ -66,7 +60,7 @@ fn spread(
         last: last_byte(read)?,
         from: read.contents.span().offset(),
         until: behind(read.contents.span())?,
-        around: lines_around(context, own, labels, read.index),
+        around: lines_at(context, own, labels, read.index),
     })
 }
 

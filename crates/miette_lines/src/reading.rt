@@ -66,14 +66,21 @@ pub fn some_own(labels: &[LabeledSpan]) -> bool
     false
 }
 
-// The lines around a label: its own number, else this one, which counts as at least 1 where some label has its own.
-fn lines_around(context: usize, own: bool, label: &LabeledSpan) -> usize
+/// The lines around a label that has no number of its own: this one, which counts as at least 1 where some label has
+/// its own.
+pub fn usual_lines(context: usize, own: bool) -> usize
+    ensures { result ≡ (if own then max 1 context else context) }
+{
+    if own { context.max(1) } else { context }
+}
+
+/// The lines around a label: its own number, else that of a label that has none.
+pub fn lines_around(context: usize, own: bool, label: &LabeledSpan) -> usize
     ensures { result ≡ unwrap_or label.now.context (if own then max 1 context else context) }
 {
     match label.context_lines() {
         Some(lines) => lines,
-        None if own => context.max(1),
-        None => context,
+        None => usual_lines(context, own),
     }
 }
 
