@@ -50,27 +50,16 @@ pub enum Program {
 }
 
 impl Program {
-    /// Its name.
-    fn name(self) -> &'static str
-        ensures { result.now ≡ name_of self }
+    /// Its name, and the words that it takes.
+    fn name_and_usage(self) -> (&'static str, &'static str)
+        ensures name { result.0.now ≡ name_of self }
+        ensures usage { result.1.now ≡ usage_of self }
     {
         match self {
-            Program::Draw => "draw",
-            Program::Job => "job",
-            Program::Bench => "bench",
-            Program::Lint => "lint",
-        }
-    }
-
-    /// The words that it takes.
-    fn usage(self) -> &'static str
-        ensures { result.now ≡ usage_of self }
-    {
-        match self {
-            Program::Draw => "NAME OFFSET LENGTH LABEL MESSAGE",
-            Program::Job => "[OPTIONS]",
-            Program::Bench => "N [OPTIONS]",
-            Program::Lint => "[--brief] NAME WIDTH",
+            Program::Draw => ("draw", "NAME OFFSET LENGTH LABEL MESSAGE"),
+            Program::Job => ("job", "[OPTIONS]"),
+            Program::Bench => ("bench", "N [OPTIONS]"),
+            Program::Lint => ("lint", "[--brief] NAME WIDTH"),
         }
     }
 
@@ -90,8 +79,7 @@ impl Program {
     fn tell<F: Write>(self, fault: Fault, faults: &mut F) -> io::Result<()>
         ensures row { OnOk result (Appends (F.contents faults.old) (F.contents faults.new) (fault_row self fault)) }
     {
-        let name = self.name();
-        let usage = self.usage();
+        let (name, usage) = self.name_and_usage();
         match fault {
             Fault::Usage => writeln!(faults, "usage: {name} {usage}"),
             Fault::Memory => writeln!(faults, "{name}: out of memory"),
