@@ -30,11 +30,8 @@ fn main(rt: HostRuntime) -> ExitCode {
 
 fn run<R: Env + Print + AllocGlobal>(rt: &R) -> Result<()> {
     let alloc = rt.alloc();
-    let words = env::args(rt).into_diagnostic(alloc)?;
-    let text = words
-        .skip(1)
-        .next()
-        .wrap_err(alloc, "usage: calc EXPRESSION")?;
+    let mut words = env::args(rt).into_diagnostic(alloc)?;
+    let text = words.nth(1).wrap_err(alloc, "usage: calc EXPRESSION")?;
     match value_of(text.as_str()) {
         Ok(value) => println!(rt; "{value}").into_diagnostic(alloc),
         Err(fault) => Err(report_of(alloc, text.as_str(), fault)?).wrap_err(

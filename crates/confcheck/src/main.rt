@@ -27,11 +27,8 @@ fn main(rt: HostRuntime) -> ExitCode {
 
 fn run<R: Env + Files + Print + AllocGlobal>(rt: &R) -> Result<()> {
     let alloc = rt.alloc();
-    let words = env::args(rt).into_diagnostic(alloc)?;
-    let name = words
-        .skip(1)
-        .next()
-        .wrap_err(alloc, "usage: confcheck FILE")?;
+    let mut words = env::args(rt).into_diagnostic(alloc)?;
+    let name = words.nth(1).wrap_err(alloc, "usage: confcheck FILE")?;
     let text = fs::read_to_string(rt, name.as_str())
         .into_diagnostic(alloc)
         .wrap_err_with(alloc, || format!(in alloc; "could not read {name}"))?;
