@@ -232,6 +232,7 @@ pub fn rendered<W: Write>(
     handler: &str,
     lines: usize,
 ) -> Done {
+    let asked = Asked { report, lines };
     match handler {
         "narrated" => {
             let mut telling = NarratableReportHandler::new().with_context_lines(lines);
@@ -240,13 +241,13 @@ pub fn rendered<W: Write>(
         "brief" => behind(alloc, out, &mut BriefReportHandler::new(), report),
         "json" => behind(alloc, out, &mut JSONReportHandler::new(), report),
         "debug" => behind(alloc, out, &mut DebugReportHandler::new(), report),
-        "wanting" => drawn(alloc, out, Red(2), false, (report, lines)),
-        "nested wanting" => drawn(alloc, out, Red(2), true, (report, lines)),
-        "chosen wanting" => chosen(alloc, out, Red(2), false, (report, lines)),
-        "highlighted" => drawn(alloc, out, Red(usize::MAX), false, (report, lines)),
-        "nested" => drawn(alloc, out, Red(usize::MAX), true, (report, lines)),
-        "chosen" => chosen(alloc, out, Red(usize::MAX), false, (report, lines)),
-        "chosen narrated" => chosen(alloc, out, Red(usize::MAX), true, (report, lines)),
+        "wanting" => drawn(alloc, out, Red(2), false, &asked),
+        "nested wanting" => drawn(alloc, out, Red(2), true, &asked),
+        "chosen wanting" => chosen(alloc, out, Red(2), false, &asked),
+        "highlighted" => drawn(alloc, out, Red(usize::MAX), false, &asked),
+        "nested" => drawn(alloc, out, Red(usize::MAX), true, &asked),
+        "chosen" => chosen(alloc, out, Red(usize::MAX), false, &asked),
+        "chosen narrated" => chosen(alloc, out, Red(usize::MAX), true, &asked),
         _ => {
             let theme = GraphicalTheme::unicode(alloc)?;
             let mut drawing: GraphicalReportHandler<Red> = GraphicalReportHandler::themed(theme);
@@ -256,38 +257,32 @@ pub fn rendered<W: Write>(
     }
 }
 
-fn drawn<W: Write>(
-    alloc: Global,
-    out: &mut W,
-    highlighter: Red,
-    nested: bool,
-    (report, lines): (&Made<'_>, usize),
-) -> Done {
+/// A report, and how many lines are shown around its labels.
+struct Asked<'a, 'b> {
+    report: &'a Made<'b>,
+    lines: usize,
+}
+
+fn drawn<W: Write>(alloc: Global, out: &mut W, red: Red, nested: bool, it: &Asked<'_, '_>) -> Done {
     let theme = GraphicalTheme::unicode(alloc)?;
     let mut drawing = GraphicalReportHandler::themed(theme)
         .with_width(30)
-        .with_context_lines(lines)
+        .with_context_lines(it.lines)
         .with_show_related_as_nested(nested)
-        .with_syntax_highlighting(highlighter);
-    behind(alloc, out, &mut drawing, report)
+        .with_syntax_highlighting(red);
+    behind(alloc, out, &mut drawing, it.report)
 }
 
 /// By the handler that options choose for a terminal.
-fn chosen<W: Write>(
-    alloc: Global,
-    out: &mut W,
-    highlighter: Red,
-    narrated: bool,
-    (report, lines): (&Made<'_>, usize),
-) -> Done {
+fn chosen<W: Write>(alloc: Global, out: &mut W, red: Red, told: bool, it: &Asked<'_, '_>) -> Done {
     let options: MietteHandlerOpts<Red> = MietteHandlerOpts::default();
     let mut handler = options
         .width(30)
-        .force_narrated(narrated)
-        .context_lines(lines)
-        .with_syntax_highlighting(highlighter)
+        .force_narrated(told)
+        .context_lines(it.lines)
+        .with_syntax_highlighting(red)
         .build(alloc, &terminal(alloc)?)?;
-    behind(alloc, out, &mut handler, report)
+    behind(alloc, out, &mut handler, it.report)
 }
 
 fn behind<H: ReportHandler, W: Write>(
