@@ -1,8 +1,8 @@
 //! The texts of the labels of several lines that end on a line.
 
-ghost use Rattle.std.specs.Prelude.{◌≡◌, ◌++◌, ◌∷◌, [], not, ◌&&◌, chars, map, OnOk};
+ghost use Rattle.std.specs.Prelude.{◌≡◌, ◌∷◌, [], not, ◌&&◌, chars, map, OnOk};
 ghost use Rattle.miette_page.specs.views.Printouts.{◌⊕◌};
-ghost use Rattle.miette_page.specs.views.Tokens.{row_end, rows_tokens, styled_tokens};
+ghost use Rattle.miette_page.specs.views.Tokens.{rows_tokens};
 ghost use Rattle.miette_lines.specs.rules.Labels.{starts_on, ends_on, cut_at_lf, closing_labels};
 ghost use Rattle.miette_snippets.specs.rules.Gutters.{closing_parts, closing_rows};
 ghost use Rattle.miette_snippets.specs.rules.Frames.{other_start};
@@ -13,7 +13,7 @@ ghost use Rattle.miette_drawing.specs.steps.Sheets.{settings, multi_labels, clos
 ghost use Rattle.miette_newlines.specs.views.Walking.{line_of_text};
 
 use crate::gutters::{ends, push_open_gutter, push_other_gutter, starts};
-use crate::label_text::first_part;
+use crate::label_text::{first_part, push_part};
 use crate::sheet::{Outcome, Sheet};
 use crate::texts::push_other_start;
 use miette_lines::drawn_labels::text_of;
@@ -21,7 +21,6 @@ use miette_lines::sweep::PlacedLabel;
 use miette_newlines::lines::LineOfText;
 use miette_page::canvas::Canvas;
 use miette_page::page::Page;
-use miette_style::style::Style;
 
 // Whether a label ends on a line and began before it.
 fn closes(line: &LineOfText, label: &PlacedLabel) -> bool
@@ -29,16 +28,6 @@ fn closes(line: &LineOfText, label: &PlacedLabel) -> bool
         && not (starts_on (line_of_text line.now) (label_of label.now)) }
 {
     ends(line, label) && !starts(line, label)
-}
-
-// The end of a row: `─ a label's text`.
-fn push_part<O: Canvas>(page: &mut Page<O>, style: Style, bar: char, part: &str) -> Outcome
-    ensures { OnOk result (page.new ≡ page.old ⊕ (styled_tokens style (bar ∷ 32 ∷ chars part.now) ++ row_end ∷ [])) }
-{
-    page.push_line(style, bar, ' ', 1)?;
-    page.push_str(part)?;
-    page.end_row()?;
-    Ok(())
 }
 
 // A row of a text behind the corner of the gutter: `   · │╰─── a label's text`.

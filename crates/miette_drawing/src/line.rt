@@ -5,7 +5,7 @@ ghost use Rattle.std.specs.List.{All};
 ghost use Rattle.miette_snippets.specs.rules.Marks.{marks};
 ghost use Rattle.miette_snippets.specs.rules.Drawing.{marked_rows};
 ghost use Rattle.miette_snippets.specs.rules.Frames.{number_start};
-ghost use Rattle.miette_snippets.specs.rules.SnippetLayout.{before_each, line_rows_of, text_of_cells};
+ghost use Rattle.miette_snippets.specs.rules.SnippetLayout.{before_each, text_of_cells};
 ghost use Rattle.miette_snippets.specs.rules.SnippetLayout.{break_row, line_or_break_of};
 ghost use Rattle.miette_page.specs.views.Printouts.{◌⊕◌};
 ghost use Rattle.miette_page.specs.views.Tokens.{row_tokens, rows_tokens};
@@ -127,34 +127,6 @@ fn push_break<O: Canvas>(page: &mut Page<O>, sheet: &Sheet, shown: &ShownLine) -
     Ok(())
 }
 
-// The rows of the sheet's line: the number row, the marks and texts of the labels that lie on it alone, and the texts
-// of the labels of several lines that end there.
-fn push_line_rows<O: Canvas>(
-    alloc: Global,
-    page: &mut Page<O>,
-    sheet: &Sheet,
-    shown: &ShownLine,
-) -> Outcome
-    requires { sheet.now.line.start + length shown.now.text.now < 2 ^ 64 }
-    ensures { OnOk result (page.new ≡ page.old
-        ⊕ rows_tokens (line_rows_of (settings sheet.now) sheet.now.number_width sheet.now.gutter
-        (labels_alone sheet.now shown.now) (multi_labels sheet.now) (line_of_text sheet.now.line) shown.now.number
-        (shown_cells sheet.now shown.now) (map highlight_of shown.now.pieces.now))) }
-{
-    let whole = marks_alone(alloc, sheet, shown)?;
-    let text = LineText {
-        start: sheet.line.start,
-        bytes: shown.text,
-        tab: sheet.options.tab_width,
-    };
-    let cut = cut_around(alloc, &text, &whole, sheet.options.line_columns)?;
-    push_number_row(page, sheet, shown, &text, &cut)?;
-    let marks = marks_shown(alloc, &cut, whole)?;
-    push_marked_rows(page, sheet, &marks)?;
-    push_closings(page, sheet)?;
-    Ok(())
-}
-
 /// The rows of the sheet's line: the number row, the marks and texts of the labels that lie on it alone, and the texts
 /// of the labels of several lines that end there. Where it is left out, the row of the break that begins with it, if
 /// one does. `AllocError` where memory is refused, or a column is past the largest `usize`.
@@ -174,6 +146,16 @@ pub(crate) fn push_line_or_break<O: Canvas>(
         push_break(page, sheet, shown)?;
         return Ok(());
     }
-    push_line_rows(alloc, page, sheet, shown)?;
+    let whole = marks_alone(alloc, sheet, shown)?;
+    let text = LineText {
+        start: sheet.line.start,
+        bytes: shown.text,
+        tab: sheet.options.tab_width,
+    };
+    let cut = cut_around(alloc, &text, &whole, sheet.options.line_columns)?;
+    push_number_row(page, sheet, shown, &text, &cut)?;
+    let marks = marks_shown(alloc, &cut, whole)?;
+    push_marked_rows(page, sheet, &marks)?;
+    push_closings(page, sheet)?;
     Ok(())
 }

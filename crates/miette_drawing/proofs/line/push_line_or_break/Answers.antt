@@ -1,5 +1,5 @@
 use Rattle.miette_page.specs.views.Printouts.{◌⊕◌}
-use Rattle.std.proofs.Common.{◌≡◌, List, Option, [], ◌∷◌, ◌∙◌, false, map, ap, option_map}
+use Rattle.std.proofs.Common.{◌≡◌, List, Option, [], ◌∷◌, ◌∙◌, false, map, ap, sym, option_map, rules}
 use Rattle.miette_page.specs.rules.Rows.{Row}
 use Rattle.miette_page.specs.views.Tokens.{rows_tokens}
 use Rattle.miette_lines.specs.rules.Answers.{Highlight}
@@ -12,7 +12,7 @@ use Rattle.miette_snippets.specs.rules.Drawing.{marked_rows}
 use Rattle.miette_snippets.specs.rules.Gutters.{closing_rows}
 use Rattle.miette_snippets.specs.rules.Frames.{other_start}
 use Rattle.miette_snippets.specs.rules.Highlighting.{highlight_of}
-use Rattle.miette_snippets.specs.rules.SnippetLayout.{before_each, text_of_cells}
+use Rattle.miette_snippets.specs.rules.SnippetLayout.{before_each, line_or_break_of, text_of_cells}
 use Rattle.miette_snippets.proofs.CutColumns.{columns_from}
 use Rattle.miette_cuts.specs.views.Cuts.{made_runs, measure}
 use Rattle.miette_cuts.specs.views.Marks.{mark_of}
@@ -21,7 +21,7 @@ use Rattle.miette_newlines.specs.views.Walking.{line_of_text}
 use Rattle.miette_cuts.proofs.CutStretches.{shown_made_anchored}
 use Rattle.miette_cuts.proofs.CutTexting.{shown_made}
 use Rattle.miette_drawing.proofs.Lining.{line_put}
-use Rattle.miette_drawing.proofs.line.push_line_rows.Goals as goal
+use Rattle.miette_drawing.proofs.line.push_line_or_break.Goals as goal
 use Rattle.miette_style.specs.rules.Themes.{characters_of}
 
 pub push_marked_rows-requires : goal.push_marked_rows-requires
@@ -48,6 +48,7 @@ returns g c =
     let pieces : List Highlight = map highlight_of shown.pieces.now in
     let own : List Mark = marks (text_of_cells cells sheet.line.text_end) (labels_alone sheet shown) in
     let o : Option (List Stretch) = cut_line sheet.options.line_columns own cells in
+    let kept : shown.left_out ≡ false = search rules in
     let drawn : List Mark → List Row = λ ms. before_each (before_marks sheet) (marked_rows width_of (characters_of sheet.theme.now.characters) ms) in
     let made : option_map (λ v. v.items) c.in_ok-cut.cut ≡ option_map (map measure) o =
     c.in_ok-cut.ensures ls ∙ ap (λ ms. option_map (map measure) (cut_line sheet.options.line_columns (map (mark_of ls) ms) cells)) c.deref.ensures.value
@@ -61,3 +62,4 @@ returns g c =
     (c.in_ok-push_number_row.ensures ∙ ap (λ runs. c.args.page.now ⊕ rows_tokens (number_row sheet shown runs ∷ [])) text)
     (c.in_ok-push_marked_rows.ensures ∙ ap (λ ms. c.push_number_row.new.page ⊕ rows_tokens (drawn (map (mark_of ls) ms))) c.deref-2.ensures.value ∙ ap (λ ms. c.push_number_row.new.page ⊕ rows_tokens (drawn ms)) moved)
     c.in_ok-push_closings.ensures
+    ∙ ap (λ out. c.args.page.now ⊕ rows_tokens (line_or_break_of shown.gap out (settings sheet) sheet.number_width sheet.gutter (labels_alone sheet shown) (multi_labels sheet) (line_of_text sheet.line) shown.number cells pieces)) (sym kept)
