@@ -258,6 +258,7 @@ pub fn rendered<W: Write>(
 }
 
 /// A report, and how many lines are shown around its labels.
+#[derive(Clone, Copy)]
 struct Asked<'a, 'b> {
     report: &'a Made<'b>,
     lines: usize,
