@@ -47,10 +47,6 @@ pub record IsAccepted (bytes : List ℕ) (span : Span) : Type 0 where
 abbrev pub is_accepted : List ℕ → Span → Bool
 is_accepted bytes span = nat_le span.offset (length bytes) && nat_le (span.offset + span.len) (length bytes + 1)
 
--- the same as a test
-abbrev pub is_accepted : List ℕ → Span → Bool
-is_accepted bytes span = nat_le span.offset (length bytes) && nat_le (span.offset + span.len) (length bytes + 1)
-
 -- where a span ends; an empty span at 0 is read as the first byte
 abbrev pub span_end : Span → ℕ
 span_end span = if span.offset + span.len == 0 then 1 else span.offset + span.len

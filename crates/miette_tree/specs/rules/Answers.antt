@@ -1,7 +1,6 @@
 -- Answers in the form of a tree of reports: of the report, of its cause, and of each report that is related to it.
 -- What one answer is, each handler says, and what it is where nothing is listed.
 use Rattle.std.specs.Prelude.{Bool, false}
-use Rattle.std.specs.Prelude.{Bool, false}
 
 mutual
   pub data AnswerTree (A : Type 0) : Type 0 where
@@ -17,10 +16,6 @@ mutual
 abbrev pub own_or : {A : Type 0} → A → AnswerTree A → A
 own_or otherwise unlisted = otherwise
 own_or otherwise (listed own cause related) = own
-
--- did the read of the report itself meet a fault? none where nothing is listed
-abbrev pub own_fault : AnswerTree Bool → Bool
-own_fault a = own_or false a
 
 -- did the read of the report itself meet a fault? none where nothing is listed
 abbrev pub own_fault : AnswerTree Bool → Bool
