@@ -1,4 +1,4 @@
-pub mod Cells
+pub mod CellPrints
 pub mod CutPlain
 pub mod CutStretches
 pub mod CutTexting

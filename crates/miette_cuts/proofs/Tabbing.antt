@@ -24,7 +24,7 @@ use Rattle.miette_snippets.specs.rules.Highlighting.{highlight_of}
 use Rattle.miette_snippets.proofs.Telling.{then}
 use Rattle.miette_cuts.specs.steps.CellTokens.{cells_tokens}
 use Rattle.miette_cuts.specs.steps.Tabs.{is_tabbed, tabbed_codes}
-use Rattle.miette_cuts.proofs.Cells.{codes_of_tab}
+use Rattle.miette_cuts.proofs.CellPrints.{codes_of_tab}
 use Rattle.miette_cuts.proofs.Untabbing.{printed_code}
 
 abbrev codes : List Cell → List ℕ

@@ -1,5 +1,5 @@
 use Rattle.miette_lines.specs.views.Walking.{cell_of}
-use Rattle.miette_cuts.proofs.Cells.{tab_put}
+use Rattle.miette_cuts.proofs.CellPrints.{tab_put}
 use Rattle.miette_cuts.proofs.cells.push_cell.Goals as goal
 
 pub returns-in_ok-push_copies : goal.returns-in_ok-push_copies

@@ -1,6 +1,6 @@
 use Rattle.std.proofs.Common.{◌≡◌, ◌∷◌, rules}
 use Rattle.miette_lines.specs.views.Walking.{cell_of}
-use Rattle.miette_cuts.proofs.Cells.{cells_more}
+use Rattle.miette_cuts.proofs.CellPrints.{cells_more}
 use Rattle.miette_cuts.proofs.cells.push_cells.Goals as goal
 
 pub loop-cell-preserved : goal.loop-cell-preserved

@@ -1,4 +1,4 @@
-use Rattle.miette_cuts.proofs.Cells.{piece_end, piece_more}
+use Rattle.miette_cuts.proofs.CellPrints.{piece_end, piece_more}
 use Rattle.std.proofs.Common.{refl}
 use Rattle.miette_cuts.proofs.shown.push_line_text.Goals as goal
 
