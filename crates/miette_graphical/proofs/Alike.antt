@@ -15,17 +15,13 @@ use Rattle.miette_graphical.specs.rules.Settings.{Settings}
 use Rattle.miette_graphical.specs.rules.Text.{are_last, body_over, causes_text, ends_there, inner_over, only_if, related_text, report_text}
 use Rattle.miette_graphical.specs.laws.Alike.{answer_at, numbered_answers}
 use Rattle.miette_graphical.specs.laws.Paths.{Step, to_cause, to_related, at_cause, at_related, printed_at}
-use Rattle.miette_graphical.proofs.Outermost.{report_over}
+use Rattle.miette_graphical.proofs.Outermost.{if_same, report_over}
 use Rattle.miette_graphical.proofs.Paths.{first_or_later, none}
 
 -- what holds of each of a list holds of one that is in it
 pub holds_there : (P : PrintedDiagnostic → Type 0) (ps : List PrintedDiagnostic) (p : PrintedDiagnostic) → AllByRecursion P ps → Contains ps p → P p
 holds_there P [] p all h = absurd (none p h)
 holds_there P (q ∷ ps) p all h = elim (first_or_later q ps p h) [ inl same ↦ subst P same all.0 | inr there ↦ holds_there P ps p all.1 there ]
-
-if_same : (nested : Bool) (x u y v : List ℕ) → (nested ≡ true → x ≡ u) → (nested ≡ false → y ≡ v) → (if nested then x else y) ≡ (if nested then u else v)
-if_same true x u y v p q = p refl
-if_same false x u y v p q = q refl
 
 module _ (rows others : SnippetRows) where
   -- the rows of a printed diagnostic, under an answer and under another one

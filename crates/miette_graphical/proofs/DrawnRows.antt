@@ -1,8 +1,8 @@
 -- The rows of snippets under answers: where nothing fails, they are those in which nothing is listed.
-use Rattle.std.proofs.Common.{◌≡◌, ◌≢◌, ℕ, Bool, true, false, ◌&&◌, ◌||◌, if◌then◌else◌, ◌⊎◌, inl, inr, List, [], ◌∷◌, refl, sym, ap, ap₂, ◌∙◌, subst, Option, Some, None, is_some, option_map, codes, length, ◌<◌, arith, ◌++◌}
+use Rattle.std.proofs.Common.{◌≡◌, ◌≢◌, ℕ, Bool, true, false, ◌||◌, if◌then◌else◌, ◌⊎◌, inl, inr, List, [], ◌∷◌, refl, sym, ap, ap₂, ◌∙◌, subst, Option, Some, None, is_some, option_map, codes, length, ◌<◌, arith, ◌++◌}
 use Rattle.miette_protocol.specs.views.Meaning.{Label, Meaning}
 use Rattle.miette_protocol.specs.rules.Reading.{Source, Span, is_accepted}
-use Rattle.miette_lines.specs.rules.Answers.{Highlight, NoneFails, AlwaysReads, next_answer, later_answers}
+use Rattle.miette_lines.specs.rules.Answers.{Highlight, NoneFails, AlwaysReads, later_answers}
 use Rattle.miette_lines.specs.rules.Contexts.{contents, lines_of_contents}
 use Rattle.miette_highlight.specs.rules.HighlighterCalls.{Call, Leads}
 use Rattle.miette_layout.specs.views.Outcomes.{MayGive}
@@ -10,7 +10,7 @@ use Rattle.miette_snippets.specs.rules.Folds.{spreads_of}
 use Rattle.miette_snippets.specs.rules.Frames as frames
 use Rattle.miette_snippets.specs.rules.Frames.{refused_row}
 use Rattle.miette_lines.specs.rules.Around.{has_own, group_context}
-use Rattle.miette_lines.specs.rules.Groups.{refusal, joins_before, joined_span, groups_from, groups_answered, own_groups, groups_of, some_fails, groups_fail, in_order, spans_of}
+use Rattle.miette_lines.specs.rules.Groups.{refusal, joins_before, joined_span, groups_from, groups_answered, own_groups, groups_of, in_order, spans_of}
 use Rattle.miette_snippets.specs.rules.Highlighting.{EachHasPieces, SnippetsHavePieces, texts_of, group_calls, snippet_calls}
 use Rattle.miette_snippets.specs.rules.SnippetLayout.{snippet_rows, rows_unless, rows_of_groups, settings_around, all_snippets}
 use Rattle.miette_page.specs.rules.Rows.{Row}
@@ -26,14 +26,8 @@ use Rattle.miette_graphical.specs.rules.Settings.{Settings}
 use Rattle.miette_graphical.specs.rules.Snippets.{layout_settings, shown_rows, drawn_rows}
 use Rattle.miette_graphical.proofs.PrintedRows.{rows_printed}
 use Rattle.miette_graphical.specs.steps.PartTexts.{AreDrawn, IsDrawn}
-
-next_none : (fails : List Bool) → NoneFails fails → next_answer fails ≡ false
-next_none [] h = refl
-next_none (f ∷ fails) h = h.0
-
-later_none : (fails : List Bool) → NoneFails fails → NoneFails (later_answers fails)
-later_none [] h = h
-later_none (f ∷ fails) h = h.1
+use Rattle.miette_lines.proofs.Bodies.{next_none, later_none, some_none}
+use Rattle.miette_lines.proofs.NoFailures.{none_unread}
 
 refusal_none : (bytes : List ℕ) (fails : List Bool) (labels : List Label) → NoneFails fails → refusal bytes fails labels ≡ refusal bytes [] labels
 refusal_none bytes fails [] h = refl
@@ -58,21 +52,10 @@ answered_none : (context : ℕ) (source : Source) (fails : List Bool) (spans : L
 answered_none context source fails [] h = refl
 answered_none context source fails (span ∷ spans) h = groups_none context source span fails spans h
 
-places_none : (fails : List Bool) (groups : List Span) → NoneFails fails → some_fails fails groups ≡ false
-places_none fails [] h = refl
-places_none fails (group ∷ groups) h = ap₂ (λ a b. a || b) (next_none fails h) (places_none (later_answers fails) groups (later_none fails h))
-
 grouped_none : (context : ℕ) (source : Source) (fails : List Bool) (labels : List Label) → NoneFails fails →
     groups_of context source fails labels ≡ groups_of context source [] labels
 grouped_none context source fails labels h =
     ap (λ gs. if has_own labels then own_groups context source labels else gs) (answered_none context source fails (spans_of labels) h)
-
-and_none : (a b : Bool) → b ≡ false → (a && b) ≡ false
-and_none true b h = h
-and_none false b h = refl
-
-unread_none : (context : ℕ) (source : Source) (fails : List Bool) (labels : List Label) → NoneFails fails → groups_fail context source fails labels ≡ false
-unread_none context source fails labels h = and_none (has_own labels) (some_fails fails (groups_of context source fails labels)) (places_none fails (groups_of context source fails labels) h)
 
 -- the rows of groups where nothing fails
 pub groups_given : (s : frames.SnippetSettings) (source : Source) (labels : List Label) (a : Answer) → AlwaysReads a →
@@ -81,7 +64,7 @@ pub groups_given : (s : frames.SnippetSettings) (source : Source) (labels : List
 groups_given s source labels a h =
     ap (λ g. rows_of_groups s source labels a g) (grouped_none s.context source a.join_fails labels h.joins)
     ∙ ap₂ (λ x y. if x || y then None else Some (all_snippets (settings_around s labels) (spreads_of s.label_lines s.context source labels) source labels a.pieces (groups_of s.context source [] labels)))
-    (unread_none s.context source a.join_fails labels h.joins) (places_none a.place_fails (groups_of s.context source [] labels) h.places)
+    (none_unread s.context source a.join_fails labels h.joins) (some_none a.place_fails (groups_of s.context source [] labels) h.places)
 
 pub none_listed : (pieces : List (List (List Highlight))) → AlwaysReads (pieces_listed pieces)
 none_listed pieces = record { labels = tt; joins = tt; places = tt }

@@ -1,5 +1,5 @@
 -- Where every source always reads and lines are left plain, the answers say nothing: the text is the one in which nothing is listed.
-use Rattle.std.proofs.Common.{◌≡◌, ℕ, Bool, true, false, List, [], ◌++◌, refl, ap, ap₂, ◌∙◌, Option, if◌then◌else◌}
+use Rattle.std.proofs.Common.{◌≡◌, Bool, true, false, List, [], ◌++◌, refl, ap, ap₂, ◌∙◌, Option, if◌then◌else◌}
 use Rattle.std.proofs.lemmas.Bool.{and_parts}
 use Rattle.miette_runs.specs.rules.Cutting.{without_trailing}
 use Rattle.miette_protocol.specs.views.Meaning.{Meaning, Label}
@@ -17,15 +17,11 @@ use Rattle.miette_graphical.specs.rules.Snippets.{layout_settings}
 use Rattle.miette_graphical.specs.rules.Text.{ends_there, are_last, only_if, body, inner_text, causes_text, related_text, report_text}
 use Rattle.miette_graphical.specs.rules.PossibleAnswers.{IsAnswerOf, AreCauseAnswers, AreRelatedAnswers, AreAnswers}
 use Rattle.miette_graphical.proofs.Lists.{both_read}
-use Rattle.miette_graphical.proofs.Outermost.{report_over}
+use Rattle.miette_graphical.proofs.Outermost.{if_same, report_over}
 use Rattle.miette_graphical.specs.steps.PrintedParts.{printed_inner, printed_sibling}
 
 unlisted_here : {l : frames.SnippetSettings} {source : Option Source} {labels : List Label} {reads : Bool} {a : Answer} → IsAnswerOf l true source labels reads a → reads ≡ true → a ≡ nothing_listed
 unlisted_here h e = h.read e ∙ ap pieces_listed (h.plain refl)
-
-if_same : (nested : Bool) (x u y v : List ℕ) → (nested ≡ true → x ≡ u) → (nested ≡ false → y ≡ v) → (if nested then x else y) ≡ (if nested then u else v)
-if_same true x u y v p q = p refl
-if_same false x u y v p q = q refl
 
 mutual
   same-causes : (l : frames.SnippetSettings) (rows : SnippetRows) (s : Settings) (outer : Option Severity) (inherited : Option Source) (c : Cause) (a : Answers) (nested : Bool) → s.nested ≡ nested →

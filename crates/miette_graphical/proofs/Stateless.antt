@@ -18,10 +18,9 @@ use Rattle.miette_snippets.specs.rules.Frames as frames
 use Rattle.miette_snippets.specs.rules.Frames.{refused_row, top_row, bottom_row, number_width}
 use Rattle.miette_snippets.specs.rules.Gutters.{gutter_columns}
 use Rattle.miette_snippets.specs.rules.Highlighting.{group_calls, highlight_of, line_calls, piece_of, pieces_by, texts_of}
-use Rattle.miette_snippets.specs.rules.SnippetLayout.{all_snippets, cells_of, drawn_labels, left_out, line_or_break, place_of, rows_of_lines, rows_unless, settings_around, snippet_rows}
+use Rattle.miette_snippets.specs.rules.SnippetLayout.{all_snippets, cells_of, drawn_labels, left_out, line_or_break, place_of, rows_of_lines, rows_unless, settings_around}
 use Rattle.miette_tree.specs.rules.DiagnosticParts.{given_labels}
 use Rattle.miette_tree.specs.rules.Tree.{Tree, tree, Cause, diagnostic, texts, Trees, no_trees, more_trees, effective}
-use Rattle.miette_tree.specs.views.Handler.{AppendsOne}
 use Rattle.miette_graphical.specs.rules.PossibleAnswers.{AppendsAsked, AreAnswers, AreCauseAnswers, AreRelatedAnswers}
 use Rattle.miette_graphical.specs.rules.Answers.{Answer, Answers, RelatedAnswers, pieces_listed, own_answer, cause_answers, related_answers, first_answers, later_answers}
 use Rattle.miette_graphical.specs.rules.ByLine.{answers_by, causes_by, labels_by, own_by, related_by}
@@ -34,7 +33,7 @@ use Rattle.miette_graphical.specs.rules.Snippets.{drawn_rows, layout_settings, s
 use Rattle.miette_graphical.specs.rules.Text.{are_last, body_over, causes_text, ends_there, inner_over, only_if, related_text, report_text}
 use Rattle.miette_graphical.proofs.DrawnRows.{groups_given, none_listed}
 use Rattle.miette_graphical.proofs.Lists.{both_read}
-use Rattle.miette_graphical.proofs.Outermost.{report_over}
+use Rattle.miette_graphical.proofs.Outermost.{if_same, report_over}
 use Rattle.miette_graphical.specs.steps.PrintedParts.{printed_inner, printed_sibling}
 
 -- ---- the calls of parts
@@ -90,10 +89,6 @@ rows_by f s (Some source) m a e h =
     ∙ ap (λ r. rows_text (shown_rows r)) (unless_by f l source labels a.pieces (refusal source.bytes [] labels) (subst (λ x. AnsweredBy f (own_calls s.context (Some source) m x)) e h))
 
 -- ---- texts
-
-if_same : (nested : Bool) (x u y v : List ℕ) → (nested ≡ true → x ≡ u) → (nested ≡ false → y ≡ v) → (if nested then x else y) ≡ (if nested then u else v)
-if_same true x u y v p q = p refl
-if_same false x u y v p q = q refl
 
 mutual
   cause_text_by : (f : List ℕ → List Piece) (l : frames.SnippetSettings) (blank : Bool) (s : Settings) (outer : Option Severity) (inherited : Option Source) (c : Cause) (a : Answers) (nested : Bool) → s.nested ≡ nested →

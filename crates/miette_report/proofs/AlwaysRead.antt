@@ -1,11 +1,9 @@
 -- Of a report whose sources always read, each read of a handler is determined.
-use Rattle.std.proofs.Common.{◌≡◌, ℕ, ◌+◌, Bool, true, false, List, [], ◌∷◌, ◌++◌, length, Option, Some, None, IfSome, refl, sym, ap, ap₂, ◌∙◌}
-use Rattle.std.proofs.lemmas.Bool.{le-leb}
+use Rattle.std.proofs.Common.{◌≡◌, ℕ, ◌+◌, Bool, true, false, List, [], ◌∷◌, ◌++◌, Option, Some, None, IfSome, refl, sym, ap, ap₂, ◌∙◌}
 use Rattle.std.specs.List.{list_all}
 use Rattle.std.specs.Prelude.{◌&&◌, ◌||◌, if◌then◌else◌}
 use Rattle.miette_protocol.specs.views.Meaning.{Label, Meaning}
-use Rattle.miette_protocol.specs.rules.Reading.{Source, Span, IsAccepted, is_accepted}
-use Rattle.miette_lines.specs.rules.Contexts.{end_of_span}
+use Rattle.miette_protocol.specs.rules.Reading.{Source, is_accepted}
 use Rattle.miette_lines.specs.rules.Groups.{in_order, AreAccepted}
 use Rattle.miette_style.specs.rules.Codes.{is_nil}
 use Rattle.miette_tree.specs.rules.Tree.{Tree, tree, Cause, diagnostic, texts, Trees, no_trees, more_trees, effective}
@@ -17,6 +15,7 @@ use Rattle.miette_brief.specs.rules.PossibleAnswers as briefly
 use Rattle.miette_brief.specs.rules.Report as brief
 use Rattle.miette_narrated.specs.rules.PossibleAnswers as told
 use Rattle.miette_narrated.specs.rules.Report.{Answers, RelatedAnswers, related_answers, first_answers, later_answers}
+use Rattle.miette_lines.proofs.Bodies.{accepted_is}
 
 abbrev Reads : Option Source → Type 0
 Reads source = IfSome source (λ s. s.always_reads ≡ true)
@@ -111,9 +110,6 @@ pub told-reads : (t : Tree) → AlwaysReads t → told.report_reads t ≡ true
 told-reads t q = tree_told None t tt q
 
 -- ---- and each label that is told is accepted, where the report is
-
-accepted_is : (bytes : List ℕ) (span : Span) → IsAccepted bytes span → is_accepted bytes span ≡ true
-accepted_is bytes span h = both _ _ (le-leb span.offset (length bytes) h.begins) (le-leb (end_of_span span) (length bytes + 1) h.ends)
 
 accept_all : (bytes : List ℕ) (labels : List Label) → AreAccepted bytes labels → list_all (λ label. is_accepted bytes label.span) labels ≡ true
 accept_all bytes [] h = refl
