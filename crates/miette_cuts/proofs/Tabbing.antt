@@ -5,7 +5,7 @@ use Rattle.std.specs.List.{list_all}
 use Rattle.std.specs.Str.{IsAscii}
 use Rattle.std.proofs.lemmas.Bool.{and_parts}
 use Rattle.std.proofs.lemmas.Bool.Decides.{nat_tests}
-use Rattle.std.proofs.lemmas.List.{nil_from_length, map-append, take_all, length-drop}
+use Rattle.std.proofs.lemmas.List.{nil_from_length, map-append, take_rest, length-drop}
 use Rattle.bstr.specs.Utf8.{or_replacement}
 use Rattle.memchr.specs.Find.{Nowhere, Passes, is_byte}
 use Rattle.miette_style.specs.declared.style.Style.{Style}
@@ -132,11 +132,8 @@ tab_at tab (suc n) column (b ∷ bs) lt h =
     tab_at tab n column bs (omega (arith, lt)) h
     ∙ ap (λ k. replicate (tab - column % tab) 32 ++ tabbed_codes tab (column + (tab - column % tab)) (drop k (b ∷ bs))) more
 
-pub take_behind : (n : ℕ) (bs : List ℕ) → take (length bs - n) (drop n bs) ≡ drop n bs
-take_behind n bs = take_all (length bs - n) (drop n bs) (omega (arith, length-drop n bs))
-
 pub shorter : (n : ℕ) (bs : List ℕ) → length (take (length bs - n) (drop n bs)) ≤ length bs
-shorter n bs = omega (arith, ap length (take_behind n bs), length-drop n bs)
+shorter n bs = omega (arith, ap length (take_rest bs n), length-drop n bs)
 
 pub stretch_put : (tab size column until spaces later : ℕ) (rest left : List ℕ) (p q r whole : Printout) → size < length rest → Nowhere (Passes (is_byte 9) rest) 0 size → Passes (is_byte 9) rest size →
     q ≡ p ⊕ text_tokens (take size rest) → until ≡ column + size → spaces ≡ tab - until % tab → r ≡ q ⊕ text_tokens (replicate spaces 32) → later ≡ until + spaces → left ≡ drop (size + 1) rest →

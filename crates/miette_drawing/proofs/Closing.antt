@@ -15,7 +15,7 @@ use Rattle.miette_lines.specs.views.GivenLabels.{drawn_of}
 use Rattle.miette_lines.specs.views.Sweeping.{nothing}
 use Rattle.miette_page.specs.views.Tokens.{Token, row_end, row_tokens, rows_tokens, styled_tokens, text_tokens}
 use Rattle.miette_snippets.proofs.Telling.{then, told_as, run_more, styled_row}
-use Rattle.miette_drawing.proofs.Texting.{row_done, rows_then, parts_then}
+use Rattle.miette_drawing.proofs.Texting.{before_mapped, row_done, rows_then, parts_then}
 use Rattle.miette_drawing.proofs.Parting.{cut_some}
 use Rattle.miette_style.specs.rules.Themes.{Characters}
 
@@ -32,10 +32,6 @@ closed_put w start gutter l bar part p b g n hb hg hn =
     row_done (start ++ (gutter ++ own)) p (g ⊕ row_tokens own) n
     (parts_then start (gutter ++ own) p b (g ⊕ row_tokens own) hb (parts_then gutter own b g (g ⊕ row_tokens own) hg refl))
     (hn ∙ sym (put_append g (styled_tokens l.style (bar ∷ 32 ∷ part)) (row_end ∷ [])) ∙ ap (λ x. (g ⊕ x) ⊕ row_end ∷ []) (sym (styled_row w l.style (bar ∷ 32 ∷ part))))
-
-before_mapped : (before : Row) (g : List ℕ → Row) (parts : List (List ℕ)) → before_each before (map g parts) ≡ map (λ p. before ++ g p) parts
-before_mapped before g [] = refl
-before_mapped before g (part ∷ parts) = ap (λ r. (before ++ g part) ∷ r) (before_mapped before g parts)
 
 abbrev open_row : (ℕ → ℕ) → Characters → Line → ℕ → List DrawnLabel → DrawnLabel → List ℕ → Row
 open_row w t line columns multi l part = open_gutter w t line columns multi ++ part_run w l t.vbar part ∷ []

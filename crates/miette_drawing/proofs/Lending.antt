@@ -1,7 +1,7 @@
 -- The rows that are drawn from what a read lent are those of the definition, which has the whole source.
 use Rattle.miette_page.proofs.Paging.{put_append, put_nil}
 use Rattle.miette_page.specs.views.Printouts.{Printout, ◌⊕◌}
-use Rattle.std.proofs.Common.{ℕ, zero, suc, ◌+◌, ◌-◌, ◌^◌, ◌<◌, ◌≤◌, ◌≡◌, max, Bool, true, false, cond, eqb, ltb, List, [], ◌∷◌, ◌++◌, length, map, take, drop, Option, refl, sym, ap, ◌∙◌, subst, arith, All, append_assoc}
+use Rattle.std.proofs.Common.{ℕ, zero, suc, ◌+◌, ◌-◌, ◌^◌, ◌<◌, ◌≤◌, ◌≡◌, max, Bool, true, false, cond, eqb, ltb, List, [], ◌∷◌, ◌++◌, length, map, take, drop, Option, refl, sym, ap, ◌∙◌, subst, arith, All}
 use Rattle.std.specs.Prelude.{slice_range, slice_index_or}
 use Rattle.std.specs.List.{AllByRecursion, filter}
 use Rattle.std.proofs.lemmas.List.{drop-take, length-take, length-map, drop_all}
@@ -35,7 +35,7 @@ use Rattle.miette_lines.specs.views.Reads.{IsRead}
 use Rattle.miette_newlines.specs.views.Walking.{line_of_text}
 use Rattle.miette_lines.specs.views.Sweeping.{is_one, is_multi, nothing, start_at, AreSorted}
 use Rattle.miette_lines.specs.views.LabelCounts.{most_multi}
-use Rattle.miette_page.specs.views.Tokens.{row_tokens, rows_tokens, row_end}
+use Rattle.miette_page.specs.views.Tokens.{rows_tokens}
 use Rattle.miette_lines.proofs.Numbers.{by_cases}
 use Rattle.miette_lines.proofs.Sources.{IsCut, lines_from}
 use Rattle.miette_lines.proofs.Lines.{cut_lines, cut-le}
@@ -46,12 +46,7 @@ use Rattle.miette_snippets.proofs.Ends.{end_told}
 use Rattle.miette_snippets.proofs.Merging.{sorted}
 use Rattle.miette_lines.proofs.Merging.{IsAscending}
 use Rattle.miette_lines.proofs.Refusing.{read_of}
-
--- what rows tell, one after the other
-pub told_rows-append : (a b : List Row) → rows_tokens (a ++ b) ≡ rows_tokens a ++ rows_tokens b
-told_rows-append [] b = refl
-told_rows-append (row ∷ a) b =
-    ap (λ r. row_tokens row ++ row_end ∷ r) (told_rows-append a b) ∙ sym (append_assoc (row_tokens row) (row_end ∷ rows_tokens a) (rows_tokens b))
+use Rattle.miette_snippets.proofs.Telling.{told_rows-append}
 
 -- a part of a part
 pub slices : (bytes : List ℕ) (from to a b : ℕ) → from ≤ a → a ≤ b → b ≤ from + (to - from) → slice_range (slice_range bytes from to) (a - from) (b - from) ≡ slice_range bytes a b

@@ -20,6 +20,7 @@ use Rattle.miette_snippets.proofs.Numbers.{range_with_len-append}
 use Rattle.miette_lines.proofs.Numbers.{by_cases}
 use Rattle.miette_snippets.proofs.Telling.{then, told_as, run_one, run_more, blank_told}
 use Rattle.miette_style.specs.rules.Themes.{Characters}
+use Rattle.miette_lines.proofs.Plaining.{apart}
 
 mapped_codes : (w f : ℕ → ℕ) (ks : List ℕ) → map (λ p. p.code) (map (λ k. glyph_of w (f k)) ks) ≡ map f ks
 mapped_codes w f [] = refl
@@ -98,8 +99,5 @@ middle_of_cut t (c ∷ cs) = by_cases (eqb c 10) (λ e. ap (λ b. code_with_part
 pub middle_of_some : (t : Characters) (text : Option (List ℕ)) (bytes : List ℕ) → text ≡ Some bytes → t.underbar ≡ code_with_parts t (parts_of text)
 middle_of_some t text bytes e = middle_of_cut t (chars bytes) ∙ ap (λ x. code_with_parts t (parts_of x)) (sym e)
 
-unequal : (a b : ℕ) → (a ≡ b → ⊥) → eqb a b ≡ false
-unequal a b h = grind (arith, nat_tests)
-
 pub middle_of_full : (t : Characters) (start after : ℕ) (text : Option (List ℕ)) (bytes : List ℕ) → (start ≡ after → ⊥) → text ≡ Some bytes → t.underbar ≡ cond (eqb start after) t.uarrow (code_with_parts t (parts_of text))
-middle_of_full t start after text bytes h e = middle_of_some t text bytes e ∙ ap (λ b. cond b t.uarrow (code_with_parts t (parts_of text))) (sym (unequal start after h))
+middle_of_full t start after text bytes h e = middle_of_some t text bytes e ∙ ap (λ b. cond b t.uarrow (code_with_parts t (parts_of text))) (sym (apart start after h))

@@ -94,7 +94,7 @@ part_more f parts left part p q whole e hq h =
     ap (λ x. x ⊕ rows_tokens (map f left)) hq ∙ put_append p (rows_tokens (f part ∷ [])) (rows_tokens (map f left)) ∙ ap (λ x. p ⊕ x) (row_then (f part) (map f left))
     ∙ ap (λ xs. p ⊕ rows_tokens (map f xs)) (sym e) ∙ h
 
-before_mapped : (before : Row) (g : List ℕ → Row) (parts : List (List ℕ)) → before_each before (map g parts) ≡ map (λ p. before ++ g p) parts
+pub before_mapped : (before : Row) (g : List ℕ → Row) (parts : List (List ℕ)) → before_each before (map g parts) ≡ map (λ p. before ++ g p) parts
 before_mapped before g [] = refl
 before_mapped before g (part ∷ parts) = ap (λ r. (before ++ g part) ∷ r) (before_mapped before g parts)
 

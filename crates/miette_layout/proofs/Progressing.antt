@@ -43,7 +43,8 @@ use Rattle.miette_snippets.proofs.Ends.{placed_drawn}
 use Rattle.miette_snippets.proofs.Endings.{told_is, drawn_around}
 use Rattle.miette_drawing.proofs.Styling.{none_have, snippets_plain, calls_plain}
 use Rattle.miette_lines.specs.views.Sweeping.{AreSorted}
-use Rattle.miette_drawing.proofs.Lending.{placed_sorted, told_rows-append, lent_body, lent_texts, lent_texts_are}
+use Rattle.miette_drawing.proofs.Lending.{placed_sorted, lent_body, lent_texts, lent_texts_are}
+use Rattle.miette_snippets.proofs.Telling.{told_rows-append}
 use Rattle.miette_lines.proofs.Owning.{own_ordered}
 use Rattle.miette_lines.proofs.Refusing.{read_of, all_accepted}
 use Rattle.miette_lines.proofs.Sorting.{label_got}

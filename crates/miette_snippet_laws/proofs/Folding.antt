@@ -14,7 +14,7 @@ use Rattle.miette_lines.specs.rules.Groups.{in_order}
 use Rattle.miette_snippets.specs.rules.Folds.{Spread, spread, spreads_of, last_byte, hides, place_among, is_around, is_near, leaves_out}
 use Rattle.miette_snippets.specs.rules.Frames.{SnippetSettings}
 use Rattle.miette_snippets.specs.rules.SnippetLayout.{left_out}
-use Rattle.miette_snippets.specs.rules.Numbers.{ranges, last_of}
+use Rattle.miette_snippets.specs.rules.Numbers.{ranges}
 use Rattle.miette_snippets.specs.rules.ShownLines.{line_at}
 use Rattle.miette_snippets.specs.rules.Snippets as N
 use Rattle.miette_lines.proofs.Sources.{IsCut, is_ended, lines, line_of, start_of, end_of, end_of_span, first_line, last_line, reading_end}
@@ -30,11 +30,10 @@ use Rattle.miette_snippets.proofs.Bodies.{KeepsAlike, LeaveAlike, context_same, 
 use Rattle.miette_snippet_laws.specs.laws.Folding.{FitsIn, EndsPass}
 use Rattle.miette_snippet_laws.proofs.Stretches.{IsMaximal, OfRun, range_same, each_run, each_numbers}
 use Rattle.miette_snippet_laws.proofs.Owning.{Around}
+use Rattle.miette_snippets.proofs.Lines.{last_one}
+use Rattle.miette_snippets.proofs.Bodies.{last_of-range}
 
 -- ---- the places of offsets among the lines of a frame
-
-last_one : (text_end after n : ℕ) → (after < n → text_end < after) → after ≤ text_end → after ≤ n → after ≡ n
-last_one text_end after n h le in_n = ⊎_elim {C = after ≡ n} (λ lt. absurd (omega (arith, h lt))) (λ ge. omega arith) (cases_lt after n)
 
 none_left : (n o : ℕ) (ls : List Line) → IsCut n n ls → line_of ls o ≡ 0
 none_left n o [] h = refl
@@ -355,17 +354,13 @@ end_kept (Some limit) context bytes labels low many k h m at le lt =
     (both_covered (N.is_shown context bytes labels) context bytes labels labels h (all_covered context bytes labels))
     (λ label own t. keeps_end limit context bytes labels label (N.is_shown context bytes labels) low many k m at le lt own t) (m.all k le lt)
 
-last_in : (k many : ℕ) → last_of k (range_with_len (k + 1) many) ≡ k + many
-last_in k zero = omega arith
-last_in k (suc many) = last_in (k + 1) many ∙ omega arith
-
 -- of each maximal run of the lines that are shown
 ends_of : (limit : Option ℕ) (context : ℕ) (bytes : List ℕ) (labels : List Label) (low many : ℕ) → Around context labels labels → IsMaximal (N.is_shown context bytes labels) (length (lines bytes)) low many →
     EndsPass (N.is_kept limit context bytes labels) (range_with_len low many)
 ends_of limit context bytes labels low zero h m = absurd (omega (arith, m.some))
 ends_of limit context bytes labels low (suc many) h m = (
   end_kept limit context bytes labels low (suc many) low h m (inl refl) (omega arith) (omega arith),
-  ap (N.is_kept limit context bytes labels) (last_in low many) ∙ end_kept limit context bytes labels low (suc many) (low + many) h m (inr (omega arith)) (omega arith) (omega arith),
+  ap (N.is_kept limit context bytes labels) (last_of-range low many) ∙ end_kept limit context bytes labels low (suc many) (low + many) h m (inr (omega arith)) (omega arith) (omega arith),
 )
 
 pub ranges_end_kept : (limit : Option ℕ) (context : ℕ) (bytes : List ℕ) (labels : List Label) → Around context labels labels → AllByRecursion (EndsPass (N.is_kept limit context bytes labels)) (ranges (N.shown_numbers context bytes labels))

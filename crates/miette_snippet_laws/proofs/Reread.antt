@@ -6,7 +6,7 @@ use Rattle.std.proofs.lemmas.Bool.{cases_lt, and_right, ne_eqb, eqb-true}
 use Rattle.miette_newlines.specs.rules.Lines as P
 use Rattle.miette_newlines.specs.rules.Lines.{Line, lines_of}
 use Rattle.miette_protocol.specs.rules.Reading as R
-use Rattle.miette_protocol.specs.rules.Reading.{Span, Source}
+use Rattle.miette_protocol.specs.rules.Reading.{Source}
 use Rattle.miette_lines.specs.rules.Contexts as C
 use Rattle.miette_lines.specs.rules.Contexts.{contents, lines_of_contents}
 use Rattle.miette_snippets.specs.rules.ShownLines.{line_at}
@@ -19,7 +19,7 @@ use Rattle.miette_snippets.proofs.Data.{range-lines, end-some}
 use Rattle.miette_lines.proofs.Data.{cut}
 use Rattle.miette_snippets.proofs.Segments.{part_lines}
 use Rattle.miette_snippets.proofs.Bridge.{line_of_same, reading_same}
-use Rattle.miette_lines.proofs.Bridge.{lines_same}
+use Rattle.miette_lines.proofs.Bridge.{lines_same, next_lf}
 use Rattle.miette_snippets.proofs.Bodies.{in_same}
 use Rattle.miette_snippet_laws.proofs.Spreading.{Block, IsBlock, span_of, block_end, numbers_of}
 
@@ -46,10 +46,6 @@ one_more : (at byte e : ℕ) (bytes : List ℕ) → at < e → (eqb byte 13 && e
 one_more at byte e bytes lt first later =
     ⊎_elim {C = parts at (byte ∷ bytes) e ≡ false} (λ more. later_parts at byte e bytes more ∙ later more)
     (λ ge. let same : e ≡ at + 1 = omega arith in ap (parts at (byte ∷ bytes)) same ∙ first_parts at byte bytes ∙ first) (cases_lt (at + 1) e)
-
-next_lf : (bytes : List ℕ) → eqb (slice_index bytes 0) 10 ≡ begins_with_lf bytes
-next_lf [] = refl
-next_lf (c ∷ cs) = refl
 
 not_cr : (byte : ℕ) (b : Bool) → eqb byte 10 ≡ true → (eqb byte 13 && b) ≡ false
 not_cr byte b t = let no : eqb byte 13 ≡ false = ne_eqb byte 13 (λ e. omega (arith, e, eqb-true byte 10 t)) in rw no refl

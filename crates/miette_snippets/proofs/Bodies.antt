@@ -38,7 +38,7 @@ use Rattle.miette_snippets.proofs.Bridge.{start_same, begin_same, end_data_same,
 use Rattle.miette_lines.proofs.Bridge.{lines_same, end_same}
 use Rattle.miette_lines.proofs.Bodies.{accepted_is, later_none, next_none}
 
-last_of-range : (low many : ℕ) → last_of low (range_with_len (low + 1) many) ≡ low + many
+pub last_of-range : (low many : ℕ) → last_of low (range_with_len (low + 1) many) ≡ low + many
 last_of-range low zero = omega arith
 last_of-range low (suc many) = last_of-range (low + 1) many ∙ omega arith
 

@@ -6,7 +6,7 @@ use Rattle.miette_newlines.specs.rules.Lines.{Line}
 use Rattle.miette_lines.proofs.Sources.{IsCut, is_ended, line_of, terminators_in, start_of, end_of}
 use Rattle.miette_lines.proofs.Lines.{cut-le}
 
-last_one : (text_end after n : ℕ) → (after < n → text_end < after) → after ≤ text_end → after ≤ n → after ≡ n
+pub last_one : (text_end after n : ℕ) → (after < n → text_end < after) → after ≤ text_end → after ≤ n → after ≡ n
 last_one text_end after n h le in_n = ⊎_elim {C = after ≡ n} (λ lt. absurd (omega (arith, h lt))) (λ ge. omega arith) (cases_lt after n)
 
 one_or_none : (a e : Bool) → cond (a && e) 1 0 ≤ cond (true && e) 1 0

@@ -1,6 +1,7 @@
 use Rattle.std.proofs.Common.{ℕ, ◌+◌, ◌≡◌, rules, arith}
 use Rattle.std.proofs.lemmas.Str.{IsAscii-take, IsAscii-drop}
-use Rattle.miette_cuts.proofs.Tabbing.{stretch_put, rest_put, take_behind, shorter}
+use Rattle.std.proofs.lemmas.List.{take_rest}
+use Rattle.miette_cuts.proofs.Tabbing.{stretch_put, rest_put, shorter}
 use Rattle.miette_cuts.proofs.tabs.push_tabbed.Goals as goal
 
 pub loop-size-preserved : goal.loop-size-preserved
@@ -13,7 +14,7 @@ loop-size-preserved g c =
       within = omega (arith, less, c.loop-size.invariant.within);
       ascii = IsAscii-take _ _ (IsAscii-drop c.loop-size.rest.now (size + 1) c.loop-size.invariant.ascii);
       told = stretch_put c.args.tab size c.loop-size.column c.in-Some-checked_add.until c.tab_columns-spaces.result c.in-Some-checked_add-2.next c.loop-size.rest.now _ c.loop-size.page c.push_ascii.new.page c.push_copies.new.self _
-          c.in-Some.ensures.0.high c.in-Some.ensures.0.before c.in-Some.ensures.1 c.in_ok-push_ascii.ensures until c.tab_columns-spaces.ensures c.in_ok-push_copies.ensures next (take_behind (size + 1) c.loop-size.rest.now) c.loop-size.invariant.told;
+          c.in-Some.ensures.0.high c.in-Some.ensures.0.before c.in-Some.ensures.1 c.in_ok-push_ascii.ensures until c.tab_columns-spaces.ensures c.in_ok-push_copies.ensures next (take_rest c.loop-size.rest.now (size + 1)) c.loop-size.invariant.told;
     }
 
 pub returns : goal.returns
