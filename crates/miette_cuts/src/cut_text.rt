@@ -50,13 +50,11 @@ fn push_all<O: Canvas>(page: &mut Page<O>, walk: &mut Walk, many: usize) -> Resu
     ensures told { OnOk result (page.new ≡ page.old ⊕ cells_tokens (take many walk.old)) }
     ensures later { OnOk result (walk.new ≡ drop many walk.old) }
 {
-    let mut left = many;
-    while left > 0 {
+    for _ in 0..many {
         let Some(cell) = walk.next()? else {
             return Ok(());
         };
         push_cell(page, &cell)?;
-        left -= 1;
     }
     Ok(())
 }
@@ -65,13 +63,11 @@ fn push_all<O: Canvas>(page: &mut Page<O>, walk: &mut Walk, many: usize) -> Resu
 fn skip(walk: &mut Walk, many: usize) -> Result<(), AllocError>
     ensures { OnOk result (walk.new ≡ drop many walk.old) }
 {
-    let mut left = many;
-    while left > 0 {
+    for _ in 0..many {
         let Some(cell) = walk.next()? else {
             return Ok(());
         };
         let _passed = cell;
-        left -= 1;
     }
     Ok(())
 }
