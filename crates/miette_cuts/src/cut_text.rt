@@ -72,35 +72,7 @@ fn skip(walk: &mut Walk, many: usize) -> Result<(), AllocError>
     Ok(())
 }
 
-// A stretch in what a highlighter's pieces say of it, where so many bytes of the line stand before it.
-fn push_cells_of<O: Canvas>(
-    page: &mut Page<O>,
-    walk: &mut Walk,
-    pieces: &[(usize, Style)],
-    before: usize,
-    stretch: &Stretch,
-) -> Result<(), AllocError>
-    ensures told { OnOk result (page.new ≡ page.old
-        ⊕ row_tokens (line_runs (pieces_within before stretch.now.bytes (map highlight_of pieces.now))
-        (take stretch.now.cells walk.old))) }
-    ensures later { OnOk result (walk.new ≡ drop stretch.now.cells walk.old) }
-{
-    let mut before = before;
-    let mut bytes = stretch.bytes;
-    let mut many = stretch.cells;
-    for piece in pieces {
-        let behind = piece.0.saturating_sub(before);
-        page.begin(piece.1)?;
-        many = push_some(page, walk, many, behind.min(bytes))?;
-        before = before.saturating_sub(piece.0);
-        bytes = bytes.saturating_sub(behind);
-    }
-    page.begin(PLAIN)?;
-    push_all(page, walk, many)?;
-    Ok(())
-}
-
-// A stretch, or its dots.
+// A stretch in what a highlighter's pieces say of it, where so many bytes of the line stand before it; or its dots.
 fn push_stretch<O: Canvas>(
     page: &mut Page<O>,
     walk: &mut Walk,
@@ -113,13 +85,24 @@ fn push_stretch<O: Canvas>(
         (take stretch.now.cells walk.old) else dots ∷ [])) }
     ensures later { OnOk result (walk.new ≡ drop stretch.now.cells walk.old) }
 {
-    if is_shown(stretch) {
-        push_cells_of(page, walk, pieces, before, stretch)?;
+    if !is_shown(stretch) {
+        page.begin(PLAIN)?;
+        page.push_copies('.', 3)?;
+        skip(walk, stretch.cells)?;
         return Ok(());
     }
+    let mut before = before;
+    let mut bytes = stretch.bytes;
+    let mut many = stretch.cells;
+    for piece in pieces {
+        let behind = piece.0.saturating_sub(before);
+        page.begin(piece.1)?;
+        many = push_some(page, walk, many, behind.min(bytes))?;
+        before = before.saturating_sub(piece.0);
+        bytes = bytes.saturating_sub(behind);
+    }
     page.begin(PLAIN)?;
-    page.push_copies('.', 3)?;
-    skip(walk, stretch.cells)?;
+    push_all(page, walk, many)?;
     Ok(())
 }
 
