@@ -13,7 +13,7 @@ use Rattle.miette_graphical.proofs.report.push_drawn.Goals as goal
 
 pub returns-in_err-page-clause-refused : goal.returns-in_err-page-clause-refused
 returns-in_err-page-clause-refused g c = λ h.
-    let refused : c.in_err-page.field-0 ≡ errors.Refused = search rules in
+    let refused : c.in_err-page.field-0.0 ≡ errors.Refused = search rules in
     refused_page (settings_of c.args.layout) (shown_source g.S.SourceCode.source c.args.source) c.args.labels.now (leaves_plain g.H.Highlighter.is_blank c.args.pen.now.highlighter) c.over-page.result
     (subst (λ e. RefusesWith (layout_settings (settings_of c.args.layout)) (shown_source g.S.SourceCode.source c.args.source) c.args.labels.now (leaves_plain g.H.Highlighter.is_blank c.args.pen.now.highlighter) (AreCallsOn g.H.Highlighter.may_follow c.args.pen.now.highlighter c.snippets.new.highlighter) c.over-page.result e) refused c.in_err-page.ensures.gives)
 
