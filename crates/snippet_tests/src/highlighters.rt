@@ -19,6 +19,8 @@ const OPTIONS: LayoutOptions = LayoutOptions {
     context_lines: 1,
     primary_start: true,
     end_labels: false,
+    label_lines: None,
+    line_columns: None,
 };
 
 /// Tells of each read the number of its first line and how many bytes it has, and the text of each line.
