@@ -70,14 +70,14 @@ impl SourceCode for Stopping {
 }
 
 /// Six bytes named `f` that stop.
-fn stopping(alloc: Global) -> Result<NamedSource<Stopping>, AllocError> {
+fn stopping_source(alloc: Global) -> Result<NamedSource<Stopping>, AllocError> {
     let bytes = Vec::from_slice(alloc, b"abcdef")?;
     NamedSource::new(alloc, "f", Stopping { bytes })
 }
 
 /// The same as a boxed source.
 fn stops_early(alloc: Global) -> Result<Box<dyn SourceCode>, AllocError> {
-    let source: Box<dyn SourceCode> = Box::new(alloc, stopping(alloc)?)?;
+    let source: Box<dyn SourceCode> = Box::new(alloc, stopping_source(alloc)?)?;
     Ok(source)
 }
 

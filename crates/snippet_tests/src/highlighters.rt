@@ -47,7 +47,7 @@ impl Highlighter for Telling {
 }
 
 /// One that was told nothing yet.
-fn telling(alloc: Global) -> Option<Telling> {
+fn telling_nothing(alloc: Global) -> Option<Telling> {
     Some(Telling {
         reads: Vec::new(alloc),
         lines: String::new(alloc),
@@ -95,7 +95,7 @@ fn was_told(rt: &impl Abort, highlighter: &Option<Telling>, reads: &[(usize, usi
 #[test]
 fn a_highlighter_is_asked_for_each_line(rt: HostRuntime) {
     let alloc = rt.alloc();
-    let mut highlighter = telling(alloc);
+    let mut highlighter = telling_nothing(alloc);
     let source = b"a\xFFb\tc\r\n2\n3\n4\n5\n6\n".as_slice();
     let labels = two(
         alloc,
@@ -115,7 +115,7 @@ const NINE: &str = "1\n2\n3\n4\n5\n6\n7\n8\n9\n";
 #[test]
 fn a_highlighter_is_restarted_with_the_group(rt: HostRuntime) {
     let alloc = rt.alloc();
-    let mut highlighter = telling(alloc);
+    let mut highlighter = telling_nothing(alloc);
     let labels = two(
         alloc,
         LabeledSpan::new(None, 16, 1).with_context_lines(3),
