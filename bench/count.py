@@ -62,7 +62,8 @@ def peer_words(who, workload):
     if {"--json", "--narrated", "--nested"} & set(workload.words):
         return None
     colour = ["--color", "yes"] if "unicode" in workload.words else []
-    return [*colour, *(["--indexed"] if who == INDEXED else [])]
+    short = ["--short"] if "--brief" in workload.ours else []
+    return [*colour, *short, *(["--indexed"] if who == INDEXED else [])]
 
 
 def built(name):

@@ -25,6 +25,8 @@ NESTED = (*PLAIN, "--nested", "yes")
 WIDE_NESTED = (*NESTED, "--width", "400")
 WIDTH = ("--width", "80")
 CUT = ("--line-columns", "80")
+FOLDED = ("--label-lines", "5")
+BRIEF = ("--brief",)
 MB = 1 << 20
 
 
@@ -132,6 +134,8 @@ def hard():
     """What is hard in one way, in one size each."""
     unwrapped = (*PLAIN, "--wrap", "no")
     yield bench("span_lines_100000", "span_lines", PLAIN, of.span_of_lines, 100_000)
+    yield bench("span_folded_50000", "span_folded", PLAIN, of.span_of_lines, 50_000, ours=FOLDED)
+    yield bench("brief_2000", "brief", PLAIN, of.spread, 2000, MB, ours=BRIEF)
     yield bench("help_200kb_unwrapped", "help", unwrapped, of.long_help)
     yield bench("url_200kb", "url", PLAIN, of.long_url)
     yield bench("label_text_200kb", "label_text", PLAIN, of.label_text)
