@@ -6,8 +6,9 @@ ghost use Rattle.miette_graphical.specs.steps.SettingsView.{settings_of};
 ghost use Rattle.miette_graphical.specs.rules.Indents as indents;
 ghost use Rattle.miette_graphical.specs.rules.DiagnosticText as parts;
 ghost use Rattle.miette_text.specs.views.Plans.{printed_plan};
+ghost use Rattle.miette_runs.specs.rules.Cells.{columns_of};
 ghost use Rattle.miette_runs.specs.rules.Runs.{print};
-ghost use Rattle.miette_runs.specs.rules.Sequences.{spell};
+ghost use Rattle.miette_runs.specs.rules.Sequences.{spell, tokens};
 ghost use Rattle.miette_text.specs.rules.Wrapping.{wrapped_text};
 
 use crate::settings::{Layout, icon, severity_style};
@@ -143,6 +144,16 @@ fn stem_indent(alloc: Global, layout: Layout<'_>, branch: Branch) -> Result<Runs
     Ok(runs)
 }
 
+// The columns of the indent of what stands under an arrow, behind its first row.
+fn stem_columns(alloc: Global, layout: Layout<'_>, branch: Branch) -> Result<usize, AllocError>
+    ensures { IfOk result (λ n. n ≡ columns_of (tokens (print
+        (indents.stem_indent (settings_of layout.entry) branch.outer branch.is_last)))) }
+{
+    let stem = stem_indent(alloc, layout, branch)?;
+    let columns = columns_of(alloc, &stem)?;
+    Ok(columns)
+}
+
 /// The layout of what stands under an arrow.
 pub fn layout_under<'a>(
     alloc: Global,
@@ -152,11 +163,10 @@ pub fn layout_under<'a>(
     ensures { IfOk result (λ l. settings_of l
         ≡ indents.narrow_settings (settings_of layout.entry) branch.outer branch.is_last) }
 {
-    let columns = columns_of(alloc, &stem_indent(alloc, layout, branch)?)?;
-    Ok(Layout {
-        width: layout.width.saturating_sub(columns),
-        ..layout
-    })
+    let columns = stem_columns(alloc, layout, branch)?;
+    let mut narrow = layout;
+    narrow.width = layout.width.saturating_sub(columns);
+    Ok(narrow)
 }
 
 /// Appends a cause or a nested related report under its arrow.

@@ -33,7 +33,8 @@ fn with_ranks(alloc: Global, placed: &[PlacedLabel]) -> Result<Vec<RankedLabel>,
     ensures { IfOk result (λ v. v.items ≡ ranked_labels 0 placed.now) }
 {
     let mut made = Vec::new(alloc);
-    for (rank, label) in placed.iter().enumerate() {
+    for label in placed {
+        let rank = made.len();
         made.push(RankedLabel {
             rank,
             label: *label,

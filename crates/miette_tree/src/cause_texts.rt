@@ -1,5 +1,5 @@
 //! The texts that are a report's cause, with room in front of them.
-ghost use Rattle.std.specs.Prelude.{◌≡◌, ◌+◌, ◌<◌, ◌≤◌, [], ◌∷◌, length, map, string_bytes, vec_len, vec_capacity};
+ghost use Rattle.std.specs.Prelude.{◌≡◌, ◌+◌, ◌<◌, ◌≤◌, [], ◌∷◌, ◌++◌, length, map, string_bytes, vec_len, vec_capacity};
 ghost use Rattle.std.specs.Prelude.{IfOk, OnOk, OnErr};
 ghost use Rattle.std.specs.List.{All};
 
@@ -78,4 +78,28 @@ fn empty_texts(alloc: Global, count: usize, more: usize) -> Result<Vec<String>, 
         list.push(String::new(alloc))?;
     }
     Ok(list)
+}
+
+/// Puts a copy of a text behind a list. `AllocError` where memory is refused.
+pub(crate) fn push_copy(alloc: Global, list: &mut Vec<String>, text: &str) -> Result<(), AllocError>
+    ensures { OnOk result (map string_bytes list.new.items ≡ map string_bytes list.old.items ++ text.now ∷ []) }
+{
+    let copy = String::from_str(alloc, text)?;
+    list.push(copy)?;
+    Ok(())
+}
+
+/// Puts copies of texts behind a list. `AllocError` where memory is refused.
+pub(crate) fn push_copies(
+    alloc: Global,
+    list: &mut Vec<String>,
+    texts: &[String],
+) -> Result<(), AllocError>
+    ensures { OnOk result (map string_bytes list.new.items
+        ≡ map string_bytes list.old.items ++ map string_bytes texts.now) }
+{
+    for text in texts {
+        push_copy(alloc, list, text.as_str())?;
+    }
+    Ok(())
 }

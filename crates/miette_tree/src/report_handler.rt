@@ -1,6 +1,6 @@
 //! What every handler offers.
 
-ghost use Rattle.std.specs.Prelude.{◌≡◌, ◌++◌, List, ℕ, IfOk, OnOk, OnErr, string_bytes};
+ghost use Rattle.std.specs.Prelude.{◌≡◌, ◌++◌, ◌∷◌, [], List, ℕ, map, IfOk, OnOk, OnErr, string_bytes};
 ghost use Rattle.miette_tree.specs.rules.Tree.{Tree, cause_of, causes_of};
 ghost use Rattle.miette_tree.specs.views.Report.{tree_of};
 ghost use Rattle.miette_tree.specs.rules.Display.{display_text, behind_colons};
@@ -89,6 +89,26 @@ fn displayed_text<D: Diagnostic, S: SourceCode>(
     Ok(text)
 }
 
+/// Appends a text with `: ` in front.
+fn push_behind_colon(text: &str, out: &mut String) -> Result<(), AllocError>
+    ensures { OnOk result (string_bytes out.new ≡ string_bytes out.old ++ behind_colons (text.now ∷ [])) }
+{
+    out.push_str(": ")?;
+    out.push_str(text)?;
+    Ok(())
+}
+
+/// Appends texts, each with `: ` in front.
+fn push_each_behind_colon(texts: &[String], out: &mut String) -> Result<(), AllocError>
+    ensures { OnOk result (string_bytes out.new
+        ≡ string_bytes out.old ++ behind_colons (map string_bytes texts.now)) }
+{
+    for text in texts {
+        push_behind_colon(text.as_str(), out)?;
+    }
+    Ok(())
+}
+
 /// Appends the causes of a report, each with `: ` in front.
 fn push_behind_colons<D: Diagnostic, S: SourceCode>(
     report: &Report<D, S>,
@@ -99,14 +119,10 @@ fn push_behind_colons<D: Diagnostic, S: SourceCode>(
 {
     let mut at = report;
     while let Cause::Diagnostic(next) = at.cause() {
-        out.push_str(": ")?;
-        out.push_str(next.message())?;
+        push_behind_colon(next.message(), out)?;
         at = next;
     }
-    for text in cause_texts(at) {
-        out.push_str(": ")?;
-        out.push_str(text.as_str())?;
-    }
+    push_each_behind_colon(cause_texts(at), out)?;
     Ok(())
 }
 

@@ -2,7 +2,7 @@
 ghost use Rattle.std.specs.Prelude.{◌≡◌, IfOk, IfErr, OnOk, OnErr, map, string_bytes};
 ghost use Rattle.std.specs.Option.{option_copied, option_map};
 
-use crate::cause_texts::CauseTexts;
+use crate::cause_texts::{CauseTexts, push_copies, push_copy};
 use crate::innermost::{Innermost, ReportKind};
 use crate::owned::{OwnSource, OwnedSource, SourceRef};
 use miette_protocol::diagnostic::MietteDiagnostic;
@@ -288,16 +288,14 @@ impl<D: Diagnostic, S: SourceCode> Report<D, S> {
         ensures { IfOk result (λ list. map string_bytes list.items ≡ chain_of (tree_of D.meaning S.source self.now)) }
     {
         let mut list = Vec::new(alloc);
+        push_copy(alloc, &mut list, self.message())?;
         let mut at = self;
-        list.push(String::from_str(alloc, at.message())?)?;
         while let KeptCause::Diagnostic(next) = &at.cause {
             at = next;
-            list.push(String::from_str(alloc, at.message())?)?;
+            push_copy(alloc, &mut list, at.message())?;
         }
         if let KeptCause::Texts(texts) = &at.cause {
-            for text in texts.as_slice() {
-                list.push(String::from_str(alloc, text.as_str())?)?;
-            }
+            push_copies(alloc, &mut list, texts.as_slice())?;
         }
         Ok(list)
     }

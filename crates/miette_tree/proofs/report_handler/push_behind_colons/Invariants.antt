@@ -1,4 +1,4 @@
-use Rattle.std.proofs.Common.{◌≡◌, ◌++◌, string_bytes, map, drop}
+use Rattle.std.proofs.Common.{◌≡◌, ◌++◌, string_bytes}
 use Rattle.miette_tree.specs.rules.Tree.{cause_of, causes_of}
 use Rattle.miette_tree.specs.views.Report.{tree_of}
 use Rattle.miette_tree.specs.rules.Display.{behind_colons}
@@ -12,8 +12,3 @@ abbrev pub invariant-loop-next : goal.invariant-loop-next
 invariant-loop-next g l =
     let value = tree_of g.D.Diagnostic.meaning g.S.SourceCode.source in
     string_bytes l.out ++ behind_colons (causes_of (cause_of (value l.at))) ≡ string_bytes l.fn.out ++ behind_colons (causes_of (cause_of (value l.report)))
-
-abbrev pub invariant-loop-text : goal.invariant-loop-text
-invariant-loop-text g l =
-    let value = tree_of g.D.Diagnostic.meaning g.S.SourceCode.source in
-    string_bytes l.out ++ behind_colons (map string_bytes (drop l.text-index l.text-items)) ≡ string_bytes l.fn.out ++ behind_colons (causes_of (cause_of (value l.fn.report)))

@@ -1,4 +1,4 @@
-use Rattle.std.proofs.Common.{◌≡◌, ◌++◌, map, drop, string_bytes}
+use Rattle.std.proofs.Common.{◌≡◌, ◌++◌, map, string_bytes}
 use Rattle.miette_tree.specs.rules.Tree.{cause_of, causes_of, chain_of}
 use Rattle.miette_tree.specs.views.Report.{tree_of}
 use Rattle.miette_tree.proofs.tree.Report.chain_texts.Given as goal
@@ -8,8 +8,3 @@ abbrev pub invariant-loop-at : goal.invariant-loop-at
 invariant-loop-at g l =
     let value = tree_of g.D.Diagnostic.meaning g.S.SourceCode.source in
     map string_bytes l.list.items ++ causes_of (cause_of (value l.at)) ≡ chain_of (value l.self)
-
--- the texts so far and those that are left are the chain
-abbrev pub invariant-loop-text : goal.invariant-loop-text
-invariant-loop-text g l =
-    map string_bytes l.list.items ++ map string_bytes (drop l.text-index l.text-items) ≡ chain_of (tree_of g.D.Diagnostic.meaning g.S.SourceCode.source l.self)
