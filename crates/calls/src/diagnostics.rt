@@ -1,6 +1,6 @@
 //! Diagnostics.
 
-use crate::rows::{Done, Stop, answered, cloned, given};
+use crate::rows::{Done, Stop, answered, given, made_and_cloned};
 use miette::diagnostic::MietteDiagnostic;
 use miette::protocol::{LabeledSpan, Severity};
 use miette_tree::diagnostic;
@@ -8,7 +8,7 @@ use std::alloc::{AllocError, Global};
 use std::io::Write;
 
 /// The calls of this module.
-pub const NAMES: [&str; 11] = [
+pub static NAMES: [&str; 11] = [
     "MietteDiagnostic::new",
     "MietteDiagnostic::copied",
     "MietteDiagnostic::with_code",
@@ -29,19 +29,20 @@ pub const NAMES: [&str; 11] = [
 pub fn make<W: Write>(alloc: Global, name: &str, out: &mut W) -> Done {
     match name {
         "MietteDiagnostic::new" => answered(out, MietteDiagnostic::new(alloc, "oops!")),
-        "diagnostic!" => answered(
-            out,
-            diagnostic!(
-                in alloc;
-                code = "a::b", help = "try", url = "http://x", severity = Severity::Warning, "{} is too much", 7
-            ),
-        ),
-        "MietteDiagnostic::clone" => cloned(out, &full(alloc)?),
+        "diagnostic!" => answered(out, by_macro(alloc)),
+        "MietteDiagnostic::clone" => made_and_cloned(out, full(alloc)),
         _ => {
             let full = given_full(alloc, out)?;
             answered(out, changed(alloc, name, full)?)
         }
     }
+}
+
+fn by_macro(alloc: Global) -> Result<MietteDiagnostic, AllocError> {
+    diagnostic!(
+        in alloc;
+        code = "a::b", help = "try", url = "http://x", severity = Severity::Warning, "{} is too much", 7
+    )
 }
 
 /// The diagnostic that a call is given, which the row shows.
@@ -78,11 +79,12 @@ fn with_labels(
         "MietteDiagnostic::with_label" => Ok(full.with_label(alloc, and_this(alloc)?)),
         "MietteDiagnostic::and_label" => Ok(full.and_label(alloc, and_this(alloc)?)),
         "MietteDiagnostic::and_labels" => Ok(full.and_labels(alloc, two(alloc)?)),
-        _ => {
-            let spans = [4, 7].into_iter().map(LabeledSpan::underline);
-            Ok(full.with_labels_from(alloc, spans))
-        }
+        _ => { Ok(with_two_lines(alloc, full)) }
     }
+}
+
+fn with_two_lines(alloc: Global, full: MietteDiagnostic) -> Result<MietteDiagnostic, AllocError> {
+    full.with_labels_from(alloc, [4, 7].into_iter().map(LabeledSpan::underline))
 }
 
 fn and_this(alloc: Global) -> Result<LabeledSpan, AllocError> {

@@ -17,7 +17,7 @@ use std::alloc::{AllocError, Global};
 use std::io::Write;
 
 /// The calls of this module.
-pub const NAMES: [&str; 18] = [
+pub static NAMES: [&str; 18] = [
     "GraphicalReportHandler::new",
     "GraphicalReportHandler::render_report",
     "ReportHandler::debug for GraphicalReportHandler",
@@ -69,31 +69,58 @@ fn behind<W: Write>(alloc: Global, name: &str, out: &mut W, report: &Report) -> 
     appended(out, answer, &text)
 }
 
-/// What the call of this name answers; nothing where it has no handler.
+/// What the call of this name answers.
 fn rendered(
     alloc: Global,
     name: &str,
     report: &Report,
     text: &mut String,
 ) -> Result<Result<(), RenderError>, Stop> {
-    let mut narrated = NarratableReportHandler::new();
-    let mut brief = BriefReportHandler::new();
-    let mut json = JSONReportHandler::new();
-    let mut debug = DebugReportHandler::new();
-    Ok(match name {
-        "NarratableReportHandler::render_report" => narrated.render_report(report, text),
-        "NarratableReportHandler::render" => narrated.render(report, text),
-        "ReportHandler::debug for NarratableReportHandler" => narrated.debug(report, text),
-        "BriefReportHandler::render_report" => brief.render_report(report, text),
-        "BriefReportHandler::render" => brief.render(report, text),
-        "ReportHandler::debug for BriefReportHandler" => brief.debug(report, text),
-        "JSONReportHandler::render_report" => json.render_report(report, text),
-        "ReportHandler::debug for JSONReportHandler" => json.debug(report, text),
-        "DebugReportHandler::render_report" => debug.render_report(report, text),
-        "ReportHandler::debug for DebugReportHandler" => debug.debug(report, text),
-        "ReportHandler::display" => debug.display(report, true, text),
-        _ => return drawn(alloc, name, report, text),
-    })
+    match name {
+        "NarratableReportHandler::render_report"
+        | "NarratableReportHandler::render"
+        | "ReportHandler::debug for NarratableReportHandler" => Ok(narrated(name, report, text)),
+        "BriefReportHandler::render_report"
+        | "BriefReportHandler::render"
+        | "ReportHandler::debug for BriefReportHandler" => Ok(brief(name, report, text)),
+        "JSONReportHandler::render_report" => {
+            Ok(JSONReportHandler::new().render_report(report, text))
+        }
+        "ReportHandler::debug for JSONReportHandler" => {
+            Ok(JSONReportHandler::new().debug(report, text))
+        }
+        "ReportHandler::debug for MietteHandler" => drawn_as_chosen(alloc, report, text),
+        "GraphicalReportHandler::render_report"
+        | "ReportHandler::debug for GraphicalReportHandler" => drawn(alloc, name, report, text),
+        _ => Ok(as_fields(name, report, text)),
+    }
+}
+
+fn narrated(name: &str, report: &Report, text: &mut String) -> Result<(), RenderError> {
+    let mut handler = NarratableReportHandler::new();
+    match name {
+        "NarratableReportHandler::render_report" => handler.render_report(report, text),
+        "NarratableReportHandler::render" => handler.render(report, text),
+        _ => handler.debug(report, text),
+    }
+}
+
+fn brief(name: &str, report: &Report, text: &mut String) -> Result<(), RenderError> {
+    let mut handler = BriefReportHandler::new();
+    match name {
+        "BriefReportHandler::render_report" => handler.render_report(report, text),
+        "BriefReportHandler::render" => handler.render(report, text),
+        _ => handler.debug(report, text),
+    }
+}
+
+fn as_fields(name: &str, report: &Report, text: &mut String) -> Result<(), RenderError> {
+    let mut handler = DebugReportHandler::new();
+    match name {
+        "DebugReportHandler::render_report" => handler.render_report(report, text),
+        "ReportHandler::debug for DebugReportHandler" => handler.debug(report, text),
+        _ => handler.display(report, true, text),
+    }
 }
 
 fn drawn(
@@ -102,17 +129,26 @@ fn drawn(
     report: &Report,
     text: &mut String,
 ) -> Result<Result<(), RenderError>, Stop> {
-    let theme = GraphicalTheme::unicode(alloc)?;
-    let mut drawing = GraphicalReportHandler::new_themed(theme).with_width(40);
-    match name {
-        "GraphicalReportHandler::render_report" => Ok(drawing.render_report(report, text)),
-        "ReportHandler::debug for GraphicalReportHandler" => Ok(drawing.debug(report, text)),
-        "ReportHandler::debug for MietteHandler" => {
-            let mut chosen: MietteHandler = MietteHandler::Graphical(drawing);
-            Ok(chosen.debug(report, text))
-        }
-        _ => Ok(Ok(())),
+    let mut drawing = drawing(alloc)?;
+    if name == "GraphicalReportHandler::render_report" {
+        Ok(drawing.render_report(report, text))
+    } else {
+        Ok(drawing.debug(report, text))
     }
+}
+
+fn drawn_as_chosen(
+    alloc: Global,
+    report: &Report,
+    text: &mut String,
+) -> Result<Result<(), RenderError>, Stop> {
+    let mut chosen: MietteHandler = MietteHandler::Graphical(drawing(alloc)?);
+    Ok(chosen.debug(report, text))
+}
+
+fn drawing(alloc: Global) -> Result<GraphicalReportHandler, AllocError> {
+    let theme = GraphicalTheme::unicode(alloc)?;
+    Ok(GraphicalReportHandler::new_themed(theme).with_width(40))
 }
 
 /// A handler that a terminal chooses, and what it makes of a report.
@@ -160,7 +196,15 @@ fn shown<H: ReportHandler + Drop, W: Write>(
 /// What a handler makes of a message alone.
 fn picture<H: ReportHandler>(alloc: Global, handler: &mut H) -> Result<String, RenderError> {
     let report = Report::msg(alloc, "one two three four five")?;
+    text_by(alloc, handler, &report)
+}
+
+fn text_by<H: ReportHandler>(
+    alloc: Global,
+    handler: &mut H,
+    report: &Report,
+) -> Result<String, RenderError> {
     let mut text = String::new(alloc);
-    handler.debug(&report, &mut text)?;
+    handler.debug(report, &mut text)?;
     Ok(text)
 }

@@ -1,6 +1,6 @@
 //! Highlighters made of rules.
 
-use crate::rows::{Done, answered, cloned, given, kept};
+use crate::rows::{Done, answered, given, kept, made_and_cloned};
 use miette::highlight::Highlighter;
 use miette::style::{Color, Style};
 use miette_highlight::highlight::{Delimiters, Pattern, PatternHighlighter, Rule, by_char};
@@ -8,7 +8,7 @@ use std::alloc::{AllocError, Global};
 use std::io::Write;
 
 /// The calls of this module.
-pub const NAMES: [&str; 11] = [
+pub static NAMES: [&str; 11] = [
     "by_char",
     "Delimiters::new",
     "Delimiters::clone",
@@ -30,9 +30,15 @@ pub fn make<W: Write>(alloc: Global, name: &str, out: &mut W) -> Done {
     match name {
         "by_char" => digits(alloc, out),
         "Delimiters::new" => answered(out, Delimiters::new(alloc, "/*", "*/")),
-        "Delimiters::clone" => cloned(out, &Delimiters::new(alloc, "/*", "*/")?),
+        "Delimiters::clone" => made_and_cloned(out, Delimiters::new(alloc, "/*", "*/")),
         "Pattern::words" => answered(out, Pattern::words(alloc, &["let", "in"])),
-        "Pattern::clone" => cloned(out, &Pattern::words(alloc, &["let", "in"])?),
+        "Pattern::clone" => made_and_cloned(out, Pattern::words(alloc, &["let", "in"])),
+        _ => ready_made(alloc, name, out),
+    }
+}
+
+fn ready_made<W: Write>(alloc: Global, name: &str, out: &mut W) -> Done {
+    match name {
         "PatternHighlighter::json" => {
             let made = PatternHighlighter::json(alloc);
             painted(alloc, out, "{\"a\": [1, true]}", made)
@@ -90,8 +96,8 @@ fn by_rule(alloc: Global) -> Result<PatternHighlighter, AllocError> {
 
 fn of_rule<W: Write>(alloc: Global, name: &str, out: &mut W) -> Done {
     match name {
-        "Rule::clone" => cloned(out, &rule(alloc)?),
-        "PatternHighlighter::clone" => cloned(out, &by_rule(alloc)?),
+        "Rule::clone" => made_and_cloned(out, rule(alloc)),
+        "PatternHighlighter::clone" => made_and_cloned(out, by_rule(alloc)),
         _ => highlighted(alloc, out, by_rule(alloc)?),
     }
 }

@@ -6,7 +6,7 @@ use std::alloc::Global;
 use std::io::Write;
 
 /// The calls of this module.
-pub const NAMES: [&str; 3] = [
+pub static NAMES: [&str; 3] = [
     "LabeledSpan::at",
     "LabeledSpan::at_offset",
     "LabeledSpan::clone",

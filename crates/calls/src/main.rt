@@ -91,7 +91,7 @@ enum Subject {
     Printing,
 }
 
-const SUBJECTS: [Subject; 10] = [
+static SUBJECTS: [Subject; 10] = [
     Subject::Labels,
     Subject::Diagnostics,
     Subject::Sources,
@@ -130,11 +130,11 @@ fn is_wanted(wanted: Option<&str>, name: &str) -> bool {
 /// The rows of all calls, or that of one.
 fn rows_of<R: Env + AllocGlobal + Streams>(rt: &R, wanted: Option<&str>) -> Done {
     let mut found = false;
-    for subject in SUBJECTS {
-        for name in names(subject) {
+    for subject in &SUBJECTS {
+        for name in names(*subject) {
             if is_wanted(wanted, name) {
                 found = true;
-                row(rt, subject, name)?;
+                row(rt, *subject, name)?;
             }
         }
     }

@@ -16,7 +16,7 @@ use std::io;
 use std::io::Write;
 
 /// The calls of this module.
-pub const NAMES: [&str; 8] = [
+pub static NAMES: [&str; 8] = [
     "Variables::read",
     "detect",
     "write_report",

@@ -1,7 +1,9 @@
 //! Reports: what makes them, and what is put in front of them and below them.
 
 use crate::diagnostics::{full, given_full};
-use crate::rows::{Done, Stop, given, parts, report_answered, report_changed, report_given};
+use crate::rows::{
+    Done, Stop, given, report_answered, report_changed, report_given, report_refused,
+};
 use miette::error::MietteError;
 use miette::report::{IntoDiagnostic, Report, Result, WrapErr};
 use miette_tree::{bail, ensure, miette};
@@ -9,7 +11,7 @@ use std::alloc::{AllocError, Global};
 use std::io::Write;
 
 /// The calls of this module.
-pub const NAMES: [&str; 18] = [
+pub static NAMES: [&str; 18] = [
     "Report::copied",
     "Report::msg",
     "Report::from_err",
@@ -36,29 +38,36 @@ pub const NAMES: [&str; 18] = [
 /// `Memory` where what it needs can't be made, `Write` where standard output took no more.
 pub fn make<W: Write>(alloc: Global, name: &str, out: &mut W) -> Done {
     match name {
-        "Report::copied" => {
-            let full = given_full(alloc, out)?;
-            made(out, Report::copied(alloc, &full))
-        }
+        "Report::copied" => copied(alloc, out),
         "Report::msg" => made(out, Report::msg(alloc, "oops!")),
         "Report::from_err" => made(out, Report::from_err(alloc, MietteError::OutOfBounds)),
         "Report::with_diagnostic_cause" => over(alloc, out),
-        "Report::wrap_err" => {
+        "Report::wrap_err" | "Report::context" => {
             let report = given_caused(alloc, out)?;
-            report_changed(out, report.wrap_err(alloc, "in front"))
+            report_changed(out, put_before(alloc, name, report))
         }
-        "Report::context" => {
-            let report = given_caused(alloc, out)?;
-            report_changed(out, report.context(alloc, "in front"))
-        }
-        "miette!" => report_answered(
-            out,
-            &miette!(in alloc; code = "a::b", help = "try", "{} is too much", 7),
-        ),
+        "miette!" => report_answered(out, &by_macro(alloc)),
         "bail!" => failed(out, is_refused(alloc, 7)),
         "ensure!" => failed(out, is_held(alloc, 7)),
         _ => in_front(alloc, name, out),
     }
+}
+
+fn copied<W: Write>(alloc: Global, out: &mut W) -> Done {
+    let full = given_full(alloc, out)?;
+    made(out, Report::copied(alloc, &full))
+}
+
+fn put_before(alloc: Global, name: &str, report: Report) -> Result<Report, Report> {
+    if name == "Report::wrap_err" {
+        report.wrap_err(alloc, "in front")
+    } else {
+        report.context(alloc, "in front")
+    }
+}
+
+fn by_macro(alloc: Global) -> Report {
+    miette!(in alloc; code = "a::b", help = "try", "{} is too much", 7)
 }
 
 /// A message in front of what is missing or has failed.
@@ -113,12 +122,14 @@ fn over<W: Write>(alloc: Global, out: &mut W) -> Done {
 fn over_answered<W: Write>(out: &mut W, answer: Result<Report, (Report, Report)>) -> Done {
     match answer {
         Ok(made) => report_given(out, &made),
-        Err((report, cause)) => {
-            write!(out, "\trefused: ")?;
-            parts(out, &report)?;
-            report_given(out, &cause)
-        }
+        Err((report, cause)) => both(out, &report, &cause),
     }
+}
+
+/// Two reports that came back.
+fn both<W: Write>(out: &mut W, report: &Report, cause: &Report) -> Done {
+    report_refused(out, report)?;
+    report_given(out, cause)
 }
 
 /// The report that a call is given, which the row shows.
@@ -130,11 +141,14 @@ fn given_caused<W: Write>(alloc: Global, out: &mut W) -> Result<Report, Stop> {
 
 /// `oops!` with all parts, over two texts.
 pub fn caused(alloc: Global) -> Result<Report, AllocError> {
-    let texts = vec![in alloc;
-        String::from_str(alloc, "b")?,
-        String::from_str(alloc, "c")?,
-    ]?;
+    let texts = two_texts(alloc)?;
     Ok(Report::new(full(alloc)?).with_cause_texts(texts))
+}
+
+fn two_texts(alloc: Global) -> Result<Vec<String>, AllocError> {
+    let first = String::from_str(alloc, "b")?;
+    let second = String::from_str(alloc, "c")?;
+    Ok(vec![in alloc; first, second]?)
 }
 
 fn is_refused(alloc: Global, number: u32) -> Result<u32> {

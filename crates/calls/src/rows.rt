@@ -125,20 +125,36 @@ pub fn cloned<T: Clone + Debug + Drop, W: Write>(out: &mut W, value: &T) -> Done
     answered(out, value.clone())
 }
 
+/// A value that a call is given, and two clones of it.
+///
+/// # Errors
+/// `Memory` where the value can't be made, `Write` where standard output took no more.
+pub fn made_and_cloned<T: Clone + Debug + Drop, W: Write>(
+    out: &mut W,
+    made: Result<T, AllocError>,
+) -> Done {
+    match made {
+        Ok(value) => cloned(out, &value),
+        Err(AllocError) => Err(Stop::Memory),
+    }
+}
+
 /// The parts of a report.
 ///
 /// # Errors
 /// `Write` where standard output took no more.
 pub fn parts<W: Write>(out: &mut W, report: &Report) -> Done {
-    let code = report.code();
-    let severity = report.severity();
-    let help = report.help();
-    let url = report.url();
-    let labels = report.labels();
-    write!(
-        out,
-        "{report:?}, code {code:?}, severity {severity:?}, help {help:?}, url {url:?}, labels {labels:?}"
-    )?;
+    write!(out, "{report:?}")?;
+    part(out, "code", &report.code())?;
+    part(out, "severity", &report.severity())?;
+    part(out, "help", &report.help())?;
+    part(out, "url", &report.url())?;
+    part(out, "labels", &report.labels())
+}
+
+/// A part of a report, behind its name.
+fn part<T: Debug, W: Write>(out: &mut W, name: &str, value: &T) -> Done {
+    write!(out, ", {name} {value:?}")?;
     Ok(())
 }
 
@@ -151,16 +167,22 @@ pub fn report_given<W: Write>(out: &mut W, report: &Report) -> Done {
     parts(out, report)
 }
 
+/// A report that says that memory was refused, or that came back.
+///
+/// # Errors
+/// `Write` where standard output took no more.
+pub fn report_refused<W: Write>(out: &mut W, report: &Report) -> Done {
+    write!(out, "\trefused: ")?;
+    parts(out, report)
+}
+
 /// A report that a call gave; in front of that of refused memory stands that it was refused.
 ///
 /// # Errors
 /// `Write` where standard output took no more.
 pub fn report_answered<W: Write>(out: &mut W, report: &Report) -> Done {
     match report.kind() {
-        ReportKind::OutOfMemory => {
-            write!(out, "\trefused: ")?;
-            parts(out, report)
-        }
+        ReportKind::OutOfMemory => report_refused(out, report),
         _ => report_given(out, report),
     }
 }
@@ -172,9 +194,6 @@ pub fn report_answered<W: Write>(out: &mut W, report: &Report) -> Done {
 pub fn report_changed<W: Write>(out: &mut W, answer: Result<Report, Report>) -> Done {
     match answer {
         Ok(report) => report_given(out, &report),
-        Err(report) => {
-            write!(out, "\trefused: ")?;
-            parts(out, &report)
-        }
+        Err(report) => report_refused(out, &report),
     }
 }

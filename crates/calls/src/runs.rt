@@ -9,7 +9,7 @@ use std::alloc::{AllocError, Global};
 use std::io::Write;
 
 /// The calls of this module.
-pub const NAMES: [&str; 24] = [
+pub static NAMES: [&str; 24] = [
     "Runs::new",
     "Runs::push",
     "Runs::push_chars",

@@ -8,7 +8,7 @@ use std::alloc::{AllocError, Global};
 use std::io::Write;
 
 /// The calls of this module.
-pub const NAMES: [&str; 6] = [
+pub static NAMES: [&str; 6] = [
     "IndexedSource::new",
     "NamedSource::new",
     "NamedSource::with_language",
@@ -25,7 +25,10 @@ pub const README: &[u8] = b"source\n  text\n    here";
 /// # Errors
 /// `Memory` where what it needs can't be made, `Write` where standard output took no more.
 pub fn make<W: Write>(alloc: Global, name: &str, out: &mut W) -> Done {
-    let bytes = README.to_vec(alloc)?;
+    of_bytes(alloc, name, out, README.to_vec(alloc)?)
+}
+
+fn of_bytes<W: Write>(alloc: Global, name: &str, out: &mut W, bytes: Vec<u8>) -> Done {
     match name {
         "IndexedSource::new" => read(out, IndexedSource::new(alloc, bytes)),
         "NamedSource::new" => read(out, NamedSource::new(alloc, "bad_file.rs", bytes)),
@@ -40,19 +43,17 @@ pub fn make<W: Write>(alloc: Global, name: &str, out: &mut W) -> Done {
 
 fn of_named<W: Write>(alloc: Global, name: &str, out: &mut W) -> Done {
     let named = NamedSource::new(alloc, "bad_file.rs", README.to_vec(alloc)?)?;
-    match name {
-        "NamedSource::with_language" => {
-            given(out, &named)?;
-            read(out, named.with_language(alloc, "rust"))
-        }
-        "NamedSource::clone" => {
-            let named = named.with_language(alloc, "rust")?;
-            given(out, &named)?;
-            read(out, named.clone())?;
-            read(out, named.clone())
-        }
-        _ => Ok(()),
+    if name == "NamedSource::clone" {
+        return clones(out, &named.with_language(alloc, "rust")?);
     }
+    given(out, &named)?;
+    read(out, named.with_language(alloc, "rust"))
+}
+
+fn clones<W: Write>(out: &mut W, named: &NamedSource<Vec<u8>>) -> Done {
+    given(out, named)?;
+    read(out, named.clone())?;
+    read(out, named.clone())
 }
 
 /// A read of the source that a call gave, with a line of context.

@@ -3,12 +3,12 @@
 use crate::rows::{Done, Stop, end_row};
 use crate::stopping::{Reads, Stopping};
 use crate::worked::rendered;
-use crate::written::{M, Made, Written, over, report_of, stopping_report};
+use crate::written::{M, Made, Written, beside_one, over, report_of, stopping_report};
 use std::alloc::{AllocError, Global};
 use std::cell::Cell;
 use std::io::Write;
 
-const NAMES: [&str; 7] = [
+static NAMES: [&str; 7] = [
     "one label",
     "two labels",
     "labels far apart",
@@ -18,7 +18,7 @@ const NAMES: [&str; 7] = [
     "a cause",
 ];
 
-const HANDLERS: [&str; 8] = [
+static HANDLERS: [&str; 8] = [
     "graphical",
     "nested",
     "chosen",
@@ -34,22 +34,24 @@ const MOST: usize = 99;
 
 const NINE: &[u8] = b"1\n2\n3\n4\n5\n6\n7\n8\n9\n";
 
-const ONE: Written<'static> = Written {
+static PLAIN: Written<'static> = M;
+
+static ONE: Written<'static> = Written {
     labels: &[(8, 1, 0, "here")],
     ..M
 };
 
-const TWO: Written<'static> = Written {
+static TWO: Written<'static> = Written {
     labels: &[(4, 1, 0, "a"), (8, 1, 0, "b")],
     ..M
 };
 
-const APART: Written<'static> = Written {
+static APART: Written<'static> = Written {
     labels: &[(0, 1, 0, "a"), (16, 1, 0, "b")],
     ..M
 };
 
-const OWN: Written<'static> = Written {
+static OWN: Written<'static> = Written {
     labels: &[(0, 1, 1, "a"), (4, 1, 2, "b"), (16, 1, 0, "c")],
     ..M
 };
@@ -60,8 +62,8 @@ const OWN: Written<'static> = Written {
 /// # Errors
 /// `Write` where standard output took no more, `Memory` where it was refused.
 pub fn rows<W: Write>(alloc: Global, out: &mut W) -> Done {
-    for name in NAMES {
-        for handler in HANDLERS {
+    for name in &NAMES {
+        for handler in &HANDLERS {
             for lines in [0usize, 1, 2] {
                 until_none_fails(alloc, out, (name, handler, lines), false)?;
                 until_none_fails(alloc, out, (name, handler, lines), true)?;
@@ -107,19 +109,28 @@ fn row<W: Write>(
 
 fn report<'a>(alloc: Global, name: &str, reads: &'a Reads) -> Result<Made<'a>, AllocError> {
     let source = Stopping { bytes: NINE, reads };
+    match alone(name) {
+        Some(written) => stopping_report(alloc, written, source),
+        None => with_another(alloc, name, stopping_report(alloc, &ONE, source)?),
+    }
+}
+
+/// What is written of a report that has no other beside it or below it.
+fn alone(name: &str) -> Option<&'static Written<'static>> {
     match name {
-        "one label" => stopping_report(alloc, &ONE, source),
-        "two labels" => stopping_report(alloc, &TWO, source),
-        "labels far apart" => stopping_report(alloc, &APART, source),
-        "own context" => stopping_report(alloc, &OWN, source),
-        "no labels" => stopping_report(alloc, &M, source),
-        "a related report" => {
-            let related = stopping_report(alloc, &ONE, source)?;
-            Ok(report_of(alloc, &M)?.with_related(vec![in alloc; related]?))
-        }
-        _ => {
-            let below = stopping_report(alloc, &ONE, source)?;
-            over(alloc, report_of(alloc, &APART)?, below)
-        }
+        "one label" => Some(&ONE),
+        "two labels" => Some(&TWO),
+        "labels far apart" => Some(&APART),
+        "own context" => Some(&OWN),
+        "no labels" => Some(&PLAIN),
+        _ => None,
+    }
+}
+
+fn with_another<'a>(alloc: Global, name: &str, other: Made<'a>) -> Result<Made<'a>, AllocError> {
+    if name == "a related report" {
+        beside_one(alloc, report_of(alloc, &PLAIN)?, other)
+    } else {
+        over(alloc, report_of(alloc, &APART)?, other)
     }
 }

@@ -13,7 +13,7 @@ use std::alloc::{AllocError, Global};
 use std::io::Write;
 
 /// The calls of this module.
-pub const NAMES: [&str; 10] = [
+pub static NAMES: [&str; 10] = [
     "fill",
     "wrap",
     "push_fitting",

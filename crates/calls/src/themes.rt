@@ -1,13 +1,13 @@
 //! Themes and highlighters.
 
-use crate::rows::{Done, answered, cloned, given};
+use crate::rows::{Done, answered, given, made_and_cloned};
 use miette::highlight::{BlankHighlighter, Highlighter};
 use miette::theme::{GraphicalTheme, Terminal, ThemeCharacters, ThemeStyles};
 use std::alloc::{AllocError, Global};
 use std::io::Write;
 
 /// The calls of this module.
-pub const NAMES: [&str; 16] = [
+pub static NAMES: [&str; 16] = [
     "ThemeCharacters::unicode",
     "ThemeCharacters::emoji",
     "ThemeCharacters::ascii",
@@ -35,37 +35,40 @@ pub fn make<W: Write>(alloc: Global, name: &str, out: &mut W) -> Done {
         "ThemeCharacters::unicode" => answered(out, ThemeCharacters::unicode(alloc)),
         "ThemeCharacters::emoji" => answered(out, ThemeCharacters::emoji(alloc)),
         "ThemeCharacters::ascii" => answered(out, ThemeCharacters::ascii(alloc)),
-        "ThemeCharacters::clone" => cloned(out, &ThemeCharacters::emoji(alloc)?),
+        "ThemeCharacters::clone" => made_and_cloned(out, ThemeCharacters::emoji(alloc)),
         "ThemeStyles::rgb" => answered(out, ThemeStyles::rgb(alloc)),
         "ThemeStyles::ansi" => answered(out, ThemeStyles::ansi(alloc)),
         "ThemeStyles::none" => answered(out, ThemeStyles::none(alloc)),
-        "ThemeStyles::clone" => cloned(out, &ThemeStyles::rgb(alloc)?),
+        "ThemeStyles::clone" => made_and_cloned(out, ThemeStyles::rgb(alloc)),
         "GraphicalTheme::ascii" => answered(out, GraphicalTheme::ascii(alloc)),
         "GraphicalTheme::unicode" => answered(out, GraphicalTheme::unicode(alloc)),
         "GraphicalTheme::unicode_nocolor" => answered(out, GraphicalTheme::unicode_nocolor(alloc)),
         "GraphicalTheme::none" => answered(out, GraphicalTheme::none(alloc)),
-        "GraphicalTheme::clone" => cloned(out, &GraphicalTheme::unicode(alloc)?),
+        "GraphicalTheme::clone" => made_and_cloned(out, GraphicalTheme::unicode(alloc)),
         _ => others(alloc, name, out),
     }
 }
 
 fn others<W: Write>(alloc: Global, name: &str, out: &mut W) -> Done {
     match name {
-        "GraphicalTheme::for_terminal" => {
-            let terminal = terminal(alloc)?;
-            given(out, &terminal)?;
-            answered(out, GraphicalTheme::for_terminal(alloc, &terminal))
-        }
+        "GraphicalTheme::for_terminal" => { for_terminal(alloc, out, &terminal(alloc)?) }
         "Highlighter::highlight_line for BlankHighlighter" => {
             let mut highlighter = BlankHighlighter;
             answered(out, highlighter.highlight_line(alloc, "let x = 1;"))
         }
-        "Highlighter::highlight_line for Box" => {
-            let mut highlighter: Box<dyn Highlighter> = Box::new(alloc, BlankHighlighter)?;
-            answered(out, highlighter.highlight_line(alloc, "let x = 1;"))
-        }
+        "Highlighter::highlight_line for Box" => { boxed(alloc, out) }
         _ => Ok(()),
     }
+}
+
+fn for_terminal<W: Write>(alloc: Global, out: &mut W, terminal: &Terminal) -> Done {
+    given(out, terminal)?;
+    answered(out, GraphicalTheme::for_terminal(alloc, terminal))
+}
+
+fn boxed<W: Write>(alloc: Global, out: &mut W) -> Done {
+    let mut highlighter: Box<dyn Highlighter> = Box::new(alloc, BlankHighlighter)?;
+    answered(out, highlighter.highlight_line(alloc, "let x = 1;"))
 }
 
 /// Colours that its user doesn't want.

@@ -4,7 +4,9 @@ use crate::rows::{Done, appended, end_row, given};
 use crate::sources::README;
 use crate::stopping::{Reads, Red, Stopping};
 use crate::themes::terminal;
-use crate::written::{Label, M, Made, Written, beside, over, report_of, stopping_report, told_why};
+use crate::written::{
+    M, Made, Written, beside, beside_one, over, report_of, stopping_report, told_why,
+};
 use miette::handlers::{
     BriefReportHandler, DebugReportHandler, GraphicalReportHandler, JSONReportHandler,
     NarratableReportHandler, ReportHandler,
@@ -17,7 +19,7 @@ use std::cell::Cell;
 use std::io::Write;
 
 /// The reports.
-pub const NAMES: [&str; 14] = [
+pub static NAMES: [&str; 14] = [
     "one label",
     "labels on one line",
     "wide characters",
@@ -35,7 +37,7 @@ pub const NAMES: [&str; 14] = [
 ];
 
 /// The handlers.
-pub const HANDLERS: [&str; 12] = [
+pub static HANDLERS: [&str; 12] = [
     "graphical",
     "nested",
     "highlighted",
@@ -50,9 +52,7 @@ pub const HANDLERS: [&str; 12] = [
     "debug",
 ];
 
-const NINE: &[u8] = b"1\n2\n3\n4\n5\n6\n7\n8\n9\n";
-
-const OOPS: Written<'static> = Written {
+static OOPS: Written<'static> = Written {
     message: "oops!",
     code: "oops::my::bad",
     url: "http://x",
@@ -63,26 +63,17 @@ const OOPS: Written<'static> = Written {
     ..M
 };
 
-const CROSSING: Written<'static> = Written {
+static CROSSING: Written<'static> = Written {
     labels: &[(0, 5, 0, "x"), (2, 5, 0, "y\nand z")],
     source: Some(b"a\nb\nc\nd\n"),
     ..M
 };
 
-const MANY: &[Label<'static>] = &[
-    (0, 1, 0, "a"),
-    (1, 1, 0, ""),
-    (2, 3, 0, "c"),
-    (3, 3, 0, "d"),
-    (6, 0, 0, "e"),
-    (8, 1, 0, "f"),
-    (8, 9, 0, "g"),
-    (10, 1, 0, ""),
-    (12, 4, 0, "i"),
-    (16, 1, 0, "j"),
-];
+static PLAIN: Written<'static> = M;
 
-const LINKED: Written<'static> = Written {
+static TEXTS: [&str; 3] = ["first", "se-cond\nin two lines", "third"];
+
+static LINKED: Written<'static> = Written {
     message: "in-ner text here",
     code: "c::d",
     url: "http://a-b/ c",
@@ -90,95 +81,143 @@ const LINKED: Written<'static> = Written {
     ..M
 };
 
-const BESIDE: [Written<'static>; 2] = [
+static BESIDE: [Written<'static>; 2] = [
     Written {
         message: "rel",
         severity: Some(Severity::Warning),
         ..M
     },
-    OOPS,
+    Written {
+        message: "oops!",
+        code: "oops::my::bad",
+        url: "http://x",
+        help: "try doing it better next time?",
+        labels: &[(9, 4, 0, "This bit here")],
+        name: "bad_file.rs",
+        source: Some(README),
+        ..M
+    },
 ];
+
+static ON_ONE_LINE: Written<'static> = Written {
+    labels: &[(1, 3, 0, "a"), (2, 3, 0, "b")],
+    source: Some(b"abcdef"),
+    ..M
+};
+
+static WIDE: Written<'static> = Written {
+    labels: &[
+        (4, 4, 0, "wider than 4 columns"),
+        (7, 1, 0, "no final terminator"),
+    ],
+    source: Some(b"a\xe6\xbc\xa2\xe6\xbc\xa2b"),
+    ..M
+};
+
+static TABS: Written<'static> = Written {
+    labels: &[(5, 1, 0, "blank"), (8, 1, 0, "tab")],
+    source: Some(b"x = 1 \n \ty\nend"),
+    ..M
+};
+
+static OWN: Written<'static> = Written {
+    labels: &[(0, 1, 1, ""), (8, 1, 0, "here"), (16, 1, 2, "")],
+    source: Some(b"1\n2\n3\n4\n5\n6\n7\n8\n9\n"),
+    ..M
+};
+
+static MANY: Written<'static> = Written {
+    labels: &[
+        (0, 1, 0, "a"),
+        (1, 1, 0, ""),
+        (2, 3, 0, "c"),
+        (3, 3, 0, "d"),
+        (6, 0, 0, "e"),
+        (8, 1, 0, "f"),
+        (8, 9, 0, "g"),
+        (10, 1, 0, ""),
+        (12, 4, 0, "i"),
+        (16, 1, 0, "j"),
+    ],
+    source: Some(b"1\n2\n3\n4\n5\n6\n7\n8\n9\n"),
+    ..M
+};
+
+static REFUSED: Written<'static> = Written {
+    labels: &[(9, 1, 0, "far off"), (0, 1, 0, "here")],
+    source: Some(b"a"),
+    ..M
+};
 
 /// The report of this name. Of the source that stops the first read fails.
 ///
 /// # Errors
 /// Where memory is refused.
 fn report<'a>(alloc: Global, name: &str, reads: &'a Reads) -> Result<Made<'a>, AllocError> {
+    match alone(name) {
+        Some(written) => report_of(alloc, written),
+        None => with_others(alloc, name, reads),
+    }
+}
+
+/// What is written of a report that has nothing beside it or below it.
+fn alone(name: &str) -> Option<&'static Written<'static>> {
     match name {
-        "one label" => report_of(alloc, &OOPS),
-        "labels on one line" => labelled(alloc, b"abcdef", &[(1, 3, 0, "a"), (2, 3, 0, "b")]),
-        "wide characters" => {
-            let labels = &[
-                (4, 4, 0, "wider than 4 columns"),
-                (7, 1, 0, "no final terminator"),
-            ];
-            labelled(alloc, "a\u{6f22}\u{6f22}b".as_bytes(), labels)
-        }
-        "tabs" => labelled(
-            alloc,
-            b"x = 1 \n \ty\nend",
-            &[(5, 1, 0, "blank"), (8, 1, 0, "tab")],
-        ),
-        "lines that cross" => report_of(alloc, &CROSSING),
-        "own context" => labelled(
-            alloc,
-            NINE,
-            &[(0, 1, 1, ""), (8, 1, 0, "here"), (16, 1, 2, "")],
-        ),
-        "many labels" => labelled(alloc, NINE, MANY),
-        "a refused label" => labelled(alloc, b"a", &[(9, 1, 0, "far off"), (0, 1, 0, "here")]),
+        "one label" => Some(&OOPS),
+        "labels on one line" => Some(&ON_ONE_LINE),
+        "wide characters" => Some(&WIDE),
+        "tabs" => Some(&TABS),
+        "lines that cross" => Some(&CROSSING),
+        "own context" => Some(&OWN),
+        "many labels" => Some(&MANY),
+        "a refused label" => Some(&REFUSED),
+        _ => None,
+    }
+}
+
+fn with_others<'a>(alloc: Global, name: &str, reads: &'a Reads) -> Result<Made<'a>, AllocError> {
+    match name {
         "related reports" => related(alloc),
         "related reports in one another" => {
             let outer = report_of(alloc, &CROSSING)?;
-            Ok(outer.with_related(vec![in alloc; related(alloc)?]?))
+            related_below(alloc, outer)
         }
-        "texts" => told_why(
-            alloc,
-            report_of(alloc, &M)?,
-            &["first", "se-cond\nin two lines", "third"],
-        ),
-        _ => with_cause(alloc, name, reads),
+        "texts" => told_why(alloc, report_of(alloc, &PLAIN)?, &TEXTS),
+        _ => with_cause(alloc, report_of(alloc, &PLAIN)?, name, reads),
     }
+}
+
+fn related_below<'a>(alloc: Global, outer: Made<'a>) -> Result<Made<'a>, AllocError> {
+    beside_one(alloc, outer, related(alloc)?)
 }
 
 fn related<'a>(alloc: Global) -> Result<Made<'a>, AllocError> {
-    beside(alloc, report_of(alloc, &M)?, &BESIDE)
+    beside(alloc, report_of(alloc, &PLAIN)?, &BESIDE)
 }
 
-fn with_cause<'a>(alloc: Global, name: &str, reads: &'a Reads) -> Result<Made<'a>, AllocError> {
-    let outer = report_of(alloc, &M)?;
+fn with_cause<'a>(
+    alloc: Global,
+    outer: Made<'a>,
+    name: &str,
+    reads: &'a Reads,
+) -> Result<Made<'a>, AllocError> {
+    let cause = cause(alloc, name, reads)?;
+    over(alloc, outer, cause)
+}
+
+fn cause<'a>(alloc: Global, name: &str, reads: &'a Reads) -> Result<Made<'a>, AllocError> {
     match name {
-        "a linked cause" => over(alloc, outer, report_of(alloc, &LINKED)?),
-        "causes with sources" => {
-            let below = over(
-                alloc,
-                report_of(alloc, &OOPS)?,
-                report_of(alloc, &CROSSING)?,
-            )?;
-            over(alloc, outer, below)
-        }
+        "a linked cause" => report_of(alloc, &LINKED),
+        "causes with sources" => both_sourced(alloc, report_of(alloc, &OOPS)?),
         _ => {
             let bytes = README;
-            over(
-                alloc,
-                outer,
-                stopping_report(alloc, &OOPS, Stopping { bytes, reads })?,
-            )
+            stopping_report(alloc, &OOPS, Stopping { bytes, reads })
         }
     }
 }
 
-fn labelled<'a, 'x>(
-    alloc: Global,
-    bytes: &'x [u8],
-    labels: &'x [Label<'x>],
-) -> Result<Made<'a>, AllocError> {
-    let written = Written {
-        labels,
-        source: Some(bytes),
-        ..M
-    };
-    report_of(alloc, &written)
+fn both_sourced<'a>(alloc: Global, outer: Made<'a>) -> Result<Made<'a>, AllocError> {
+    over(alloc, outer, report_of(alloc, &CROSSING)?)
 }
 
 /// The rows that are asked for: those of a report, of a handler, or all.
@@ -186,8 +225,8 @@ fn labelled<'a, 'x>(
 /// # Errors
 /// `Write` where standard output took no more, `Memory` where it was refused before any row.
 pub fn rows_of<W: Write>(alloc: Global, out: &mut W, name: &str, handler: &str) -> Done {
-    for one in NAMES {
-        if name.is_empty() || name == one {
+    for one in &NAMES {
+        if name.is_empty() || name == *one {
             rows_by(alloc, out, one, handler)?;
         }
     }
@@ -196,8 +235,8 @@ pub fn rows_of<W: Write>(alloc: Global, out: &mut W, name: &str, handler: &str) 
 
 /// The rows of a report that are asked for.
 fn rows_by<W: Write>(alloc: Global, out: &mut W, name: &str, handler: &str) -> Done {
-    for by in HANDLERS {
-        if handler.is_empty() || handler == by {
+    for by in &HANDLERS {
+        if handler.is_empty() || handler == *by {
             row_by(alloc, out, name, by)?;
         }
     }

@@ -89,11 +89,16 @@ pub fn told_why<'a>(
     report: Made<'a>,
     texts: &[&str],
 ) -> Result<Made<'a>, AllocError> {
+    let list = texts_of(alloc, texts)?;
+    Ok(report.with_cause_texts(list))
+}
+
+fn texts_of(alloc: Global, texts: &[&str]) -> Result<Vec<String>, AllocError> {
     let mut list = Vec::new(alloc);
     for text in texts {
         list.push(String::from_str(alloc, text)?)?;
     }
-    Ok(report.with_cause_texts(list))
+    Ok(list)
 }
 
 /// A report with others beside it.
@@ -105,11 +110,33 @@ pub fn beside<'a>(
     report: Made<'a>,
     others: &[Written<'_>],
 ) -> Result<Made<'a>, AllocError> {
+    let list = reports_of(alloc, others)?;
+    Ok(report.with_related(list))
+}
+
+fn reports_of<'a>(alloc: Global, others: &[Written<'_>]) -> Result<Vec<Made<'a>>, AllocError> {
     let mut list = Vec::new(alloc);
     for written in others {
         list.push(report_of(alloc, written)?)?;
     }
+    Ok(list)
+}
+
+/// A report with another one beside it.
+///
+/// # Errors
+/// Where memory is refused.
+pub fn beside_one<'a>(
+    alloc: Global,
+    report: Made<'a>,
+    other: Made<'a>,
+) -> Result<Made<'a>, AllocError> {
+    let list = list_of(alloc, other)?;
     Ok(report.with_related(list))
+}
+
+fn list_of<'a>(alloc: Global, report: Made<'a>) -> Result<Vec<Made<'a>>, AllocError> {
+    Ok(vec![in alloc; report]?)
 }
 
 fn diagnostic_of(alloc: Global, written: &Written<'_>) -> Result<MietteDiagnostic, AllocError> {

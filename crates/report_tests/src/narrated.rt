@@ -17,14 +17,14 @@ fn told(alloc: Global, report: &Report) -> Result<String, RenderError> {
 
 /// A tab, wide characters, an accent, words, a byte that is no text, an emoji of three people, digits, a flag, and more
 /// words.
-const LONG: &[u8] =
+static LONG: &[u8] =
     b"\t\xe6\xbc\xa2\xe5\xad\x97e\xcc\x81the quick brown fox jumps over the lazy dog, \
     \xff\xf0\x9f\x91\xa8\xe2\x80\x8d\xf0\x9f\x91\xa9\xe2\x80\x8d\xf0\x9f\x91\xa70123456789012345\
     678901234567890123456789012345678901234567890123456789\xf0\x9f\x87\xa9\xf0\x9f\x87\xaa\xc3\
     \xa9 then a tail of plain words that goes on well past all of that, end\n";
 
 /// Labels on it: offset, length, text.
-const LABELS: [(usize, usize, &str); 15] = [
+static LABELS: [(usize, usize, &str); 15] = [
     (0, 221, "whole"),
     (1, 6, "wide"),
     (2, 3, "inside both"),
@@ -64,8 +64,8 @@ const LONG_ROWS: &str =
 
 fn labels(alloc: Global) -> Result<Vec<LabeledSpan>, AllocError> {
     let mut list = Vec::new(alloc);
-    for (offset, length, text) in LABELS {
-        list.push(LabeledSpan::at(alloc, (offset, length), text)?)?;
+    for (offset, length, text) in &LABELS {
+        list.push(LabeledSpan::at(alloc, (*offset, *length), text)?)?;
     }
     Ok(list)
 }

@@ -37,8 +37,8 @@ fn wrap_plainly(
 
 #[test]
 fn rows_of_runs(rt: HostRuntime) {
-    for (text, width, wanted) in SEQUENCES {
-        gives(&rt, wrapped(rt.alloc(), text, width), wanted);
+    for (text, width, wanted) in &SEQUENCES {
+        gives(&rt, wrapped(rt.alloc(), text, *width), *wanted);
     }
 }
 

@@ -9,7 +9,7 @@ use std::alloc::{AllocError, Global};
 use std::process::Abort;
 
 /// Rows of 80 columns without indents; words are cut behind hyphens and where they are too wide.
-const PLAIN: WrapOptions<'static> = WrapOptions {
+static PLAIN: WrapOptions<'static> = WrapOptions {
     width: 80,
     first_indent: "",
     further_indent: "",
@@ -20,10 +20,14 @@ const PLAIN: WrapOptions<'static> = WrapOptions {
 };
 
 /// Under indents.
-const INDENTED: WrapOptions<'static> = WrapOptions {
+static INDENTED: WrapOptions<'static> = WrapOptions {
+    width: 80,
     first_indent: "> ",
     further_indent: ". ",
-    ..PLAIN
+    break_words: true,
+    wrap_lines: true,
+    separator: WordSeparator::AsciiSpace,
+    splitter: WordSplitter::HyphenSplitter,
 };
 
 /// A text, the columns of a row, and the rows.
@@ -65,7 +69,7 @@ fn hyphens(rt: HostRuntime) {
 }
 
 /// Texts with sequences.
-pub(crate) const SEQUENCES: [Row<'static>; 5] = [
+pub(crate) static SEQUENCES: [Row<'static>; 5] = [
     ("aa \u{1B}[31m bb", 3, "aa\u{1B}[31m\nbb"),
     ("\u{1B}[31mred \u{1B}[0mx", 4, "\u{1B}[31mred\n\u{1B}[0mx"),
     ("a-\u{1B}[31mb\u{1B}[0m", 2, "a-\n\u{1B}[31mb\u{1B}[0m"),
