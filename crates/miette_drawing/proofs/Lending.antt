@@ -219,14 +219,19 @@ pub text_fits : (start : ℕ) (bytes : List ℕ) (line : LineOfText) → start �
 text_fits start bytes line from text ending to small =
     omega (arith, from, text, ending, to, small, length-take (line.text_end - start - (line.start - start)) (drop (line.start - start) bytes))
 
--- the lines before a place are drawn, and whether the last of them is left out: whatever pieces the others have, there are
+-- the lines before some are drawn, and whether the last of them is left out: whatever pieces the others have, there are
 -- pieces for all, and calls that bring a highlighter from its first state over the state now
+abbrev pub AreLinedBefore : (ℕ → Line → Bool) → Bool → SnippetSettings → ℕ → ℕ → List DrawnLabel → ℕ → List ℕ → ℕ → Bool → (List Call → Type 0) → (List Call → Type 0) → List Line → ℕ → Printout → Printout → Type 0
+AreLinedBefore out gap s w columns drawn start bytes first blank begun now left number before page =
+    (more : List (List Highlight)) → EachHasPieces blank (texts_in start bytes left) more →
+    (all : List (List Highlight)) × EachHasPieces blank (texts_in start bytes (P.lines_from start bytes)) all
+    × ((later : List Call) → now (line_calls (texts_in start bytes left) more ++ later) → begun (line_calls (texts_in start bytes (P.lines_from start bytes)) all ++ later))
+    × (page ⊕ rows_tokens (lent_rows out gap s w columns drawn start bytes number more left) ≡ before ⊕ rows_tokens (lent_rows out false s w columns drawn start bytes first all (P.lines_from start bytes)))
+
+-- the same of the lines from a place on
 abbrev pub AreLined : (ℕ → Line → Bool) → Bool → SnippetSettings → ℕ → ℕ → List DrawnLabel → ℕ → List ℕ → ℕ → Bool → (List Call → Type 0) → (List Call → Type 0) → ℕ → ℕ → Printout → Printout → Type 0
 AreLined out gap s w columns drawn start bytes first blank begun now at number before page =
-    (more : List (List Highlight)) → EachHasPieces blank (texts_in start bytes (P.lines_from (start + at) (drop at bytes))) more →
-    (all : List (List Highlight)) × EachHasPieces blank (texts_in start bytes (P.lines_from start bytes)) all
-    × ((later : List Call) → now (line_calls (texts_in start bytes (P.lines_from (start + at) (drop at bytes))) more ++ later) → begun (line_calls (texts_in start bytes (P.lines_from start bytes)) all ++ later))
-    × (page ⊕ rows_tokens (lent_rows out gap s w columns drawn start bytes number more (P.lines_from (start + at) (drop at bytes))) ≡ before ⊕ rows_tokens (lent_rows out false s w columns drawn start bytes first all (P.lines_from start bytes)))
+    AreLinedBefore out gap s w columns drawn start bytes first blank begun now (P.lines_from (start + at) (drop at bytes)) number before page
 
 pub lines_first : (out : ℕ → Line → Bool) (s : SnippetSettings) (w columns : ℕ) (drawn : List DrawnLabel) (start : ℕ) (bytes : List ℕ) (first : ℕ) (blank : Bool) (begun : List Call → Type 0) (page : Printout) → AreLined out false s w columns drawn start bytes first blank begun begun 0 first page page
 lines_first out s w columns drawn start bytes first blank begun page = λ more h.

@@ -1,5 +1,6 @@
 -- The code's own steps, which no rule names.
 pub mod Folding
 pub mod FrameParts
+pub mod Runs
 pub mod Sheets
 pub mod Widths

@@ -1,14 +1,16 @@
 //! Which lines of a snippet are left out inside folded labels.
 
-ghost use Rattle.std.specs.Prelude.{◌≡◌, ◌+◌, ◌<◌, ◌^◌, ◌&&◌, nat_le, List, Some, map, length, IfOk, if◌then◌else◌};
+ghost use Rattle.std.specs.Prelude.{◌≡◌, ◌+◌, ◌-◌, ◌<◌, ◌^◌, ◌&&◌, ℕ, List, Some, map, length, IfOk};
 ghost use Rattle.std.specs.List.{list_any};
-ghost use Rattle.miette_newlines.specs.rules.Lines.{Line, lines_from, is_terminated};
+ghost use Rattle.miette_newlines.specs.rules.Lines.{lines_from};
 ghost use Rattle.miette_newlines.specs.views.Walking.{line_of_text};
 ghost use Rattle.miette_snippets.specs.rules.Folds.{place_among, hides, leaves_out};
-ghost use Rattle.miette_drawing.specs.views.Spreads.{spread_of};
-ghost use Rattle.miette_drawing.specs.steps.Folding.{fold_in, is_around_fold, is_near_fold};
+ghost use Rattle.miette_drawing.specs.views.Spreads.{spread_of, place_in, IsNumbered, AreNumbered};
+ghost use Rattle.miette_drawing.specs.steps.Folding.{start_in, fold_in, is_around_fold, is_near_fold};
 
-use miette_newlines::lines::{LineOfText, Lines};
+use miette_newlines::lines::LineOfText;
+use miette_newlines::scan::start_before;
+use miette_protocol::source::MietteSpanContents;
 use std::alloc::{AllocError, Global};
 
 /// A label as it may be folded.
@@ -24,6 +26,21 @@ pub struct Spread {
     pub until: usize,
     /// How many lines are shown around it.
     pub around: usize,
+    /// The number of the line of its first byte, counted from 0.
+    pub first_line: usize,
+    /// The number of the line of its last byte.
+    pub last_line: usize,
+    /// The number of the line where its context begins.
+    pub from_line: usize,
+}
+
+/// Where a line of a snippet begins, or where all of them end.
+#[derive(Clone, Copy, Debug, PartialEq, Eq, Drop)]
+pub(crate) struct LineStart {
+    /// The offset there, in bytes of the source.
+    pub(crate) offset: usize,
+    /// How many of the lines stand before it.
+    pub(crate) place: usize,
 }
 
 /// A label among the lines of a snippet.
@@ -35,54 +52,70 @@ pub(crate) struct Fold {
     pub(crate) first: usize,
     /// Which of them its last byte lies on.
     pub(crate) last: usize,
+    /// Where the line begins on which its context does.
+    pub(crate) begun: LineStart,
+    /// Where the first line begins that is shown above its last one, where it's folded.
+    pub(crate) resumed: LineStart,
 }
 
-// 1 where a line has a terminator and ends at an offset or before, else 0.
-fn ended_by(line: &LineOfText, offset: usize) -> usize
-    ensures { result ≡ (if is_terminated (line_of_text line.now) && nat_le line.now.end offset then 1 else 0) }
+// Which of the lines that a read lent a line with this number is; behind the last one, how many are terminated.
+fn place_in(lent: &MietteSpanContents<'_>, line: usize) -> usize
+    ensures { result ≡ place_in lent.now line }
 {
-    if line.text_end < line.end && line.end <= offset {
-        1
-    } else {
-        0
+    line.saturating_sub(lent.line()).min(lent.line_count())
+}
+
+// Where the line begins that stands so many lines before the one that an offset lies on, by which line that is.
+fn start_above(bytes: &[u8], start: usize, offset: usize, place: usize, lines: usize) -> LineStart
+    requires small { start + length bytes.now < 2 ^ 64 }
+    requires place { place ≡ place_among (lines_from start bytes.now) offset }
+    ensures { result ≡ start_in start bytes.now (place - lines) }
+{
+    let at = bytes.len().min(offset.saturating_sub(start));
+    LineStart {
+        offset: start + start_before(bytes, at, lines).0,
+        place: place.saturating_sub(lines),
     }
 }
 
-// Which of the lines of some bytes, which begin at `start`, an offset lies on, counted from 0.
-fn place_among(bytes: &[u8], start: usize, offset: usize) -> usize
-    requires { start + length bytes.now < 2 ^ 64 }
-    ensures { result ≡ place_among (lines_from start bytes.now) offset }
+// A label among the lines that a read lent.
+fn fold_in(lent: &MietteSpanContents<'_>, label: &Spread) -> Fold
+    requires small { lent.now.span.offset + length lent.now.bytes < 2 ^ 64 }
+    requires numbered { IsNumbered lent.now label.now }
+    ensures { result ≡ fold_in lent.now.span.offset lent.now.bytes label.now }
 {
-    let mut place: usize = 0;
-    for line in Lines::new(bytes, start) {
-        place += ended_by(&line, offset);
+    let bytes = lent.data();
+    let start = lent.span().offset();
+    let last = place_in(lent, label.last_line);
+    let from = place_in(lent, label.from_line);
+    Fold {
+        label: *label,
+        first: place_in(lent, label.first_line),
+        last,
+        begun: start_above(bytes, start, label.from, from, 0),
+        resumed: start_above(bytes, start, label.last, last, label.around),
     }
-    place
 }
 
-/// Labels among the lines of some bytes of a source, which begin at this offset. `AllocError` where memory is refused.
+/// Labels among the lines that a read lent. `AllocError` where memory is refused.
 pub(crate) fn folds_in(
     alloc: Global,
-    bytes: &[u8],
-    start: usize,
+    lent: &MietteSpanContents<'_>,
     labels: &[Spread],
 ) -> Result<Vec<Fold>, AllocError>
-    requires { start + length bytes.now < 2 ^ 64 }
-    ensures { IfOk result (λ folds. folds.items ≡ map (fold_in (lines_from start bytes.now)) labels.now) }
+    requires small { lent.now.span.offset + length lent.now.bytes < 2 ^ 64 }
+    requires numbered { AreNumbered lent.now labels.now }
+    ensures { IfOk result (λ folds. folds.items ≡ map (fold_in lent.now.span.offset lent.now.bytes) labels.now) }
 {
     let mut folds = Vec::with_capacity(alloc, labels.len())?;
     for label in labels {
-        folds.push(Fold {
-            label: *label,
-            first: place_among(bytes, start, label.first),
-            last: place_among(bytes, start, label.last),
-        })?;
+        folds.push(fold_in(lent, label))?;
     }
     Ok(folds)
 }
 
-// Whether a line has a byte of a label's context.
-fn is_around(line: &LineOfText, fold: &Fold) -> bool
+/// Whether a line has a byte of a label's context.
+pub(crate) fn is_around(line: &LineOfText, fold: &Fold) -> bool
     ensures { result ≡ is_around_fold (line_of_text line.now) fold.now }
 {
     line.start < fold.label.until && fold.label.from < line.end
@@ -131,8 +164,9 @@ fn some_near(limit: usize, folds: &[Fold], place: usize, line: &LineOfText) -> b
 
 // Whether a line is left out where labels are folded to so many lines.
 fn is_left_out(limit: usize, folds: &[Fold], place: usize, line: &LineOfText) -> bool
-    ensures { (lines : List Line) (labels : List Spread) → folds.now ≡ map (fold_in lines) labels →
-        result ≡ leaves_out (Some limit) lines (map spread_of labels) place (line_of_text line.now) }
+    ensures { (start : ℕ) (bytes : List ℕ) (labels : List Spread) →
+        folds.now ≡ map (fold_in start bytes) labels →
+        result ≡ leaves_out (Some limit) (lines_from start bytes) (map spread_of labels) place (line_of_text line.now) }
 {
     if some_near(limit, folds, place, line) {
         return false;
@@ -148,8 +182,9 @@ pub(crate) fn leaves_out(
     place: usize,
     line: &LineOfText,
 ) -> bool
-    ensures { (lines : List Line) (labels : List Spread) → folds.now ≡ map (fold_in lines) labels →
-        result ≡ leaves_out limit lines (map spread_of labels) place (line_of_text line.now) }
+    ensures { (start : ℕ) (bytes : List ℕ) (labels : List Spread) →
+        folds.now ≡ map (fold_in start bytes) labels →
+        result ≡ leaves_out limit (lines_from start bytes) (map spread_of labels) place (line_of_text line.now) }
 {
     match limit {
         Some(limit) => is_left_out(limit, folds, place, line),

@@ -2,8 +2,8 @@
 
 ghost use Rattle.std.specs.Prelude.{◌≡◌, ℕ, List, [], ◌∷◌, true, map, IfOk, if◌then◌else◌};
 ghost use Rattle.miette_snippets.specs.rules.Highlighting.{AreCallsOn, ArePieces, decoded_text};
-ghost use Rattle.miette_snippets.specs.rules.Highlighting.{highlight_of, leaves_plain};
-ghost use Rattle.miette_highlight.specs.rules.HighlighterCalls.{Leads, asked, listed_pieces, restarted};
+ghost use Rattle.miette_snippets.specs.rules.Highlighting.{highlight_of, leaves_plain, follows};
+ghost use Rattle.miette_highlight.specs.rules.HighlighterCalls.{Call, Leads, asked, listed_pieces, restarted};
 ghost use Rattle.miette_highlight.specs.rules.Pieces.{CutsLine, plain_pieces};
 
 use bstr::ByteSlice;
@@ -77,5 +77,17 @@ pub(crate) fn pieces_of<H: Highlighter>(
             Ok(pieces)
         }
         None => Ok(Vec::new(alloc)),
+    }
+}
+
+/// Whether the lines behind a line may be passed over: it is left out, and there is no highlighter, which is asked for
+/// each of them.
+pub(crate) fn may_pass<H: Highlighter>(highlighter: &Option<H>, left_out: bool) -> bool
+    ensures out { result ≡ true → left_out ≡ true }
+    ensures free { result ≡ true → (calls : List Call) → follows H.may_follow highlighter.now calls }
+{
+    match highlighter {
+        Some(_) => false,
+        None => left_out,
     }
 }

@@ -2,12 +2,14 @@
 #![tactic(auto)]
 
 mod closings;
+mod extent;
 pub mod folds;
 pub mod frame;
 mod gutters;
 mod highlighting;
 mod label_text;
 mod line;
+mod runs;
 mod sheet;
 pub mod snippet;
 mod strokes;

@@ -12,9 +12,10 @@
 //! The steps, in order:
 //!
 //! 1. `push_snippet` brings the sweep over the labels to the snippet's first line.
-//! 2. `push_framed` counts lines and the widest gutter, and puts the frame around (`frame.rt`).
+//! 2. `push_framed` counts lines and the widest gutter (`extent.rt`), and puts the frame around (`frame.rt`).
 //! 3. `push_lines` goes on line by line: which labels lie on it (the sweep), a highlighter's pieces, whether it is left
-//!    out inside a folded label (`folds.rt`).
+//!    out inside a folded label (`folds.rt`). Those left out behind such a line are passed over at once, where no
+//!    highlighter is to be asked for them (`runs.rt`).
 //! 4. `push_line_or_break` (`line.rt`) puts the rows of a line: its number row over the gutter
 //!    (`gutters.rt`), the marks and their leaders (`strokes.rt`), the texts (`texts.rt`), and the
 //!    texts of labels that end there (`closings.rt`). Where a line's marks stand, and what is shown
@@ -22,29 +23,29 @@
 //!    columns its marks then stand.
 
 ghost use Rattle.std.specs.Prelude.{◌≡◌, ◌∷◌, ◌+◌, ◌<◌, ◌^◌, List, map, length, decimal, false, IfOk, OnOk};
-ghost use Rattle.miette_newlines.specs.rules.Lines.{Line, lines_from};
-ghost use Rattle.miette_newlines.specs.views.Walking.{line_of_text};
+ghost use Rattle.miette_newlines.specs.rules.Lines.{lines_from};
 ghost use Rattle.miette_snippets.specs.rules.SnippetLayout.{left_out};
 ghost use Rattle.miette_snippets.specs.views.ThemeSettings.{settings_of};
 ghost use Rattle.miette_lines.specs.views.GivenLabels.{drawn_of};
 ghost use Rattle.miette_snippets.specs.rules.Highlighting.{AreCallsOn, leaves_plain};
 ghost use Rattle.miette_highlight.specs.rules.HighlighterCalls.{restarted};
-ghost use Rattle.miette_drawing.specs.views.Spreads.{spread_of};
+ghost use Rattle.miette_drawing.specs.views.Spreads.{spread_of, AreNumbered};
 ghost use Rattle.miette_drawing.specs.steps.Folding.{fold_in};
 ghost use Rattle.miette_drawing.specs.views.SnippetRows.{PutsRows, PutsSnippet, texts_in, lent_rows};
 ghost use Rattle.miette_drawing.specs.steps.Widths.{width_of_count, gutter_of};
 ghost use Rattle.miette_lines.specs.views.Sweeping.{IsAt, AreSorted};
 
+use crate::extent::extent_of;
 use crate::folds::{Fold, Spread, folds_in, leaves_out};
 use crate::frame::{Frame, push_bottom_row, push_top_row};
-use crate::highlighting::{pieces_of, restart};
+use crate::highlighting::{may_pass, pieces_of, restart};
 use crate::line::push_line_or_break;
+use crate::runs::{enter_line, next_start, pass_over};
 use crate::sheet::{Outcome, Sheet, ShownLine};
 use itoa::Buffer;
 use miette_highlight::highlight::Highlighter;
-use miette_lines::line_sweep::{extent_of, line_at};
+use miette_lines::line_sweep::line_at;
 use miette_lines::sweep::{Bounds, PlacedLabel, Sweep, advance};
-use miette_newlines::lines::LineOfText;
 use miette_page::canvas::Canvas;
 use miette_page::page::Page;
 use miette_protocol::protocol::LabeledSpan;
@@ -109,6 +110,16 @@ fn number_behind(before: usize) -> Result<usize, AllocError>
     }
 }
 
+// The number of the line with this place, where so many lines stand before the first.
+fn number_of(before: usize, place: usize) -> Result<usize, AllocError>
+    ensures { IfOk result (λ number. number ≡ before + place + 1) }
+{
+    match before.checked_add(place) {
+        Some(before) => number_behind(before),
+        None => Err(AllocError),
+    }
+}
+
 // The digits of the number of the last of so many lines, where this many stand before the first; 1 where there is none.
 fn number_width(before: usize, lines: usize) -> Result<usize, AllocError>
     ensures { IfOk result (λ w. w ≡ width_of_count before lines) }
@@ -156,21 +167,8 @@ fn seek(alloc: Global, labels: &[PlacedLabel], place: usize, passage: &mut Passa
     Ok(())
 }
 
-// Whether a line is left out, before which so many lines stand in the source.
-fn is_left_out(body: &Body, before: usize, line: &LineOfText) -> bool
-    ensures { (lines : List Line) (labels : List Spread) → body.now.folds.now ≡ map (fold_in lines) labels →
-        result ≡ left_out (settings_of body.now.frame.theme.now body.now.frame.options) body.now.before lines
-        (map spread_of labels) (before + 1) (line_of_text line.now) }
-{
-    leaves_out(
-        body.frame.options.label_lines,
-        body.folds,
-        before.saturating_sub(body.before),
-        line,
-    )
-}
-
-// The rows of a snippet's lines, in the highlighter's pieces, which is asked for those that are left out too.
+// The rows of a snippet's lines, in the highlighter's pieces, which is asked for those that are left out too. Where
+// there is none, a run of such lines is passed over at once.
 fn push_lines<'a, H: Highlighter, O: Canvas>(
     drawing: &Drawing<'a>,
     body: &Body<'a>,
@@ -182,8 +180,7 @@ fn push_lines<'a, H: Highlighter, O: Canvas>(
     requires sorted { AreSorted drawing.now.placed.now }
     requires at { IsAt drawing.now.placed.now body.now.start sweep.old.next sweep.old.running.items }
     requires small { body.now.start + length body.now.bytes.now < 2 ^ 64 }
-    requires folds { body.now.folds.now ≡ map (fold_in (lines_from body.now.start body.now.bytes.now))
-        drawing.now.spreads.now }
+    requires folds { body.now.folds.now ≡ map (fold_in body.now.start body.now.bytes.now) drawing.now.spreads.now }
     ensures rows { OnOk result (PutsRows (leaves_plain H.is_blank highlighter.old)
         (AreCallsOn H.may_follow highlighter.old highlighter.new)
         (texts_in body.now.start body.now.bytes.now (lines_from body.now.start body.now.bytes.now))
@@ -197,18 +194,13 @@ fn push_lines<'a, H: Highlighter, O: Canvas>(
     ensures at { OnOk result (IsAt drawing.now.placed.now (body.now.start + length body.now.bytes.now) sweep.new.next
         sweep.new.running.items) }
 {
-    let mut before = body.before;
+    let mut place: usize = 0;
     let mut at: usize = 0;
     let mut gap = false;
     while at < body.bytes.len() {
-        let number = number_behind(before)?;
+        let number = number_of(body.before, place)?;
         let line = line_at(body.bytes, body.start, at);
-        let bounds = Bounds {
-            start: line.start,
-            after: line.end,
-        };
-        one.clear();
-        sweep.enter(drawing.placed, &bounds, one)?;
+        enter_line(drawing.placed, &line, sweep, one)?;
         let sheet = Sheet {
             theme: body.frame.theme,
             options: body.frame.options,
@@ -220,19 +212,22 @@ fn push_lines<'a, H: Highlighter, O: Canvas>(
         };
         let text = &body.bytes[line.start - body.start..line.text_end - body.start];
         let pieces = pieces_of(drawing.alloc, highlighter, text)?;
+        let left_out = leaves_out(body.frame.options.label_lines, body.folds, place, &line);
         let shown = ShownLine {
             number,
             text,
             one,
             pieces: &pieces,
-            left_out: is_left_out(body, before, &line),
+            left_out,
             gap,
         };
         push_line_or_break(drawing.alloc, page, &sheet, &shown)?;
         sweep.leave(line.end);
-        before = number;
-        gap = shown.left_out;
-        at = line.end - body.start;
+        let next = next_start(body.folds, place, &line, may_pass(highlighter, left_out));
+        pass_over(drawing.placed, line.end, next.offset, sweep, one)?;
+        gap = left_out;
+        place = next.place;
+        at = next.offset - body.start;
     }
     Ok(())
 }
@@ -249,6 +244,7 @@ fn push_framed<'a, H: Highlighter, O: Canvas>(
     requires sorted { AreSorted drawing.now.placed.now }
     requires at { IsAt drawing.now.placed.now lent.now.span.offset sweep.old.next sweep.old.running.items }
     requires small { lent.now.span.offset + length lent.now.bytes < 2 ^ 64 }
+    requires numbered { AreNumbered lent.now drawing.now.spreads.now }
     ensures rows { OnOk result (PutsSnippet (leaves_plain H.is_blank highlighter.old)
         (AreCallsOn H.may_follow highlighter.old highlighter.new)
         drawing.now lent.now place page.old page.new) }
@@ -259,9 +255,10 @@ fn push_framed<'a, H: Highlighter, O: Canvas>(
     let start = lent.span().offset();
     let bytes = lent.data();
     let before = lent.line();
+    let folds = folds_in(drawing.alloc, lent, drawing.spreads)?;
     let mut one = Vec::new(drawing.alloc);
-    let extent = extent_of(drawing.alloc, bytes, start, drawing.placed, sweep, &mut one)?;
-    let folds = folds_in(drawing.alloc, bytes, start, drawing.spreads)?;
+    let mut ahead = sweep.copy(drawing.alloc)?;
+    let extent = extent_of(bytes, start, &folds, drawing.placed, &mut ahead, &mut one)?;
     let frame = Frame {
         theme: drawing.theme,
         options: drawing.options,
@@ -295,6 +292,7 @@ pub fn push_snippet<'a, H: Highlighter, O: Canvas>(
 ) -> Outcome
     requires sorted { AreSorted drawing.now.placed.now }
     requires at { IsAt drawing.now.placed.now passage.old.at passage.old.sweep.next passage.old.sweep.running.items }
+    requires numbered { AreNumbered lent.now drawing.now.spreads.now }
     ensures rows { OnOk result (PutsSnippet (leaves_plain H.is_blank highlighter.old)
         (λ calls. AreCallsOn H.may_follow highlighter.old highlighter.new (restarted lent.now ∷ calls)) drawing.now
         lent.now place page.old page.new) }

@@ -1,17 +1,24 @@
 //! Labels as they may be folded, from what their reads gave.
 
-ghost use Rattle.std.specs.Prelude.{◌≡◌, ◌+◌, ◌-◌, map, max, unwrap_or, IfOk, if◌then◌else◌};
+ghost use Rattle.std.specs.Prelude.{◌≡◌, ◌≤◌, ◌+◌, ◌-◌, length, map, max, min, unwrap_or, IfOk, if◌then◌else◌};
+ghost use Rattle.std.specs.List.{All};
+ghost use Rattle.miette_newlines.specs.rules.Lines.{line_of};
+ghost use Rattle.miette_protocol.specs.rules.Reading.{Source};
 ghost use Rattle.miette_lines.specs.rules.Around.{has_own};
 ghost use Rattle.miette_lines.specs.rules.Contexts.{end_of_span};
 ghost use Rattle.miette_lines.specs.views.GivenLabels.{label_at};
 ghost use Rattle.miette_lines.specs.views.Placing.{end_drawn};
+ghost use Rattle.miette_lines.specs.views.Reads.{IsRead};
 ghost use Rattle.miette_drawing.specs.views.Spreads.{spread_of};
-ghost use Rattle.miette_layout.specs.steps.Spreads.{read_spread, read_spreads};
+ghost use Rattle.miette_layout.specs.steps.Spreads.{read_spread, read_spreads, IsLineIn, HasLines};
 
 use miette_drawing::folds::Spread;
 use miette_lines::grouping::end_of;
 use miette_lines::reading::{ReadLabel, lines_around, some_own, usual_lines};
+use miette_newlines::find::FindLines;
+use miette_newlines::scan::Scan;
 use miette_protocol::protocol::{LabeledSpan, SourceSpan};
+use miette_protocol::source::MietteSpanContents;
 use miette_snippets::options::Look;
 use std::alloc::{AllocError, Global};
 
@@ -46,21 +53,74 @@ fn behind(span: &SourceSpan) -> Result<usize, AllocError>
     Ok(end_of(span)?.max(next))
 }
 
-// A label as it may be folded.
+// The number of the line of an offset of some bytes, counted from 0; the bytes behind it aren't looked at.
+fn line_of(bytes: &[u8], offset: usize) -> usize
+    requires { offset ≤ length bytes.now }
+    ensures { result ≡ line_of bytes.now offset }
+{
+    Scan(bytes).line_from(0, 0, offset)
+}
+
+// How many of the bytes that a read lent stand before an offset of the source.
+fn bytes_before(lent: &MietteSpanContents<'_>, offset: usize) -> usize
+    ensures { result ≡ min (offset - lent.now.span.offset) (length lent.now.bytes) }
+{
+    offset
+        .saturating_sub(lent.span().offset())
+        .min(lent.data().len())
+}
+
+// The number of the line that stands so many behind the one where a read's bytes begin.
+fn line_behind(lent: &MietteSpanContents<'_>, lines: usize) -> Result<usize, AllocError>
+    ensures { IfOk result (λ line. line ≡ lent.now.line + lines) }
+{
+    match lent.line().checked_add(lines) {
+        Some(line) => Ok(line),
+        None => Err(AllocError),
+    }
+}
+
+// The number of the line of an offset that a read reaches, by the lines that it lent before the offset.
+fn line_from_front(lent: &MietteSpanContents<'_>, offset: usize) -> Result<usize, AllocError>
+    ensures { IfOk result (IsLineIn lent.now offset) }
+{
+    line_behind(lent, line_of(lent.data(), bytes_before(lent, offset)))
+}
+
+// The number of the line of an offset that a read reaches, by the lines that it lent behind the offset.
+fn line_from_back(lent: &MietteSpanContents<'_>, offset: usize) -> Result<usize, AllocError>
+    ensures { IfOk result (IsLineIn lent.now offset) }
+{
+    let data = lent.data();
+    let at = bytes_before(lent, offset);
+    let rest = &data[at..];
+    let ends = line_of(rest, rest.len());
+    line_behind(lent, lent.line_count().saturating_sub(ends))
+}
+
+// A label as it may be folded. Of its lines only those near its ends are looked at.
 fn spread(
     context: usize,
     own: bool,
     labels: &[LabeledSpan],
     read: &ReadLabel<'_>,
 ) -> Result<Spread, AllocError>
-    ensures { IfOk result (λ label. spread_of label ≡ read_spread context own labels.now read.now) }
+    ensures parts { IfOk result (λ label. spread_of label ≡ read_spread context own labels.now read.now) }
+    ensures lines { IfOk result (λ label. (source : Source) → IsRead context source labels.now read.now →
+        HasLines source.bytes label) }
 {
+    let lent = &read.contents;
+    let first = read.span.offset();
+    let last = last_byte(read)?;
     Ok(Spread {
-        first: read.span.offset(),
-        last: last_byte(read)?,
-        from: read.contents.span().offset(),
-        until: behind(read.contents.span())?,
+        first,
+        last,
+        from: lent.span().offset(),
+        until: behind(lent.span())?,
         around: lines_at(context, own, labels, read.index),
+        first_line: line_from_front(lent, first)?,
+        last_line: line_from_back(lent, last)?,
+        from_line: lent.line(),
     })
 }
 
@@ -71,8 +131,10 @@ fn all_spreads(
     labels: &[LabeledSpan],
     reads: &[ReadLabel<'_>],
 ) -> Result<Vec<Spread>, AllocError>
-    ensures { IfOk result (λ spreads. map spread_of spreads.items
+    ensures parts { IfOk result (λ spreads. map spread_of spreads.items
         ≡ map (read_spread context (has_own labels.now) labels.now) reads.now) }
+    ensures lines { IfOk result (λ spreads. (source : Source) → All (IsRead context source labels.now) reads.now →
+        All (HasLines source.bytes) spreads.items) }
 {
     let own = some_own(labels);
     let mut spreads = Vec::with_capacity(alloc, reads.len())?;
@@ -83,14 +145,17 @@ fn all_spreads(
 }
 
 /// The labels that were read, in the same order, as they may be folded; none where no label is to be. `AllocError`
-/// where memory is refused, or the span of a label or of its read ends past the largest `usize`.
+/// where memory is refused, or a line's number or the end of a label's or a read's span is past the largest `usize`.
 pub(crate) fn spreads(
     look: &Look<'_>,
     labels: &[LabeledSpan],
     reads: &[ReadLabel<'_>],
 ) -> Result<Vec<Spread>, AllocError>
-    ensures { IfOk result (λ spreads. map spread_of spreads.items
+    ensures parts { IfOk result (λ spreads. map spread_of spreads.items
         ≡ read_spreads look.now.options.label_lines look.now.options.context_lines labels.now reads.now) }
+    ensures lines { IfOk result (λ spreads. (source : Source) →
+        All (IsRead look.now.options.context_lines source labels.now) reads.now →
+        All (HasLines source.bytes) spreads.items) }
 {
     match look.options.label_lines {
         Some(_) => all_spreads(look.alloc, look.options.context_lines, labels, reads),

@@ -22,7 +22,7 @@ reach-gt p le = by_cases {C = p.start < reach (label_of p)} (eqb p.start p.after
 
 -- what holds of a label by where it starts
 
-inside_past : (line : Bounds) (p : PlacedLabel) → p.start ≤ p.after → line.start ≤ p.start → p.start < line.after → passes line.after p ≡ true → (is_one (line_of_bounds line) p ≡ false) × (is_multi (line_of_bounds line) p ≡ true)
+pub inside_past : (line : Bounds) (p : PlacedLabel) → p.start ≤ p.after → line.start ≤ p.start → p.start < line.after → passes line.after p ≡ true → (is_one (line_of_bounds line) p ≡ false) × (is_multi (line_of_bounds line) p ≡ true)
 inside_past line p ok ge lt past =
     let r : ℕ = reach (label_of p) in
     let gt : p.start < r = reach-gt p ok in
@@ -47,7 +47,7 @@ inside_ends line p ok ge lt past =
 earlier_one : (line : Bounds) (p : PlacedLabel) → p.start < line.start → is_one (line_of_bounds line) p ≡ false
 earlier_one line p lt = let a : leb line.start p.start ≡ false = lt-leb line.start p.start lt in rw a refl
 
-earlier_multi : (line : Bounds) (p : PlacedLabel) → line.start < line.after → p.start < line.start → is_multi (line_of_bounds line) p ≡ passes line.start p
+pub earlier_multi : (line : Bounds) (p : PlacedLabel) → line.start < line.after → p.start < line.start → is_multi (line_of_bounds line) p ≡ passes line.start p
 earlier_multi line p some lt =
     let r : ℕ = reach (label_of p) in
     let a : leb line.start p.start ≡ false = lt-leb line.start p.start lt in
@@ -64,7 +64,7 @@ earlier_past line p some =
     by_cases {C = (passes line.start p && passes line.after p) ≡ passes line.after p} (ltb line.start r) (λ c. rw c refl)
     (λ c. let g : ltb line.after r ≡ false = le-ltb line.after r (omega (arith, some, ltb-false line.start r c)) in rw (c, g) refl)
 
-later_none : (line : Bounds) (p : PlacedLabel) → p.start ≤ p.after → line.start < line.after → line.after ≤ p.start → (is_one (line_of_bounds line) p ≡ false) × (is_multi (line_of_bounds line) p ≡ false)
+pub later_none : (line : Bounds) (p : PlacedLabel) → p.start ≤ p.after → line.start < line.after → line.after ≤ p.start → (is_one (line_of_bounds line) p ≡ false) × (is_multi (line_of_bounds line) p ≡ false)
 later_none line p ok some ge =
     let r : ℕ = reach (label_of p) in
     let gt : p.start < r = reach-gt p ok in

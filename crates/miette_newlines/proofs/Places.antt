@@ -17,7 +17,8 @@ ends_by_one true true n m e f = omega arith
 ends_by_one true false n m e f = cc
 ends_by_one false t n m e f = f
 
-ends_by-le : (x at : ℕ) (bs : List ℕ) (j : ℕ) → j ≡ x - at → ends_by (λ e. nat_le e x) at bs ≡ ends_before j bs
+-- the terminators that end at an offset or before, in bytes that begin at another one
+pub ends_by-le : (x at : ℕ) (bs : List ℕ) (j : ℕ) → j ≡ x - at → ends_by (λ e. nat_le e x) at bs ≡ ends_before j bs
 ends_by-le x at [] zero e = refl
 ends_by-le x at [] (suc j) e = refl
 ends_by-le x at (b ∷ bs) zero e =

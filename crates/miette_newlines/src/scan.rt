@@ -101,7 +101,7 @@ fn last_mark(bytes: &[u8], offset: usize) -> Option<usize>
 /// Where the line begins that stands so many before an offset's line, found from the offset back, and how many
 /// terminators end between that start and the offset.
 #[tactic(auto, using(crate::proofs::Places::scan_steps))]
-fn start_before(bytes: &[u8], offset: usize, lines: usize) -> (usize, usize)
+pub fn start_before(bytes: &[u8], offset: usize, lines: usize) -> (usize, usize)
     requires { offset ≤ length bytes.now }
     ensures start { result.0 ≡ line_start bytes.now (line_of bytes.now offset - lines) }
     ensures passed { line_of bytes.now result.0 + result.1 ≡ line_of bytes.now offset }

@@ -1,11 +1,16 @@
 -- Labels as they may be folded, from what their reads gave.
-use Rattle.std.specs.Prelude.{ℕ, ◌+◌, ◌-◌, max, List, [], map, Option, Some, None, Bool, unwrap_or, if◌then◌else◌}
+use Rattle.std.specs.Prelude.{ℕ, ◌+◌, ◌-◌, ◌≡◌, ◌≤◌, max, List, [], map, Option, Some, None, Bool, unwrap_or}
+use Rattle.std.specs.Prelude.{if◌then◌else◌}
+use Rattle.miette_newlines.specs.rules.Lines.{line_of}
 use Rattle.miette_protocol.specs.views.Meaning.{Label}
+use Rattle.miette_protocol.specs.rules.Reading.{Span, Source, Contents}
 use Rattle.miette_lines.specs.declared.reading.ReadLabel.{ReadLabel}
 use Rattle.miette_lines.specs.rules.Around.{has_own}
 use Rattle.miette_lines.specs.rules.Contexts.{end_of_span}
 use Rattle.miette_lines.specs.views.GivenLabels.{label_at}
 use Rattle.miette_lines.specs.views.Placing.{end_drawn}
+use Rattle.miette_lines.specs.views.Reads.{IsLent}
+use Rattle.miette_drawing.specs.declared.folds.Spread.{Spread as MadeSpread}
 use Rattle.miette_snippets.specs.rules.Folds.{Spread}
 
 abbrev pub read_spread : ℕ → Bool → List Label → ReadLabel → Spread
@@ -21,3 +26,14 @@ read_spread context own labels read = record {
 abbrev pub read_spreads : Option ℕ → ℕ → List Label → List ReadLabel → List Spread
 read_spreads None context labels reads = []
 read_spreads (Some limit) context labels reads = map (read_spread context (has_own labels) labels) reads
+
+-- the number of the line of an offset that a read reaches, in every source of which this can be read
+abbrev pub IsLineIn : Contents → ℕ → ℕ → Type 0
+IsLineIn lent offset line = (context : ℕ) (source : Source) (span : Span) → IsLent context source span lent →
+    lent.span.offset ≤ offset → offset ≤ end_of_span lent.span → line ≡ line_of source.bytes offset
+
+-- the numbers of a label's lines are those of the lines of some bytes
+pub record HasLines (bytes : List ℕ) (label : MadeSpread) : Type 0 where
+  pub first : label.first_line ≡ line_of bytes label.first
+  pub last : label.last_line ≡ line_of bytes label.last
+  pub from : label.from_line ≡ line_of bytes label.from

@@ -1,12 +1,35 @@
-use Rattle.std.proofs.Common.{ap, ◌∙◌, map}
+use Rattle.std.proofs.Common.{ℕ, ◌≡◌, ap, sym, subst, ◌∙◌, map}
 use Rattle.std.specs.Option.{option_map}
 use Rattle.miette_drawing.specs.views.Spreads.{spread_of}
 use Rattle.miette_drawing.specs.views.SnippetRows.{place_at}
+use Rattle.miette_drawing.specs.steps.Folding.{fold_in}
+use Rattle.miette_lines.specs.views.Sweeping.{IsAt}
 use Rattle.miette_snippets.specs.views.ThemeSettings.{settings_of}
 use Rattle.miette_snippets.specs.rules.Highlighting.{leaves_plain, follows}
 use Rattle.miette_highlight.specs.rules.HighlighterCalls.{Leads}
 use Rattle.miette_drawing.proofs.Lending.{told_lent}
 use Rattle.miette_drawing.proofs.snippet.push_framed.Goals as goal
+
+pub extent_of-requires-clause-at : goal.extent_of-requires-clause-at
+extent_of-requires-clause-at g c =
+    let at : c.offset-start.result ≡ c.args.lent.now.span.offset = c.offset-start.ensures ∙ ap (λ s. s.offset) c.span.ensures in
+    rw (c.in_ok-ahead.ensures.next, c.in_ok-ahead.ensures.running)
+    (subst (λ (n : ℕ). IsAt c.args.drawing.now.placed.now n c.args.sweep.now.next c.args.sweep.now.running.items) (sym at) c.requires.at)
+
+pub extent_of-requires-clause-folds : goal.extent_of-requires-clause-folds
+extent_of-requires-clause-folds g c =
+    let spreads = c.args.drawing.now.spreads.now in
+    let at : c.args.lent.now.span.offset ≡ c.offset-start.result = sym (c.offset-start.ensures ∙ ap (λ s. s.offset) c.span.ensures) in
+    record {
+      labels = c.args.drawing.now.spreads.now;
+      are = c.deref.ensures.value ∙ c.in_ok-folds.ensures ∙ ap (λ n. map (fold_in n c.args.lent.now.bytes) spreads) at ∙ ap (λ bs. map (fold_in c.offset-start.result bs) spreads) (sym c.data-bytes.ensures);
+    }
+
+pub push_lines-requires-clause-folds : goal.push_lines-requires-clause-folds
+push_lines-requires-clause-folds g c =
+    let spreads = c.args.drawing.now.spreads.now in
+    let at : c.args.lent.now.span.offset ≡ c.offset-start.result = sym (c.offset-start.ensures ∙ ap (λ s. s.offset) c.span.ensures) in
+    c.deref-2.ensures.value ∙ c.in_ok-folds.ensures ∙ ap (λ n. map (fold_in n c.args.lent.now.bytes) spreads) at ∙ ap (λ bs. map (fold_in c.offset-start.result bs) spreads) (sym c.data-bytes.ensures)
 
 pub returns-clause-rows : goal.returns-clause-rows
 returns-clause-rows g c =

@@ -1,11 +1,13 @@
-use Rattle.std.proofs.Common.{◌≡◌, rules, refl, ap, sym, ◌∙◌, ◌∷◌, map, List, Option, subst}
+use Rattle.std.proofs.Common.{◌≡◌, rules, refl, ap, sym, ◌∙◌, ◌∷◌, map, List, Option, subst, All}
 use Rattle.std.specs.Option.{option_map}
 use Rattle.miette_protocol.specs.rules.Reading.{Span}
 use Rattle.miette_drawing.specs.views.SnippetRows.{place_at}
 use Rattle.miette_lines.specs.rules.Around.{group_context}
 use Rattle.miette_lines.specs.rules.Groups.{in_order}
 use Rattle.miette_snippets.specs.rules.Folds.{spreads_of}
+use Rattle.miette_drawing.specs.declared.folds.Spread.{Spread as MadeSpread}
 use Rattle.miette_drawing.specs.views.Spreads.{spread_of}
+use Rattle.miette_layout.specs.steps.Spreads.{HasLines}
 use Rattle.miette_layout.proofs.Folding.{spreads_are}
 use Rattle.miette_snippets.specs.rules.SnippetLayout.{settings_around}
 use Rattle.miette_snippets.specs.views.ThemeSettings.{settings_of}
@@ -18,6 +20,7 @@ use Rattle.miette_lines.specs.views.Reads.{AreGroups}
 use Rattle.miette_drawing.proofs.Lending.{lent_texts}
 use Rattle.miette_highlight.specs.rules.HighlighterCalls.{Call, Leads, restarted}
 use Rattle.miette_layout.proofs.Nearing.{reads_rise}
+use Rattle.miette_layout.proofs.Reaching.{are_numbered}
 use Rattle.miette_layout.proofs.Progressing.{none_drawn, drawn_more, all_drawn, gives_rows, gives_none, drawn_is, placed_rise, place_ordered, groups_lent, puts_around, are_grouped, none_grouped, gives_unread}
 use Rattle.miette_layout.proofs.snippets.read_snippets.Goals as goal
 
@@ -41,6 +44,14 @@ push_snippet-requires-clause-sorted g c =
     placed_rise (settings_of c.args.look.now.theme.now c.args.look.now.options) (g.S.SourceCode.source c.args.source.now) c.args.labels.now c.args.reads.now c.in_ok-end.end c.deref-2.result.now c.requires.order c.requires.each c.in_ok-end.ensures
     (c.deref-2.ensures.value ∙ c.in_ok-placed.ensures ∙ ap (λ styles. placed_from c.in_ok-end.end styles 0 c.args.reads.now) c.deref.ensures.value)
 
+pub push_snippet-requires-clause-numbered : goal.push_snippet-requires-clause-numbered
+push_snippet-requires-clause-numbered g c =
+    let grouped : AreGroups c.args.look.now.options.context_lines (g.S.SourceCode.source c.args.source.now) (in_order c.args.labels.now) c.deref-group-items.result.now =
+    are_grouped c.args.look.now.options.context_lines (g.S.SourceCode.source c.args.source.now) (in_order c.args.labels.now) _ c.in-Some.groups.items c.deref-group-items.result.now c.in_ok-groups.ensures (ap (option_map (λ v. v.items)) c.in-Some.is) c.deref-group-items.ensures.value in
+    are_numbered (group_context c.args.look.now.options.context_lines (in_order c.args.labels.now)) (g.S.SourceCode.source c.args.source.now) c.group-item.result.span c.group-item.result.contents c.deref-3.result.now
+    (groups_lent c.args.look.now.options.context_lines (g.S.SourceCode.source c.args.source.now) (in_order c.args.labels.now) c.deref-group-items.result.now c.loop-group.group-index c.group-item.result grouped c.loop-group-test.true c.group-item.is)
+    (subst (λ (xs : List MadeSpread). All (HasLines (g.S.SourceCode.source c.args.source.now).bytes) xs) (sym c.deref-3.ensures.value) (c.in_ok-spreads.ensures.lines (g.S.SourceCode.source c.args.source.now) c.requires.each))
+
 pub loop-group-init : goal.loop-group-init
 loop-group-init g c = record {
   drawn = none_drawn (settings_around (settings_of c.args.look.now.theme.now c.args.look.now.options) (in_order c.args.labels.now)) (spreads_of c.args.look.now.options.label_lines c.args.look.now.options.context_lines (g.S.SourceCode.source c.args.source.now) (in_order c.args.labels.now)) (g.S.SourceCode.source c.args.source.now) c.args.labels.now (leaves_plain g.H.Highlighter.is_blank c.args.highlighter.now) (follows g.H.Highlighter.may_follow c.args.highlighter.now) c.deref-group-items.result.now c.args.page;
@@ -57,7 +68,7 @@ loop-group-preserved g c =
     let now : List Call → Type 0 = follows g.H.Highlighter.may_follow c.push_snippet.new.highlighter in
     let happen : List Call → Type 0 = λ calls. Leads was (restarted c.group-item.result.contents ∷ calls) now in
     let folded : map spread_of c.deref-3.result.now ≡ (spreads_of c.args.look.now.options.label_lines c.args.look.now.options.context_lines (g.S.SourceCode.source c.args.source.now) (in_order c.args.labels.now)) =
-    ap (map spread_of) c.deref-3.ensures.value ∙ c.in_ok-spreads.ensures
+    ap (map spread_of) c.deref-3.ensures.value ∙ c.in_ok-spreads.ensures.parts
     ∙ spreads_are c.args.look.now.options.label_lines c.args.look.now.options.context_lines (g.S.SourceCode.source c.args.source.now) c.args.labels.now c.args.reads.now c.requires.order c.requires.each in
     let given = subst (λ xs. PutsRows (leaves_plain g.H.Highlighter.is_blank c.loop-group.highlighter) happen (lent_texts c.group-item.result.contents) (lent_snippet (settings_of c.args.look.now.theme.now c.args.look.now.options) xs (map (drawn_of c.args.labels.now) c.deref-2.result.now) c.group-item.result.contents (option_map place_at c.begins.result)) c.loop-group.page c.push_snippet.new.page)
     folded c.in_ok-push_snippet.ensures.rows in

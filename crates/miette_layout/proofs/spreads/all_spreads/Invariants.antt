@@ -1,7 +1,12 @@
-use Rattle.std.proofs.Common.{◌≡◌, take, map}
+use Rattle.std.proofs.Common.{◌≡◌, take, map, All}
+use Rattle.miette_protocol.specs.rules.Reading.{Source}
+use Rattle.miette_lines.specs.views.Reads.{IsRead}
 use Rattle.miette_drawing.specs.views.Spreads.{spread_of}
-use Rattle.miette_layout.specs.steps.Spreads.{read_spread}
+use Rattle.miette_layout.specs.steps.Spreads.{read_spread, HasLines}
 use Rattle.miette_layout.proofs.spreads.all_spreads.Given as goal
 
 abbrev pub invariant-loop-read : goal.invariant-loop-read
-invariant-loop-read l = map spread_of l.spreads.items ≡ map (read_spread l.context l.own l.labels) (take l.read-index l.reads)
+invariant-loop-read l = record {
+  parts : map spread_of l.spreads.items ≡ map (read_spread l.context l.own l.labels) (take l.read-index l.reads);
+  lines : (source : Source) → All (IsRead l.context source l.labels) l.reads → All (HasLines source.bytes) l.spreads.items;
+}

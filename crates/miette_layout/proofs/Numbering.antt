@@ -1,0 +1,232 @@
+-- The lines of a part of some bytes, by their numbers among the lines of all of these.
+use Rattle.std.proofs.Common.{ℕ, zero, suc, ◌+◌, ◌-◌, ◌<◌, ◌≤◌, ◌≡◌, min, max, Bool, true, false, cond, not, ◌&&◌, ◌||◌, List, [], ◌∷◌, length, take, drop, refl, sym, ap, ap₂, ◌∙◌, inl, inr, arith}
+use Rattle.std.specs.Prelude.{◌==◌, nat_le, count_by, slice_index, slice_range}
+use Rattle.std.proofs.lemmas.Bool.{cases_lt, eqb-true, le-leb, lt-leb}
+use Rattle.std.proofs.lemmas.List.{drop-drop, drop-take, get_or-drop, get_or_past, length-drop, length-take-le, take_rest}
+use Rattle.std.proofs.lemmas.List.Sums.{sum_by-cons}
+use Rattle.miette_newlines.specs.rules.Lines.{Line, LF, CR, ends_line, is_terminated, lines_from, line_of, line_end}
+use Rattle.miette_newlines.proofs.Scans.{ends_before, ends_by, ends_count, ends_count-lines_from}
+use Rattle.miette_newlines.proofs.Places.{line_of-is, line_of_no, line_of_end, line_end_past, line_start_next, line_start_le}
+use Rattle.miette_snippets.specs.rules.Folds.{place_among}
+
+-- ---- terminators of a part
+
+ends_nil : (o : ℕ) → ends_before o [] ≡ 0
+ends_nil zero = refl
+ends_nil (suc o) = refl
+
+sum_more : (x : Bool) (m n k : ℕ) → m ≡ n + k → cond x (suc m) m ≡ cond x (suc n) n + k
+sum_more true m n k e = omega (arith, e)
+sum_more false m n k e = e
+
+-- those up to an offset are those before another one, and those from there on
+ends_drop : (from j : ℕ) (bs : List ℕ) → ends_before (from + j) bs ≡ ends_before from bs + ends_before j (drop from bs)
+ends_drop zero j bs =
+    let e : 0 + j ≡ j = omega arith in
+    let f : ends_before j bs ≡ 0 + ends_before j bs = omega arith in
+    ap (λ (n : ℕ). ends_before n bs) e ∙ f
+ends_drop (suc from) j [] =
+    let f : 0 ≡ 0 + ends_before j [] = omega (arith, ends_nil j) in
+    ends_nil (suc from + j) ∙ f
+ends_drop (suc from) j (b ∷ bs) =
+    let e : suc from + j ≡ suc (from + j) = omega arith in
+    ap (λ (n : ℕ). ends_before n (b ∷ bs)) e
+    ∙ sum_more (ends_line b (slice_index bs 0)) (ends_before (from + j) bs) (ends_before from bs) (ends_before j (drop from bs)) (ends_drop from j bs)
+
+-- no CRLF is parted at an offset
+abbrev pub IsWhole : List ℕ → ℕ → Type 0
+IsWhole bytes at = (k : ℕ) → suc k ≡ at → ((slice_index bytes k == CR) && (slice_index bytes (suc k) == LF)) ≡ false
+
+whole_rest : (b m : ℕ) (bs : List ℕ) → IsWhole (b ∷ bs) (suc m) → IsWhole bs m
+whole_rest b m bs w = λ k e. w (suc k) (ap suc e)
+
+whole_drop : (from at : ℕ) (bs : List ℕ) → from ≤ at → IsWhole bs at → IsWhole (drop from bs) (at - from)
+whole_drop from at bs le w = λ k e.
+    let s : from + suc k ≡ suc (from + k) = omega arith in
+    let here : slice_index (drop from bs) k ≡ slice_index bs (from + k) = get_or-drop from bs k 0 in
+    let next : slice_index (drop from bs) (suc k) ≡ slice_index bs (suc (from + k)) = get_or-drop from bs (suc k) 0 ∙ ap (λ (n : ℕ). slice_index bs n) s in
+    ap₂ (λ a b. (a == CR) && (b == LF)) here next ∙ w (from + k) (omega (arith, e, le))
+
+alone_or : (x y z : Bool) → (y && z) ≡ false → (x || (y && true)) ≡ (x || (y && not z))
+alone_or true y z h = refl
+alone_or false true true h = absurd (cc)
+alone_or false true false h = refl
+alone_or false false z h = refl
+
+last_same : (b next : ℕ) → ((b == CR) && (next == LF)) ≡ false → ends_line b 0 ≡ ends_line b next
+unfolding ends_line
+last_same b next h = alone_or (b == LF) (b == CR) (next == LF) h
+
+-- a byte that ends a line in front of the bytes ends one in front of the first of them
+next_same : (b m : ℕ) (bs : List ℕ) → IsWhole (b ∷ bs) (suc m) → ends_line b (slice_index (take m bs) 0) ≡ ends_line b (slice_index bs 0)
+next_same b zero bs w = last_same b (slice_index bs 0) (w 0 refl)
+next_same b (suc m) [] w = refl
+next_same b (suc m) (c ∷ cs) w = refl
+
+-- the first bytes, whose last one parts no CRLF, have the terminators up to there
+ends_take : (m j : ℕ) (bs : List ℕ) → IsWhole bs m → ends_before j (take m bs) ≡ ends_before (min j m) bs
+ends_take zero j bs w =
+    let e : 0 ≡ min j 0 = omega arith in
+    ends_nil j ∙ ap (λ (n : ℕ). ends_before n bs) e
+ends_take (suc m) j [] w = ends_nil j ∙ sym (ends_nil (min j (suc m)))
+ends_take (suc m) zero (b ∷ bs) w =
+    let e : 0 ≡ min 0 (suc m) = omega arith in
+    ap (λ (n : ℕ). ends_before n (b ∷ bs)) e
+ends_take (suc m) (suc j) (b ∷ bs) w =
+    let e : suc (min j m) ≡ min (suc j) (suc m) = omega arith in
+    ap (λ (x : Bool). cond x (suc (ends_before j (take m bs))) (ends_before j (take m bs))) (next_same b m bs w)
+    ∙ ap (λ (n : ℕ). cond (ends_line b (slice_index bs 0)) (suc n) n) (ends_take m j bs (whole_rest b m bs w))
+    ∙ ap (λ (n : ℕ). ends_before n (b ∷ bs)) e
+
+-- the same of a part
+ends_part : (bs : List ℕ) (from to o : ℕ) → from ≤ to → IsWhole bs to →
+    ends_before (o - from) (slice_range bs from to) + ends_before from bs ≡ ends_before (max from (min o to)) bs
+ends_part bs from to o le w =
+    let many : ℕ = min (o - from) (to - from) in
+    let a : ends_before (o - from) (slice_range bs from to) ≡ ends_before many (drop from bs) = ends_take (to - from) (o - from) (drop from bs) (whole_drop from to bs le w) in
+    let b : ends_before (from + many) bs ≡ ends_before from bs + ends_before many (drop from bs) = ends_drop from many bs in
+    let s : from + many ≡ max from (min o to) = omega (arith, le) in
+    let c : ends_before (from + many) bs ≡ ends_before (max from (min o to)) bs = ap (λ (n : ℕ). ends_before n bs) s in
+    omega (arith, a, b, c)
+
+-- ---- the line of an offset
+
+-- of an offset in a part, by the line where the part begins
+pub part_line : (bs : List ℕ) (from to o : ℕ) → from ≤ o → o ≤ to → IsWhole bs to →
+    line_of (slice_range bs from to) (o - from) + line_of bs from ≡ line_of bs o
+part_line bs from to o low high w =
+    let part : List ℕ = slice_range bs from to in
+    let a : ends_before (o - from) part + ends_before from bs ≡ ends_before (max from (min o to)) bs = ends_part bs from to o (omega (arith, low, high)) w in
+    let s : max from (min o to) ≡ o = omega (arith, low, high) in
+    let b : ends_before (max from (min o to)) bs ≡ ends_before o bs = ap (λ (n : ℕ). ends_before n bs) s in
+    omega (arith, a, b, line_of-is part (o - from), line_of-is bs from, line_of-is bs o)
+
+-- what is left of a part from an offset on is a part
+part_rest : (bs : List ℕ) (from to o : ℕ) → from ≤ o → o ≤ to → drop (o - from) (slice_range bs from to) ≡ slice_range bs o to
+part_rest bs from to o low high =
+    let s : to - from ≡ o - from + (to - o) = omega (arith, low, high) in
+    let t : from + (o - from) ≡ o = omega (arith, low) in
+    ap (λ (n : ℕ). drop (o - from) (take n (drop from bs))) s
+    ∙ drop-take (o - from) (to - o) (drop from bs)
+    ∙ ap (take (to - o)) (drop-drop (o - from) from bs)
+    ∙ ap (λ (n : ℕ). take (to - o) (drop n bs)) t
+
+pub part_length : (bs : List ℕ) (from to : ℕ) → to ≤ length bs → length (slice_range bs from to) ≡ to - from
+part_length bs from to within = length-take-le (to - from) (drop from bs) (omega (arith, within, length-drop from bs))
+
+-- by the line where the part ends, and the lines from the offset on
+pub rest_line : (bs : List ℕ) (from to o at : ℕ) (rest : List ℕ) → from ≤ o → o ≤ to → to ≤ length bs → IsWhole bs to → at ≡ o - from →
+    rest ≡ take (length (slice_range bs from to) - at) (drop at (slice_range bs from to)) → line_of rest (length rest) + line_of bs o ≡ line_of bs to
+rest_line bs from to o at rest low high within w here is =
+    let e : rest ≡ slice_range bs o to =
+    is ∙ take_rest (slice_range bs from to) at ∙ ap (λ (n : ℕ). drop n (slice_range bs from to)) here ∙ part_rest bs from to o low high in
+    let size : length rest ≡ to - o = ap length e ∙ part_length bs o to within in
+    let a : line_of rest (length rest) ≡ line_of (slice_range bs o to) (to - o) = ap₂ (λ xs n. line_of xs n) e size in
+    omega (arith, a, part_line bs o to to high (omega arith) w)
+
+-- ---- the place of an offset among the lines of a part
+
+none_by : (x t : Bool) (n : ℕ) → t ≡ false → n ≡ 0 → cond x (cond t 1 0 + n) n ≡ 0
+none_by true true n e f = cc
+none_by true false n e f = omega (arith, f)
+none_by false t n e f = f
+
+one_by : (x t : Bool) (n m : ℕ) → t ≡ true → n ≡ m → cond x (cond t 1 0 + n) n ≡ cond x (suc m) m
+one_by true true n m e f = omega (arith, f)
+one_by true false n m e f = cc
+one_by false t n m e f = f
+
+ends_by_place : (o at : ℕ) (bs : List ℕ) (j : ℕ) → j ≡ o - at → ends_by (λ e. nat_le e o) at bs ≡ ends_before j bs
+ends_by_place o at [] zero e = refl
+ends_by_place o at [] (suc j) e = refl
+ends_by_place o at (b ∷ bs) zero e =
+    none_by (ends_line b (slice_index bs 0)) (nat_le (at + 1) o) (ends_by (λ e. nat_le e o) (at + 1) bs)
+    (lt-leb (at + 1) o (omega (arith, e))) (ends_by_place o (at + 1) bs zero (omega (arith, e)))
+ends_by_place o at (b ∷ bs) (suc j) e =
+    one_by (ends_line b (slice_index bs 0)) (nat_le (at + 1) o) (ends_by (λ e. nat_le e o) (at + 1) bs) (ends_before j bs)
+    (le-leb (at + 1) o (omega (arith, e))) (ends_by_place o (at + 1) bs j (omega (arith, e)))
+
+place_is : (at : ℕ) (bs : List ℕ) (o : ℕ) → place_among (lines_from at bs) o ≡ ends_before (o - at) bs
+place_is at bs o = ends_count-lines_from (λ e. nat_le e o) at bs ∙ ends_by_place o at bs (o - at) refl
+
+pub part_place : (bs : List ℕ) (from to o : ℕ) → from ≤ to → IsWhole bs to →
+    place_among (lines_from from (slice_range bs from to)) o + line_of bs from ≡ line_of bs (max from (min o to))
+part_place bs from to o le w =
+    omega (arith, place_is from (slice_range bs from to) o, ends_part bs from to o le w, line_of-is bs from, line_of-is bs (max from (min o to)))
+
+-- ---- how many lines of a part have a terminator
+
+and_true : (b : Bool) → b ≡ (b && true)
+and_true true = refl
+and_true false = refl
+
+all_counted : (ls : List Line) → count_by is_terminated ls ≡ ends_count (λ e. true) ls
+all_counted [] = refl
+all_counted (l ∷ ls) =
+    sum_by-cons (λ m. cond (is_terminated m) 1 0) l ls
+    ∙ ap₂ (λ b n. cond b 1 0 + n) (and_true (is_terminated l)) (all_counted ls)
+    ∙ sym (sum_by-cons (λ m. cond (is_terminated m && true) 1 0) l ls)
+
+one_more : (x : Bool) (m n : ℕ) → m ≡ n → cond x (1 + m) m ≡ cond x (suc n) n
+one_more true m n e = omega (arith, e)
+one_more false m n e = e
+
+ends_by_all : (at : ℕ) (bs : List ℕ) → ends_by (λ e. true) at bs ≡ ends_before (length bs) bs
+ends_by_all at [] = refl
+ends_by_all at (b ∷ bs) =
+    one_more (ends_line b (slice_index bs 0)) (ends_by (λ e. true) (at + 1) bs) (ends_before (length bs) bs) (ends_by_all (at + 1) bs)
+
+pub part_count : (bs : List ℕ) (from to : ℕ) → from ≤ to → to ≤ length bs → IsWhole bs to →
+    count_by is_terminated (lines_from from (slice_range bs from to)) + line_of bs from ≡ line_of bs to
+part_count bs from to le within w =
+    let part : List ℕ = slice_range bs from to in
+    let a : count_by is_terminated (lines_from from part) ≡ ends_before (length part) part = all_counted (lines_from from part) ∙ ends_count-lines_from (λ e. true) from part ∙ ends_by_all from part in
+    let b : line_of part (length part) ≡ line_of part (to - from) = ap (line_of part) (part_length bs from to within) in
+    omega (arith, a, b, line_of-is part (length part), part_line bs from to to le (omega arith) w)
+
+-- ---- where no CRLF is parted
+
+and_none : (b : Bool) → (b && false) ≡ false
+and_none true = refl
+and_none false = refl
+
+-- at the end of the bytes, or past it
+pub past_whole : (bytes : List ℕ) (at : ℕ) → length bytes ≤ at → IsWhole bytes at
+past_whole bytes at le = λ k e.
+    let none : slice_index bytes (suc k) ≡ 0 = get_or_past bytes (suc k) 0 (omega (arith, e, le)) in
+    ap (λ (b : ℕ). (slice_index bytes k == CR) && (b == LF)) none ∙ and_none (slice_index bytes k == CR)
+
+not_so : (b : Bool) → (b ≡ true → ⊥) → b ≡ false
+not_so true h = absurd (h refl)
+not_so false h = refl
+
+pub both : (x y : Bool) → (x && y) ≡ true → (x ≡ true) × (y ≡ true)
+both true true t = (refl, refl)
+both true false t = absurd (cc)
+both false y t = absurd (cc)
+
+-- the CR of a CRLF ends no line
+pair_goes_on : (b next : ℕ) → ((b == CR) && (next == LF)) ≡ true → ends_line b next ≡ false
+unfolding ends_line
+pair_goes_on b next t =
+    let p : ((b == CR) ≡ true) × ((next == LF) ≡ true) = both (b == CR) (next == LF) t in
+    ap₂ (λ c n. ends_line c n) (eqb-true b 13 p.0) (eqb-true next 10 p.1)
+
+ended_whole : (bytes : List ℕ) (i k : ℕ) → i < line_of bytes (length bytes) → suc k ≡ line_end bytes i → ((slice_index bytes k == CR) && (slice_index bytes (suc k) == LF)) ≡ false
+ended_whole bytes i k h e =
+    not_so ((slice_index bytes k == CR) && (slice_index bytes (suc k) == LF)) (λ t.
+    let one : k + 1 ≡ suc k = omega arith in
+    let no : ends_line (slice_index bytes k) (slice_index bytes (k + 1)) ≡ false =
+    ap (λ (n : ℕ). ends_line (slice_index bytes k) (slice_index bytes n)) one ∙ pair_goes_on (slice_index bytes k) (slice_index bytes (suc k)) t in
+    let same : line_of bytes (k + 1) ≡ line_of bytes k = line_of_no bytes k no in
+    let here : line_end bytes i ≡ k + 1 = omega (arith, e) in
+    let next : i + 1 ≡ line_of bytes (k + 1) = line_of_end bytes i h ∙ ap (line_of bytes) here in
+    omega (arith, e, line_start_next bytes i, line_start_le bytes (i + 1) k (omega (arith, same, next))))
+
+-- at the end of a line
+pub line_whole : (bytes : List ℕ) (i : ℕ) → IsWhole bytes (line_end bytes i)
+line_whole bytes i =
+    elim (cases_lt i (line_of bytes (length bytes))) [
+      | inl h ↦ (λ k e. ended_whole bytes i k h e)
+      | inr h ↦ past_whole bytes (line_end bytes i) (omega (arith, line_end_past bytes i h))
+    ]
