@@ -2,7 +2,7 @@
 
 use miette_protocol::protocol::Severity;
 use miette_tree::miette;
-use miette_tree::report::{IntoDiagnostic, Report, Result, WrapErr};
+use miette_tree::report::{IntoDiagnostic, Result, WrapErr};
 use std::alloc::{Alloc, Global};
 use std::fs;
 use std::fs::Files;

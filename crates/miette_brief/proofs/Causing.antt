@@ -1,13 +1,8 @@
 -- Causes one after the other, with the answers of their reads.
-use Rattle.std.proofs.Common.{ℕ, ◌≡◌, List, [], ◌∷◌, ◌++◌, Bor, true, Option, refl, sym, ap, subst, ◌∙◌, append_assoc}
+use Rattle.std.proofs.Common.{ℕ, ◌≡◌, List, [], ◌∷◌, ◌++◌, true, Option, refl, sym, ap, subst, ◌∙◌, append_assoc}
 use Rattle.miette_protocol.specs.rules.Reading.{Source}
-use Rattle.miette_protocol.specs.views.Meaning.{Label, Meaning}
+use Rattle.miette_protocol.specs.views.Meaning.{Label}
 use Rattle.miette_tree.specs.rules.Tree.{Tree, tree, Cause, diagnostic, texts, effective, head, source_of, cause_of}
-use Rattle.miette_tree.specs.rules.Chain.{texts_below}
-use Rattle.miette_tree.specs.views.Report.{cause_shown}
-use Rattle.miette_tree.specs.declared.tree.Report.{Report}
-use Rattle.miette_tree.specs.declared.tree.Cause as shown
-use Rattle.miette_tree.specs.declared.tree.Cause.TheVariants as seen
 use Rattle.miette_tree.specs.rules.DiagnosticParts.{given_labels}
 use Rattle.miette_lines.specs.rules.Groups.{in_order}
 use Rattle.miette_brief.specs.rules.Rows.{Place, rows_text}
@@ -44,13 +39,6 @@ one_more at source all left (tree m s c r) own labels place text old now new so_
           ∙ ap (λ p. now ++ rows_text (cause_row p m.message ∷ cause_rows at source more c)) placed.is
           ∙ here.joined (listed placed.fault more no_more);
     }
-
--- a cause that is shown as no report has only texts
-pub texts_shown : {D S : Type 0} (means : D → Meaning) (is : S → Source) (r : shown.Cause D S) (c : Cause) → cause_shown means is r ≡ c → ((x : Bor (Report D S)) → r ≡ seen.Diagnostic x → ⊥) →
-    texts (texts_below c) ≡ c
-texts_shown means is seen.None c e f = subst (λ k. texts (texts_below k) ≡ k) e refl
-texts_shown means is (seen.Diagnostic x) c e f = absurd (f x refl)
-texts_shown means is (seen.Texts ts) c e f = subst (λ k. texts (texts_below k) ≡ k) e refl
 
 -- the texts behind the last report
 pub all_told : (at : Place) (source : Option Source) (all left : Cause) (ts : List (List ℕ)) (old now new : List ℕ)

@@ -17,12 +17,12 @@ use Rattle.miette_tree.specs.rules.Tree.{Tree, tree, Cause, diagnostic, texts, c
 use Rattle.miette_tree.specs.rules.DiagnosticParts.{given_labels, severity_text}
 use Rattle.miette_tree.specs.rules.Answers.{own_fault}
 use Rattle.miette_lines.specs.rules.Groups.{in_order, put_label}
+use Rattle.miette_lines.proofs.Numbers.{by_cases}
 use Rattle.miette_brief.specs.declared.rows.Position.{Position}
 use Rattle.miette_brief.specs.rules.Rows.{Place, Kind, finding, note, cause, help, ReportRow, gap, shown_for, spaced_text, one_row, position_text, behind_colon, place_text, code_text, kind_text, row_text, rows_text}
 use Rattle.miette_brief.specs.rules.Places.{label_place, diagnostic_place}
 use Rattle.miette_brief.specs.rules.Report.{BriefSettings, Answers, RelatedAnswers, cause_answers, related_answers, first_answers, later_answers, note_rows_of, note_rows, cause_row, cause_rows, caused_rows, cause_rows_if, help_rows, own_rows, report_rows, related_rows, brief}
 use Rattle.miette_brief.specs.laws.Parts.{one_if, texts_in, told_causes, parts, all_parts, text_of_rows, IsRows}
-use Rattle.miette_brief.proofs.Noting.{by_cases}
 
 -- ---- no control character
 

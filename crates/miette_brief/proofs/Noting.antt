@@ -4,6 +4,7 @@ use Rattle.std.specs.List.{list_all}
 use Rattle.std.proofs.Math.Seq.{drop-cons}
 use Rattle.std.proofs.lemmas.Bool.{and_parts, leb-true}
 use Rattle.std.proofs.lemmas.List.{drop_all}
+use Rattle.std.proofs.Math.Bool.{and-false}
 use Rattle.miette_protocol.specs.rules.Reading.{Source, Span, IsAccepted, is_accepted}
 use Rattle.miette_protocol.specs.views.Meaning.{Label}
 use Rattle.miette_lines.specs.rules.Contexts.{end_of_span}
@@ -14,10 +15,6 @@ use Rattle.miette_brief.proofs.Putting.{rows_more}
 use Rattle.miette_brief.specs.rules.PossibleAnswers.{accepts, HasAccepted}
 use Rattle.miette_brief.specs.steps.Reads.{IsUnread, IsReadAt}
 use Rattle.miette_style.specs.rules.Codes.{is_nil}
-
-pub by_cases : {C : Type 0} (b : Bool) → (b ≡ true → C) → (b ≡ false → C) → C
-by_cases true t f = t refl
-by_cases false t f = f refl
 
 -- the test of a span says whether it is accepted
 
@@ -52,12 +49,8 @@ accepted_end label source xs i goal le f = f (subst (λ ys. HasAccepted source (
 
 -- ---- refusals
 
-and_false : (b : Bool) → (b && false) ≡ false
-and_false true = refl
-and_false false = refl
-
 all_or : (p q rest nil reads : Bool) → (p ≡ true → reads ≡ false) → nil ≡ false → ((p && q) && (nil || reads)) ≡ false
-all_or true q rest nil reads h n = ap₂ (λ x y. q && (x || y)) n (h refl) ∙ and_false q
+all_or true q rest nil reads h n = ap₂ (λ x y. q && (x || y)) n (h refl) ∙ and-false q
 all_or false q rest nil reads h n = refl
 
 some_false : (p q r : Bool) → (q && r) ≡ false → ((p && q) && r) ≡ false

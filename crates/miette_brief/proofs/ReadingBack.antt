@@ -1,9 +1,9 @@
 -- The place of a row, read back.
-use Rattle.std.proofs.Common.{◌≡◌, ℕ, ◌+◌, ◌<◌, ◌^◌, ◌==◌, List, [], ◌∷◌, ◌++◌, Bool, true, false, not, Option, Some, None, IfSome, length, subst, refl, sym, ap, ◌∙◌, append_assoc, arith}
+use Rattle.std.proofs.Common.{◌≡◌, ℕ, ◌+◌, ◌<◌, ◌^◌, ◌==◌, List, [], ◌∷◌, ◌++◌, true, not, Option, Some, None, IfSome, length, subst, refl, sym, ap, ◌∙◌, append_assoc, arith}
 use Rattle.std.specs.Prelude.{decimal}
 use Rattle.std.specs.List.{list_all}
 use Rattle.std.specs.Str.Parse.{digits_value}
-use Rattle.std.proofs.lemmas.Bool.{and_parts}
+use Rattle.std.proofs.lemmas.Bool.{and_parts, not-true}
 use Rattle.std.proofs.lemmas.Bool.Decides.{nat_tests}
 use Rattle.std.proofs.lemmas.Fmt.{decimal_is_IsNumeral, decimal_nonempty}
 use Rattle.miette_brief.specs.declared.rows.Position.{Position}
@@ -11,21 +11,17 @@ use Rattle.miette_brief.specs.rules.Rows.{ReportRow, one_row, place_text, kind_t
 use Rattle.miette_brief.specs.laws.ReadBack.{has_no_colon, before_colon, after_colon, number_before, position_in, ReadsBack}
 use Rattle.miette_brief.proofs.Counting.{decimal_all}
 
-not_false : (b : Bool) → not b ≡ true → b ≡ false
-not_false true h = sym h
-not_false false h = refl
-
 before_past : (xs ys : List ℕ) → has_no_colon xs ≡ true → before_colon (xs ++ (58 ∷ ys)) ≡ xs
 before_past [] ys h = refl
 before_past (x ∷ xs) ys h =
     let p = and_parts (not (x == 58)) (has_no_colon xs) h in
-    rw (not_false (x == 58) p.0) (ap (λ l. x ∷ l) (before_past xs ys p.1))
+    rw (not-true (x == 58) p.0) (ap (λ l. x ∷ l) (before_past xs ys p.1))
 
 after_past : (xs ys : List ℕ) → has_no_colon xs ≡ true → after_colon (xs ++ (58 ∷ ys)) ≡ ys
 after_past [] ys h = refl
 after_past (x ∷ xs) ys h =
     let p = and_parts (not (x == 58)) (has_no_colon xs) h in
-    rw (not_false (x == 58) p.0) (after_past xs ys p.1)
+    rw (not-true (x == 58) p.0) (after_past xs ys p.1)
 
 digit_no_colon : (d : ℕ) → d < 10 → not ((48 + d) == 58) ≡ true
 digit_no_colon d h = grind (arith, nat_tests)
@@ -51,7 +47,7 @@ digit_no_space d h = grind (arith, nat_tests)
 position_there : (ds rest : List ℕ) → 0 < length ds → list_all (λ b. not (b == 32)) ds ≡ true
     → position_in (ds ++ rest) ≡ Some (record { line = number_before (ds ++ rest); column = number_before (after_colon (ds ++ rest)) })
 position_there [] rest some h = absurd (omega arith)
-position_there (d ∷ ds) rest some h = rw (not_false (d == 32) (and_parts (not (d == 32)) (list_all (λ b. not (b == 32)) ds) h).0) refl
+position_there (d ∷ ds) rest some h = rw (not-true (d == 32) (and_parts (not (d == 32)) (list_all (λ b. not (b == 32)) ds) h).0) refl
 
 same_position : (l c : ℕ) (at : Position) → l ≡ at.line → c ≡ at.column → Some (record { line = l; column = c }) ≡ Some at
 same_position l c at p q = rw (p, q) refl

@@ -1,14 +1,14 @@
 -- The rows and the answers of a tree, put together from those of its parts.
-use Rattle.std.proofs.Common.{◌≡◌, ℕ, suc, zero, ◌+◌, ◌<◌, ◌≤◌, List, [], ◌∷◌, ◌++◌, length, get_or, map, drop, add-one, Bool, true, false, ◌&&◌, Option, Some, None, refl, sym, ap, ap₂, subst, ◌∙◌, append_assoc, append-nil, arith}
-use Rattle.std.specs.Prelude.{IfSome}
-use Rattle.std.proofs.Math.Seq.{drop-cons}
+use Rattle.std.proofs.Common.{◌≡◌, ℕ, suc, zero, ◌<◌, ◌≤◌, List, [], ◌∷◌, ◌++◌, length, get_or, map, drop, Bool, true, false, ◌&&◌, Option, Some, None, refl, sym, ap, ap₂, subst, ◌∙◌, append_assoc, append-nil, arith}
 use Rattle.std.proofs.lemmas.List.{drop_all}
+use Rattle.std.proofs.Math.Bool.{and-false}
 use Rattle.miette_protocol.specs.rules.Reading.{Source}
 use Rattle.miette_protocol.specs.views.Meaning.{Label}
 use Rattle.miette_tree.specs.rules.Tree.{Tree, tree, Cause, diagnostic, texts, Trees, no_trees, more_trees, trees, effective, head, source_of, cause_of, related_of}
 use Rattle.miette_tree.specs.rules.DiagnosticParts.{given_labels}
 use Rattle.miette_tree.specs.rules.Reads.{AlwaysReads, CauseAlwaysReads, AllAlwaysRead}
 use Rattle.miette_tree.specs.rules.Answers.{own_fault}
+use Rattle.miette_tree.proofs.Nesting.{Reads, effective_reads}
 use Rattle.miette_lines.specs.rules.Groups.{in_order}
 use Rattle.miette_brief.specs.rules.Rows.{Place, ReportRow, rows_text}
 use Rattle.miette_brief.specs.rules.Places.{diagnostic_place, cause_place}
@@ -109,19 +109,11 @@ one_more chain inherited all t ts old now new r a = record {
 pub all_told : (chain : Bool) (inherited : Option Source) (all : Trees) (old now : List ℕ) → RelatedSoFar chain inherited all no_trees old now → AppendsRelated chain inherited all old now
 all_told chain inherited all old now r = record { answers = r.with_rest no_more; possible = r.possible no_more tt; appended = sym (append-nil now) ∙ r.joined no_more }
 
--- the one next of a list of reports
-pub next_of : {R : Type 0} (value : R → Tree) (rs : List R) (i : ℕ) (d : R) → i < length rs → d ≡ get_or rs i d → trees (map value (drop i rs)) ≡ more_trees (value d) (trees (map value (drop (i + 1) rs)))
-next_of value rs i d h is = ap (λ l. trees (map value l)) (drop-cons rs i d h ∙ ap (λ x. x ∷ drop (suc i) rs) (sym is) ∙ ap (λ n. d ∷ drop n rs) (sym (add-one i)))
-
 pub at_the_end : {R : Type 0} (value : R → Tree) (chain : Bool) (inherited : Option Source) (rs : List R) (all : Trees) (i : ℕ) (old now : List ℕ) → length rs ≤ i
     → RelatedSoFar chain inherited all (trees (map value (drop i rs))) old now → RelatedSoFar chain inherited all no_trees old now
 at_the_end value chain inherited rs all i old now h r = subst (λ l. RelatedSoFar chain inherited all (trees (map value l)) old now) (drop_all i rs h) r
 
 -- ---- where something is refused
-
-and_false : (b : Bool) → (b && false) ≡ false
-and_false true = refl
-and_false false = refl
 
 pub refused_here : (t : Tree) (inherited source : Option Source) → source ≡ effective (source_of t) inherited →
     accepts source (in_order (given_labels (head t).labels)) ≡ false → accepts_report inherited t ≡ false
@@ -131,7 +123,7 @@ refused_here (tree m s c r) inherited source es e =
 pub refused_below : (t : Tree) (inherited source : Option Source) (related : Trees) → source ≡ effective (source_of t) inherited → related ≡ related_of t →
     accepts_related source related ≡ false → accepts_report inherited t ≡ false
 refused_below (tree m s c r) inherited source related es er e =
-    ap (λ b. accepts (effective s inherited) (in_order (given_labels m.labels)) && b) (sym (ap₂ accepts_related es er) ∙ e) ∙ and_false (accepts (effective s inherited) (in_order (given_labels m.labels)))
+    ap (λ b. accepts (effective s inherited) (in_order (given_labels m.labels)) && b) (sym (ap₂ accepts_related es er) ∙ e) ∙ and-false (accepts (effective s inherited) (in_order (given_labels m.labels)))
 
 pub one_refused : {R : Type 0} (value : R → Tree) (inherited : Option Source) (rs : List R) (i : ℕ) (d : R) → i < length rs → d ≡ get_or rs i d → accepts_report inherited (value d) ≡ false →
     accepts_related inherited (trees (map value rs)) ≡ false
@@ -139,16 +131,9 @@ one_refused value inherited [] i d lt is e = absurd (omega arith)
 one_refused value inherited (r ∷ rs) zero d lt is e =
     ap (λ b. b && accepts_related inherited (trees (map value rs))) (ap (λ x. accepts_report inherited (value x)) (sym is) ∙ e)
 one_refused value inherited (r ∷ rs) (suc i) d lt is e =
-    ap (λ b. accepts_report inherited (value r) && b) (one_refused value inherited rs i d (omega arith) is e) ∙ and_false (accepts_report inherited (value r))
+    ap (λ b. accepts_report inherited (value r) && b) (one_refused value inherited rs i d (omega arith) is e) ∙ and-false (accepts_report inherited (value r))
 
 -- ---- where every source always reads
-
-abbrev Reads : Option Source → Type 0
-Reads s = IfSome s (λ own. own.always_reads ≡ true)
-
-effective_reads : (s inherited : Option Source) → Reads s → Reads inherited → Reads (effective s inherited)
-effective_reads None inherited r i = i
-effective_reads (Some own) inherited r i = r
 
 no_fault : (b reads : Bool) → reads ≡ true → (b ≡ true → reads ≡ false) → b ≡ false
 no_fault false reads r f = refl

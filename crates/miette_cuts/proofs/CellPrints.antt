@@ -1,8 +1,9 @@
 -- What cells tell.
 use Rattle.miette_page.specs.views.Printouts.{Printout, ◌⊕◌}
-use Rattle.std.proofs.Common.{ℕ, zero, suc, ◌+◌, ◌-◌, ◌<◌, ◌≤◌, ◌≡◌, Bool, true, false, cond, eqb, List, [], ◌∷◌, ◌++◌, map, length, drop, get_or, replicate, refl, sym, ap, ◌∙◌, append-nil, arith}
+use Rattle.std.proofs.Common.{ℕ, zero, suc, ◌+◌, ◌-◌, ◌<◌, ◌≤◌, ◌≡◌, Bool, false, cond, eqb, List, [], ◌∷◌, ◌++◌, map, length, drop, get_or, replicate, refl, sym, ap, ◌∙◌, append-nil, arith}
 use Rattle.std.proofs.lemmas.Bool.Decides.{nat_tests}
 use Rattle.std.proofs.lemmas.List.{at_drop_more, at_drop_all, map-append}
+use Rattle.std.proofs.lemmas.Bool.{eq-eqb}
 use Rattle.miette_style.specs.declared.style.Style.{Style}
 use Rattle.miette_lines.specs.rules.Answers.{Highlight}
 use Rattle.miette_page.specs.rules.Rows.{Glyph}
@@ -26,10 +27,7 @@ print_by cell b = text_tokens (map (λ (p : Glyph). p.code) (cond b (replicate (
 pub tab_put : (cell : Cell) (n : ℕ) (p q : Printout) → cell.code ≡ 9 → n ≡ cell.until - cell.from → q ≡ p ⊕ text_tokens (replicate n 32) → q ≡ p ⊕ text_tokens (map (λ p. p.code) (printed_glyphs cell))
 tab_put cell n p q e z h =
     h ∙ ap (λ k. p ⊕ text_tokens (replicate k 32)) z ∙ ap (λ cs. p ⊕ text_tokens cs) (codes_of_tab (cell.until - cell.from))
-    ∙ ap (λ b. p ⊕ print_by cell b) (sym (same cell.code 9 e))
-  where
-    same : (a b : ℕ) → a ≡ b → eqb a b ≡ true
-    same a b h = grind (arith, nat_tests)
+    ∙ ap (λ b. p ⊕ print_by cell b) (sym (eq-eqb cell.code 9 e))
 
 -- cells
 cells_told-cons : (cell : Cell) (cells : List Cell) → cells_tokens (cell ∷ cells) ≡ text_tokens (map (λ p. p.code) (printed_glyphs cell)) ++ cells_tokens cells

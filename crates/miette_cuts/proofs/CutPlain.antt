@@ -1,11 +1,12 @@
 -- Lines of printable ASCII that are cut: their stretches by the ends alone, and what they print.
 use Rattle.miette_page.specs.views.Printouts.{Printout, ◌⊕◌}
-use Rattle.std.proofs.Common.{ℕ, zero, suc, ◌+◌, ◌-◌, ◌<◌, ◌≤◌, ◌≡◌, ◌/◌, min, Bool, true, false, cond, ltb, leb, eqb, List, [], ◌∷◌, ◌++◌, map, length, take, drop, get_or, replicate, refl, sym, ap, ap₂, ◌∙◌, append-nil, ◌&&◌, Some, None, option_map, arith}
+use Rattle.std.proofs.Common.{ℕ, zero, suc, ◌+◌, ◌-◌, ◌<◌, ◌≤◌, ◌≡◌, ◌/◌, min, Bool, true, false, cond, ltb, leb, eqb, List, [], ◌∷◌, ◌++◌, map, length, take, drop, get_or, replicate, refl, sym, ap, ap₂, ◌∙◌, append-nil, Some, None, option_map, arith}
 use Rattle.std.specs.List.{list_all, list_any}
 use Rattle.std.specs.Str.{IsAscii}
 use Rattle.std.proofs.lemmas.Bool.{and_parts, lt-ltb, le-ltb, le-leb, lt-leb}
 use Rattle.std.proofs.lemmas.Bool.Decides.{nat_tests}
 use Rattle.std.proofs.lemmas.List.{at_drop_more, at_drop_all, drop-drop, drop_all, length-drop, map-append, nil_from_length}
+use Rattle.std.proofs.Math.Bool.{and-false}
 use Rattle.miette_style.specs.rules.Styles.{plain}
 use Rattle.miette_page.specs.rules.Rows.{Glyph, Run}
 use Rattle.miette_page.specs.views.Tokens.{begins, row_tokens, styled_tokens, text_tokens}
@@ -14,7 +15,7 @@ use Rattle.miette_lines.specs.rules.Cells.{Cell, cells_from, characters}
 use Rattle.miette_lines.specs.views.GivenLabels.{width_of}
 use Rattle.miette_lines.specs.views.Printable.{is_printable, plain_cells}
 use Rattle.miette_lines.proofs.Numbers.{by_cases}
-use Rattle.miette_lines.proofs.Plaining.{plain_byte}
+use Rattle.miette_lines.proofs.Plaining.{plain_byte, printable_taken}
 use Rattle.miette_snippets.specs.rules.PrintedCells.{line_runs, printed_glyphs, printed_cells, text_bytes}
 use Rattle.miette_snippets.specs.rules.CutLines.{agree, cut_line, dots, ends, is_near, is_near_after, is_within, stretches}
 use Rattle.miette_snippets.proofs.Telling.{then, told-append}
@@ -101,11 +102,6 @@ drop_plain (suc n) o c (b ∷ bs) =
     let column : c + 1 + n ≡ c + suc n = omega arith in
     drop_plain n (o + 1) (c + 1) bs ∙ ap₂ (λ p q. plain_cells p q (drop n bs)) at column
 
-pub taken : (n : ℕ) (bs : List ℕ) → list_all is_printable bs ≡ true → list_all is_printable (take n bs) ≡ true
-taken zero bs h = refl
-taken (suc n) [] h = refl
-taken (suc n) (b ∷ bs) h = let parts = and_parts (is_printable b) (list_all is_printable bs) h in rw (parts.0) (taken n bs parts.1)
-
 pub dropped : (n : ℕ) (bs : List ℕ) → list_all is_printable bs ≡ true → list_all is_printable (drop n bs) ≡ true
 dropped zero bs h = h
 dropped (suc n) [] h = refl
@@ -131,7 +127,7 @@ plain_shown o c before (s ∷ later) bs h =
     ∙ ap (λ cells. row_tokens (cut_cells [] (before + s.bytes) later cells)) (sym (drop_plain s.cells o c bs)) in
     let here : plain_run s bs ≡ row_tokens own =
     by_cases {C = plain_run s bs ≡ row_tokens own} (is_kept s)
-    (λ y. rw y (ap (styled_tokens plain) (sym (plain_codes o c (take s.cells bs) (taken s.cells bs h)) ∙ ap (λ cells. map (λ (p : Glyph). p.code) (printed_cells cells)) (sym (take_plain s.cells o c bs)))
+    (λ y. rw y (ap (styled_tokens plain) (sym (plain_codes o c (take s.cells bs) (printable_taken s.cells bs h)) ∙ ap (λ cells. map (λ (p : Glyph). p.code) (printed_cells cells)) (sym (take_plain s.cells o c bs)))
     ∙ sym (append-nil (styled_tokens plain (map (λ (p : Glyph). p.code) (printed_cells (take s.cells (plain_cells o c bs)))))))
     )
     (λ n. rw n refl) in
@@ -139,15 +135,11 @@ plain_shown o c before (s ∷ later) bs h =
 
 -- ---- where a column is near
 
-and_false : (b : Bool) → (b && false) ≡ false
-and_false true = refl
-and_false false = refl
-
 column_near : (limit e x : ℕ) → e - limit / 4 ≤ x → x ≤ e + limit / 4 → is_within (limit / 4) (cell_at x) e ≡ true
 column_near limit e x lo hi = rw (le-leb x (e + limit / 4) hi, lt-ltb e (x + 1 + limit / 4) (omega (arith, lo))) refl
 
 column_before : (limit e x : ℕ) → x < e - limit / 4 → is_within (limit / 4) (cell_at x) e ≡ false
-column_before limit e x lt = rw (le-ltb e (x + 1 + limit / 4) (omega (arith, lt))) (and_false (leb x (e + limit / 4)))
+column_before limit e x lt = rw (le-ltb e (x + 1 + limit / 4) (omega (arith, lt))) (and-false (leb x (e + limit / 4)))
 
 column_past : (limit e x : ℕ) → e + limit / 4 < x → is_within (limit / 4) (cell_at x) e ≡ false
 column_past limit e x lt = rw (lt-leb x (e + limit / 4) lt) refl

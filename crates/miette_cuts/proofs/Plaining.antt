@@ -1,8 +1,7 @@
 -- Texts of printable ASCII characters.
 use Rattle.std.proofs.Common.{ℕ, ◌+◌, ◌-◌, ◌<◌, ◌≤◌, ◌≡◌, true, false, leb, ltb, List, [], ◌∷◌, ◌++◌, length, refl, sym, ap, ◌∙◌, append-nil, arith}
 use Rattle.std.specs.List.{list_all}
-use Rattle.std.proofs.lemmas.Bool.{and_parts}
-use Rattle.std.proofs.lemmas.Bool.Decides.{nat_tests}
+use Rattle.std.proofs.lemmas.Bool.{and_parts, leb-true, ltb-true, le-ltb, lt-leb, ltb-false, leb-false}
 use Rattle.bstr.specs.Utf8.{or_replacement}
 use Rattle.miette_snippets.specs.rules.PrintedCells.{first_column, last_column, cells_width}
 use Rattle.miette_lines.specs.rules.Cells.{Cell, cells_from, characters, width_at, hides_next}
@@ -12,7 +11,7 @@ use Rattle.miette_snippets.specs.rules.Marks.{Text}
 use Rattle.miette_lines.specs.views.Printable.{is_printable, plain_cells}
 use Rattle.miette_lines.proofs.Numbers.{by_cases}
 use Rattle.miette_lines.proofs.Stepping.{cells_step, cells_end}
-use Rattle.miette_lines.proofs.Plaining.{ascii_decoded, from_le, from_lt, one_column, plain_byte}
+use Rattle.miette_lines.proofs.Plaining.{ascii_decoded, one_column, plain_byte}
 
 plain_width : (tab column b : ℕ) → is_printable b ≡ true → 1 ≡ width_at width_of tab false column b
 plain_width tab column b h =
@@ -38,39 +37,27 @@ pub plain_columns : (offset column : ℕ) (bs : List ℕ) → cells_width column
 plain_columns offset column [] = omega arith
 plain_columns offset column (b ∷ bs) = plain_columns (offset + 1) (column + 1) bs ∙ omega arith
 
-not_lt : (a b : ℕ) → b ≤ a → ltb a b ≡ false
-not_lt a b h = grind (arith, nat_tests)
-
-not_le : (a b : ℕ) → b < a → leb a b ≡ false
-not_le a b h = grind (arith, nat_tests)
-
-from_not_lt : (a b : ℕ) → ltb a b ≡ false → b ≤ a
-from_not_lt a b h = grind (arith, nat_tests)
-
-from_not_le : (a b : ℕ) → leb a b ≡ false → b < a
-from_not_le a b h = grind (arith, nat_tests)
-
 pub plain_first : (offset column : ℕ) (bs : List ℕ) (cs : List Cell) (e w o : ℕ) → o - offset < length bs → column + (o - offset) ≡ first_column (plain_cells offset column bs ++ cs) e w o
 plain_first offset column [] cs e w o h = absurd (omega arith)
 plain_first offset column (b ∷ bs) cs e w o h =
     by_cases {C = column + (o - offset) ≡ first_column (plain_cells offset column (b ∷ bs) ++ cs) e w o} (ltb o (offset + 1))
-    (λ y. let lt : o < offset + 1 = from_lt o (offset + 1) y in rw y (omega arith))
-    (λ n. let ge : offset + 1 ≤ o = from_not_lt o (offset + 1) n in rw n (omega arith ∙ plain_first (offset + 1) (column + 1) bs cs e w o (omega arith)))
+    (λ y. let lt : o < offset + 1 = ltb-true o (offset + 1) y in rw y (omega arith))
+    (λ n. let ge : offset + 1 ≤ o = ltb-false o (offset + 1) n in rw n (omega arith ∙ plain_first (offset + 1) (column + 1) bs cs e w o (omega arith)))
 
 pub plain_first_end : (offset column : ℕ) (bs : List ℕ) (cs : List Cell) (e w o : ℕ) → length bs ≤ o - offset → first_column cs e w o ≡ first_column (plain_cells offset column bs ++ cs) e w o
 plain_first_end offset column [] cs e w o h = refl
-plain_first_end offset column (b ∷ bs) cs e w o h = rw (not_lt o (offset + 1) (omega arith)) (plain_first_end (offset + 1) (column + 1) bs cs e w o (omega arith))
+plain_first_end offset column (b ∷ bs) cs e w o h = rw (le-ltb o (offset + 1) (omega arith)) (plain_first_end (offset + 1) (column + 1) bs cs e w o (omega arith))
 
 pub plain_last : (offset column : ℕ) (bs : List ℕ) (cs : List Cell) (e w o : ℕ) → o - offset < length bs → column + (o - offset) ≡ last_column (plain_cells offset column bs ++ cs) e w o
 plain_last offset column [] cs e w o h = absurd (omega arith)
 plain_last offset column (b ∷ bs) cs e w o h =
     by_cases {C = column + (o - offset) ≡ last_column (plain_cells offset column (b ∷ bs) ++ cs) e w o} (leb o offset)
-    (λ y. let le : o ≤ offset = from_le o offset y in rw y (omega arith))
-    (λ n. let gt : offset < o = from_not_le o offset n in rw n (omega arith ∙ plain_last (offset + 1) (column + 1) bs cs e w o (omega arith)))
+    (λ y. let le : o ≤ offset = leb-true o offset y in rw y (omega arith))
+    (λ n. let gt : offset < o = leb-false o offset n in rw n (omega arith ∙ plain_last (offset + 1) (column + 1) bs cs e w o (omega arith)))
 
 pub plain_last_end : (offset column : ℕ) (bs : List ℕ) (cs : List Cell) (e w o : ℕ) → length bs ≤ o - offset → last_column cs e w o ≡ last_column (plain_cells offset column bs ++ cs) e w o
 plain_last_end offset column [] cs e w o h = refl
-plain_last_end offset column (b ∷ bs) cs e w o h = rw (not_le o offset (omega arith)) (plain_last_end (offset + 1) (column + 1) bs cs e w o (omega arith))
+plain_last_end offset column (b ∷ bs) cs e w o h = rw (lt-leb o offset (omega arith)) (plain_last_end (offset + 1) (column + 1) bs cs e w o (omega arith))
 
 -- where they stand
 pub plain_text : (tab offset e : ℕ) (bs : List ℕ) → list_all is_printable bs ≡ true →

@@ -3,7 +3,7 @@ use Rattle.miette_page.specs.views.Printouts.{Printout, ◌⊕◌}
 use Rattle.std.proofs.Common.{ℕ, zero, suc, ◌+◌, ◌-◌, ◌%◌, ◌<◌, ◌≤◌, ◌≡◌, true, false, Bool, ◌||◌, eqb, List, [], ◌∷◌, ◌++◌, map, length, take, drop, replicate, refl, sym, ap, ◌∙◌, append-nil, arith}
 use Rattle.std.specs.List.{list_all}
 use Rattle.std.specs.Str.{IsAscii}
-use Rattle.std.proofs.lemmas.Bool.{and_parts}
+use Rattle.std.proofs.lemmas.Bool.{and_parts, false_from_ne_true, eqb-true}
 use Rattle.std.proofs.lemmas.Bool.Decides.{nat_tests}
 use Rattle.std.proofs.lemmas.List.{nil_from_length, map-append, take_rest, length-drop}
 use Rattle.bstr.specs.Utf8.{or_replacement}
@@ -50,9 +50,6 @@ printed_tab b offset column w h =
     let same : column + w - column ≡ w = omega arith in
     rw h (sym (codes_of_tab (column + w - column)) ∙ ap (λ n. replicate n 32) same)
 
-same_number : (a b : ℕ) → eqb a b ≡ true → a ≡ b
-same_number a b h = grind (arith, nat_tests)
-
 printable_or : (x y : Bool) → (x || y) ≡ true → y ≡ false → x ≡ true
 printable_or true y h n = refl
 printable_or false y h n = sym n ∙ h
@@ -73,7 +70,7 @@ tabbed_cells tab offset column (b ∷ bs) h =
     by_cases {C = codes (cells tab offset column (b ∷ bs)) ≡ tabbed_codes tab column (b ∷ bs)} (eqb b 9)
     (λ y.
     let w : ℕ = tab - column % tab in
-    let is : b ≡ 9 = same_number b 9 y in
+    let is : b ≡ 9 = eqb-true b 9 y in
     let e = no_escape b is in
     let one = step tab offset column w b bs (omega (arith, is)) e (tab_width tab column b e y) in
     let front = ap (λ r. r ++ codes (cells tab (offset + 1) (column + w) bs)) (printed_tab b offset column w y) in
@@ -99,28 +96,24 @@ tabbed_ascii [] h (suc i) = omega arith
 tabbed_ascii (b ∷ bs) h zero =
     let t = (and_parts (is_tabbed b) (list_all is_tabbed bs) h).0 in
     by_cases {C = b < 128} (eqb b 9)
-    (λ y. let is : b ≡ 9 = same_number b 9 y in omega (arith, is))
+    (λ y. let is : b ≡ 9 = eqb-true b 9 y in omega (arith, is))
     (λ n. let p = plain_byte b (printable_or (is_printable b) (eqb b 9) t n) in omega (arith, p.high))
 tabbed_ascii (b ∷ bs) h (suc i) = tabbed_ascii bs (and_parts (is_tabbed b) (list_all is_tabbed bs) h).1 i
 
 -- a stretch up to a tab, and the tab
-other : (x : Bool) → (x ≡ true → ⊥) → x ≡ false
-other true h = absurd (h refl)
-other false h = refl
-
 stretch : (tab n column : ℕ) (bs : List ℕ) → n ≤ length bs → Nowhere (Passes (is_byte 9) bs) 0 n → tabbed_codes tab column bs ≡ take n bs ++ tabbed_codes tab (column + n) (drop n bs)
 stretch tab zero column bs le h = ap (λ k. tabbed_codes tab k bs) (omega arith)
 stretch tab (suc n) column [] le h = absurd (omega (arith, le))
 stretch tab (suc n) column (b ∷ bs) le h =
     let at : column + 1 + n ≡ column + suc n = omega arith in
-    rw (other (eqb b 9) (h 0 (omega arith) (omega arith)))
+    rw (false_from_ne_true (eqb b 9) (h 0 (omega arith) (omega arith)))
     (ap (λ r. b ∷ r) (stretch tab n (column + 1) bs (omega (arith, le)) (λ k lo lt. h (suc k) (omega arith) (omega (arith, lt)))
     ∙ ap (λ k. take n bs ++ tabbed_codes tab k (drop n bs)) at))
 
 stretch_all : (tab column : ℕ) (bs : List ℕ) → Nowhere (Passes (is_byte 9) bs) 0 (length bs) → tabbed_codes tab column bs ≡ bs
 stretch_all tab column [] h = refl
 stretch_all tab column (b ∷ bs) h =
-    rw (other (eqb b 9) (h 0 (omega arith) (omega arith)))
+    rw (false_from_ne_true (eqb b 9) (h 0 (omega arith) (omega arith)))
     (ap (λ r. b ∷ r) (stretch_all tab (column + 1) bs (λ k lo lt. h (suc k) (omega arith) (omega (arith, lt)))))
 
 tab_at : (tab n column : ℕ) (bs : List ℕ) → n < length bs → Passes (is_byte 9) bs n →

@@ -4,8 +4,7 @@ use Rattle.std.proofs.Common.{ℕ, suc, ◌+◌, ◌≡◌, true, false, Bool, n
 use Rattle.std.specs.Prelude.{IsUtf8, chars, encode_utf8, encode_utf8_all}
 use Rattle.std.specs.Option.{is_some, IfSome}
 use Rattle.std.specs.List.{list_all}
-use Rattle.std.proofs.lemmas.Bool.{and_parts}
-use Rattle.std.proofs.lemmas.Bool.Decides.{nat_tests}
+use Rattle.std.proofs.lemmas.Bool.{and_parts, not-true, eqb-true, false_from_ne_true}
 use Rattle.std.proofs.lemmas.List.{nil_from_length, map-append}
 use Rattle.std.proofs.lemmas.List.Folds.{list_all-append}
 use Rattle.std.proofs.lemmas.Str.{chars_from_encodes, encodes-chars, encode_ascii}
@@ -42,24 +41,17 @@ spelled bs u =
     codes_of_pieces (pieces bs) ∙ read ∙ chars_from_encodes cs bs u is
 
 no_tab : (c : ℕ) → is_untabbed c ≡ true → eqb c 9 ≡ false
-no_tab c h = opposite (eqb c 9) h
-  where
-    opposite : (b : Bool) → not b ≡ true → b ≡ false
-    opposite true h = sym h
-    opposite false h = refl
+no_tab c h = not-true (eqb c 9) h
 
 -- a tab is a byte of its own
 character_untabbed : (c : ℕ) → list_all is_untabbed (encode_utf8 c) ≡ true → is_untabbed c ≡ true
 character_untabbed c h =
     by_cases {C = is_untabbed c ≡ true} (eqb c 9)
     (λ y.
-    let e : c ≡ 9 = same c 9 y in
+    let e : c ≡ 9 = eqb-true c 9 y in
     let none : list_all is_untabbed (9 ∷ []) ≡ true = sym (ap (list_all is_untabbed) (ap encode_utf8 e ∙ encode_ascii 9 (omega arith))) ∙ h in
     absurd (cc))
     (λ n. ap not n)
-  where
-    same : (a b : ℕ) → eqb a b ≡ true → a ≡ b
-    same a b h = grind (arith, nat_tests)
 
 characters_untabbed : (cs : List ℕ) → list_all is_untabbed (encode_utf8_all cs) ≡ true → list_all is_untabbed cs ≡ true
 characters_untabbed [] h = refl
@@ -102,11 +94,7 @@ untabbed_put tab offset bs text pieces p q r none same u h hq hr =
 nowhere_untabbed : (bs : List ℕ) → Nowhere (Passes (is_byte 9) bs) 0 (length bs) → list_all is_untabbed bs ≡ true
 nowhere_untabbed [] h = refl
 nowhere_untabbed (b ∷ bs) h =
-    rw (other (eqb b 9) (h 0 (omega arith) (omega arith))) (nowhere_untabbed bs (λ k lo lt. h (suc k) (omega arith) (omega (arith, lt))))
-  where
-    other : (x : Bool) → (x ≡ true → ⊥) → x ≡ false
-    other true h = absurd (h refl)
-    other false h = refl
+    rw (false_from_ne_true (eqb b 9) (h 0 (omega arith) (omega arith))) (nowhere_untabbed bs (λ k lo lt. h (suc k) (omega arith) (omega (arith, lt))))
 
 pub none_found : (bs : List ℕ) (r : Option ℕ) → IsFirstByte (is_byte 9) bs r → is_some r ≡ false → list_all is_untabbed bs ≡ true
 none_found bs None h e = nowhere_untabbed bs h

@@ -2,7 +2,7 @@
 use Rattle.std.proofs.Common.{◌≡◌, ℕ, List, [], ◌∷◌, ◌++◌, map, reverse, refl, sym, ap, ◌∙◌, append_assoc}
 use Rattle.std.proofs.lemmas.List.{map-append}
 use Rattle.std.proofs.lemmas.Grind.{reverse_onto}
-use Rattle.miette_tree.specs.rules.Tree.{Tree, tree, texts, chain_of, cause_of, wrapped_tree, with_cause}
+use Rattle.miette_tree.specs.rules.Tree.{Tree, texts, chain_of, cause_of, wrapped_tree, with_cause}
 use Rattle.miette_tree.specs.rules.Chain.{texts_below}
 use Rattle.miette_description.specs.rules.Description.{wrapped_in}
 

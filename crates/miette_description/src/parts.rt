@@ -6,7 +6,7 @@ ghost use Rattle.serde_json.specs.Find.{as_str};
 ghost use Rattle.miette_description.specs.steps.ParsedValues.{value_data};
 ghost use Rattle.miette_protocol.specs.views.Diagnostic.{meaning_of};
 ghost use Rattle.miette_tree.specs.views.Owned.{owned_source};
-ghost use Rattle.miette_description.specs.rules.Members.{and_then, at_key, optional_value, list_of, severity_of};
+ghost use Rattle.miette_description.specs.rules.Members.{at_key, optional_value, list_of, severity_of};
 ghost use Rattle.miette_description.specs.rules.Members.{label_of};
 ghost use Rattle.miette_description.specs.rules.Members.{source_of, meaning_in};
 

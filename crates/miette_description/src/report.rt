@@ -1,16 +1,16 @@
 //! The report that a description asks for.
 
-ghost use Rattle.std.specs.Prelude.{◌≡◌, List, [], Option, Some, None, IfOk, OnOk, IfSome, IsSome, IsUtf8, false};
+ghost use Rattle.std.specs.Prelude.{◌≡◌, [], Option, Some, None, IfOk, OnOk, IfSome, IsSome, IsUtf8, false};
 ghost use Rattle.std.specs.Prelude.{option_and_then, option_map, unwrap_or, map, string_bytes};
 ghost use Rattle.json.specs.Value.{value_view};
 ghost use Rattle.serde_json.specs.Read.{read, of_json};
 ghost use Rattle.serde_json.specs.Written.{has_float};
 ghost use Rattle.miette_description.specs.steps.ParsedValues.{value_data, list_data};
-ghost use Rattle.miette_tree.specs.rules.Tree.{tree, head, source_of, cause_of, related_of, texts, no_trees, trees};
-ghost use Rattle.miette_tree.specs.rules.Tree.{with_source, with_cause, with_related};
+ghost use Rattle.miette_tree.specs.rules.Tree.{cause_of, texts, trees};
+ghost use Rattle.miette_tree.specs.rules.Tree.{with_cause};
 ghost use Rattle.miette_tree.specs.views.Report.{tree_of};
 ghost use Rattle.miette_tree.specs.rules.Reads.{AlwaysReads};
-ghost use Rattle.miette_description.specs.rules.Members.{and_then, optional_value, at_key, all_of};
+ghost use Rattle.miette_description.specs.rules.Members.{optional_value, at_key, all_of};
 ghost use Rattle.miette_protocol.specs.views.Diagnostic.{meaning_of};
 ghost use Rattle.miette_tree.specs.views.Owned.{owned_source};
 ghost use Rattle.miette_description.specs.rules.Description.{one_cause, wrapped_in, tree_of_parts, report_in};

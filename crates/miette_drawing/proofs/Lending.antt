@@ -7,6 +7,7 @@ use Rattle.std.specs.List.{AllByRecursion, filter}
 use Rattle.std.proofs.lemmas.List.{drop-take, length-take, length-map, drop_all}
 use Rattle.std.proofs.Math.Seq.{take-take}
 use Rattle.std.proofs.lemmas.Bool.{ne_eqb, eqb-true, eqb-false}
+use Rattle.std.proofs.lemmas.List.Elements.{All-tail}
 use Rattle.miette_newlines.specs.rules.Lines as P
 use Rattle.miette_newlines.specs.rules.Lines.{Line}
 use Rattle.miette_protocol.specs.views.Meaning.{Label}
@@ -125,9 +126,6 @@ one_same labels placed line = sym (filter_mapped (drawn_of labels) (is_one_line 
 multi_same : (labels : List Label) (placed : List PlacedLabel) (line : Line) → map (drawn_of labels) (filter (is_multi line) placed) ≡ multi_line line (map (drawn_of labels) placed)
 multi_same labels placed line = sym (filter_mapped (drawn_of labels) (is_multi_line line) (is_multi line) placed (λ x. refl))
 
-tail_all : {X : Type 0} (P : X → Type 0) (x : X) (xs : List X) → All P (x ∷ xs) → All P xs
-tail_all P x xs h = λ k d lt. h (suc k) d (omega arith)
-
 pub most_is : (labels : List Label) (placed : List PlacedLabel) (lines : List Line) → most_multi placed lines ≡ most_labels (map (drawn_of labels) placed) lines
 most_is labels placed [] = refl
 most_is labels placed (line ∷ lines) =
@@ -193,7 +191,7 @@ placed_ascends ends styles context source labels from i (r ∷ rs) h up =
     let next : IsAscending r.span.offset (spans_of (map (read_of labels) rs)) = subst (λ (n : ℕ). IsAscending n (spans_of (map (read_of labels) rs))) (sym at) up.1 in (
       lower_le ends (length source.bytes) from r.span.offset (omega (arith, at, up.0)) own.accepted.begins,
       placed_after (is_told (end_told ends (length source.bytes)) r.span.offset) r.span.offset (end_drawn r) (omega arith),
-      placed_ascends ends styles context source labels r.span.offset (i + 1) rs (tail_all (IsRead context source labels) r rs h) next,
+      placed_ascends ends styles context source labels r.span.offset (i + 1) rs (All-tail (IsRead context source labels) r rs h) next,
     )
 
 pub placed_sorted : (ends : Bool) (styles : List Style) (context : ℕ) (source : Source) (labels : List Label) (reads : List ReadLabel) → All (IsRead context source labels) reads →

@@ -1,10 +1,10 @@
 -- What mark rows tell.
 use Rattle.miette_page.proofs.Paging.{put_append}
 use Rattle.miette_page.specs.views.Printouts.{Printout, ◌⊕◌}
-use Rattle.std.proofs.Common.{ℕ, zero, suc, ◌+◌, ◌-◌, ◌<◌, ◌≤◌, ◌≡◌, true, false, cond, eqb, List, [], ◌∷◌, ◌++◌, map, length, drop, get_or, replicate, refl, sym, ap, ◌∙◌, append_assoc, arith, Option, Some}
+use Rattle.std.proofs.Common.{ℕ, zero, suc, ◌+◌, ◌-◌, ◌<◌, ◌≤◌, ◌≡◌, false, cond, eqb, List, [], ◌∷◌, ◌++◌, map, length, drop, get_or, replicate, refl, sym, ap, ◌∙◌, append_assoc, arith, Option, Some}
 use Rattle.std.specs.Prelude.{chars}
-use Rattle.std.proofs.lemmas.Bool.Decides.{nat_tests}
 use Rattle.std.proofs.lemmas.List.{at_drop_more, map-append}
+use Rattle.std.proofs.lemmas.Bool.{eq-eqb, ne_eqb}
 use Rattle.std.specs.List.{range_with_len}
 use Rattle.miette_protocol.specs.views.Meaning.{Label}
 use Rattle.miette_style.specs.declared.style.Style.{Style}
@@ -20,7 +20,6 @@ use Rattle.miette_snippets.proofs.Numbers.{range_with_len-append}
 use Rattle.miette_lines.proofs.Numbers.{by_cases}
 use Rattle.miette_snippets.proofs.Telling.{then, told_as, run_one, run_more, blank_told}
 use Rattle.miette_style.specs.rules.Themes.{Characters}
-use Rattle.miette_lines.proofs.Plaining.{apart}
 
 mapped_codes : (w f : ℕ → ℕ) (ks : List ℕ) → map (λ p. p.code) (map (λ k. glyph_of w (f k)) ks) ≡ map f ks
 mapped_codes w f [] = refl
@@ -36,8 +35,8 @@ middle t m = cond (is_empty m.label) t.uarrow (code_with_parts t m.label.parts)
 -- a mark's characters, where its anchor is so many columns behind its start and before its end
 codes_by : (t : Characters) (m : Mark) (x y : ℕ) → m.anchor ≡ m.from + x → map (mark_code t m) (range_with_len m.from (x + suc y)) ≡ (replicate x t.underline ++ middle t m ∷ []) ++ replicate y t.underline
 codes_by t m x y e =
-    let before : map (mark_code t m) (range_with_len m.from x) ≡ replicate x t.underline = constant (mark_code t m) t.underline m.from x (λ k a b. elsewhere t m k (apart k m.anchor (omega arith))) in
-    let after : map (mark_code t m) (range_with_len (m.from + x + 1) y) ≡ replicate y t.underline = constant (mark_code t m) t.underline (m.from + x + 1) y (λ k a b. elsewhere t m k (apart k m.anchor (omega arith))) in
+    let before : map (mark_code t m) (range_with_len m.from x) ≡ replicate x t.underline = constant (mark_code t m) t.underline m.from x (λ k a b. elsewhere t m k (ne_eqb k m.anchor (omega arith))) in
+    let after : map (mark_code t m) (range_with_len (m.from + x + 1) y) ≡ replicate y t.underline = constant (mark_code t m) t.underline (m.from + x + 1) y (λ k a b. elsewhere t m k (ne_eqb k m.anchor (omega arith))) in
     ap (map (mark_code t m)) (range_with_len-append m.from x (suc y))
     ∙ map-append (mark_code t m) (range_with_len m.from x) ((m.from + x) ∷ range_with_len (m.from + x + 1) y)
     ∙ ap (λ r. r ++ mark_code t m (m.from + x) ∷ map (mark_code t m) (range_with_len (m.from + x + 1) y)) before
@@ -45,17 +44,11 @@ codes_by t m x y e =
     ∙ ap (λ c. replicate x t.underline ++ c ∷ replicate y t.underline) (here t m (m.from + x) (sym e))
     ∙ sym (append_assoc (replicate x t.underline) (middle t m ∷ []) (replicate y t.underline))
   where
-    apart : (a b : ℕ) → (a ≡ b → ⊥) → eqb a b ≡ false
-    apart a b h = grind (arith, nat_tests)
-
     elsewhere : (t : Characters) (m : Mark) (k : ℕ) → eqb k m.anchor ≡ false → mark_code t m k ≡ t.underline
     elsewhere t m k f = ap (λ b. cond b (middle t m) t.underline) f
 
-    same : (a b : ℕ) → a ≡ b → eqb a b ≡ true
-    same a b h = grind (arith, nat_tests)
-
     here : (t : Characters) (m : Mark) (k : ℕ) → k ≡ m.anchor → mark_code t m k ≡ middle t m
-    here t m k h = ap (λ b. cond b (middle t m) t.underline) (same k m.anchor h)
+    here t m k h = ap (λ b. cond b (middle t m) t.underline) (eq-eqb k m.anchor h)
 
 pub mark_put : (w : ℕ → ℕ) (t : Characters) (m : Mark) (at x y c : ℕ) (p q r s n : Printout) → at ≡ m.anchor → m.from ≤ at → at < m.until → x ≡ at - m.from → y ≡ m.until - at - 1 → c ≡ middle t m →
     q ≡ p ⊕ begins m.label.style ∷ [] → r ≡ q ⊕ text_tokens (replicate x t.underline) → s ≡ r ⊕ text_tokens (c ∷ []) → n ≡ s ⊕ text_tokens (replicate y t.underline) → n ≡ p ⊕ run_tokens (mark_run w t m)
@@ -100,4 +93,4 @@ pub middle_of_some : (t : Characters) (text : Option (List ℕ)) (bytes : List �
 middle_of_some t text bytes e = middle_of_cut t (chars bytes) ∙ ap (λ x. code_with_parts t (parts_of x)) (sym e)
 
 pub middle_of_full : (t : Characters) (start after : ℕ) (text : Option (List ℕ)) (bytes : List ℕ) → (start ≡ after → ⊥) → text ≡ Some bytes → t.underbar ≡ cond (eqb start after) t.uarrow (code_with_parts t (parts_of text))
-middle_of_full t start after text bytes h e = middle_of_some t text bytes e ∙ ap (λ b. cond b t.uarrow (code_with_parts t (parts_of text))) (sym (apart start after h))
+middle_of_full t start after text bytes h e = middle_of_some t text bytes e ∙ ap (λ b. cond b t.uarrow (code_with_parts t (parts_of text))) (sym (ne_eqb start after h))

@@ -29,15 +29,6 @@ cut_pieces blank text ps h n = record {
 pub no_pieces : (blank : Bool) (text : List ℕ) (ps : List Piece) → ps ≡ [] → ArePieces blank text (map highlight_of ps)
 no_pieces blank text ps e = record { cut = λ some. absurd (some (ap (map highlight_of) e)); none = λ b. ap (map highlight_of) e }
 
-none_each : (blank : Bool) (texts : List (List ℕ)) → EachHasPieces blank texts []
-none_each blank [] = tt
-none_each blank (text ∷ texts) = (no_pieces blank text [] refl, none_each blank texts)
-
-pub none_have : (context : ℕ) (blank : Bool) (source : Source) (groups : List Span) → SnippetsHavePieces context blank source groups []
-none_have context blank source [] = tt
-none_have context blank source (group ∷ groups) =
-    (none_each blank (texts_of source.bytes (lines_of_contents (contents context source group))), none_have context blank source groups)
-
 -- rows of lines that are left plain
 rows_plain : (out : ℕ → Line → Bool) (gap : Bool) (s : SnippetSettings) (w columns : ℕ) (labels : List DrawnLabel) (source : List ℕ) (number : ℕ) (pieces : List (List Highlight)) (ls : List Line) → EachHasPieces true (texts_of source ls) pieces →
     rows_of_lines out gap s w columns labels source number pieces ls ≡ rows_of_lines out gap s w columns labels source number [] ls

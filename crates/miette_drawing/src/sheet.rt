@@ -1,7 +1,5 @@
 //! What the rows of one line are drawn with.
 
-ghost use Rattle.std.specs.Prelude.{◌≡◌};
-
 use miette_lines::sweep::PlacedLabel;
 use miette_newlines::lines::LineOfText;
 use miette_protocol::protocol::LabeledSpan;

@@ -1,18 +1,19 @@
 -- The rows of snippets under answers: where nothing fails, they are those in which nothing is listed.
-use Rattle.std.proofs.Common.{◌≡◌, ◌≢◌, ℕ, Bool, true, false, ◌||◌, if◌then◌else◌, ◌⊎◌, inl, inr, List, [], ◌∷◌, refl, sym, ap, ap₂, ◌∙◌, subst, Option, Some, None, is_some, option_map, codes, length, ◌<◌, arith, ◌++◌}
+use Rattle.std.proofs.Common.{◌≡◌, ◌≢◌, ℕ, Bool, true, false, ◌||◌, if◌then◌else◌, inl, inr, List, [], ◌∷◌, refl, sym, ap, ap₂, ◌∙◌, subst, Option, Some, None, is_some, option_map, codes, length, ◌<◌, arith, ◌++◌}
+use Rattle.std.proofs.lemmas.Bool.{cases_Bool}
 use Rattle.miette_protocol.specs.views.Meaning.{Label, Meaning}
-use Rattle.miette_protocol.specs.rules.Reading.{Source, Span, is_accepted}
+use Rattle.miette_protocol.specs.rules.Reading.{Source, is_accepted}
 use Rattle.miette_lines.specs.rules.Answers.{Highlight, NoneFails, AlwaysReads, later_answers}
-use Rattle.miette_lines.specs.rules.Contexts.{contents, lines_of_contents}
 use Rattle.miette_highlight.specs.rules.HighlighterCalls.{Call, Leads}
 use Rattle.miette_layout.specs.views.Outcomes.{MayGive}
 use Rattle.miette_snippets.specs.rules.Folds.{spreads_of}
 use Rattle.miette_snippets.specs.rules.Frames as frames
 use Rattle.miette_snippets.specs.rules.Frames.{refused_row}
-use Rattle.miette_lines.specs.rules.Around.{has_own, group_context}
-use Rattle.miette_lines.specs.rules.Groups.{refusal, joins_before, joined_span, groups_from, groups_answered, own_groups, groups_of, in_order, spans_of}
-use Rattle.miette_snippets.specs.rules.Highlighting.{EachHasPieces, SnippetsHavePieces, texts_of, group_calls, snippet_calls}
+use Rattle.miette_lines.specs.rules.Around.{group_context}
+use Rattle.miette_lines.specs.rules.Groups.{refusal, groups_of, in_order}
+use Rattle.miette_snippets.specs.rules.Highlighting.{SnippetsHavePieces, group_calls, snippet_calls}
 use Rattle.miette_snippets.specs.rules.SnippetLayout.{snippet_rows, rows_unless, rows_of_groups, settings_around, all_snippets}
+use Rattle.miette_snippets.proofs.NoPieces.{none_have}
 use Rattle.miette_page.specs.rules.Rows.{Row}
 use Rattle.miette_page.specs.views.Tokens.{rows_tokens}
 use Rattle.miette_page.specs.views.Printouts.{Printout, printout_of, ended_text, ◌⊕◌}
@@ -27,7 +28,7 @@ use Rattle.miette_graphical.specs.rules.Snippets.{layout_settings, shown_rows, d
 use Rattle.miette_graphical.proofs.PrintedRows.{rows_printed}
 use Rattle.miette_graphical.specs.steps.PartTexts.{AreDrawn, IsDrawn}
 use Rattle.miette_lines.proofs.Bodies.{next_none, later_none, some_none}
-use Rattle.miette_lines.proofs.NoFailures.{none_unread}
+use Rattle.miette_lines.proofs.NoFailures.{none_unread, grouped_none}
 
 refusal_none : (bytes : List ℕ) (fails : List Bool) (labels : List Label) → NoneFails fails → refusal bytes fails labels ≡ refusal bytes [] labels
 refusal_none bytes fails [] h = refl
@@ -35,27 +36,6 @@ refusal_none bytes fails (label ∷ labels) h =
     ap (λ b. if b then Some (record { label = label; name = codes "IoError" }) else if is_accepted bytes label.span then refusal bytes (later_answers fails) labels
     else Some (record { label = label; name = codes "OutOfBounds" })) (next_none fails h)
     ∙ ap (λ r. if is_accepted bytes label.span then r else Some (record { label = label; name = codes "OutOfBounds" })) (refusal_none bytes (later_answers fails) labels (later_none fails h))
-
-groups_none : (context : ℕ) (source : Source) (before : Span) (fails : List Bool) (spans : List Span) → NoneFails fails →
-    groups_from context source before fails spans ≡ groups_from context source before [] spans
-groups_none context source before fails [] h = refl
-groups_none context source before fails (span ∷ spans) h =
-    ap (λ b. if joins_before context source before span then
-    (if b then before ∷ groups_from context source span (later_answers fails) spans else groups_from context source (joined_span before span) (later_answers fails) spans)
-    else before ∷ groups_from context source span fails spans) (next_none fails h)
-    ∙ ap₂ (λ x y. if joins_before context source before span then x else before ∷ y)
-    (groups_none context source (joined_span before span) (later_answers fails) spans (later_none fails h))
-    (groups_none context source span fails spans h)
-
-answered_none : (context : ℕ) (source : Source) (fails : List Bool) (spans : List Span) → NoneFails fails →
-    groups_answered context source fails spans ≡ groups_answered context source [] spans
-answered_none context source fails [] h = refl
-answered_none context source fails (span ∷ spans) h = groups_none context source span fails spans h
-
-grouped_none : (context : ℕ) (source : Source) (fails : List Bool) (labels : List Label) → NoneFails fails →
-    groups_of context source fails labels ≡ groups_of context source [] labels
-grouped_none context source fails labels h =
-    ap (λ gs. if has_own labels then own_groups context source labels else gs) (answered_none context source fails (spans_of labels) h)
 
 -- the rows of groups where nothing fails
 pub groups_given : (s : frames.SnippetSettings) (source : Source) (labels : List Label) (a : Answer) → AlwaysReads a →
@@ -99,15 +79,6 @@ no_rows_fail s source labels a h n =
 
 -- ---- no pieces
 
-none_each : (blank : Bool) (texts : List (List ℕ)) → EachHasPieces blank texts []
-none_each blank [] = tt
-none_each blank (text ∷ texts) = (record { cut = λ some. absurd (some refl); none = λ b. refl }, none_each blank texts)
-
-pub none_have : (context : ℕ) (blank : Bool) (source : Source) (groups : List Span) → SnippetsHavePieces context blank source groups []
-none_have context blank source [] = tt
-none_have context blank source (group ∷ groups) =
-    (none_each blank (texts_of source.bytes (lines_of_contents (contents context source group))), none_have context blank source groups)
-
 no_pieces : (s : frames.SnippetSettings) (blank : Bool) (source : Option Source) (labels : List Label) → HasPieces s blank source labels nothing_listed
 no_pieces s blank None labels = tt
 no_pieces s blank (Some source) labels = none_have (group_context s.context (in_order labels)) blank source (groups_of s.context source [] (in_order labels))
@@ -115,10 +86,6 @@ no_pieces s blank (Some source) labels = none_have (group_context s.context (in_
 -- where nothing is listed, nothing failed
 pub unlisted_is : (s : frames.SnippetSettings) (blank : Bool) (source : Option Source) (labels : List Label) (reads : Bool) → IsAnswerOf s blank source labels reads nothing_listed
 unlisted_is s blank source labels reads = record { read = λ h. refl; plain = λ b. refl; pieces = no_pieces s blank source labels; rows = always_rows s source labels [] }
-
-decide : (b : Bool) → (b ≡ true) ⊎ (b ≡ false)
-decide true = inl refl
-decide false = inr refl
 
 page_given : (text : List ℕ) (rows : Option (List Row)) (page : Printout) → Some page ≡ option_map (λ rows. printout_of text ⊕ rows_tokens rows) rows → ended_text page ≡ text ++ rows_text (shown_rows rows)
 page_given text None page e = absurd (cc)
@@ -143,7 +110,7 @@ drawn_text : {happen : List Call → Type 0} (s : Settings) (source : Source) (l
 drawn_text {happen} s source labels blank before page g =
     let l = layout_settings s in
     let a = g.answers in
-    elim (decide source.always_reads) [
+    elim (cases_Bool source.always_reads) [
       | inl reads ↦ (
         pieces_listed a.pieces,
         record {
@@ -173,7 +140,7 @@ drawn_page {happen} s source labels blank before page g =
 
 pub refused_page : {happen : List Call → Type 0} (s : Settings) (source : Source) (labels : List Label) (blank : Bool) (before : Printout) → MayGive (layout_settings s) source labels blank happen before None → source.always_reads ≡ false
 refused_page s source labels blank before g =
-    elim (decide source.always_reads) [
+    elim (cases_Bool source.always_reads) [
       | inl reads ↦ absurd (no_rows_fail (layout_settings s) source labels g.answers (g.always reads) (rows_none before (snippet_rows (layout_settings s) source labels g.answers) g.is))
       | inr fails ↦ fails
     ]

@@ -1,9 +1,6 @@
 -- The parts of a diagnostic's text, without their colours.
-use Rattle.std.proofs.Common.{◌≡◌, ℕ, ◌-◌, Bool, true, false, not, ◌&&◌, List, [], ◌∷◌, ◌++◌, refl, sym, ap, ap₂, ◌∙◌, chars, Option, Some, None, IfSome}
-use Rattle.std.proofs.lemmas.Bool.{and_parts}
-use Rattle.miette_style.specs.rules.Escapes.{is_escape}
+use Rattle.std.proofs.Common.{◌≡◌, ℕ, ◌-◌, Bool, true, false, List, [], ◌∷◌, ◌++◌, refl, sym, ap, ap₂, ◌∙◌, chars, Option, Some, None, IfSome}
 use Rattle.miette_style.specs.rules.Codes.{is_nil}
-use Rattle.miette_style.specs.rules.Escapes.{no_escape}
 use Rattle.miette_runs.specs.rules.Runs.{Fragment, Styled, print}
 use Rattle.miette_style.specs.rules.Styles.{plain}
 use Rattle.miette_protocol.specs.views.Meaning.{Meaning, Label}
@@ -20,20 +17,14 @@ use Rattle.miette_tree.specs.rules.DiagnosticParts.{given_labels, severity_title
 use Rattle.miette_graphical.specs.rules.Text.{cause_texts, body, inner_text}
 use Rattle.miette_tree.specs.rules.Tree.{effective}
 use Rattle.std.specs.List.{AllByRecursion}
-use Rattle.miette_snippet_laws.specs.laws.Clean.{IsClean, IsCleanCode, IsCleanText, IsCleanLabel, IsCleanSource}
+use Rattle.miette_snippet_laws.specs.laws.Clean.{IsClean, IsCleanText, IsCleanLabel, IsCleanSource}
+use Rattle.miette_snippet_laws.proofs.CleanTexts.{clean_cons, clean_append}
 use Rattle.miette_graphical.specs.laws.Clean.{AreCleanCharacters, AreCleanSettings, AreCleanLabels, IsCleanMeaning}
 use Rattle.miette_graphical.specs.laws.Colourless.{faded_styles, colourless, unhighlighted_answer, AreSnippets}
 use Rattle.miette_graphical.proofs.Fading.{Fades, Pales, fades-to, fades-append, fades-clean, fades-print, fades-leading, fades-under, fades-feed, fades-rows, columns-pale}
 
 module _ (laws : TextLaws) where
   -- ---- texts
-
-  clean-cons : (c : ℕ) (text : List ℕ) → IsCleanCode c → IsClean text → IsClean (c ∷ text)
-  clean-cons c text e h = ap₂ (λ a b. not a && b) e h
-
-  clean-append : (x y : List ℕ) → IsClean x → IsClean y → IsClean (x ++ y)
-  clean-append [] y h k = k
-  clean-append (c ∷ x) y h k = let p = and_parts (not (is_escape c)) (no_escape x) h in ap₂ (λ a b. a && b) p.0 (clean-append x y p.1 k)
 
   -- ---- styles and characters
 
@@ -51,15 +42,15 @@ module _ (laws : TextLaws) where
 
   arrow-clean : (s : Settings) (b : Bool) → AreCleanSettings s → IsClean (arrow_text s b)
   arrow-clean s true h = let k = h.0.drawings in
-      clean-cons s.characters.lbot (s.characters.hbar ∷ s.characters.rarrow ∷ spaces 1) k.lbot
-      (clean-cons s.characters.hbar (s.characters.rarrow ∷ spaces 1) k.hbar (clean-cons s.characters.rarrow (spaces 1) k.rarrow refl))
+      clean_cons s.characters.lbot (s.characters.hbar ∷ s.characters.rarrow ∷ spaces 1) k.lbot
+      (clean_cons s.characters.hbar (s.characters.rarrow ∷ spaces 1) k.hbar (clean_cons s.characters.rarrow (spaces 1) k.rarrow refl))
   arrow-clean s false h = let k = h.0.drawings in
-      clean-cons s.characters.lcross (s.characters.hbar ∷ s.characters.rarrow ∷ spaces 1) k.lcross
-      (clean-cons s.characters.hbar (s.characters.rarrow ∷ spaces 1) k.hbar (clean-cons s.characters.rarrow (spaces 1) k.rarrow refl))
+      clean_cons s.characters.lcross (s.characters.hbar ∷ s.characters.rarrow ∷ spaces 1) k.lcross
+      (clean_cons s.characters.hbar (s.characters.rarrow ∷ spaces 1) k.hbar (clean_cons s.characters.rarrow (spaces 1) k.rarrow refl))
 
   stem-clean : (s : Settings) (b : Bool) → AreCleanSettings s → IsClean (stem_text s b)
   stem-clean s true h = refl
-  stem-clean s false h = let k = h.0.drawings in clean-cons s.characters.vbar (spaces 3) k.vbar refl
+  stem-clean s false h = let k = h.0.drawings in clean_cons s.characters.vbar (spaces 3) k.vbar refl
 
   -- ---- indents
 
@@ -71,7 +62,7 @@ module _ (laws : TextLaws) where
 
   pale-bar : (s : Settings) (v : Option Severity) → AreCleanSettings s → Pales (bar_indent s v) (bar_indent (colourless s) v)
   pale-bar s v h = let k = h.0.drawings in record {
-    clean = (refl, (clean-cons s.characters.vbar [] k.vbar refl, (refl, tt)));
+    clean = (refl, (clean_cons s.characters.vbar [] k.vbar refl, (refl, tt)));
     same = ap (λ st. bare_text (spaces 2) ∷ Styled st (s.characters.vbar ∷ []) ∷ bare_text (spaces 1) ∷ []) (style-faded s.styles v);
   }
 
@@ -104,7 +95,7 @@ module _ (laws : TextLaws) where
 
   pale-header_by : (u : Urls) (s : Settings) (v : Option Severity) (url code : Option (List ℕ)) → AreCleanSettings s → IfSome url IsCleanText → IfSome code IsCleanText →
       Pales (header_by u s (severity_style s v) url code) (header_by u (colourless s) plain url code)
-  pale-header_by AsLinks s v (Some url) (Some code) h k j = record { clean = (k, (clean-append (chars code) (32 ∷ []) j refl, (h.1, (tt, (refl, tt))))); same = refl }
+  pale-header_by AsLinks s v (Some url) (Some code) h k j = record { clean = (k, (clean_append (chars code) (32 ∷ []) j refl, (h.1, (tt, (refl, tt))))); same = refl }
   pale-header_by AsLinks s v (Some url) None h k j = record { clean = (k, (h.1, (tt, (refl, tt)))); same = refl }
   pale-header_by AsLinks s v None (Some code) h k j = record { clean = (j, (refl, tt)); same = refl }
   pale-header_by AsLinks s v None None h k j = record { clean = tt; same = refl }

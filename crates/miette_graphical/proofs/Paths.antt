@@ -2,6 +2,7 @@
 use Rattle.std.proofs.Common.{◌≡◌, ℕ, zero, suc, ◌⊎◌, inl, inr, Bool, true, false, if◌then◌else◌, List, [], ◌∷◌, ◌++◌, Option, Some, None, refl, ap, subst, arith}
 use Rattle.std.specs.List.{Contains}
 use Rattle.std.proofs.lemmas.List.Elements.{Contains-append_left, Contains-append_right, Contains-append_cases, Contains-push_cases}
+use Rattle.std.proofs.lemmas.Option.{same_Some}
 use Rattle.miette_protocol.specs.rules.Reading.{Source}
 use Rattle.miette_tree.specs.rules.Tree.{effective, Tree, tree, Cause, diagnostic, texts, Trees, no_trees, more_trees}
 use Rattle.miette_graphical.specs.rules.Settings.{Settings}
@@ -24,9 +25,6 @@ first q ps p e = subst (λ x. Contains (q ∷ ps) x) e (zero, omega arith, refl)
 
 later : (q : PrintedDiagnostic) (ps : List PrintedDiagnostic) (p : PrintedDiagnostic) → Contains ps p → Contains (q ∷ ps) p
 later q ps p h = Contains-append_right (q ∷ []) ps p h
-
-given : {A : Type 0} (x y : A) → Some x ≡ Some y → x ≡ y
-given x y e = cc
 
 -- ---- each has a path
 
@@ -96,7 +94,7 @@ mutual
   cause_printed nested inherited (texts ts) path p h = absurd (cc)
   cause_printed nested inherited (diagnostic (tree m own c r)) [] p h =
       let source = effective own inherited in
-      Contains-append_left (over source m ∷ printed_related nested source r) (printed_causes nested inherited c) p (first (over source m) (printed_related nested source r) p (given _ _ h))
+      Contains-append_left (over source m ∷ printed_related nested source r) (printed_causes nested inherited c) p (first (over source m) (printed_related nested source r) p (same_Some _ _ h))
   cause_printed nested inherited (diagnostic (tree m own c r)) (to_cause ∷ path) p h =
       Contains-append_right (over (effective own inherited) m ∷ printed_related nested (effective own inherited) r) (printed_causes nested inherited c) p (cause_printed nested inherited c path p h)
   cause_printed nested inherited (diagnostic (tree m own c r)) (to_related k ∷ path) p h =
@@ -110,7 +108,7 @@ mutual
   related_printed nested inherited (more_trees (tree m own c r) ts) zero [] p h =
       let source = effective own inherited in
       let below = (if nested then [] else printed_causes nested source c) ++ printed_related nested source r in
-      Contains-append_left (over source m ∷ below) (printed_related nested inherited ts) p (first (over source m) below p (given _ _ h))
+      Contains-append_left (over source m ∷ below) (printed_related nested inherited ts) p (first (over source m) below p (same_Some _ _ h))
   related_printed true inherited (more_trees (tree m own c r) ts) zero (to_cause ∷ path) p h = absurd (cc)
   related_printed false inherited (more_trees (tree m own c r) ts) zero (to_cause ∷ path) p h =
       let source = effective own inherited in
@@ -133,7 +131,7 @@ root_printed true nested own c path p h = cause_printed nested own c path p h
 root_printed false nested own c path p h = absurd (cc)
 
 pub printed_there : (s : Settings) (t : Tree) (path : List Step) (p : PrintedDiagnostic) → printed_at s t path ≡ Some p → Contains (diagnostics_of s t) p
-printed_there s (tree m own c r) [] p h = first (over own m) _ p (given _ _ h)
+printed_there s (tree m own c r) [] p h = first (over own m) _ p (same_Some _ _ h)
 printed_there s (tree m own c r) (to_cause ∷ path) p h =
     let causes = if s.chain then printed_causes s.nested own c else [] in
     later (over own m) (causes ++ printed_related s.nested own r) p (Contains-append_left causes (printed_related s.nested own r) p (root_printed s.chain s.nested own c path p h))

@@ -10,6 +10,7 @@ use Rattle.miette_lines.specs.rules.Groups.{groups_of, in_order}
 use Rattle.miette_snippet_laws.specs.laws.Fading as fading
 use Rattle.miette_snippets.specs.rules.Frames as frames
 use Rattle.miette_snippets.specs.rules.SnippetLayout.{snippet_rows}
+use Rattle.miette_snippets.proofs.NoPieces.{none_have}
 use Rattle.miette_page.specs.rules.Rows.{Row, glyphs_of}
 use Rattle.miette_graphical.specs.rules.Settings.{Settings}
 use Rattle.miette_graphical.specs.rules.Snippets.{layout_settings}
@@ -18,7 +19,6 @@ use Rattle.miette_graphical.specs.rules.PossibleAnswers.{AreAnswers, AreCauseAns
 use Rattle.miette_graphical.specs.rules.PrintedDiagnostics.{always_reads}
 use Rattle.miette_graphical.specs.laws.Colourless.{colourless, unhighlighted_answers, unhighlighted_answer, unhighlighted_related_answers}
 use Rattle.miette_graphical.proofs.Bare.{own-bare, cause-bare, related-bare}
-use Rattle.miette_graphical.proofs.DrawnRows.{none_have}
 
 -- in plain styles the rows have the same characters, which the layer of snippets promises
 abbrev pub AreRowsKept : Type 0

@@ -1,11 +1,11 @@
 -- What is printed behind a text as its rows are made is what these rows print.
-use Rattle.std.proofs.Common.{◌≡◌, ℕ, true, List, [], ◌∷◌, ◌++◌, map, refl, sym, ap, ◌∙◌, append_assoc, append-nil}
+use Rattle.std.proofs.Common.{◌≡◌, ℕ, List, [], ◌∷◌, ◌++◌, map, sym, ap, ◌∙◌, append_assoc, append-nil}
 use Rattle.miette_runs.specs.rules.Runs.{print, printed_run}
 use Rattle.miette_style.specs.rules.Codes.{style_codes, colour_start, colour_stop}
 use Rattle.miette_style.specs.declared.style.Style.{Style}
-use Rattle.miette_page.specs.rules.Rows.{Row, Run}
+use Rattle.miette_page.specs.rules.Rows.{Row}
 use Rattle.miette_page.specs.views.Printouts.{Printout, printout_of, start_of, stop_of, ended_text, put, ◌⊕◌}
-use Rattle.miette_page.specs.views.Tokens.{Token, begins, row_end, row_tokens, run_tokens, rows_tokens, styled_tokens, text_tokens}
+use Rattle.miette_page.specs.views.Tokens.{begins, row_end, row_tokens, run_tokens, rows_tokens, styled_tokens}
 use Rattle.miette_page.proofs.Paging.{put_append, text_put}
 use Rattle.miette_graphical.specs.rules.DiagnosticText.{rows_text}
 use Rattle.miette_graphical.proofs.SnippetsFading.{run_codes}

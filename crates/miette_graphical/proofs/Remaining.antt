@@ -1,19 +1,12 @@
 -- Going along a list of causes or of related reports: some are printed, and some remain.
 use Rattle.std.proofs.Common.{◌≡◌, ◌≤◌, ◌<◌, Bool, false, List, [], ◌∷◌, ◌++◌, ℕ, suc, length, get_or, map, refl, sym, ap, subst, append_assoc, ◌∙◌, arith, Option}
-use Rattle.std.specs.Borrow.{Bor}
-use Rattle.miette_protocol.specs.views.Meaning.{Meaning}
 use Rattle.miette_protocol.specs.rules.Reading.{Source}
 use Rattle.miette_protocol.specs.declared.protocol.Severity.{Severity}
-use Rattle.miette_tree.specs.rules.Tree.{Tree, Cause, diagnostic, texts, Trees, more_trees, trees, cause_of, source_of, effective}
-use Rattle.miette_tree.specs.views.Report.{cause_shown}
-use Rattle.miette_tree.specs.declared.tree.Report.{Report}
-use Rattle.miette_tree.specs.declared.tree.Cause as shown
-use Rattle.miette_tree.specs.declared.tree.Cause.TheVariants as seen
+use Rattle.miette_tree.specs.rules.Tree.{Tree, Cause, diagnostic, Trees, more_trees, trees, cause_of, source_of, effective}
 use Rattle.miette_highlight.specs.rules.HighlighterCalls.{Call, Leads}
 use Rattle.miette_graphical.specs.rules.PossibleAnswers.{AreCauseAnswers, AreRelatedAnswers}
 use Rattle.miette_graphical.specs.rules.Calls.{cause_calls, related_calls}
 use Rattle.miette_tree.specs.views.Handler.{AppendsOne}
-use Rattle.miette_tree.specs.rules.Chain.{texts_below}
 use Rattle.miette_graphical.specs.rules.DiagnosticText.{SnippetRows}
 use Rattle.miette_graphical.specs.rules.PrintedDiagnostics.{PrintedDiagnostic, all_read, printed_causes, printed_related}
 use Rattle.miette_graphical.specs.rules.Settings.{Settings}
@@ -100,10 +93,3 @@ related_printed rows s blank begun state next outer inherited all t ts old now n
 pub first_falls : {R : Type 0} (value : R → Tree) (rs : List R) (d : R) → 1 ≤ length rs → d ≡ get_or rs 0 d → suc (tree_size (value d)) < trees_size (trees (map value rs))
 first_falls value [] d h e = absurd (omega arith)
 first_falls value (r ∷ rs) d h e = subst (λ x. suc (tree_size (value x)) < trees_size (trees (map value (r ∷ rs)))) (sym e) (omega arith)
-
--- a cause that is no report is a list of texts
-pub texts_shown : {D S : Type 0} (means : D → Meaning) (is : S → Source) (r : shown.Cause D S) (c : Cause) → cause_shown means is r ≡ c → ((x : Bor (Report D S)) → r ≡ seen.Diagnostic x → ⊥) →
-    texts (texts_below c) ≡ c
-texts_shown means is seen.None c e f = subst (λ k. texts (texts_below k) ≡ k) e refl
-texts_shown means is (seen.Diagnostic x) c e f = absurd (f x refl)
-texts_shown means is (seen.Texts ts) c e f = subst (λ k. texts (texts_below k) ≡ k) e refl

@@ -1,5 +1,5 @@
 -- A text in a style, and a header or the end of its row.
-use Rattle.std.proofs.Common.{◌≡◌, [], codes, refl}
+use Rattle.std.proofs.Common.{◌≡◌, codes, refl}
 use Rattle.std.specs.Str.{chars}
 
 -- fixed texts

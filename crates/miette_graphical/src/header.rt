@@ -1,7 +1,7 @@
 //! Headers: a code, and a url as a link or as a text.
 
-ghost use Rattle.std.specs.Prelude.{◌≡◌, ◌++◌, [], IfOk, OnOk, chars, not, option_map};
-ghost use Rattle.miette_runs.specs.rules.Runs.{print, printed_run};
+ghost use Rattle.std.specs.Prelude.{◌≡◌, ◌++◌, IfOk, OnOk, chars, not, option_map};
+ghost use Rattle.miette_runs.specs.rules.Runs.{print};
 ghost use Rattle.miette_style.specs.rules.Codes.{is_nil};
 ghost use Rattle.miette_graphical.specs.rules.DiagnosticText as parts;
 ghost use Rattle.miette_graphical.specs.views.Modes.{urls_of};

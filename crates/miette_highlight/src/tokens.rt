@@ -1,7 +1,7 @@
 //! What rules find at the start of a text, and the pieces that they cut a line into.
 
-ghost use Rattle.std.specs.Prelude.{◌≡◌, ◌+◌, ◌^◌, ◌<◌, ◌≤◌, ◌&&◌, not, nat_eq, IsTrue, IfSome, IfOk, false};
-ghost use Rattle.std.specs.Prelude.{length, take, drop, string_bytes};
+ghost use Rattle.std.specs.Prelude.{◌≡◌, ◌+◌, ◌^◌, ◌<◌, ◌≤◌, ◌&&◌, not, nat_eq, IsTrue, IfOk, false};
+ghost use Rattle.std.specs.Prelude.{length, drop, string_bytes};
 ghost use Rattle.std.specs.List.{starts_with};
 ghost use Rattle.miette_highlight.specs.rules.Patterns.{begins_within, close_end, is_among, is_escape, is_word_byte};
 ghost use Rattle.miette_highlight.specs.rules.Patterns.{inside, match_of, word_end};

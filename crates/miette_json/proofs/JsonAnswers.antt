@@ -1,7 +1,7 @@
 -- Answers of reads, put together from those of the parts.
-use Rattle.std.proofs.Common.{◌≡◌, ℕ, suc, zero, ◌+◌, ◌<◌, ◌≤◌, List, [], ◌∷◌, ◌++◌, length, get_or, map, drop, add-one, Bool, true, false, Option, Some, None, refl, sym, ap, subst, ◌∙◌, append_assoc, codes, arith}
-use Rattle.std.specs.Prelude.{IsUtf8, if◌then◌else◌, IfSome, option_map}
-use Rattle.std.proofs.Math.Seq.{drop-cons}
+use Rattle.std.proofs.Common.{◌≡◌, ℕ, ◌≤◌, List, [], ◌∷◌, ◌++◌, length, map, drop, Bool, true, false, Option, Some, None, refl, sym, ap, subst, ◌∙◌, append_assoc, codes}
+use Rattle.std.specs.Prelude.{IsUtf8, if◌then◌else◌, option_map}
+use Rattle.std.proofs.lemmas.List.{drop_all}
 use Rattle.miette_protocol.specs.rules.Reading.{Source}
 use Rattle.miette_protocol.specs.views.Meaning.{Label}
 use Rattle.miette_tree.specs.rules.Tree.{Tree, tree, Trees, no_trees, more_trees, trees, effective, head, source_of, cause_of, causes_of, related_of}
@@ -11,6 +11,7 @@ use Rattle.miette_json.specs.rules.JsonReport.{NameAnswers, unlisted, listed, Re
 use Rattle.miette_tree.specs.rules.DiagnosticParts.{given_labels, severity_text}
 use Rattle.miette_tree.specs.rules.Reads.{AlwaysReads, AllAlwaysRead}
 use Rattle.miette_tree.specs.rules.Answers.{own_fault}
+use Rattle.miette_tree.proofs.Nesting.{Reads, effective_reads}
 use Rattle.miette_json.specs.rules.Reads.{NameAlwaysReads, NamesAlwaysRead, AllNamesAlwaysRead}
 use Rattle.miette_json.specs.rules.JsonText.{IsJsonOf}
 use Rattle.miette_json.proofs.JsonJoined.{last_piece, report_parts}
@@ -39,19 +40,9 @@ pub all_written : (inherited : Option Source) (all : Trees) (first : Bool) (old 
 all_written inherited all true old now new r e = record { answers = r.with_rest no_more; possible = r.possible no_more tt; appended = e ∙ r.joined no_more }
 all_written inherited all false old now new r e = record { answers = r.with_rest no_more; possible = r.possible no_more tt; appended = e ∙ r.joined no_more }
 
--- the one next of a list of reports
-pub next_of : {R : Type 0} (value : R → Tree) (rs : List R) (i : ℕ) (d : R) → i < length rs → d ≡ get_or rs i d → trees (map value (drop i rs)) ≡ more_trees (value d) (trees (map value (drop (i + 1) rs)))
-next_of value rs i d h is = ap (λ l. trees (map value l)) (drop-cons rs i d h ∙ ap (λ x. x ∷ drop (suc i) rs) (sym is) ∙ ap (λ n. d ∷ drop n rs) (sym (add-one i)))
-
-none_left : {R : Type 0} (rs : List R) (i : ℕ) → length rs ≤ i → drop i rs ≡ []
-none_left [] zero h = refl
-none_left [] (suc i) h = refl
-none_left (r ∷ rs) zero h = absurd (omega arith)
-none_left (r ∷ rs) (suc i) h = none_left rs i (omega arith)
-
 pub at_the_end : {R : Type 0} (value : R → Tree) (inherited : Option Source) (rs : List R) (all : Trees) (i : ℕ) (first : Bool) (old now : List ℕ) → length rs ≤ i
     → RelatedSoFar inherited all (trees (map value (drop i rs))) first old now → RelatedSoFar inherited all no_trees first old now
-at_the_end value inherited rs all i first old now h r = subst (λ l. RelatedSoFar inherited all (trees (map value l)) first old now) (none_left rs i h) r
+at_the_end value inherited rs all i first old now h r = subst (λ l. RelatedSoFar inherited all (trees (map value l)) first old now) (drop_all i rs h) r
 
 -- what the parts of a report's object add
 joined : (old a b p k q r new h re pl key x : List ℕ) → a ≡ old ++ h → b ≡ a ++ re → p ≡ b ++ pl → k ≡ p ++ key → q ≡ k ++ 91 ∷ [] → r ≡ q ++ x → new ≡ r ++ 125 ∷ []
@@ -75,17 +66,9 @@ report_written inherited (tree m s c rs) source labels related old a b p k q r n
 
 -- ---- sources that always read
 
--- what a source that always reads can't do
-abbrev Reads : Option Source → Type 0
-Reads s = IfSome s (λ own. own.always_reads ≡ true)
-
 never : (s : Option Source) → Reads s → MayFail s → ⊥
 never None r f = f
 never (Some s) r f = cc
-
-effective_reads : (s inherited : Option Source) → Reads s → Reads inherited → Reads (effective s inherited)
-effective_reads None inherited r i = i
-effective_reads (Some own) inherited r i = r
 
 no_fault : (s : Option Source) (b : Bool) → (b ≡ true → MayFail s) → (MayFail s → ⊥) → b ≡ false
 no_fault s false f g = refl

@@ -7,7 +7,7 @@ use Rattle.std.proofs.lemmas.List.Quantifiers.{position-Some}
 use Rattle.std.specs.Char.{encode_utf8, digit_char, digit_value}
 use Rattle.std.specs.Fmt.{decimal}
 use Rattle.std.proofs.lemmas.Fmt.{decimal_by_steps}
-use Rattle.std.proofs.lemmas.Bool.{ltb-true, ltb-false, lt-ltb, le-ltb}
+use Rattle.std.proofs.lemmas.Bool.{ltb-true, ltb-false, lt-ltb, le-ltb, cases_lt}
 use Rattle.std.proofs.lemmas.Bool.Decides.{eqb_tells, nat_tests}
 use Rattle.std.proofs.lemmas.Str.{encode_ascii, digit_value-digit_char}
 use Rattle.miette_json.specs.rules.Json.{Json, number, string, array, object, Items, no_items, item, Members, no_members, member, digits_within, numeral, is_escaped, escape_letter, escaped_byte, escaped_text, quoted_text, json_text, items_text, more_items_text, members_text, more_members_text}
@@ -219,13 +219,6 @@ none_found xs false f g = all_plain xs (ltb-false (position_or_len is_escaped xs
 pub none_escaped : (xs : List ℕ) → None ≡ position is_escaped xs → escaped_text xs ≡ xs
 none_escaped xs e = none_found xs (nat_lt (position_or_len is_escaped xs) (length xs)) refl e
 
-ltb_split : (a b : ℕ) (t : Bool) → nat_lt a b ≡ t → (a < b) ⊎ (b ≤ a)
-ltb_split a b true e = inl (ltb-true a b e)
-ltb_split a b false e = inr (ltb-false a b e)
-
-pub ltb_cases : (a b : ℕ) → (a < b) ⊎ (b ≤ a)
-ltb_cases a b = ltb_split a b (nat_lt a b) refl
-
 -- a letter that has a short escape isn't among those that have none
 no_such : (x y : ℕ) → escape_letter x ≡ 0 → 0 < escape_letter y → x ≢ y
 no_such x y e h i = let same : escape_letter x ≡ escape_letter y = ap escape_letter i in omega arith
@@ -271,7 +264,7 @@ spells_byte x = elim (letter_cases x) [
     spelled = λ rest. ap (λ t. t ++ rest) (byte_short x l.above);
     means = ap (λ n. n ∷ []) l.back;
   }
-  | inr e ↦ elim (ltb_cases x 32) [
+  | inr e ↦ elim (cases_lt x 32) [
     | inl h ↦ low_byte x e h
     | inr h ↦ record {
       piece = plain x;

@@ -1,13 +1,14 @@
 -- Which texts and which values are UTF-8.
-use Rattle.std.proofs.Common.{◌≡◌, ◌≢◌, ◌⊎◌, inl, inr, ℕ, suc, ◌+◌, ◌-◌, ◌*◌, ◌/◌, ◌%◌, ◌<◌, ◌≤◌, Bool, true, false, List, [], ◌∷◌, ◌++◌, refl, sym, ap, ◌∙◌, subst, arith, append_assoc, append-nil, add-one, length, get_or, take, drop}
+use Rattle.std.proofs.Common.{◌≡◌, ◌≢◌, ◌⊎◌, inl, inr, ℕ, suc, ◌+◌, ◌-◌, ◌*◌, ◌/◌, ◌%◌, ◌<◌, ◌≤◌, Bool, true, false, List, [], ◌∷◌, ◌++◌, refl, sym, ap, ◌∙◌, subst, arith, append_assoc, append-nil, add-one, length, get_or, drop}
 use Rattle.std.specs.Prelude.{IsUtf8}
 use Rattle.std.specs.Char.{digit_char, digit_value, IsScalar}
-use Rattle.std.proofs.lemmas.Bool.{le-ltb}
+use Rattle.std.proofs.lemmas.Bool.{le-ltb, cases_lt}
 use Rattle.std.proofs.lemmas.Bool.Decides.{nat_tests}
 use Rattle.std.proofs.lemmas.Str.{encode_ascii, digit_value-digit_char, IsUtf8-nil, IsUtf8-append, IsUtf8-encode, IsUtf8-take, IsUtf8-drop, IsCharBoundary-before_ascii, IsCharBoundary-after_ascii}
+use Rattle.std.proofs.lemmas.List.{take_at}
 use Rattle.miette_json.specs.rules.Json.{Json, number, string, array, object, Items, no_items, item, Members, no_members, member, numeral, is_escaped, escape_letter, escaped_byte, escaped_text, quoted_text, json_text, items_text, more_items_text, members_text, more_members_text}
 use Rattle.miette_json.specs.rules.Denotes.{Token, mark, text, whole, tokens_then, items_then, more_items_then, members_then, more_members_then, StringPart, plain, short, unit, pair, short_for, IsHex, AreHex, hex, AreStringParts, all_written, all_meant, AreDigits, IsMark, AreBlank, IsBlank, IsString, Next, AreTokens, TextsAreUtf8, HasUtf8Texts}
-use Rattle.miette_json.proofs.JsonSpelled.{letter_cases, ltb_cases, byte_short, byte_low, byte_itself, escaped_is_ascii, number_spelled}
+use Rattle.miette_json.proofs.JsonSpelled.{letter_cases, byte_short, byte_low, byte_itself, escaped_is_ascii, number_spelled}
 
 -- ---- texts are cut at ASCII bytes
 
@@ -18,10 +19,6 @@ at_seam (y ∷ pre) rest x = at_seam pre rest x
 inside : (pre rest : List ℕ) (x : ℕ) → length pre < length (pre ++ x ∷ rest)
 inside [] rest x = omega arith
 inside (y ∷ pre) rest x = let h = inside pre rest x in omega (arith, h)
-
-front : (pre rest : List ℕ) → take (length pre) (pre ++ rest) ≡ pre
-front [] rest = refl
-front (y ∷ pre) rest = ap (λ l. y ∷ l) (front pre rest)
 
 behind : (pre rest : List ℕ) (x : ℕ) → drop (suc (length pre)) (pre ++ x ∷ rest) ≡ rest
 behind [] rest x = refl
@@ -34,7 +31,7 @@ cut pre rest x low u =
     let on : i < length bytes = inside pre rest x in
     let here : get_or bytes i 0 < 128 = subst (λ n. n < 128) (sym (at_seam pre rest x)) low in
     let back : drop (i + 1) bytes ≡ rest = ap (λ n. drop n bytes) (add-one i) ∙ behind pre rest x in (
-      subst IsUtf8 (front pre (x ∷ rest)) (IsUtf8-take bytes i u (IsCharBoundary-before_ascii bytes i on here)),
+      subst IsUtf8 (take_at pre (x ∷ rest) (length pre) refl) (IsUtf8-take bytes i u (IsCharBoundary-before_ascii bytes i on here)),
       subst IsUtf8 back (IsUtf8-drop bytes (i + 1) u (IsCharBoundary-after_ascii bytes i u on here)),
     )
 
@@ -67,7 +64,7 @@ hex_high : (x : ℕ) → 128 ≤ x → digit_value x ≡ 36
 hex_high x h = rw (le-ltb x 48 (omega arith), le-ltb x 58 (omega arith), le-ltb x 65 (omega arith), le-ltb x 91 (omega arith), le-ltb x 97 (omega arith), le-ltb x 123 (omega arith)) refl
 
 hex_low : (x : ℕ) → IsHex x → x < 128
-hex_low x h = elim (ltb_cases x 128) [ inl l ↦ l | inr l ↦ let e = hex_high x l in absurd (omega (arith, e, h)) ]
+hex_low x h = elim (cases_lt x 128) [ inl l ↦ l | inr l ↦ let e = hex_high x l in absurd (omega (arith, e, h)) ]
 
 digit_low : (d : ℕ) → d < 16 → digit_char d < 128
 digit_low d h = let e = digit_value-digit_char d (omega arith) in hex_low (digit_char d) (omega (arith, e))

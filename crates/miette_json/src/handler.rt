@@ -1,6 +1,6 @@
 //! The JSON report.
 
-ghost use Rattle.std.specs.Prelude.{◌≡◌, ◌++◌, List, ℕ, None, IfOk, OnOk, OnErr, string_bytes};
+ghost use Rattle.std.specs.Prelude.{◌≡◌, ◌++◌, None, IfOk, OnOk, OnErr, string_bytes};
 ghost use Rattle.miette_tree.specs.views.Report.{tree_of};
 ghost use Rattle.miette_json.specs.rules.Reads.{NamesAlwaysRead};
 ghost use Rattle.miette_json.specs.rules.JsonText.{IsJsonOf, value_text};

@@ -1,5 +1,6 @@
 -- The primary label among labels that were read, and the rows of groups one after the other.
-use Rattle.std.proofs.Common.{ℕ, Bool, suc, ◌≡◌, true, false, cond, List, [], ◌∷◌, map, Option, Some, None, refl, sym, ap, ◌∙◌, subst, arith, All}
+use Rattle.std.proofs.Common.{ℕ, Bool, ◌≡◌, true, false, cond, List, [], ◌∷◌, map, Option, Some, None, refl, sym, ap, ◌∙◌, subst, arith, All}
+use Rattle.std.proofs.lemmas.List.Elements.{All-tail}
 use Rattle.std.specs.List.{filter}
 use Rattle.std.specs.Option.{option_map}
 use Rattle.miette_protocol.specs.views.Meaning.{Label}
@@ -32,15 +33,12 @@ marked_primary [] = refl
 marked_primary (l ∷ ls) =
     by_cases {C = marked None (l ∷ ls) ≡ option_map (λ k. k.span) (primary_of (l ∷ ls))} l.primary (λ t. rw t refl) (λ f. rw f (marked_first l ls))
 
-tail_all : {X : Type 0} (P : X → Type 0) (x : X) (xs : List X) → All P (x ∷ xs) → All P xs
-tail_all P x xs h = λ k d lt. h (suc k) d (omega arith)
-
 chosen_marked : (context : ℕ) (source : Source) (labels : List Label) (own : Bool) (group : Span) (first : Option Span) (reads : List ReadLabel) → All (IsRead context source labels) reads →
     chosen_label own group first reads ≡ marked first (filter (is_within own group) (map (read_of labels) reads))
 chosen_marked context source labels own group first [] h = refl
 chosen_marked context source labels own group first (r ∷ rs) h =
     let mine : IsRead context source labels r = h 0 r (omega arith) in
-    let later : All (IsRead context source labels) rs = tail_all (IsRead context source labels) r rs h in
+    let later : All (IsRead context source labels) rs = All-tail (IsRead context source labels) r rs h in
     let l : Label = label_at labels r.index in
     let within : is_within own group l ≡ lies_within own group r.span = ap (lies_within own group) (sym mine.span) in
     by_cases {C = chosen_label own group first (r ∷ rs) ≡ marked first (filter (is_within own group) (map (read_of labels) (r ∷ rs)))} (lies_within own group r.span)
@@ -69,7 +67,7 @@ chosen_accepted : (context : ℕ) (source : Source) (labels : List Label) (own :
 chosen_accepted context source labels own group first [] k h = k
 chosen_accepted context source labels own group first (r ∷ rs) k h =
     let mine : IsRead context source labels r = h 0 r (omega arith) in
-    let later : All (IsRead context source labels) rs = tail_all (IsRead context source labels) r rs h in
+    let later : All (IsRead context source labels) rs = All-tail (IsRead context source labels) r rs h in
     by_cases {C = IfAccepted source.bytes (chosen_label own group first (r ∷ rs))} (lies_within own group r.span)
     (λ t. by_cases {C = IfAccepted source.bytes (chosen_label own group first (r ∷ rs))} r.primary
     (λ u. rw (t, u) mine.accepted)

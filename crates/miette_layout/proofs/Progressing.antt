@@ -5,7 +5,7 @@ use Rattle.std.proofs.Common.{ℕ, zero, suc, ◌+◌, ◌<◌, ◌≤◌, ◌�
 use Rattle.std.specs.Option.{option_map}
 use Rattle.std.specs.Prelude.{is_some, if◌then◌else◌}
 use Rattle.std.specs.Str.{chars}
-use Rattle.std.proofs.lemmas.List.{drop_all, length-map}
+use Rattle.std.proofs.lemmas.List.{drop_all, length-map, drop_more}
 use Rattle.miette_newlines.specs.rules.Lines.{Line}
 use Rattle.miette_protocol.specs.views.Meaning.{Label}
 use Rattle.miette_protocol.specs.rules.Reading.{Span, Source, Contents}
@@ -41,10 +41,11 @@ use Rattle.miette_lines.proofs.Bodies.{some_none}
 use Rattle.miette_layout.proofs.Choosing.{framed_place, place_is, unread_fails}
 use Rattle.miette_snippets.proofs.Ends.{placed_drawn}
 use Rattle.miette_snippets.proofs.Endings.{told_is, drawn_around}
-use Rattle.miette_drawing.proofs.Styling.{none_have, snippets_plain, calls_plain}
+use Rattle.miette_drawing.proofs.Styling.{snippets_plain, calls_plain}
 use Rattle.miette_lines.specs.views.Sweeping.{AreSorted}
 use Rattle.miette_drawing.proofs.Lending.{placed_sorted, lent_body, lent_texts, lent_texts_are}
 use Rattle.miette_snippets.proofs.Telling.{told_rows-append}
+use Rattle.miette_snippets.proofs.NoPieces.{none_have}
 use Rattle.miette_lines.proofs.Owning.{own_ordered}
 use Rattle.miette_lines.proofs.Refusing.{read_of, all_accepted}
 use Rattle.miette_lines.proofs.Sorting.{label_got}
@@ -94,11 +95,6 @@ puts_around s c blank happen texts spreads drawn lent place page more h = record
   is = h.is ∙ ap (λ rows. page ⊕ rows_tokens rows) (sym (snippet_around s c spreads drawn lent place h.pieces));
 }
 
-drop_at : {X : Type 0} (xs : List X) (i : ℕ) (d : X) → i < length xs → drop i xs ≡ get_or xs i d ∷ drop (i + 1) xs
-drop_at [] i d lt = absurd (omega (arith, lt))
-drop_at (x ∷ xs) zero d lt = refl
-drop_at (x ∷ xs) (suc i) d lt = let e : suc i + 1 ≡ suc (i + 1) = omega arith in rw e (drop_at xs i d (omega (arith, lt)))
-
 -- the rows of one group more
 group_step : (s : SnippetSettings) (spreads : List Spread) (source : Source) (labels : List Label) (groups : List Group) (i : ℕ) (group : Group) (pieces : List (List Highlight)) (later : List (List (List Highlight))) (page more : Printout) (drawn : List DrawnLabel) (place : Option Place) →
     spans_grouped (drop i groups) ≡ group.span ∷ spans_grouped (drop (i + 1) groups) → IsLent s.context source group.span group.contents →
@@ -120,7 +116,7 @@ pub drawn_more : (s : SnippetSettings) (spreads : List Spread) (source : Source)
     drawn ≡ drawn_labels s (length source.bytes) (in_order labels) → place ≡ place_of source group.span (in_order labels) →
     PutsRows blank (λ calls. Leads was (restarted group.contents ∷ calls) now) (lent_texts group.contents) (lent_snippet s spreads drawn group.contents place) page more → AreDrawn s spreads source labels blank begun now groups (i + 1) before more
 drawn_more s spreads source labels blank begun was now groups i group before page more drawn place h lt is lent d p e = λ later own.
-    let front : spans_grouped (drop i groups) ≡ group.span ∷ spans_grouped (drop (i + 1) groups) = ap spans_grouped (drop_at groups i group lt) ∙ ap (λ (g : Group). g.span ∷ spans_grouped (drop (i + 1) groups)) (sym is) in
+    let front : spans_grouped (drop i groups) ≡ group.span ∷ spans_grouped (drop (i + 1) groups) = ap spans_grouped (drop_more groups i group lt) ∙ ap (λ (g : Group). g.span ∷ spans_grouped (drop (i + 1) groups)) (sym is) in
     let mine : EachHasPieces blank (texts_of source.bytes (lines_of_contents (contents s.context source group.span))) e.pieces =
     subst (λ (ts : List (List ℕ)). EachHasPieces blank ts e.pieces) (ap lent_texts lent.is ∙ lent_texts_are s.context source group.span) e.are in
     let all = h (e.pieces ∷ later) (subst (λ (ss : List Span). SnippetsHavePieces s.context blank source ss (e.pieces ∷ later)) (sym front) (mine, own)) in
@@ -300,11 +296,6 @@ gives_refused s source labels order blank happen read index reason label text be
 pub groups_lent : (context : ℕ) (source : Source) (labels : List Label) (groups : List Group) (i : ℕ) (group : Group) → AreGroups context source labels groups → i < length groups → group ≡ get_or groups i group →
     IsLent (group_context context labels) source group.span group.contents
 groups_lent context source labels groups i group h lt is = subst (λ (g : Group). IsLent (group_context context labels) source g.span g.contents) (sym is) (h.lent i group lt)
-
--- groups that there are
-pub are_grouped : (context : ℕ) (source : Source) (labels : List Label) (r : Option (List Group)) (groups got : List Group) → AreGrouped context source labels r → r ≡ Some groups → got ≡ groups → AreGroups context source labels got
-are_grouped context source labels r groups got h is e =
-    subst (λ (gs : List Group). AreGroups context source labels gs) (sym e) (subst (λ (o : Option (List Group)). AreGrouped context source labels o) is h)
 
 pub none_grouped : (context : ℕ) (source : Source) (labels : List Label) (r : Option (List Group)) → AreGrouped context source labels r → r ≡ None → IsUnread context source labels
 none_grouped context source labels r h is = subst (λ (o : Option (List Group)). AreGrouped context source labels o) is h

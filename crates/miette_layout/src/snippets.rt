@@ -1,6 +1,6 @@
 //! The rows of a diagnostic's snippets.
 
-ghost use Rattle.std.specs.Prelude.{◌≡◌, [], List, Some, None, map, IfOk, MatchResult, if◌then◌else◌};
+ghost use Rattle.std.specs.Prelude.{◌≡◌, Some, None, map, IfOk, MatchResult, if◌then◌else◌};
 ghost use Rattle.std.specs.List.{All};
 ghost use Rattle.miette_layout.specs.views.Outcomes.{MayGive, RefusesWith};
 ghost use Rattle.miette_snippets.specs.views.ThemeSettings.{settings_of};

@@ -6,7 +6,8 @@ use Rattle.std.specs.List.{AllByRecursion}
 use Rattle.std.specs.List.Sorted.{IsNonDecreasingBy, IsStableByKey}
 use Rattle.std.specs.Ordering.{nat_cmp}
 use Rattle.std.proofs.lemmas.List.{map-append, take_more, drop_all}
-use Rattle.std.proofs.lemmas.List.Elements.{All-push}
+use Rattle.std.proofs.lemmas.List.Elements.{All-push, All-tail}
+use Rattle.std.proofs.lemmas.Bool.{or_parts}
 use Rattle.miette_newlines.specs.rules.Lines as P
 use Rattle.miette_newlines.specs.rules.Lines.{Line}
 use Rattle.miette_protocol.specs.views.Meaning.{Label}
@@ -26,7 +27,7 @@ use Rattle.miette_lines.proofs.Data.{cut}
 use Rattle.miette_lines.proofs.Bridge.{lines_same, end_same, some-context}
 use Rattle.miette_lines.proofs.NoFailures.{none_unread}
 use Rattle.miette_lines.proofs.Gathering.{joined_accepted}
-use Rattle.miette_lines.proofs.Owning.{own_ordered, neither, none_around}
+use Rattle.miette_lines.proofs.Owning.{own_ordered, none_around}
 use Rattle.miette_lines.proofs.Refusing.{read_of}
 use Rattle.miette_lines.proofs.Sorting.{put, sorted, sort_is}
 use Rattle.miette_lines.specs.steps.Reads.{AreJoined}
@@ -144,14 +145,11 @@ reads_accepted context source labels reads h = λ k d lt.
 
 -- ---- groups of labels
 
-tail_all : {X : Type 0} (P : X → Type 0) (x : X) (xs : List X) → All P (x ∷ xs) → All P xs
-tail_all P x xs h = λ k d lt. h (suc k) d (omega arith)
-
 reads_stretched : (context : ℕ) (source : Source) (labels : List Label) (reads : List ReadLabel) → All (IsRead context source labels) reads → stretches_read reads ≡ map (stretch context source labels) (map (read_of labels) reads)
 reads_stretched context source labels [] h = refl
 reads_stretched context source labels (r ∷ rs) h =
     let own : IsRead context source labels r = h 0 r (omega arith) in
-    ap₂ (λ x xs. x ∷ xs) (ap (λ (c : Contents). c.span) own.contents_are) (reads_stretched context source labels rs (tail_all (IsRead context source labels) r rs h))
+    ap₂ (λ x xs. x ∷ xs) (ap (λ (c : Contents). c.span) own.contents_are) (reads_stretched context source labels rs (All-tail (IsRead context source labels) r rs h))
 
 -- as the definition takes them
 pub stretched : (context : ℕ) (source : Source) (labels : List Label) (reads : List ReadLabel) → map (read_of labels) reads ≡ in_order labels → All (IsRead context source labels) reads →
@@ -194,8 +192,8 @@ grouped_own items context source labels reads own r order h which t given =
 
 none_at : (labels : List Label) (i : ℕ) → has_own labels ≡ false → i < length labels → is_some (label_at labels i).context ≡ false
 none_at [] i f lt = absurd (omega (arith, lt))
-none_at (l ∷ ls) zero f lt = (neither (is_some l.context) (has_own ls) f).0
-none_at (l ∷ ls) (suc i) f lt = none_at ls i (neither (is_some l.context) (has_own ls) f).1 (omega (arith, lt))
+none_at (l ∷ ls) zero f lt = (or_parts (is_some l.context) (has_own ls) f).0
+none_at (l ∷ ls) (suc i) f lt = none_at ls i (or_parts (is_some l.context) (has_own ls) f).1 (omega (arith, lt))
 
 pub all_lent : (context : ℕ) (source : Source) (labels : List Label) (reads : List ReadLabel) (own : Bool) → own ≡ has_own labels → own ≡ false → All (IsRead context source labels) reads →
     All (λ label. IsLent context source label.span label.contents) reads
@@ -213,7 +211,7 @@ spans_same : (context : ℕ) (source : Source) (labels : List Label) (reads : Li
 spans_same context source labels [] h = refl
 spans_same context source labels (r ∷ rs) h =
     let own : IsRead context source labels r = h 0 r (omega arith) in
-    ap₂ (λ x xs. x ∷ xs) own.span (spans_same context source labels rs (tail_all (IsRead context source labels) r rs h))
+    ap₂ (λ x xs. x ∷ xs) own.span (spans_same context source labels rs (All-tail (IsRead context source labels) r rs h))
 
 pub grouped_joined : (context : ℕ) (source : Source) (labels : List Label) (reads : List ReadLabel) (own : Bool) (groups : List Group) → map (read_of labels) reads ≡ in_order labels → All (IsRead context source labels) reads →
     own ≡ has_own labels → own ≡ false → AreJoined context source (map (λ r. r.span) reads) groups → AreGroups context source (in_order labels) groups
@@ -228,3 +226,8 @@ grouped_joined context source labels reads own groups order h which f g =
       read = ap (λ b. b && some_fails g.fails (groups_of context source g.fails ls)) none;
       lent = subst (λ (c : ℕ). All (λ group. IsLent c source group.span group.contents) groups) (sym (ap (λ b. cond b 0 context) none)) g.lent;
     }
+
+-- groups that there are
+pub are_grouped : (context : ℕ) (source : Source) (labels : List Label) (r : Option (List Group)) (groups got : List Group) → AreGrouped context source labels r → r ≡ Some groups → got ≡ groups → AreGroups context source labels got
+are_grouped context source labels r groups got h is e =
+    subst (λ (gs : List Group). AreGroups context source labels gs) (sym e) (subst (λ (o : Option (List Group)). AreGrouped context source labels o) is h)

@@ -1,7 +1,7 @@
 -- Groups so far: what is done, and the group that a next label may join.
-use Rattle.std.proofs.Common.{ℕ, zero, suc, ◌+◌, ◌<◌, ◌≤◌, ◌≡◌, Bool, true, false, cond, List, [], ◌∷◌, ◌++◌, length, map, drop, get_or, Option, Some, None, refl, sym, ap, ◌∙◌, subst, arith, All, append_assoc, append-nil}
+use Rattle.std.proofs.Common.{ℕ, suc, ◌+◌, ◌<◌, ◌≤◌, ◌≡◌, Bool, true, false, cond, List, [], ◌∷◌, ◌++◌, length, map, drop, get_or, Option, Some, None, refl, sym, ap, ◌∙◌, subst, arith, All, append_assoc, append-nil}
 use Rattle.std.specs.Prelude.{MatchOption}
-use Rattle.std.proofs.lemmas.List.{map-append, drop_all}
+use Rattle.std.proofs.lemmas.List.{map-append, drop_all, drop_more}
 use Rattle.std.proofs.lemmas.List.Elements.{All-push}
 use Rattle.miette_protocol.specs.rules.Reading.{Span, Source, IsAccepted}
 use Rattle.miette_lines.specs.declared.grouping.Group.{Group}
@@ -117,11 +117,6 @@ gathered_all context source spans done more before h e =
 
 -- the loop's steps
 
-drop_at : {X : Type 0} (xs : List X) (i : ℕ) (d : X) → i < length xs → drop i xs ≡ get_or xs i d ∷ drop (i + 1) xs
-drop_at [] i d lt = absurd (omega (arith, lt))
-drop_at (x ∷ xs) zero d lt = refl
-drop_at (x ∷ xs) (suc i) d lt = let e : suc i + 1 ≡ suc (i + 1) = omega arith in rw e (drop_at xs i d (omega (arith, lt)))
-
 abbrev pub spans_read : List ReadLabel → List Span
 spans_read reads = map (λ label. label.span) reads
 
@@ -152,7 +147,7 @@ own_step : (context : ℕ) (source : Source) (labels rest : List ReadLabel) (ite
     AreGathered context source (spans_read labels) (spans_read (drop i rest)) done before → AreGathered context source (spans_read labels) (item.span ∷ spans_read (drop (i + 1) rest)) done before
 own_step context source labels rest item i done before lt is h =
     subst (λ (xs : List Span). AreGathered context source (spans_read labels) xs done before)
-    (ap spans_read (drop_at rest i item lt) ∙ ap (λ (r : ReadLabel). r.span ∷ spans_read (drop (i + 1) rest)) (sym is)) h
+    (ap spans_read (drop_more rest i item lt) ∙ ap (λ (r : ReadLabel). r.span ∷ spans_read (drop (i + 1) rest)) (sym is)) h
 
 pub loop_join : (context : ℕ) (source : Source) (labels rest : List ReadLabel) (item : ReadLabel) (i : ℕ) (done : List Group) (before next : Group) → i < length rest → item ≡ get_or rest i item →
     AreGathered context source (spans_read labels) (spans_read (drop i rest)) done before →

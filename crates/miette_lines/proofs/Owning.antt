@@ -1,5 +1,5 @@
 -- Labels of which some have their own context lines.
-use Rattle.std.proofs.Common.{ℕ, ◌≡◌, max, Bool, true, false, cond, leb, List, [], ◌∷◌, ◌||◌, Option, Some, None, refl, ap, ◌∙◌}
+use Rattle.std.proofs.Common.{ℕ, ◌≡◌, max, Bool, false, cond, leb, List, [], ◌∷◌, ◌||◌, Option, Some, None, refl, ap, ◌∙◌}
 use Rattle.std.specs.Prelude.{unwrap_or, is_some}
 use Rattle.std.specs.List.{list_any}
 use Rattle.miette_protocol.specs.views.Meaning.{Label}
@@ -31,7 +31,3 @@ around_none context own (Some n) e h = cc
 
 pub none_around : (context : ℕ) (all : List Label) (label : Label) → has_own all ≡ false → is_some label.context ≡ false → lines_around context all label ≡ context
 none_around context all label e h = around_none context (has_own all) label.context e h
-
-pub neither : (x y : Bool) → (x || y) ≡ false → (x ≡ false) × (y ≡ false)
-neither true y h = cc
-neither false y h = (refl, h)

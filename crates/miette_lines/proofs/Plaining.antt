@@ -1,8 +1,9 @@
 -- Texts of printable ASCII characters.
-use Rattle.std.proofs.Common.{ℕ, ◌<◌, ◌≤◌, ◌≡◌, true, false, leb, ltb, eqb, List, ◌∷◌, length, refl, sym, ap, arith}
+use Rattle.std.proofs.Common.{ℕ, ◌<◌, ◌≤◌, ◌≡◌, true, false, leb, ltb, eqb, List, ◌∷◌, length, refl, sym, ap, arith, zero, suc, [], take}
 use Rattle.std.specs.Prelude.{slice_index}
+use Rattle.std.specs.List.{list_all}
 use Rattle.std.specs.Int.{is_in_range}
-use Rattle.std.proofs.lemmas.Bool.{and_parts}
+use Rattle.std.proofs.lemmas.Bool.{and_parts, leb-true, ltb-true, ne_eqb}
 use Rattle.std.proofs.lemmas.Bool.Decides.{nat_tests}
 use Rattle.unicode_width.specs.Width.{char_width}
 use Rattle.bstr.specs.Utf8.{decoded, good, or_replacement}
@@ -19,21 +20,12 @@ pub record IsPlain (b : ℕ) : Type 0 where
   pub escape : eqb b 27 ≡ false
   pub tab : eqb b 9 ≡ false
 
-pub from_le : (a b : ℕ) → leb a b ≡ true → a ≤ b
-from_le a b h = grind (arith, nat_tests)
-
-pub from_lt : (a b : ℕ) → ltb a b ≡ true → a < b
-from_lt a b h = grind (arith, nat_tests)
-
-pub apart : (a b : ℕ) → (a ≡ b → ⊥) → eqb a b ≡ false
-apart a b h = grind (arith, nat_tests)
-
 pub plain_byte : (b : ℕ) → is_printable b ≡ true → IsPlain b
 plain_byte b h =
     let parts = and_parts (leb 32 b) (ltb b 127) h in
-    let low : 32 ≤ b = from_le 32 b parts.0 in
-    let high : b < 127 = from_lt b 127 parts.1 in
-    record { low = low; high = high; escape = apart b 27 (omega arith); tab = apart b 9 (omega arith) }
+    let low : 32 ≤ b = leb-true 32 b parts.0 in
+    let high : b < 127 = ltb-true b 127 parts.1 in
+    record { low = low; high = high; escape = ne_eqb b 27 (omega arith); tab = ne_eqb b 9 (omega arith) }
 
 -- each has one column
 pub one_column : (b : ℕ) → is_printable b ≡ true → width_of b ≡ 1
@@ -54,3 +46,8 @@ printable_character b bs h =
 
 pub printable_in_range : (b : ℕ) → is_printable b ≡ true → is_in_range 0x20 0x7E b ≡ true
 printable_in_range b h = grind (arith, nat_tests)
+
+pub printable_taken : (n : ℕ) (bs : List ℕ) → list_all is_printable bs ≡ true → list_all is_printable (take n bs) ≡ true
+printable_taken zero bs h = refl
+printable_taken (suc n) [] h = refl
+printable_taken (suc n) (b ∷ bs) h = let parts = and_parts (is_printable b) (list_all is_printable bs) h in rw (parts.0) (printable_taken n bs parts.1)

@@ -1,6 +1,6 @@
 //! Labels as they are drawn.
 
-ghost use Rattle.std.specs.Prelude.{option_copied, ◌≡◌, ℕ, List, IfOk};
+ghost use Rattle.std.specs.Prelude.{option_copied, ◌≡◌, IfOk};
 ghost use Rattle.miette_lines.specs.rules.Labels.{style_at};
 ghost use Rattle.miette_lines.specs.views.GivenLabels.{text_at};
 ghost use Rattle.miette_lines.specs.views.Placing.{placed_from, placed_one, end_drawn, is_told, lends_before, told_end};

@@ -1,6 +1,6 @@
 //! Where a snippet's frame points to.
 
-ghost use Rattle.std.specs.Prelude.{◌≡◌, ℕ, List, None, IfOk};
+ghost use Rattle.std.specs.Prelude.{◌≡◌, None, IfOk};
 ghost use Rattle.std.specs.List.Sorted.{IsNonDecreasingBy};
 ghost use Rattle.miette_lines.specs.views.Primary.{chosen_label, end_within as end_of_label, PointsTo};
 

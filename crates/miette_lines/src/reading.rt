@@ -1,6 +1,6 @@
 //! Each label read with its context.
 
-ghost use Rattle.std.specs.Prelude.{◌≡◌, ◌<◌, ℕ, List, map, length, IfOk, unwrap_or, if◌then◌else◌, max};
+ghost use Rattle.std.specs.Prelude.{◌≡◌, ◌<◌, map, length, IfOk, unwrap_or, if◌then◌else◌, max};
 ghost use Rattle.std.specs.List.{All};
 ghost use Rattle.miette_lines.specs.rules.Around.{has_own};
 ghost use Rattle.miette_lines.specs.views.GivenLabels.{label_at};

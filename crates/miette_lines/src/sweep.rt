@@ -1,8 +1,8 @@
 //! Which labels lie on a line, by one sweep over labels that come by offset.
 
-ghost use Rattle.std.specs.Prelude.{◌≡◌, ◌<◌, ◌≤◌, nat_lt, ℕ, List, [], length, take, OnOk, IfOk};
+ghost use Rattle.std.specs.Prelude.{◌≡◌, ◌<◌, [], OnOk, IfOk};
 ghost use Rattle.std.specs.List.{filter};
-ghost use Rattle.miette_lines.specs.views.Sweeping.{label_of, passes, is_one, is_multi, IsAt, IsOn, AreSorted};
+ghost use Rattle.miette_lines.specs.views.Sweeping.{passes, is_one, is_multi, IsAt, IsOn, AreSorted};
 ghost use Rattle.miette_lines.specs.views.Sweeping.{line_of_bounds};
 
 use miette_style::style::Style;

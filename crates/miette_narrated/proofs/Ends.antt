@@ -6,13 +6,14 @@ use Rattle.std.specs.Ordering.{nat_cmp}
 use Rattle.std.proofs.lemmas.Bool.{leb-true, le-leb, ne_eqb, eqb-true, and_right}
 use Rattle.std.proofs.lemmas.Bool.Decides.{nat_tests}
 use Rattle.std.proofs.lemmas.List.Elements.{filter_agree}
+use Rattle.std.proofs.Math.Bool.{and_comm}
 use Rattle.miette_newlines.specs.rules.Lines.{Line}
 use Rattle.miette_lines.specs.declared.sweep.PlacedLabel.{PlacedLabel}
 use Rattle.miette_lines.proofs.Sorting.{put, sorted, Rises, at_key, same_list, sorted_rises, sorted_at, rises_from, sort_is}
+use Rattle.miette_lines.proofs.Numbers.{by_cases}
 use Rattle.miette_narrated.specs.declared.label_order.RankedLabel.{RankedLabel}
 use Rattle.miette_narrated.specs.steps.Ends.{ends_within, is_ended, ranked_labels, AreEnds}
 use Rattle.miette_narrated.specs.steps.Sweeping.{BeginsFrom, AreOrdered}
-use Rattle.miette_narrated.proofs.Sweeps.{by_cases}
 
 -- ---- elements of a list between two of its places
 
@@ -41,14 +42,8 @@ filter_both p q (x ∷ xs) =
     (λ t. by_cases {C = filter p (filter q (x ∷ xs)) ≡ filter (λ y. p y && q y) (x ∷ xs)} (p x) (λ u. rw (t, u) (ap (λ r. x ∷ r) (filter_both p q xs))) (λ v. rw (t, v) (filter_both p q xs)))
     (λ f. by_cases {C = filter p (filter q (x ∷ xs)) ≡ filter (λ y. p y && q y) (x ∷ xs)} (p x) (λ u. rw (f, u) (filter_both p q xs)) (λ v. rw (f, v) (filter_both p q xs)))
 
-and_turn : (a b : Bool) → (a && b) ≡ (b && a)
-and_turn true true = refl
-and_turn true false = refl
-and_turn false true = refl
-and_turn false false = refl
-
 filter_turn : {X : Type 0} (p q : X → Bool) (xs : List X) → filter p (filter q xs) ≡ filter q (filter p xs)
-filter_turn p q xs = filter_both p q xs ∙ filter_agree (λ x. p x && q x) (λ x. q x && p x) (λ x. and_turn (p x) (q x)) xs ∙ sym (filter_both q p xs)
+filter_turn p q xs = filter_both p q xs ∙ filter_agree (λ x. p x && q x) (λ x. q x && p x) (λ x. and_comm (p x) (q x)) xs ∙ sym (filter_both q p xs)
 
 -- ---- a test and a sort
 

@@ -1,9 +1,8 @@
 -- Characters that take no columns, one behind another at the end of a text: only the first one is seen from before it.
-use Rattle.std.proofs.Common.{ℕ, ◌+◌, ◌<◌, ◌≤◌, ◌≡◌, Bool, true, false, cond, not, ◌&&◌, ◌||◌, ◌==◌, nat_le, nat_lt, List, [], ◌∷◌, ◌++◌, None, refl, sym, ap, subst, add-zero, ◌∙◌, arith, eqb-true, inl, inr}
-use Rattle.std.specs.Prelude.{if◌then◌else◌}
+use Rattle.std.proofs.Common.{ℕ, ◌+◌, ◌<◌, ◌≡◌, Bool, true, false, cond, not, ◌&&◌, ◌==◌, nat_lt, List, [], ◌∷◌, ◌++◌, None, refl, sym, ap, subst, add-zero, ◌∙◌, arith, eqb-true, inl, inr}
 use Rattle.std.specs.Int.{is_in_range}
 use Rattle.std.specs.List.{list_all}
-use Rattle.std.proofs.lemmas.Bool.{true≢false, and_parts, and_right, or_parts, cases_lt, le-ltb, lt-leb, ne_eqb}
+use Rattle.std.proofs.lemmas.Bool.{true≢false, and_parts, and_right, or_parts, cases_lt, le-ltb, lt-leb, ne_eqb, not-true}
 use Rattle.ucd_table.specs.Rows.{in_ranges}
 use Rattle.ucd_table.proofs.Stepped.{Stepped, of_ranges, zip_stepped}
 use Rattle.ucd_table.proofs.Facts.{always, ends_by, Stepped-everywhere}
@@ -14,14 +13,14 @@ use Rattle.unicode_width.specs.declared.kind.Kind.TheVariants as kinds
 use Rattle.unicode_width.specs.declared.state.After.TheVariants as afters
 use Rattle.unicode_width.specs.declared.state.State.{State}
 use Rattle.unicode_width.specs.Kind.{kind, is_text_presentation_base}
-use Rattle.unicode_width.specs.Width.{before, plain, of_kind, single, alone, joins, Reading, added, if_kept, is_joined_emoji, is_plain, past_selectors, in_context, past_emoji, step, read_before, str_width}
+use Rattle.unicode_width.specs.Width.{before, plain, of_kind, single, alone, joins, Reading, added, is_plain, past_selectors, in_context, past_emoji, step, read_before, str_width}
 use Rattle.unicode_width.proofs.KindLemmas.{kind_stepped, is_text_presentation_base_stepped}
 use Rattle.unicode_width.proofs.Computing.{unicode_width}
 use Rattle.miette_lines.specs.views.GivenLabels.{width_of}
+use Rattle.miette_lines.proofs.Numbers.{by_cases}
 use Rattle.miette_narrated.specs.steps.Trails.{is_faint}
-use Rattle.miette_narrated.proofs.Lone.{read_append, from_not}
+use Rattle.miette_narrated.proofs.Lone.{read_append}
 use Rattle.miette_narrated.proofs.PartedTexts.{width_high}
-use Rattle.miette_narrated.proofs.Sweeps.{by_cases}
 
 -- ---- what such a character leaves to be read: nothing but selectors
 
@@ -119,7 +118,7 @@ faint_not : (p : ℕ → Bool) (s : Stepped p) → unlike p s ≡ true → (c : 
 unfolding unicode_width
 faint_not p s ok c h =
     let both = zip_stepped (λ k b. not (is_faint_kind k && b)) kind p kind_stepped s in
-    from_not (p c) (subst (λ a. not (a && p c) ≡ true) h (Stepped-everywhere _ both ok c))
+    not-true (p c) (subst (λ a. not (a && p c) ≡ true) h (Stepped-everywhere _ both ok c))
 
 no_variation : (c : ℕ) → is_faint_kind (kind c) ≡ true → is_emoji_variation_base c ≡ false
 unfolding unicode_width

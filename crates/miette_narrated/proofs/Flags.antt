@@ -3,7 +3,8 @@
 use Rattle.std.proofs.Common.{ℕ, ◌+◌, ◌-◌, ◌<◌, ◌≡◌, Bool, true, false, cond, not, ◌&&◌, ◌==◌, nat_le, ◌⊎◌, List, [], ◌∷◌, ◌++◌, length, Option, Some, None, refl, sym, ap, subst, ◌∙◌, append_assoc, append-nil, arith, inl, inr}
 use Rattle.std.specs.Prelude.{if◌then◌else◌, chars}
 use Rattle.std.specs.Int.{is_in_range}
-use Rattle.std.proofs.lemmas.Bool.{true≢false, ne_eqb, or_parts, and_parts, and_right, le-leb}
+use Rattle.std.proofs.lemmas.Bool.{true≢false, ne_eqb, or_parts, and_parts, and_right, le-leb, not-true}
+use Rattle.miette_lines.proofs.Numbers.{by_cases}
 use Rattle.ucd_table.specs.Rows.{Range, in_ranges}
 use Rattle.ucd_table.proofs.Stepped.{Stepped, of_ranges, map_stepped, zip_stepped}
 use Rattle.ucd_table.proofs.Facts.{always, ends_by, Stepped-everywhere}
@@ -26,8 +27,7 @@ use Rattle.miette_narrated.specs.declared.overlap.Overlap.{Overlap}
 use Rattle.miette_narrated.specs.declared.overlap.Overlap.TheVariants.{Nothing, One, Selected}
 use Rattle.miette_narrated.specs.steps.Parting.{may_part_flags}
 use Rattle.miette_narrated.specs.steps.Places.{overlap_text, IsHeld}
-use Rattle.miette_narrated.proofs.Lone.{read_append, shifted, from_not, or_false}
-use Rattle.miette_narrated.proofs.Sweeps.{by_cases}
+use Rattle.miette_narrated.proofs.Lone.{read_append, shifted, or_false}
 
 -- ---- what an indicator is not
 
@@ -48,7 +48,7 @@ indicator_not : (p : ℕ → Bool) (s : Stepped p) → never p s ≡ true → (c
 unfolding unicode_width
 indicator_not p s ok c h =
     let both = zip_stepped (λ a b. not (a && b)) (in_ranges indicator_ranges) p (of_ranges indicator_ranges refl) s in
-    from_not (p c) (subst (λ a. not (a && p c) ≡ true) (sym (ranged c) ∙ h) (Stepped-everywhere _ both ok c))
+    not-true (p c) (subst (λ a. not (a && p c) ≡ true) (sym (ranged c) ∙ h) (Stepped-everywhere _ both ok c))
 
 no_variation : (c : ℕ) → is_indicator c ≡ true → is_emoji_variation_base c ≡ false
 unfolding unicode_width
@@ -438,5 +438,5 @@ flags_part text last code half h part later =
     let both = and_parts (not half) (is_indicator last && is_indicator code) part in
     let ends = and_parts (is_indicator last) (is_indicator code) both.1 in
     ap (λ cs. str_width false (cs ++ code ∷ later)) h.is
-    ∙ flags_parted h.front h.flags later code h.free h.all (h.half ∙ from_not half both.0) (h.some ends.0) ends.1
+    ∙ flags_parted h.front h.flags later code h.free h.all (h.half ∙ not-true half both.0) (h.some ends.0) ends.1
     ∙ ap (λ cs. str_width false cs + str_width false (code ∷ later)) (sym h.is)

@@ -1,9 +1,8 @@
 -- Skin tones, and letters that nothing behind them joins: they leave the same to be read, whatever stands behind them but a selector or a
 -- skin tone.
-use Rattle.std.proofs.Common.{ℕ, ◌+◌, ◌<◌, ◌≤◌, ◌≡◌, Bool, true, false, cond, not, ◌&&◌, ◌||◌, ◌==◌, nat_le, List, [], ◌∷◌, Option, Some, None, refl, sym, ap, subst, ◌∙◌, arith, inl, inr}
-use Rattle.std.specs.Prelude.{if◌then◌else◌}
+use Rattle.std.proofs.Common.{ℕ, ◌≡◌, Bool, true, false, not, ◌&&◌, ◌||◌, ◌==◌, nat_le, List, [], ◌∷◌, Some, None, refl, sym, ap, subst, ◌∙◌, arith, inl, inr}
 use Rattle.std.specs.Int.{is_in_range}
-use Rattle.std.proofs.lemmas.Bool.{true≢false, or_parts, and_right, cases_lt, le-leb, ne_eqb}
+use Rattle.std.proofs.lemmas.Bool.{true≢false, or_parts, and_right, cases_lt, le-leb, ne_eqb, not-true}
 use Rattle.ucd_table.specs.Rows.{Range, in_ranges}
 use Rattle.ucd_table.proofs.Stepped.{Stepped, of_ranges, map_stepped, zip_stepped}
 use Rattle.ucd_table.proofs.Facts.{always, ends_by, Stepped-everywhere}
@@ -18,14 +17,13 @@ use Rattle.unicode_width.specs.declared.kind.Kind.TheVariants as kinds
 use Rattle.unicode_width.specs.declared.state.After.{After}
 use Rattle.unicode_width.specs.declared.state.After.TheVariants as afters
 use Rattle.unicode_width.specs.declared.state.State.{State}
-use Rattle.unicode_width.specs.declared.state.Change.{Change}
 use Rattle.unicode_width.specs.declared.state.Change.TheVariants.{Same}
 use Rattle.unicode_width.specs.Kind.{kind, is_ligature_transparent}
 use Rattle.unicode_width.specs.Width.{before, of_kind, alone, before_alef, is_lam, is_emoji, joins, step}
 use Rattle.unicode_width.proofs.KindLemmas.{kind_stepped, is_ligature_transparent_stepped}
 use Rattle.unicode_width.proofs.Computing.{unicode_width}
 use Rattle.miette_narrated.specs.steps.Parting.{is_keeping}
-use Rattle.miette_narrated.proofs.Lone.{from_not, or_false, or_turn}
+use Rattle.miette_narrated.proofs.Lone.{or_false, or_turn}
 use Rattle.miette_narrated.proofs.Opening.{is_modifier, is_tone, IsOpen}
 use Rattle.miette_narrated.proofs.Overlaps.{JoinsOwn, either, IsApart, step_apart}
 
@@ -48,7 +46,7 @@ keeping_not : (p : ℕ → Bool) (s : Stepped p) → never p s ≡ true → (c :
 unfolding unicode_width
 keeping_not p s ok c h =
     let both = zip_stepped (λ a b. not (a && b)) (in_ranges keeping_ranges) p (of_ranges keeping_ranges refl) s in
-    from_not (p c) (subst (λ a. not (a && p c) ≡ true) (sym (ranged c) ∙ h) (Stepped-everywhere _ both ok c))
+    not-true (p c) (subst (λ a. not (a && p c) ≡ true) (sym (ranged c) ∙ h) (Stepped-everywhere _ both ok c))
 
 no_transparent : (c : ℕ) → is_keeping c ≡ true → is_ligature_transparent c ≡ false
 unfolding unicode_width

@@ -6,11 +6,12 @@ use Rattle.std.proofs.lemmas.Bool.Decides.{nat_tests}
 use Rattle.miette_protocol.specs.views.Meaning.{Label}
 use Rattle.miette_newlines.specs.rules.Lines.{Line}
 use Rattle.miette_lines.specs.declared.sweep.PlacedLabel.{PlacedLabel}
+use Rattle.miette_lines.proofs.Numbers.{by_cases}
 use Rattle.miette_narrated.specs.rules.Labels.{SnippetLine, label_row, label_rows}
 use Rattle.miette_narrated.specs.steps.Ends.{is_ended, is_begun}
 use Rattle.miette_narrated.specs.steps.Conversions.{range_of, ranges_of}
 use Rattle.miette_narrated.specs.steps.Sweeping.{BeginsFrom, AreOrdered}
-use Rattle.miette_narrated.proofs.Sweeps.{by_cases, lower, row_beyond}
+use Rattle.miette_narrated.proofs.Sweeps.{lower, row_beyond}
 
 row_before : (it : SnippetLine) (labels : List Label) (p : PlacedLabel) → it.is_last ≡ false → leb it.line.start p.start ≡ false → (leb it.line.start p.after && leb p.after it.line.text_end) ≡ false →
     label_row it (range_of labels p) ≡ []

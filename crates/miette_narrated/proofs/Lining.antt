@@ -1,5 +1,5 @@
 -- The rows of lines, one line after the other.
-use Rattle.std.proofs.Common.{ℕ, ◌+◌, ◌-◌, ◌<◌, ◌≤◌, ◌≡◌, Bool, true, false, List, [], ◌∷◌, ◌++◌, length, drop, eqb, refl, sym, ap, ◌∙◌, subst, append_assoc, append-nil, arith}
+use Rattle.std.proofs.Common.{ℕ, ◌+◌, ◌-◌, ◌≤◌, ◌≡◌, Bool, false, List, [], ◌∷◌, ◌++◌, length, drop, eqb, refl, sym, ap, ◌∙◌, subst, append_assoc, append-nil, arith}
 use Rattle.std.specs.Prelude.{slice_index}
 use Rattle.std.proofs.lemmas.Bool.{ne_eqb, eq-eqb, eqb-true, eqb-false}
 use Rattle.std.proofs.lemmas.List.{length-drop}
@@ -8,8 +8,8 @@ use Rattle.miette_newlines.specs.declared.lines.LineOfText.{LineOfText}
 use Rattle.miette_newlines.specs.views.Walking.{Rest, IsFirst, behind, line_of_text, lines_left}
 use Rattle.miette_protocol.specs.rules.Reading.{Contents}
 use Rattle.miette_lines.specs.rules.Contexts.{lines_of_contents}
+use Rattle.miette_lines.proofs.Numbers.{by_cases}
 use Rattle.miette_narrated.specs.rules.Labels.{LabelRange, SnippetLine}
-use Rattle.miette_narrated.proofs.Sweeps.{by_cases}
 use Rattle.miette_narrated.specs.rules.Lines.{snippet_line, rows_of_line, rows_of_lines}
 use Rattle.miette_style.specs.rules.Codes.{is_nil}
 

@@ -3,7 +3,8 @@ use Rattle.std.proofs.Common.{ℕ, zero, suc, ◌+◌, ◌<◌, ◌≤◌, ◌�
 use Rattle.std.specs.Prelude.{if◌then◌else◌}
 use Rattle.std.specs.Int.{is_in_range}
 use Rattle.std.specs.List.{list_all}
-use Rattle.std.proofs.lemmas.Bool.{true≢false, ne_eqb, or_parts, and_right, cases_lt, cond-true, cond-false, le-leb, lt-leb}
+use Rattle.std.proofs.lemmas.Bool.{true≢false, ne_eqb, or_parts, and_right, cases_lt, cond-true, cond-false, le-leb, lt-leb, not-true}
+use Rattle.miette_lines.proofs.Numbers.{by_cases}
 use Rattle.ucd_table.specs.Rows.{Range, in_ranges}
 use Rattle.ucd_table.proofs.Stepped.{Stepped, of_ranges, map_stepped, zip_stepped}
 use Rattle.ucd_table.proofs.Facts.{always, ends_by, Stepped-everywhere}
@@ -23,7 +24,6 @@ use Rattle.unicode_width.proofs.KindLemmas.{kind_stepped, is_ligature_transparen
 use Rattle.unicode_width.proofs.Computing.{unicode_width}
 use Rattle.unicode_width.proofs.Rules.{is_simple, str_width-append_simple}
 use Rattle.miette_narrated.specs.steps.Parting.{is_lone}
-use Rattle.miette_narrated.proofs.Sweeps.{by_cases}
 
 -- ---- what such a character is not
 
@@ -50,15 +50,11 @@ never p s =
     let both = zip_stepped (λ a b. not (a && b)) (in_ranges lone_ranges) p (of_ranges lone_ranges refl) s in
     always _ both && (ends_by 0x11_0000 both.steps && both.default)
 
-pub from_not : (b : Bool) → not b ≡ true → b ≡ false
-from_not true e = sym e
-from_not false e = refl
-
 lone_not : (p : ℕ → Bool) (s : Stepped p) → never p s ≡ true → (c : ℕ) → is_lone c ≡ true → p c ≡ false
 unfolding unicode_width
 lone_not p s ok c h =
     let both = zip_stepped (λ a b. not (a && b)) (in_ranges lone_ranges) p (of_ranges lone_ranges refl) s in
-    from_not (p c) (subst (λ a. not (a && p c) ≡ true) (sym (ranged c) ∙ h) (Stepped-everywhere _ both ok c))
+    not-true (p c) (subst (λ a. not (a && p c) ≡ true) (sym (ranged c) ∙ h) (Stepped-everywhere _ both ok c))
 
 no_variation : (c : ℕ) → is_lone c ≡ true → is_emoji_variation_base c ≡ false
 unfolding unicode_width

@@ -2,7 +2,7 @@
 use Rattle.std.proofs.Common.{ℕ, ◌+◌, ◌≡◌, Bool, true, false, cond, not, ◌&&◌, ◌||◌, ◌==◌, nat_le, List, [], ◌∷◌, Option, Some, None, refl, sym, ap, subst, ◌∙◌}
 use Rattle.std.specs.Prelude.{if◌then◌else◌}
 use Rattle.std.specs.Int.{is_in_range}
-use Rattle.std.proofs.lemmas.Bool.{true≢false, or_parts, and_parts, ne_eqb}
+use Rattle.std.proofs.lemmas.Bool.{true≢false, or_parts, and_parts, ne_eqb, not-true}
 use Rattle.ucd_table.specs.Rows.{Range, in_ranges}
 use Rattle.ucd_table.proofs.Stepped.{of_ranges, zip_stepped}
 use Rattle.ucd_table.proofs.Facts.{Stepped-everywhere}
@@ -21,7 +21,7 @@ use Rattle.unicode_width.specs.Width.{before, plain, single, is_quote, is_line_f
 use Rattle.unicode_width.proofs.KindLemmas.{kind_stepped}
 use Rattle.unicode_width.proofs.Computing.{unicode_width}
 use Rattle.miette_narrated.specs.steps.Parting.{opens}
-use Rattle.miette_narrated.proofs.Lone.{from_not, or_false}
+use Rattle.miette_narrated.proofs.Lone.{or_false}
 
 -- ---- a state that selects and modifies nothing
 
@@ -46,10 +46,10 @@ open_if false x y p q = q
 -- ---- what such a character is not
 
 no_skin : (c : ℕ) → opens c ≡ true → is_in_range 0x1F3FB 0x1F3FF c ≡ false
-no_skin c h = (or_parts (is_in_range 0xFE00 0xFE0F c) (is_in_range 0x1F3FB 0x1F3FF c) (from_not (is_in_range 0xFE00 0xFE0F c || is_in_range 0x1F3FB 0x1F3FF c) h)).1
+no_skin c h = (or_parts (is_in_range 0xFE00 0xFE0F c) (is_in_range 0x1F3FB 0x1F3FF c) (not-true (is_in_range 0xFE00 0xFE0F c || is_in_range 0x1F3FB 0x1F3FF c) h)).1
 
 no_selectors : (c : ℕ) → opens c ≡ true → is_in_range 0xFE00 0xFE0F c ≡ false
-no_selectors c h = (or_parts (is_in_range 0xFE00 0xFE0F c) (is_in_range 0x1F3FB 0x1F3FF c) (from_not (is_in_range 0xFE00 0xFE0F c || is_in_range 0x1F3FB 0x1F3FF c) h)).0
+no_selectors c h = (or_parts (is_in_range 0xFE00 0xFE0F c) (is_in_range 0x1F3FB 0x1F3FF c) (not-true (is_in_range 0xFE00 0xFE0F c || is_in_range 0x1F3FB 0x1F3FF c) h)).0
 
 no_selector : (c k : ℕ) → is_in_range 0xFE00 0xFE0F k ≡ true → opens c ≡ true → (c == k) ≡ false
 no_selector c k is h = ne_eqb c k (λ e. absurd (true≢false (sym is ∙ sym (ap (is_in_range 0xFE00 0xFE0F) e) ∙ no_selectors c h)))
@@ -66,7 +66,7 @@ unfolding unicode_width in_ranges
 no_tone c h =
     let both = zip_stepped (λ k b. b || not (is_tone k)) kind (in_ranges tones) kind_stepped (of_ranges tones refl) in
     let outside : in_ranges tones c ≡ false = sym (or_false (is_in_range 0x1F3FB 0x1F3FF c)) ∙ no_skin c h in
-    from_not (is_tone (kind c)) (subst (λ b. (b || not (is_tone (kind c))) ≡ true) outside (Stepped-everywhere _ both refl c))
+    not-true (is_tone (kind c)) (subst (λ b. (b || not (is_tone (kind c))) ≡ true) outside (Stepped-everywhere _ both refl c))
 
 -- ---- what it leaves by itself
 

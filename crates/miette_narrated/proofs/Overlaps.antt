@@ -1,12 +1,11 @@
 -- A character that closes leaves the same to be read, whatever stands behind it but a selector or a skin tone.
-use Rattle.std.proofs.Common.{ℕ, ◌+◌, ◌<◌, ◌≤◌, ◌≡◌, Bool, true, false, cond, not, ◌&&◌, ◌||◌, ◌==◌, nat_le, List, [], ◌∷◌, ◌++◌, Option, Some, None, refl, sym, ap, subst, add_comm, ◌∙◌, arith, inl, inr, eqb-true}
+use Rattle.std.proofs.Common.{ℕ, ◌+◌, ◌<◌, ◌≤◌, ◌≡◌, Bool, true, false, cond, not, ◌&&◌, ◌||◌, ◌==◌, nat_le, [], ◌∷◌, Option, Some, None, refl, sym, ap, subst, ◌∙◌, arith, inl, inr, eqb-true}
 use Rattle.std.specs.Prelude.{if◌then◌else◌}
 use Rattle.std.specs.Int.{is_in_range}
-use Rattle.std.proofs.lemmas.Bool.{true≢false, or_cases, and_right, cases_lt, cond-true, cond-false, le-leb, lt-leb, ne_eqb}
+use Rattle.std.proofs.lemmas.Bool.{true≢false, or_cases, and_right, cases_lt, cond-true, cond-false, le-leb, lt-leb, ne_eqb, not-true}
 use Rattle.ucd_table.specs.Rows.{in_ranges}
 use Rattle.ucd_table.proofs.Stepped.{Stepped, of_ranges, map_stepped, zip_stepped}
 use Rattle.ucd_table.proofs.Facts.{always, ends_by, Stepped-everywhere}
-use Rattle.ucd_emoji.specs.Binary.{is_emoji_variation_base}
 use Rattle.ucd_bidi.specs.JoiningGroup.{joining_group, joining_group_eq}
 use Rattle.ucd_bidi.specs.declared.JoiningGroup.TheVariants.{Lam}
 use Rattle.ucd_bidi.proofs.JoiningGroupLemmas.{joining_group_stepped}
@@ -18,11 +17,11 @@ use Rattle.unicode_width.specs.declared.state.State.{State}
 use Rattle.unicode_width.specs.declared.state.Change.{Change}
 use Rattle.unicode_width.specs.declared.state.Change.TheVariants.{Less, Same}
 use Rattle.unicode_width.specs.Kind.{kind, is_ligature_transparent}
-use Rattle.unicode_width.specs.Width.{before, plain, is_joined_emoji, is_line_feed, of_kind, alone, before_alef, is_lam, is_emoji, joins, first_of, joined_or, Reading, added, if_kept, skips_marks, is_plain, past_selectors, in_context, past_emoji, step, read_before, str_width}
+use Rattle.unicode_width.specs.Width.{before, plain, is_line_feed, of_kind, alone, before_alef, is_lam, is_emoji, joins, first_of, joined_or, Reading, added, skips_marks, is_plain, past_selectors, in_context, past_emoji, step}
 use Rattle.unicode_width.proofs.KindLemmas.{kind_stepped}
 use Rattle.unicode_width.proofs.Computing.{unicode_width}
 use Rattle.miette_narrated.specs.steps.Parting.{is_joining, is_closing}
-use Rattle.miette_narrated.proofs.Lone.{from_not, or_false}
+use Rattle.miette_narrated.proofs.Lone.{or_false}
 use Rattle.miette_narrated.proofs.Opening.{is_modifier, IsOpen}
 use Rattle.miette_narrated.proofs.PartedTexts.{is_mild_kind, mild, unlisted, no_transparent, no_indicator, no_modifier, no_tag_letter, no_tag_digit, no_joiner, no_keycap, no_tag_end, no_vowel, no_selector, own_width, unligated, low_parts}
 
@@ -38,7 +37,7 @@ emoji_not : (p : ℕ → Bool) (s : Stepped p) → unemoji p s ≡ true → (c :
 unfolding unicode_width
 emoji_not p s ok c h =
     let both = zip_stepped (λ k b. not (b && is_emoji k)) kind p kind_stepped s in
-    from_not (is_emoji (kind c)) (subst (λ a. not (a && is_emoji (kind c)) ≡ true) h (Stepped-everywhere _ both ok c))
+    not-true (is_emoji (kind c)) (subst (λ a. not (a && is_emoji (kind c)) ≡ true) h (Stepped-everywhere _ both ok c))
 
 lam_plain : (c : ℕ) → is_lam c ≡ true → is_emoji (kind c) ≡ false
 unfolding unicode_width

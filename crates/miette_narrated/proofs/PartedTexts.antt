@@ -2,7 +2,7 @@
 use Rattle.std.proofs.Common.{ℕ, ◌+◌, ◌<◌, ◌≤◌, ◌≡◌, Bool, true, false, cond, not, ◌&&◌, ◌||◌, ◌==◌, nat_le, nat_lt, ◌⊎◌, List, [], ◌∷◌, ◌++◌, Option, Some, None, refl, sym, ap, subst, add-zero, ◌∙◌, arith, inl, inr}
 use Rattle.std.specs.Prelude.{if◌then◌else◌}
 use Rattle.std.specs.Int.{is_in_range}
-use Rattle.std.proofs.lemmas.Bool.{true≢false, eqb-true, or_cases, or_parts, and_parts, le-ltb, and_right, cases_lt, cond-true, cond-false, le-leb, lt-leb, ne_eqb}
+use Rattle.std.proofs.lemmas.Bool.{true≢false, eqb-true, or_cases, or_parts, and_parts, le-ltb, and_right, cases_lt, cond-true, cond-false, le-leb, lt-leb, ne_eqb, not-true}
 use Rattle.ucd_table.specs.Rows.{Range, in_ranges}
 use Rattle.ucd_table.proofs.Stepped.{Stepped, of_ranges, zip_stepped}
 use Rattle.ucd_table.proofs.Facts.{always, ends_by, Stepped-everywhere}
@@ -19,9 +19,9 @@ use Rattle.unicode_width.specs.Width.{before, plain, is_joined_emoji, is_line_fe
 use Rattle.unicode_width.proofs.KindLemmas.{kind_stepped, is_ligature_transparent_stepped}
 use Rattle.unicode_width.proofs.Computing.{unicode_width}
 use Rattle.miette_lines.specs.views.GivenLabels.{width_of}
+use Rattle.miette_lines.proofs.Numbers.{by_cases}
 use Rattle.miette_narrated.specs.steps.Parting.{is_lone, is_joining, is_closing, may_part}
-use Rattle.miette_narrated.proofs.Lone.{adds_up, shifted, read_append, from_not, or_false, or_turn}
-use Rattle.miette_narrated.proofs.Sweeps.{by_cases}
+use Rattle.miette_narrated.proofs.Lone.{adds_up, shifted, read_append, or_false, or_turn}
 
 -- ---- after an emoji only a joiner is read otherwise than after nothing
 
@@ -94,7 +94,7 @@ odd_listed : (c : ℕ) → is_joining c ≡ false → is_odd_kind (kind c) ≡ f
 unfolding unicode_width
 odd_listed c h =
     let both = zip_stepped (λ k j. j || not (is_odd_kind k)) kind (in_ranges joining_ranges) kind_stepped (of_ranges joining_ranges refl) in
-    from_not (is_odd_kind (kind c)) (subst (λ j. (j || not (is_odd_kind (kind c))) ≡ true) (sym (joining_ranged c) ∙ h) (Stepped-everywhere _ both refl c))
+    not-true (is_odd_kind (kind c)) (subst (λ j. (j || not (is_odd_kind (kind c))) ≡ true) (sym (joining_ranged c) ∙ h) (Stepped-everywhere _ both refl c))
 
 pub width_high : (c : ℕ) → 0xA0 < c → width_of c ≡ (alone false c).0
 unfolding char_width
@@ -118,7 +118,7 @@ high_parts : (c : ℕ) → 0xA0 < c → is_closing c ≡ true → (nat_lt 0 (wid
 high_parts c high h = sym (cond-false (nat_le c 0xA0) (not (c == 0x0A)) (nat_lt 0 (width_of c) && not (is_joining c)) (lt-leb c 0xA0 high)) ∙ h
 
 pub unlisted : (c : ℕ) → 0xA0 < c → is_closing c ≡ true → is_joining c ≡ false
-unlisted c high h = from_not (is_joining c) (and_parts (nat_lt 0 (width_of c)) (not (is_joining c)) (high_parts c high h)).1
+unlisted c high h = not-true (is_joining c) (and_parts (nat_lt 0 (width_of c)) (not (is_joining c)) (high_parts c high h)).1
 
 pub mild : (c : ℕ) → 0xA0 < c → is_closing c ≡ true → is_mild_kind (kind c) ≡ true
 unfolding alone
@@ -138,7 +138,7 @@ mild_not : (p : ℕ → Bool) (s : Stepped p) → unmild p s ≡ true → (c : �
 unfolding unicode_width
 mild_not p s ok c h =
     let both = zip_stepped (λ k b. not (is_mild_kind k && b)) kind p kind_stepped s in
-    from_not (p c) (subst (λ a. not (a && p c) ≡ true) h (Stepped-everywhere _ both ok c))
+    not-true (p c) (subst (λ a. not (a && p c) ≡ true) h (Stepped-everywhere _ both ok c))
 
 mild_outside : (low high : ℕ) (s : Stepped (in_ranges ((low, high) ∷ []))) → unmild (in_ranges ((low, high) ∷ [])) s ≡ true → (c : ℕ) → is_mild_kind (kind c) ≡ true → is_in_range low high c ≡ false
 unfolding in_ranges
@@ -319,7 +319,7 @@ unfolding past_emoji
 past_low c t s low n = rw (n, le-leb c 0xA0 low) (quiet_cond ((c == 0x0D) && is_line_feed s.after) (t, plain) (t + 1, plain) (inl refl) (inl refl))
 
 pub low_parts : (c : ℕ) → c ≤ 0xA0 → is_closing c ≡ true → (c == 0x0A) ≡ false
-low_parts c low h = from_not (c == 0x0A) (sym (cond-true (nat_le c 0xA0) (not (c == 0x0A)) (nat_lt 0 (width_of c) && not (is_joining c)) (le-leb c 0xA0 low)) ∙ h)
+low_parts c low h = not-true (c == 0x0A) (sym (cond-true (nat_le c 0xA0) (not (c == 0x0A)) (nat_lt 0 (width_of c) && not (is_joining c)) (le-leb c 0xA0 low)) ∙ h)
 
 past_all : (c t : ℕ) (s : State) → is_closing c ≡ true → IsQuiet (past_emoji false c t s).1
 past_all c t s h =
@@ -358,7 +358,7 @@ parted xs ys b d h =
       | inl lone ↦ adds_up xs (d ∷ ys) b lone
       | inr other ↦
           let both = and_parts (is_closing d) (not (b == 0x200D)) other in
-          closed xs ys b d both.0 (from_not (b == 0x200D) both.1)
+          closed xs ys b d both.0 (not-true (b == 0x200D) both.1)
     ]
 
 -- nothing has no width

@@ -1,5 +1,5 @@
 -- Places of a line's text from which a walk over its characters goes on.
-use Rattle.std.proofs.Common.{ℕ, zero, suc, ◌+◌, ◌-◌, ◌<◌, ◌≤◌, ◌≡◌, ◌==◌, ◌||◌, Bool, true, false, cond, inl, inr, List, [], ◌∷◌, ◌++◌, Option, Some, None, length, drop, refl, sym, ap, subst, ◌∙◌, append_assoc, append-nil, arith}
+use Rattle.std.proofs.Common.{ℕ, zero, suc, ◌+◌, ◌-◌, ◌<◌, ◌≤◌, ◌≡◌, ◌||◌, Bool, true, false, inl, inr, List, [], ◌∷◌, ◌++◌, Option, Some, None, length, drop, refl, sym, ap, subst, ◌∙◌, append_assoc, append-nil, arith}
 use Rattle.std.specs.Prelude.{IsUtf8, chars, encode_utf8, if◌then◌else◌}
 use Rattle.std.proofs.lemmas.Bool.{or_cases, cond-true, cond-false}
 use Rattle.std.proofs.lemmas.List.{drop-drop}
@@ -9,6 +9,7 @@ use Rattle.unicode_width.specs.Width.{str_width}
 use Rattle.miette_lines.specs.rules.Cells.{characters}
 use Rattle.miette_lines.specs.views.GivenLabels.{width_of}
 use Rattle.miette_lines.proofs.Stepping.{IsFirst, characters_step}
+use Rattle.miette_lines.proofs.Numbers.{by_cases}
 use Rattle.miette_narrated.specs.declared.overlap.Overlap.{Overlap}
 use Rattle.miette_narrated.specs.declared.overlap.Overlap.TheVariants.{Nothing}
 use Rattle.miette_narrated.specs.declared.places.PartingPlace.{PartingPlace}
@@ -19,7 +20,6 @@ use Rattle.miette_narrated.proofs.Columning.{IsOver, none_over, one_over, begun_
 use Rattle.miette_narrated.proofs.PartedTexts.{parted, no_width}
 use Rattle.miette_narrated.proofs.SettledTexts.{Settles, settled, EndsIn, end_settles}
 use Rattle.miette_narrated.proofs.Flags.{EndsInFlags, flags_part}
-use Rattle.miette_narrated.proofs.Sweeps.{by_cases}
 
 pub first_place : (text : List ℕ) (place : PartingPlace) → place.bytes ≡ 0 → place.column ≡ 0 → place.widths ≡ 0 → place.overlap ≡ Nothing → place.twice ≡ 0 → IsPlace text place
 first_place text place b c w f d = (

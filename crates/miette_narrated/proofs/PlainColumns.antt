@@ -9,11 +9,11 @@ use Rattle.unicode_width.proofs.Rules.{str_width-printable}
 use Rattle.miette_lines.specs.rules.Cells.{characters}
 use Rattle.miette_lines.specs.views.GivenLabels.{width_of}
 use Rattle.miette_lines.specs.views.Printable.{is_printable}
-use Rattle.miette_lines.proofs.Plaining.{one_column, printable_character, printable_in_range}
+use Rattle.miette_lines.proofs.Plaining.{one_column, printable_character, printable_in_range, printable_taken}
 use Rattle.miette_lines.proofs.Stepping.{characters_end}
+use Rattle.miette_lines.proofs.Numbers.{by_cases}
 use Rattle.miette_narrated.specs.rules.Columns.{begun_text, is_boundary, widths, column}
 use Rattle.miette_narrated.proofs.Columning.{begun_more, begun_zero, at_boundary, off_boundary}
-use Rattle.miette_narrated.proofs.Sweeps.{by_cases}
 
 plain_begun : (k : ℕ) (bs : List ℕ) → list_all is_printable bs ≡ true → begun_text k (characters bs) ≡ take k bs
 plain_begun zero bs h = begun_zero (characters bs)
@@ -23,13 +23,6 @@ plain_begun (suc k) (b ∷ bs) h =
     let less : suc k - 1 ≡ k = omega arith in
     ap (begun_text (suc k)) (printable_character b bs parts.0) ∙ begun_more (suc k) b 1 (characters bs) (omega arith)
     ∙ ap (λ j. b ∷ begun_text j (characters bs)) less ∙ ap (λ r. b ∷ r) (plain_begun k bs parts.1)
-
-plain_taken : (k : ℕ) (bs : List ℕ) → list_all is_printable bs ≡ true → list_all is_printable (take k bs) ≡ true
-plain_taken zero bs h = refl
-plain_taken (suc k) [] h = refl
-plain_taken (suc k) (b ∷ bs) h =
-    let parts = and_parts (is_printable b) (list_all is_printable bs) h in
-    rw (parts.0) (plain_taken k bs parts.1)
 
 plain_in_range : (bs : List ℕ) → list_all is_printable bs ≡ true → list_all (is_in_range 0x20 0x7E) bs ≡ true
 plain_in_range [] h = refl
@@ -49,7 +42,7 @@ plain_widths (b ∷ bs) h =
 pub plain_column : (k : ℕ) (bs : List ℕ) → list_all is_printable bs ≡ true → min k (length bs) ≡ column k (characters bs)
 plain_column k bs h =
     let begins = plain_begun k bs h in
-    let taken = plain_taken k bs h in
+    let taken = printable_taken k bs h in
     by_cases {C = min k (length bs) ≡ column k (characters bs)} (is_boundary k (characters bs))
     (λ t. sym (at_boundary bs k t ∙ ap (str_width false) begins ∙ str_width-printable false (take k bs) (plain_in_range (take k bs) taken) ∙ length-take k bs))
     (λ f. sym (off_boundary bs k f ∙ ap widths begins ∙ plain_widths (take k bs) taken ∙ length-take k bs))

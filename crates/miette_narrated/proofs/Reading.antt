@@ -21,14 +21,15 @@ use Rattle.miette_lines.specs.rules.Groups.{put_label, in_order, refusal, AreAcc
 use Rattle.miette_lines.specs.rules.Groups as groups
 use Rattle.miette_lines.specs.views.Placing.{placed_one, placed_from}
 use Rattle.miette_lines.specs.views.Reads.{IsRead, AreRead, IsLent, AreGroups, AreGrouped, IsUnread}
+use Rattle.miette_lines.proofs.Numbers.{by_cases}
 use Rattle.miette_narrated.specs.rules.Labels.{LabelRange, label_range}
 use Rattle.miette_narrated.specs.steps.Conversions.{range_of, ranges_of}
 use Rattle.miette_narrated.specs.rules.Snippets.{snippet, snippets_of}
 use Rattle.miette_narrated.specs.rules.PossibleAnswers.{accepts}
 use Rattle.miette_narrated.specs.steps.Sweeping.{BeginsFrom, AreOrdered}
-use Rattle.miette_narrated.proofs.Sweeps.{by_cases}
 use Rattle.miette_narrated.specs.steps.AppendedParts.{AppendsSnippets}
 use Rattle.std.proofs.lemmas.List.{drop_all}
+use Rattle.std.proofs.lemmas.List.Elements.{All-tail, All-head}
 use Rattle.miette_style.specs.rules.Codes.{is_nil}
 
 -- where a read's data end cuts a label as the source's end does
@@ -57,12 +58,6 @@ told_one context source labels i r law h =
     ∙ ap (λ s. the s.offset (max s.offset (min (end_of_span s) n)) l.text) h.span where
       the : ℕ → ℕ → Option (List ℕ) → LabelRange
       the a b t = record { start = a; after = b; text = t }
-
-All-tail : {X : Type 0} (P : X → Type 0) (x : X) (xs : List X) → All P (x ∷ xs) → All P xs
-All-tail P x xs h = λ k d lt. h (suc k) d (omega arith)
-
-All-head : {X : Type 0} (P : X → Type 0) (x : X) (xs : List X) → All P (x ∷ xs) → P x
-All-head P x xs h = h 0 x (omega arith)
 
 told_reads : (context : ℕ) (source : Source) (labels : List Label) (i : ℕ) (rs : List ReadLabel) → Reaches → All (IsRead context source labels) rs →
     ranges_of labels (placed_from None [] i rs) ≡ map (label_range (length source.bytes)) (map (label_of_read labels) rs)
@@ -162,11 +157,6 @@ unread_group context source labels r h is =
     let none : IsUnread context source (in_order labels) = subst (λ (o : Option (List Group)). AreGrouped context source (in_order labels) o) is h in
     let own = and_parts (has_own (in_order labels)) (some_fails none.fails (groups_of context source none.fails (in_order labels))) none.unread in
     not_all (list_all (λ l. is_accepted source.bytes l.span) (in_order labels)) (is_nil labels) source.always_reads (own_some labels own.0) none.always
-
--- groups that there are
-pub are_grouped : (context : ℕ) (source : Source) (labels : List Label) (r : Option (List Group)) (groups got : List Group) → AreGrouped context source labels r → r ≡ Some groups → got ≡ groups → AreGroups context source labels got
-are_grouped context source labels r groups got h is e =
-    subst (λ (gs : List Group). AreGroups context source labels gs) (sym e) (subst (λ (o : Option (List Group)). AreGrouped context source labels o) is h)
 
 -- ---- a refused label
 

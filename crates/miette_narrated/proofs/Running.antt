@@ -1,22 +1,22 @@
 -- Trails of characters that take no columns in a line's text, and the columns in them.
-use Rattle.std.proofs.Common.{ℕ, zero, suc, ◌+◌, ◌-◌, ◌<◌, ◌≤◌, ◌≡◌, ◌⊎◌, Bool, true, false, cond, ◌&&◌, inl, inr, List, [], ◌∷◌, ◌++◌, length, take, drop, refl, sym, ap, ap₂, subst, ◌∙◌, append_assoc, arith, length-drop}
-use Rattle.std.specs.Prelude.{chars, if◌then◌else◌}
+use Rattle.std.proofs.Common.{ℕ, zero, suc, ◌+◌, ◌-◌, ◌<◌, ◌≤◌, ◌≡◌, true, false, cond, ◌&&◌, inl, inr, List, [], ◌∷◌, ◌++◌, length, take, drop, refl, sym, ap, ap₂, subst, ◌∙◌, append_assoc, arith, length-drop}
+use Rattle.std.specs.Prelude.{chars}
 use Rattle.std.specs.List.{list_all}
 use Rattle.std.proofs.lemmas.Bool.{true≢false, and_parts, cases_lt, cond-true, cond-false, ne_eqb, lt-ltb}
 use Rattle.std.proofs.lemmas.List.{drop-drop, take_rest}
 use Rattle.unicode_width.specs.Width.{str_width}
 use Rattle.miette_lines.specs.rules.Cells.{Character, characters}
 use Rattle.miette_lines.proofs.Stepping.{IsFirst, made, characters_step}
+use Rattle.miette_lines.proofs.Numbers.{by_cases}
 use Rattle.miette_narrated.specs.declared.places.PartingPlace.{PartingPlace}
 use Rattle.miette_narrated.specs.declared.trails.Trail.{Trail}
 use Rattle.miette_narrated.specs.rules.Columns.{begun_text, is_boundary, widths, column}
-use Rattle.miette_narrated.specs.steps.Places.{overlap_text, IsPlace}
+use Rattle.miette_narrated.specs.steps.Places.{IsPlace}
 use Rattle.miette_narrated.specs.steps.Trails.{is_faint, AreFaint, IsTrail, first_size}
 use Rattle.miette_narrated.proofs.Columning.{begun_more, begun_zero, boundary_more, boundary_inside, boundary_zero, behind_boundary, behind_other, twice_boundary, twice_other}
 use Rattle.miette_narrated.proofs.FaintCharacters.{faint_behind, faint_width}
 use Rattle.miette_narrated.proofs.SettledTexts.{EndsIn}
 use Rattle.miette_narrated.proofs.PlaceLaws.{IsSince}
-use Rattle.miette_narrated.proofs.Sweeps.{by_cases}
 
 -- ---- fewer of such characters
 

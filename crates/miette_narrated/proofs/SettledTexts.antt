@@ -4,6 +4,7 @@ use Rattle.std.proofs.Common.{ℕ, ◌+◌, ◌≡◌, Bool, true, false, cond, 
 use Rattle.std.specs.Prelude.{chars, if◌then◌else◌}
 use Rattle.std.proofs.lemmas.Bool.{and_parts, or_cases, cond-true, cond-false}
 use Rattle.std.proofs.lemmas.Option.{none-some, same_Some}
+use Rattle.miette_lines.proofs.Numbers.{by_cases}
 use Rattle.ucd_emoji.specs.Binary.{is_emoji_variation_base}
 use Rattle.unicode_width.specs.declared.state.After.{After}
 use Rattle.unicode_width.specs.declared.state.After.TheVariants as afters
@@ -11,14 +12,13 @@ use Rattle.unicode_width.specs.declared.state.State.{State}
 use Rattle.unicode_width.specs.Width.{before, plain, alone, Reading, added, is_plain, past_emoji, in_context, step, read_before, str_width}
 use Rattle.unicode_width.proofs.Computing.{unicode_width}
 use Rattle.miette_narrated.specs.declared.overlap.Overlap.{Overlap}
-use Rattle.miette_narrated.specs.declared.overlap.Overlap.TheVariants.{Nothing, One, Selected}
+use Rattle.miette_narrated.specs.declared.overlap.Overlap.TheVariants.{One, Selected}
 use Rattle.miette_narrated.specs.steps.Parting.{is_closing, is_keeping, opens, end_overlap}
 use Rattle.miette_narrated.specs.steps.Places.{overlap_text, IsHeld}
 use Rattle.miette_narrated.proofs.Lone.{shifted, read_append}
 use Rattle.miette_narrated.proofs.Opening.{IsOpen, plain_open, step_opens}
 use Rattle.miette_narrated.proofs.Overlaps.{own_state, step_closing, held_no_indicator}
 use Rattle.miette_narrated.proofs.Keeping.{step_keeping, no_indicator}
-use Rattle.miette_narrated.proofs.Sweeps.{by_cases}
 
 -- what some characters leave to be read is the same, whatever state that selects and modifies nothing is behind them
 abbrev pub Settles : List ℕ → Type 0

@@ -1,21 +1,20 @@
 -- The text and the answers of a tree, put together from those of its parts.
-use Rattle.std.proofs.Common.{◌≡◌, ℕ, suc, zero, ◌+◌, ◌<◌, ◌≤◌, List, [], ◌∷◌, ◌++◌, length, get_or, map, drop, add-one, Bool, true, false, cond, ◌&&◌, Option, Some, None, refl, sym, ap, ap₂, subst, ◌∙◌, append_assoc, append-nil, arith}
-use Rattle.std.proofs.Math.Seq.{drop-cons}
+use Rattle.std.proofs.Common.{◌≡◌, ℕ, suc, zero, ◌<◌, ◌≤◌, List, [], ◌∷◌, ◌++◌, length, get_or, map, drop, Bool, true, false, ◌&&◌, Option, Some, None, refl, sym, ap, ap₂, subst, ◌∙◌, append_assoc, append-nil, arith}
 use Rattle.std.proofs.lemmas.Bool.{and_parts}
-use Rattle.miette_protocol.specs.rules.Reading.{Source, Span}
+use Rattle.miette_protocol.specs.rules.Reading.{Source}
 use Rattle.miette_protocol.specs.views.Meaning.{Label}
 use Rattle.miette_tree.specs.rules.Tree.{Tree, tree, Trees, no_trees, more_trees, trees, effective, head, source_of, cause_of, causes_of, related_of}
-use Rattle.miette_lines.specs.rules.Answers.{NoneFails}
-use Rattle.miette_lines.specs.rules.Around.{has_own, group_context}
-use Rattle.miette_lines.specs.rules.Groups.{groups_from, groups_answered, own_groups, groups_of, joins_before, joined_span, in_order, spans_of}
+use Rattle.miette_lines.specs.rules.Around.{group_context}
+use Rattle.miette_lines.specs.rules.Groups.{in_order}
+use Rattle.miette_lines.proofs.NoFailures.{grouped_none}
 use Rattle.miette_narrated.specs.rules.Labels.{label_range}
 use Rattle.miette_narrated.specs.rules.Snippets.{snippets_of}
 use Rattle.miette_narrated.specs.rules.Report.{NarrationSettings, Answers, unlisted, listed, RelatedAnswers, no_more, and_more, own_answer, related_answers, first_answers, later_answers, head_rows, titled_rows, cause_rows, causes_if, advice_rows, row_if, snippet_rows, blank_before, related_report, related_reports, narration}
 use Rattle.miette_tree.specs.rules.DiagnosticParts.{given_labels}
 use Rattle.miette_narrated.specs.rules.PossibleAnswers.{holds_of, holds_of_all, always_reads, accepts, report_reads, IsAnswered, AreAnswers, AllAnswers, IsNarrated, Appends}
-use Rattle.miette_narrated.proofs.Sweeps.{by_cases}
 use Rattle.miette_narrated.specs.steps.AppendedParts.{AppendsSnippets, AppendsReport, AppendsRelated}
 use Rattle.std.proofs.lemmas.List.{drop_all}
+use Rattle.std.proofs.Math.Bool.{and-false}
 
 -- ---- related reports, one after the other
 
@@ -43,10 +42,6 @@ one_more context inherited all t ts old now new r a = record {
 
 pub all_told : (context : ℕ) (inherited : Option Source) (all : Trees) (old now : List ℕ) → RelatedSoFar context inherited all no_trees old now → AppendsRelated context inherited all old now
 all_told context inherited all old now r = record { answers = r.with_rest no_more; possible = r.possible no_more tt; appended = sym (append-nil now) ∙ r.joined_is no_more }
-
--- the one next of a list of reports
-pub next_of : {R : Type 0} (value : R → Tree) (rs : List R) (i : ℕ) (d : R) → i < length rs → d ≡ get_or rs i d → trees (map value (drop i rs)) ≡ more_trees (value d) (trees (map value (drop (i + 1) rs)))
-next_of value rs i d h is = ap (λ l. trees (map value l)) (drop-cons rs i d h ∙ ap (λ x. x ∷ drop (suc i) rs) (sym is) ∙ ap (λ n. d ∷ drop n rs) (sym (add-one i)))
 
 pub at_the_end : {R : Type 0} (value : R → Tree) (context : ℕ) (inherited : Option Source) (rs : List R) (all : Trees) (i : ℕ) (old now : List ℕ) → length rs ≤ i
     → RelatedSoFar context inherited all (trees (map value (drop i rs))) old now → RelatedSoFar context inherited all no_trees old now
@@ -105,14 +100,10 @@ whole_told s (tree m own c rs) source labels related start a b p q r new es el e
 
 -- ---- where something is refused
 
-and_false : (b : Bool) → (b && false) ≡ false
-and_false true = refl
-and_false false = refl
-
 pub refused_below : (t : Tree) (inherited source : Option Source) (related : Trees) → source ≡ effective (source_of t) inherited → related ≡ related_of t →
     holds_of_all accepts source related ≡ false → holds_of accepts inherited t ≡ false
 refused_below (tree m s c r) inherited source related es er e =
-    ap (λ b. accepts (effective s inherited) (given_labels m.labels) && b) (sym (ap₂ (holds_of_all accepts) es er) ∙ e) ∙ and_false (accepts (effective s inherited) (given_labels m.labels))
+    ap (λ b. accepts (effective s inherited) (given_labels m.labels) && b) (sym (ap₂ (holds_of_all accepts) es er) ∙ e) ∙ and-false (accepts (effective s inherited) (given_labels m.labels))
 
 pub one_refused : {R : Type 0} (value : R → Tree) (inherited : Option Source) (rs : List R) (i : ℕ) (d : R) → i < length rs → d ≡ get_or rs i d → holds_of accepts inherited (value d) ≡ false →
     holds_of_all accepts inherited (trees (map value rs)) ≡ false
@@ -120,31 +111,16 @@ one_refused value inherited [] i d lt is e = absurd (omega arith)
 one_refused value inherited (r ∷ rs) zero d lt is e =
     ap (λ b. b && holds_of_all accepts inherited (trees (map value rs))) (ap (λ x. holds_of accepts inherited (value x)) (sym is) ∙ e)
 one_refused value inherited (r ∷ rs) (suc i) d lt is e =
-    ap (λ b. holds_of accepts inherited (value r) && b) (one_refused value inherited rs i d (omega arith) is e) ∙ and_false (holds_of accepts inherited (value r))
+    ap (λ b. holds_of accepts inherited (value r) && b) (one_refused value inherited rs i d (omega arith) is e) ∙ and-false (holds_of accepts inherited (value r))
 
 -- ---- where every source always reads
-
-same_from : (context : ℕ) (source : Source) (before : Span) (fails : List Bool) (spans : List Span) → NoneFails fails → groups_from context source before fails spans ≡ groups_from context source before [] spans
-same_from context source before [] spans none = refl
-same_from context source before (f ∷ fails) [] none = refl
-same_from context source before (f ∷ fails) (span ∷ spans) none =
-    by_cases {C = groups_from context source before (f ∷ fails) (span ∷ spans) ≡ groups_from context source before [] (span ∷ spans)} (joins_before context source before span)
-    (λ t. rw (t, none.0) (same_from context source (joined_span before span) fails spans none.1))
-    (λ g. rw g (ap (λ x. before ∷ x) (same_from context source span (f ∷ fails) spans none)))
-
-same_groups : (context : ℕ) (source : Source) (fails : List Bool) (spans : List Span) → NoneFails fails → groups_answered context source fails spans ≡ groups_answered context source [] spans
-same_groups context source fails [] none = refl
-same_groups context source fails (span ∷ spans) none = same_from context source span fails spans none
-
-same_of : (context : ℕ) (source : Source) (fails : List Bool) (labels : List Label) → NoneFails fails → groups_of context source fails labels ≡ groups_of context source [] labels
-same_of context source fails labels none = ap (λ gs. cond (has_own labels) (own_groups context source labels) gs) (same_groups context source fails (spans_of labels) none)
 
 same_snippets : (context : ℕ) (source : Option Source) (fails : List Bool) (labels : List Label) → IsAnswered source labels fails → always_reads source labels ≡ true →
     snippet_rows context source fails labels ≡ snippet_rows context source [] labels
 same_snippets context None fails labels h e = refl
 same_snippets context (Some source) fails [] h e = refl
 same_snippets context (Some source) fails (l ∷ ls) h e =
-    ap (snippets_of (group_context context (in_order (l ∷ ls))) source (map (label_range (length source.bytes)) (in_order (l ∷ ls)))) (same_of context source fails (in_order (l ∷ ls)) (h.always e))
+    ap (snippets_of (group_context context (in_order (l ∷ ls))) source (map (label_range (length source.bytes)) (in_order (l ∷ ls)))) (grouped_none context source fails (in_order (l ∷ ls)) (h.always e))
 
 mutual
   same_report : (context : ℕ) (inherited : Option Source) (a : Answers) (t : Tree) → AreAnswers inherited a t → holds_of always_reads inherited t ≡ true → related_report context inherited a t ≡ related_report context inherited unlisted t

@@ -12,7 +12,7 @@ use miette_protocol::error::RenderError;
 use miette_protocol::protocol::Diagnostic;
 use miette_protocol::source::SourceCode;
 use miette_tree::report::Report;
-use std::alloc::{AllocError, Global};
+use std::alloc::AllocError;
 use std::marker::Model;
 
 /// Tells a report in rows of plain words, for people who hear it read: no pictures, no colours, no wrapping.

@@ -1,6 +1,6 @@
 //! Rows put together from words and numbers.
 
-ghost use Rattle.std.specs.Prelude.{◌≡◌, ◌++◌, ◌∷◌, [], OnOk, OnErr, decimal, string_bytes, option_copied};
+ghost use Rattle.std.specs.Prelude.{◌≡◌, ◌++◌, OnOk, decimal, string_bytes, option_copied};
 ghost use Rattle.miette_narrated.specs.rules.Labels.{row};
 ghost use Rattle.miette_narrated.specs.rules.Report.{row_if};
 

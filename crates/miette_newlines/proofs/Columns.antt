@@ -2,14 +2,10 @@
 use Rattle.std.proofs.Common.{◌≡◌, ℕ, suc, zero, ◌+◌, ◌-◌, ◌<◌, ◌≤◌, Bool, true, false, not, ◌&&◌, ◌||◌, ◌==◌, List, length, take, drop, slice_index, count_by, refl, sym, ap, ◌∙◌, arith, add-one}
 use Rattle.std.proofs.lemmas.List.{get_or-drop, length-drop}
 use Rattle.std.proofs.lemmas.List.Sums.{count_by_more_yes, count_by_more_no}
-use Rattle.std.proofs.lemmas.Bool.{cases_lt}
+use Rattle.std.proofs.lemmas.Bool.{cases_lt, false_from_ne_true}
 use Rattle.std.proofs.Common.{inl, inr}
 use Rattle.miette_newlines.specs.rules.Lines.{LF, CR, ends_line, is_text, line_of, line_start, column_of}
 use Rattle.miette_newlines.proofs.Places.{line_of_yes, line_end_here, line_start_next, line_start_mono, line_of_mono}
-
-not_true : (x : Bool) → (x ≡ true → ⊥) → x ≡ false
-not_true true h = absurd (h refl)
-not_true false h = refl
 
 text_before_text : (x y z w : Bool) → (x || (y && not z)) ≡ false → (z || w) ≡ false → (not x && not y) ≡ true
 text_before_text true y z w e f = absurd (cc)
@@ -31,7 +27,7 @@ cr_is_no_text false false e = cc
 no_end_inside : (bs : List ℕ) (o i : ℕ) → line_start bs (line_of bs o) ≤ i → i < o → o ≤ length bs →
     ends_line (slice_index bs i) (slice_index bs (i + 1)) ≡ false
 no_end_inside bs o i s h w =
-    not_true (ends_line (slice_index bs i) (slice_index bs (i + 1))) (λ t.
+    false_from_ne_true (ends_line (slice_index bs i) (slice_index bs (i + 1))) (λ t.
     let m : line_of bs (i + 1) ≤ line_of bs o = line_of_mono bs (i + 1) o (omega (arith, h)) in
     let a : line_of bs i + 1 ≤ line_of bs o = omega (arith, m, line_of_yes bs i t) in
     omega (arith, s, line_start_mono bs (line_of bs i + 1) (line_of bs o) a, line_start_next bs (line_of bs i), line_end_here bs i (omega (arith, h, w)) t))

@@ -1,7 +1,7 @@
 -- Lines, places and counts as a scan from the front finds them.
 use Rattle.std.proofs.Common.{◌≡◌, ℕ, suc, zero, ◌+◌, ◌-◌, ◌<◌, ◌≤◌, Bool, true, false, cond, ◌&&◌, List, [], ◌∷◌, ◌++◌, length, min, inl, inr, refl, sym, ap, ◌∙◌, arith, add-one}
 use Rattle.std.specs.Prelude.{nat_lt, nat_le, slice_index}
-use Rattle.std.proofs.lemmas.Bool.{cases_lt, lt-ltb, le-ltb, le-leb, lt-leb}
+use Rattle.std.proofs.lemmas.Bool.{cases_lt, lt-ltb, le-ltb, le-leb, lt-leb, and_left, and_from, and_right}
 use Rattle.std.proofs.lemmas.List.{get_or_append_left, get_or_push, length_push}
 use Rattle.miette_newlines.specs.rules.Lines.{ends_line, line_of, line_start, line_end, terminators_in}
 use Rattle.miette_newlines.specs.views.Index.{IsIndex}
@@ -33,18 +33,6 @@ pub line_of-is : (bs : List ℕ) (o : ℕ) → line_of bs o ≡ ends_before o bs
 unfolding line_of
 line_of-is bs o = ends_count-lines_from (λ e. nat_le e o) 0 bs ∙ ends_by-le o 0 bs o (omega arith)
 
-and_false : (a b : Bool) → a ≡ false → (a && b) ≡ false
-and_false true b e = cc
-and_false false b e = refl
-
-and_both : (a b : Bool) → a ≡ true → b ≡ true → (a && b) ≡ true
-and_both true b e f = f
-and_both false b e f = cc
-
-and_right : (a b : Bool) → b ≡ false → (a && b) ≡ false
-and_right true b e = e
-and_right false b e = refl
-
 sum_zero : (x t : Bool) (n m : ℕ) → t ≡ false → n + 0 ≡ 0 → cond x (cond t 1 0 + n) n + 0 ≡ 0
 sum_zero true true n m e f = cc
 sum_zero true false n m e f = omega (arith, f)
@@ -72,12 +60,12 @@ ends_by-in from to at (b ∷ bs) zero zero h e f =
     (ends_by-in from to (at + 1) bs zero zero h (omega (arith, e)) (omega (arith, f)))
 ends_by-in from to at (b ∷ bs) zero (suc j) h e f =
     sum_in (ends_line b (slice_index bs 0)) (nat_lt from (at + 1) && nat_le (at + 1) to) (ends_by (λ e. nat_lt from e && nat_le e to) (at + 1) bs) (ends_before j bs)
-    (and_both (nat_lt from (at + 1)) (nat_le (at + 1) to) (lt-ltb from (at + 1) (omega (arith, e))) (le-leb (at + 1) to (omega (arith, f))))
+    (and_from (nat_lt from (at + 1)) (nat_le (at + 1) to) (lt-ltb from (at + 1) (omega (arith, e))) (le-leb (at + 1) to (omega (arith, f))))
     (ends_by-in from to (at + 1) bs zero j h (omega (arith, e)) (omega (arith, f)))
 ends_by-in from to at (b ∷ bs) (suc i) zero h e f = absurd (omega (arith, e, f, h))
 ends_by-in from to at (b ∷ bs) (suc i) (suc j) h e f =
     sum_before (ends_line b (slice_index bs 0)) (nat_lt from (at + 1) && nat_le (at + 1) to) (ends_by (λ e. nat_lt from e && nat_le e to) (at + 1) bs) (ends_before i bs) (ends_before j bs)
-    (and_false (nat_lt from (at + 1)) (nat_le (at + 1) to) (le-ltb from (at + 1) (omega (arith, e))))
+    (and_left (nat_lt from (at + 1)) (nat_le (at + 1) to) (le-ltb from (at + 1) (omega (arith, e))))
     (ends_by-in from to (at + 1) bs i j h (omega (arith, e)) (omega (arith, f)))
 
 -- the terminators from one offset to another are the difference of the lines' numbers

@@ -1,6 +1,6 @@
 //! Lines of bytes, found by scans.
 
-ghost use Rattle.std.specs.Prelude.{◌≡◌, ℕ, ◌+◌, ◌-◌, ◌<◌, ◌≤◌, IsNone, IfSome, length, slice_index};
+ghost use Rattle.std.specs.Prelude.{◌≡◌, ◌+◌, ◌-◌, ◌<◌, ◌≤◌, IsNone, IfSome, length, slice_index};
 ghost use Rattle.miette_newlines.specs.rules.Lines.{ends_line, line_of, line_start, line_end};
 
 use crate::find::FindLines;

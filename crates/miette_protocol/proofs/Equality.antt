@@ -1,18 +1,16 @@
 -- What `==` of diagnostics says, from what it says of their fields.
-use Rattle.std.proofs.Common.{◌≡◌, Bool, true, ◌&&◌, refl, ap, ◌∙◌}
+use Rattle.std.proofs.Common.{◌≡◌, Bool, refl, ap}
 use Rattle.std.proofs.lemmas.Bool.{true≢false, false≢true}
-use Rattle.std.specs.Prelude.{Option, Some, None, unwrap_or}
+use Rattle.std.specs.Prelude.{Option, Some, None}
 use Rattle.std.specs.Bool.{Decides}
 use Rattle.std.specs.Option.{option_eq, option_map, is_some}
-use Rattle.std.specs.Cmp.{first_so, second_so, unsigned_Decides}
+use Rattle.std.specs.Cmp.{unsigned_Decides}
 use Rattle.std.specs.String.{string_eq}
 use Rattle.std.proofs.Common.{String, Global}
 use Rattle.std.specs.Prelude.{string_bytes}
 use Rattle.std.proofs.lemmas.Slice.Eq.{slice_eq-Decides}
+use Rattle.std.proofs.lemmas.Option.{same_Some}
 use Rattle.miette_protocol.specs.views.Meaning.{Meaning, Label}
-
-inner_same : {A : Type 0} (x y : A) → Some x ≡ Some y → x ≡ y
-inner_same x y e = ap (λ o. unwrap_or o x) e
 
 -- of two options, seen through a function
 pub lifted : {A B : Type 0} (f : A → B) (E : A → A → Bool) → ((x y : A) → Decides (E x y) (f x ≡ f y)) → (o p : Option A)
@@ -20,21 +18,14 @@ pub lifted : {A B : Type 0} (f : A → B) (E : A → A → Bool) → ((x y : A) 
 lifted f E d None None = (λ _. refl, λ _. refl)
 lifted f E d None (Some y) = (λ h. absurd (false≢true h), λ e. absurd (false≢true (ap is_some e)))
 lifted f E d (Some x) None = (λ h. absurd (false≢true h), λ e. absurd (true≢false (ap is_some e)))
-lifted f E d (Some x) (Some y) = (λ h. ap Some ((d x y).0 h), λ e. (d x y).1 (inner_same (f x) (f y) e))
+lifted f E d (Some x) (Some y) = (λ h. ap Some ((d x y).0 h), λ e. (d x y).1 (same_Some (f x) (f y) e))
 
 -- of two options
 pub plain : {A : Type 0} (E : A → A → Bool) → ((x y : A) → Decides (E x y) (x ≡ y)) → (o p : Option A) → Decides (option_eq E o p) (o ≡ p)
 plain E d None None = (λ _. refl, λ _. refl)
 plain E d None (Some y) = (λ h. absurd (false≢true h), λ e. absurd (false≢true (ap is_some e)))
 plain E d (Some x) None = (λ h. absurd (false≢true h), λ e. absurd (true≢false (ap is_some e)))
-plain E d (Some x) (Some y) = (λ h. ap Some ((d x y).0 h), λ e. (d x y).1 (inner_same x y e))
-
-and_true : (s t : Bool) → s ≡ true → t ≡ true → (s && t) ≡ true
-and_true s t h k = ap (λ x. x && t) h ∙ k
-
--- of two pairs of facts
-pub both : {P Q : Type 0} (s t : Bool) → Decides s P → Decides t Q → Decides (s && t) (P × Q)
-both s t p q = (λ h. (p.0 (first_so s t h), q.0 (second_so s t h)), λ h. and_true s t (p.1 h.0) (q.1 h.1))
+plain E d (Some x) (Some y) = (λ h. ap Some ((d x y).0 h), λ e. (d x y).1 (same_Some x y e))
 
 -- of texts
 pub texts : (x y : String Global) → Decides (string_eq x y) (string_bytes x ≡ string_bytes y)

@@ -3,7 +3,7 @@
 ghost use Rattle.std.specs.Prelude.{◌≡◌, ◌==◌, ◌≤◌, Some, None, IfOk, true, false, string_bytes};
 ghost use Rattle.std.specs.Option.{option_map, option_copied, ForSome};
 
-use crate::span::{ByteOffset, SourceOffset, SourceSpan};
+use crate::span::{ByteOffset, SourceSpan};
 use serde::{Deserialize, Serialize};
 use std::alloc::{AllocError, Global};
 use std::marker::Model;

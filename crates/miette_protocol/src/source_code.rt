@@ -1,6 +1,6 @@
 //! What a source is: bytes of which a span can be read.
 
-ghost use Rattle.std.specs.Prelude.{ℕ, string_bytes};
+ghost use Rattle.std.specs.Prelude.{string_bytes};
 ghost use Rattle.miette_protocol.specs.rules.Reading.{Source, plain_source};
 ghost use Rattle.miette_protocol.specs.rules.Outcome.{Answers};
 

@@ -1,7 +1,8 @@
 -- Of a report whose sources always read, each read of a handler is determined.
-use Rattle.std.proofs.Common.{◌≡◌, ℕ, ◌+◌, Bool, true, false, List, [], ◌∷◌, ◌++◌, Option, Some, None, IfSome, refl, sym, ap, ap₂, ◌∙◌}
+use Rattle.std.proofs.Common.{◌≡◌, ℕ, Bool, true, false, List, [], ◌∷◌, ◌++◌, Option, Some, None, refl, sym, ap, ap₂, ◌∙◌}
+use Rattle.std.proofs.lemmas.Bool.{and_from, and_parts, or_right}
 use Rattle.std.specs.List.{list_all}
-use Rattle.std.specs.Prelude.{◌&&◌, ◌||◌, if◌then◌else◌}
+use Rattle.std.specs.Prelude.{◌&&◌, if◌then◌else◌}
 use Rattle.miette_protocol.specs.views.Meaning.{Label, Meaning}
 use Rattle.miette_protocol.specs.rules.Reading.{Source, is_accepted}
 use Rattle.miette_lines.specs.rules.Groups.{in_order, AreAccepted}
@@ -10,19 +11,13 @@ use Rattle.miette_tree.specs.rules.Tree.{Tree, tree, Cause, diagnostic, texts, T
 use Rattle.miette_tree.specs.rules.DiagnosticParts.{given_labels}
 use Rattle.miette_graphical.specs.rules.PrintedDiagnostics.{PrintedDiagnostic, over, diagnostics_of, printed_causes, printed_related, source_reads, always_reads, all_read}
 use Rattle.miette_tree.specs.rules.Reads.{AlwaysReads, CauseAlwaysReads, AllAlwaysRead}
+use Rattle.miette_tree.proofs.Nesting.{Reads, effective_reads}
 use Rattle.miette_graphical.specs.rules.Settings.{Settings}
 use Rattle.miette_brief.specs.rules.PossibleAnswers as briefly
 use Rattle.miette_brief.specs.rules.Report as brief
 use Rattle.miette_narrated.specs.rules.PossibleAnswers as told
 use Rattle.miette_narrated.specs.rules.Report.{Answers, RelatedAnswers, related_answers, first_answers, later_answers}
 use Rattle.miette_lines.proofs.Bodies.{accepted_is}
-
-abbrev Reads : Option Source → Type 0
-Reads source = IfSome source (λ s. s.always_reads ≡ true)
-
-effective_reads : (own inherited : Option Source) → Reads own → Reads inherited → Reads (effective own inherited)
-effective_reads None inherited p q = q
-effective_reads (Some s) inherited p q = p
 
 -- ---- a graphical report
 
@@ -37,18 +32,11 @@ unless_nil false c p = p
 one_read : (source : Option Source) (m : Meaning) → Reads source → always_reads source m ≡ true
 one_read source m p = unless_nil (is_nil (given_labels m.labels)) (source_reads source) (reads_here source p)
 
-both : (a b : Bool) → a ≡ true → b ≡ true → (a && b) ≡ true
-both a b p q = ap (λ x. x && b) p ∙ q
-
-parts : (a b : Bool) → (a && b) ≡ true → (a ≡ true) × (b ≡ true)
-parts true b p = (refl, p)
-parts false b p = cc
-
 all_of_both : (ps qs : List PrintedDiagnostic) → all_read ps ≡ true → all_read qs ≡ true → all_read (ps ++ qs) ≡ true
 all_of_both [] qs p q = q
 all_of_both (x ∷ ps) qs p q =
-    let h = parts (always_reads x.source x.meaning) (all_read ps) p in
-    both (always_reads x.source x.meaning) (all_read (ps ++ qs)) h.0 (all_of_both ps qs h.1 q)
+    let h = and_parts (always_reads x.source x.meaning) (all_read ps) p in
+    and_from (always_reads x.source x.meaning) (all_read (ps ++ qs)) h.0 (all_of_both ps qs h.1 q)
 
 unless_nested : (nested : Bool) (ps : List PrintedDiagnostic) → all_read ps ≡ true → all_read (if nested then [] else ps) ≡ true
 unless_nested true ps p = refl
@@ -65,7 +53,7 @@ mutual
       let source = effective own inherited in
       let here : Reads source = effective_reads own inherited q.0 p in
       all_of_both (over source m ∷ printed_related nested source r) (printed_causes nested inherited c)
-      (both (always_reads source m) (all_read (printed_related nested source r)) (one_read source m here) (related_read nested source r here q.2))
+      (and_from (always_reads source m) (all_read (printed_related nested source r)) (one_read source m here) (related_read nested source r here q.2))
       (causes_read nested inherited c p q.1)
 
   related_read : (nested : Bool) (inherited : Option Source) (r : Trees) → Reads inherited → AllAlwaysRead r → all_read (printed_related nested inherited r) ≡ true
@@ -75,36 +63,32 @@ mutual
       let here : Reads source = effective_reads own inherited q.0.0 p in
       let causes = if nested then [] else printed_causes nested source c in
       all_of_both (over source m ∷ (causes ++ printed_related nested source r)) (printed_related nested inherited ts)
-      (both (always_reads source m) (all_read (causes ++ printed_related nested source r)) (one_read source m here)
+      (and_from (always_reads source m) (all_read (causes ++ printed_related nested source r)) (one_read source m here)
       (all_of_both causes (printed_related nested source r) (unless_nested nested (printed_causes nested source c) (causes_read nested source c here q.0.1)) (related_read nested source r here q.0.2)))
       (related_read nested inherited ts p q.1)
 
 pub printed-reads : (s : Settings) (t : Tree) → AlwaysReads t → all_read (diagnostics_of s t) ≡ true
 printed-reads s (tree m own c r) q =
     let causes = if s.chain then printed_causes s.nested own c else [] in
-    both (always_reads own m) (all_read (causes ++ printed_related s.nested own r)) (one_read own m q.0)
+    and_from (always_reads own m) (all_read (causes ++ printed_related s.nested own r)) (one_read own m q.0)
     (all_of_both causes (printed_related s.nested own r) (if_shown s.chain (printed_causes s.nested own c) (causes_read s.nested own c q.0 q.1)) (related_read s.nested own r q.0 q.2))
 
 -- ---- a narrated report
 
-either : (a b : Bool) → b ≡ true → (a || b) ≡ true
-either true b p = refl
-either false b p = p
-
 one_told : (source : Option Source) (labels : List Label) → Reads source → told.always_reads source labels ≡ true
 one_told None labels p = refl
-one_told (Some s) labels p = either (is_nil labels) s.always_reads p
+one_told (Some s) labels p = or_right (is_nil labels) s.always_reads p
 
 mutual
   tree_told : (inherited : Option Source) (t : Tree) → Reads inherited → AlwaysReads t → told.holds_of told.always_reads inherited t ≡ true
   tree_told inherited (tree m own c r) p q =
       let source = effective own inherited in
       let here : Reads source = effective_reads own inherited q.0 p in
-      both _ _ (one_told source _ here) (trees_told source r here q.2)
+      and_from _ _ (one_told source _ here) (trees_told source r here q.2)
 
   trees_told : (inherited : Option Source) (ts : Trees) → Reads inherited → AllAlwaysRead ts → told.holds_of_all told.always_reads inherited ts ≡ true
   trees_told inherited no_trees p q = refl
-  trees_told inherited (more_trees t ts) p q = both _ _ (tree_told inherited t p q.0) (trees_told inherited ts p q.1)
+  trees_told inherited (more_trees t ts) p q = and_from _ _ (tree_told inherited t p q.0) (trees_told inherited ts p q.1)
 
 pub told-reads : (t : Tree) → AlwaysReads t → told.report_reads t ≡ true
 told-reads t q = tree_told None t tt q
@@ -113,23 +97,23 @@ told-reads t q = tree_told None t tt q
 
 accept_all : (bytes : List ℕ) (labels : List Label) → AreAccepted bytes labels → list_all (λ label. is_accepted bytes label.span) labels ≡ true
 accept_all bytes [] h = refl
-accept_all bytes (l ∷ ls) h = both _ _ (accepted_is bytes l.span h.0) (accept_all bytes ls h.1)
+accept_all bytes (l ∷ ls) h = and_from _ _ (accepted_is bytes l.span h.0) (accept_all bytes ls h.1)
 
 one_accepted : (source : Option Source) (labels : List Label) (fails : List Bool) → Reads source → told.IsAnswered source labels fails → told.accepts source labels ≡ true
 one_accepted None labels fails p a = refl
-one_accepted (Some s) labels fails p a = both _ _ (accept_all s.bytes (in_order labels) a.accepted) (either (is_nil labels) s.always_reads p)
+one_accepted (Some s) labels fails p a = and_from _ _ (accept_all s.bytes (in_order labels) a.accepted) (or_right (is_nil labels) s.always_reads p)
 
 mutual
   tree_accepted : (inherited : Option Source) (a : Answers) (t : Tree) → Reads inherited → AlwaysReads t → told.AreAnswers inherited a t → told.holds_of told.accepts inherited t ≡ true
   tree_accepted inherited a (tree m own c r) p q k =
       let source = effective own inherited in
       let here : Reads source = effective_reads own inherited q.0 p in
-      both _ _ (one_accepted source _ _ here k.0) (trees_accepted source (related_answers a) r here q.2 k.1)
+      and_from _ _ (one_accepted source _ _ here k.0) (trees_accepted source (related_answers a) r here q.2 k.1)
 
   trees_accepted : (inherited : Option Source) (more : RelatedAnswers) (ts : Trees) → Reads inherited → AllAlwaysRead ts → told.AllAnswers inherited more ts → told.holds_of_all told.accepts inherited ts ≡ true
   trees_accepted inherited more no_trees p q k = refl
   trees_accepted inherited more (more_trees t ts) p q k =
-      both _ _ (tree_accepted inherited (first_answers more) t p q.0 k.0) (trees_accepted inherited (later_answers more) ts p q.1 k.1)
+      and_from _ _ (tree_accepted inherited (first_answers more) t p q.0 k.0) (trees_accepted inherited (later_answers more) ts p q.1 k.1)
 
 pub told-accepted : (t : Tree) (a : Answers) → AlwaysReads t → told.AreAnswers None a t → told.report_accepted t ≡ true
 told-accepted t a q k = tree_accepted None a t tt q k
@@ -138,19 +122,19 @@ told-accepted t a q k = tree_accepted None a t tt q k
 
 one_kept : (source : Option Source) (labels : List Label) → Reads source → briefly.HasAccepted source (in_order labels) → told.accepts source labels ≡ true
 one_kept None labels p a = refl
-one_kept (Some s) labels p a = both _ _ (accept_all s.bytes (in_order labels) a) (either (is_nil labels) s.always_reads p)
+one_kept (Some s) labels p a = and_from _ _ (accept_all s.bytes (in_order labels) a) (or_right (is_nil labels) s.always_reads p)
 
 mutual
   tree_kept : (inherited : Option Source) (a : brief.Answers) (t : Tree) → Reads inherited → AlwaysReads t → briefly.ArePossible inherited a t → told.holds_of told.accepts inherited t ≡ true
   tree_kept inherited a (tree m own c r) p q k =
       let source = effective own inherited in
       let here : Reads source = effective_reads own inherited q.0 p in
-      both _ _ (one_kept source _ here k.0) (trees_kept source (brief.related_answers a) r here q.2 k.3)
+      and_from _ _ (one_kept source _ here k.0) (trees_kept source (brief.related_answers a) r here q.2 k.3)
 
   trees_kept : (inherited : Option Source) (more : brief.RelatedAnswers) (ts : Trees) → Reads inherited → AllAlwaysRead ts → briefly.AllPossible inherited more ts → told.holds_of_all told.accepts inherited ts ≡ true
   trees_kept inherited more no_trees p q k = refl
   trees_kept inherited more (more_trees t ts) p q k =
-      both _ _ (tree_kept inherited (brief.first_answers more) t p q.0 k.0) (trees_kept inherited (brief.later_answers more) ts p q.1 k.1)
+      and_from _ _ (tree_kept inherited (brief.first_answers more) t p q.0 k.0) (trees_kept inherited (brief.later_answers more) ts p q.1 k.1)
 
 -- a brief report is given only where a narrated one is
 pub brief-accepted : (t : Tree) (a : brief.Answers) → AlwaysReads t → briefly.ArePossible None a t → told.report_accepted t ≡ true
@@ -160,7 +144,7 @@ one_alike : (source : Option Source) (labels : List Label) → Reads source → 
 one_alike None labels p = refl
 one_alike (Some s) labels p =
     ap (λ b. list_all (λ label. is_accepted s.bytes label.span) (in_order labels) && b)
-    (either (is_nil labels) s.always_reads p ∙ sym (either (is_nil (in_order labels)) s.always_reads p))
+    (or_right (is_nil labels) s.always_reads p ∙ sym (or_right (is_nil (in_order labels)) s.always_reads p))
 
 mutual
   tree_alike : (inherited : Option Source) (t : Tree) → Reads inherited → AlwaysReads t → told.holds_of told.accepts inherited t ≡ briefly.accepts_report inherited t

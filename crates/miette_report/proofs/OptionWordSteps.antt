@@ -2,7 +2,7 @@
 use Rattle.std.proofs.Common.{◌≡◌, ◌<◌, ◌^◌, ℕ, Bool, true, false, ◌&&◌, if◌then◌else◌, List, [], ◌∷◌, length, Option, Some, None, is_some, option_map, map, String, string_bytes, codes, bytes_eq, ◌==◌, refl, sym, ap, ◌∙◌, arith}
 use Rattle.std.specs.Str.{all_ascii_digits}
 use Rattle.std.specs.Str.Parse.{AllDigits, digits_value}
-use Rattle.std.proofs.lemmas.Bool.{eqb-true, lt-ltb, ltb-true}
+use Rattle.std.proofs.lemmas.Bool.{eqb-true, lt-ltb, ltb-true, false_from_ne_true}
 use Rattle.std.proofs.lemmas.Slice.Eq.{bytes_eq-Decides}
 use Rattle.std.proofs.lemmas.Str.Parse.{tells_all_ascii_digits, tells_digits}
 use Rattle.miette_report.specs.rules.OptionWords.{Ask, JobRequest, answer_ask, first_ask, first_from, name_ask, number_ask, numbered_ask, read_number, text_ask, unless_text, value_ask, asked_behind, asked_by, onto, with_all, with_ask, word_ask}
@@ -76,12 +76,8 @@ pub numbers_ask : (word value : List ℕ) (n : ℕ) (x t : Option Ask) → t ≡
 numbers_ask word value n x t told none read is =
     is ∙ ap (numbered_ask word value) (number_read value (Some n) read) ∙ ap (unless_text word value) (sym none ∙ told)
 
-not_true : (b : Bool) → (b ≡ true → ⊥) → b ≡ false
-not_true true h = absurd (h refl)
-not_true false h = refl
-
 differ : (a b : List ℕ) → (a ≡ b → ⊥) → bytes_eq a b ≡ false
-differ a b h = not_true (bytes_eq a b) (λ e. h ((bytes_eq-Decides a b).0 e))
+differ a b h = false_from_ne_true (bytes_eq a b) (λ e. h ((bytes_eq-Decides a b).0 e))
 
 named : (b c : Bool) (x y z : Option Ask) → b ≡ false → c ≡ false → z ≡ (if b then x else (if c then y else z))
 named false false x y z h k = refl

@@ -11,7 +11,6 @@ use Rattle.miette_graphical.specs.views.Handling.{Handling, draws_plain, without
 use Rattle.miette_graphical.specs.rules.Settings.{default_settings}
 use Rattle.miette_graphical.specs.rules.Snippets.{drawn_rows}
 use Rattle.miette_graphical.specs.rules.Text.{report_text}
-use Rattle.miette_brief.specs.rules.PossibleAnswers as briefly
 use Rattle.miette_brief.specs.rules.Report as rows
 use Rattle.miette_report.proofs.AlwaysRead.{printed-reads}
 use Rattle.miette_report.specs.views.DrawReports.{draw_settings, drawn_tree, over_input, IsPicture, Pictures}

@@ -1,7 +1,7 @@
 //! What `lint` finds in the lines of a source.
 
-ghost use Rattle.std.specs.Prelude.{◌≡◌, ◌+◌, ◌++◌, ◌<◌, ◌≤◌, ◌^◌, ◌∷◌, [], nat_lt, length, decimal};
-ghost use Rattle.std.specs.Prelude.{position, ◌==◌, slice_range, take_while, find, IfOk, IfSome, OnOk, Some, None};
+ghost use Rattle.std.specs.Prelude.{◌≡◌, ◌+◌, ◌++◌, ◌<◌, ◌≤◌, ◌^◌, ◌∷◌, [], nat_lt, length};
+ghost use Rattle.std.specs.Prelude.{position, ◌==◌, take_while, find, IfOk, IfSome, OnOk, Some, None};
 ghost use Rattle.std.specs.Prelude.{None as Nothing, string_bytes};
 ghost use Rattle.std.specs.List.{last_or};
 ghost use Rattle.std.specs.Option.{option_map};

@@ -4,6 +4,7 @@ use Rattle.std.proofs.lemmas.Bool.{and_parts}
 use Rattle.std.proofs.lemmas.Bool.Decides.{nat_tests}
 use Rattle.std.proofs.lemmas.List.{drop_more, take_all}
 use Rattle.std.proofs.lemmas.List.Elements.{All-map, All-weaker}
+use Rattle.std.proofs.Math.Bool.{and_assoc}
 use Rattle.miette_runs.specs.rules.Cutting.{cut_end, cut_front, only_feeds}
 use Rattle.miette_runs.specs.steps.Feeds.{are_colours, capped_tag, feeds_len, kept_len, lowered_tag}
 use Rattle.miette_runs.specs.rules.Sequences.{Token, Character, is_line_feed}
@@ -115,13 +116,9 @@ end-tags : (tags : List Tag) (ts : List Token) → cut_end (map tag_token tags +
 end-tags [] ts = refl
 end-tags (m ∷ tags) ts = ap (λ us. tag_token m ∷ us) (end-tags tags ts)
 
-and-assoc : (a b c : Bool) → (a && (b && c)) ≡ ((a && b) && c)
-and-assoc true b c = refl
-and-assoc false b c = refl
-
 feeds-tags : (tags : List Tag) (ts : List Token) → only_feeds (map tag_token tags ++ ts) ≡ (are_colours tags && only_feeds ts)
 feeds-tags [] ts = refl
-feeds-tags (m ∷ tags) ts = ap (λ v. is_colour (tag_text m) && v) (feeds-tags tags ts) ∙ and-assoc (is_colour (tag_text m)) (are_colours tags) (only_feeds ts)
+feeds-tags (m ∷ tags) ts = ap (λ v. is_colour (tag_text m) && v) (feeds-tags tags ts) ∙ sym (and_assoc (is_colour (tag_text m)) (are_colours tags) (only_feeds ts))
 
 pub feeds-only : (tags : List Tag) → only_feeds (map tag_token tags) ≡ are_colours tags
 feeds-only [] = refl

@@ -2,6 +2,7 @@
 use Rattle.std.proofs.Common.{◌≡◌, ℕ, zero, suc, ◌<◌, Bool, true, false, not, ◌&&◌, ◌==◌, nat_le, nat_lt, List, [], ◌∷◌, ◌++◌, map, length, refl, sym, ap, ap₂, ◌∙◌, arith, append-nil, eqb-true, ltb-true, if◌then◌else◌}
 use Rattle.std.proofs.lemmas.Bool.{and_parts}
 use Rattle.std.proofs.lemmas.Bool.Decides.{nat_tests}
+use Rattle.std.proofs.Math.Bool.{and_assoc}
 use Rattle.miette_style.specs.rules.Codes.{colour_start}
 use Rattle.miette_runs.specs.rules.Sequences.{Token, Character, Sequence, is_whole, tokens, spell, is_line_feed, is_bell, one_more, begins_terminator, control_len, command_len, after_escape_len, sequence_len, are_settled}
 use Rattle.miette_style.specs.rules.Escapes.{is_escape}
@@ -127,14 +128,10 @@ start-whole s = colour-whole (colour_start s) (start_colour s)
 
 -- ---- exactly those are settled
 
-and-same : (a b c : Bool) → (a && (b && c)) ≡ ((a && b) && c)
-and-same true b c = refl
-and-same false b c = refl
-
 settled-front : (ms : List Tag) (ts : List Token) → are_settled (map tag_token ms ++ ts) ≡ (are_whole ms && are_settled ts)
 settled-front [] ts = refl
 settled-front (m ∷ ms) ts =
-    ap (λ b. is_whole (tag_text m) && b) (settled-front ms ts) ∙ and-same (is_whole (tag_text m)) (are_whole ms) (are_settled ts)
+    ap (λ b. is_whole (tag_text m) && b) (settled-front ms ts) ∙ sym (and_assoc (is_whole (tag_text m)) (are_whole ms) (are_settled ts))
 
 settled-tags_alone : (ms : List Tag) → are_settled (map tag_token ms) ≡ are_whole ms
 settled-tags_alone [] = refl
@@ -143,7 +140,7 @@ settled-tags_alone (m ∷ ms) = ap (λ b. is_whole (tag_text m) && b) (settled-t
 whole-parted : (p : ℕ) (ms : List Tag) → are_whole ms ≡ (are_whole (upto p ms) && are_whole (beyond p ms))
 whole-parted p [] = refl
 whole-parted p (m ∷ ms) = elim (nat_le m.at p) as (λ b. are_whole (m ∷ ms) ≡ (are_whole (if b then m ∷ upto p ms else []) && are_whole (if b then beyond p ms else m ∷ ms))) [
-  | true ↦ ap (λ b. is_whole (tag_text m) && b) (whole-parted p ms) ∙ and-same (is_whole (tag_text m)) (are_whole (upto p ms)) (are_whole (beyond p ms))
+  | true ↦ ap (λ b. is_whole (tag_text m) && b) (whole-parted p ms) ∙ sym (and_assoc (is_whole (tag_text m)) (are_whole (upto p ms)) (are_whole (beyond p ms)))
   | false ↦ refl
 ]
 

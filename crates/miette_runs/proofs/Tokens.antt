@@ -1,6 +1,7 @@
 -- A text is spelled by its tokens; a colour at the front is the first of them.
 use Rattle.std.proofs.Common.{◌≡◌, ℕ, zero, suc, ◌<◌, true, List, [], ◌∷◌, ◌++◌, length, take, refl, ap, ◌∙◌, arith}
 use Rattle.std.proofs.lemmas.Bool.Decides.{nat_tests}
+use Rattle.std.proofs.lemmas.List.{take_at}
 use Rattle.miette_runs.specs.rules.Sequences.{Token, Character, Sequence, tokens, tokens_behind, spell, one_more, control_len, sequence_len}
 use Rattle.miette_runs.specs.rules.Colours.{is_colour, is_colour_end}
 use Rattle.miette_style.specs.rules.Codes.{is_nil}
@@ -31,10 +32,6 @@ tokens_skip [] [] = refl
 tokens_skip [] (c ∷ r) = refl
 tokens_skip (c ∷ s) r = tokens_skip s r
 
-take_front : (s r : List ℕ) → take (length s) (s ++ r) ≡ s
-take_front [] r = refl
-take_front (c ∷ s) r = ap (λ xs. c ∷ xs) (take_front s r)
-
 -- a sequence at the front is the first token
 pub tokens_sequence : (s r : List ℕ) → 0 < length s → sequence_len (s ++ r) ≡ length s → tokens (s ++ r) ≡ Sequence s ∷ tokens r
 tokens_sequence [] r p h = absurd (omega arith)
@@ -43,7 +40,7 @@ tokens_sequence (c ∷ s) r p h =
       | zero ↦ Character c ∷ tokens_behind 0 (s ++ r)
       | suc k ↦ Sequence (take (suc k) (c ∷ (s ++ r))) ∷ tokens_behind k (s ++ r)
     ]) h
-    ∙ ap (λ xs. Sequence (c ∷ xs) ∷ tokens_behind (length s) (s ++ r)) (take_front s r)
+    ∙ ap (λ xs. Sequence (c ∷ xs) ∷ tokens_behind (length s) (s ++ r)) (take_at s r (length s) refl)
     ∙ ap (λ ts. Sequence (c ∷ s) ∷ ts) (tokens_skip s r)
 
 pub tokens_character : (c : ℕ) (r : List ℕ) → sequence_len (c ∷ r) ≡ 0 → tokens (c ∷ r) ≡ Character c ∷ tokens r

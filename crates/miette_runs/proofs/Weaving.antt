@@ -1,7 +1,7 @@
 -- Characters with the tags before them, stretch by stretch.
 use Rattle.std.proofs.Common.{◌≡◌, true, false, if◌then◌else◌, nat_le, ℕ, zero, suc, ◌+◌, ◌-◌, ◌<◌, ◌≤◌, List, [], ◌∷◌, ◌++◌, map, length, length-drop, min, take, drop, drop-drop, get_or, refl, sym, ap, ap₂, ◌∙◌, arith, append_assoc, append-nil}
 use Rattle.std.proofs.lemmas.Bool.Decides.{nat_tests}
-use Rattle.std.proofs.lemmas.List.{drop_more}
+use Rattle.std.proofs.lemmas.List.{drop_more, drop_all, take_all}
 use Rattle.miette_runs.specs.steps.Cells.{plain_cell, plain_cells}
 use Rattle.miette_runs.specs.rules.Cells.{tags_text, piece_text, Cell}
 use Rattle.miette_runs.specs.rules.Sequences.{Token, Character, spell, concatenation}
@@ -104,18 +104,6 @@ woven-none p (c ∷ cs) = ap (λ xs. Character c ∷ xs) (woven-none (suc p) cs)
 
 -- ---- where the next tag is k characters on
 
-pub drop-all : {A : Type 0} (k : ℕ) (cs : List A) → length cs ≤ k → drop k cs ≡ []
-drop-all zero [] h = refl
-drop-all zero (c ∷ cs) h = absurd (omega arith)
-drop-all (suc k) [] h = refl
-drop-all (suc k) (c ∷ cs) h = drop-all k cs (omega arith)
-
-take-all : (k : ℕ) (cs : List ℕ) → length cs ≤ k → take k cs ≡ cs
-take-all zero [] h = refl
-take-all zero (c ∷ cs) h = absurd (omega arith)
-take-all (suc k) [] h = refl
-take-all (suc k) (c ∷ cs) h = ap (λ xs. c ∷ xs) (take-all k cs (omega arith))
-
 drop-some : (k : ℕ) (cs : List ℕ) → k < length cs → 0 < length (drop k cs)
 drop-some zero cs h = h
 drop-some (suc k) [] h = absurd (omega arith)
@@ -131,7 +119,7 @@ pub text-last : (p k : ℕ) (cs : List ℕ) (m : Tag) (ms : List Tag) → k ≡ 
 text-last p k cs m ms e h =
     ap piece_text (cells-gap k p cs m ms (omega arith))
     ∙ text-plain (take k cs) (cells_at (p + k) (drop k cs) (m ∷ ms))
-    ∙ ap₂ (λ us vs. us ++ piece_text (cells_at (p + k) vs (m ∷ ms))) (take-all k cs h) (drop-all k cs h)
+    ∙ ap₂ (λ us vs. us ++ piece_text (cells_at (p + k) vs (m ∷ ms))) (take_all k cs h) (drop_all k cs h)
     ∙ append-nil cs
 
 pub tags-tag : (p k : ℕ) (cs : List ℕ) (m : Tag) (ms : List Tag) → k ≡ m.at - p → k < length cs → tags_text (cells_at p cs (m ∷ ms)) ≡ tag_text m ++ tags_text (cells_at (p + k) (drop k cs) ms)
@@ -144,7 +132,7 @@ pub tags-last : (p k : ℕ) (cs : List ℕ) (m : Tag) (ms : List Tag) → k ≡ 
 tags-last p k cs m ms e h =
     ap tags_text (cells-gap k p cs m ms (omega arith))
     ∙ tags-plain (take k cs) (cells_at (p + k) (drop k cs) (m ∷ ms))
-    ∙ ap (λ vs. tags_text (cells_at (p + k) vs (m ∷ ms))) (drop-all k cs h)
+    ∙ ap (λ vs. tags_text (cells_at (p + k) vs (m ∷ ms))) (drop_all k cs h)
 
 pub left-tag : (p k : ℕ) (cs : List ℕ) (m : Tag) (ms : List Tag) → k ≡ m.at - p → k < length cs → left_at p cs (m ∷ ms) ≡ left_at (p + k) (drop k cs) ms
 left-tag p k cs m ms e h =
@@ -152,7 +140,7 @@ left-tag p k cs m ms e h =
 
 pub left-last : (p k : ℕ) (cs : List ℕ) (m : Tag) (ms : List Tag) → k ≡ m.at - p → length cs ≤ k → left_at p cs (m ∷ ms) ≡ m ∷ ms
 left-last p k cs m ms e h =
-    left-gap k p cs m ms (omega arith) ∙ ap (λ vs. left_at (p + k) vs (m ∷ ms)) (drop-all k cs h)
+    left-gap k p cs m ms (omega arith) ∙ ap (λ vs. left_at (p + k) vs (m ∷ ms)) (drop_all k cs h)
 
 -- the tags from the next one on
 pub tags-next : (ms : List Tag) (n : ℕ) (m : Tag) → n < length ms → m ≡ get_or ms n m → drop n ms ≡ m ∷ drop (n + 1) ms

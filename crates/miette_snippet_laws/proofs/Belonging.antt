@@ -1,6 +1,6 @@
 -- Labels with their own numbers of context lines: each belongs to the one group that holds the data of its read.
 use Rattle.std.proofs.Common.{ℕ, zero, suc, ◌+◌, ◌-◌, ◌<◌, ◌≤◌, ◌≡◌, ◌⊎◌, inl, inr, Bool, true, false, cond, leb, ltb, List, [], ◌∷◌, ◌&&◌, ◌||◌, length, map, refl, sym, ap, ◌∙◌, arith}
-use Rattle.std.proofs.lemmas.Bool.{le-leb, lt-leb, leb-true, leb-false, and_parts, and_from, and_right}
+use Rattle.std.proofs.lemmas.Bool.{le-leb, lt-leb, leb-true, leb-false, and_parts, and_from, and_right, or_right}
 use Rattle.std.specs.List.{filter, list_any, AllByRecursion}
 use Rattle.miette_newlines.specs.rules.Lines as P
 use Rattle.miette_newlines.specs.rules.Lines.{Line}
@@ -175,10 +175,6 @@ ends c source span h = omega (arith, cut_is c source span h, h.begins)
 held_self : (span : Span) → holds span span ≡ true
 held_self span = and_from _ _ (le-leb span.offset span.offset (omega arith)) (le-leb (end_of_span span) (end_of_span span) (omega arith))
 
-or_true : (x y : Bool) → y ≡ true → (x || y) ≡ true
-or_true true y h = refl
-or_true false y h = h
-
 -- each of some labels is in a list that has them all
 each_one : (context : ℕ) (source : Source) (all labels : List Label) → AreAccepted source.bytes labels →
     ((lent : Span) → list_any (λ m. holds m lent) (map (stretch context source all) labels) ≡ true → list_any (λ m. holds m lent) (map (stretch context source all) all) ≡ true) →
@@ -192,7 +188,7 @@ each_one context source all (label ∷ labels) h there =
     let same : Same label.span.offset lent (joined_stretches (by_begin spans)) =
     same_joined label.span.offset lent (by_begin spans) (begins c source.bytes label.span) (ends c source label.span h.0) (begin_ascends spans) (begin_any (λ m. holds m lent) spans ∙ any) in (
       record { one = same.one; own = same.own },
-      each_one context source all labels h.1 (λ d e. there d (or_true (holds (stretch context source all label) d) (list_any (λ m. holds m d) (map (stretch context source all) labels)) e)),
+      each_one context source all labels h.1 (λ d e. there d (or_right (holds (stretch context source all label) d) (list_any (λ m. holds m d) (map (stretch context source all) labels)) e)),
     )
 
 pub one_group : (context : ℕ) (source : Source) (labels : List Label) → AreAccepted source.bytes labels → AllByRecursion (HasOneGroup context source labels) labels

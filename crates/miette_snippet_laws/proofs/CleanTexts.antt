@@ -3,7 +3,7 @@ use Rattle.std.proofs.Common.{◌≡◌, ℕ, zero, suc, ◌+◌, ◌-◌, ◌/�
 use Rattle.std.specs.Prelude.{encode_utf8, slice_range}
 use Rattle.std.specs.List.{AllByRecursion}
 use Rattle.std.specs.Fmt.{digit_glyph, digits, digits_onto}
-use Rattle.std.proofs.lemmas.Bool.{and_parts}
+use Rattle.std.proofs.lemmas.Bool.{and_parts, not-true}
 use Rattle.std.proofs.lemmas.Bool.Decides.{nat_tests}
 use Rattle.std.proofs.lemmas.List.{map-append}
 use Rattle.std.proofs.lemmas.Str.{encode_ascii}
@@ -24,12 +24,8 @@ use Rattle.miette_snippets.proofs.Telling.{codes_drawn}
 pub clean_cons : (c : ℕ) (text : List ℕ) → IsCleanCode c → IsClean text → IsClean (c ∷ text)
 clean_cons c text e h = ap₂ (λ a b. not a && b) e h
 
-unescaped : (b : Bool) → not b ≡ true → b ≡ false
-unescaped true h = absurd (cc)
-unescaped false h = refl
-
 pub clean_first : (c : ℕ) (text : List ℕ) → IsClean (c ∷ text) → IsCleanCode c
-clean_first c text h = unescaped (is_escape c) (and_parts (not (is_escape c)) (no_escape text) h).0
+clean_first c text h = not-true (is_escape c) (and_parts (not (is_escape c)) (no_escape text) h).0
 
 pub clean_rest : (c : ℕ) (text : List ℕ) → IsClean (c ∷ text) → IsClean text
 clean_rest c text h = (and_parts (not (is_escape c)) (no_escape text) h).1

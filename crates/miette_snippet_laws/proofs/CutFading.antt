@@ -5,7 +5,6 @@ use Rattle.std.proofs.lemmas.List.{map-append}
 use Rattle.miette_lines.specs.rules.Answers.{Highlight}
 use Rattle.miette_lines.specs.rules.Cells.{Cell}
 use Rattle.miette_lines.proofs.Numbers.{by_cases}
-use Rattle.miette_page.specs.rules.Rows.{Run}
 use Rattle.miette_snippets.specs.rules.CutLines.{Stretch, agree, bytes_in, cut_line, cut_runs, dots, ends, is_kept, is_near, is_near_after, onto_stretches, pieces_within, row_mark, shown_marks, shown_runs, stretches}
 use Rattle.miette_snippets.specs.rules.Marks.{Mark}
 use Rattle.miette_snippets.specs.rules.PrintedCells.{cells_width, line_runs, printed_cells}

@@ -1,5 +1,5 @@
 -- Lines that are cut, in the rows of snippets: how wide they are, and that lines which fit stay as they are.
-use Rattle.std.proofs.Common.{◌≡◌, ℕ, suc, ◌+◌, ◌≤◌, Bool, false, cond, ltb, List, [], ◌∷◌, ◌++◌, length, refl, sym, ap, ap₂, subst, Option, Some, None}
+use Rattle.std.proofs.Common.{◌≡◌, ℕ, suc, ◌+◌, ◌≤◌, Bool, false, cond, List, [], ◌∷◌, ◌++◌, length, refl, sym, ap, ap₂, subst, Option, Some, None}
 use Rattle.std.proofs.lemmas.Bool.{le-ltb}
 use Rattle.std.specs.List.{AllByRecursion}
 use Rattle.miette_newlines.specs.rules.Lines.{Line}
@@ -14,7 +14,7 @@ use Rattle.miette_snippets.specs.rules.Drawing.{marked_rows}
 use Rattle.miette_snippets.specs.rules.Folds.{Spread}
 use Rattle.miette_snippets.specs.rules.Frames.{SnippetSettings, number_start, other_start, number_width}
 use Rattle.miette_snippets.specs.rules.Gutters.{closing_rows, gutter_columns, number_gutter, other_gutter}
-use Rattle.miette_snippets.specs.rules.Marks.{Mark, Text, mark_until, marks, marks_from}
+use Rattle.miette_snippets.specs.rules.Marks.{Mark, Text, mark_until, marks_from}
 use Rattle.miette_snippets.specs.rules.PrintedCells.{cells_width}
 use Rattle.miette_snippets.specs.rules.SnippetLayout.{before_each, body_rows, break_row, cells_of, left_out, line_marks, line_or_break, line_rows, rows_of_lines, text_of_cells}
 use Rattle.miette_lines.specs.rules.Labels.{closing_labels}

@@ -3,6 +3,7 @@ use Rattle.std.proofs.Common.{ℕ, zero, suc, ◌+◌, ◌-◌, ◌<◌, ◌≤�
 use Rattle.std.specs.Prelude.{unwrap_or}
 use Rattle.std.specs.List.{range_with_len, filter, list_any, AllByRecursion}
 use Rattle.std.proofs.lemmas.Bool.{lt-ltb, le-ltb, le-leb, lt-leb, ltb-true, ltb-false, leb-true, leb-false, cases_lt, and_parts, and_from}
+use Rattle.std.proofs.Math.Bool.{and_comm}
 use Rattle.miette_newlines.specs.rules.Lines as P
 use Rattle.miette_newlines.specs.rules.Lines.{Line, lines_of}
 use Rattle.miette_protocol.specs.views.Meaning.{Label}
@@ -115,12 +116,6 @@ end_at n [] k lt = absurd (omega (arith, lt))
 end_at n (l ∷ ls) zero lt = refl
 end_at n (l ∷ ls) (suc k) lt = end_at n ls k (omega (arith, lt))
 
-swap_and : (a b : Bool) → (a && b) ≡ (b && a)
-swap_and true true = refl
-swap_and true false = refl
-swap_and false true = refl
-swap_and false false = refl
-
 -- a line has a byte of a label's context where its number lies in it
 around_is : (context : ℕ) (source : Source) (all : List Label) (label : Label) (k : ℕ) → 1 ≤ lines_around context all label → 0 < length source.bytes → k < length (lines source.bytes) →
     is_around (line_at (lines_of source.bytes) k) (spread context source all label) ≡ N.is_in_context (lines_around context all label) source.bytes k label.span
@@ -142,7 +137,7 @@ around_is context source all label k one some there =
     ap₂ (λ a b. ltb a b && ltb x.from (line_at (lines_of bytes) k).end) begins until
     ∙ ap₂ (λ a b. ltb (start_of ls k) (end_of n ls high) && ltb a b) from stops
     ∙ ap₂ (λ a b. a && b) (begins_before n high k ls (cut bytes) there) (begins_before n k low ls (cut bytes) lt)
-    ∙ swap_and (leb k high) (leb low k)
+    ∙ and_comm (leb k high) (leb low k)
     ∙ sym (context_same c bytes k label.span)
 
 -- ---- a label whose context meets a run lies in it

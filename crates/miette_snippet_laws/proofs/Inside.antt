@@ -1,7 +1,7 @@
 -- On a line that no label keeps, no label begins or ends, so the labels on it run through it.
 use Rattle.std.proofs.Common.{ℕ, ◌+◌, ◌-◌, ◌<◌, ◌≤◌, ◌≡◌, min, max, Bool, true, false, cond, eqb, ltb, leb, not, ◌&&◌, List, [], ◌∷◌, length, Some, refl, sym, ap, ap₂, ◌∙◌, arith}
 use Rattle.std.specs.List.{list_any, AllByRecursion}
-use Rattle.std.proofs.lemmas.Bool.{eq-eqb, eqb-true, eqb-false, le-leb, ltb-true, lt-ltb, leb-true, leb-false, and_parts, and_from}
+use Rattle.std.proofs.lemmas.Bool.{eq-eqb, eqb-true, eqb-false, le-leb, ltb-true, lt-ltb, leb-true, leb-false, and_parts, and_from, or_parts}
 use Rattle.miette_newlines.specs.rules.Lines as P
 use Rattle.miette_newlines.specs.rules.Lines.{Line, lines_of}
 use Rattle.miette_protocol.specs.views.Meaning.{Label}
@@ -17,7 +17,6 @@ use Rattle.miette_lines.proofs.Sources.{lines, line_of, start_of, end_of, end_of
 use Rattle.miette_lines.proofs.Numbers.{by_cases}
 use Rattle.miette_lines.proofs.Data.{cut}
 use Rattle.miette_lines.proofs.Bridge.{lines_same}
-use Rattle.miette_lines.proofs.Owning.{neither}
 use Rattle.miette_snippets.proofs.Lines.{line-mono, line-start, line-end, start-lt, start-le-end, start-next}
 use Rattle.miette_snippets.proofs.Data.{end-le-reading}
 use Rattle.miette_snippets.proofs.Bridge.{line_of_same}
@@ -133,7 +132,7 @@ all_inside : (ends : Bool) (styles : List Style) (limit context : ℕ) (bytes : 
 all_inside ends styles limit context bytes all [] i k h there off = tt
 all_inside ends styles limit context bytes all (label ∷ labels) i k h there off =
     let c : ℕ = lines_around context all label in
-    let both = neither (N.is_in_folded_context limit c bytes k label.span) (list_any (λ l. N.is_in_folded_context limit (lines_around context all l) bytes k l.span) labels) off in (
+    let both = or_parts (N.is_in_folded_context limit c bytes k label.span) (list_any (λ l. N.is_in_folded_context limit (lines_around context all l) bytes k l.span) labels) off in (
       (no_start ends styles limit c bytes i label k h.0 there both.0, no_end ends styles limit c bytes i label k h.0 there both.0),
       all_inside ends styles limit context bytes all labels (i + 1) k h.1 there both.1,
     )

@@ -4,6 +4,7 @@ use Rattle.std.specs.Prelude.{unwrap_or, is_some}
 use Rattle.std.specs.Option.{option_map}
 use Rattle.std.specs.List.{range_with_len, list_any, AllByRecursion}
 use Rattle.std.proofs.lemmas.List.Elements.{filter_agree}
+use Rattle.std.proofs.lemmas.Bool.{or_parts}
 use Rattle.miette_newlines.specs.rules.Lines.{lines_of}
 use Rattle.miette_protocol.specs.views.Meaning.{Label}
 use Rattle.miette_protocol.specs.rules.Reading.{Span, Source}
@@ -28,7 +29,7 @@ use Rattle.miette_snippets.proofs.Bodies.{KeepsAlike, joined_runs, joined_bodies
 use Rattle.miette_lines.proofs.Bodies.{some_none}
 use Rattle.miette_snippet_laws.proofs.Owning.{Around, order_each, snippets_same, group_blocks, groups_are, groups_there, block_runs, lines_are, block_bodies, nowhere, groups_nowhere, lines_nowhere, snippets_nowhere, body_nowhere}
 use Rattle.miette_snippet_laws.proofs.Folding.{runs_alike, none_alike}
-use Rattle.miette_lines.proofs.Owning.{neither, none_around, own_ordered, order_any}
+use Rattle.miette_lines.proofs.Owning.{none_around, own_ordered, order_any}
 use Rattle.miette_snippet_laws.proofs.Spreading.{numbers_of}
 use Rattle.miette_lines.proofs.NoFailures.{none_unread}
 
@@ -83,7 +84,7 @@ joined_by : (context : ℕ) (source : Source) (fails : List Bool) (labels : List
     G.lines_of_groups context source (groups_answered context source fails (spans_of (in_order labels))) ≡ N.snippets context source.bytes labels
 joined_by context source fails [] own h none = sym (no_labels context source.bytes)
 joined_by context source fails (label ∷ labels) own h none =
-    let one : 1 ≤ context = omega (arith, h.0, none_around context (label ∷ labels) label own (neither (is_some label.context) (has_own labels) own).0) in
+    let one : 1 ≤ context = omega (arith, h.0, none_around context (label ∷ labels) label own (or_parts (is_some label.context) (has_own labels) own).0) in
     joined_runs context source fails (label ∷ labels) one none ∙ sym (snippets_same context source.bytes (label ∷ labels) own)
 
 pub groups_runs : (context : ℕ) (source : Source) (fails : List Bool) (labels : List Label) → HaveContext context labels → NoneFails fails →
@@ -131,7 +132,7 @@ joined_rows : (s : SnippetSettings) (spreads : List Spread) (kept : ℕ → Bool
     bodies s spreads drawn source pieces (groups_answered context source fails (spans_of (in_order labels))) ≡ rows_of_ranges kept s drawn source.bytes pieces (N.snippets context source.bytes labels)
 joined_rows s spreads kept context source [] drawn fails pieces same own h alike none = ap (rows_of_ranges kept s drawn source.bytes pieces) (sym (no_labels context source.bytes))
 joined_rows s spreads kept context source (label ∷ labels) drawn fails pieces same own h alike none =
-    let one : 1 ≤ s.context = omega (arith, same, h.0, none_around context (label ∷ labels) label own (neither (is_some label.context) (has_own labels) own).0) in
+    let one : 1 ≤ s.context = omega (arith, same, h.0, none_around context (label ∷ labels) label own (or_parts (is_some label.context) (has_own labels) own).0) in
     let all : N.snippets context source.bytes (label ∷ labels) ≡ J.snippets s.context source.bytes (map (λ l. l.span) (label ∷ labels)) =
     snippets_same context source.bytes (label ∷ labels) own ∙ ap (λ c. J.snippets c source.bytes (map (λ l. l.span) (label ∷ labels))) (sym same) in
     ap (λ c. bodies s spreads drawn source pieces (groups_answered c source fails (spans_of (in_order (label ∷ labels))))) (sym same)

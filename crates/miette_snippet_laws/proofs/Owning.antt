@@ -2,6 +2,7 @@
 use Rattle.std.proofs.Common.{ℕ, Bool, suc, ◌+◌, ◌-◌, ◌<◌, ◌≤◌, ◌≡◌, min, false, leb, List, [], ◌∷◌, ◌&&◌, ◌||◌, length, map, refl, sym, ap, ap₂, ◌∙◌, arith}
 use Rattle.std.specs.Prelude.{is_some}
 use Rattle.std.proofs.lemmas.List.Elements.{filter_agree}
+use Rattle.std.proofs.lemmas.Bool.{or_parts}
 use Rattle.std.specs.List.{range_with_len, filter, list_any, AllByRecursion}
 use Rattle.miette_newlines.specs.rules.Lines as P
 use Rattle.miette_newlines.specs.rules.Lines.{Line}
@@ -32,7 +33,7 @@ use Rattle.miette_snippets.proofs.Bodies.{KeepsAlike, no_lines, no-part, body_fr
 use Rattle.miette_snippets.proofs.Ends.{empty-end, empty-start}
 use Rattle.miette_snippet_laws.proofs.Reread.{block_line, block_lines, block_numbers}
 use Rattle.miette_snippet_laws.proofs.Spreading.{Block, IsBlock, AreBlocks, span_of, order_same, joined_same, blocks_by_begin, joined_blocks, ordered_there, joined_there, blocks_are_runs, numbers_of, in_blocks}
-use Rattle.miette_lines.proofs.Owning.{neither, none_around}
+use Rattle.miette_lines.proofs.Owning.{none_around}
 
 put_each : (P : Label → Type 0) (label : Label) (labels : List Label) → P label → AllByRecursion P labels → AllByRecursion P (put_label label labels)
 put_each P label [] own h = (own, tt)
@@ -48,7 +49,7 @@ none_shown : (context : ℕ) (bytes : List ℕ) (k : ℕ) (all labels : List Lab
     list_any (λ label. N.is_in_context (lines_around context all label) bytes k label.span) labels ≡ J.is_shown context bytes (map (λ l. l.span) labels) k
 none_shown context bytes k all [] e h = refl
 none_shown context bytes k all (label ∷ labels) e h =
-    let both = neither (is_some label.context) (has_own labels) h in
+    let both = or_parts (is_some label.context) (has_own labels) h in
     ap₂ (λ x y. x || y)
     (ap (λ c. N.is_in_context c bytes k label.span) (none_around context all label e both.0) ∙ context_same context bytes k label.span)
     (none_shown context bytes k all labels e both.1)

@@ -8,7 +8,7 @@ ghost use Rattle.miette_snippets.specs.rules.Numbers.{ranges, IsRange, AreParted
 ghost use Rattle.miette_newlines.specs.rules.Lines.{lines_of};
 ghost use Rattle.miette_style.specs.declared.style.Style.{Style};
 ghost use Rattle.miette_protocol.specs.views.Meaning.{Label};
-ghost use Rattle.miette_protocol.specs.rules.Reading.{Source, Contents, Span};
+ghost use Rattle.miette_protocol.specs.rules.Reading.{Source, Contents};
 ghost use Rattle.miette_snippet_laws.specs.laws.Belonging.{HasOneGroup};
 ghost use Rattle.miette_snippet_laws.specs.laws.Clean.{AreCleanDrawings, IsCleanLabel, IsCleanRow, IsCleanSource};
 ghost use Rattle.miette_snippet_laws.specs.laws.Ends.{AreBehindText, EndsStandBehind, with_ends, AreBehindShown};

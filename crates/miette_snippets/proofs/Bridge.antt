@@ -1,9 +1,10 @@
 -- Lines, places and reads in the words of miette_protocol are those in the forms that the proofs go by.
-use Rattle.std.proofs.Common.{ℕ, zero, suc, ◌+◌, ◌-◌, ◌<◌, ◌≤◌, ◌≡◌, max, Bool, true, false, cond, ltb, leb, eqb, List, [], ◌∷◌, length, refl, sym, ap, ◌∙◌, ◌&&◌, count_by, arith, ◌⊎◌, inl, inr}
+use Rattle.std.proofs.Common.{ℕ, zero, suc, ◌+◌, ◌-◌, ◌<◌, ◌≤◌, ◌≡◌, max, Bool, cond, ltb, leb, eqb, List, [], ◌∷◌, length, refl, sym, ap, ◌∙◌, ◌&&◌, count_by, arith, ◌⊎◌, inl, inr}
 use Rattle.std.specs.Prelude.{slice_get}
 use Rattle.std.specs.Option.{option_map_or}
 use Rattle.std.proofs.lemmas.Bool.{ne_eqb}
 use Rattle.std.proofs.lemmas.List.Sums.{sum_by-cons}
+use Rattle.std.proofs.Math.Bool.{and_comm}
 use Rattle.miette_newlines.specs.rules.Lines as P
 use Rattle.miette_newlines.specs.rules.Lines.{Line}
 use Rattle.miette_protocol.specs.rules.Reading as R
@@ -16,22 +17,16 @@ use Rattle.miette_lines.proofs.Bridge.{end_same, lines_same, some-context}
 
 -- places
 
-swap_and : (a b : Bool) → (a && b) ≡ (b && a)
-swap_and true true = refl
-swap_and true false = refl
-swap_and false true = refl
-swap_and false false = refl
-
 pub counted : (ls : List Line) (offset : ℕ) → count_by (λ l. P.is_terminated l && leb l.end offset) ls ≡ line_of ls offset
 counted [] offset = refl
-counted (l ∷ ls) offset = sum_by-cons (λ l. cond (P.is_terminated l && leb l.end offset) 1 0) l ls ∙ ap (λ b. cond b 1 0 + count_by (λ l. P.is_terminated l && leb l.end offset) ls) (swap_and (is_ended l) (leb l.end offset)) ∙ ap (λ n. cond (leb l.end offset && is_ended l) 1 0 + n) (counted ls offset)
+counted (l ∷ ls) offset = sum_by-cons (λ l. cond (P.is_terminated l && leb l.end offset) 1 0) l ls ∙ ap (λ b. cond b 1 0 + count_by (λ l. P.is_terminated l && leb l.end offset) ls) (and_comm (is_ended l) (leb l.end offset)) ∙ ap (λ n. cond (leb l.end offset && is_ended l) 1 0 + n) (counted ls offset)
 
 pub line_of_same : (bytes : List ℕ) (offset : ℕ) → P.line_of bytes offset ≡ line_of (lines bytes) offset
 unfolding P.line_of
 line_of_same bytes offset = ap (λ ls. count_by (λ l. P.is_terminated l && leb l.end offset) ls) (lines_same 0 bytes) ∙ counted (lines bytes) offset
 
 swap_three : (a b c : Bool) → (a && (b && c)) ≡ ((b && c) && a)
-swap_three a b c = swap_and a (b && c)
+swap_three a b c = and_comm a (b && c)
 
 counted_in : (ls : List Line) (from to : ℕ) → count_by (λ l. P.is_terminated l && (ltb from l.end && leb l.end to)) ls ≡ terminators_in ls from to
 counted_in [] from to = refl

@@ -1,5 +1,5 @@
 -- What a read with context shows, in numbers of lines.
-use Rattle.std.proofs.Common.{ℕ, ◌+◌, ◌-◌, ◌<◌, ◌≤◌, ◌≡◌, min, max, leb, eqb, List, [], length, ap, ◌∙◌, ⊎_elim, ◌&&◌, arith}
+use Rattle.std.proofs.Common.{ℕ, ◌+◌, ◌-◌, ◌<◌, ◌≤◌, ◌≡◌, min, max, leb, eqb, List, length, ap, ◌∙◌, ⊎_elim, ◌&&◌, arith}
 use Rattle.std.specs.Prelude.{slice_index}
 use Rattle.std.proofs.lemmas.Bool.{le-leb, lt-leb, cases_lt, and_from, and_left, and_right}
 use Rattle.std.specs.List.{range_with_len, filter}

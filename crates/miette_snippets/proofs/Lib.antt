@@ -7,6 +7,7 @@ pub mod Ends
 pub mod Joining
 pub mod Lines
 pub mod Merging
+pub mod NoPieces
 pub mod Numbers
 pub mod Segments
 pub mod Telling

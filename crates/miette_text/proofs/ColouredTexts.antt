@@ -12,7 +12,7 @@ record Ends (cs : List ℕ) (k : ℕ) : Type 0 where
   pub control : control_len cs ≡ suc k
   pub colour : is_colour_end (take (suc k) cs) ≡ true
 
-one_more_suc : (n k : ℕ) → one_more n ≡ suc k → (j : ℕ) × (n ≡ suc j) × (k ≡ suc j)
+pub one_more_suc : (n k : ℕ) → one_more n ≡ suc k → (j : ℕ) × (n ≡ suc j) × (k ≡ suc j)
 one_more_suc zero k h = cc
 one_more_suc (suc n) k h = (n, refl, cc)
 

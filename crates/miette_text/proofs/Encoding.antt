@@ -6,6 +6,7 @@ use Rattle.std.proofs.lemmas.Str.{encode_ascii, inside_one, length-encode, len_u
 use Rattle.miette_runs.specs.rules.Sequences.{erase, erase_behind, is_parameter, one_more, colour_end_len, after_colour_escape_len}
 use Rattle.miette_style.specs.rules.Escapes.{is_escape}
 use Rattle.miette_text.proofs.Parsing.{erase_plain}
+use Rattle.miette_text.proofs.ColouredTexts.{one_more_suc}
 
 -- all bytes are 128 or more
 abbrev high : List ℕ → Bool
@@ -78,10 +79,6 @@ Ascii zero cs = Unit {0}
 Ascii (suc k) [] = Unit {0}
 Ascii (suc k) (c ∷ cs) = (c < 128) × Ascii k cs
 
-more_suc : (n k : ℕ) → one_more n ≡ suc k → (j : ℕ) × (n ≡ suc j) × (k ≡ suc j)
-more_suc zero k h = cc
-more_suc (suc n) k h = (n, refl, cc)
-
 end_low : (c : ℕ) → is_parameter c ≡ true → c < 128
 end_low c h = grind (arith, nat_tests)
 
@@ -91,7 +88,7 @@ end_ascii (c ∷ cs) k h =
     elim (c == 109) as (λ b. (c == 109) ≡ b → (if b then 1 else if is_parameter c then one_more (colour_end_len cs) else 0) ≡ suc k → Ascii (suc k) (c ∷ cs)) [
       | true ↦ λ e g. (let d : c ≡ 109 = eqb-true c 109 e in omega arith, let P : ℕ → Type 0 = λ n. Ascii n cs in let z : 0 ≡ k = omega arith in subst P z tt)
       | false ↦ λ e. elim (is_parameter c) as (λ b. is_parameter c ≡ b → (if b then one_more (colour_end_len cs) else 0) ≡ suc k → Ascii (suc k) (c ∷ cs)) [
-        | true ↦ λ p g. (end_low c p, let s = more_suc (colour_end_len cs) k g in let P : ℕ → Type 0 = λ n. Ascii n cs in subst P (sym s.2) (end_ascii cs s.0 s.1))
+        | true ↦ λ p g. (end_low c p, let s = one_more_suc (colour_end_len cs) k g in let P : ℕ → Type 0 = λ n. Ascii n cs in subst P (sym s.2) (end_ascii cs s.0 s.1))
         | false ↦ λ p g. absurd (cc)
       ] refl
     ] refl h
@@ -101,8 +98,8 @@ after_ascii [] k h = absurd (cc)
 after_ascii (c ∷ cs) k h =
     elim (c == 91) as (λ b. (c == 91) ≡ b → one_more (if b then one_more (colour_end_len cs) else 0) ≡ suc k → Ascii k (c ∷ cs)) [
       | true ↦ λ e g.
-          let s = more_suc (one_more (colour_end_len cs)) k g in
-          let t = more_suc (colour_end_len cs) s.0 s.1 in
+          let s = one_more_suc (one_more (colour_end_len cs)) k g in
+          let t = one_more_suc (colour_end_len cs) s.0 s.1 in
           let P : ℕ → Type 0 = λ n. Ascii n (c ∷ cs) in
           let Q : ℕ → Type 0 = λ n. Ascii n cs in
           subst P (sym s.2) ((let d : c ≡ 91 = eqb-true c 91 e in omega arith, subst Q (sym t.2) (end_ascii cs t.0 t.1)))

@@ -2,13 +2,14 @@
 use Rattle.std.proofs.Common.{◌≡◌, ℕ, zero, suc, ◌+◌, ◌-◌, ◌<◌, ◌≤◌, Bool, true, false, not, ◌&&◌, ◌||◌, nat_le, nat_lt, List, [], ◌∷◌, ◌++◌, IsAscii, IsUtf8, length, get_or, drop, refl, sym, ap, ap₂, ◌∙◌, arith, append-nil, ltb-true, Option, Some, None}
 use Rattle.std.specs.Prelude.{chars, encode_utf8, encode_utf8_all, slice_index}
 use Rattle.std.specs.Option.{is_some}
-use Rattle.std.proofs.lemmas.Bool.{and_parts}
+use Rattle.std.proofs.lemmas.Bool.{and_parts, false_from_ne_true}
 use Rattle.std.proofs.lemmas.Bool.Decides.{nat_tests}
-use Rattle.std.proofs.lemmas.List.{drop_more}
+use Rattle.std.proofs.lemmas.List.{drop_more, drop_all}
 use Rattle.std.proofs.lemmas.List.Elements.{All-cons, All-nil}
 use Rattle.std.proofs.lemmas.List.Sums.{sum_by-cons}
 use Rattle.std.proofs.lemmas.Str.{encode_ascii, encodes-chars, inside_one}
 use Rattle.std.proofs.lemmas.Str.Ascii.{IsAscii-from_all}
+use Rattle.std.proofs.Math.Bool.{and-false, and-true, and_assoc}
 use Rattle.std.specs.List.{All}
 use Rattle.std.specs.Char.{is_whitespace}
 use Rattle.memchr.specs.Find.{IsFirstByte, Nowhere, Passes, is_byte2}
@@ -20,7 +21,6 @@ use Rattle.miette_text.specs.rules.Wrapping.{is_space}
 use Rattle.miette_runs.specs.rules.Cells.{width}
 use Rattle.miette_runs.specs.steps.Cells.{code_columns}
 use Rattle.miette_text.specs.steps.Fitting.{all_printable, fits_row}
-use Rattle.miette_runs.proofs.Weaving.{drop-all}
 
 -- ---- printable ASCII
 
@@ -79,10 +79,6 @@ is_apart c = is_escape c || is_line_feed c
 abbrev pub left_fits : ℕ → Bool → List ℕ → Bool
 left_fits left bare rest = is_line rest && (ends_bare bare rest && nat_le (code_columns rest) left)
 
-and-none : (b : Bool) → (b && false) ≡ false
-and-none true = refl
-and-none false = refl
-
 apart-fits : (left : ℕ) (bare : Bool) (c : ℕ) (cs : List ℕ) → is_apart c ≡ true → left_fits left bare (c ∷ cs) ≡ false
 apart-fits left bare c cs h = ap (λ b. (not b && is_line cs) && (ends_bare bare (c ∷ cs) && nat_le (code_columns (c ∷ cs)) left)) h
 
@@ -91,8 +87,8 @@ wide-fits left bare c cs h =
     let s : code_columns (c ∷ cs) ≡ width c + code_columns cs = sum_by-cons width c cs in
     let n : nat_le (code_columns (c ∷ cs)) left ≡ false = grind (arith, nat_tests) in
     ap (λ b. is_line (c ∷ cs) && (ends_bare bare (c ∷ cs) && b)) n
-    ∙ ap (λ b. is_line (c ∷ cs) && b) (and-none (ends_bare bare (c ∷ cs)))
-    ∙ and-none (is_line (c ∷ cs))
+    ∙ ap (λ b. is_line (c ∷ cs) && b) (and-false (ends_bare bare (c ∷ cs)))
+    ∙ and-false (is_line (c ∷ cs))
 
 next-fits : (left : ℕ) (bare : Bool) (c : ℕ) (cs : List ℕ) → is_apart c ≡ false → width c ≤ left → left_fits left bare (c ∷ cs) ≡ left_fits (left - width c) (not (is_space c)) cs
 next-fits left bare c cs h k =
@@ -129,28 +125,20 @@ white_at cs n c m t h e =
 
 -- ---- at the end
 
-and-true : (b : Bool) → (b && true) ≡ b
-and-true true = refl
-and-true false = refl
-
 pub end-fits : (left : ℕ) (bare : Bool) (cs : List ℕ) (n : ℕ) → length cs ≤ n → left_fits left bare (drop n cs) ≡ bare
 end-fits left bare cs n h =
     let z : nat_le 0 left ≡ true = grind (arith, nat_tests) in
-    ap (left_fits left bare) (drop-all n cs h) ∙ ap (λ b. bare && b) z ∙ and-true bare
+    ap (left_fits left bare) (drop_all n cs h) ∙ ap (λ b. bare && b) z ∙ and-true bare
 
 pub end-white : (cs : List ℕ) (n : ℕ) → length cs ≤ n → has_ink (drop n cs) ≡ false
-end-white cs n h = ap has_ink (drop-all n cs h)
+end-white cs n h = ap has_ink (drop_all n cs h)
 
 -- ---- the bytes of a line
 
 line-append : (xs ys : List ℕ) → is_line (xs ++ ys) ≡ (is_line xs && is_line ys)
 line-append [] ys = refl
 line-append (x ∷ xs) ys =
-    ap (λ b. not (is_apart x) && b) (line-append xs ys) ∙ and-assoc (not (is_apart x)) (is_line xs) (is_line ys)
-  where
-    and-assoc : (a b c : Bool) → (a && (b && c)) ≡ ((a && b) && c)
-    and-assoc true b c = refl
-    and-assoc false b c = refl
+    ap (λ b. not (is_apart x) && b) (line-append xs ys) ∙ sym (and_assoc (not (is_apart x)) (is_line xs) (is_line ys))
 
 not-apart : (b : ℕ) → 128 ≤ b → is_apart b ≡ false
 not-apart b h = grind (arith, nat_tests)
@@ -191,16 +179,12 @@ breaks = is_byte2 27 10
 nowhere-line : (bs : List ℕ) → Nowhere (Passes breaks bs) 0 (length bs) → is_line bs ≡ true
 nowhere-line [] h = refl
 nowhere-line (b ∷ bs) h =
-    ap₂ (λ x y. not x && y) (other (is_apart b) (h 0 (omega arith) (omega arith))) (nowhere-line bs (λ k lo lt. h (suc k) (omega arith) (omega (arith, lt))))
-  where
-    other : (x : Bool) → (x ≡ true → ⊥) → x ≡ false
-    other true h = absurd (h refl)
-    other false h = refl
+    ap₂ (λ x y. not x && y) (false_from_ne_true (is_apart b) (h 0 (omega arith) (omega arith))) (nowhere-line bs (λ k lo lt. h (suc k) (omega arith) (omega (arith, lt))))
 
 found-line : (bs : List ℕ) (k : ℕ) → k < length bs → breaks (slice_index bs k) ≡ true → is_line bs ≡ false
 found-line [] k l h = absurd (omega arith)
 found-line (b ∷ bs) zero l h = ap (λ x. not x && is_line bs) h
-found-line (b ∷ bs) (suc k) l h = ap (λ y. not (is_apart b) && y) (found-line bs k (omega (arith, l)) h) ∙ and-none (not (is_apart b))
+found-line (b ∷ bs) (suc k) l h = ap (λ y. not (is_apart b) && y) (found-line bs k (omega (arith, l)) h) ∙ and-false (not (is_apart b))
 
 pub searched-line : (bs : List ℕ) (r : Option ℕ) (none : Bool) → IsFirstByte breaks bs r → is_some r ≡ not none → none ≡ is_line bs
 searched-line bs None true h e = sym (nowhere-line bs h)

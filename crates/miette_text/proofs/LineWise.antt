@@ -2,7 +2,7 @@
 use Rattle.std.proofs.Common.{◌≡◌, ℕ, suc, ◌+◌, ◌-◌, ◌<◌, ◌≤◌, min, Bool, true, false, List, [], ◌∷◌, ◌++◌, map, length, take, drop, refl, sym, ap, ap₂, ◌∙◌, append_assoc, append-nil, if◌then◌else◌, arith, eqb-true}
 use Rattle.std.proofs.lemmas.List.{length-map}
 use Rattle.miette_runs.specs.rules.Sequences.{Token, Character, Sequence, is_line_feed, concatenation, spell}
-use Rattle.miette_text.specs.rules.Wrapping.{Cuts, TextLine, Plan, Word, cut_words, filled_text, joined_rows, line_feed, text_rows, on_first, with_tag, with_code, no_characters, text_lines, onto, rows, rows_behind, columns, word_cells}
+use Rattle.miette_text.specs.rules.Wrapping.{Cuts, TextLine, Plan, Word, cut_words, filled_text, joined_rows, line_feed, text_rows, on_first, with_tag, with_code, no_characters, text_lines, rows, rows_behind, columns, word_cells}
 use Rattle.miette_runs.specs.rules.Cells.{Cell, columns_of}
 use Rattle.miette_text.specs.steps.Ends.{line_len, row_cells}
 use Rattle.miette_runs.specs.views.Interleaving.{beyond, cells_at, left_at, tag_text, tag_token, tags_spelled, upto, interleaving}
@@ -11,6 +11,7 @@ use Rattle.miette_text.proofs.RowTexts.{behind, joined_lines, lines_of, shown}
 use Rattle.miette_text.proofs.Joining.{lines_from, piece_lines, spell-text_rows}
 use Rattle.miette_runs.proofs.Appending.{spell-append}
 use Rattle.miette_text.proofs.InterleavedCells.{spelled-flat}
+use Rattle.miette_text.proofs.Parting.{onto-some}
 
 -- ---- pieces
 
@@ -32,10 +33,6 @@ lines_of-some : (rest : List (List ℕ)) (rs : List (List Cell)) → 0 < length 
 lines_of-some rest [] h = h
 lines_of-some rest (r ∷ []) h = omega arith
 lines_of-some rest (r ∷ s ∷ rs) h = omega arith
-
-onto-some : {A : Type 0} (x : A) (ps : List (List A)) → 0 < length (onto x ps)
-onto-some x [] = omega arith
-onto-some x (p ∷ ps) = omega arith
 
 all-some : (room further : ℕ) (ws : List Word) → 0 < length (rows room further ws)
 all-some room further [] = omega arith

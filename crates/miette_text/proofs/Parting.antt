@@ -57,7 +57,7 @@ all_narrowed-none : (cuts : Cuts) (ps : List (List Cell)) → flat_map (narrow_p
 all_narrowed-none cuts [] = refl
 all_narrowed-none cuts (p ∷ ps) = ap (λ us. us ++ flat_map (narrow_parts cuts) ps) (narrowed_at-is cuts.breaks cuts.narrow p)
 
-onto-some : {A : Type 0} (x : A) (ps : List (List A)) → 0 < length (onto x ps)
+pub onto-some : {A : Type 0} (x : A) (ps : List (List A)) → 0 < length (onto x ps)
 onto-some x [] = omega arith
 onto-some x (p ∷ ps) = omega arith
 

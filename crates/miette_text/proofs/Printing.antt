@@ -16,6 +16,7 @@ use Rattle.miette_text.proofs.Parsing.{tokens-spell, erase-spell}
 use Rattle.miette_text.proofs.TameResults.{run-append}
 use Rattle.miette_text.proofs.Erasing.{append-tame, erase-append}
 use Rattle.miette_runs.proofs.Parameters.{start_colour}
+use Rattle.miette_runs.proofs.Growing.{spell-characters}
 
 -- a text that is spelled by tame tokens
 spelled-tame : (text : List ℕ) (ts : List Token) → AreTame ts → spell ts ≡ text → IsTame text
@@ -25,10 +26,6 @@ spelled-erase : (text : List ℕ) (ts : List Token) → AreTame ts → spell ts 
 spelled-erase text ts h e = ap erase (sym e) ∙ erase-spell Free ts h
 
 -- ---- a plain text
-
-spell-characters : (cs : List ℕ) → spell (map Character cs) ≡ cs
-spell-characters [] = refl
-spell-characters (c ∷ cs) = ap (λ xs. c ∷ xs) (spell-characters cs)
 
 erased-characters : (cs : List ℕ) → erased (map Character cs) ≡ map Character cs
 erased-characters [] = refl

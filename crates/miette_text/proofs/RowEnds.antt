@@ -1,6 +1,6 @@
 -- The rows that words fill hold them in order, and a row is printed without its last spaces.
 use Rattle.std.proofs.Common.{◌≡◌, ℕ, ◌+◌, Bool, true, false, ◌&&◌, not, nat_lt, List, [], ◌∷◌, ◌++◌, refl, sym, ap, ◌∙◌, if◌then◌else◌}
-use Rattle.std.proofs.lemmas.Bool.{true≢false, false≢true}
+use Rattle.std.proofs.lemmas.Bool.{true≢false, false≢true, and_right, not_from_false}
 use Rattle.std.specs.Cmp.{second_so}
 use Rattle.miette_runs.specs.rules.Sequences.{Token, Character, Sequence}
 use Rattle.miette_text.specs.rules.Wrapping.{Word, columns, word_cells, is_space, only_spaces, onto, rows, rows_behind, trimmed_row}
@@ -35,15 +35,12 @@ token-kept : (t : Token) (ts : List Token) → only_spaces (t ∷ ts) ≡ false 
 token-kept (Character c) ts h = ap (λ b. if b then trimmed_row ts else Character c ∷ trimmed_row ts) h
 token-kept (Sequence s) ts h = refl
 
-not_false : (b : Bool) → b ≡ false → not b ≡ true
-not_false b h = ap not h
-
 and_true : (s t : Bool) → t ≡ true → (s && t) ≡ false → s ≡ false
 and_true true t h k = absurd (true≢false (sym h ∙ k))
 and_true false t h k = refl
 
 is_letter-last : (t : Token) (ts : List Token) → only_spaces ts ≡ true → only_spaces (t ∷ ts) ≡ false → is_letter t ≡ true
-is_letter-last (Character c) ts h k = not_false (is_space c) (and_true (is_space c) (only_spaces ts) h k)
+is_letter-last (Character c) ts h k = not_from_false (is_space c) (and_true (is_space c) (only_spaces ts) h k)
 is_letter-last (Sequence s) ts h k = absurd (true≢false (sym h ∙ k))
 
 letter-ends : (t : Token) (ts kept dropped : List Token) → ts ≡ kept ++ dropped → ends_with_letter kept ≡ true → only_spaces dropped ≡ true → only_spaces (t ∷ ts) ≡ false → ends_with_letter (t ∷ kept) ≡ true
@@ -74,14 +71,10 @@ space-none : (b c : Bool) → not b ≡ true → (b && c) ≡ false
 space-none true c h = absurd (false≢true h)
 space-none false c h = refl
 
-none-behind : (s t : Bool) → t ≡ false → (s && t) ≡ false
-none-behind true t h = h
-none-behind false t h = refl
-
 not_only : (t : Token) (kept dropped : List Token) → ends_with_letter (t ∷ kept) ≡ true → only_spaces (t ∷ kept ++ dropped) ≡ false
 not_only (Character c) [] dropped h = space-none (is_space c) (only_spaces dropped) h
 not_only (Sequence s) [] dropped h = absurd (false≢true h)
-not_only (Character c) (u ∷ us) dropped h = none-behind (is_space c) (only_spaces (u ∷ us ++ dropped)) (not_only u us dropped h)
+not_only (Character c) (u ∷ us) dropped h = and_right (is_space c) (only_spaces (u ∷ us ++ dropped)) (not_only u us dropped h)
 not_only (Sequence s) (u ∷ us) dropped h = not_only u us dropped h
 
 ends-behind : (t : Token) (kept : List Token) → ends_with_letter (t ∷ kept) ≡ true → ends_with_letter kept ≡ true

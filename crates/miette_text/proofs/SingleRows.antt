@@ -1,8 +1,9 @@
 -- Texts that stand in one row as they are.
 use Rattle.std.proofs.Common.{◌≡◌, ℕ, ◌+◌, ◌-◌, ◌<◌, ◌≤◌, Bool, true, false, not, ◌&&◌, ◌||◌, nat_le, List, [], ◌∷◌, ◌++◌, map, flat_map, refl, sym, ap, ap₂, ◌∙◌, if◌then◌else◌, arith, append-nil}
-use Rattle.std.proofs.lemmas.Bool.{and_parts}
+use Rattle.std.proofs.lemmas.Bool.{and_parts, not-true}
 use Rattle.std.proofs.lemmas.Bool.Decides.{nat_tests}
 use Rattle.std.proofs.lemmas.List.Sums.{sum_by-append}
+use Rattle.std.proofs.Math.Bool.{and-false}
 use Rattle.std.specs.Char.{is_whitespace}
 use Rattle.miette_style.specs.rules.Escapes.{is_escape, no_escape}
 use Rattle.miette_runs.specs.rules.Sequences.{Token, Character, tokens, spell, is_line_feed, are_settled}
@@ -146,16 +147,12 @@ ink-white (c ∷ cs) = ap (λ b. not (is_whitespace c) || b) (ink-white cs) ∙ 
     either true b = refl
     either false b = refl
 
-opposite : (b : Bool) → not b ≡ true → b ≡ false
-opposite true h = sym h
-opposite false h = refl
-
 pub wrapped-shown : (p : Plan (List ℕ)) (first : List Token) (cs : List ℕ) → p.wraps ≡ false → p.first ≡ spell first → tokens (spell first) ≡ first → is_shown cs ≡ true →
     wrapped_text p cs ≡ spell first ++ cs
 wrapped-shown p first cs w i t h =
     let q = and_parts (is_line cs) (has_ink cs) h in
     let under : tokens p.first ≡ first = ap tokens i ∙ t in
-    let k : all_white (plain_cells cs) ≡ false = opposite (all_white (plain_cells cs)) (sym (ink-white cs) ∙ q.1) in
+    let k : all_white (plain_cells cs) ≡ false = not-true (all_white (plain_cells cs)) (sym (ink-white cs) ∙ q.1) in
     ap (λ (b : Bool). spell (if b then filled_text (map_indents tokens p) (tokens cs) else whole_lines (tokens p.first) (tokens p.further) (text_lines (tokens cs)))) w
     ∙ whole-line (tokens p.first) (tokens p.further) (tokens cs) cs (text-line cs q.0) k
     ∙ ap (λ us. spell us ++ cs) under
@@ -186,8 +183,4 @@ fits-row wraps room left first cs h w k e =
 pub fits-no_room : (wraps : Bool) (room : ℕ) (first : List Token) (cs : List ℕ) → are_settled first ≡ true → wraps ≡ true → room < columns_of first → false ≡ fits wraps room first cs
 fits-no_room wraps room first cs h w k =
     let none : false ≡ nat_le (columns_of first + code_columns cs) room = grind (arith, nat_tests) in
-    sym (ap (λ b. is_line cs && b) (and-none (ends_bare true cs)) ∙ and-none (is_line cs)) ∙ fits-filled wraps room first cs false h w none
-  where
-    and-none : (b : Bool) → (b && false) ≡ false
-    and-none true = refl
-    and-none false = refl
+    sym (ap (λ b. is_line cs && b) (and-false (ends_bare true cs)) ∙ and-false (is_line cs)) ∙ fits-filled wraps room first cs false h w none

@@ -1,4 +1,5 @@
 pub mod Ends
 pub mod Missing
+pub mod Nesting
 pub mod ChainLaws
 pub mod TreeSizes

@@ -5,9 +5,10 @@ use Rattle.miette_tree.specs.rules.DiagnosticParts.{given_labels}
 use Rattle.miette_tree.specs.views.Owned.{shown_source}
 use Rattle.miette_tree.specs.views.Report.{tree_of}
 use Rattle.miette_tree.proofs.TreeSizes.{tree_size, trees_size, one_falls}
+use Rattle.miette_tree.proofs.Nesting.{next_of}
 use Rattle.miette_lines.specs.rules.Groups.{in_order}
 use Rattle.miette_brief.specs.rules.PossibleAnswers.{accepts, accepts_report, accepts_related}
-use Rattle.miette_brief.proofs.Telling.{none_so_far, one_more, all_told, next_of, at_the_end, report_told, RelatedSoFar, refused_here, refused_below, one_refused}
+use Rattle.miette_brief.proofs.Telling.{none_so_far, one_more, all_told, at_the_end, report_told, RelatedSoFar, refused_here, refused_below, one_refused}
 use Rattle.miette_brief.proofs.report.+report.Goals as goal
 
 pub push_related-loop-report-init : goal.push_related-loop-report-init

@@ -3,8 +3,9 @@ use Rattle.std.specs.Option.{option_map}
 use Rattle.miette_tree.specs.rules.Tree.{cause_of, texts}
 use Rattle.miette_tree.specs.views.Report.{tree_of}
 use Rattle.miette_tree.specs.views.Owned.{shown_source}
+use Rattle.miette_tree.proofs.Nesting.{texts_shown}
 use Rattle.miette_brief.specs.steps.Conversions.{place_of}
-use Rattle.miette_brief.proofs.Causing.{none_so_far, one_more, all_told, texts_shown}
+use Rattle.miette_brief.proofs.Causing.{none_so_far, one_more, all_told}
 use Rattle.miette_brief.proofs.report.push_causes.Goals as goal
 
 pub loop-next-init : goal.loop-next-init

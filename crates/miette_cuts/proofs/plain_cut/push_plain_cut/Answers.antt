@@ -1,12 +1,13 @@
 use Rattle.std.proofs.Common.{◌∙◌, take, drop, ap}
 use Rattle.std.specs.List.{list_all}
 use Rattle.miette_lines.specs.views.Printable.{is_printable}
-use Rattle.miette_cuts.proofs.CutPlain.{drop_least, dropped, plain_end, plain_more, take_least, taken}
+use Rattle.miette_lines.proofs.Plaining.{printable_taken}
+use Rattle.miette_cuts.proofs.CutPlain.{drop_least, dropped, plain_end, plain_more, take_least}
 use Rattle.miette_cuts.proofs.plain_cut.push_plain_cut.Goals as goal
 
 pub push_plain_stretch-requires : goal.push_plain_stretch-requires
 push_plain_stretch-requires g c =
-    ap (list_all is_printable) (c.split_at.ensures.front ∙ ap (λ k. take k c.loop-stretch.rest.now) c.min.ensures ∙ take_least _ c.loop-stretch.rest.now) ∙ taken _ c.loop-stretch.rest.now c.loop-stretch.invariant.printable
+    ap (list_all is_printable) (c.split_at.ensures.front ∙ ap (λ k. take k c.loop-stretch.rest.now) c.min.ensures ∙ take_least _ c.loop-stretch.rest.now) ∙ printable_taken _ c.loop-stretch.rest.now c.loop-stretch.invariant.printable
 
 pub loop-stretch-preserved : goal.loop-stretch-preserved
 loop-stretch-preserved g c =

@@ -1,4 +1,5 @@
-use Rattle.std.proofs.Common.{rules, ◌≡◌, ◌<◌, ◌+◌, ◌*◌, ◌++◌, [], ◌∷◌, ap, sym, ◌∙◌, Some, Result, Ok, Err, IfOk, option_map, arith}
+use Rattle.std.proofs.Common.{rules, ◌≡◌, ◌<◌, ◌+◌, ◌*◌, ◌++◌, [], ◌∷◌, ap, sym, ◌∙◌, Some, option_map, arith}
+use Rattle.std.proofs.lemmas.Result.{IfOk-weaker}
 use Rattle.miette_description.proofs.Lists.{one_fails, one_read_as}
 use Rattle.serde_json.specs.Data.{depth, items_depth}
 use Rattle.miette_description.specs.steps.ParsedValues.{value_data, list_data}
@@ -49,14 +50,10 @@ reports_from-report_from-requires g t c =
     let small : 4 * depth (value_data c.value-item.result) + 2 < 4 * items_depth (list_data c.args.list.now) + 3 = omega arith in
     search rules
 
-if_ok : {A E : Type 0} {P Q : A → Type 0} (r : Result A E) → ((x : A) → P x → Q x) → IfOk r P → IfOk r Q
-if_ok (Ok x) f p = f x p
-if_ok (Err e) f p = p
-
 pub report_from-returns-clause-ok : goal.report_from-returns-clause-ok
 report_from-returns-clause-ok g t c =
     let chain = with_nested (value_data c.args.value.now) _ _ c.in_ok-one.ensures.ok c.in_ok-list.ensures.ok in
-    if_ok c.report_with.result (λ r p. chain ∙ p) c.report_with.ensures.ok
+    IfOk-weaker c.report_with.result _ _ (λ r p. chain ∙ p) c.report_with.ensures.ok
 
 pub report_from-returns-clause-description : goal.report_from-returns-clause-description
 report_from-returns-clause-description g t c e =

@@ -1,4 +1,4 @@
-use Rattle.std.proofs.Common.{rules, ◌≡◌, [], ◌∷◌, ◌++◌, option_map, unwrap_or, map, reverse, string_bytes, sym, ap, ◌∙◌}
+use Rattle.std.proofs.Common.{◌≡◌, [], ◌∷◌, ◌++◌, option_map, unwrap_or, map, reverse, string_bytes, sym, ap, ◌∙◌}
 use Rattle.std.proofs.lemmas.List.{map-append}
 use Rattle.miette_tree.specs.rules.Tree.{wrapped_tree}
 use Rattle.miette_tree.specs.views.Report.{tree_of}

@@ -1,4 +1,5 @@
-use Rattle.std.proofs.Common.{rules, ap, sym, ◌∙◌, Some, Result, Ok, Err, IfOk}
+use Rattle.std.proofs.Common.{rules, ap, sym, ◌∙◌, Some}
+use Rattle.std.proofs.lemmas.Result.{IfOk-weaker}
 use Rattle.miette_tree.specs.views.Report.{tree_of}
 use Rattle.miette_description.proofs.Shape.{given_some, given_none}
 use Rattle.miette_description.proofs.report.report_with.Goals as goal
@@ -18,15 +19,11 @@ returns-in_err-report-clause-description g c e =
     given_some _ _ c.in_ok-diagnostic.ensures.ok ∙ given_some _ _ c.in_ok-source.ensures.ok
     ∙ given_some _ _ c.in_ok-several.ensures.ok ∙ given_some _ _ c.in_ok-contexts.ensures.ok ∙ c.in_err-report.ensures.description (search rules)
 
-if_ok : {A E : Type 0} {P Q : A → Type 0} (r : Result A E) → ((x : A) → P x → Q x) → IfOk r P → IfOk r Q
-if_ok (Ok x) f p = f x p
-if_ok (Err e) f p = p
-
 pub returns-clause-ok : goal.returns-clause-ok
 returns-clause-ok g c =
     let chain = given_some _ _ c.in_ok-diagnostic.ensures.ok ∙ given_some _ _ c.in_ok-source.ensures.ok
     ∙ given_some _ _ c.in_ok-several.ensures.ok ∙ given_some _ _ c.in_ok-contexts.ensures.ok ∙ c.in_ok-report.ensures.ok in
-    if_ok c.box_of.result (λ b p. chain ∙ ap (λ r. Some (tree_of g.D.Diagnostic.meaning g.S.SourceCode.source r)) (sym p)) c.box_of.ensures.ok
+    IfOk-weaker c.box_of.result _ _ (λ b p. chain ∙ ap (λ r. Some (tree_of g.D.Diagnostic.meaning g.S.SourceCode.source r)) (sym p)) c.box_of.ensures.ok
 
 pub returns-clause-description : goal.returns-clause-description
 returns-clause-description g c e = absurd (c.box_of.ensures.memory e)

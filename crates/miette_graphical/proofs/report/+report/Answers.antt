@@ -8,13 +8,14 @@ use Rattle.miette_snippets.specs.rules.Highlighting.{AreCallsOn, follows, leaves
 use Rattle.miette_tree.specs.views.Owned.{shown_source}
 use Rattle.miette_graphical.specs.steps.PartTexts.{IsBelow, AreCauses, AreRelated, IsInner, IsOneCause, IsOneRelated}
 use Rattle.miette_tree.specs.views.Handler.{AppendsOne}
+use Rattle.miette_tree.proofs.Nesting.{texts_shown}
 use Rattle.miette_graphical.specs.rules.PrintedDiagnostics.{all_read, printed_causes, printed_related}
 use Rattle.miette_graphical.specs.rules.Snippets.{drawn_rows}
 use Rattle.miette_graphical.specs.rules.Indents.{narrow_settings}
 use Rattle.miette_graphical.specs.rules.DiagnosticText.{help_text, under_arrow}
 use Rattle.miette_graphical.specs.rules.Text.{are_last, ends_there}
 use Rattle.miette_graphical.specs.steps.SettingsView.{settings_of}
-use Rattle.miette_graphical.proofs.Remaining.{CausesRemain, RelatedRemain, all_remain, cause_printed, causes_appended, related_printed, related_appended, first_falls, texts_shown}
+use Rattle.miette_graphical.proofs.Remaining.{CausesRemain, RelatedRemain, all_remain, cause_printed, causes_appended, related_printed, related_appended, first_falls}
 use Rattle.miette_graphical.proofs.Sizes.{tree_size, cause_size, trees_size, related_falls}
 use Rattle.miette_graphical.proofs.Steps.{cause_texts_behind, no_related_behind, below_behind, inner_whole, sibling_behind, first_and_more, one_cause_fails, inner_rows_fail, inner_related_fail, sibling_causes_fail, sibling_below_fails, one_related_fails}
 use Rattle.miette_graphical.proofs.report.+report.Goals as goal

@@ -3,8 +3,9 @@ use Rattle.std.specs.Option.{option_map}
 use Rattle.miette_tree.specs.rules.Tree.{trees}
 use Rattle.miette_tree.specs.views.Owned.{shown_source}
 use Rattle.miette_tree.specs.views.Report.{tree_of}
-use Rattle.miette_json.proofs.JsonAnswers.{none_so_far, one_more, all_written, next_of, at_the_end, report_written, RelatedSoFar}
+use Rattle.miette_json.proofs.JsonAnswers.{none_so_far, one_more, all_written, at_the_end, report_written, RelatedSoFar}
 use Rattle.miette_tree.proofs.TreeSizes.{tree_size, trees_size, one_falls}
+use Rattle.miette_tree.proofs.Nesting.{next_of}
 use Rattle.miette_json.proofs.report.+report.Goals as goal
 
 pub push_related-loop-report-init : goal.push_related-loop-report-init

@@ -17,11 +17,12 @@ use Rattle.miette_drawing.specs.views.SnippetRows.{PutsRows, lent_snippet}
 use Rattle.miette_lines.specs.views.Placing.{placed_from}
 use Rattle.miette_lines.specs.views.Primary.{PointsTo}
 use Rattle.miette_lines.specs.views.Reads.{AreGroups}
+use Rattle.miette_lines.proofs.Collecting.{are_grouped}
 use Rattle.miette_drawing.proofs.Lending.{lent_texts}
 use Rattle.miette_highlight.specs.rules.HighlighterCalls.{Call, Leads, restarted}
 use Rattle.miette_layout.proofs.Nearing.{reads_rise}
 use Rattle.miette_layout.proofs.Reaching.{are_numbered}
-use Rattle.miette_layout.proofs.Progressing.{none_drawn, drawn_more, all_drawn, gives_rows, gives_none, drawn_is, placed_rise, place_ordered, groups_lent, puts_around, are_grouped, none_grouped, gives_unread}
+use Rattle.miette_layout.proofs.Progressing.{none_drawn, drawn_more, all_drawn, gives_rows, gives_none, drawn_is, placed_rise, place_ordered, groups_lent, puts_around, none_grouped, gives_unread}
 use Rattle.miette_layout.proofs.snippets.read_snippets.Goals as goal
 
 pub near-requires : goal.near-requires

@@ -1,4 +1,4 @@
-use Rattle.std.proofs.Common.{◌≡◌, ◌+◌, ◌++◌, Option, Some, None, length, refl, ap, subst, string_bytes, rules, eqb, arith}
+use Rattle.std.proofs.Common.{Option, subst, string_bytes, rules, arith}
 use Rattle.miette_newlines.specs.declared.lines.LineOfText.{LineOfText}
 use Rattle.miette_newlines.specs.views.Walking.{GivesLine}
 use Rattle.miette_narrated.specs.steps.Conversions.{ranges_of, shown_line}

@@ -3,8 +3,9 @@ use Rattle.std.specs.Option.{option_map}
 use Rattle.miette_tree.specs.rules.Tree.{trees}
 use Rattle.miette_tree.specs.views.Owned.{shown_source}
 use Rattle.miette_tree.specs.views.Report.{tree_of}
+use Rattle.miette_tree.proofs.Nesting.{next_of}
 use Rattle.miette_narrated.specs.rules.PossibleAnswers.{accepts, holds_of, holds_of_all}
-use Rattle.miette_narrated.proofs.Telling.{none_so_far, one_more, all_told, next_of, at_the_end, report_told, RelatedSoFar, refused_below, one_refused}
+use Rattle.miette_narrated.proofs.Telling.{none_so_far, one_more, all_told, at_the_end, report_told, RelatedSoFar, refused_below, one_refused}
 use Rattle.miette_narrated.proofs.Sizes.{tree_size, trees_size, one_falls}
 use Rattle.miette_narrated.proofs.report.+report.Goals as goal
 

@@ -4,10 +4,11 @@ use Rattle.miette_lines.specs.rules.Around.{group_context}
 use Rattle.miette_lines.specs.rules.Groups.{in_order}
 use Rattle.miette_lines.specs.declared.sweep.PlacedLabel.{PlacedLabel}
 use Rattle.miette_lines.specs.views.Reads.{AreGroups}
+use Rattle.miette_lines.proofs.Collecting.{are_grouped}
 use Rattle.miette_narrated.specs.steps.Ends.{AreEnds}
 use Rattle.miette_narrated.specs.declared.label_order.RankedLabel.{RankedLabel}
 use Rattle.miette_narrated.specs.steps.Conversions.{ranges_of}
-use Rattle.miette_narrated.proofs.Reading.{placed_ordered, groups_more, groups_end, snippets_told, are_grouped, unread_group}
+use Rattle.miette_narrated.proofs.Reading.{placed_ordered, groups_more, groups_end, snippets_told, unread_group}
 use Rattle.miette_narrated.proofs.snippets.push_read.Goals as goal
 
 pub push_snippet-requires-clause-order : goal.push_snippet-requires-clause-order

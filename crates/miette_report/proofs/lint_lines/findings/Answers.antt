@@ -1,4 +1,4 @@
-use Rattle.std.proofs.Common.{◌≡◌, Option, length, arith, subst, rules}
+use Rattle.std.proofs.Common.{Option, length, arith, subst, rules}
 use Rattle.miette_newlines.specs.declared.lines.LineOfText.{LineOfText}
 use Rattle.miette_newlines.specs.views.Walking.{GivesLine}
 use Rattle.miette_report.specs.rules.Findings.{line_findings}

@@ -1,4 +1,4 @@
-use Rattle.std.proofs.Common.{rules, ◌∙◌, ◌<◌, ap, sym, subst, replicate, length}
+use Rattle.std.proofs.Common.{rules, ◌∙◌, ◌<◌, ap, sym, subst, replicate}
 use Rattle.std.proofs.lemmas.List.{length-replicate}
 use Rattle.miette_page.specs.views.Printouts.{◌⊕◌}
 use Rattle.miette_page.specs.views.Tokens.{text_tokens}

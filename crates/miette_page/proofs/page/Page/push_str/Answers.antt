@@ -1,5 +1,4 @@
-use Rattle.std.proofs.Common.{◌∙◌, ◌∷◌, ap, sym, chars, length, eqb-true}
-use Rattle.std.proofs.lemmas.Str.{chars-nil}
+use Rattle.std.proofs.Common.{◌∙◌, ap, sym, chars, length, eqb-true}
 use Rattle.miette_page.specs.views.Printouts.{◌⊕◌}
 use Rattle.miette_page.specs.views.Tokens.{text_tokens}
 use Rattle.miette_page.proofs.Paging.{none_bytes, nonzero, page_put, some-chars}

@@ -1,9 +1,9 @@
 use Rattle.std.proofs.Common.{◌≡◌, ◌∙◌, ◌+◌, ◌-◌, ◌++◌, [], ap, arith, drop, length, length-drop, map, min, sym, take}
-use Rattle.std.proofs.lemmas.List.{take_rest}
+use Rattle.std.proofs.lemmas.List.{take_rest, drop_all}
 use Rattle.miette_runs.specs.rules.Sequences.{Character}
 use Rattle.miette_runs.specs.views.Interleaving.{tag_token, interleaving}
 use Rattle.miette_runs.proofs.Growing.{appended-next, spell-appended}
-use Rattle.miette_runs.proofs.Weaving.{drop-all, woven-none, woven-step}
+use Rattle.miette_runs.proofs.Weaving.{woven-none, woven-step}
 use Rattle.miette_runs.proofs.runs.Runs.append.Goals as goal
 
 pub loop-tag-preserved : goal.loop-tag-preserved
@@ -32,7 +32,7 @@ returns-clause-tokens c =
     let s = c.loop-tag.start in
     let i = c.loop-tag.tag-index in
     let o = c.loop-tag.self in
-    let none : drop i ms ≡ [] = drop-all i ms (omega arith) in
+    let none : drop i ms ≡ [] = drop_all i ms (omega arith) in
     c.in_ok-push_chars-2.ensures.tokens
     ∙ ap (λ ts. o ++ ts) (ap (map Character) (take_rest cs s) ∙ sym (woven-none s (drop s cs)) ∙ ap (λ vs. interleaving s (drop s cs) vs) (sym none))
     ∙ c.loop-tag.invariant.woven

@@ -1,14 +1,10 @@
-use Rattle.std.proofs.Common.{◌≡◌, ◌∙◌, ◌++◌, ap, arith, chars, length, ◌<◌, ◌==◌, ℕ, zero, suc, false, sym, eqb-true}
+use Rattle.std.proofs.Common.{◌≡◌, ◌∙◌, ◌++◌, ap, chars, length, ◌<◌, sym, eqb-true}
 use Rattle.miette_runs.specs.rules.Runs.{printed_run}
 use Rattle.miette_runs.specs.rules.Sequences.{spell}
 use Rattle.miette_runs.proofs.Painting.{run-empty, run-plain, run-pushed}
-use Rattle.miette_page.proofs.Paging.{some-chars}
+use Rattle.miette_page.proofs.Paging.{some-chars, nonzero}
 use Rattle.miette_runs.proofs.runs.Runs.push_run.Goals as goal
 use Rattle.miette_runs.proofs.runs.Runs.push_run.Goals.{then-is_empty-via-then-is_empty, then-is_empty-via-else-is_empty+then-is_plain}
-
-ne-of-false : (n : ℕ) → (n == 0) ≡ false → 0 < n
-ne-of-false zero h = absurd (cc)
-ne-of-false (suc n) h = omega arith
 
 pub returns-then-is_empty : goal.returns-then-is_empty
 returns-then-is_empty c =
@@ -23,7 +19,7 @@ returns-then-is_empty c =
 pub returns : goal.returns
 returns c =
     let bs = c.args.text.now in
-    let some : 0 < length bs = ne-of-false (length bs) (sym c.is_empty.ensures ∙ c.if-is_empty.false) in
+    let some : 0 < length bs = nonzero (length bs) (sym c.is_empty.ensures ∙ c.if-is_empty.false) in
     record {
       text =
           run-pushed c.args.style (chars bs) (spell c.args.self.now) (spell c.begin.new.self) (spell c.push_str-2.new.self) (spell c.end.new.self) (some-chars bs c.utf8.text some) (sym c.is_plain.ensures ∙ c.if-is_plain.false)

@@ -1,8 +1,8 @@
 use Rattle.std.proofs.Common.{◌≡◌, ◌∙◌, ◌+◌, ◌-◌, ◌<◌, ◌≤◌, ◌++◌, [], ap, arith, drop, length, length-drop, sym, take}
-use Rattle.std.proofs.lemmas.List.{take_rest}
+use Rattle.std.proofs.lemmas.List.{take_rest, drop_all}
 use Rattle.miette_runs.specs.rules.Cells.{piece_text}
 use Rattle.miette_runs.specs.views.Interleaving.{cells_at, left_at}
-use Rattle.miette_runs.proofs.Weaving.{drop-all, left-last, left-none, left-step, tags-next, text-last, text-none, text-step}
+use Rattle.miette_runs.proofs.Weaving.{left-last, left-none, left-step, tags-next, text-last, text-none, text-step}
 use Rattle.miette_runs.proofs.runs.cells.push_cells.Goals as goal
 
 pub returns-then-rest-gap-clause-text : goal.returns-then-rest-gap-clause-text
@@ -70,7 +70,7 @@ returns-clause-text g c =
     let q : take (length cs - s) (drop s cs) ≡ drop s cs = take_rest cs s in
     let o = g.S.Sink.holds c.loop-n.out in
     let e : g.S.Sink.holds c.push_codes-2.new.self ≡ o ++ g.S.Sink.spells (take (length cs - s) (drop s cs)) = c.in_ok-push_codes-3.ensures in
-    let none : drop n ms ≡ [] = drop-all n ms (omega arith) in
+    let none : drop n ms ≡ [] = drop_all n ms (omega arith) in
     e
     ∙ ap (λ us. o ++ g.S.Sink.spells us) (q ∙ sym (text-none p (drop s cs)) ∙ ap (λ vs. piece_text (cells_at p (drop s cs) vs)) (sym none))
     ∙ c.loop-n.invariant.printed
@@ -82,7 +82,7 @@ returns-clause-left g c =
     let s = c.loop-n.start in
     let p = c.loop-n.place in
     let n = c.loop-n.n in
-    drop-all (length ms) ms (omega arith)
+    drop_all (length ms) ms (omega arith)
     ∙ sym (left-none p (drop s cs))
-    ∙ ap (λ vs. left_at p (drop s cs) vs) (sym (drop-all n ms (omega arith)))
+    ∙ ap (λ vs. left_at p (drop s cs) vs) (sym (drop_all n ms (omega arith)))
     ∙ c.loop-n.invariant.left

@@ -1,7 +1,8 @@
 use Rattle.std.proofs.Common.{◌∙◌, ◌+◌, ◌<◌, ◌≤◌, ap, arith, drop, length, length-drop, sym}
+use Rattle.std.proofs.lemmas.List.{drop_all}
 use Rattle.miette_runs.specs.rules.Cells.{tags_text}
 use Rattle.miette_runs.specs.views.Interleaving.{cells_at, left_at}
-use Rattle.miette_runs.proofs.Weaving.{drop-all, left-last, left-none, left-step, tags-last, tags-next, tags-none, tags-step, pushed-none}
+use Rattle.miette_runs.proofs.Weaving.{left-last, left-none, left-step, tags-last, tags-next, tags-none, tags-step, pushed-none}
 use Rattle.miette_runs.proofs.runs.cells.push_signs.Goals as goal
 
 pub returns-then-codes-start-clause-text : goal.returns-then-codes-start-clause-text
@@ -59,7 +60,7 @@ returns-clause-text g c =
     let p = c.loop-n.place in
     let n = c.loop-n.n in
     pushed-none g.S.Sink.spells g.met.S.Sink.nothing (g.S.Sink.holds c.loop-n.out) (tags_text (cells_at p (drop s cs) (drop n ms)))
-    (ap (λ vs. tags_text (cells_at p (drop s cs) vs)) (drop-all n ms (omega arith)) ∙ tags-none p (drop s cs))
+    (ap (λ vs. tags_text (cells_at p (drop s cs) vs)) (drop_all n ms (omega arith)) ∙ tags-none p (drop s cs))
     ∙ c.loop-n.invariant.printed
 
 pub returns-clause-left : goal.returns-clause-left
@@ -69,7 +70,7 @@ returns-clause-left g c =
     let s = c.loop-n.start in
     let p = c.loop-n.place in
     let n = c.loop-n.n in
-    drop-all (length ms) ms (omega arith)
+    drop_all (length ms) ms (omega arith)
     ∙ sym (left-none p (drop s cs))
-    ∙ ap (λ vs. left_at p (drop s cs) vs) (sym (drop-all n ms (omega arith)))
+    ∙ ap (λ vs. left_at p (drop s cs) vs) (sym (drop_all n ms (omega arith)))
     ∙ c.loop-n.invariant.left

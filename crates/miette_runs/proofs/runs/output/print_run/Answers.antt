@@ -1,14 +1,10 @@
-use Rattle.std.proofs.Common.{◌≡◌, ◌∙◌, ◌++◌, ap, arith, chars, encode_utf8_all, length, ◌<◌, ◌==◌, ℕ, zero, suc, false, string_bytes, sym, eqb-true}
+use Rattle.std.proofs.Common.{◌≡◌, ◌∙◌, ◌++◌, ap, chars, encode_utf8_all, length, ◌<◌, string_bytes, sym, eqb-true}
 use Rattle.miette_runs.specs.rules.Runs.{printed_run}
 use Rattle.miette_runs.proofs.Outputs.{run-behind, text-behind}
 use Rattle.miette_runs.proofs.Painting.{run-empty, run-plain}
-use Rattle.miette_page.proofs.Paging.{some-chars}
+use Rattle.miette_page.proofs.Paging.{some-chars, nonzero}
 use Rattle.miette_runs.proofs.runs.output.print_run.Goals as goal
 use Rattle.miette_runs.proofs.runs.output.print_run.Goals.{then-is_empty-via-then-is_empty, then-is_empty-via-else-is_empty+then-is_plain}
-
-ne-of-false : (n : ℕ) → (n == 0) ≡ false → 0 < n
-ne-of-false zero h = absurd (cc)
-ne-of-false (suc n) h = omega arith
 
 pub returns-then-is_empty : goal.returns-then-is_empty
 returns-then-is_empty c =
@@ -23,6 +19,6 @@ returns-then-is_empty c =
 pub returns : goal.returns
 returns c =
     let bs = c.args.text.now in
-    let some : 0 < length bs = ne-of-false (length bs) (sym c.is_empty.ensures ∙ c.if-is_empty.false) in
+    let some : 0 < length bs = nonzero (length bs) (sym c.is_empty.ensures ∙ c.if-is_empty.false) in
     run-behind c.args.style bs (string_bytes c.args.out.now) (string_bytes c.push_style.new.out) (string_bytes c.push_str-2.new.self) (string_bytes c.push_str-3.new.self) c.utf8.text (some-chars bs c.utf8.text some) (sym c.is_plain.ensures ∙ c.if-is_plain.false)
     c.in_ok-push_style.ensures c.in_ok-push_str-2.ensures.bytes c.in_ok-push_str-3.ensures.bytes

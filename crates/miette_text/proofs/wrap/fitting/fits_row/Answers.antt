@@ -1,6 +1,7 @@
-use Rattle.std.proofs.Common.{◌≡◌, ◌∙◌, ◌&&◌, ◌==◌, ◌<◌, ◌≤◌, ◌-◌, [], ◌∷◌, Bool, List, ℕ, ap, arith, chars, false, get_or, length, nat_le, not, refl, sym, true}
+use Rattle.std.proofs.Common.{◌≡◌, ◌∙◌, ◌&&◌, ◌==◌, ◌<◌, ◌≤◌, ◌-◌, [], ◌∷◌, List, ℕ, ap, arith, chars, get_or, length, nat_le, not, refl, sym, true}
 use Rattle.std.proofs.lemmas.Bool.Decides.{nat_tests}
 use Rattle.std.proofs.lemmas.Str.{chars-IsAscii}
+use Rattle.std.proofs.Math.Bool.{and-true}
 use Rattle.miette_text.specs.rules.Wrapping.{is_space}
 use Rattle.miette_text.specs.steps.Fitting.{all_printable, fits_row}
 use Rattle.miette_text.proofs.Fitting.{printable-ascii, printable-fits}
@@ -17,10 +18,6 @@ last-of : (room : ℕ) (bs : List ℕ) → all_printable bs ≡ true → length 
 last-of room bs h k l =
     let z : nat_le (length bs) room ≡ true = grind (arith, nat_tests) in
     sym (spelled room bs h ∙ printable-fits room bs h (omega arith) ∙ ap (λ b. not (is_space (get_or bs (length bs - 1) 0)) && b) z ∙ and-true (not (is_space (get_or bs (length bs - 1) 0))))
-  where
-    and-true : (b : Bool) → (b && true) ≡ b
-    and-true true = refl
-    and-true false = refl
 
 pub returns-in-empty : goal.returns-in-empty
 returns-in-empty c =
