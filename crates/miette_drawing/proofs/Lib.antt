@@ -1,14 +1,10 @@
 pub mod Closing
-pub mod Extending
-pub mod Folding
 pub mod Framing
 pub mod Guttering
 pub mod Lending
 pub mod Lining
 pub mod Parting
-pub mod Running
 pub mod Skipping
-pub mod Starts
 pub mod Stroking
 pub mod Styling
 pub mod Texting

@@ -12,11 +12,11 @@ use Rattle.miette_snippets.specs.rules.Folds.{Spread, leaves_out}
 use Rattle.miette_snippets.specs.rules.Frames.{SnippetSettings}
 use Rattle.miette_snippets.specs.rules.Highlighting.{ArePieces, decoded_text, line_calls}
 use Rattle.miette_snippets.specs.rules.SnippetLayout.{line_or_break, left_out}
-use Rattle.miette_drawing.specs.declared.folds.LineStart.{LineStart}
+use Rattle.miette_folds.specs.declared.folds.LineStart.{LineStart}
 use Rattle.miette_drawing.specs.views.SnippetRows.{cells_in, text_in, texts_in, lent_rows}
 use Rattle.miette_drawing.proofs.Lending.{AreLinedBefore, AreLined}
-use Rattle.miette_drawing.proofs.Running.{IsBetween}
-use Rattle.miette_drawing.proofs.Starts.{Begins, RunOf, run_of}
+use Rattle.miette_folds.proofs.Running.{IsBetween}
+use Rattle.miette_folds.proofs.Starts.{Begins, RunOf, run_of}
 
 -- lines with numbers from this one on are left out
 abbrev EachOut : (ℕ → Line → Bool) → ℕ → List Line → Type 0

@@ -1,3 +1,2 @@
 -- What the code's values stand for.
 pub mod SnippetRows
-pub mod Spreads

@@ -2,14 +2,11 @@
 #![tactic(auto)]
 
 mod closings;
-mod extent;
-pub mod folds;
 pub mod frame;
 mod gutters;
 mod highlighting;
 mod label_text;
 mod line;
-mod runs;
 mod sheet;
 pub mod snippet;
 mod strokes;

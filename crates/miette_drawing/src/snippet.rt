@@ -12,10 +12,11 @@
 //! The steps, in order:
 //!
 //! 1. `push_snippet` brings the sweep over the labels to the snippet's first line.
-//! 2. `push_framed` counts lines and the widest gutter (`extent.rt`), and puts the frame around (`frame.rt`).
+//! 2. `push_framed` counts lines and the widest gutter (`miette_folds::extent`), and puts the frame around
+//!    (`frame.rt`).
 //! 3. `push_lines` goes on line by line: which labels lie on it (the sweep), a highlighter's pieces, whether it is left
-//!    out inside a folded label (`folds.rt`). Those left out behind such a line are passed over at once, where no
-//!    highlighter is to be asked for them (`runs.rt`).
+//!    out inside a folded label (`miette_folds::folds`). Those left out behind such a line are passed over at once,
+//!    where no highlighter is to be asked for them (`miette_folds::runs`).
 //! 4. `push_line_or_break` (`line.rt`) puts the rows of a line: its number row over the gutter
 //!    (`gutters.rt`), the marks and their leaders (`strokes.rt`), the texts (`texts.rt`), and the
 //!    texts of labels that end there (`closings.rt`). Where a line's marks stand, and what is shown
@@ -29,20 +30,20 @@ ghost use Rattle.miette_snippets.specs.views.ThemeSettings.{settings_of};
 ghost use Rattle.miette_lines.specs.views.GivenLabels.{drawn_of};
 ghost use Rattle.miette_snippets.specs.rules.Highlighting.{AreCallsOn, leaves_plain};
 ghost use Rattle.miette_highlight.specs.rules.HighlighterCalls.{restarted};
-ghost use Rattle.miette_drawing.specs.views.Spreads.{spread_of, AreNumbered};
-ghost use Rattle.miette_drawing.specs.steps.Folding.{fold_in};
+ghost use Rattle.miette_folds.specs.views.Spreads.{spread_of, AreNumbered};
+ghost use Rattle.miette_folds.specs.views.Folding.{fold_in};
 ghost use Rattle.miette_drawing.specs.views.SnippetRows.{PutsRows, PutsSnippet, texts_in, lent_rows};
 ghost use Rattle.miette_drawing.specs.steps.Widths.{width_of_count, gutter_of};
 ghost use Rattle.miette_lines.specs.views.Sweeping.{IsAt, AreSorted};
 
-use crate::extent::extent_of;
-use crate::folds::{Fold, Spread, folds_in, leaves_out};
 use crate::frame::{Frame, push_bottom_row, push_top_row};
 use crate::highlighting::{may_pass, pieces_of, restart};
 use crate::line::push_line_or_break;
-use crate::runs::{enter_line, next_start, pass_over};
 use crate::sheet::{Outcome, Sheet, ShownLine};
 use itoa::Buffer;
+use miette_folds::extent::extent_of;
+use miette_folds::folds::{Fold, Spread, folds_in, leaves_out};
+use miette_folds::runs::{enter_line, next_start, pass_over};
 use miette_highlight::highlight::Highlighter;
 use miette_lines::line_sweep::line_at;
 use miette_lines::sweep::{Bounds, PlacedLabel, Sweep, advance};

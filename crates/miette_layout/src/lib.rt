@@ -2,7 +2,6 @@
 #![tactic(auto)]
 
 pub mod snippets;
-mod spreads;
 
 pub use miette_page::page;
 pub use miette_snippet_laws::laws;

@@ -10,9 +10,9 @@ ghost use Rattle.miette_snippets.specs.rules.Highlighting.{AreCallsOn, leaves_pl
 ghost use Rattle.miette_lines.specs.views.Placing.{told_end};
 ghost use Rattle.miette_lines.specs.views.Reads.{IsRead, name_of as name_of_reason};
 
-use crate::spreads::spreads;
 use miette_drawing::frame::{Frame, push_refused_row};
 use miette_drawing::snippet::{Drawing, Passage, push_snippet};
+use miette_folds::spreads::spreads;
 use miette_highlight::highlight::Highlighter;
 use miette_lines::drawn_labels::{placed_labels, told_end};
 use miette_lines::grouping::groups;

@@ -10,7 +10,7 @@ use Rattle.miette_lines.specs.rules.Answers.{Highlight, first_of, later_of}
 use Rattle.miette_lines.specs.rules.Cells.{Cell, characters, cells_from}
 use Rattle.miette_lines.specs.rules.Contexts.{lines_of_contents}
 use Rattle.miette_drawing.specs.declared.snippet.Drawing.{Drawing}
-use Rattle.miette_drawing.specs.views.Spreads.{spread_of}
+use Rattle.miette_folds.specs.views.Spreads.{spread_of}
 use Rattle.miette_snippets.specs.views.ThemeSettings.{settings_of}
 use Rattle.miette_lines.specs.views.GivenLabels.{drawn_of}
 use Rattle.miette_snippets.specs.rules.Folds.{Spread}

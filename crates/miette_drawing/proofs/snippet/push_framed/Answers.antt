@@ -1,8 +1,8 @@
 use Rattle.std.proofs.Common.{ℕ, ◌≡◌, ap, sym, subst, ◌∙◌, map}
 use Rattle.std.specs.Option.{option_map}
-use Rattle.miette_drawing.specs.views.Spreads.{spread_of}
+use Rattle.miette_folds.specs.views.Spreads.{spread_of}
 use Rattle.miette_drawing.specs.views.SnippetRows.{place_at}
-use Rattle.miette_drawing.specs.steps.Folding.{fold_in}
+use Rattle.miette_folds.specs.views.Folding.{fold_in}
 use Rattle.miette_lines.specs.views.Sweeping.{IsAt}
 use Rattle.miette_snippets.specs.views.ThemeSettings.{settings_of}
 use Rattle.miette_snippets.specs.rules.Highlighting.{leaves_plain, follows}

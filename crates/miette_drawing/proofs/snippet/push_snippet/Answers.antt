@@ -1,6 +1,6 @@
 use Rattle.std.proofs.Common.{ℕ, ◌≡◌, ◌+◌, List, ◌∷◌, ap, ◌∙◌, sym, subst, length, map}
 use Rattle.std.specs.Option.{option_map}
-use Rattle.miette_drawing.specs.views.Spreads.{spread_of}
+use Rattle.miette_folds.specs.views.Spreads.{spread_of}
 use Rattle.miette_drawing.specs.views.SnippetRows.{place_at}
 use Rattle.miette_snippets.specs.views.ThemeSettings.{settings_of}
 use Rattle.miette_lines.specs.views.GivenLabels.{drawn_of}

@@ -5,10 +5,10 @@ use Rattle.miette_drawing.specs.views.SnippetRows.{place_at}
 use Rattle.miette_lines.specs.rules.Around.{group_context}
 use Rattle.miette_lines.specs.rules.Groups.{in_order}
 use Rattle.miette_snippets.specs.rules.Folds.{spreads_of}
-use Rattle.miette_drawing.specs.declared.folds.Spread.{Spread as MadeSpread}
-use Rattle.miette_drawing.specs.views.Spreads.{spread_of}
-use Rattle.miette_layout.specs.steps.Spreads.{HasLines}
-use Rattle.miette_layout.proofs.Folding.{spreads_are}
+use Rattle.miette_folds.specs.declared.folds.Spread.{Spread as MadeSpread}
+use Rattle.miette_folds.specs.views.Spreads.{spread_of}
+use Rattle.miette_folds.specs.views.ReadSpreads.{HasLines}
+use Rattle.miette_folds.proofs.Spreading.{spreads_are}
 use Rattle.miette_snippets.specs.rules.SnippetLayout.{settings_around}
 use Rattle.miette_snippets.specs.views.ThemeSettings.{settings_of}
 use Rattle.miette_lines.specs.views.GivenLabels.{drawn_of}
@@ -21,7 +21,7 @@ use Rattle.miette_lines.proofs.Collecting.{are_grouped}
 use Rattle.miette_drawing.proofs.Lending.{lent_texts}
 use Rattle.miette_highlight.specs.rules.HighlighterCalls.{Call, Leads, restarted}
 use Rattle.miette_layout.proofs.Nearing.{reads_rise}
-use Rattle.miette_layout.proofs.Reaching.{are_numbered}
+use Rattle.miette_folds.proofs.Reaching.{are_numbered}
 use Rattle.miette_layout.proofs.Progressing.{none_drawn, drawn_more, all_drawn, gives_rows, gives_none, drawn_is, placed_rise, place_ordered, groups_lent, puts_around, none_grouped, gives_unread}
 use Rattle.miette_layout.proofs.snippets.read_snippets.Goals as goal
 

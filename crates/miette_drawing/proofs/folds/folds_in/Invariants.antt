@@ -1,6 +1,0 @@
-use Rattle.std.proofs.Common.{◌≡◌, ◌++◌, drop, map}
-use Rattle.miette_drawing.specs.steps.Folding.{fold_in}
-use Rattle.miette_drawing.proofs.folds.folds_in.Given as goal
-
-abbrev pub invariant-loop-label : goal.invariant-loop-label
-invariant-loop-label l = l.folds.items ++ map (fold_in l.lent.span.offset l.lent.bytes) (drop l.label-index l.labels) ≡ map (fold_in l.lent.span.offset l.lent.bytes) l.labels

@@ -1,0 +1,41 @@
+use Rattle.std.proofs.Common.{◌≡◌, ◌+◌, ◌≤◌, ◌<◌, ◌∙◌, ℕ, arith, not, sym, ap, subst, rules}
+use Rattle.miette_newlines.specs.views.Walking.{line_of_text}
+use Rattle.miette_lines.specs.views.Sweeping.{IsAt}
+use Rattle.miette_lines.proofs.Swept.{left_at}
+use Rattle.miette_folds.specs.steps.Counting.{next_counted}
+use Rattle.miette_folds.proofs.Starts.{begins_few}
+use Rattle.miette_folds.proofs.Extending.{counted_first, counted_more, all_counted}
+use Rattle.miette_folds.proofs.extent.extent_of.Goals as goal
+
+pub loop-at-init : goal.loop-at-init
+loop-at-init c = counted_first c.args.labels.now c.args.start c.args.bytes.now c.args.sweep.now.next c.args.sweep.now.running.items c.requires.at
+
+pub enter_line-requires-clause-at : goal.enter_line-requires-clause-at
+enter_line-requires-clause-at c =
+    subst (λ (n : ℕ). IsAt c.args.labels.now n c.loop-at.sweep.next c.loop-at.sweep.running.items) (sym c.line_at-line.ensures.from) c.loop-at.invariant.state
+
+pub next_counted-next-requires : goal.next_counted-next-requires
+next_counted-next-requires c =
+    let few : c.args.start + c.loop-at.place ≤ c.args.start + c.loop-at.at = begins_few c.args.start c.args.bytes.now (c.args.start + c.loop-at.at) c.loop-at.place c.loop-at.invariant.begun in
+    omega (arith, few, c.loop-at-test.true, c.requires.small)
+
+pub pass_over-requires-clause-at : goal.pass_over-requires-clause-at
+pass_over-requires-clause-at c =
+    rw c.leave.ensures.next
+    (left_at c.args.labels.now (record { start = c.line_at-line.result.start; after = c.line_at-line.result.end }) c.enter_line.new.sweep.next c.enter_line.new.sweep.running.items c.leave.new.self.running.items
+    c.requires.sorted c.line_at-line.ensures.some c.in_ok-enter_line.ensures.on c.leave.ensures.running)
+
+pub loop-at-preserved : goal.loop-at-preserved
+loop-at-preserved c =
+    let from : c.line_at-line.result.start ≡ c.args.start + c.loop-at.at = c.line_at-line.ensures.from in
+    let some : c.line_at-line.result.start < c.line_at-line.result.end = c.line_at-line.ensures.some in
+    counted_more c.args.labels.now c.args.start c.args.bytes.now c.args.folds.now c.loop-at.at c.loop-at.place c.loop-at.most _ c.loop-at.sweep.next c.pass_over.new.sweep.next
+    c.loop-at.sweep.running.items c.enter_line.new.sweep.running.items c.pass_over.new.sweep.running.items c.line_at-line.result c.enter_line.new.sweep.next (not c.is_empty-inside.result) c.next_counted-next.result
+    c.requires.sorted c.requires.folds c.loop-at.invariant c.line_at-line.ensures.parted (omega (arith, from, some)) some c.line_at-line.ensures.to c.in_ok-enter_line.ensures.on (search rules)
+    (c.next_counted-next.ensures ∙ ap (λ n. next_counted c.args.labels.now n (not c.is_empty-inside.result) c.args.folds.now c.loop-at.place (line_of_text c.line_at-line.result)) c.leave.ensures.next) c.in_ok-pass_over.ensures
+
+pub returns-clause-lines : goal.returns-clause-lines
+returns-clause-lines c = (all_counted c.args.labels.now c.args.start c.args.bytes.now c.loop-at.at c.loop-at.place c.loop-at.most c.loop-at.sweep.next c.loop-at.sweep.running.items c.loop-at.invariant c.loop-at-test.false).0
+
+pub returns-clause-most : goal.returns-clause-most
+returns-clause-most c = (all_counted c.args.labels.now c.args.start c.args.bytes.now c.loop-at.at c.loop-at.place c.loop-at.most c.loop-at.sweep.next c.loop-at.sweep.running.items c.loop-at.invariant c.loop-at-test.false).1

@@ -1,0 +1,194 @@
+//! Which lines of a snippet are left out inside folded labels.
+
+ghost use Rattle.std.specs.Prelude.{◌≡◌, ◌+◌, ◌-◌, ◌<◌, ◌^◌, ◌&&◌, ℕ, List, Some, map, length, IfOk};
+ghost use Rattle.std.specs.List.{list_any};
+ghost use Rattle.miette_newlines.specs.rules.Lines.{lines_from};
+ghost use Rattle.miette_newlines.specs.views.Walking.{line_of_text};
+ghost use Rattle.miette_snippets.specs.rules.Folds.{place_among, hides, leaves_out};
+ghost use Rattle.miette_folds.specs.views.Spreads.{spread_of, place_in, IsNumbered, AreNumbered};
+ghost use Rattle.miette_folds.specs.views.Folding.{start_in, fold_in, is_around_fold};
+ghost use Rattle.miette_folds.specs.steps.Nearness.{is_near_fold};
+
+use miette_newlines::lines::LineOfText;
+use miette_newlines::scan::start_before;
+use miette_protocol::source::MietteSpanContents;
+use std::alloc::{AllocError, Global};
+
+/// A label as it may be folded.
+#[derive(Clone, Copy, Debug, PartialEq, Eq, Drop)]
+pub struct Spread {
+    /// The offset of its first byte, in bytes of the source.
+    pub first: usize,
+    /// The offset of its last byte as it is drawn; that of its first one where it is drawn over none.
+    pub last: usize,
+    /// The offset where its context begins.
+    pub from: usize,
+    /// The offset behind its context, which counts as at least one byte.
+    pub until: usize,
+    /// How many lines are shown around it.
+    pub around: usize,
+    /// The number of the line of its first byte, counted from 0.
+    pub first_line: usize,
+    /// The number of the line of its last byte.
+    pub last_line: usize,
+    /// The number of the line where its context begins.
+    pub from_line: usize,
+}
+
+/// Where a line of a snippet begins, or where all of them end.
+#[derive(Clone, Copy, Debug, PartialEq, Eq, Drop)]
+pub struct LineStart {
+    /// The offset there, in bytes of the source.
+    pub offset: usize,
+    /// How many of the lines stand before it.
+    pub place: usize,
+}
+
+/// A label among the lines of a snippet.
+#[derive(Clone, Copy, Debug, PartialEq, Eq, Drop)]
+pub struct Fold {
+    /// The label.
+    pub label: Spread,
+    /// Which of the lines its first byte lies on, counted from 0.
+    pub first: usize,
+    /// Which of them its last byte lies on.
+    pub last: usize,
+    /// Where the line begins on which its context does.
+    pub begun: LineStart,
+    /// Where the first line begins that is shown above its last one, where it's folded.
+    pub resumed: LineStart,
+}
+
+// Which of the lines that a read lent a line with this number is; behind the last one, how many are terminated.
+fn place_in(lent: &MietteSpanContents<'_>, line: usize) -> usize
+    ensures { result ≡ place_in lent.now line }
+{
+    line.saturating_sub(lent.line()).min(lent.line_count())
+}
+
+// Where the line begins that stands so many lines before the one that an offset lies on, by which line that is.
+fn start_above(bytes: &[u8], start: usize, offset: usize, place: usize, lines: usize) -> LineStart
+    requires small { start + length bytes.now < 2 ^ 64 }
+    requires place { place ≡ place_among (lines_from start bytes.now) offset }
+    ensures { result ≡ start_in start bytes.now (place - lines) }
+{
+    let at = bytes.len().min(offset.saturating_sub(start));
+    LineStart {
+        offset: start + start_before(bytes, at, lines).0,
+        place: place.saturating_sub(lines),
+    }
+}
+
+// A label among the lines that a read lent.
+fn fold_in(lent: &MietteSpanContents<'_>, label: &Spread) -> Fold
+    requires small { lent.now.span.offset + length lent.now.bytes < 2 ^ 64 }
+    requires numbered { IsNumbered lent.now label.now }
+    ensures { result ≡ fold_in lent.now.span.offset lent.now.bytes label.now }
+{
+    let bytes = lent.data();
+    let start = lent.span().offset();
+    let last = place_in(lent, label.last_line);
+    let from = place_in(lent, label.from_line);
+    Fold {
+        label: *label,
+        first: place_in(lent, label.first_line),
+        last,
+        begun: start_above(bytes, start, label.from, from, 0),
+        resumed: start_above(bytes, start, label.last, last, label.around),
+    }
+}
+
+/// Labels among the lines that a read lent. `AllocError` where memory is refused.
+pub fn folds_in(
+    alloc: Global,
+    lent: &MietteSpanContents<'_>,
+    labels: &[Spread],
+) -> Result<Vec<Fold>, AllocError>
+    requires small { lent.now.span.offset + length lent.now.bytes < 2 ^ 64 }
+    requires numbered { AreNumbered lent.now labels.now }
+    ensures { IfOk result (λ folds. folds.items ≡ map (fold_in lent.now.span.offset lent.now.bytes) labels.now) }
+{
+    let mut folds = Vec::with_capacity(alloc, labels.len())?;
+    for label in labels {
+        folds.push(fold_in(lent, label))?;
+    }
+    Ok(folds)
+}
+
+/// Whether a line has a byte of a label's context.
+pub fn is_around(line: &LineOfText, fold: &Fold) -> bool
+    ensures { result ≡ is_around_fold (line_of_text line.now) fold.now }
+{
+    line.start < fold.label.until && fold.label.from < line.end
+}
+
+// Whether a label that is folded to so many lines hides the line at a place.
+fn hides_line(limit: usize, place: usize, fold: &Fold) -> bool
+    ensures { result ≡ hides limit fold.now.first fold.now.last fold.now.label.around place }
+{
+    let around = fold.label.around;
+    let is_inside = around < place.saturating_sub(fold.first)
+        && around < fold.last.saturating_sub(place);
+    limit <= fold.last.saturating_sub(fold.first) && is_inside
+}
+
+// Whether a line lies in the context of a label that is folded to so many lines.
+fn is_near(limit: usize, place: usize, line: &LineOfText, fold: &Fold) -> bool
+    ensures { result ≡ is_near_fold limit place (line_of_text line.now) fold.now }
+{
+    is_around(line, fold) && !hides_line(limit, place, fold)
+}
+
+// Whether a line lies in the context of some label.
+fn some_around(folds: &[Fold], line: &LineOfText) -> bool
+    ensures { result ≡ list_any (is_around_fold (line_of_text line.now)) folds.now }
+{
+    for fold in folds {
+        if is_around(line, fold) {
+            return true;
+        }
+    }
+    false
+}
+
+// Whether a line lies in the context of some label that is folded to so many lines.
+fn some_near(limit: usize, folds: &[Fold], place: usize, line: &LineOfText) -> bool
+    ensures { result ≡ list_any (is_near_fold limit place (line_of_text line.now)) folds.now }
+{
+    for fold in folds {
+        if is_near(limit, place, line, fold) {
+            return true;
+        }
+    }
+    false
+}
+
+// Whether a line is left out where labels are folded to so many lines.
+fn is_left_out(limit: usize, folds: &[Fold], place: usize, line: &LineOfText) -> bool
+    ensures { (start : ℕ) (bytes : List ℕ) (labels : List Spread) →
+        folds.now ≡ map (fold_in start bytes) labels →
+        result ≡ leaves_out (Some limit) (lines_from start bytes) (map spread_of labels) place (line_of_text line.now) }
+{
+    if some_near(limit, folds, place, line) {
+        return false;
+    }
+    some_around(folds, line)
+}
+
+/// Whether a line of a snippet is left out, by which of its lines it is, counted from 0: it lies in the contexts of
+/// labels, but not as they are folded to so many lines.
+pub fn leaves_out(
+    limit: Option<usize>,
+    folds: &[Fold],
+    place: usize,
+    line: &LineOfText,
+) -> bool
+    ensures { (start : ℕ) (bytes : List ℕ) (labels : List Spread) →
+        folds.now ≡ map (fold_in start bytes) labels →
+        result ≡ leaves_out limit (lines_from start bytes) (map spread_of labels) place (line_of_text line.now) }
+{
+    match limit {
+        Some(limit) => is_left_out(limit, folds, place, line),
+        None => false,
+    }
+}

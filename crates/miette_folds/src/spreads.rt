@@ -1,0 +1,165 @@
+//! Labels as they may be folded, from what their reads gave.
+
+ghost use Rattle.std.specs.Prelude.{◌≡◌, ◌≤◌, ◌+◌, ◌-◌, length, map, max, min, unwrap_or, IfOk, if◌then◌else◌};
+ghost use Rattle.std.specs.List.{All};
+ghost use Rattle.miette_newlines.specs.rules.Lines.{line_of};
+ghost use Rattle.miette_protocol.specs.rules.Reading.{Source};
+ghost use Rattle.miette_lines.specs.rules.Around.{has_own};
+ghost use Rattle.miette_lines.specs.rules.Contexts.{end_of_span};
+ghost use Rattle.miette_lines.specs.views.GivenLabels.{label_at};
+ghost use Rattle.miette_lines.specs.views.Placing.{end_drawn};
+ghost use Rattle.miette_lines.specs.views.Reads.{IsRead};
+ghost use Rattle.miette_folds.specs.views.Spreads.{spread_of};
+ghost use Rattle.miette_folds.specs.views.ReadSpreads.{read_spread, read_spreads, HasLines};
+ghost use Rattle.miette_folds.specs.steps.LineNumbers.{IsLineIn};
+
+use crate::folds::Spread;
+use miette_lines::grouping::end_of;
+use miette_lines::reading::{ReadLabel, lines_around, some_own, usual_lines};
+use miette_newlines::find::FindLines;
+use miette_newlines::scan::Scan;
+use miette_protocol::protocol::{LabeledSpan, SourceSpan};
+use miette_protocol::source::MietteSpanContents;
+use miette_snippets::options::Look;
+use std::alloc::{AllocError, Global};
+
+// The lines around the label at an index.
+fn lines_at(context: usize, own: bool, labels: &[LabeledSpan], index: usize) -> usize
+    ensures { result ≡ unwrap_or (label_at labels.now index).context (if own then max 1 context else context) }
+{
+    match labels.get(index) {
+        Some(label) => lines_around(context, own, label),
+        None => usual_lines(context, own),
+    }
+}
+
+// The offset of the last byte that a label is drawn over, as its read gave it.
+fn last_byte(read: &ReadLabel<'_>) -> Result<usize, AllocError>
+    ensures { IfOk result (λ last. last ≡ max read.now.span.offset (end_drawn read.now - 1)) }
+{
+    let start = read.span.offset();
+    let end = end_of(&read.span)?
+        .min(end_of(read.contents.span())?)
+        .max(start);
+    Ok(end.saturating_sub(1).max(start))
+}
+
+// The offset behind a span, which counts as at least one byte.
+fn behind(span: &SourceSpan) -> Result<usize, AllocError>
+    ensures { IfOk result (λ end. end ≡ max (end_of_span span.now) (span.now.offset + 1)) }
+{
+    let Some(next) = span.offset().checked_add(1) else {
+        return Err(AllocError);
+    };
+    Ok(end_of(span)?.max(next))
+}
+
+// The number of the line of an offset of some bytes, counted from 0; the bytes behind it aren't looked at.
+fn line_of(bytes: &[u8], offset: usize) -> usize
+    requires { offset ≤ length bytes.now }
+    ensures { result ≡ line_of bytes.now offset }
+{
+    Scan(bytes).line_from(0, 0, offset)
+}
+
+// How many of the bytes that a read lent stand before an offset of the source.
+fn bytes_before(lent: &MietteSpanContents<'_>, offset: usize) -> usize
+    ensures { result ≡ min (offset - lent.now.span.offset) (length lent.now.bytes) }
+{
+    offset
+        .saturating_sub(lent.span().offset())
+        .min(lent.data().len())
+}
+
+// The number of the line that stands so many behind the one where a read's bytes begin.
+fn line_behind(lent: &MietteSpanContents<'_>, lines: usize) -> Result<usize, AllocError>
+    ensures { IfOk result (λ line. line ≡ lent.now.line + lines) }
+{
+    match lent.line().checked_add(lines) {
+        Some(line) => Ok(line),
+        None => Err(AllocError),
+    }
+}
+
+// The number of the line of an offset that a read reaches, by the lines that it lent before the offset.
+fn line_from_front(lent: &MietteSpanContents<'_>, offset: usize) -> Result<usize, AllocError>
+    ensures { IfOk result (IsLineIn lent.now offset) }
+{
+    line_behind(lent, line_of(lent.data(), bytes_before(lent, offset)))
+}
+
+// The number of the line of an offset that a read reaches, by the lines that it lent behind the offset.
+fn line_from_back(lent: &MietteSpanContents<'_>, offset: usize) -> Result<usize, AllocError>
+    ensures { IfOk result (IsLineIn lent.now offset) }
+{
+    let data = lent.data();
+    let at = bytes_before(lent, offset);
+    let rest = &data[at..];
+    let ends = line_of(rest, rest.len());
+    line_behind(lent, lent.line_count().saturating_sub(ends))
+}
+
+// A label as it may be folded. Of its lines only those near its ends are looked at.
+fn spread(
+    context: usize,
+    own: bool,
+    labels: &[LabeledSpan],
+    read: &ReadLabel<'_>,
+) -> Result<Spread, AllocError>
+    ensures parts { IfOk result (λ label. spread_of label ≡ read_spread context own labels.now read.now) }
+    ensures lines { IfOk result (λ label. (source : Source) → IsRead context source labels.now read.now →
+        HasLines source.bytes label) }
+{
+    let lent = &read.contents;
+    let first = read.span.offset();
+    let last = last_byte(read)?;
+    Ok(Spread {
+        first,
+        last,
+        from: lent.span().offset(),
+        until: behind(lent.span())?,
+        around: lines_at(context, own, labels, read.index),
+        first_line: line_from_front(lent, first)?,
+        last_line: line_from_back(lent, last)?,
+        from_line: lent.line(),
+    })
+}
+
+// All labels that were read, in the same order.
+fn all_spreads(
+    alloc: Global,
+    context: usize,
+    labels: &[LabeledSpan],
+    reads: &[ReadLabel<'_>],
+) -> Result<Vec<Spread>, AllocError>
+    ensures parts { IfOk result (λ spreads. map spread_of spreads.items
+        ≡ map (read_spread context (has_own labels.now) labels.now) reads.now) }
+    ensures lines { IfOk result (λ spreads. (source : Source) → All (IsRead context source labels.now) reads.now →
+        All (HasLines source.bytes) spreads.items) }
+{
+    let own = some_own(labels);
+    let mut spreads = Vec::with_capacity(alloc, reads.len())?;
+    for read in reads {
+        spreads.push(spread(context, own, labels, read)?)?;
+    }
+    Ok(spreads)
+}
+
+/// The labels that were read, in the same order, as they may be folded; none where no label is to be. `AllocError`
+/// where memory is refused, or a line's number or the end of a label's or a read's span is past the largest `usize`.
+pub fn spreads(
+    look: &Look<'_>,
+    labels: &[LabeledSpan],
+    reads: &[ReadLabel<'_>],
+) -> Result<Vec<Spread>, AllocError>
+    ensures parts { IfOk result (λ spreads. map spread_of spreads.items
+        ≡ read_spreads look.now.options.label_lines look.now.options.context_lines labels.now reads.now) }
+    ensures lines { IfOk result (λ spreads. (source : Source) →
+        All (IsRead look.now.options.context_lines source labels.now) reads.now →
+        All (HasLines source.bytes) spreads.items) }
+{
+    match look.options.label_lines {
+        Some(_) => all_spreads(look.alloc, look.options.context_lines, labels, reads),
+        None => Ok(Vec::new(look.alloc)),
+    }
+}
