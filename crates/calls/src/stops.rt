@@ -109,21 +109,20 @@ fn row<W: Write>(
 
 fn report<'a>(alloc: Global, name: &str, reads: &'a Reads) -> Result<Made<'a>, AllocError> {
     let source = Stopping { bytes: NINE, reads };
-    match alone(name) {
-        Some(written) => stopping_report(alloc, written, source),
-        None => with_another(alloc, name, stopping_report(alloc, &ONE, source)?),
+    if name == "a related report" || name == "a cause" {
+        return with_another(alloc, name, stopping_report(alloc, &ONE, source)?);
     }
+    stopping_report(alloc, alone(name), source)
 }
 
 /// What is written of a report that has no other beside it or below it.
-fn alone(name: &str) -> Option<&'static Written<'static>> {
+fn alone(name: &str) -> &'static Written<'static> {
     match name {
-        "one label" => Some(&ONE),
-        "two labels" => Some(&TWO),
-        "labels far apart" => Some(&APART),
-        "own context" => Some(&OWN),
-        "no labels" => Some(&PLAIN),
-        _ => None,
+        "two labels" => &TWO,
+        "labels far apart" => &APART,
+        "own context" => &OWN,
+        "no labels" => &PLAIN,
+        _ => &ONE,
     }
 }
 

@@ -40,13 +40,22 @@ pub fn make<W: Write>(alloc: Global, name: &str, out: &mut W) -> Done {
         "ThemeStyles::ansi" => answered(out, ThemeStyles::ansi(alloc)),
         "ThemeStyles::none" => answered(out, ThemeStyles::none(alloc)),
         "ThemeStyles::clone" => made_and_cloned(out, ThemeStyles::rgb(alloc)),
-        "GraphicalTheme::ascii" => answered(out, GraphicalTheme::ascii(alloc)),
-        "GraphicalTheme::unicode" => answered(out, GraphicalTheme::unicode(alloc)),
-        "GraphicalTheme::unicode_nocolor" => answered(out, GraphicalTheme::unicode_nocolor(alloc)),
-        "GraphicalTheme::none" => answered(out, GraphicalTheme::none(alloc)),
-        "GraphicalTheme::clone" => made_and_cloned(out, GraphicalTheme::unicode(alloc)),
-        _ => others(alloc, name, out),
+        _ => theme(alloc, name, out),
     }
+}
+
+fn theme<W: Write>(alloc: Global, name: &str, out: &mut W) -> Done {
+    if name == "GraphicalTheme::clone" {
+        return made_and_cloned(out, GraphicalTheme::unicode(alloc));
+    }
+    let made = match name {
+        "GraphicalTheme::ascii" => GraphicalTheme::ascii(alloc),
+        "GraphicalTheme::unicode" => GraphicalTheme::unicode(alloc),
+        "GraphicalTheme::unicode_nocolor" => GraphicalTheme::unicode_nocolor(alloc),
+        "GraphicalTheme::none" => GraphicalTheme::none(alloc),
+        _ => return others(alloc, name, out),
+    };
+    answered(out, made)
 }
 
 fn others<W: Write>(alloc: Global, name: &str, out: &mut W) -> Done {

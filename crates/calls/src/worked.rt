@@ -52,7 +52,7 @@ pub static HANDLERS: [&str; 12] = [
     "debug",
 ];
 
-static OOPS: Written<'static> = Written {
+const OOPS: Written<'static> = Written {
     message: "oops!",
     code: "oops::my::bad",
     url: "http://x",
@@ -62,6 +62,8 @@ static OOPS: Written<'static> = Written {
     source: Some(README),
     ..M
 };
+
+static ONE_LABEL: Written<'static> = OOPS;
 
 static CROSSING: Written<'static> = Written {
     labels: &[(0, 5, 0, "x"), (2, 5, 0, "y\nand z")],
@@ -87,16 +89,7 @@ static BESIDE: [Written<'static>; 2] = [
         severity: Some(Severity::Warning),
         ..M
     },
-    Written {
-        message: "oops!",
-        code: "oops::my::bad",
-        url: "http://x",
-        help: "try doing it better next time?",
-        labels: &[(9, 4, 0, "This bit here")],
-        name: "bad_file.rs",
-        source: Some(README),
-        ..M
-    },
+    OOPS,
 ];
 
 static ON_ONE_LINE: Written<'static> = Written {
@@ -163,7 +156,7 @@ fn report<'a>(alloc: Global, name: &str, reads: &'a Reads) -> Result<Made<'a>, A
 /// What is written of a report that has nothing beside it or below it.
 fn alone(name: &str) -> Option<&'static Written<'static>> {
     match name {
-        "one label" => Some(&OOPS),
+        "one label" => Some(&ONE_LABEL),
         "labels on one line" => Some(&ON_ONE_LINE),
         "wide characters" => Some(&WIDE),
         "tabs" => Some(&TABS),
@@ -208,10 +201,10 @@ fn with_cause<'a>(
 fn cause<'a>(alloc: Global, name: &str, reads: &'a Reads) -> Result<Made<'a>, AllocError> {
     match name {
         "a linked cause" => report_of(alloc, &LINKED),
-        "causes with sources" => both_sourced(alloc, report_of(alloc, &OOPS)?),
+        "causes with sources" => both_sourced(alloc, report_of(alloc, &ONE_LABEL)?),
         _ => {
             let bytes = README;
-            stopping_report(alloc, &OOPS, Stopping { bytes, reads })
+            stopping_report(alloc, &ONE_LABEL, Stopping { bytes, reads })
         }
     }
 }

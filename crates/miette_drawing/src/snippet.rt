@@ -24,17 +24,17 @@
 //!    columns its marks then stand.
 
 ghost use Rattle.std.specs.Prelude.{◌≡◌, ◌∷◌, ◌+◌, ◌<◌, ◌^◌, List, map, length, decimal, false, IfOk, OnOk};
-ghost use Rattle.miette_newlines.specs.rules.Lines.{lines_from};
-ghost use Rattle.miette_snippets.specs.rules.SnippetLayout.{left_out};
+ghost use Rattle.miette_highlight.specs.rules.HighlighterCalls.{restarted};
+ghost use Rattle.miette_folds.specs.views.Folding.{fold_in};
+ghost use Rattle.miette_folds.specs.views.Spreads.{spread_of, AreNumbered};
 ghost use Rattle.miette_snippets.specs.views.ThemeSettings.{settings_of};
+ghost use Rattle.miette_lines.specs.views.Sweeping.{IsAt, AreSorted};
+ghost use Rattle.miette_drawing.specs.steps.Widths.{width_of_count, gutter_of};
+ghost use Rattle.miette_drawing.specs.views.SnippetRows.{PutsRows, PutsSnippet, texts_in, lent_rows};
+ghost use Rattle.miette_newlines.specs.rules.Lines.{lines_from};
 ghost use Rattle.miette_lines.specs.views.GivenLabels.{drawn_of};
 ghost use Rattle.miette_snippets.specs.rules.Highlighting.{AreCallsOn, leaves_plain};
-ghost use Rattle.miette_highlight.specs.rules.HighlighterCalls.{restarted};
-ghost use Rattle.miette_folds.specs.views.Spreads.{spread_of, AreNumbered};
-ghost use Rattle.miette_folds.specs.views.Folding.{fold_in};
-ghost use Rattle.miette_drawing.specs.views.SnippetRows.{PutsRows, PutsSnippet, texts_in, lent_rows};
-ghost use Rattle.miette_drawing.specs.steps.Widths.{width_of_count, gutter_of};
-ghost use Rattle.miette_lines.specs.views.Sweeping.{IsAt, AreSorted};
+ghost use Rattle.miette_snippets.specs.rules.SnippetLayout.{left_out};
 
 use crate::frame::{Frame, push_bottom_row, push_top_row};
 use crate::highlighting::{may_pass, pieces_of, restart};

@@ -1,12 +1,12 @@
 //! How many lines a snippet has, and how many of its labels lie on one.
 
 ghost use Rattle.std.specs.Prelude.{◌≡◌, ◌+◌, ◌<◌, ◌^◌, length, IfOk};
-ghost use Rattle.miette_newlines.specs.rules.Lines.{lines_from};
-ghost use Rattle.miette_newlines.specs.views.Walking.{line_of_text};
 ghost use Rattle.miette_lines.specs.views.Sweeping.{IsAt, AreSorted};
+ghost use Rattle.miette_newlines.specs.rules.Lines.{lines_from};
+ghost use Rattle.miette_folds.specs.steps.Counting.{begins_before, next_counted};
+ghost use Rattle.miette_newlines.specs.views.Walking.{line_of_text};
 ghost use Rattle.miette_lines.specs.views.LabelCounts.{most_multi};
 ghost use Rattle.miette_folds.specs.views.Folding.{AreFoldsIn};
-ghost use Rattle.miette_folds.specs.steps.Counting.{begins_before, next_counted};
 
 use crate::folds::{Fold, LineStart};
 use crate::runs::{enter_line, next_start, pass_over};

@@ -1,16 +1,16 @@
 //! Labels as they may be folded, from what their reads gave.
 
 ghost use Rattle.std.specs.Prelude.{◌≡◌, ◌≤◌, ◌+◌, ◌-◌, length, map, max, min, unwrap_or, IfOk, if◌then◌else◌};
-ghost use Rattle.std.specs.List.{All};
-ghost use Rattle.miette_newlines.specs.rules.Lines.{line_of};
-ghost use Rattle.miette_protocol.specs.rules.Reading.{Source};
-ghost use Rattle.miette_lines.specs.rules.Around.{has_own};
-ghost use Rattle.miette_lines.specs.rules.Contexts.{end_of_span};
-ghost use Rattle.miette_lines.specs.views.GivenLabels.{label_at};
-ghost use Rattle.miette_lines.specs.views.Placing.{end_drawn};
-ghost use Rattle.miette_lines.specs.views.Reads.{IsRead};
-ghost use Rattle.miette_folds.specs.views.Spreads.{spread_of};
 ghost use Rattle.miette_folds.specs.views.ReadSpreads.{read_spread, read_spreads, HasLines};
+ghost use Rattle.miette_protocol.specs.rules.Reading.{Source};
+ghost use Rattle.miette_newlines.specs.rules.Lines.{line_of};
+ghost use Rattle.miette_lines.specs.views.Placing.{end_drawn};
+ghost use Rattle.miette_lines.specs.views.GivenLabels.{label_at};
+ghost use Rattle.miette_lines.specs.views.Reads.{IsRead};
+ghost use Rattle.miette_lines.specs.rules.Contexts.{end_of_span};
+ghost use Rattle.std.specs.List.{All};
+ghost use Rattle.miette_folds.specs.views.Spreads.{spread_of};
+ghost use Rattle.miette_lines.specs.rules.Around.{has_own};
 ghost use Rattle.miette_folds.specs.steps.LineNumbers.{IsLineIn};
 
 use crate::folds::Spread;

@@ -67,8 +67,8 @@ fn push_url_behind(layout: Layout<'_>, url: &str, out: &mut Output) -> Result<()
 fn push_code_header(
     layout: Layout<'_>,
     style: Style,
-    code: &str,
     url: Option<&str>,
+    code: &str,
     out: &mut Output,
 ) -> Result<(), AllocError>
     ensures { OnOk result (out.new ≡ out.old ++ print
@@ -111,7 +111,7 @@ pub fn push_header(
     let Some(code) = code else {
         return Ok(false);
     };
-    push_code_header(layout, style, code, behind, out)?;
+    push_code_header(layout, style, behind, code, out)?;
     Ok(true)
 }
 
