@@ -15,7 +15,7 @@ use miette_protocol::source::MietteSpanContents;
 use std::alloc::{AllocError, Global};
 
 /// A label as it may be folded.
-#[derive(Clone, Copy, Debug, PartialEq, Eq, Drop)]
+#[derive(Clone, Copy, Drop)]
 pub struct Spread {
     /// The offset of its first byte, in bytes of the source.
     pub first: usize,
@@ -36,7 +36,7 @@ pub struct Spread {
 }
 
 /// Where a line of a snippet begins, or where all of them end.
-#[derive(Clone, Copy, Debug, PartialEq, Eq, Drop)]
+#[derive(Clone, Copy, Drop)]
 pub struct LineStart {
     /// The offset there, in bytes of the source.
     pub offset: usize,
@@ -45,7 +45,7 @@ pub struct LineStart {
 }
 
 /// A label among the lines of a snippet.
-#[derive(Clone, Copy, Debug, PartialEq, Eq, Drop)]
+#[derive(Clone, Copy, Drop)]
 pub struct Fold {
     /// The label.
     pub label: Spread,
