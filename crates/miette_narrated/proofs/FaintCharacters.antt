@@ -1,9 +1,9 @@
 -- Characters that take no columns, one behind another at the end of a text: only the first one is seen from before it.
-use Rattle.std.proofs.Common.{ℕ, ◌+◌, ◌<◌, ◌≡◌, Bool, true, false, cond, not, ◌&&◌, ◌==◌, nat_lt, List, [], ◌∷◌, ◌++◌, None, refl, sym, ap, subst, add-zero, ◌∙◌, arith, eqb-true, inl, inr}
+use Rattle.std.proofs.Common.{ℕ, ◌+◌, ◌<◌, ◌≡◌, Bool, true, false, cond, not, ◌&&◌, ◌||◌, ◌==◌, nat_lt, List, [], ◌∷◌, ◌++◌, None, refl, sym, ap, subst, add-zero, ◌∙◌, arith, eqb-true, inl, inr}
 use Rattle.std.specs.Int.{is_in_range}
 use Rattle.std.specs.List.{list_all}
 use Rattle.std.proofs.lemmas.Bool.{true≢false, and_parts, and_right, or_parts, cases_lt, le-ltb, lt-leb, ne_eqb, not-true}
-use Rattle.ucd_table.specs.Rows.{in_ranges}
+use Rattle.ucd_table.specs.Rows.{Range, in_ranges}
 use Rattle.ucd_table.proofs.Stepped.{Stepped, of_ranges, zip_stepped}
 use Rattle.ucd_table.proofs.Facts.{always, ends_by, Stepped-everywhere}
 use Rattle.ucd_emoji.specs.Binary.{is_emoji_variation_base}
@@ -120,21 +120,41 @@ faint_not p s ok c h =
     let both = zip_stepped (λ k b. not (is_faint_kind k && b)) kind p kind_stepped s in
     not-true (p c) (subst (λ a. not (a && p c) ≡ true) h (Stepped-everywhere _ both ok c))
 
-no_variation : (c : ℕ) → is_faint_kind (kind c) ≡ true → is_emoji_variation_base c ≡ false
+abbrev quotes : List Range
+quotes = (0x2018, 0x2019) ∷ (0x201C, 0x201D) ∷ []
+
+-- characters that a selector may turn
+abbrev is_turned : ℕ → Bool
+is_turned c = is_emoji_variation_base c || (is_text_presentation_base c || in_ranges quotes c)
+
+not_turned : (c : ℕ) → is_faint_kind (kind c) ≡ true → is_turned c ≡ false
 unfolding unicode_width
-no_variation = faint_not is_emoji_variation_base is_emoji_variation_base_stepped refl
+not_turned =
+    let either : Bool → Bool → Bool = λ a b. a || b in
+    let presented = zip_stepped either is_text_presentation_base (in_ranges quotes) is_text_presentation_base_stepped (of_ranges quotes refl) in
+    faint_not is_turned (zip_stepped either is_emoji_variation_base (λ c. is_text_presentation_base c || in_ranges quotes c) is_emoji_variation_base_stepped presented) refl
+
+no_turns : (c : ℕ) → is_faint_kind (kind c) ≡ true → (is_emoji_variation_base c ≡ false) × ((is_text_presentation_base c ≡ false) × ((is_in_range 0x2018 0x2019 c ≡ false) × (is_in_range 0x201C 0x201D c ≡ false)))
+unfolding in_ranges
+no_turns c h =
+    let double = is_in_range 0x201C 0x201D c || false in
+    let single = is_in_range 0x2018 0x2019 c || double in
+    let one = or_parts (is_emoji_variation_base c) (is_text_presentation_base c || single) (not_turned c h) in
+    let two = or_parts (is_text_presentation_base c) single one.1 in
+    let three = or_parts (is_in_range 0x2018 0x2019 c) double two.1 in
+    (one.0, (two.0, (three.0, (or_parts (is_in_range 0x201C 0x201D c) false three.1).0)))
+
+no_variation : (c : ℕ) → is_faint_kind (kind c) ≡ true → is_emoji_variation_base c ≡ false
+no_variation c h = (no_turns c h).0
 
 no_presentation : (c : ℕ) → is_faint_kind (kind c) ≡ true → is_text_presentation_base c ≡ false
-unfolding unicode_width
-no_presentation = faint_not is_text_presentation_base is_text_presentation_base_stepped refl
+no_presentation c h = (no_turns c h).1.0
 
 no_single_quote : (c : ℕ) → is_faint_kind (kind c) ≡ true → is_in_range 0x2018 0x2019 c ≡ false
-unfolding unicode_width in_ranges
-no_single_quote c h = (or_parts (is_in_range 0x2018 0x2019 c) false (faint_not (in_ranges ((0x2018, 0x2019) ∷ [])) (of_ranges ((0x2018, 0x2019) ∷ []) refl) refl c h)).0
+no_single_quote c h = (no_turns c h).1.1.0
 
 no_double_quote : (c : ℕ) → is_faint_kind (kind c) ≡ true → is_in_range 0x201C 0x201D c ≡ false
-unfolding unicode_width in_ranges
-no_double_quote c h = (or_parts (is_in_range 0x201C 0x201D c) false (faint_not (in_ranges ((0x201C, 0x201D) ∷ [])) (of_ranges ((0x201C, 0x201D) ∷ []) refl) refl c h)).0
+no_double_quote c h = (no_turns c h).1.1.1
 
 -- ---- its step before others such
 

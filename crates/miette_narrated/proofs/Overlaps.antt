@@ -1,9 +1,10 @@
 -- A character that closes leaves the same to be read, whatever stands behind it but a selector or a skin tone.
-use Rattle.std.proofs.Common.{ℕ, ◌+◌, ◌<◌, ◌≤◌, ◌≡◌, Bool, true, false, cond, not, ◌&&◌, ◌||◌, ◌==◌, nat_le, [], ◌∷◌, Option, Some, None, refl, sym, ap, subst, ◌∙◌, arith, inl, inr, eqb-true}
+use Rattle.std.proofs.Common.{ℕ, ◌+◌, ◌<◌, ◌≤◌, ◌≡◌, Bool, true, false, cond, not, ◌&&◌, ◌||◌, ◌==◌, nat_le, List, [], ◌∷◌, Option, Some, None, refl, sym, ap, subst, ◌∙◌, arith, inl, inr, eqb-true}
 use Rattle.std.specs.Prelude.{if◌then◌else◌}
 use Rattle.std.specs.Int.{is_in_range}
 use Rattle.std.proofs.lemmas.Bool.{true≢false, or_cases, and_right, cases_lt, cond-true, cond-false, le-leb, lt-leb, ne_eqb, not-true}
-use Rattle.ucd_table.specs.Rows.{in_ranges}
+use Rattle.std.proofs.Math.Bool.{or-true}
+use Rattle.ucd_table.specs.Rows.{Range, in_ranges}
 use Rattle.ucd_table.proofs.Stepped.{Stepped, of_ranges, map_stepped, zip_stepped}
 use Rattle.ucd_table.proofs.Facts.{always, ends_by, Stepped-everywhere}
 use Rattle.ucd_bidi.specs.JoiningGroup.{joining_group, joining_group_eq}
@@ -21,7 +22,6 @@ use Rattle.unicode_width.specs.Width.{before, plain, is_line_feed, of_kind, alon
 use Rattle.unicode_width.proofs.KindLemmas.{kind_stepped}
 use Rattle.unicode_width.proofs.Computing.{unicode_width}
 use Rattle.miette_narrated.specs.steps.Parting.{is_joining, is_closing}
-use Rattle.miette_narrated.proofs.Lone.{or_false}
 use Rattle.miette_narrated.proofs.Opening.{is_modifier, IsOpen}
 use Rattle.miette_narrated.proofs.PartedTexts.{is_mild_kind, mild, unlisted, no_transparent, no_indicator, no_modifier, no_tag_letter, no_tag_digit, no_joiner, no_keycap, no_tag_end, no_vowel, no_selector, own_width, unligated, low_parts}
 
@@ -39,17 +39,28 @@ emoji_not p s ok c h =
     let both = zip_stepped (λ k b. not (b && is_emoji k)) kind p kind_stepped s in
     not-true (is_emoji (kind c)) (subst (λ a. not (a && is_emoji (kind c)) ≡ true) h (Stepped-everywhere _ both ok c))
 
-lam_plain : (c : ℕ) → is_lam c ≡ true → is_emoji (kind c) ≡ false
+abbrev letters : List Range
+letters = (0x2D31, 0x2D65) ∷ (0xA4F8, 0xA4FB) ∷ []
+
+letter_plain : (c : ℕ) → (is_lam c || in_ranges letters c) ≡ true → is_emoji (kind c) ≡ false
 unfolding unicode_width
-lam_plain = emoji_not (λ c. joining_group_eq (joining_group c) Lam) (map_stepped (λ g. joining_group_eq g Lam) joining_group joining_group_stepped) refl
+letter_plain =
+    let lams = map_stepped (λ g. joining_group_eq g Lam) joining_group joining_group_stepped in
+    emoji_not (λ c. is_lam c || in_ranges letters c) (zip_stepped (λ a b. a || b) is_lam (in_ranges letters) lams (of_ranges letters refl)) refl
+
+lam_plain : (c : ℕ) → is_lam c ≡ true → is_emoji (kind c) ≡ false
+lam_plain c h = letter_plain c (ap (λ b. b || in_ranges letters c) h)
+
+behind_lam : (c : ℕ) → in_ranges letters c ≡ true → is_emoji (kind c) ≡ false
+behind_lam c h = letter_plain c (ap (λ b. is_lam c || b) h ∙ or-true (is_lam c))
 
 lisu_plain : (c : ℕ) → is_in_range 0xA4F8 0xA4FB c ≡ true → is_emoji (kind c) ≡ false
-unfolding unicode_width in_ranges
-lisu_plain c h = emoji_not (in_ranges ((0xA4F8, 0xA4FB) ∷ [])) (of_ranges ((0xA4F8, 0xA4FB) ∷ []) refl) refl c (sym (or_false (is_in_range 0xA4F8 0xA4FB c)) ∙ h)
+unfolding in_ranges
+lisu_plain c h = behind_lam c (ap (λ b. is_in_range 0x2D31 0x2D65 c || (b || false)) h ∙ or-true (is_in_range 0x2D31 0x2D65 c))
 
 tifinagh_range : (c : ℕ) → is_in_range 0x2D31 0x2D65 c ≡ true → is_emoji (kind c) ≡ false
-unfolding unicode_width in_ranges
-tifinagh_range c h = emoji_not (in_ranges ((0x2D31, 0x2D65) ∷ [])) (of_ranges ((0x2D31, 0x2D65) ∷ []) refl) refl c (sym (or_false (is_in_range 0x2D31 0x2D65 c)) ∙ h)
+unfolding in_ranges
+tifinagh_range c h = behind_lam c (ap (λ b. b || (is_in_range 0xA4F8 0xA4FB c || false)) h)
 
 tifinagh_mark : is_emoji (kind 0x2D6F) ≡ false
 unfolding unicode_width

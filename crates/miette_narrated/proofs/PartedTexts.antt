@@ -140,29 +140,40 @@ mild_not p s ok c h =
     let both = zip_stepped (λ k b. not (is_mild_kind k && b)) kind p kind_stepped s in
     not-true (p c) (subst (λ a. not (a && p c) ≡ true) h (Stepped-everywhere _ both ok c))
 
-mild_outside : (low high : ℕ) (s : Stepped (in_ranges ((low, high) ∷ []))) → unmild (in_ranges ((low, high) ∷ [])) s ≡ true → (c : ℕ) → is_mild_kind (kind c) ≡ true → is_in_range low high c ≡ false
+-- signs that join others, none of which is of such a kind
+abbrev sign_ranges : List Range
+sign_ranges = (0x1F1E6, 0x1F1FF) ∷ (0x1F3FB, 0x1F3FF) ∷ (0xE0030, 0xE0039) ∷ (0xE0061, 0xE007A) ∷ []
+
+no_sign : (c : ℕ) → is_mild_kind (kind c) ≡ true → (is_ligature_transparent c || in_ranges sign_ranges c) ≡ false
+unfolding unicode_width
+no_sign = mild_not (λ c. is_ligature_transparent c || in_ranges sign_ranges c) (zip_stepped (λ a b. a || b) is_ligature_transparent (in_ranges sign_ranges) is_ligature_transparent_stepped (of_ranges sign_ranges refl)) refl
+
+no_signs : (c : ℕ) → is_mild_kind (kind c) ≡ true → (is_ligature_transparent c ≡ false) × ((is_in_range 0x1F1E6 0x1F1FF c ≡ false) × ((is_in_range 0x1F3FB 0x1F3FF c ≡ false) × ((is_in_range 0xE0030 0xE0039 c ≡ false) × (is_in_range 0xE0061 0xE007A c ≡ false))))
 unfolding in_ranges
-mild_outside low high s ok c h = (or_parts (is_in_range low high c) false (mild_not (in_ranges ((low, high) ∷ [])) s ok c h)).0
+no_signs c h =
+    let letters = is_in_range 0xE0061 0xE007A c || false in
+    let digits = is_in_range 0xE0030 0xE0039 c || letters in
+    let modifiers = is_in_range 0x1F3FB 0x1F3FF c || digits in
+    let one = or_parts (is_ligature_transparent c) (is_in_range 0x1F1E6 0x1F1FF c || modifiers) (no_sign c h) in
+    let two = or_parts (is_in_range 0x1F1E6 0x1F1FF c) modifiers one.1 in
+    let three = or_parts (is_in_range 0x1F3FB 0x1F3FF c) digits two.1 in
+    let four = or_parts (is_in_range 0xE0030 0xE0039 c) letters three.1 in
+    (one.0, (two.0, (three.0, (four.0, (or_parts (is_in_range 0xE0061 0xE007A c) false four.1).0))))
 
 pub no_transparent : (c : ℕ) → is_mild_kind (kind c) ≡ true → is_ligature_transparent c ≡ false
-unfolding unicode_width
-no_transparent = mild_not is_ligature_transparent is_ligature_transparent_stepped refl
+no_transparent c h = (no_signs c h).0
 
 pub no_indicator : (c : ℕ) → is_mild_kind (kind c) ≡ true → is_in_range 0x1F1E6 0x1F1FF c ≡ false
-unfolding unicode_width
-no_indicator = mild_outside 0x1F1E6 0x1F1FF (of_ranges ((0x1F1E6, 0x1F1FF) ∷ []) refl) refl
+no_indicator c h = (no_signs c h).1.0
 
 pub no_modifier : (c : ℕ) → is_mild_kind (kind c) ≡ true → is_in_range 0x1F3FB 0x1F3FF c ≡ false
-unfolding unicode_width
-no_modifier = mild_outside 0x1F3FB 0x1F3FF (of_ranges ((0x1F3FB, 0x1F3FF) ∷ []) refl) refl
-
-pub no_tag_letter : (c : ℕ) → is_mild_kind (kind c) ≡ true → is_in_range 0xE0061 0xE007A c ≡ false
-unfolding unicode_width
-no_tag_letter = mild_outside 0xE0061 0xE007A (of_ranges ((0xE0061, 0xE007A) ∷ []) refl) refl
+no_modifier c h = (no_signs c h).1.1.0
 
 pub no_tag_digit : (c : ℕ) → is_mild_kind (kind c) ≡ true → is_in_range 0xE0030 0xE0039 c ≡ false
-unfolding unicode_width
-no_tag_digit = mild_outside 0xE0030 0xE0039 (of_ranges ((0xE0030, 0xE0039) ∷ []) refl) refl
+no_tag_digit c h = (no_signs c h).1.1.1.0
+
+pub no_tag_letter : (c : ℕ) → is_mild_kind (kind c) ≡ true → is_in_range 0xE0061 0xE007A c ≡ false
+no_tag_letter c h = (no_signs c h).1.1.1.1
 
 no_mark : (c k : ℕ) → is_mild_kind (kind k) ≡ false → is_mild_kind (kind c) ≡ true → (c == k) ≡ false
 no_mark c k n h = ne_eqb c k (λ e. absurd (true≢false (sym h ∙ ap (λ x. is_mild_kind (kind x)) e ∙ n)))
