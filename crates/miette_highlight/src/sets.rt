@@ -11,10 +11,7 @@ impl PatternHighlighter {
     /// Where no memory is found for its rules.
     pub fn json(alloc: Global) -> Result<Self, AllocError> {
         let mut rules = Vec::new(alloc);
-        push_text(
-            &mut rules,
-            Delimiters::new(alloc, "\"", "\"")?.escaped_by(b'\\'),
-        )?;
+        push_parts(&mut rules, alloc, &JSON_PARTS)?;
         push_values(&mut rules, alloc, &["true", "false", "null"])?;
         Ok(PatternHighlighter::new(rules))
     }
@@ -25,18 +22,7 @@ impl PatternHighlighter {
     /// Where no memory is found for its rules.
     pub fn toml(alloc: Global) -> Result<Self, AllocError> {
         let mut rules = Vec::new(alloc);
-        push_comment(&mut rules, Delimiters::new(alloc, "#", "\n")?)?;
-        let long = Delimiters::new(alloc, "\"\"\"", "\"\"\"")?.escaped_by(b'\\');
-        push_text(&mut rules, long.over_lines())?;
-        push_text(
-            &mut rules,
-            Delimiters::new(alloc, "'''", "'''")?.over_lines(),
-        )?;
-        push_text(
-            &mut rules,
-            Delimiters::new(alloc, "\"", "\"")?.escaped_by(b'\\'),
-        )?;
-        push_text(&mut rules, Delimiters::new(alloc, "'", "'")?)?;
+        push_parts(&mut rules, alloc, &TOML_PARTS)?;
         push_values(&mut rules, alloc, &["true", "false", "inf", "nan"])?;
         Ok(PatternHighlighter::new(rules))
     }
@@ -48,29 +34,121 @@ impl PatternHighlighter {
     /// Where no memory is found for its rules.
     pub fn rust(alloc: Global) -> Result<Self, AllocError> {
         let mut rules = Vec::new(alloc);
-        push_comment(&mut rules, Delimiters::new(alloc, "//", "\n")?)?;
-        push_comment(&mut rules, Delimiters::new(alloc, "/*", "*/")?.over_lines())?;
-        push_text(&mut rules, Delimiters::new(alloc, "'\"'", "")?)?;
-        push_text(&mut rules, Delimiters::new(alloc, "'\\\"'", "")?)?;
-        push_text(
-            &mut rules,
-            Delimiters::new(alloc, "r#\"", "\"#")?.over_lines(),
-        )?;
-        push_text(
-            &mut rules,
-            Delimiters::new(alloc, "r\"", "\"")?.over_lines(),
-        )?;
-        for opens in &["\"", "b\"", "c\""] {
-            let text = Delimiters::new(alloc, opens, "\"")?.escaped_by(b'\\');
-            push_text(&mut rules, text.over_lines())?;
-        }
-        let style = Style::new().color(Color::Magenta);
-        let pattern = Pattern::words(alloc, &RUST_WORDS)?;
-        rules.push(Rule { pattern, style })?;
+        push_parts(&mut rules, alloc, &RUST_PARTS)?;
+        push_words(&mut rules, alloc, &RUST_WORDS, Color::Magenta)?;
         push_values(&mut rules, alloc, &["true", "false"])?;
         Ok(PatternHighlighter::new(rules))
     }
 }
+
+/// A part of a line between delimiters: a comment or a text.
+struct Part {
+    opens: &'static str,
+    closes: &'static str,
+    /// Whether a backslash takes its meaning from the character behind it.
+    escapes: bool,
+    /// Whether it may go on over lines.
+    goes_on: bool,
+    is_comment: bool,
+}
+
+const TEXT: Part = Part {
+    opens: "\"",
+    closes: "\"",
+    escapes: false,
+    goes_on: false,
+    is_comment: false,
+};
+
+static JSON_PARTS: [Part; 1] = [Part {
+    escapes: true,
+    ..TEXT
+}];
+
+static TOML_PARTS: [Part; 5] = [
+    Part {
+        opens: "#",
+        closes: "\n",
+        is_comment: true,
+        ..TEXT
+    },
+    Part {
+        opens: "\"\"\"",
+        closes: "\"\"\"",
+        escapes: true,
+        goes_on: true,
+        ..TEXT
+    },
+    Part {
+        opens: "'''",
+        closes: "'''",
+        goes_on: true,
+        ..TEXT
+    },
+    Part {
+        escapes: true,
+        ..TEXT
+    },
+    Part {
+        opens: "'",
+        closes: "'",
+        ..TEXT
+    },
+];
+
+static RUST_PARTS: [Part; 9] = [
+    Part {
+        opens: "//",
+        closes: "\n",
+        is_comment: true,
+        ..TEXT
+    },
+    Part {
+        opens: "/*",
+        closes: "*/",
+        goes_on: true,
+        is_comment: true,
+        ..TEXT
+    },
+    Part {
+        opens: "'\"'",
+        closes: "",
+        ..TEXT
+    },
+    Part {
+        opens: "'\\\"'",
+        closes: "",
+        ..TEXT
+    },
+    Part {
+        opens: "r#\"",
+        closes: "\"#",
+        goes_on: true,
+        ..TEXT
+    },
+    Part {
+        opens: "r\"",
+        goes_on: true,
+        ..TEXT
+    },
+    Part {
+        escapes: true,
+        goes_on: true,
+        ..TEXT
+    },
+    Part {
+        opens: "b\"",
+        escapes: true,
+        goes_on: true,
+        ..TEXT
+    },
+    Part {
+        opens: "c\"",
+        escapes: true,
+        goes_on: true,
+        ..TEXT
+    },
+];
 
 const RUST_WORDS: [&str; 37] = [
     "as", "async", "await", "break", "const", "continue", "crate", "dyn", "else", "enum", "extern",
@@ -79,31 +157,48 @@ const RUST_WORDS: [&str; 37] = [
     "where", "while", "yield",
 ];
 
-// What lies between these delimiters is a text.
-fn push_text(rules: &mut Vec<Rule>, delimiters: Delimiters) -> Result<(), AllocError> {
-    let style = Style::new().color(Color::Green);
-    rules.push(Rule {
-        pattern: Pattern::Between(delimiters),
-        style,
-    })?;
+// The delimiters of such a part.
+fn delimiters_of(alloc: Global, part: &Part) -> Result<Delimiters, AllocError> {
+    let mut delimiters = Delimiters::new(alloc, part.opens, part.closes)?;
+    if part.escapes {
+        delimiters = delimiters.escaped_by(b'\\');
+    }
+    if part.goes_on {
+        delimiters = delimiters.over_lines();
+    }
+    Ok(delimiters)
+}
+
+// Texts are green, and comments dimmed.
+fn push_parts(rules: &mut Vec<Rule>, alloc: Global, parts: &[Part]) -> Result<(), AllocError> {
+    for part in parts {
+        let style = if part.is_comment {
+            Style::new().dimmed()
+        } else {
+            Style::new().color(Color::Green)
+        };
+        let pattern = Pattern::Between(delimiters_of(alloc, part)?);
+        rules.push(Rule { pattern, style })?;
+    }
     Ok(())
 }
 
-// What lies between these delimiters is a comment.
-fn push_comment(rules: &mut Vec<Rule>, delimiters: Delimiters) -> Result<(), AllocError> {
-    let style = Style::new().dimmed();
-    rules.push(Rule {
-        pattern: Pattern::Between(delimiters),
-        style,
-    })?;
+// These words have one colour.
+fn push_words(
+    rules: &mut Vec<Rule>,
+    alloc: Global,
+    words: &[&str],
+    color: Color,
+) -> Result<(), AllocError> {
+    let style = Style::new().color(color);
+    let pattern = Pattern::words(alloc, words)?;
+    rules.push(Rule { pattern, style })?;
     Ok(())
 }
 
 // These words are values, and so are words that begin with a digit.
 fn push_values(rules: &mut Vec<Rule>, alloc: Global, words: &[&str]) -> Result<(), AllocError> {
-    let style = Style::new().color(Color::Yellow);
-    let pattern = Pattern::words(alloc, words)?;
-    rules.push(Rule { pattern, style })?;
+    push_words(rules, alloc, words, Color::Yellow)?;
     let style = Style::new().color(Color::Cyan);
     let pattern = Pattern::From(b'0', b'9');
     rules.push(Rule { pattern, style })?;
