@@ -7,7 +7,7 @@ ghost use Rattle.miette_tree.specs.views.Report.{tree_of};
 ghost use Rattle.miette_tree.specs.views.Owned.{shown_source};
 ghost use Rattle.miette_json.specs.rules.Json.{json_text, items_text};
 ghost use Rattle.miette_json.specs.rules.JsonReport.{strings, span_json, label_json, labels_json};
-ghost use Rattle.miette_json.specs.steps.JsonParts.{key_text, maybe_text, rest_text, head_text, reasons_text};
+ghost use Rattle.miette_json.specs.steps.JsonParts.{first_key_text, key_text, maybe_text, rest_text, head_text, reasons_text};
 ghost use Rattle.miette_json.specs.steps.JsonParts.{label_start, NamesFile, AppendsPlaces, AppendsReport};
 ghost use Rattle.miette_json.specs.steps.JsonParts.{AppendsRelated};
 
@@ -67,9 +67,7 @@ fn push_head<D: Diagnostic, S: SourceCode>(
     ensures { OnOk result (string_bytes out.new
         ≡ string_bytes out.old ++ head_text (head (tree_of D.meaning S.source report.now))) }
 {
-    out.push_str("{")?;
-    push_quoted(out, "message")?;
-    out.push_str(": ")?;
+    push_first_key(out, "message")?;
     push_quoted(out, report.message())?;
     push_maybe(out, "code", report.code())?;
     push_key(out, "severity")?;
@@ -210,14 +208,21 @@ fn push_label_start(label: &LabeledSpan, out: &mut String) -> Result<(), AllocEr
 fn push_span(label: &LabeledSpan, out: &mut String) -> Result<(), AllocError>
     ensures { OnOk result (string_bytes out.new ≡ string_bytes out.old ++ json_text (span_json label.now.span)) }
 {
-    out.push_str("{")?;
-    push_quoted(out, "offset")?;
-    out.push_str(": ")?;
+    push_first_key(out, "offset")?;
     push_number(out, label.offset())?;
     push_key(out, "length")?;
     push_number(out, label.len())?;
     out.push_str("}")?;
     Ok(())
+}
+
+/// What begins an object: a brace, its first key, and what stands between a key and its value.
+fn push_first_key(out: &mut String, key: &str) -> Result<(), AllocError>
+    ensures { OnOk result (string_bytes out.new ≡ string_bytes out.old ++ first_key_text key.now) }
+{
+    out.push_str("{")?;
+    push_quoted(out, key)?;
+    out.push_str(": ")
 }
 
 /// A comma, the key, and what stands between a key and its value.

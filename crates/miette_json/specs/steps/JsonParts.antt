@@ -26,6 +26,10 @@ pub record NamesFile (source : Option Source) (labels : List Label) (name : Opti
   pub may_fail : fault ≡ true → MayFail source
   pub is : name ≡ option_map (file_name fault labels) source
 
+-- a brace and the key of an object's first member
+abbrev pub first_key_text : List ℕ → List ℕ
+first_key_text key = 123 ∷ (quoted_text key ++ (58 ∷ 32 ∷ []))
+
 -- a key after a member
 abbrev pub key_text : List ℕ → List ℕ
 key_text key = 44 ∷ (quoted_text key ++ (58 ∷ 32 ∷ []))
