@@ -141,6 +141,27 @@ fn are_settled(plan: Plan<'_>, text: &Runs) -> bool
     is_settled(plan.first.parts()) && is_settled(plan.further.parts()) && is_settled(text.parts())
 }
 
+// What runs print, read anew, and wrapped.
+fn push_reread(
+    alloc: Global,
+    plan: Plan<'_>,
+    text: &Runs,
+    out: &mut Output,
+) -> Result<(), AllocError>
+    ensures { OnOk result (out.new ≡ out.old ++ wrapped_text (printed_plan plan.entry) (spell text.now)) }
+{
+    let first = reread(alloc, plan.first)?;
+    let further = reread(alloc, plan.further)?;
+    let text = reread(alloc, text)?;
+    let read = Plan {
+        first: &first,
+        further: &further,
+        ..plan
+    };
+    push_wrapped(out, read, &text)?;
+    Ok(())
+}
+
 /// Appends the runs, wrapped, as the text that they print is.
 ///
 /// # Errors
@@ -153,16 +174,7 @@ pub fn wrap(alloc: Global, plan: Plan<'_>, text: &Runs, out: &mut Output) -> Res
         push_wrapped(out, plan, text)?;
         return Ok(());
     }
-    let first = reread(alloc, plan.first)?;
-    let further = reread(alloc, plan.further)?;
-    let text = reread(alloc, text)?;
-    let read = Plan {
-        first: &first,
-        further: &further,
-        ..plan
-    };
-    push_wrapped(out, read, &text)?;
-    Ok(())
+    push_reread(alloc, plan, text, out)
 }
 
 /// Whether words are cut behind hyphens.

@@ -13,12 +13,3 @@ returns-then-are_settled c =
     let is = c.are_settled.ensures in
     let t = c.if-are_settled.true in
     e ∙ ap (λ us. c.args.out.now ++ us) (wrapped-read (printed_plan p) p.first.now p.further.now text (spell text) (sym (is.first t)) (sym (is.further t)) (sym (is.text t)))
-
-pub returns : goal.returns
-returns c =
-    let p = runs_plan c.args.plan in
-    let first = c.in_ok-first.first in
-    let further = c.in_ok-further.further in
-    let text = c.in_ok-text.text in
-    let e : c.push_wrapped-2.new.out ≡ c.args.out.now ++ spell (wrapped_tokens (record { room = p.room; first = first; further = further; breaks = p.breaks; wraps = p.wraps; hyphens = p.hyphens }) text) = c.in_ok-push_wrapped-2.ensures in
-    e ∙ ap (λ us. c.args.out.now ++ us) (wrapped-read (printed_plan c.args.plan) first further text (spell c.args.text.now) c.in_ok-first.ensures c.in_ok-further.ensures c.in_ok-text.ensures)
