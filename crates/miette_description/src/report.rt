@@ -6,16 +6,14 @@ ghost use Rattle.json.specs.Value.{value_view};
 ghost use Rattle.serde_json.specs.Read.{read, of_json};
 ghost use Rattle.serde_json.specs.Written.{has_float};
 ghost use Rattle.miette_description.specs.steps.ParsedValues.{value_data, list_data};
-ghost use Rattle.miette_tree.specs.rules.Tree.{cause_of, texts, trees};
-ghost use Rattle.miette_tree.specs.rules.Tree.{with_cause};
+ghost use Rattle.miette_tree.specs.rules.Tree.{cause_of, texts, trees, with_cause};
 ghost use Rattle.miette_tree.specs.views.Report.{tree_of};
 ghost use Rattle.miette_tree.specs.rules.Reads.{AlwaysReads};
 ghost use Rattle.miette_description.specs.rules.Members.{optional_value, at_key, all_of};
 ghost use Rattle.miette_protocol.specs.views.Diagnostic.{meaning_of};
 ghost use Rattle.miette_tree.specs.views.Owned.{owned_source};
 ghost use Rattle.miette_description.specs.rules.Description.{one_cause, wrapped_in, tree_of_parts, report_in};
-ghost use Rattle.miette_description.specs.rules.Description.{reports_in};
-ghost use Rattle.miette_description.specs.rules.Description.{described_tree, report_from, tree_for};
+ghost use Rattle.miette_description.specs.rules.Description.{described_tree, report_from, reports_in, tree_for};
 ghost use Rattle.miette_description.specs.steps.OptionalParts.{maybe_sourced, maybe_related};
 
 use crate::error::BuildError;
