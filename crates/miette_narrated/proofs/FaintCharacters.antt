@@ -120,41 +120,48 @@ faint_not p s ok c h =
     let both = zip_stepped (λ k b. not (is_faint_kind k && b)) kind p kind_stepped s in
     not-true (p c) (subst (λ a. not (a && p c) ≡ true) h (Stepped-everywhere _ both ok c))
 
+-- what a selector changes, and the quotation marks
 abbrev quotes : List Range
 quotes = (0x2018, 0x2019) ∷ (0x201C, 0x201D) ∷ []
 
--- characters that a selector may turn
-abbrev is_turned : ℕ → Bool
-is_turned c = is_emoji_variation_base c || (is_text_presentation_base c || in_ranges quotes c)
+abbrev is_presented : ℕ → Bool
+is_presented c = is_text_presentation_base c || in_ranges quotes c
 
-not_turned : (c : ℕ) → is_faint_kind (kind c) ≡ true → is_turned c ≡ false
+abbrev is_selected : ℕ → Bool
+is_selected c = is_emoji_variation_base c || is_presented c
+
+abbrev presented_stepped : Stepped is_presented
 unfolding unicode_width
-not_turned =
-    let either : Bool → Bool → Bool = λ a b. a || b in
-    let presented = zip_stepped either is_text_presentation_base (in_ranges quotes) is_text_presentation_base_stepped (of_ranges quotes refl) in
-    faint_not is_turned (zip_stepped either is_emoji_variation_base (λ c. is_text_presentation_base c || in_ranges quotes c) is_emoji_variation_base_stepped presented) refl
+presented_stepped = zip_stepped (λ a b. a || b) is_text_presentation_base (in_ranges quotes) is_text_presentation_base_stepped (of_ranges quotes refl)
 
-no_turns : (c : ℕ) → is_faint_kind (kind c) ≡ true → (is_emoji_variation_base c ≡ false) × ((is_text_presentation_base c ≡ false) × ((is_in_range 0x2018 0x2019 c ≡ false) × (is_in_range 0x201C 0x201D c ≡ false)))
-unfolding in_ranges
-no_turns c h =
-    let double = is_in_range 0x201C 0x201D c || false in
-    let single = is_in_range 0x2018 0x2019 c || double in
-    let one = or_parts (is_emoji_variation_base c) (is_text_presentation_base c || single) (not_turned c h) in
-    let two = or_parts (is_text_presentation_base c) single one.1 in
-    let three = or_parts (is_in_range 0x2018 0x2019 c) double two.1 in
-    (one.0, (two.0, (three.0, (or_parts (is_in_range 0x201C 0x201D c) false three.1).0)))
+abbrev selected_stepped : Stepped is_selected
+unfolding unicode_width
+selected_stepped = zip_stepped (λ a b. a || b) is_emoji_variation_base is_presented is_emoji_variation_base_stepped presented_stepped
+
+-- one walk over the table of kinds for all of them
+not_selected : (c : ℕ) → is_faint_kind (kind c) ≡ true → is_selected c ≡ false
+unfolding unicode_width
+not_selected = faint_not is_selected selected_stepped refl
 
 no_variation : (c : ℕ) → is_faint_kind (kind c) ≡ true → is_emoji_variation_base c ≡ false
-no_variation c h = (no_turns c h).0
+no_variation c h = (or_parts (is_emoji_variation_base c) (is_presented c) (not_selected c h)).0
+
+not_presented : (c : ℕ) → is_faint_kind (kind c) ≡ true → is_presented c ≡ false
+not_presented c h = (or_parts (is_emoji_variation_base c) (is_presented c) (not_selected c h)).1
 
 no_presentation : (c : ℕ) → is_faint_kind (kind c) ≡ true → is_text_presentation_base c ≡ false
-no_presentation c h = (no_turns c h).1.0
+no_presentation c h = (or_parts (is_text_presentation_base c) (in_ranges quotes c) (not_presented c h)).0
+
+no_quote : (c : ℕ) → is_faint_kind (kind c) ≡ true → (is_in_range 0x2018 0x2019 c || (is_in_range 0x201C 0x201D c || false)) ≡ false
+unfolding in_ranges
+no_quote c h = (or_parts (is_text_presentation_base c) (in_ranges quotes c) (not_presented c h)).1
 
 no_single_quote : (c : ℕ) → is_faint_kind (kind c) ≡ true → is_in_range 0x2018 0x2019 c ≡ false
-no_single_quote c h = (no_turns c h).1.1.0
+no_single_quote c h = (or_parts (is_in_range 0x2018 0x2019 c) (is_in_range 0x201C 0x201D c || false) (no_quote c h)).0
 
 no_double_quote : (c : ℕ) → is_faint_kind (kind c) ≡ true → is_in_range 0x201C 0x201D c ≡ false
-no_double_quote c h = (no_turns c h).1.1.1
+no_double_quote c h =
+    (or_parts (is_in_range 0x201C 0x201D c) false (or_parts (is_in_range 0x2018 0x2019 c) (is_in_range 0x201C 0x201D c || false) (no_quote c h)).1).0
 
 -- ---- its step before others such
 

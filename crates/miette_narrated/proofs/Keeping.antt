@@ -2,7 +2,7 @@
 -- skin tone.
 use Rattle.std.proofs.Common.{ℕ, ◌≡◌, Bool, true, false, not, ◌&&◌, ◌||◌, ◌==◌, nat_le, List, [], ◌∷◌, Some, None, refl, sym, ap, subst, ◌∙◌, arith, inl, inr}
 use Rattle.std.specs.Int.{is_in_range}
-use Rattle.std.proofs.lemmas.Bool.{true≢false, or_parts, and_right, cases_lt, le-leb, ne_eqb, not-true}
+use Rattle.std.proofs.lemmas.Bool.{and_parts, true≢false, or_parts, and_right, cases_lt, le-leb, ne_eqb, not-true}
 use Rattle.ucd_table.specs.Rows.{Range, in_ranges}
 use Rattle.ucd_table.proofs.Stepped.{Stepped, of_ranges, map_stepped, zip_stepped}
 use Rattle.ucd_table.proofs.Facts.{always, ends_by, Stepped-everywhere}
@@ -24,7 +24,7 @@ use Rattle.unicode_width.proofs.KindLemmas.{kind_stepped, is_ligature_transparen
 use Rattle.unicode_width.proofs.Computing.{unicode_width}
 use Rattle.miette_narrated.specs.steps.Parting.{is_keeping}
 use Rattle.miette_narrated.proofs.Lone.{or_false, or_turn}
-use Rattle.miette_narrated.proofs.Opening.{is_modifier, is_tone, IsOpen}
+use Rattle.miette_narrated.proofs.Opening.{tones, tone_kinds, is_modifier, is_tone, IsOpen}
 use Rattle.miette_narrated.proofs.Overlaps.{JoinsOwn, either, IsApart, step_apart}
 
 -- ---- what such a character is not
@@ -97,15 +97,12 @@ keeping_high c h = sym (ap (λ b. b && nat_le c 0xA0) (le-leb 0 c (omega arith))
 
 -- ---- what it leaves
 
-abbrev tones : List Range
-tones = (0x1F3FB, 0x1F3FF) ∷ []
-
 toned : (c : ℕ) → is_in_range 0x1F3FB 0x1F3FF c ≡ true → is_tone (kind c) ≡ true
-unfolding unicode_width in_ranges
+unfolding in_ranges
 toned c h =
-    let both = zip_stepped (λ k b. not b || is_tone k) kind (in_ranges tones) kind_stepped (of_ranges tones refl) in
     let inside : in_ranges tones c ≡ true = sym (or_false (is_in_range 0x1F3FB 0x1F3FF c)) ∙ h in
-    subst (λ b. (not b || is_tone (kind c)) ≡ true) inside (Stepped-everywhere _ both refl c)
+    let listed = (and_parts (in_ranges tones c || not (is_tone (kind c))) (not (in_ranges tones c) || is_tone (kind c)) (tone_kinds c)).1 in
+    subst (λ b. (not b || is_tone (kind c)) ≡ true) inside listed
 
 tone_kind : (c : ℕ) (k : Kind) → is_tone k ≡ true → before afters.EmojiModifier ≡ (of_kind false c k).1
 tone_kind c kinds.Zero e = absurd (true≢false (sym e))

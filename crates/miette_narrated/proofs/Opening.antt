@@ -54,19 +54,26 @@ no_selectors c h = (or_parts (is_in_range 0xFE00 0xFE0F c) (is_in_range 0x1F3FB 
 no_selector : (c k : ℕ) → is_in_range 0xFE00 0xFE0F k ≡ true → opens c ≡ true → (c == k) ≡ false
 no_selector c k is h = ne_eqb c k (λ e. absurd (true≢false (sym is ∙ sym (ap (is_in_range 0xFE00 0xFE0F) e) ∙ no_selectors c h)))
 
-abbrev tones : List Range
+abbrev pub tones : List Range
 tones = (0x1F3FB, 0x1F3FF) ∷ []
 
 abbrev pub is_tone : Kind → Bool
 is_tone kinds.EmojiModifier = true
 is_tone _ = false
 
+-- one walk over the table of kinds: whose kind is that of a skin tone is one, and the other way round
+pub tone_kinds : (c : ℕ) → ((in_ranges tones c || not (is_tone (kind c))) && (not (in_ranges tones c) || is_tone (kind c))) ≡ true
+unfolding unicode_width
+tone_kinds =
+    let both = zip_stepped (λ k b. (b || not (is_tone k)) && (not b || is_tone k)) kind (in_ranges tones) kind_stepped (of_ranges tones refl) in
+    Stepped-everywhere _ both refl
+
 no_tone : (c : ℕ) → opens c ≡ true → is_tone (kind c) ≡ false
-unfolding unicode_width in_ranges
+unfolding in_ranges
 no_tone c h =
-    let both = zip_stepped (λ k b. b || not (is_tone k)) kind (in_ranges tones) kind_stepped (of_ranges tones refl) in
     let outside : in_ranges tones c ≡ false = sym (or_false (is_in_range 0x1F3FB 0x1F3FF c)) ∙ no_skin c h in
-    not-true (is_tone (kind c)) (subst (λ b. (b || not (is_tone (kind c))) ≡ true) outside (Stepped-everywhere _ both refl c))
+    let listed = (and_parts (in_ranges tones c || not (is_tone (kind c))) (not (in_ranges tones c) || is_tone (kind c)) (tone_kinds c)).0 in
+    not-true (is_tone (kind c)) (subst (λ b. (b || not (is_tone (kind c))) ≡ true) outside listed)
 
 -- ---- what it leaves by itself
 

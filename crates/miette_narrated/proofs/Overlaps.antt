@@ -2,8 +2,7 @@
 use Rattle.std.proofs.Common.{ℕ, ◌+◌, ◌<◌, ◌≤◌, ◌≡◌, Bool, true, false, cond, not, ◌&&◌, ◌||◌, ◌==◌, nat_le, List, [], ◌∷◌, Option, Some, None, refl, sym, ap, subst, ◌∙◌, arith, inl, inr, eqb-true}
 use Rattle.std.specs.Prelude.{if◌then◌else◌}
 use Rattle.std.specs.Int.{is_in_range}
-use Rattle.std.proofs.lemmas.Bool.{true≢false, or_cases, and_right, cases_lt, cond-true, cond-false, le-leb, lt-leb, ne_eqb, not-true}
-use Rattle.std.proofs.Math.Bool.{or-true}
+use Rattle.std.proofs.lemmas.Bool.{true≢false, or_cases, or_left, or_right, and_right, cases_lt, cond-true, cond-false, le-leb, lt-leb, ne_eqb, not-true}
 use Rattle.ucd_table.specs.Rows.{Range, in_ranges}
 use Rattle.ucd_table.proofs.Stepped.{Stepped, of_ranges, map_stepped, zip_stepped}
 use Rattle.ucd_table.proofs.Facts.{always, ends_by, Stepped-everywhere}
@@ -39,28 +38,37 @@ emoji_not p s ok c h =
     let both = zip_stepped (λ k b. not (b && is_emoji k)) kind p kind_stepped s in
     not-true (is_emoji (kind c)) (subst (λ a. not (a && is_emoji (kind c)) ≡ true) h (Stepped-everywhere _ both ok c))
 
+-- Tifinagh and Lisu letters, and those that are lams
 abbrev letters : List Range
 letters = (0x2D31, 0x2D65) ∷ (0xA4F8, 0xA4FB) ∷ []
 
-letter_plain : (c : ℕ) → (is_lam c || in_ranges letters c) ≡ true → is_emoji (kind c) ≡ false
+abbrev is_letter : ℕ → Bool
+is_letter c = joining_group_eq (joining_group c) Lam || in_ranges letters c
+
+abbrev letter_stepped : Stepped is_letter
 unfolding unicode_width
-letter_plain =
-    let lams = map_stepped (λ g. joining_group_eq g Lam) joining_group joining_group_stepped in
-    emoji_not (λ c. is_lam c || in_ranges letters c) (zip_stepped (λ a b. a || b) is_lam (in_ranges letters) lams (of_ranges letters refl)) refl
+letter_stepped =
+    zip_stepped (λ a b. a || b) (λ c. joining_group_eq (joining_group c) Lam) (in_ranges letters)
+    (map_stepped (λ g. joining_group_eq g Lam) joining_group joining_group_stepped) (of_ranges letters refl)
+
+-- one walk over the table of kinds for all of them
+letter_plain : (c : ℕ) → is_letter c ≡ true → is_emoji (kind c) ≡ false
+unfolding unicode_width
+letter_plain = emoji_not is_letter letter_stepped refl
 
 lam_plain : (c : ℕ) → is_lam c ≡ true → is_emoji (kind c) ≡ false
-lam_plain c h = letter_plain c (ap (λ b. b || in_ranges letters c) h)
+unfolding unicode_width
+lam_plain c h = letter_plain c (or_left (joining_group_eq (joining_group c) Lam) (in_ranges letters c) h)
 
-behind_lam : (c : ℕ) → in_ranges letters c ≡ true → is_emoji (kind c) ≡ false
-behind_lam c h = letter_plain c (ap (λ b. is_lam c || b) h ∙ or-true (is_lam c))
+listed_plain : (c : ℕ) → (is_in_range 0x2D31 0x2D65 c || (is_in_range 0xA4F8 0xA4FB c || false)) ≡ true → is_emoji (kind c) ≡ false
+unfolding in_ranges
+listed_plain c h = letter_plain c (or_right (joining_group_eq (joining_group c) Lam) (in_ranges letters c) h)
 
 lisu_plain : (c : ℕ) → is_in_range 0xA4F8 0xA4FB c ≡ true → is_emoji (kind c) ≡ false
-unfolding in_ranges
-lisu_plain c h = behind_lam c (ap (λ b. is_in_range 0x2D31 0x2D65 c || (b || false)) h ∙ or-true (is_in_range 0x2D31 0x2D65 c))
+lisu_plain c h = listed_plain c (or_right (is_in_range 0x2D31 0x2D65 c) (is_in_range 0xA4F8 0xA4FB c || false) (or_left (is_in_range 0xA4F8 0xA4FB c) false h))
 
 tifinagh_range : (c : ℕ) → is_in_range 0x2D31 0x2D65 c ≡ true → is_emoji (kind c) ≡ false
-unfolding in_ranges
-tifinagh_range c h = behind_lam c (ap (λ b. b || (is_in_range 0xA4F8 0xA4FB c || false)) h)
+tifinagh_range c h = listed_plain c (or_left (is_in_range 0x2D31 0x2D65 c) (is_in_range 0xA4F8 0xA4FB c || false) h)
 
 tifinagh_mark : is_emoji (kind 0x2D6F) ≡ false
 unfolding unicode_width

@@ -140,40 +140,51 @@ mild_not p s ok c h =
     let both = zip_stepped (λ k b. not (is_mild_kind k && b)) kind p kind_stepped s in
     not-true (p c) (subst (λ a. not (a && p c) ≡ true) h (Stepped-everywhere _ both ok c))
 
--- signs that join others, none of which is of such a kind
-abbrev sign_ranges : List Range
-sign_ranges = (0x1F1E6, 0x1F1FF) ∷ (0x1F3FB, 0x1F3FF) ∷ (0xE0030, 0xE0039) ∷ (0xE0061, 0xE007A) ∷ []
+-- ranges of indicators, of skin tones, and of the letters and digits of tags
+abbrev tag_ranges : List Range
+tag_ranges = (0xE0030, 0xE0039) ∷ (0xE0061, 0xE007A) ∷ []
 
-no_sign : (c : ℕ) → is_mild_kind (kind c) ≡ true → (is_ligature_transparent c || in_ranges sign_ranges c) ≡ false
+abbrev emoji_ranges : List Range
+emoji_ranges = (0x1F1E6, 0x1F1FF) ∷ (0x1F3FB, 0x1F3FF) ∷ tag_ranges
+
+abbrev is_passed : ℕ → Bool
+is_passed c = is_ligature_transparent c || in_ranges emoji_ranges c
+
+abbrev passed_stepped : Stepped is_passed
 unfolding unicode_width
-no_sign = mild_not (λ c. is_ligature_transparent c || in_ranges sign_ranges c) (zip_stepped (λ a b. a || b) is_ligature_transparent (in_ranges sign_ranges) is_ligature_transparent_stepped (of_ranges sign_ranges refl)) refl
+passed_stepped = zip_stepped (λ a b. a || b) is_ligature_transparent (in_ranges emoji_ranges) is_ligature_transparent_stepped (of_ranges emoji_ranges refl)
 
-no_signs : (c : ℕ) → is_mild_kind (kind c) ≡ true → (is_ligature_transparent c ≡ false) × ((is_in_range 0x1F1E6 0x1F1FF c ≡ false) × ((is_in_range 0x1F3FB 0x1F3FF c ≡ false) × ((is_in_range 0xE0030 0xE0039 c ≡ false) × (is_in_range 0xE0061 0xE007A c ≡ false))))
-unfolding in_ranges
-no_signs c h =
-    let letters = is_in_range 0xE0061 0xE007A c || false in
-    let digits = is_in_range 0xE0030 0xE0039 c || letters in
-    let modifiers = is_in_range 0x1F3FB 0x1F3FF c || digits in
-    let one = or_parts (is_ligature_transparent c) (is_in_range 0x1F1E6 0x1F1FF c || modifiers) (no_sign c h) in
-    let two = or_parts (is_in_range 0x1F1E6 0x1F1FF c) modifiers one.1 in
-    let three = or_parts (is_in_range 0x1F3FB 0x1F3FF c) digits two.1 in
-    let four = or_parts (is_in_range 0xE0030 0xE0039 c) letters three.1 in
-    (one.0, (two.0, (three.0, (four.0, (or_parts (is_in_range 0xE0061 0xE007A c) false four.1).0))))
+-- one walk over the table of kinds for all of them
+not_passed : (c : ℕ) → is_mild_kind (kind c) ≡ true → is_passed c ≡ false
+unfolding unicode_width
+not_passed = mild_not is_passed passed_stepped refl
 
 pub no_transparent : (c : ℕ) → is_mild_kind (kind c) ≡ true → is_ligature_transparent c ≡ false
-no_transparent c h = (no_signs c h).0
+no_transparent c h = (or_parts (is_ligature_transparent c) (in_ranges emoji_ranges c) (not_passed c h)).0
+
+-- the first range of some, and the others
+first_range : (range : Range) (more : List Range) (c : ℕ) → in_ranges (range ∷ more) c ≡ false → (is_in_range range.0 range.1 c ≡ false) × (in_ranges more c ≡ false)
+unfolding in_ranges
+first_range range more c h = or_parts (is_in_range range.0 range.1 c) (in_ranges more c) h
+
+not_flagged : (c : ℕ) → is_mild_kind (kind c) ≡ true → (is_in_range 0x1F1E6 0x1F1FF c ≡ false) × (in_ranges ((0x1F3FB, 0x1F3FF) ∷ tag_ranges) c ≡ false)
+not_flagged c h =
+    first_range (0x1F1E6, 0x1F1FF) ((0x1F3FB, 0x1F3FF) ∷ tag_ranges) c (or_parts (is_ligature_transparent c) (in_ranges emoji_ranges c) (not_passed c h)).1
 
 pub no_indicator : (c : ℕ) → is_mild_kind (kind c) ≡ true → is_in_range 0x1F1E6 0x1F1FF c ≡ false
-no_indicator c h = (no_signs c h).1.0
+no_indicator c h = (not_flagged c h).0
 
 pub no_modifier : (c : ℕ) → is_mild_kind (kind c) ≡ true → is_in_range 0x1F3FB 0x1F3FF c ≡ false
-no_modifier c h = (no_signs c h).1.1.0
+no_modifier c h = (first_range (0x1F3FB, 0x1F3FF) tag_ranges c (not_flagged c h).1).0
 
-pub no_tag_digit : (c : ℕ) → is_mild_kind (kind c) ≡ true → is_in_range 0xE0030 0xE0039 c ≡ false
-no_tag_digit c h = (no_signs c h).1.1.1.0
+not_tagged : (c : ℕ) → is_mild_kind (kind c) ≡ true → (is_in_range 0xE0030 0xE0039 c ≡ false) × (in_ranges ((0xE0061, 0xE007A) ∷ []) c ≡ false)
+not_tagged c h = first_range (0xE0030, 0xE0039) ((0xE0061, 0xE007A) ∷ []) c (first_range (0x1F3FB, 0x1F3FF) tag_ranges c (not_flagged c h).1).1
 
 pub no_tag_letter : (c : ℕ) → is_mild_kind (kind c) ≡ true → is_in_range 0xE0061 0xE007A c ≡ false
-no_tag_letter c h = (no_signs c h).1.1.1.1
+no_tag_letter c h = (first_range (0xE0061, 0xE007A) [] c (not_tagged c h).1).0
+
+pub no_tag_digit : (c : ℕ) → is_mild_kind (kind c) ≡ true → is_in_range 0xE0030 0xE0039 c ≡ false
+no_tag_digit c h = (not_tagged c h).0
 
 no_mark : (c k : ℕ) → is_mild_kind (kind k) ≡ false → is_mild_kind (kind c) ≡ true → (c == k) ≡ false
 no_mark c k n h = ne_eqb c k (λ e. absurd (true≢false (sym h ∙ ap (λ x. is_mild_kind (kind x)) e ∙ n)))
