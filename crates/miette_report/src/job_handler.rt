@@ -1,6 +1,7 @@
 //! The handler that a job is asked for.
 
-ghost use Rattle.std.specs.Prelude.{◌≡◌, ◌⊎◌, IfOk, OnErr, string_bytes};
+ghost use Rattle.std.specs.Prelude.{◌≡◌, ◌⊎◌, IfOk, OnErr, OnOk, string_bytes};
+ghost use Rattle.miette_tree.specs.views.Handler.{AppendsOne};
 ghost use Rattle.miette_tree.specs.views.Report.{tree_of};
 ghost use Rattle.miette_tree.specs.rules.Reads.{AlwaysReads};
 ghost use Rattle.miette_report.specs.steps.JobHandler.{IsAsked, IsGiven, MayRefuse, Stays};
@@ -58,6 +59,29 @@ fn text_or_fault(rendered: Result<(), RenderError>, text: String) -> Result<Stri
 }
 
 impl<H: Highlighter> JobHandler<H> {
+    /// Appends the text of a report whose sources always read.
+    fn push_rendered(&mut self, report: &Report, out: &mut String) -> Result<(), RenderError>
+        requires reads { AlwaysReads (tree_of ⟦<Box<dyn Diagnostic> as Diagnostic>⟧.meaning
+            ⟦<Box<dyn SourceCode> as SourceCode>⟧.source report.now) }
+        ensures ok { OnOk result (AppendsOne (IsGiven H.is_blank self.old
+            (tree_of ⟦<Box<dyn Diagnostic> as Diagnostic>⟧.meaning ⟦<Box<dyn SourceCode> as SourceCode>⟧.source
+            report.now)) (string_bytes out.old) (string_bytes out.new)) }
+        ensures refused { (result ≡ Err RenderError.Refused) →
+            MayRefuse self.old (tree_of ⟦<Box<dyn Diagnostic> as Diagnostic>⟧.meaning
+            ⟦<Box<dyn SourceCode> as SourceCode>⟧.source report.now) }
+        ensures stays { Stays H.is_blank self.old self.new }
+    {
+        match self {
+            JobHandler::Json => JSONReportHandler::new().render_report(report, out),
+            JobHandler::Debug => DebugReportHandler::new().render_report(report, out),
+            JobHandler::Built(MietteHandler::Graphical(handler)) => handler.debug(report, out),
+            JobHandler::Built(MietteHandler::Narrated(handler)) => handler.render_report(
+                report, out,
+            ),
+            JobHandler::Built(MietteHandler::Brief(handler)) => handler.render_report(report, out),
+        }
+    }
+
     /// The text of a report whose sources always read.
     pub(crate) fn render(&mut self, alloc: Global, report: &Report) -> Result<String, Fault>
         requires reads { AlwaysReads (tree_of ⟦<Box<dyn Diagnostic> as Diagnostic>⟧.meaning
@@ -72,25 +96,8 @@ impl<H: Highlighter> JobHandler<H> {
         ensures stays { Stays H.is_blank self.old self.new }
     {
         let mut text = String::new(alloc);
-        match self {
-            JobHandler::Json => text_or_fault(
-                JSONReportHandler::new().render_report(report, &mut text),
-                text,
-            ),
-            JobHandler::Debug => text_or_fault(
-                DebugReportHandler::new().render_report(report, &mut text),
-                text,
-            ),
-            JobHandler::Built(MietteHandler::Graphical(handler)) => {
-                text_or_fault(handler.debug(report, &mut text), text)
-            }
-            JobHandler::Built(MietteHandler::Narrated(handler)) => {
-                text_or_fault(handler.render_report(report, &mut text), text)
-            }
-            JobHandler::Built(MietteHandler::Brief(handler)) => {
-                text_or_fault(handler.render_report(report, &mut text), text)
-            }
-        }
+        let rendered = self.push_rendered(report, &mut text);
+        text_or_fault(rendered, text)
     }
 
     /// The last of so many texts, at least one.
