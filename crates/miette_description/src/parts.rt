@@ -34,13 +34,11 @@ fn label_from(alloc: Global, value: &Value<'_>) -> Result<LabeledSpan, BuildErro
 {
     let offset = whole_at(value, "offset").ok_or(BuildError::Description)?;
     let length = whole_at(value, "length").ok_or(BuildError::Description)?;
-    let text = copy_of(
-        alloc,
-        text_at(value, "label").ok_or(BuildError::Description)?,
-    )?;
+    let text = text_at(value, "label").ok_or(BuildError::Description)?;
     let primary = truth_at(value, "primary").ok_or(BuildError::Description)?;
     let lines = lines_at(value, "context").ok_or(BuildError::Description)?;
     let span = (offset as usize, length as usize);
+    let text = copy_of(alloc, text)?;
     let label = if primary.unwrap_or(false) {
         LabeledSpan::new_primary_with_span(text, span)
     } else {
@@ -60,7 +58,9 @@ fn labels_from(alloc: Global, value: &Value<'_>) -> Result<Vec<LabeledSpan>, Bui
     let mut labels = Vec::new(alloc);
     for item in list {
         let label = label_from(alloc, item)?;
-        labels.push(label).map_err(|_| BuildError::Memory)?;
+        if labels.push(label).is_err() {
+            return Err(BuildError::Memory);
+        }
     }
     Ok(labels)
 }
@@ -90,7 +90,9 @@ fn texts_from(alloc: Global, value: &Value<'_>) -> Result<Vec<String>, BuildErro
     for item in list {
         let text = text_in(item).ok_or(BuildError::Description)?;
         let copy = String::from_str(alloc, text)?;
-        texts.push(copy).map_err(|_| BuildError::Memory)?;
+        if texts.push(copy).is_err() {
+            return Err(BuildError::Memory);
+        }
     }
     Ok(texts)
 }
@@ -123,7 +125,9 @@ pub(crate) fn push_texts(
 {
     for text in texts {
         let copy = String::from_str(alloc, text.as_str())?;
-        list.push(copy).map_err(|_| BuildError::Memory)?;
+        if list.push(copy).is_err() {
+            return Err(BuildError::Memory);
+        }
     }
     Ok(())
 }

@@ -8,4 +8,4 @@ pub loop-item-preserved : goal.loop-item-preserved
 loop-item-preserved c =
     let pushed : c.push.new.self.items ≡ c.loop-item.texts.items ++ c.in_ok-copy.copy ∷ [] = search rules in
     let is : as_str (value_data c.item-item.result) ≡ Some (string_bytes c.in_ok-copy.copy) = search rules in
-    one_read_as as_str string_bytes c.in_ok-list.list.now c.loop-item.texts.items c.push.new.self.items c.loop-item.item-index c.item-item.result c.in_ok-copy.copy pushed (search rules) (search rules) is c.loop-item.invariant
+    one_read_as as_str string_bytes c.in_ok-list.list.now c.loop-item.texts.items c.push.new.self.items c.loop-item.item-index c.item-item.result c.in_ok-copy.copy pushed c.loop-item-test.true c.item-item.is is c.loop-item.invariant
