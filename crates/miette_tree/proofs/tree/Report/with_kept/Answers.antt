@@ -1,0 +1,6 @@
+use Rattle.std.proofs.Common.{rules}
+use Rattle.miette_tree.specs.declared.tree.Report.{the_lemmas}
+use Rattle.miette_tree.proofs.tree.Report.with_kept.Goals as goal
+
+pub returns-clause-tree : goal.returns-clause-tree
+returns-clause-tree g c = search (rules, the_lemmas)
