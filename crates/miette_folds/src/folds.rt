@@ -177,12 +177,7 @@ fn is_left_out(limit: usize, folds: &[Fold], place: usize, line: &LineOfText) ->
 
 /// Whether a line of a snippet is left out, by which of its lines it is, counted from 0: it lies in the contexts of
 /// labels, but not as they are folded to so many lines.
-pub fn leaves_out(
-    limit: Option<usize>,
-    folds: &[Fold],
-    place: usize,
-    line: &LineOfText,
-) -> bool
+pub fn leaves_out(limit: Option<usize>, folds: &[Fold], place: usize, line: &LineOfText) -> bool
     ensures { (start : ℕ) (bytes : List ℕ) (labels : List Spread) →
         folds.now ≡ map (fold_in start bytes) labels →
         result ≡ leaves_out limit (lines_from start bytes) (map spread_of labels) place (line_of_text line.now) }
