@@ -34,10 +34,10 @@ fn label_from(alloc: Global, value: &Value<'_>) -> Result<LabeledSpan, BuildErro
 {
     let offset = whole_at(value, "offset").ok_or(BuildError::Description)?;
     let length = whole_at(value, "length").ok_or(BuildError::Description)?;
+    let span = (offset as usize, length as usize);
     let text = text_at(value, "label").ok_or(BuildError::Description)?;
     let primary = truth_at(value, "primary").ok_or(BuildError::Description)?;
     let lines = lines_at(value, "context").ok_or(BuildError::Description)?;
-    let span = (offset as usize, length as usize);
     let text = copy_of(alloc, text)?;
     let label = if primary.unwrap_or(false) {
         LabeledSpan::new_primary_with_span(text, span)

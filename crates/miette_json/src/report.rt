@@ -7,9 +7,9 @@ ghost use Rattle.miette_tree.specs.views.Report.{tree_of};
 ghost use Rattle.miette_tree.specs.views.Owned.{shown_source};
 ghost use Rattle.miette_json.specs.rules.Json.{json_text, items_text};
 ghost use Rattle.miette_json.specs.rules.JsonReport.{strings, span_json, label_json, labels_json};
-ghost use Rattle.miette_json.specs.steps.JsonParts.{first_key_text, key_text, maybe_text, rest_text, head_text, reasons_text};
-ghost use Rattle.miette_json.specs.steps.JsonParts.{label_start, NamesFile, AppendsPlaces, AppendsReport};
-ghost use Rattle.miette_json.specs.steps.JsonParts.{AppendsRelated};
+ghost use Rattle.miette_json.specs.steps.JsonParts.{first_key_text, key_text, maybe_text, rest_text, head_text};
+ghost use Rattle.miette_json.specs.steps.JsonParts.{reasons_text, label_start, NamesFile, AppendsPlaces};
+ghost use Rattle.miette_json.specs.steps.JsonParts.{AppendsReport, AppendsRelated};
 
 use crate::text::{push_number, push_quoted};
 use miette_protocol::protocol::{Diagnostic, LabeledSpan};
@@ -218,7 +218,8 @@ fn push_span(label: &LabeledSpan, out: &mut String) -> Result<(), AllocError>
 
 /// What begins an object: a brace, its first key, and what stands between a key and its value.
 fn push_first_key(out: &mut String, key: &str) -> Result<(), AllocError>
-    ensures { OnOk result (string_bytes out.new ≡ string_bytes out.old ++ first_key_text key.now) }
+    ensures { OnOk result (string_bytes out.new
+        ≡ string_bytes out.old ++ first_key_text key.now) }
 {
     out.push_str("{")?;
     push_quoted(out, key)?;

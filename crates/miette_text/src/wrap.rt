@@ -144,9 +144,9 @@ fn are_settled(plan: Plan<'_>, text: &Runs) -> bool
 // What runs print, read anew, and wrapped.
 fn push_reread(
     alloc: Global,
+    out: &mut Output,
     plan: Plan<'_>,
     text: &Runs,
-    out: &mut Output,
 ) -> Result<(), AllocError>
     ensures { OnOk result (out.new ≡ out.old ++ wrapped_text (printed_plan plan.entry) (spell text.now)) }
 {
@@ -174,7 +174,7 @@ pub fn wrap(alloc: Global, plan: Plan<'_>, text: &Runs, out: &mut Output) -> Res
         push_wrapped(out, plan, text)?;
         return Ok(());
     }
-    push_reread(alloc, plan, text, out)
+    push_reread(alloc, out, plan, text)
 }
 
 /// Whether words are cut behind hyphens.
