@@ -129,7 +129,8 @@ fn drawn(
     report: &Report,
     text: &mut String,
 ) -> Result<Result<(), RenderError>, Stop> {
-    let mut drawing = drawing(alloc)?;
+    let theme = GraphicalTheme::unicode(alloc)?;
+    let mut drawing = GraphicalReportHandler::new_themed(theme).with_width(40);
     if name == "GraphicalReportHandler::render_report" {
         Ok(drawing.render_report(report, text))
     } else {
@@ -142,13 +143,10 @@ fn drawn_as_chosen(
     report: &Report,
     text: &mut String,
 ) -> Result<Result<(), RenderError>, Stop> {
-    let mut chosen: MietteHandler = MietteHandler::Graphical(drawing(alloc)?);
-    Ok(chosen.debug(report, text))
-}
-
-fn drawing(alloc: Global) -> Result<GraphicalReportHandler, AllocError> {
     let theme = GraphicalTheme::unicode(alloc)?;
-    Ok(GraphicalReportHandler::new_themed(theme).with_width(40))
+    let drawing = GraphicalReportHandler::new_themed(theme).with_width(40);
+    let mut chosen: MietteHandler = MietteHandler::Graphical(drawing);
+    Ok(chosen.debug(report, text))
 }
 
 /// A handler that a terminal chooses, and what it makes of a report.
