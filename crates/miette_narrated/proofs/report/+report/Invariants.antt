@@ -4,7 +4,7 @@ use Rattle.miette_tree.specs.rules.Tree.{trees}
 use Rattle.miette_tree.specs.views.Owned.{shown_source}
 use Rattle.miette_tree.specs.views.Report.{tree_of}
 use Rattle.miette_narrated.proofs.Telling.{RelatedSoFar}
-use Rattle.miette_narrated.proofs.Sizes.{tree_size, trees_size}
+use Rattle.miette_tree.proofs.TreeSizes.{tree_size, trees_size}
 use Rattle.miette_narrated.proofs.report.+report.Given as goal
 
 abbrev pub decreases-push_report : goal.decreases-push_report

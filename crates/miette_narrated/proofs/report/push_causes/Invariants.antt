@@ -2,7 +2,7 @@ use Rattle.std.proofs.Common.{◌≡◌, ◌++◌, string_bytes, map, drop}
 use Rattle.miette_tree.specs.rules.Tree.{cause_of, causes_of}
 use Rattle.miette_tree.specs.views.Report.{tree_of}
 use Rattle.miette_narrated.specs.rules.Report.{cause_rows}
-use Rattle.miette_narrated.proofs.Sizes.{tree_size}
+use Rattle.miette_tree.proofs.TreeSizes.{tree_size}
 use Rattle.miette_narrated.proofs.report.push_causes.Given as goal
 
 abbrev pub decreases-loop-next : goal.decreases-loop-next
