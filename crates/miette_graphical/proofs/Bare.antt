@@ -10,7 +10,7 @@ use Rattle.miette_snippets.specs.rules.Frames as frames
 use Rattle.miette_style.specs.rules.Themes.{Styles}
 use Rattle.miette_graphical.specs.rules.Settings.{Settings}
 use Rattle.miette_graphical.specs.rules.Answers.{Answers, unlisted, listed, RelatedAnswers, no_more, and_more, nothing_listed, own_answer, cause_answers, related_answers, first_answers, later_answers}
-use Rattle.miette_graphical.specs.laws.Colourless.{colourless, unhighlighted_answer, unhighlighted_answers, unhighlighted_related_answers}
+use Rattle.miette_graphical.specs.laws.Colourless.{colourless, unhighlighted_answers, unhighlighted_related_answers}
 use Rattle.miette_graphical.specs.rules.Indents.{narrow_settings}
 use Rattle.miette_graphical.specs.rules.DiagnosticText.{SnippetRows, rows_text, under_arrow, title_text}
 use Rattle.miette_tree.specs.rules.DiagnosticParts.{given_labels}
@@ -21,6 +21,7 @@ use Rattle.miette_graphical.specs.rules.PossibleAnswers.{IsAnswer, AreCauseAnswe
 use Rattle.miette_graphical.proofs.Lists.{both_read}
 use Rattle.miette_graphical.proofs.Outermost.{if_same, report_over}
 use Rattle.miette_graphical.specs.steps.PrintedParts.{printed_inner, printed_sibling}
+use Rattle.miette_snippet_laws.specs.laws.Fading.{unhighlighted_answer}
 
 -- ---- the parts of such answers
 

@@ -8,6 +8,7 @@ use Rattle.miette_lines.specs.rules.Answers as layout
 use Rattle.miette_lines.specs.rules.Around.{group_context}
 use Rattle.miette_lines.specs.rules.Groups.{groups_of, in_order}
 use Rattle.miette_snippet_laws.specs.laws.Fading as fading
+use Rattle.miette_snippet_laws.specs.laws.Fading.{unhighlighted_answer}
 use Rattle.miette_snippets.specs.rules.Frames as frames
 use Rattle.miette_snippets.specs.rules.SnippetLayout.{snippet_rows}
 use Rattle.miette_snippets.proofs.NoPieces.{none_have}
@@ -17,13 +18,13 @@ use Rattle.miette_graphical.specs.rules.Snippets.{layout_settings}
 use Rattle.miette_graphical.specs.rules.Answers.{Answer, Answers, unlisted, RelatedAnswers, no_more, and_more, own_answer, cause_answers, related_answers}
 use Rattle.miette_graphical.specs.rules.PossibleAnswers.{AreAnswers, AreCauseAnswers, AreRelatedAnswers, HasPieces, HasRows, IsAnswer, IsAnswerOf}
 use Rattle.miette_graphical.specs.rules.PrintedDiagnostics.{always_reads}
-use Rattle.miette_graphical.specs.laws.Colourless.{colourless, unhighlighted_answers, unhighlighted_answer, unhighlighted_related_answers}
+use Rattle.miette_graphical.specs.laws.Colourless.{colourless, unhighlighted_answers, unhighlighted_related_answers}
 use Rattle.miette_graphical.proofs.Bare.{own-bare, cause-bare, related-bare}
 
 -- in plain styles the rows have the same characters, which the layer of snippets promises
 abbrev pub AreRowsKept : Type 0
 AreRowsKept = (s : frames.SnippetSettings) (source : Source) (labels : List Label) (answers : layout.Answers) →
-    option_map (map glyphs_of) (snippet_rows (fading.colourless s) source labels (fading.unhighlighted_answers answers)) ≡ option_map (map glyphs_of) (snippet_rows s source labels answers)
+    option_map (map glyphs_of) (snippet_rows (fading.colourless s) source labels (fading.unhighlighted_answer answers)) ≡ option_map (map glyphs_of) (snippet_rows s source labels answers)
 
 some_kept : (plain rows : Option (List Row)) → option_map (map glyphs_of) plain ≡ option_map (map glyphs_of) rows → is_some rows ≡ true → is_some plain ≡ true
 some_kept None None e h = h

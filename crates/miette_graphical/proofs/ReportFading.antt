@@ -14,8 +14,9 @@ use Rattle.miette_graphical.specs.rules.DiagnosticText.{SnippetRows, header, foo
 use Rattle.miette_graphical.specs.rules.Text.{ends_there, are_last, only_if, body, inner_text, causes_text, related_text, report_text}
 use Rattle.miette_tree.specs.rules.Tree.{effective}
 use Rattle.miette_snippet_laws.specs.laws.Clean.{IsCleanSource}
+use Rattle.miette_snippet_laws.specs.laws.Fading.{unhighlighted_answer}
 use Rattle.miette_graphical.specs.laws.Clean.{AreCleanSettings, IsCleanMeaning, IsCleanTree, IsCleanCause, AreCleanTrees}
-use Rattle.miette_graphical.specs.laws.Colourless.{colourless, unhighlighted_answer, unhighlighted_answers, unhighlighted_related_answers, AreSnippets}
+use Rattle.miette_graphical.specs.laws.Colourless.{colourless, unhighlighted_answers, unhighlighted_related_answers, AreSnippets}
 use Rattle.miette_graphical.proofs.Bare.{own-bare, cause-bare, related-bare, first-bare, later-bare}
 use Rattle.miette_graphical.proofs.Fading.{Fades, fades-to, fades-append, fades-trailing, fades-if, fades-only_if, fades-clean}
 use Rattle.miette_graphical.proofs.PartFading.{narrowed-faded, fades-header, fades-title, fades-footer, fades-under_arrow, fades-cause_texts, effective-clean, fades-body, fades-inner}

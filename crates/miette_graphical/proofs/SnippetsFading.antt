@@ -14,13 +14,13 @@ use Rattle.miette_style.specs.rules.Escapes.{no_escape}
 use Rattle.miette_lines.specs.rules.Answers as layout
 use Rattle.miette_snippet_laws.specs.laws.Clean.{IsCleanLabel, IsCleanRow, IsCleanSource, AreCleanDrawings}
 use Rattle.miette_snippet_laws.specs.laws.Fading as fading
-use Rattle.miette_snippet_laws.specs.laws.Fading.{IsPlainRow}
+use Rattle.miette_snippet_laws.specs.laws.Fading.{IsPlainRow, unhighlighted_answer}
 use Rattle.miette_snippets.specs.rules.Frames as frames
 use Rattle.miette_snippets.specs.rules.SnippetLayout.{snippet_rows}
 use Rattle.miette_page.specs.rules.Rows.{Glyph, Row, Run, glyphs_of}
 use Rattle.miette_graphical.specs.rules.Answers.{Answer}
 use Rattle.miette_graphical.specs.laws.Clean.{AreCleanSettings, HaveNoEscapes}
-use Rattle.miette_graphical.specs.laws.Colourless.{AreSnippets, colourless, unhighlighted_answer}
+use Rattle.miette_graphical.specs.laws.Colourless.{AreSnippets, colourless}
 use Rattle.miette_graphical.specs.rules.DiagnosticText.{line_feed, rows_text}
 use Rattle.miette_graphical.specs.rules.Settings.{Settings}
 use Rattle.miette_graphical.specs.rules.Snippets.{drawn_rows, layout_settings, run_text, runs_of_row, shown_rows}
@@ -28,9 +28,9 @@ use Rattle.miette_graphical.specs.rules.Snippets.{drawn_rows, layout_settings, r
 -- the clauses of the laws of that layer
 pub record LayoutLaws : Type 0 where
   pub same : (s : frames.SnippetSettings) (source : Source) (labels : List Label) (answers : layout.Answers) →
-      option_map (map glyphs_of) (snippet_rows (fading.colourless s) source labels (fading.unhighlighted_answers answers)) ≡ option_map (map glyphs_of) (snippet_rows s source labels answers)
+      option_map (map glyphs_of) (snippet_rows (fading.colourless s) source labels (fading.unhighlighted_answer answers)) ≡ option_map (map glyphs_of) (snippet_rows s source labels answers)
   pub plain : (s : frames.SnippetSettings) (source : Source) (labels : List Label) (answers : layout.Answers) →
-      IfSome (snippet_rows (fading.colourless s) source labels (fading.unhighlighted_answers answers)) (AllByRecursion IsPlainRow)
+      IfSome (snippet_rows (fading.colourless s) source labels (fading.unhighlighted_answer answers)) (AllByRecursion IsPlainRow)
   pub clean : (s : frames.SnippetSettings) (source : Source) (labels : List Label) (answers : layout.Answers) →
       AreCleanDrawings s.characters → IsCleanSource source → AllByRecursion IsCleanLabel labels → IfSome (snippet_rows s source labels answers) (AllByRecursion IsCleanRow)
 
@@ -154,7 +154,7 @@ drawn_fade : LayoutLaws → (s : Settings) (source : Option Source) (labels : Li
 drawn_fade laws s None labels a = refl
 drawn_fade laws s (Some source) labels a =
     let l = layout_settings s in
-    plain_shown (snippet_rows (fading.colourless l) source labels (fading.unhighlighted_answers a)) (laws.plain l source labels a)
+    plain_shown (snippet_rows (fading.colourless l) source labels (fading.unhighlighted_answer a)) (laws.plain l source labels a)
     ∙ ap shown_text (laws.same l source labels a) ∙ sym (bare_shown (snippet_rows l source labels a))
 
 drawn_clean : LayoutLaws → (s : Settings) (source : Option Source) (labels : List Label) (a : Answer) →

@@ -11,7 +11,7 @@ use Rattle.miette_lines.specs.rules.Cells.{Cell, characters}
 use Rattle.miette_snippet_laws.specs.laws.Clean.{IsClean, IsCleanText, IsCleanRow, IsCleanLabel, IsCleanSource, AreCleanDrawings}
 use Rattle.miette_lines.specs.rules.Contexts.{contents, lines_of_contents}
 use Rattle.miette_snippets.specs.rules.Drawing.{marked_rows}
-use Rattle.miette_snippet_laws.specs.laws.Fading.{colourless, unhighlighted_answers, IsPlainRow}
+use Rattle.miette_snippet_laws.specs.laws.Fading.{colourless, unhighlighted_answer, IsPlainRow}
 use Rattle.miette_snippets.specs.rules.Folds.{Spread, spreads_of}
 use Rattle.miette_snippets.specs.rules.Frames.{SnippetSettings, Place, text_or_none, refused_row, number_start, other_start, break_start, place_text, location, location_of, top_row_of, bottom_row, number_width}
 use Rattle.miette_lines.specs.rules.Groups.{Refusal, refusal, in_order, groups_of, some_fails, groups_fail}
@@ -257,7 +257,7 @@ module _ (P : Type 0) (s : SnippetSettings) (clean : P → AreCleanDrawings s.ch
 module _ (P : Type 0) (s : SnippetSettings) (clean : P → AreCleanDrawings s.characters) where
   pale_unless : (source : Source) (labels : List Label) (answers : Answers) (refused : Option Refusal) →
       (P → IsCleanSource source) → (P → AllByRecursion IsCleanLabel labels) → (P → IfSome refused IsCleanRefusal) →
-      PaleGiven P (rows_unless (colourless s) source labels (unhighlighted_answers answers) (option_map (refused_row (colourless s)) refused)) (rows_unless s source labels answers (option_map (refused_row s) refused))
+      PaleGiven P (rows_unless (colourless s) source labels (unhighlighted_answer answers) (option_map (refused_row (colourless s)) refused)) (rows_unless s source labels answers (option_map (refused_row s) refused))
   pale_unless source labels answers (Some refused) h k j = given P s clean (rows_cons P (pale_refused P s clean refused j) (rows_nil P))
   pale_unless source labels answers None h k j =
       let groups = groups_of s.context source answers.join_fails labels in
@@ -265,7 +265,7 @@ module _ (P : Type 0) (s : SnippetSettings) (clean : P → AreCleanDrawings s.ch
       (pale_all P (settings_around s labels) clean (spreads_of s.label_lines s.context source labels) source labels answers.pieces groups h k)
 
   pub pale_snippets : (source : Source) (labels : List Label) (answers : Answers) → (P → IsCleanSource source) → (P → AllByRecursion IsCleanLabel labels) →
-      PaleGiven P (snippet_rows (colourless s) source labels (unhighlighted_answers answers)) (snippet_rows s source labels answers)
+      PaleGiven P (snippet_rows (colourless s) source labels (unhighlighted_answer answers)) (snippet_rows s source labels answers)
   pale_snippets source labels answers h k =
       pale_unless source (in_order labels) answers (refusal source.bytes answers.label_fails (in_order labels)) h (λ p. ordered_clean labels (k p))
       (λ p. refusal_clean P s clean source.bytes answers.label_fails (in_order labels) (ordered_clean labels (k p)))

@@ -15,7 +15,7 @@ ghost use Rattle.miette_snippet_laws.specs.laws.Ends.{AreBehindText, EndsStandBe
 ghost use Rattle.miette_snippet_laws.specs.laws.Folding.{EndsPass, FitsIn, IsInside};
 ghost use Rattle.miette_snippet_laws.specs.laws.Cuts.{AreAsWide, AreStretches, Fits, IsWithin, by_nearness, by_stretch};
 ghost use Rattle.miette_snippet_laws.specs.laws.Cuts.{most_columns, pieces_shown};
-ghost use Rattle.miette_snippet_laws.specs.laws.Fading.{IsPlainRow, colourless, unhighlighted_answers};
+ghost use Rattle.miette_snippet_laws.specs.laws.Fading.{IsPlainRow, colourless, unhighlighted_answer};
 ghost use Rattle.miette_page.specs.rules.Rows.{columns_of, glyphs_of};
 ghost use Rattle.miette_lines.specs.rules.Answers.{Answers, AlwaysReads, Highlight, NoneFails};
 ghost use Rattle.miette_lines.specs.rules.Around.{HaveContext, group_context};
@@ -171,10 +171,10 @@ pub fn texts_hang()
 /// same columns, and all of them are plain.
 pub fn rows_fade()
     ensures same { (s : SnippetSettings) (source : Source) (labels : List Label) (answers : Answers) →
-        option_map (map glyphs_of) (snippet_rows (colourless s) source labels (unhighlighted_answers answers))
+        option_map (map glyphs_of) (snippet_rows (colourless s) source labels (unhighlighted_answer answers))
         ≡ option_map (map glyphs_of) (snippet_rows s source labels answers) }
     ensures plain { (s : SnippetSettings) (source : Source) (labels : List Label) (answers : Answers) →
-        IfSome (snippet_rows (colourless s) source labels (unhighlighted_answers answers)) (AllByRecursion IsPlainRow) }
+        IfSome (snippet_rows (colourless s) source labels (unhighlighted_answer answers)) (AllByRecursion IsPlainRow) }
 {}
 
 /// Where the characters that are drawn, the source's name and bytes, and the labels' texts hold no escape, the rows

@@ -13,6 +13,7 @@ use Rattle.miette_graphical.specs.rules.DiagnosticText.{SnippetRows, rows_text}
 use Rattle.miette_graphical.specs.rules.Text.{report_text}
 use Rattle.miette_tree.specs.rules.Tree.{Tree}
 use Rattle.std.specs.List.{AllByRecursion}
+use Rattle.miette_snippet_laws.specs.laws.Fading.{unhighlighted_answer}
 use Rattle.miette_snippet_laws.specs.laws.Clean.{IsCleanLabel, IsCleanSource}
 use Rattle.miette_graphical.specs.laws.Clean.{AreCleanSettings, HaveNoEscapes}
 
@@ -29,9 +30,6 @@ faded_styles s = record {
 
 abbrev pub colourless : Settings → Settings
 colourless s = record s { styles = faded_styles s.styles }
-
-abbrev pub unhighlighted_answer : Answer → Answer
-unhighlighted_answer a = record a { pieces = [] }
 
 abbrev mutual
   pub unhighlighted_answers : Answers → Answers

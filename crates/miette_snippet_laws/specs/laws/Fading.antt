@@ -20,8 +20,8 @@ abbrev pub colourless : SnippetSettings → SnippetSettings
 colourless s = record s { styles = faded_styles s.styles }
 
 -- the same reads without a highlighter
-abbrev pub unhighlighted_answers : Answers → Answers
-unhighlighted_answers a = record a { pieces = [] }
+abbrev pub unhighlighted_answer : Answers → Answers
+unhighlighted_answer a = record a { pieces = [] }
 
 -- every run of a row is plain
 abbrev pub IsPlainRow : Row → Type 0
