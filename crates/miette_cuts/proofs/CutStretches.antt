@@ -16,7 +16,7 @@ use Rattle.miette_cuts.specs.declared.stretch.Stretch.{Stretch as MadeStretch}
 use Rattle.miette_cuts.specs.declared.marks.Mark.{Mark as MadeMark}
 use Rattle.miette_cuts.specs.views.Cuts.{measure, is_kept}
 use Rattle.miette_cuts.specs.steps.Cut.{lone, grown, onto_made, kept_columns, made_column, made_mark}
-use Rattle.miette_cuts.specs.views.Marks.{mark_of, HasAnchor as MadeAnchor}
+use Rattle.miette_cuts.specs.views.Marks.{mark_of, IsAnchored}
 
 -- ---- stretches and their counts
 
@@ -226,23 +226,23 @@ near_nowhere limit es cell i some le inv = sym (at_drop_all (list_any (is_within
 
 -- ---- marks with their anchors
 
-pub marks_anchored : (ls : List Label) (ms : List MadeMark) → All MadeAnchor ms → AllByRecursion HasAnchor (map (mark_of ls) ms)
-marks_anchored ls ms h = each ls ms (recursion_from_All MadeAnchor ms h)
+pub marks_anchored : (ls : List Label) (ms : List MadeMark) → All IsAnchored ms → AllByRecursion HasAnchor (map (mark_of ls) ms)
+marks_anchored ls ms h = each ls ms (recursion_from_All IsAnchored ms h)
   where
-    each : (ls : List Label) (ms : List MadeMark) → AllByRecursion MadeAnchor ms → AllByRecursion HasAnchor (map (mark_of ls) ms)
+    each : (ls : List Label) (ms : List MadeMark) → AllByRecursion IsAnchored ms → AllByRecursion HasAnchor (map (mark_of ls) ms)
     each ls [] h = tt
     each ls (m ∷ ms) h = (h.0, each ls ms h.1)
 
-pub made_anchored : (ls : List Label) (ms : List MadeMark) → AllByRecursion HasAnchor (map (mark_of ls) ms) → All MadeAnchor ms
-made_anchored ls ms h = All-from_recursion MadeAnchor ms (each ls ms h)
+pub made_anchored : (ls : List Label) (ms : List MadeMark) → AllByRecursion HasAnchor (map (mark_of ls) ms) → All IsAnchored ms
+made_anchored ls ms h = All-from_recursion IsAnchored ms (each ls ms h)
   where
-    each : (ls : List Label) (ms : List MadeMark) → AllByRecursion HasAnchor (map (mark_of ls) ms) → AllByRecursion MadeAnchor ms
+    each : (ls : List Label) (ms : List MadeMark) → AllByRecursion HasAnchor (map (mark_of ls) ms) → AllByRecursion IsAnchored ms
     each ls [] h = tt
     each ls (m ∷ ms) h = (h.0, each ls ms h.1)
 
 -- the same, of the marks that are shown
-pub shown_made_anchored : (ls : List Label) (limit : Option ℕ) (own : List Mark) (cells : List Cell) (whole moved : List MadeMark) → AreColumns 0 cells → map (mark_of ls) whole ≡ own → All MadeAnchor whole →
-    map (mark_of ls) moved ≡ shown_marks (cut_line limit own cells) own → All MadeAnchor moved
+pub shown_made_anchored : (ls : List Label) (limit : Option ℕ) (own : List Mark) (cells : List Cell) (whole moved : List MadeMark) → AreColumns 0 cells → map (mark_of ls) whole ≡ own → All IsAnchored whole →
+    map (mark_of ls) moved ≡ shown_marks (cut_line limit own cells) own → All IsAnchored moved
 shown_made_anchored ls limit own cells whole moved h w anchored m =
     made_anchored ls moved (subst (λ (ms : List Mark). AllByRecursion HasAnchor ms) (sym m)
     (shown_anchored limit own cells h (subst (λ (ms : List Mark). AllByRecursion HasAnchor ms) w (marks_anchored ls whole anchored))))

@@ -10,7 +10,7 @@ ghost use Rattle.miette_snippets.specs.rules.Marks.{label_from, mark_from, mark_
 ghost use Rattle.miette_snippets.specs.rules.SnippetLayout.{text_of_cells};
 ghost use Rattle.miette_lines.specs.views.Sweeping.{label_of};
 ghost use Rattle.miette_lines.specs.views.GivenLabels.{drawn_of, width_of};
-ghost use Rattle.miette_cuts.specs.views.Marks.{mark_of, HasAnchor};
+ghost use Rattle.miette_cuts.specs.views.Marks.{mark_of, IsAnchored};
 ghost use Rattle.miette_cuts.specs.steps.Stops.{ComeFrom, IsStop};
 
 use miette_lines::cells::Walk;
@@ -244,7 +244,7 @@ fn next_mark(columns: &Columns<'_>, label: &PlacedLabel, reached: usize) -> Resu
     ensures until { IfOk result (λ mark. mark.until ≡ mark_until columns.now reached (label_of label.now)) }
     ensures anchor { IfOk result (λ mark. mark.anchor ≡ mark_anchor columns.now reached (label_of label.now)) }
     ensures label { IfOk result (λ mark. mark.label ≡ label.now) }
-    ensures anchored { IfOk result HasAnchor }
+    ensures anchored { IfOk result IsAnchored }
 {
     let from = columns.label_column(label)?.max(reached);
     let Some(next) = from.checked_add(1) else {
@@ -271,7 +271,7 @@ fn marks_in(
 ) -> Result<Vec<Mark>, AllocError>
     ensures is { IfOk result (λ made. (labels : List Label) →
         map (mark_of labels) made.items ≡ marks columns.now (map (drawn_of labels) placed.now)) }
-    ensures anchored { IfOk result (λ made. All HasAnchor made.items) }
+    ensures anchored { IfOk result (λ made. All IsAnchored made.items) }
 {
     let mut made = Vec::new(alloc);
     let mut reached = 0;
@@ -298,7 +298,7 @@ pub fn marks_on(
     ensures is { IfOk result (λ made. (labels : List Label) → map (mark_of labels) made.items
         ≡ marks (text_of_cells (cells_from width_of tab false line.now.start 0 (characters text.now)) line.now.text_end)
         (map (drawn_of labels) one.now)) }
-    ensures anchored { IfOk result (λ made. All HasAnchor made.items) }
+    ensures anchored { IfOk result (λ made. All IsAnchored made.items) }
 {
     let columns = Columns::new(alloc, line, text, tab)?;
     marks_in(alloc, &columns, one)

@@ -13,7 +13,7 @@ ghost use Rattle.miette_snippets.specs.rules.Highlighting.{highlight_of};
 ghost use Rattle.std.specs.Option.{option_map};
 ghost use Rattle.miette_cuts.specs.views.Cuts.{made_runs};
 ghost use Rattle.miette_cuts.specs.views.LineTexts.{text_cells};
-ghost use Rattle.miette_cuts.specs.views.Marks.{mark_of, HasAnchor};
+ghost use Rattle.miette_cuts.specs.views.Marks.{mark_of, IsAnchored};
 ghost use Rattle.miette_drawing.specs.steps.Sheets.{settings, multi_labels, before_marks, number_row, shown_cells};
 ghost use Rattle.miette_drawing.specs.steps.Sheets.{labels_alone};
 ghost use Rattle.miette_newlines.specs.views.Walking.{line_of_text};
@@ -67,7 +67,7 @@ fn push_number_row<O: Canvas>(
 
 // The mark row and the rows of texts under it, where there is a mark.
 fn push_marked_rows<O: Canvas>(page: &mut Page<O>, sheet: &Sheet, marks: &[Mark]) -> Outcome
-    requires { All HasAnchor marks.now }
+    requires { All IsAnchored marks.now }
     ensures { OnOk result (page.new ≡ page.old ⊕ rows_tokens (before_each (before_marks sheet.now)
         (marked_rows (settings sheet.now).width (settings sheet.now).characters
         (map (mark_of sheet.now.labels.now) marks.now)))) }
@@ -85,7 +85,7 @@ fn push_marked_rows<O: Canvas>(page: &mut Page<O>, sheet: &Sheet, marks: &[Mark]
 // The marks of the labels that lie on a line alone, by the columns of the whole line.
 fn marks_alone(alloc: Global, sheet: &Sheet, shown: &ShownLine) -> Result<Vec<Mark>, AllocError>
     requires { sheet.now.line.start + length shown.now.text.now < 2 ^ 64 }
-    ensures anchored { IfOk result (λ alone. All HasAnchor alone.items) }
+    ensures anchored { IfOk result (λ alone. All IsAnchored alone.items) }
     ensures marks { IfOk result (λ alone. map (mark_of sheet.now.labels.now) alone.items
         ≡ marks (text_of_cells (shown_cells sheet.now shown.now) sheet.now.line.text_end)
         (labels_alone sheet.now shown.now)) }

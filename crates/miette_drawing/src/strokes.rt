@@ -7,7 +7,7 @@ ghost use Rattle.miette_page.specs.views.Tokens.{row_tokens, run_tokens};
 ghost use Rattle.miette_lines.specs.rules.Labels.{is_empty};
 ghost use Rattle.miette_lines.specs.views.GivenLabels.{drawn_of};
 ghost use Rattle.miette_snippets.specs.rules.Drawing.{code_with_parts, mark_run, mark_runs};
-ghost use Rattle.miette_cuts.specs.views.Marks.{mark_of, HasAnchor};
+ghost use Rattle.miette_cuts.specs.views.Marks.{mark_of, IsAnchored};
 ghost use Rattle.miette_drawing.specs.steps.Sheets.{settings};
 
 use crate::sheet::{Outcome, Sheet};
@@ -34,7 +34,7 @@ fn middle_of(sheet: &Sheet, mark: &Mark) -> char
 
 // A mark: `──┬──`.
 fn push_mark<O: Canvas>(page: &mut Page<O>, sheet: &Sheet, mark: &Mark) -> Outcome
-    requires { HasAnchor mark.now }
+    requires { IsAnchored mark.now }
     ensures { OnOk result (page.new ≡ page.old
         ⊕ run_tokens (mark_run (settings sheet.now).width (settings sheet.now).characters
         (mark_of sheet.now.labels.now mark.now))) }
@@ -49,7 +49,7 @@ fn push_mark<O: Canvas>(page: &mut Page<O>, sheet: &Sheet, mark: &Mark) -> Outco
 
 /// The marks, each behind the spaces before it: `  ──┬── ▲ ─┬─`. `AllocError` where memory is refused.
 pub(crate) fn push_marks<O: Canvas>(page: &mut Page<O>, sheet: &Sheet, marks: &[Mark]) -> Outcome
-    requires { All HasAnchor marks.now }
+    requires { All IsAnchored marks.now }
     ensures { OnOk result (page.new ≡ page.old
         ⊕ row_tokens (mark_runs (settings sheet.now).width (settings sheet.now).characters 0
         (map (mark_of sheet.now.labels.now) marks.now))) }

@@ -9,7 +9,7 @@ ghost use Rattle.miette_snippets.specs.rules.Drawing.{lead_runs, beside, rows_of
 ghost use Rattle.miette_snippets.specs.rules.Frames.{other_start};
 ghost use Rattle.miette_snippets.specs.rules.SnippetLayout.{before_each};
 ghost use Rattle.miette_lines.specs.views.GivenLabels.{drawn_of};
-ghost use Rattle.miette_cuts.specs.views.Marks.{mark_of, HasAnchor};
+ghost use Rattle.miette_cuts.specs.views.Marks.{mark_of, IsAnchored};
 ghost use Rattle.miette_drawing.specs.steps.Sheets.{settings, before_marks, text_line};
 
 use crate::gutters::push_other_gutter;
@@ -45,7 +45,7 @@ pub(crate) fn push_before_marks<O: Canvas>(page: &mut Page<O>, sheet: &Sheet) ->
 
 // The column behind the one from which a mark's text hangs.
 fn behind_anchor(mark: &Mark) -> usize
-    requires { HasAnchor mark.now }
+    requires { IsAnchored mark.now }
     ensures { result ≡ mark.now.anchor + 1 }
 {
     prove!(mark.anchor < mark.until);
@@ -59,7 +59,7 @@ fn push_leads<O: Canvas>(
     earlier: &[Mark],
     column: usize,
 ) -> Outcome
-    requires { All HasAnchor earlier.now }
+    requires { All IsAnchored earlier.now }
     ensures { OnOk result (page.new ≡ page.old
         ⊕ row_tokens (lead_runs (settings sheet.now).width (settings sheet.now).characters 0
         (map (mark_of sheet.now.labels.now) earlier.now) column)) }
@@ -88,8 +88,8 @@ fn push_text_row<O: Canvas>(
     front: Front,
     part: &str,
 ) -> Outcome
-    requires earlier { All HasAnchor earlier.now }
-    requires own { HasAnchor mark.now }
+    requires earlier { All IsAnchored earlier.now }
+    requires own { IsAnchored mark.now }
     ensures { OnOk result (page.new ≡ page.old
         ⊕ rows_tokens (text_line sheet.now (map (mark_of sheet.now.labels.now) earlier.now)
         (mark_of sheet.now.labels.now mark.now) (front.0 ∷ front.1 ∷ front.2 ∷ 32 ∷ []) (chars part.now) ∷ [])) }
@@ -112,8 +112,8 @@ fn push_more_parts<O: Canvas>(
     mark: &Mark,
     text: &str,
 ) -> Outcome
-    requires earlier { All HasAnchor earlier.now }
-    requires own { HasAnchor mark.now }
+    requires earlier { All IsAnchored earlier.now }
+    requires own { IsAnchored mark.now }
     ensures { OnOk result (page.new ≡ page.old ⊕ rows_tokens (map
         (text_line sheet.now (map (mark_of sheet.now.labels.now) earlier.now) (mark_of sheet.now.labels.now mark.now)
         (beside (settings sheet.now).characters))
@@ -132,8 +132,8 @@ fn push_more_parts<O: Canvas>(
 // The rows of a mark's text, where these marks stand before it: `╰── text`, or `╰─┤ text` and a row for each further
 // part.
 fn push_text<O: Canvas>(page: &mut Page<O>, sheet: &Sheet, earlier: &[Mark], mark: &Mark) -> Outcome
-    requires earlier { All HasAnchor earlier.now }
-    requires own { HasAnchor mark.now }
+    requires earlier { All IsAnchored earlier.now }
+    requires own { IsAnchored mark.now }
     ensures { OnOk result (page.new ≡ page.old ⊕ rows_tokens (before_each (before_marks sheet.now)
         (rows_of_parts (settings sheet.now).width (settings sheet.now).characters
         (map (mark_of sheet.now.labels.now) earlier.now) (mark_of sheet.now.labels.now mark.now)
@@ -157,7 +157,7 @@ fn push_text<O: Canvas>(page: &mut Page<O>, sheet: &Sheet, earlier: &[Mark], mar
 
 /// The rows of the texts of all marks, the last one's first. It fails as `push_other_start` does.
 pub(crate) fn push_texts<O: Canvas>(page: &mut Page<O>, sheet: &Sheet, marks: &[Mark]) -> Outcome
-    requires { All HasAnchor marks.now }
+    requires { All IsAnchored marks.now }
     ensures { OnOk result (page.new ≡ page.old ⊕ rows_tokens (before_each (before_marks sheet.now)
         (rows_below (settings sheet.now).width (settings sheet.now).characters []
         (map (mark_of sheet.now.labels.now) marks.now)))) }

@@ -1,5 +1,5 @@
 use Rattle.std.proofs.Common.{sym, subst}
-use Rattle.miette_cuts.specs.views.Marks.{HasAnchor}
+use Rattle.miette_cuts.specs.views.Marks.{IsAnchored}
 use Rattle.std.specs.List.{All}
 use Rattle.std.proofs.lemmas.List.Elements.{All-push}
 use Rattle.miette_cuts.proofs.Placing.{mark_more, mark_end}
@@ -9,7 +9,7 @@ pub loop-label-preserved : goal.loop-label-preserved
 loop-label-preserved c = record {
   told = λ labels. mark_more labels c.loop-label.made.items c.push.new.self.items c.in_ok-mark.mark c.args.columns.now c.loop-label.reached c.args.placed.now c.loop-label.label-index
       c.loop-label-test.true c.in_ok-push.ensures.items c.in_ok-mark.ensures.from c.in_ok-mark.ensures.until c.in_ok-mark.ensures.anchor c.in_ok-mark.ensures.label _ (c.loop-label.invariant.told labels);
-  apart = subst (λ marks. All HasAnchor marks) (sym c.in_ok-push.ensures.items) (All-push HasAnchor c.loop-label.made.items c.in_ok-mark.mark c.loop-label.invariant.apart c.in_ok-mark.ensures.anchored);
+  apart = subst (λ marks. All IsAnchored marks) (sym c.in_ok-push.ensures.items) (All-push IsAnchored c.loop-label.made.items c.in_ok-mark.mark c.loop-label.invariant.apart c.in_ok-mark.ensures.anchored);
 }
 
 pub returns-clause-is : goal.returns-clause-is
