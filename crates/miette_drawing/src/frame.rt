@@ -7,9 +7,9 @@ ghost use Rattle.std.specs.Option.{option_map};
 ghost use Rattle.miette_page.specs.views.Printouts.{◌⊕◌};
 ghost use Rattle.miette_page.specs.views.Tokens.{row_tokens, rows_tokens, styled_tokens, text_tokens};
 ghost use Rattle.miette_snippets.specs.rules.Frames.{top_row_of, bottom_row, location, location_of, place_text};
-ghost use Rattle.miette_snippets.specs.rules.Frames.{refused_row, text_or_none};
+ghost use Rattle.miette_snippets.specs.rules.Frames.{refused_front, refused_row, text_or_none};
 ghost use Rattle.miette_snippets.specs.views.ThemeSettings.{settings_of};
-ghost use Rattle.miette_drawing.specs.steps.FrameParts.{corner_row, refused_front};
+ghost use Rattle.miette_drawing.specs.steps.FrameParts.{corner_row};
 ghost use Rattle.miette_drawing.specs.views.SnippetRows.{place_at};
 
 use crate::sheet::Outcome;

@@ -4,6 +4,7 @@ use Rattle.std.specs.Prelude.{None, Bool, ◌&&◌, if◌then◌else◌, nat_lt}
 use Rattle.miette_style.specs.declared.style.Style.{Style}
 use Rattle.miette_page.specs.rules.Rows.{Row, styled_run, plain_run}
 use Rattle.miette_newlines.specs.rules.Lines.{Line}
+use Rattle.miette_protocol.specs.views.Meaning.{Label}
 use Rattle.miette_protocol.specs.rules.Reading.{Contents}
 use Rattle.miette_lines.specs.rules.Contexts.{lines_of_contents}
 use Rattle.miette_snippets.specs.rules.Drawing.{blank}
@@ -35,14 +36,19 @@ abbrev pub text_or_none : Option (List ℕ) → List ℕ
 text_or_none None = codes "<none>"
 text_or_none (Some text) = chars text
 
-abbrev pub refused_row : SnippetSettings → Refusal → Row
-refused_row s refused =
+-- the row of a refused label up to its offset
+abbrev pub refused_front : SnippetSettings → Label → Row
+refused_front s label =
     plain_run s.width (codes "  [") ∷ styled_run s.width s.styles.error (codes "Failed to read contents for label")
-    ∷ plain_run s.width (codes " `") ∷ styled_run s.width s.styles.link (text_or_none refused.label.text)
-    ∷ plain_run s.width (codes "` (offset: ") ∷ styled_run s.width s.styles.link (decimal refused.label.span.offset)
+    ∷ plain_run s.width (codes " `") ∷ styled_run s.width s.styles.link (text_or_none label.text)
+    ∷ plain_run s.width (codes "` (offset: ") ∷ []
+
+abbrev pub refused_row : SnippetSettings → Refusal → Row
+refused_row s refused = refused_front s refused.label
+    ++ (styled_run s.width s.styles.link (decimal refused.label.span.offset)
     ∷ plain_run s.width (codes ", length: ") ∷ styled_run s.width s.styles.link (decimal refused.label.span.len)
     ∷ plain_run s.width (codes "): ") ∷ styled_run s.width s.styles.warning refused.name
-    ∷ plain_run s.width (codes "]") ∷ []
+    ∷ plain_run s.width (codes "]") ∷ [])
 
 -- the digits of the last line's number, 1 where there is no line
 abbrev pub width_of_lines : ℕ → List Line → ℕ

@@ -3,7 +3,7 @@ use Rattle.std.proofs.Common.{[], ◌∷◌, ◌++◌, ◌∙◌, ap}
 use Rattle.std.specs.Prelude.{codes, chars, decimal}
 use Rattle.miette_page.specs.rules.Rows.{Row, styled_run}
 use Rattle.miette_style.specs.rules.Styles.{plain}
-use Rattle.miette_drawing.specs.steps.FrameParts.{refused_front}
+use Rattle.miette_snippets.specs.rules.Frames.{refused_front}
 use Rattle.miette_snippets.specs.views.ThemeSettings.{settings_of}
 use Rattle.miette_lines.specs.views.GivenLabels.{width_of}
 use Rattle.miette_page.specs.views.Tokens.{styled_tokens}
