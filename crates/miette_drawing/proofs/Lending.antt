@@ -17,7 +17,7 @@ use Rattle.miette_highlight.specs.rules.HighlighterCalls.{Call, Leads, asked, re
 use Rattle.miette_lines.specs.declared.reading.ReadLabel.{ReadLabel}
 use Rattle.miette_newlines.specs.declared.lines.LineOfText.{LineOfText}
 use Rattle.miette_lines.specs.declared.sweep.PlacedLabel.{PlacedLabel}
-use Rattle.miette_lines.specs.rules.Answers.{Highlight, first_of, later_of}
+use Rattle.miette_lines.specs.rules.Answers.{Highlight, first_of}
 use Rattle.miette_page.specs.rules.Rows.{Row}
 use Rattle.miette_lines.specs.rules.Cells.{Cell, characters, cells_from}
 use Rattle.miette_lines.specs.rules.Contexts.{contents, lines_of_contents}
@@ -75,9 +75,9 @@ lent_from : (out : ℕ → Line → Bool) (gap : Bool) (s : SnippetSettings) (w 
     lent_rows out gap s w columns drawn from (slice_range bytes from to) number pieces ls ≡ rows_of_lines out gap s w columns drawn bytes number pieces ls
 lent_from out gap s w columns drawn bytes from to number pieces [] h = refl
 lent_from out gap s w columns drawn bytes from to number pieces (l ∷ ls) h =
-    ap (λ text. line_or_break gap (out number l) s w columns drawn l number (cells_from s.width s.tab false l.start 0 (characters text)) (first_of pieces) ++ lent_rows out (out number l) s w columns drawn from (slice_range bytes from to) (number + 1) (later_of pieces) ls)
+    ap (λ text. line_or_break gap (out number l) s w columns drawn l number (cells_from s.width s.tab false l.start 0 (characters text)) (first_of pieces) ++ lent_rows out (out number l) s w columns drawn from (slice_range bytes from to) (number + 1) (drop 1 pieces) ls)
     (slices bytes from to l.start l.text_end h.0.0 h.0.1 h.0.2)
-    ∙ ap (λ r. line_or_break gap (out number l) s w columns drawn l number (cells_of s bytes l) (first_of pieces) ++ r) (lent_from out (out number l) s w columns drawn bytes from to (number + 1) (later_of pieces) ls h.1)
+    ∙ ap (λ r. line_or_break gap (out number l) s w columns drawn l number (cells_of s bytes l) (first_of pieces) ++ r) (lent_from out (out number l) s w columns drawn bytes from to (number + 1) (drop 1 pieces) ls h.1)
 
 texts_from : (bytes : List ℕ) (from to : ℕ) (ls : List Line) → AllByRecursion (Inside from (from + (to - from))) ls → texts_in from (slice_range bytes from to) ls ≡ texts_of bytes ls
 texts_from bytes from to [] h = refl

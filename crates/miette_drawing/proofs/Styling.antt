@@ -1,11 +1,11 @@
 -- Pieces of a highlighter, and rows of lines that are left plain.
-use Rattle.std.proofs.Common.{ℕ, ◌+◌, ◌≡◌, ◌∙◌, ◌++◌, length, Bool, true, false, List, [], ◌∷◌, map, refl, sym, ap, ap₂, subst}
+use Rattle.std.proofs.Common.{ℕ, ◌+◌, ◌≡◌, ◌∙◌, ◌++◌, length, Bool, true, false, List, [], ◌∷◌, map, refl, sym, ap, ap₂, subst, drop}
 use Rattle.miette_newlines.specs.rules.Lines.{Line}
 use Rattle.miette_protocol.specs.views.Meaning.{Label}
 use Rattle.miette_protocol.specs.rules.Reading.{Span, Source, Contents}
 use Rattle.miette_highlight.specs.rules.Pieces.{CutsLine, Piece}
 use Rattle.miette_highlight.specs.rules.HighlighterCalls.{Call, asked, restarted, Leads}
-use Rattle.miette_lines.specs.rules.Answers.{Highlight, first_of, later_of}
+use Rattle.miette_lines.specs.rules.Answers.{Highlight, first_of}
 use Rattle.miette_lines.specs.rules.Contexts.{contents, lines_of_contents}
 use Rattle.miette_snippets.specs.rules.Folds.{Spread}
 use Rattle.miette_snippets.specs.rules.Frames.{SnippetSettings, top_row, bottom_row, number_width}
@@ -34,7 +34,7 @@ rows_plain : (out : ℕ → Line → Bool) (gap : Bool) (s : SnippetSettings) (w
     rows_of_lines out gap s w columns labels source number pieces ls ≡ rows_of_lines out gap s w columns labels source number [] ls
 rows_plain out gap s w columns labels source number pieces [] h = refl
 rows_plain out gap s w columns labels source number pieces (l ∷ ls) h =
-    ap₂ (λ p r. line_or_break gap (out number l) s w columns labels l number (cells_of s source l) p ++ r) (h.0.none refl) (rows_plain out (out number l) s w columns labels source (number + 1) (later_of pieces) ls h.1)
+    ap₂ (λ p r. line_or_break gap (out number l) s w columns labels l number (cells_of s source l) p ++ r) (h.0.none refl) (rows_plain out (out number l) s w columns labels source (number + 1) (drop 1 pieces) ls h.1)
 
 pub snippets_plain : (s : SnippetSettings) (spreads : List Spread) (source : Source) (labels : List Label) (pieces : List (List (List Highlight))) (groups : List Span) → SnippetsHavePieces s.context true source groups pieces →
     all_snippets s spreads source labels pieces groups ≡ all_snippets s spreads source labels [] groups
@@ -44,7 +44,7 @@ snippets_plain s spreads source labels pieces (group ∷ groups) h =
     let drawn : List DrawnLabel = drawn_labels s (length source.bytes) labels in
     ap₂ (λ rows more. (top_row s lent (place_of source group labels) ∷ rows ++ bottom_row s (number_width lent) ∷ []) ++ more)
     (rows_plain (left_out s lent.line (lines_of_contents lent) spreads) false s (number_width lent) (gutter_columns drawn (lines_of_contents lent)) drawn source.bytes (lent.line + 1) (first_of pieces) (lines_of_contents lent) h.0)
-    (snippets_plain s spreads source labels (later_of pieces) groups h.1)
+    (snippets_plain s spreads source labels (drop 1 pieces) groups h.1)
 
 -- ---- calls
 
@@ -54,7 +54,7 @@ call_for before after text got ps e h = subst (λ (qs : List Piece). Leads befor
 
 lines_plain : (texts : List (List ℕ)) (pieces : List (List Highlight)) → EachHasPieces true texts pieces → line_calls texts pieces ≡ line_calls texts []
 lines_plain [] pieces h = refl
-lines_plain (text ∷ texts) pieces h = ap₂ (λ ps calls. asked text (map piece_of ps) ∷ calls) (h.0.none refl) (lines_plain texts (later_of pieces) h.1)
+lines_plain (text ∷ texts) pieces h = ap₂ (λ ps calls. asked text (map piece_of ps) ∷ calls) (h.0.none refl) (lines_plain texts (drop 1 pieces) h.1)
 
 -- the calls where lines are left plain
 pub calls_plain : (context : ℕ) (source : Source) (groups : List Span) (pieces : List (List (List Highlight))) → SnippetsHavePieces context true source groups pieces →
@@ -62,6 +62,6 @@ pub calls_plain : (context : ℕ) (source : Source) (groups : List Span) (pieces
 calls_plain context source [] pieces h = refl
 calls_plain context source (group ∷ groups) pieces h =
     let read : Contents = contents context source group in
-    ap₂ (λ own more. restarted read ∷ own ++ more) (lines_plain (texts_of source.bytes (lines_of_contents read)) (first_of pieces) h.0) (calls_plain context source groups (later_of pieces) h.1)
+    ap₂ (λ own more. restarted read ∷ own ++ more) (lines_plain (texts_of source.bytes (lines_of_contents read)) (first_of pieces) h.0) (calls_plain context source groups (drop 1 pieces) h.1)
 
 -- ---- what counts of an answer

@@ -1,9 +1,9 @@
 -- The rows of snippets under answers: where nothing fails, they are those in which nothing is listed.
-use Rattle.std.proofs.Common.{◌≡◌, ◌≢◌, ℕ, Bool, true, false, ◌||◌, if◌then◌else◌, inl, inr, List, [], ◌∷◌, refl, sym, ap, ap₂, ◌∙◌, subst, Option, Some, None, is_some, option_map, codes, length, ◌<◌, arith, ◌++◌}
+use Rattle.std.proofs.Common.{◌≡◌, ◌≢◌, ℕ, Bool, true, false, ◌||◌, if◌then◌else◌, inl, inr, List, [], ◌∷◌, refl, sym, ap, ap₂, ◌∙◌, subst, Option, Some, None, is_some, option_map, codes, length, ◌<◌, arith, ◌++◌, drop}
 use Rattle.std.proofs.lemmas.Bool.{cases_Bool}
 use Rattle.miette_protocol.specs.views.Meaning.{Label, Meaning}
 use Rattle.miette_protocol.specs.rules.Reading.{Source, is_accepted}
-use Rattle.miette_lines.specs.rules.Answers.{Highlight, NoneFails, AlwaysReads, later_answers}
+use Rattle.miette_lines.specs.rules.Answers.{Highlight, NoneFails, AlwaysReads}
 use Rattle.miette_highlight.specs.rules.HighlighterCalls.{Call, Leads}
 use Rattle.miette_layout.specs.views.Outcomes.{MayGive}
 use Rattle.miette_snippets.specs.rules.Folds.{spreads_of}
@@ -33,9 +33,9 @@ use Rattle.miette_lines.proofs.NoFailures.{none_unread, grouped_none}
 refusal_none : (bytes : List ℕ) (fails : List Bool) (labels : List Label) → NoneFails fails → refusal bytes fails labels ≡ refusal bytes [] labels
 refusal_none bytes fails [] h = refl
 refusal_none bytes fails (label ∷ labels) h =
-    ap (λ b. if b then Some (record { label = label; name = codes "IoError" }) else if is_accepted bytes label.span then refusal bytes (later_answers fails) labels
+    ap (λ b. if b then Some (record { label = label; name = codes "IoError" }) else if is_accepted bytes label.span then refusal bytes (drop 1 fails) labels
     else Some (record { label = label; name = codes "OutOfBounds" })) (next_none fails h)
-    ∙ ap (λ r. if is_accepted bytes label.span then r else Some (record { label = label; name = codes "OutOfBounds" })) (refusal_none bytes (later_answers fails) labels (later_none fails h))
+    ∙ ap (λ r. if is_accepted bytes label.span then r else Some (record { label = label; name = codes "OutOfBounds" })) (refusal_none bytes (drop 1 fails) labels (later_none fails h))
 
 -- the rows of groups where nothing fails
 pub groups_given : (s : frames.SnippetSettings) (source : Source) (labels : List Label) (a : Answer) → AlwaysReads a →

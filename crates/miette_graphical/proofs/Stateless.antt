@@ -1,5 +1,5 @@
 -- A highlighter without a state answers each line by itself. So where every source always reads, the text is the one under the answers by line.
-use Rattle.std.proofs.Common.{◌≡◌, ℕ, ◌+◌, Bool, true, false, List, [], ◌∷◌, ◌++◌, map, length, refl, sym, ap, ap₂, subst, ◌∙◌, Option, Some, None, is_some, option_map, append-nil, if◌then◌else◌, Result, Ok, Err, OnOk, encode_utf8_all}
+use Rattle.std.proofs.Common.{◌≡◌, ℕ, ◌+◌, Bool, true, false, List, [], ◌∷◌, ◌++◌, map, length, refl, sym, ap, ap₂, subst, ◌∙◌, Option, Some, None, is_some, option_map, append-nil, if◌then◌else◌, Result, Ok, Err, OnOk, encode_utf8_all, drop}
 use Rattle.std.proofs.lemmas.Bool.{and_parts}
 use Rattle.miette_newlines.specs.rules.Lines.{Line}
 use Rattle.miette_runs.specs.rules.Cutting.{without_trailing}
@@ -8,7 +8,7 @@ use Rattle.miette_protocol.specs.rules.Reading.{Source, Span, Contents}
 use Rattle.miette_protocol.specs.declared.protocol.Severity.{Severity}
 use Rattle.miette_highlight.specs.rules.HighlighterCalls.{Call, Leads, AnsweredBy, asked, restarted, listed_pieces as counted}
 use Rattle.miette_highlight.specs.rules.Pieces.{Piece}
-use Rattle.miette_lines.specs.rules.Answers.{Highlight, first_of, later_of}
+use Rattle.miette_lines.specs.rules.Answers.{Highlight, first_of}
 use Rattle.miette_lines.specs.rules.Around.{group_context}
 use Rattle.miette_lines.specs.rules.Contexts.{contents, lines_of_contents}
 use Rattle.miette_lines.specs.rules.Groups.{Refusal, refusal, groups_of, in_order}
@@ -54,7 +54,7 @@ lines_by : (f : List ℕ → List Piece) (out : ℕ → Line → Bool) (gap : Bo
 lines_by f out gap s w columns labels source number pieces [] h = refl
 lines_by f out gap s w columns labels source number pieces (l ∷ ls) h =
     ap₂ (λ p r. line_or_break gap (out number l) s w columns labels l number (cells_of s source l) p ++ r) (sym (same_highlights (first_of pieces)) ∙ ap (map highlight_of) h.0)
-    (lines_by f out (out number l) s w columns labels source (number + 1) (later_of pieces) ls h.1)
+    (lines_by f out (out number l) s w columns labels source (number + 1) (drop 1 pieces) ls h.1)
 
 snippets_by : (f : List ℕ → List Piece) (s : frames.SnippetSettings) (spreads : List Spread) (source : Source) (labels : List Label) (pieces : List (List (List Highlight))) (groups : List Span) → AnsweredBy f (group_calls s.context source groups pieces) →
     all_snippets s spreads source labels pieces groups ≡ all_snippets s spreads source labels (pieces_by f s.context source groups) groups
@@ -62,10 +62,10 @@ snippets_by f s spreads source labels pieces [] h = refl
 snippets_by f s spreads source labels pieces (group ∷ groups) h =
     let lent : Contents = contents s.context source group in
     let drawn : List DrawnLabel = drawn_labels s (length source.bytes) labels in
-    let k = parts_by f (line_calls (texts_of source.bytes (lines_of_contents lent)) (first_of pieces)) (group_calls s.context source groups (later_of pieces)) h in
+    let k = parts_by f (line_calls (texts_of source.bytes (lines_of_contents lent)) (first_of pieces)) (group_calls s.context source groups (drop 1 pieces)) h in
     ap₂ (λ rows more. (top_row s lent (place_of source group labels) ∷ rows ++ bottom_row s (number_width lent) ∷ []) ++ more)
     (lines_by f (left_out s lent.line (lines_of_contents lent) spreads) false s (number_width lent) (gutter_columns drawn (lines_of_contents lent)) drawn source.bytes (lent.line + 1) (first_of pieces) (lines_of_contents lent) k.0)
-    (snippets_by f s spreads source labels (later_of pieces) groups k.1)
+    (snippets_by f s spreads source labels (drop 1 pieces) groups k.1)
 
 unless_by : (f : List ℕ → List Piece) (l : frames.SnippetSettings) (source : Source) (labels : List Label) (pieces : List (List (List Highlight))) (refused : Option Refusal) →
     AnsweredBy f (if is_some refused then [] else group_calls (group_context l.context labels) source (groups_of l.context source [] labels) pieces) →

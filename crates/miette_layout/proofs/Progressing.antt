@@ -19,7 +19,7 @@ use Rattle.miette_lines.specs.declared.reading.Refusal.{Refusal}
 use Rattle.miette_lines.specs.declared.reading.Refusal.TheVariants as reasons
 use Rattle.miette_lines.specs.declared.sweep.PlacedLabel.{PlacedLabel}
 use Rattle.miette_page.specs.rules.Rows.{Row}
-use Rattle.miette_lines.specs.rules.Answers.{Answers, Highlight, first_of, later_of}
+use Rattle.miette_lines.specs.rules.Answers.{Answers, Highlight, first_of}
 use Rattle.miette_lines.specs.rules.Around.{has_own, group_context}
 use Rattle.miette_lines.specs.rules.Contexts.{contents, lines_of_contents}
 use Rattle.miette_layout.specs.views.Outcomes.{MayGive}
@@ -79,7 +79,7 @@ rows_around : (out : ℕ → Line → Bool) (gap : Bool) (s : SnippetSettings) (
     lent_rows out gap (record s { context = c }) w columns drawn start bytes number pieces lines ≡ lent_rows out gap s w columns drawn start bytes number pieces lines
 rows_around out gap s c w columns drawn start bytes number pieces [] = refl
 rows_around out gap s c w columns drawn start bytes number pieces (line ∷ lines) =
-    ap (λ r. line_or_break gap (out number line) s w columns drawn line number (cells_in s start bytes line) (first_of pieces) ++ r) (rows_around out (out number line) s c w columns drawn start bytes (number + 1) (later_of pieces) lines)
+    ap (λ r. line_or_break gap (out number line) s w columns drawn line number (cells_in s start bytes line) (first_of pieces) ++ r) (rows_around out (out number line) s c w columns drawn start bytes (number + 1) (drop 1 pieces) lines)
 
 snippet_around : (s : SnippetSettings) (c : ℕ) (spreads : List Spread) (drawn : List DrawnLabel) (lent : Contents) (place : Option Place) (pieces : List (List Highlight)) → lent_snippet (record s { context = c }) spreads drawn lent place pieces ≡ lent_snippet s spreads drawn lent place pieces
 snippet_around s c spreads drawn lent place pieces =

@@ -6,7 +6,7 @@ use Rattle.std.proofs.lemmas.List.Elements.{All-push}
 use Rattle.miette_protocol.specs.rules.Reading.{Span, Source, IsAccepted}
 use Rattle.miette_lines.specs.declared.grouping.Group.{Group}
 use Rattle.miette_lines.specs.declared.reading.ReadLabel.{ReadLabel}
-use Rattle.miette_lines.specs.rules.Answers.{NoneFails, next_answer, later_answers}
+use Rattle.miette_lines.specs.rules.Answers.{NoneFails, next_answer}
 use Rattle.miette_lines.specs.rules.Groups.{joined_span, joins_before, groups_from, groups_answered}
 use Rattle.miette_lines.specs.views.Reads.{IsLent}
 use Rattle.miette_lines.proofs.Numbers.{by_cases}
@@ -71,7 +71,7 @@ gathered_apart context source spans span rest done before next h apart at own = 
   always = h.always;
   are = λ more.
       h.are more
-      ∙ ap (λ b. map (λ group. group.span) done ++ cond b (cond (next_answer more) (before.span ∷ groups_from context source span (later_answers more) rest) (groups_from context source (joined_span before.span span) (later_answers more) rest)) (before.span ∷ groups_from context source span more rest)) apart
+      ∙ ap (λ b. map (λ group. group.span) done ++ cond b (cond (next_answer more) (before.span ∷ groups_from context source span (drop 1 more) rest) (groups_from context source (joined_span before.span span) (drop 1 more) rest)) (before.span ∷ groups_from context source span more rest)) apart
       ∙ pushed done before (groups_from context source span more rest)
       ∙ ap (λ s. map (λ group. group.span) (done ++ before ∷ []) ++ groups_from context source s more rest) (sym at);
   lent = All-push (λ group. IsLent context source group.span group.contents) done before h.lent h.own;

@@ -1,9 +1,9 @@
 -- Where no listed answer fails: every group is read, and the groups are those where none is listed.
-use Rattle.std.proofs.Common.{ℕ, ◌≡◌, Bool, false, if◌then◌else◌, List, [], ◌∷◌, refl, ap, ap₂, ◌∙◌}
+use Rattle.std.proofs.Common.{ℕ, ◌≡◌, Bool, false, if◌then◌else◌, List, [], ◌∷◌, refl, ap, ap₂, ◌∙◌, drop}
 use Rattle.std.proofs.lemmas.Bool.{and_right}
 use Rattle.miette_protocol.specs.views.Meaning.{Label}
 use Rattle.miette_protocol.specs.rules.Reading.{Source, Span}
-use Rattle.miette_lines.specs.rules.Answers.{NoneFails, later_answers}
+use Rattle.miette_lines.specs.rules.Answers.{NoneFails}
 use Rattle.miette_lines.specs.rules.Around.{has_own}
 use Rattle.miette_lines.specs.rules.Groups.{joins_before, joined_span, groups_from, groups_answered, own_groups, groups_of, spans_of, some_fails, groups_fail}
 use Rattle.miette_lines.proofs.Bodies.{next_none, later_none, some_none}
@@ -16,10 +16,10 @@ groups_none : (context : ℕ) (source : Source) (before : Span) (fails : List Bo
 groups_none context source before fails [] h = refl
 groups_none context source before fails (span ∷ spans) h =
     ap (λ b. if joins_before context source before span then
-    (if b then before ∷ groups_from context source span (later_answers fails) spans else groups_from context source (joined_span before span) (later_answers fails) spans)
+    (if b then before ∷ groups_from context source span (drop 1 fails) spans else groups_from context source (joined_span before span) (drop 1 fails) spans)
     else before ∷ groups_from context source span fails spans) (next_none fails h)
     ∙ ap₂ (λ x y. if joins_before context source before span then x else before ∷ y)
-    (groups_none context source (joined_span before span) (later_answers fails) spans (later_none fails h))
+    (groups_none context source (joined_span before span) (drop 1 fails) spans (later_none fails h))
     (groups_none context source span fails spans h)
 
 answered_none : (context : ℕ) (source : Source) (fails : List Bool) (spans : List Span) → NoneFails fails →

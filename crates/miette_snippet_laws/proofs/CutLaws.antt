@@ -1,10 +1,10 @@
 -- Lines that are cut, in the rows of snippets: how wide they are, and that lines which fit stay as they are.
-use Rattle.std.proofs.Common.{◌≡◌, ℕ, suc, ◌+◌, ◌≤◌, Bool, false, cond, List, [], ◌∷◌, ◌++◌, length, refl, sym, ap, ap₂, subst, Option, Some, None}
+use Rattle.std.proofs.Common.{◌≡◌, ℕ, suc, ◌+◌, ◌≤◌, Bool, false, cond, List, [], ◌∷◌, ◌++◌, length, refl, sym, ap, ap₂, subst, Option, Some, None, drop}
 use Rattle.std.proofs.lemmas.Bool.{le-ltb}
 use Rattle.std.specs.List.{AllByRecursion}
 use Rattle.miette_newlines.specs.rules.Lines.{Line}
 use Rattle.miette_protocol.specs.rules.Reading.{Contents}
-use Rattle.miette_lines.specs.rules.Answers.{Highlight, first_of, later_of}
+use Rattle.miette_lines.specs.rules.Answers.{Highlight, first_of}
 use Rattle.miette_lines.specs.rules.Cells.{Cell}
 use Rattle.miette_lines.specs.rules.Contexts.{lines_of_contents}
 use Rattle.miette_lines.specs.rules.Labels.{DrawnLabel, one_line, multi_line}
@@ -63,7 +63,7 @@ lines_stay : (out : ℕ → Line → Bool) (gap : Bool) (s : SnippetSettings) (w
     rows_of_lines out gap s w columns labels source number pieces lines ≡ rows_of_lines out gap (record s { line_columns = None }) w columns labels source number pieces lines
 lines_stay out gap s w columns labels source number pieces [] h = refl
 lines_stay out gap s w columns labels source number pieces (line ∷ lines) h =
-    ap₂ (λ a b. a ++ b) (line_or_break_stays gap (out number line) s w columns labels line number (cells_of s source line) (first_of pieces) h.0) (lines_stay out (out number line) s w columns labels source (number + 1) (later_of pieces) lines h.1)
+    ap₂ (λ a b. a ++ b) (line_or_break_stays gap (out number line) s w columns labels line number (cells_of s source line) (first_of pieces) h.0) (lines_stay out (out number line) s w columns labels source (number + 1) (drop 1 pieces) lines h.1)
 
 pub bodies_stay : (s : SnippetSettings) (spreads : List Spread) (labels : List DrawnLabel) (source : List ℕ) (read : Contents) (pieces : List (List Highlight)) → AllByRecursion (λ line. Fits s.line_columns (cells_of s source line)) (lines_of_contents read) →
     body_rows s spreads labels source read pieces ≡ body_rows (record s { line_columns = None }) spreads labels source read pieces

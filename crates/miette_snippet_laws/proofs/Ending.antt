@@ -1,5 +1,5 @@
 -- Labels at the end of a source stand behind the text of its last line, and the rows of no other label change.
-use Rattle.std.proofs.Common.{ℕ, ◌+◌, ◌-◌, ◌<◌, ◌≤◌, ◌≡◌, max, Bool, true, false, cond, eqb, ltb, leb, ◌||◌, List, [], ◌∷◌, ◌++◌, map, length, Option, Some, None, refl, sym, ap, ap₂, ◌∙◌, arith}
+use Rattle.std.proofs.Common.{ℕ, ◌+◌, ◌-◌, ◌<◌, ◌≤◌, ◌≡◌, max, Bool, true, false, cond, eqb, ltb, leb, ◌||◌, List, [], ◌∷◌, ◌++◌, map, length, Option, Some, None, refl, sym, ap, ap₂, ◌∙◌, arith, drop}
 use Rattle.std.specs.Prelude.{unwrap_or, option_map}
 use Rattle.std.specs.List.{AllByRecursion, list_any}
 use Rattle.std.proofs.lemmas.Bool.{eq-eqb, lt-ltb, le-leb, ltb-true, and_left, and_right, and_from}
@@ -7,7 +7,7 @@ use Rattle.miette_newlines.specs.rules.Lines.{Line, lines_of}
 use Rattle.miette_protocol.specs.views.Meaning.{Label}
 use Rattle.miette_protocol.specs.rules.Reading.{Span, Source, Contents}
 use Rattle.miette_style.specs.declared.style.Style.{Style}
-use Rattle.miette_lines.specs.rules.Answers.{Answers, Highlight, first_of, later_of}
+use Rattle.miette_lines.specs.rules.Answers.{Answers, Highlight, first_of}
 use Rattle.miette_lines.specs.rules.Around.{lines_around}
 use Rattle.miette_lines.specs.rules.Contexts.{contents, lines_of_contents}
 use Rattle.miette_lines.specs.rules.Groups.{Refusal, in_order, refusal, groups_of, groups_fail, some_fails}
@@ -98,7 +98,7 @@ lines_alike : (a b : Bool) (out : ℕ → Line → Bool) (gap : Bool) (s : Snipp
 lines_alike a b out gap s w columns labels source number pieces [] = refl
 lines_alike a b out gap s w columns labels source number pieces (l ∷ ls) =
     ap (λ rows. line_or_break gap (out number l) (with_ends a s) w columns labels l number (cells_of (with_ends a s) source l) (first_of pieces) ++ rows)
-    (lines_alike a b out (out number l) s w columns labels source (number + 1) (later_of pieces) ls)
+    (lines_alike a b out (out number l) s w columns labels source (number + 1) (drop 1 pieces) ls)
 
 drawn_alike : (a : Bool) (s : SnippetSettings) (n : ℕ) (labels : List Label) → some_shows_end s.context n labels ≡ false → drawn_labels (with_ends a s) n labels ≡ drawn_labels (with_ends false s) n labels
 drawn_alike a s n labels none = ap (λ ends. drawn_from ends s.styles.highlights n 0 labels) (and_right a _ none)
@@ -115,7 +115,7 @@ snippets_alike a s spreads source labels pieces (group ∷ groups) none =
     ap₂ (λ rows more. framed rows ++ more)
     (ap body (drawn_alike a s n labels none)
     ∙ lines_alike a false (left_out s read.line (lines_of_contents read) spreads) false s (number_width read) (gutter_columns drawn (lines_of_contents read)) drawn source.bytes (read.line + 1) (first_of pieces) (lines_of_contents read))
-    (snippets_alike a s spreads source labels (later_of pieces) groups none)
+    (snippets_alike a s spreads source labels (drop 1 pieces) groups none)
 
 unless_alike : (a : Bool) (s : SnippetSettings) (source : Source) (labels : List Label) (answers : Answers) (refused : Option Refusal) → some_shows_end s.context (length source.bytes) labels ≡ false →
     rows_unless (with_ends a s) source labels answers (option_map (refused_row (with_ends a s)) refused) ≡ rows_unless (with_ends false s) source labels answers (option_map (refused_row (with_ends false s)) refused)

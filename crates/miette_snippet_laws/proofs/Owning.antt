@@ -1,5 +1,5 @@
 -- Labels with their own numbers of context lines: their groups show the maximal runs of the shown lines.
-use Rattle.std.proofs.Common.{ℕ, Bool, suc, ◌+◌, ◌-◌, ◌<◌, ◌≤◌, ◌≡◌, min, false, leb, List, [], ◌∷◌, ◌&&◌, ◌||◌, length, map, refl, sym, ap, ap₂, ◌∙◌, arith}
+use Rattle.std.proofs.Common.{ℕ, Bool, suc, ◌+◌, ◌-◌, ◌<◌, ◌≤◌, ◌≡◌, min, false, leb, List, [], ◌∷◌, ◌&&◌, ◌||◌, length, map, refl, sym, ap, ap₂, ◌∙◌, arith, drop}
 use Rattle.std.specs.Prelude.{is_some}
 use Rattle.std.proofs.lemmas.List.Elements.{filter_agree}
 use Rattle.std.proofs.lemmas.Bool.{or_parts}
@@ -9,7 +9,7 @@ use Rattle.miette_newlines.specs.rules.Lines.{Line}
 use Rattle.miette_protocol.specs.views.Meaning.{Label}
 use Rattle.miette_protocol.specs.rules.Reading as R
 use Rattle.miette_protocol.specs.rules.Reading.{Span, Source, Contents}
-use Rattle.miette_lines.specs.rules.Answers.{Highlight, first_of, later_of}
+use Rattle.miette_lines.specs.rules.Answers.{Highlight, first_of}
 use Rattle.miette_lines.specs.rules.Around.{has_own, lines_around}
 use Rattle.miette_lines.specs.rules.Contexts as C
 use Rattle.miette_lines.specs.rules.Contexts.{contents, lines_of_contents}
@@ -150,7 +150,7 @@ block_bodies s spreads kept labels source pieces [] e some h alike = refl
 block_bodies s spreads kept labels source pieces (b ∷ bs) e some h alike =
     ap₂ (λ x xs. x ∷ xs)
     (ap (λ c. body_rows s spreads labels source.bytes (contents c source (span_of source.bytes b)) (first_of pieces)) e ∙ block_body s spreads kept labels source b (first_of pieces) some h.0 alike.0)
-    (block_bodies s spreads kept labels source (later_of pieces) bs e some h.1 alike.1)
+    (block_bodies s spreads kept labels source (drop 1 pieces) bs e some h.1 alike.1)
 
 -- ---- an empty source
 

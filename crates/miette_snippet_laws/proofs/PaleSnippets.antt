@@ -1,11 +1,11 @@
 -- The rows of snippets in their styles, and the same rows in plain ones: frames, lines and whole snippets.
-use Rattle.std.proofs.Common.{◌≡◌, ℕ, ◌+◌, ◌-◌, Bool, true, false, ◌&&◌, ◌||◌, not, if◌then◌else◌, List, [], ◌∷◌, ◌++◌, map, length, replicate, decimal, codes, chars, Option, Some, None, IfSome, option_map, refl, sym, ap, ap₂, ◌∙◌, subst}
+use Rattle.std.proofs.Common.{◌≡◌, ℕ, ◌+◌, ◌-◌, Bool, true, false, ◌&&◌, ◌||◌, not, if◌then◌else◌, List, [], ◌∷◌, ◌++◌, map, length, replicate, decimal, codes, chars, Option, Some, None, IfSome, option_map, refl, sym, ap, ap₂, ◌∙◌, subst, drop}
 use Rattle.std.specs.Prelude.{nat_lt, slice_range}
 use Rattle.std.specs.List.{AllByRecursion}
 use Rattle.miette_newlines.specs.rules.Lines.{Line}
 use Rattle.miette_protocol.specs.views.Meaning.{Label}
 use Rattle.miette_protocol.specs.rules.Reading.{Span, Source, Contents, is_accepted}
-use Rattle.miette_lines.specs.rules.Answers.{Answers, Highlight, next_answer, later_answers, first_of, later_of}
+use Rattle.miette_lines.specs.rules.Answers.{Answers, Highlight, next_answer, first_of}
 use Rattle.miette_snippets.specs.rules.CutLines.{cut_line, shown_marks, shown_runs}
 use Rattle.miette_lines.specs.rules.Cells.{Cell, characters}
 use Rattle.miette_snippet_laws.specs.laws.Clean.{IsClean, IsCleanText, IsCleanRow, IsCleanLabel, IsCleanSource, AreCleanDrawings}
@@ -176,11 +176,11 @@ module _ (P : Type 0) (s : SnippetSettings) (clean : P → AreCleanDrawings s.ch
   pale_lines out gap w columns labels source number pieces [] h k = rows_nil P
   pale_lines out gap w columns labels source number pieces (line ∷ lines) h k =
       rows_append P (line_or_break gap (out number line) (colourless s) w columns (map bleached labels) line number (cells_of s source line) []) (line_or_break gap (out number line) s w columns labels line number (cells_of s source line) (first_of pieces))
-      (rows_of_lines out (out number line) (colourless s) w columns (map bleached labels) source (number + 1) [] lines) (rows_of_lines out (out number line) s w columns labels source (number + 1) (later_of pieces) lines)
+      (rows_of_lines out (out number line) (colourless s) w columns (map bleached labels) source (number + 1) [] lines) (rows_of_lines out (out number line) s w columns labels source (number + 1) (drop 1 pieces) lines)
       (pale_line_or_break gap (out number line) w columns labels line number (cells_of s source line) (first_of pieces) h (λ p.
       let text = slice_range source line.start line.text_end in
       clean_cells s.width s.tab false line.start 0 (characters text) (clean_characters text (clean_range source line.start line.text_end (k p)))))
-      (pale_lines out (out number line) w columns labels source (number + 1) (later_of pieces) lines h k)
+      (pale_lines out (out number line) w columns labels source (number + 1) (drop 1 pieces) lines h k)
 
   pale_body : (spreads : List Spread) (labels : List DrawnLabel) (source : List ℕ) (read : Contents) (pieces : List (List Highlight)) → (P → AllByRecursion HasCleanParts labels) → (P → IsClean source) →
       PaleRows P (body_rows (colourless s) spreads (map bleached labels) source read []) (body_rows s spreads labels source read pieces)
@@ -208,8 +208,8 @@ module _ (P : Type 0) (s : SnippetSettings) (clean : P → AreCleanDrawings s.ch
   pale_all spreads source labels pieces [] h k = rows_nil P
   pale_all spreads source labels pieces (group ∷ groups) h k =
       rows_append P (snippet (colourless s) spreads source labels group []) (snippet s spreads source labels group (first_of pieces))
-      (all_snippets (colourless s) spreads source labels [] groups) (all_snippets s spreads source labels (later_of pieces) groups)
-      (pale_snippet spreads source labels group (first_of pieces) h k) (pale_all spreads source labels (later_of pieces) groups h k)
+      (all_snippets (colourless s) spreads source labels [] groups) (all_snippets s spreads source labels (drop 1 pieces) groups)
+      (pale_snippet spreads source labels group (first_of pieces) h k) (pale_all spreads source labels (drop 1 pieces) groups h k)
 
   -- ---- a refused label
 
@@ -240,9 +240,9 @@ module _ (P : Type 0) (s : SnippetSettings) (clean : P → AreCleanDrawings s.ch
   refusal_clean bytes fails (label ∷ labels) h =
       let failed : Refusal = record { label = label; name = codes "IoError" } in
       let outside : Refusal = record { label = label; name = codes "OutOfBounds" } in
-      refused_if (next_answer fails) (Some failed) (if is_accepted bytes label.span then refusal bytes (later_answers fails) labels else Some outside)
+      refused_if (next_answer fails) (Some failed) (if is_accepted bytes label.span then refusal bytes (drop 1 fails) labels else Some outside)
       (record { label = h.0; name = refl })
-      (refused_if (is_accepted bytes label.span) (refusal bytes (later_answers fails) labels) (Some outside) (refusal_clean bytes (later_answers fails) labels h.1) (record { label = h.0; name = refl }))
+      (refused_if (is_accepted bytes label.span) (refusal bytes (drop 1 fails) labels) (Some outside) (refusal_clean bytes (drop 1 fails) labels h.1) (record { label = h.0; name = refl }))
 
   -- ---- all rows
 

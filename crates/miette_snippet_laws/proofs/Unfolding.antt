@@ -1,11 +1,11 @@
 -- Where no label has more lines than it is folded to, the rows of snippets are those without folding.
-use Rattle.std.proofs.Common.{ℕ, ◌+◌, ◌≡◌, Bool, false, not, List, [], ◌∷◌, ◌++◌, length, map, Option, Some, None, refl, sym, ap, ap₂, ◌∙◌}
+use Rattle.std.proofs.Common.{ℕ, ◌+◌, ◌≡◌, Bool, false, not, List, [], ◌∷◌, ◌++◌, length, map, Option, Some, None, refl, sym, ap, ap₂, ◌∙◌, drop}
 use Rattle.std.specs.List.{AllByRecursion}
 use Rattle.miette_newlines.specs.rules.Lines.{Line, lines_of}
 use Rattle.miette_protocol.specs.views.Meaning.{Label}
 use Rattle.miette_protocol.specs.rules.Reading.{Span, Source}
 use Rattle.miette_page.specs.rules.Rows.{Row}
-use Rattle.miette_lines.specs.rules.Answers.{Answers, Highlight, first_of, later_of, AlwaysReads}
+use Rattle.miette_lines.specs.rules.Answers.{Answers, Highlight, first_of, AlwaysReads}
 use Rattle.miette_lines.specs.rules.Around.{HaveContext}
 use Rattle.miette_lines.specs.rules.Contexts.{contents}
 use Rattle.miette_lines.specs.rules.Groups.{in_order, groups_of, AreAccepted}
@@ -25,14 +25,14 @@ module _ (a b : Option ℕ) (s : SnippetSettings) (kept other : ℕ → Bool) (s
   numbered_same gap w columns labels source pieces [] = refl
   numbered_same gap w columns labels source pieces (k ∷ ks) =
       let l : Line = line_at (lines_of source) k in
-      ap (λ o. line_or_break gap (not o) s w columns labels l (k + 1) (cells_of s source l) (first_of pieces) ++ numbered_rows kept (not o) (record s { label_lines = a }) w columns labels source (later_of pieces) ks) (same k)
-      ∙ ap (λ r. line_or_break gap (not (other k)) s w columns labels l (k + 1) (cells_of s source l) (first_of pieces) ++ r) (numbered_same (not (other k)) w columns labels source (later_of pieces) ks)
+      ap (λ o. line_or_break gap (not o) s w columns labels l (k + 1) (cells_of s source l) (first_of pieces) ++ numbered_rows kept (not o) (record s { label_lines = a }) w columns labels source (drop 1 pieces) ks) (same k)
+      ∙ ap (λ r. line_or_break gap (not (other k)) s w columns labels l (k + 1) (cells_of s source l) (first_of pieces) ++ r) (numbered_same (not (other k)) w columns labels source (drop 1 pieces) ks)
 
   runs_same : (labels : List DrawnLabel) (source : List ℕ) (pieces : List (List (List Highlight))) (runs : List (List ℕ)) →
       rows_of_ranges kept (record s { label_lines = a }) labels source pieces runs ≡ rows_of_ranges other (record s { label_lines = b }) labels source pieces runs
   runs_same labels source pieces [] = refl
   runs_same labels source pieces (run ∷ runs) =
-      ap₂ (λ x xs. x ∷ xs) (numbered_same false (range_width run) (gutter_columns labels (map (line_at (lines_of source)) run)) labels source (first_of pieces) run) (runs_same labels source (later_of pieces) runs)
+      ap₂ (λ x xs. x ∷ xs) (numbered_same false (range_width run) (gutter_columns labels (map (line_at (lines_of source)) run)) labels source (first_of pieces) run) (runs_same labels source (drop 1 pieces) runs)
 
   framed_same : (source : Source) (labels : List Label) (groups : List Span) (bodies : List (List Row)) →
       framed_rows (record s { label_lines = a }) source labels groups bodies ≡ framed_rows (record s { label_lines = b }) source labels groups bodies

@@ -1,10 +1,10 @@
 -- The rows of a whole snippet.
-use Rattle.std.proofs.Common.{ℕ, ◌+◌, ◌≤◌, ◌≡◌, false, List, [], ◌∷◌, length, arith}
+use Rattle.std.proofs.Common.{ℕ, ◌+◌, ◌≤◌, ◌≡◌, false, List, [], ◌∷◌, length, arith, drop}
 use Rattle.std.specs.Prelude.{decimal, slice_range}
 use Rattle.std.specs.List.{AllByRecursion}
 use Rattle.miette_newlines.specs.rules.Lines.{Line}
 use Rattle.miette_protocol.specs.rules.Reading.{Contents}
-use Rattle.miette_lines.specs.rules.Answers.{Highlight, first_of, later_of}
+use Rattle.miette_lines.specs.rules.Answers.{Highlight, first_of}
 use Rattle.miette_lines.specs.rules.Contexts.{lines_of_contents}
 use Rattle.miette_lines.specs.rules.Labels.{DrawnLabel, one_line}
 use Rattle.miette_snippets.specs.rules.Drawing.{IsNarrow}
@@ -35,7 +35,7 @@ lines_show s w columns last labels source number pieces (line ∷ lines) n sum f
     let own : length (decimal number) ≤ w = omega (arith, decimal-mono number last below, fits) in (
       line_begins s w columns labels line number (cells_of s source line) (first_of pieces) n room.0 own,
       line_shows s w columns labels line number (cells_of s source line) (first_of pieces) n room.0 (line_columns s source line),
-      lines_show s w columns last labels source (number + 1) (later_of pieces) lines n (omega (arith, sum)) fits room.1,
+      lines_show s w columns last labels source (number + 1) (drop 1 pieces) lines n (omega (arith, sum)) fits room.1,
     )
 
 width-fits : (line : ℕ) (l : Line) (ls : List Line) → length (decimal (line + length (l ∷ ls))) ≤ width_of_lines line (l ∷ ls)

@@ -11,7 +11,7 @@ use Rattle.miette_protocol.specs.rules.Reading as R
 use Rattle.miette_protocol.specs.rules.Reading.{Span, Source, IsAccepted, is_accepted}
 use Rattle.miette_protocol.specs.rules.Context as around
 use Rattle.miette_snippets.specs.rules.Numbers.{last_of}
-use Rattle.miette_lines.specs.rules.Answers.{Highlight, next_answer, later_answers, first_of, later_of, NoneFails}
+use Rattle.miette_lines.specs.rules.Answers.{Highlight, next_answer, first_of, NoneFails}
 use Rattle.miette_lines.specs.rules.Contexts as C
 use Rattle.miette_lines.specs.rules.Contexts.{contents, lines_of_contents}
 use Rattle.miette_lines.specs.rules.Groups as G
@@ -60,9 +60,9 @@ rows_are out kept gap s w columns labels source low zero pieces h = refl
 rows_are out kept gap s w columns labels source low (suc many) pieces h =
     let l : Line = line_at (lines_of source) low in
     ap (λ o. line_or_break gap o s w columns labels l (low + 1) (cells_of s source l) (first_of pieces)
-    ++ rows_of_lines out o s w columns labels source (low + 1 + 1) (later_of pieces) (map (line_at (lines_of source)) (range_with_len (low + 1) many))) (h low (omega arith) (omega arith))
+    ++ rows_of_lines out o s w columns labels source (low + 1 + 1) (drop 1 pieces) (map (line_at (lines_of source)) (range_with_len (low + 1) many))) (h low (omega arith) (omega arith))
     ∙ ap (λ r. line_or_break gap (not (kept low)) s w columns labels l (low + 1) (cells_of s source l) (first_of pieces) ++ r)
-    (rows_are out kept (not (kept low)) s w columns labels source (low + 1) many (later_of pieces) (λ k a b. h k (omega arith) (omega arith)))
+    (rows_are out kept (not (kept low)) s w columns labels source (low + 1) many (drop 1 pieces) (λ k a b. h k (omega arith) (omega arith)))
 
 -- bytes that are none have no lines
 pub no_lines : (at : ℕ) (bytes : List ℕ) → length bytes ≡ 0 → P.lines_from at bytes ≡ []
@@ -143,8 +143,8 @@ bodies_are : (s : SnippetSettings) (spreads : List Spread) (kept : ℕ → Bool)
     bodies s spreads labels source pieces spans ≡ rows_of_ranges kept s labels source.bytes pieces (lines_of_groups s.context source.bytes spans)
 bodies_are s spreads kept labels source pieces [] one h = refl
 bodies_are s spreads kept labels source pieces (span ∷ spans) one h =
-    ap (λ r. r ∷ bodies s spreads labels source (later_of pieces) spans) (body_is s spreads kept labels source s.context span (first_of pieces) one h.0)
-    ∙ ap (λ r. range_rows kept s labels source.bytes (first_of pieces) (lines_in source.bytes (read s.context source.bytes span)) ∷ r) (bodies_are s spreads kept labels source (later_of pieces) spans one h.1)
+    ap (λ r. r ∷ bodies s spreads labels source (drop 1 pieces) spans) (body_is s spreads kept labels source s.context span (first_of pieces) one h.0)
+    ∙ ap (λ r. range_rows kept s labels source.bytes (first_of pieces) (lines_in source.bytes (read s.context source.bytes span)) ∷ r) (bodies_are s spreads kept labels source (drop 1 pieces) spans one h.1)
 
 -- groups where no read fails
 
@@ -161,7 +161,7 @@ same_from c source before fails (span ∷ spans) one h =
     let next : next_answer fails ≡ false = next_none fails h in
     let join : joins_before c source before span ≡ joins c source.bytes before span = joins_same c source before span one in
     by_cases {C = groups_from c source before fails (span ∷ spans) ≡ groups c source.bytes (before ∷ span ∷ spans)} (joins c source.bytes before span)
-    (λ t. rw (join, t, next) (same_from c source (joined_span before span) (later_answers fails) spans one (later_none fails h)))
+    (λ t. rw (join, t, next) (same_from c source (joined_span before span) (drop 1 fails) spans one (later_none fails h)))
     (λ f. rw (join, f) (ap (λ r. before ∷ r) (same_from c source span fails spans one h)))
 
 same_groups : (c : ℕ) (source : Source) (fails : List Bool) (spans : List Span) → 1 ≤ c → NoneFails fails → groups_answered c source fails spans ≡ groups c source.bytes spans
@@ -250,7 +250,7 @@ pub all_framed : (s : SnippetSettings) (spreads : List Spread) (source : Source)
     all_snippets s spreads source labels pieces groups ≡ framed_rows s source labels groups (bodies s spreads (drawn_labels s (length source.bytes) labels) source pieces groups)
 all_framed s spreads source labels pieces [] = refl
 all_framed s spreads source labels pieces (group ∷ groups) =
-    ap (λ r. snippet s spreads source labels group (first_of pieces) ++ r) (all_framed s spreads source labels (later_of pieces) groups)
+    ap (λ r. snippet s spreads source labels group (first_of pieces) ++ r) (all_framed s spreads source labels (drop 1 pieces) groups)
 
 put_accepted : (source : List ℕ) (label : Label) (labels : List Label) → IsAccepted source label.span → AreAccepted source labels → AreAccepted source (put_label label labels)
 put_accepted source label [] own h = (own, tt)
@@ -267,4 +267,4 @@ none_refused source fails [] h k = refl
 none_refused source fails (label ∷ labels) h k =
     let next : next_answer fails ≡ false = next_none fails h in
     let own : is_accepted source label.span ≡ true = accepted_is source label.span k.0 in
-    rw (next, own) (none_refused source (later_answers fails) labels (later_none fails h) k.1)
+    rw (next, own) (none_refused source (drop 1 fails) labels (later_none fails h) k.1)

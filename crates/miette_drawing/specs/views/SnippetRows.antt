@@ -1,12 +1,12 @@
 -- The rows of a snippet from what its read lent, where nothing is known of the source beyond.
 use Rattle.std.specs.Prelude.{ℕ, ◌+◌, ◌-◌, ◌≡◌, Bool, List, [], ◌∷◌, ◌++◌, map}
-use Rattle.std.specs.Prelude.{slice_range, Option, false}
+use Rattle.std.specs.Prelude.{slice_range, Option, false, drop}
 use Rattle.std.specs.Option.{option_map}
 use Rattle.miette_newlines.specs.rules.Lines.{Line}
 use Rattle.miette_protocol.specs.rules.Reading.{Contents}
 use Rattle.miette_highlight.specs.rules.HighlighterCalls.{Call}
 use Rattle.miette_page.specs.rules.Rows.{Row}
-use Rattle.miette_lines.specs.rules.Answers.{Highlight, first_of, later_of}
+use Rattle.miette_lines.specs.rules.Answers.{Highlight, first_of}
 use Rattle.miette_lines.specs.rules.Cells.{Cell, characters, cells_from}
 use Rattle.miette_lines.specs.rules.Contexts.{lines_of_contents}
 use Rattle.miette_drawing.specs.declared.snippet.Drawing.{Drawing}
@@ -41,7 +41,7 @@ abbrev pub lent_rows : (ℕ → Line → Bool) → Bool → SnippetSettings → 
 lent_rows out gap s w columns drawn start bytes number pieces [] = []
 lent_rows out gap s w columns drawn start bytes number pieces (line ∷ lines) =
     line_or_break gap (out number line) s w columns drawn line number (cells_in s start bytes line) (first_of pieces)
-    ++ lent_rows out (out number line) s w columns drawn start bytes (number + 1) (later_of pieces) lines
+    ++ lent_rows out (out number line) s w columns drawn start bytes (number + 1) (drop 1 pieces) lines
 
 -- the rows of a snippet, with its frame
 abbrev pub lent_snippet : SnippetSettings → List Spread → List DrawnLabel → Contents → Option Place → List (List

@@ -18,23 +18,15 @@ pub record Answers : Type 0 where
   pub place_fails : List Bool
   pub pieces : List (List (List Highlight))
 
--- whether the next read fails, and the answers after it
+-- whether the next read fails
 abbrev pub next_answer : List Bool → Bool
 next_answer [] = false
 next_answer (fails ∷ more) = fails
 
-abbrev pub later_answers : List Bool → List Bool
-later_answers [] = []
-later_answers (fails ∷ more) = more
-
--- the first of some lists of answers, empty where there is none, and those after it
+-- the first of some lists of answers, empty where there is none
 abbrev pub first_of : {X : Type 0} → List (List X) → List X
 first_of [] = []
 first_of (x ∷ more) = x
-
-abbrev pub later_of : {X : Type 0} → List (List X) → List (List X)
-later_of [] = []
-later_of (x ∷ more) = more
 
 -- no read fails
 abbrev pub NoneFails : List Bool → Type 0

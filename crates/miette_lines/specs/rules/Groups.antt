@@ -1,10 +1,10 @@
 -- Labels by offset, the first one that is refused, and the groups in which they are drawn.
 use Rattle.std.specs.Prelude.{ℕ, ◌+◌, ◌-◌, max, List, [], ◌∷◌, map, codes, Option, Some, None, Bool, false, ◌&&◌, ◌||◌}
-use Rattle.std.specs.Prelude.{if◌then◌else◌, nat_le}
+use Rattle.std.specs.Prelude.{if◌then◌else◌, nat_le, drop}
 use Rattle.std.specs.List.{AllByRecursion}
 use Rattle.miette_protocol.specs.views.Meaning.{Label}
 use Rattle.miette_protocol.specs.rules.Reading.{Span, Source, IsAccepted, is_accepted}
-use Rattle.miette_lines.specs.rules.Answers.{next_answer, later_answers}
+use Rattle.miette_lines.specs.rules.Answers.{next_answer}
 use Rattle.miette_lines.specs.rules.Around.{has_own, contents_around}
 use Rattle.miette_lines.specs.rules.Contexts.{end_of_span, contents, lines_in}
 
@@ -33,7 +33,7 @@ abbrev pub refusal : List ℕ → List Bool → List Label → Option Refusal
 refusal bytes fails [] = None
 refusal bytes fails (label ∷ labels) =
     if next_answer fails then Some (record { label = label; name = codes "IoError" })
-    else if is_accepted bytes label.span then refusal bytes (later_answers fails) labels
+    else if is_accepted bytes label.span then refusal bytes (drop 1 fails) labels
     else Some (record { label = label; name = codes "OutOfBounds" })
 
 -- every label's span is accepted
@@ -58,8 +58,8 @@ abbrev pub groups_from : ℕ → Source → Span → List Bool → List Span →
 groups_from context source before fails [] = before ∷ []
 groups_from context source before fails (span ∷ spans) =
     if joins_before context source before span then
-    (if next_answer fails then before ∷ groups_from context source span (later_answers fails) spans
-    else groups_from context source (joined_span before span) (later_answers fails) spans)
+    (if next_answer fails then before ∷ groups_from context source span (drop 1 fails) spans
+    else groups_from context source (joined_span before span) (drop 1 fails) spans)
     else before ∷ groups_from context source span fails spans
 
 -- the groups of spans by offset, each as the span that is read for it
@@ -108,7 +108,7 @@ groups_of context source fails labels =
 -- whether some read of these fails
 abbrev pub some_fails : List Bool → List Span → Bool
 some_fails fails [] = false
-some_fails fails (span ∷ spans) = next_answer fails || some_fails (later_answers fails) spans
+some_fails fails (span ∷ spans) = next_answer fails || some_fails (drop 1 fails) spans
 
 -- whether the read of some group fails: each is read again where some label has its own number
 abbrev pub groups_fail : ℕ → Source → List Bool → List Label → Bool

@@ -1,5 +1,6 @@
 -- What the rows of a line show at their columns, and what it means that a text hangs from its mark.
 use Rattle.std.specs.Prelude.{ℕ, ◌+◌, ◌<◌, ◌≡◌, ◌⊎◌, List, [], ◌∷◌, map, Some, ◌&&◌, if◌then◌else◌, nat_lt, nat_le}
+use Rattle.std.specs.Prelude.{drop}
 use Rattle.std.specs.List.{AllByRecursion}
 use Rattle.miette_page.specs.rules.Rows.{Glyph, Row, glyphs_of, glyph_of, code_at, Begins}
 use Rattle.miette_newlines.specs.rules.Lines.{Line}
@@ -10,7 +11,7 @@ use Rattle.miette_snippets.specs.rules.Marks.{Mark}
 use Rattle.miette_snippets.specs.rules.Drawing.{mark_code}
 use Rattle.miette_snippets.specs.rules.Frames.{SnippetSettings, number_width}
 use Rattle.miette_protocol.specs.rules.Reading.{Contents}
-use Rattle.miette_lines.specs.rules.Answers.{Highlight, first_of, later_of}
+use Rattle.miette_lines.specs.rules.Answers.{Highlight, first_of}
 use Rattle.miette_lines.specs.rules.Contexts.{lines_of_contents}
 use Rattle.miette_snippets.specs.rules.Gutters.{gutter_columns}
 use Rattle.miette_snippets.specs.rules.SnippetLayout.{line_rows, line_marks, line_cut, cells_of}
@@ -90,7 +91,7 @@ LinesShow s w columns labels source number pieces (line ∷ lines) =
     (line_rows s w columns labels line number (cells_of s source line) (first_of pieces))
     × ShowMarks s (text_start w columns) (marks_of_line s labels line (cells_of s source line))
     (line_rows s w columns labels line number (cells_of s source line) (first_of pieces))
-    × LinesShow s w columns labels source (number + 1) (later_of pieces) lines
+    × LinesShow s w columns labels source (number + 1) (drop 1 pieces) lines
 
 -- that of a snippet's read
 abbrev pub BodyShows : SnippetSettings → List DrawnLabel → List ℕ → Contents → List (List Highlight) → Type 0

@@ -1,6 +1,6 @@
 -- What a highlighter may have answered for the lines of snippets.
 use Rattle.std.specs.Prelude.{ℕ, ◌≡◌, ◌≢◌, true, List, [], ◌∷◌, ◌++◌, map, slice_range, encode_utf8_all, Option, Bool}
-use Rattle.std.specs.Prelude.{Some, None, is_some, if◌then◌else◌}
+use Rattle.std.specs.Prelude.{Some, None, is_some, if◌then◌else◌, drop}
 use Rattle.std.specs.Option.{option_map_or}
 use Rattle.bstr.specs.Utf8.{lossy_chars}
 use Rattle.miette_newlines.specs.rules.Lines.{Line}
@@ -8,7 +8,7 @@ use Rattle.miette_protocol.specs.views.Meaning.{Label}
 use Rattle.miette_protocol.specs.rules.Reading.{Span, Source}
 use Rattle.miette_highlight.specs.rules.HighlighterCalls.{Call, Leads, asked, listed_pieces, restarted}
 use Rattle.miette_highlight.specs.rules.Pieces.{CutsLine, Piece}
-use Rattle.miette_lines.specs.rules.Answers.{Answers, Highlight, first_of, later_of}
+use Rattle.miette_lines.specs.rules.Answers.{Answers, Highlight, first_of}
 use Rattle.miette_lines.specs.rules.Around.{group_context}
 use Rattle.miette_lines.specs.rules.Contexts.{contents, lines_of_contents}
 use Rattle.miette_lines.specs.rules.Groups.{in_order, refusal, groups_of}
@@ -38,7 +38,7 @@ pub record ArePieces (blank : Bool) (text : List ℕ) (pieces : List Highlight) 
 abbrev pub EachHasPieces : Bool → List (List ℕ) → List (List Highlight) → Type 0
 EachHasPieces blank [] pieces = Unit {0}
 EachHasPieces blank (text ∷ texts) pieces = ArePieces blank text (first_of pieces)
-    × EachHasPieces blank texts (later_of pieces)
+    × EachHasPieces blank texts (drop 1 pieces)
 
 -- the texts of a source's lines
 abbrev pub texts_of : List ℕ → List Line → List (List ℕ)
@@ -49,7 +49,7 @@ abbrev pub SnippetsHavePieces : ℕ → Bool → Source → List Span → List (
 SnippetsHavePieces context blank source [] pieces = Unit {0}
 SnippetsHavePieces context blank source (group ∷ groups) pieces =
     EachHasPieces blank (texts_of source.bytes (lines_of_contents (contents context source group))) (first_of pieces)
-    × SnippetsHavePieces context blank source groups (later_of pieces)
+    × SnippetsHavePieces context blank source groups (drop 1 pieces)
 
 -- ---- The calls on a highlighter.
 
@@ -65,7 +65,7 @@ AreCallsOn may_follow old new = λ calls. Leads (follows may_follow old) calls (
 -- it is asked for each of some texts, once and in order, and these are the pieces
 abbrev pub line_calls : List (List ℕ) → List (List Highlight) → List Call
 line_calls [] pieces = []
-line_calls (text ∷ texts) pieces = asked text (map piece_of (first_of pieces)) ∷ line_calls texts (later_of pieces)
+line_calls (text ∷ texts) pieces = asked text (map piece_of (first_of pieces)) ∷ line_calls texts (drop 1 pieces)
 
 -- for each snippet, with so many lines of context, it is restarted once with the snippet's read, and is then asked
 -- for the snippet's lines
@@ -74,7 +74,7 @@ group_calls context source [] pieces = []
 group_calls context source (group ∷ groups) pieces =
     restarted (contents context source group)
     ∷ line_calls (texts_of source.bytes (lines_of_contents (contents context source group))) (first_of pieces)
-    ++ group_calls context source groups (later_of pieces)
+    ++ group_calls context source groups (drop 1 pieces)
 
 -- the calls for the snippets of some labels; none where a label is refused
 abbrev pub snippet_calls : ℕ → Source → List Label → Answers → List Call

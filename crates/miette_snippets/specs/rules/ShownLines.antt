@@ -1,12 +1,12 @@
 -- The rows of shown lines, by their numbers in the source.
-use Rattle.std.specs.Prelude.{ℕ, zero, suc, ◌+◌, List, [], ◌∷◌, ◌++◌, map, length, decimal, Bool, false, not}
+use Rattle.std.specs.Prelude.{ℕ, zero, suc, ◌+◌, List, [], ◌∷◌, ◌++◌, map, length, decimal, Bool, false, not, drop}
 use Rattle.miette_newlines.specs.rules.Lines.{Line, lines_of}
 use Rattle.miette_protocol.specs.views.Meaning.{Label}
 use Rattle.miette_protocol.specs.rules.Reading.{Span, Source}
 use Rattle.miette_snippets.specs.rules.Numbers.{last_of}
 use Rattle.miette_page.specs.rules.Rows.{Row}
 use Rattle.miette_snippets.specs.rules.Snippets.{snippets, is_kept}
-use Rattle.miette_lines.specs.rules.Answers.{Answers, Highlight, first_of, later_of}
+use Rattle.miette_lines.specs.rules.Answers.{Answers, Highlight, first_of}
 use Rattle.miette_lines.specs.rules.Contexts.{contents}
 use Rattle.miette_lines.specs.rules.Groups.{in_order, groups_of}
 use Rattle.miette_lines.specs.rules.Labels.{DrawnLabel}
@@ -30,7 +30,7 @@ numbered_rows kept gap s w columns labels source pieces [] = []
 numbered_rows kept gap s w columns labels source pieces (k ∷ ks) =
     line_or_break gap (not (kept k)) s w columns labels (line_at (lines_of source) k) (k + 1)
     (cells_of s source (line_at (lines_of source) k)) (first_of pieces)
-    ++ numbered_rows kept (not (kept k)) s w columns labels source (later_of pieces) ks
+    ++ numbered_rows kept (not (kept k)) s w columns labels source (drop 1 pieces) ks
 
 abbrev pub range_width : List ℕ → ℕ
 range_width [] = 1
@@ -48,7 +48,7 @@ abbrev pub rows_of_ranges : (ℕ → Bool) → SnippetSettings → List DrawnLab
 rows_of_ranges kept s labels source pieces [] = []
 rows_of_ranges kept s labels source pieces (range ∷ ranges) =
     range_rows kept s labels source (first_of pieces) range
-    ∷ rows_of_ranges kept s labels source (later_of pieces) ranges
+    ∷ rows_of_ranges kept s labels source (drop 1 pieces) ranges
 
 -- the rows of each group between its frame's rows
 abbrev pub bodies : SnippetSettings → List Spread → List DrawnLabel → Source → List (List (List Highlight)) → List
@@ -56,7 +56,7 @@ abbrev pub bodies : SnippetSettings → List Spread → List DrawnLabel → Sour
 bodies s spreads labels source pieces [] = []
 bodies s spreads labels source pieces (group ∷ groups) =
     body_rows s spreads labels source.bytes (contents s.context source group) (first_of pieces)
-    ∷ bodies s spreads labels source (later_of pieces) groups
+    ∷ bodies s spreads labels source (drop 1 pieces) groups
 
 -- each body between the rows of its group's frame
 abbrev pub framed_rows : SnippetSettings → Source → List Label → List Span → List (List Row) → List Row

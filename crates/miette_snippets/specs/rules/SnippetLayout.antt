@@ -1,13 +1,13 @@
 -- The rows of a diagnostic's snippets.
 use Rattle.std.specs.Prelude.{ℕ, ◌+◌, ◌-◌, List, [], ◌∷◌, ◌++◌, map, length, slice_range, Option, Some, None, Bool}
-use Rattle.std.specs.Prelude.{false, ◌&&◌, ◌||◌, if◌then◌else◌, nat_le}
+use Rattle.std.specs.Prelude.{false, ◌&&◌, ◌||◌, if◌then◌else◌, nat_le, drop}
 use Rattle.std.specs.List.{filter}
 use Rattle.std.specs.Option.{option_map}
 use Rattle.miette_newlines.specs.rules.Lines.{Line}
 use Rattle.miette_protocol.specs.views.Meaning.{Label}
 use Rattle.miette_protocol.specs.rules.Reading.{Span, Source, Contents}
 use Rattle.miette_page.specs.rules.Rows.{Row}
-use Rattle.miette_lines.specs.rules.Answers.{Answers, Highlight, first_of, later_of}
+use Rattle.miette_lines.specs.rules.Answers.{Answers, Highlight, first_of}
 use Rattle.miette_lines.specs.rules.Around.{has_own, group_context}
 use Rattle.miette_lines.specs.rules.Contexts.{end_of_span, contents, lines_of_contents}
 use Rattle.miette_lines.specs.rules.Groups.{in_order, refusal, groups_of, some_fails, groups_fail}
@@ -83,7 +83,7 @@ abbrev pub rows_of_lines : (ℕ → Line → Bool) → Bool → SnippetSettings 
 rows_of_lines out gap s w columns labels source number pieces [] = []
 rows_of_lines out gap s w columns labels source number pieces (line ∷ lines) =
     line_or_break gap (out number line) s w columns labels line number (cells_of s source line) (first_of pieces)
-    ++ rows_of_lines out (out number line) s w columns labels source (number + 1) (later_of pieces) lines
+    ++ rows_of_lines out (out number line) s w columns labels source (number + 1) (drop 1 pieces) lines
 
 -- whether a line of a snippet with this number is left out, where so many lines stand before the snippet's
 abbrev pub left_out : SnippetSettings → ℕ → List Line → List Spread → ℕ → Line → Bool
@@ -141,7 +141,7 @@ abbrev pub all_snippets : SnippetSettings → List Spread → Source → List La
 all_snippets s spreads source labels pieces [] = []
 all_snippets s spreads source labels pieces (group ∷ groups) =
     snippet s spreads source labels group (first_of pieces)
-    ++ all_snippets s spreads source labels (later_of pieces) groups
+    ++ all_snippets s spreads source labels (drop 1 pieces) groups
 
 -- the settings with the lines of context with which the groups of these labels are read
 abbrev pub settings_around : SnippetSettings → List Label → SnippetSettings
