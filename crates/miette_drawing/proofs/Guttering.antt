@@ -10,7 +10,7 @@ use Rattle.miette_style.specs.declared.style.Style.{Style}
 use Rattle.miette_lines.specs.declared.sweep.PlacedLabel.{PlacedLabel}
 use Rattle.miette_page.specs.rules.Rows.{Row, styled_run}
 use Rattle.miette_style.specs.rules.Styles.{plain}
-use Rattle.miette_lines.specs.rules.Labels.{DrawnLabel, starts_on, ends_on, parts_of, cut_at_lf, onto_part}
+use Rattle.miette_lines.specs.rules.Labels.{DrawnLabel, starts_on, ends_on, parts_of, cut_at_lf}
 use Rattle.miette_snippets.specs.rules.Drawing.{blank}
 use Rattle.miette_snippets.specs.rules.Gutters.{number_gutter, other_gutter, open_gutter, ending_corner, arrow}
 use Rattle.miette_lines.specs.views.GivenLabels.{drawn_of}
@@ -19,6 +19,7 @@ use Rattle.miette_page.specs.views.Tokens.{Token, row_tokens, styled_tokens, tex
 use Rattle.miette_lines.proofs.Numbers.{by_cases}
 use Rattle.miette_snippets.proofs.Telling.{styled_told, styled_row, blank_row, then, run_one}
 use Rattle.miette_style.specs.rules.Themes.{Characters}
+use Rattle.miette_style.specs.rules.Lists.{onto}
 
 -- A gutter whose labels from some index on are left: none is left, or the one at the index adds runs.
 abbrev Gutter : Type 0
@@ -72,14 +73,14 @@ pub number_ends : (w : ℕ → ℕ) (t : Characters) (line : Line) (left corner 
 number_ends w t line left corner l ls s e k =
     ap (λ b. row_tokens (more_of_number w t line left l ls b)) s ∙ ap (λ b. row_tokens (unless_starts w t line left l ls b)) e ∙ arrow_row w t l (ending_corner t l.parts) left ∙ ap (λ c. arrow_told t l.style c left) (sym k)
 
-corner_onto : (t : Characters) (code : ℕ) (parts : List (List ℕ)) → t.lcross ≡ ending_corner t (onto_part code parts)
+corner_onto : (t : Characters) (code : ℕ) (parts : List (List ℕ)) → t.lcross ≡ ending_corner t (onto code parts)
 corner_onto t code [] = refl
 corner_onto t code (part ∷ parts) = refl
 
 corner_of_cut : (t : Characters) (codes : List ℕ) → t.lcross ≡ ending_corner t (cut_at_lf codes)
 corner_of_cut t [] = refl
-corner_of_cut t (c ∷ cs) = by_cases (c == 10) (λ e. ap (λ b. ending_corner t (cond b ([] ∷ cut_at_lf cs) (onto_part c (cut_at_lf cs)))) (sym e))
-    (λ e. corner_onto t c (cut_at_lf cs) ∙ ap (λ b. ending_corner t (cond b ([] ∷ cut_at_lf cs) (onto_part c (cut_at_lf cs)))) (sym e))
+corner_of_cut t (c ∷ cs) = by_cases (c == 10) (λ e. ap (λ b. ending_corner t (cond b ([] ∷ cut_at_lf cs) (onto c (cut_at_lf cs)))) (sym e))
+    (λ e. corner_onto t c (cut_at_lf cs) ∙ ap (λ b. ending_corner t (cond b ([] ∷ cut_at_lf cs) (onto c (cut_at_lf cs)))) (sym e))
 
 pub corner_of_some : (t : Characters) (text : Option (List ℕ)) (bytes : List ℕ) → text ≡ Some bytes → t.lcross ≡ ending_corner t (parts_of text)
 corner_of_some t text bytes e = corner_of_cut t (chars bytes) ∙ ap (λ x. ending_corner t (parts_of x)) (sym e)

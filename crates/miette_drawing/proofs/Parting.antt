@@ -6,8 +6,9 @@ use Rattle.std.proofs.Math.Seq.{take-append_seam, drop-append-add}
 use Rattle.std.proofs.lemmas.Bool.{and_parts}
 use Rattle.std.proofs.lemmas.List.{get_or-append-add}
 use Rattle.std.proofs.lemmas.Str.{encode_ascii, encodes-append, encodes-chars, chars-encodes, scalars-chars, IsUtf8-take, IsUtf8-drop, IsCharBoundary-before_ascii, IsCharBoundary-after_ascii}
-use Rattle.miette_lines.specs.rules.Labels.{cut_at_lf, onto_part}
+use Rattle.miette_lines.specs.rules.Labels.{cut_at_lf}
 use Rattle.miette_lines.proofs.Numbers.{by_cases}
+use Rattle.miette_style.specs.rules.Lists.{onto}
 
 -- no character is an LF
 abbrev NoLf : List ℕ → Type 0
@@ -16,11 +17,11 @@ NoLf (c ∷ cs) = (eqb c 10 ≡ false) × NoLf cs
 
 cut_none : (xs : List ℕ) → NoLf xs → cut_at_lf xs ≡ xs ∷ []
 cut_none [] h = refl
-cut_none (c ∷ xs) h = ap (λ b. cond b ([] ∷ cut_at_lf xs) (onto_part c (cut_at_lf xs))) h.0 ∙ ap (onto_part c) (cut_none xs h.1)
+cut_none (c ∷ xs) h = ap (λ b. cond b ([] ∷ cut_at_lf xs) (onto c (cut_at_lf xs))) h.0 ∙ ap (onto c) (cut_none xs h.1)
 
 cut_at : (xs ys : List ℕ) → NoLf xs → cut_at_lf (xs ++ 10 ∷ ys) ≡ xs ∷ cut_at_lf ys
 cut_at [] ys h = refl
-cut_at (c ∷ xs) ys h = ap (λ b. cond b ([] ∷ cut_at_lf (xs ++ 10 ∷ ys)) (onto_part c (cut_at_lf (xs ++ 10 ∷ ys)))) h.0 ∙ ap (onto_part c) (cut_at xs ys h.1)
+cut_at (c ∷ xs) ys h = ap (λ b. cond b ([] ∷ cut_at_lf (xs ++ 10 ∷ ys)) (onto c (cut_at_lf (xs ++ 10 ∷ ys)))) h.0 ∙ ap (onto c) (cut_at xs ys h.1)
 
 -- no byte of a text is an LF, so no character is
 no_lf_first : (c : ℕ) (cs : List ℕ) → ((i : ℕ) → i < length (encode_utf8 c ++ encode_utf8_all cs) → get_or (encode_utf8 c ++ encode_utf8_all cs) i 0 ≢ 10) → eqb c 10 ≡ true → ⊥
@@ -79,5 +80,5 @@ cut_parted text a b u e h =
 pub cut_some : (codes : List ℕ) → (first : List ℕ) × ((others : List (List ℕ)) × (cut_at_lf codes ≡ first ∷ others))
 cut_some [] = ([], ([], refl))
 cut_some (c ∷ cs) = by_cases {C = (first : List ℕ) × ((others : List (List ℕ)) × (cut_at_lf (c ∷ cs) ≡ first ∷ others))} (eqb c 10)
-    (λ e. ([], (cut_at_lf cs, ap (λ b. cond b ([] ∷ cut_at_lf cs) (onto_part c (cut_at_lf cs))) e)))
-    (λ f. let later = cut_some cs in (c ∷ later.0, (later.1.0, ap (λ b. cond b ([] ∷ cut_at_lf cs) (onto_part c (cut_at_lf cs))) f ∙ ap (onto_part c) later.1.1)))
+    (λ e. ([], (cut_at_lf cs, ap (λ b. cond b ([] ∷ cut_at_lf cs) (onto c (cut_at_lf cs))) e)))
+    (λ f. let later = cut_some cs in (c ∷ later.0, (later.1.0, ap (λ b. cond b ([] ∷ cut_at_lf cs) (onto c (cut_at_lf cs))) f ∙ ap (onto c) later.1.1)))

@@ -11,7 +11,7 @@ use Rattle.miette_style.specs.declared.style.Style.{Style}
 use Rattle.miette_cuts.specs.declared.marks.Mark.{Mark as MadeMark}
 use Rattle.miette_page.specs.rules.Rows.{glyph_of}
 use Rattle.miette_style.specs.rules.Styles.{plain}
-use Rattle.miette_lines.specs.rules.Labels.{parts_of, cut_at_lf, onto_part, is_empty}
+use Rattle.miette_lines.specs.rules.Labels.{parts_of, cut_at_lf, is_empty}
 use Rattle.miette_snippets.specs.rules.Marks.{Mark}
 use Rattle.miette_snippets.specs.rules.Drawing.{mark_code, mark_run, mark_runs, code_with_parts}
 use Rattle.miette_cuts.specs.views.Marks.{mark_of}
@@ -20,6 +20,7 @@ use Rattle.miette_snippets.proofs.Numbers.{range_with_len-append}
 use Rattle.miette_lines.proofs.Numbers.{by_cases}
 use Rattle.miette_snippets.proofs.Telling.{then, told_as, run_one, run_more, blank_told}
 use Rattle.miette_style.specs.rules.Themes.{Characters}
+use Rattle.miette_style.specs.rules.Lists.{onto}
 
 mapped_codes : (w f : ℕ → ℕ) (ks : List ℕ) → map (λ p. p.code) (map (λ k. glyph_of w (f k)) ks) ≡ map f ks
 mapped_codes w f [] = refl
@@ -80,14 +81,14 @@ mark_more w t ls marks i reached gap d row spaced new whole lt z s n h =
     ∙ ap (λ xs. row ⊕ row_tokens (mark_runs w t reached xs)) (sym (at_drop_more (map (mark_of ls)) marks i d lt)) ∙ h
 
 -- the character of a label with a text
-middle_onto : (t : Characters) (code : ℕ) (parts : List (List ℕ)) → t.underbar ≡ code_with_parts t (onto_part code parts)
+middle_onto : (t : Characters) (code : ℕ) (parts : List (List ℕ)) → t.underbar ≡ code_with_parts t (onto code parts)
 middle_onto t code [] = refl
 middle_onto t code (part ∷ parts) = refl
 
 middle_of_cut : (t : Characters) (codes : List ℕ) → t.underbar ≡ code_with_parts t (cut_at_lf codes)
 middle_of_cut t [] = refl
-middle_of_cut t (c ∷ cs) = by_cases (eqb c 10) (λ e. ap (λ b. code_with_parts t (cond b ([] ∷ cut_at_lf cs) (onto_part c (cut_at_lf cs)))) (sym e))
-    (λ e. middle_onto t c (cut_at_lf cs) ∙ ap (λ b. code_with_parts t (cond b ([] ∷ cut_at_lf cs) (onto_part c (cut_at_lf cs)))) (sym e))
+middle_of_cut t (c ∷ cs) = by_cases (eqb c 10) (λ e. ap (λ b. code_with_parts t (cond b ([] ∷ cut_at_lf cs) (onto c (cut_at_lf cs)))) (sym e))
+    (λ e. middle_onto t c (cut_at_lf cs) ∙ ap (λ b. code_with_parts t (cond b ([] ∷ cut_at_lf cs) (onto c (cut_at_lf cs)))) (sym e))
 
 pub middle_of_some : (t : Characters) (text : Option (List ℕ)) (bytes : List ℕ) → text ≡ Some bytes → t.underbar ≡ code_with_parts t (parts_of text)
 middle_of_some t text bytes e = middle_of_cut t (chars bytes) ∙ ap (λ x. code_with_parts t (parts_of x)) (sym e)

@@ -11,7 +11,7 @@ use Rattle.miette_lines.specs.rules.Contexts.{lines_of_contents}
 use Rattle.miette_lines.proofs.Numbers.{by_cases}
 use Rattle.miette_narrated.specs.rules.Labels.{LabelRange, SnippetLine}
 use Rattle.miette_narrated.specs.rules.Lines.{snippet_line, rows_of_line, rows_of_lines}
-use Rattle.miette_style.specs.rules.Codes.{is_nil}
+use Rattle.miette_style.specs.rules.Lists.{is_nil}
 
 -- The lines that are left of what a read lent, with numbers behind this one, have the rows that are left of the goal.
 pub record AreLeft (labels : List LabelRange) (lent : Contents) (before : ℕ) (rest : Rest) (out goal : List ℕ) : Type 0 where

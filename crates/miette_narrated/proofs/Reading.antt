@@ -30,7 +30,7 @@ use Rattle.miette_narrated.specs.steps.Sweeping.{BeginsFrom, AreOrdered}
 use Rattle.miette_narrated.specs.steps.AppendedParts.{AppendsSnippets}
 use Rattle.std.proofs.lemmas.List.{drop_all}
 use Rattle.std.proofs.lemmas.List.Elements.{All-tail, All-head}
-use Rattle.miette_style.specs.rules.Codes.{is_nil}
+use Rattle.miette_style.specs.rules.Lists.{is_nil}
 
 -- where a read's data end cuts a label as the source's end does
 abbrev pub Reaches : Type 0

@@ -11,11 +11,12 @@ use Rattle.bstr.specs.Utf8.{Decoded, decoded, or_replacement, pieces, pieces_fro
 use Rattle.bstr.proofs.lemmas.SoundLemmas.{SpellsChar-decoded}
 use Rattle.miette_style.specs.rules.Escapes.{is_escape}
 use Rattle.miette_style.specs.rules.Escapes.{no_escape}
+use Rattle.miette_style.specs.rules.Lists.{onto}
 use Rattle.miette_lines.specs.rules.Answers.{Highlight}
 use Rattle.miette_snippets.specs.rules.PrintedCells.{printed_glyphs, printed_cells, cells_within, cells_beyond, line_runs, text_bytes}
 use Rattle.miette_lines.specs.rules.Cells.{Character, Cell, cells_from, characters, hides_next, width_at}
 use Rattle.miette_snippet_laws.specs.laws.Clean.{IsCleanCode, IsClean, IsCleanRow}
-use Rattle.miette_lines.specs.rules.Labels.{cut_at_lf, onto_part}
+use Rattle.miette_lines.specs.rules.Labels.{cut_at_lf}
 use Rattle.miette_page.specs.rules.Rows.{Glyph, glyphs_of, glyph_of}
 use Rattle.miette_snippets.proofs.Telling.{codes_drawn}
 
@@ -77,7 +78,7 @@ clean_decimal n = clean_digits 64 n [] refl
 
 -- ---- the parts of a label's text
 
-clean_onto : (c : ℕ) (parts : List (List ℕ)) → IsCleanCode c → AllByRecursion IsClean parts → AllByRecursion IsClean (onto_part c parts)
+clean_onto : (c : ℕ) (parts : List (List ℕ)) → IsCleanCode c → AllByRecursion IsClean parts → AllByRecursion IsClean (onto c parts)
 clean_onto c [] h k = (clean_cons c [] h refl, tt)
 clean_onto c (part ∷ parts) h k = (clean_cons c part h k.0, k.1)
 
@@ -89,7 +90,7 @@ pub clean_parts : (text : List ℕ) → IsClean text → AllByRecursion IsClean 
 clean_parts [] h = (refl, tt)
 clean_parts (c ∷ text) h =
     let rest = clean_parts text (clean_rest c text h) in
-    parts_if (c == 10) ([] ∷ cut_at_lf text) (onto_part c (cut_at_lf text)) (refl, rest) (clean_onto c (cut_at_lf text) (clean_first c text h) rest)
+    parts_if (c == 10) ([] ∷ cut_at_lf text) (onto c (cut_at_lf text)) (refl, rest) (clean_onto c (cut_at_lf text) (clean_first c text h) rest)
 
 -- ---- the characters of a source
 

@@ -3,3 +3,4 @@ pub mod Styles
 pub mod Codes
 pub mod Themes
 pub mod Escapes
+pub mod Lists

@@ -2,10 +2,11 @@
 use Rattle.std.proofs.Common.{◌≡◌, ℕ, zero, suc, ◌+◌, ◌<◌, Bool, true, false, ◌&&◌, ◌==◌, nat_lt, List, [], ◌∷◌, ◌++◌, flat_map, length, take, drop, refl, sym, ap, ap₂, ◌∙◌, if◌then◌else◌, arith, drop-drop, zero-add, eqb-true}
 use Rattle.std.proofs.lemmas.Bool.Decides.{nat_tests}
 use Rattle.std.proofs.lemmas.List.{drop-map}
-use Rattle.miette_text.specs.rules.Wrapping.{Word, onto, words, is_space, is_alphanumeric, begins_alphanumeric, hyphen_parts, broken_parts, with_spaces, Cuts, narrow_parts, parts, cut_words}
+use Rattle.miette_text.specs.rules.Wrapping.{Word, words, is_space, is_alphanumeric, begins_alphanumeric, hyphen_parts, broken_parts, with_spaces, Cuts, narrow_parts, parts, cut_words}
 use Rattle.miette_runs.specs.rules.Cells.{Cell, width}
 use Rattle.miette_text.specs.steps.Ends.{codes_of, begins_word, part_len, gap_len, code_behind, hyphenated_behind, words_behind}
 use Rattle.miette_text.proofs.Ending.{letters_len, spaces_len, words-first}
+use Rattle.miette_style.specs.rules.Lists.{onto}
 
 -- ---- cuts at hyphens, and where a part is too wide, in one recursion
 

@@ -1,6 +1,6 @@
 -- The diagnostics that a report prints, each with its effective source.
 use Rattle.std.specs.Prelude.{Bool, true, ◌&&◌, if◌then◌else◌, List, [], ◌∷◌, ◌++◌, Option, Some, None}
-use Rattle.miette_style.specs.rules.Codes.{is_nil}
+use Rattle.miette_style.specs.rules.Lists.{is_nil}
 use Rattle.miette_protocol.specs.views.Meaning.{Meaning}
 use Rattle.miette_protocol.specs.rules.Reading.{Source}
 use Rattle.miette_tree.specs.rules.Tree.{effective, Tree, tree, Cause, diagnostic, texts, Trees, no_trees, more_trees}

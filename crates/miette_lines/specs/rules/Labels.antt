@@ -5,6 +5,7 @@ use Rattle.std.specs.List.{filter, list_any}
 use Rattle.miette_newlines.specs.rules.Lines.{Line}
 use Rattle.miette_protocol.specs.views.Meaning.{Label}
 use Rattle.miette_style.specs.declared.style.Style.{Style}
+use Rattle.miette_style.specs.rules.Lists.{onto}
 use Rattle.miette_style.specs.rules.Styles.{plain}
 use Rattle.miette_lines.specs.rules.Around.{lines_around}
 use Rattle.miette_lines.specs.rules.Contexts.{end_of_span}
@@ -18,14 +19,10 @@ pub record DrawnLabel : Type 0 where
   pub parts : List (List ℕ)
   pub behind : Bool
 
-abbrev pub onto_part : ℕ → List (List ℕ) → List (List ℕ)
-onto_part code [] = (code ∷ []) ∷ []
-onto_part code (part ∷ parts) = (code ∷ part) ∷ parts
-
 -- the characters of a text, cut at each LF
 abbrev pub cut_at_lf : List ℕ → List (List ℕ)
 cut_at_lf [] = [] ∷ []
-cut_at_lf (code ∷ text) = if code == 10 then [] ∷ cut_at_lf text else onto_part code (cut_at_lf text)
+cut_at_lf (code ∷ text) = if code == 10 then [] ∷ cut_at_lf text else onto code (cut_at_lf text)
 
 -- the parts of a label's text, whose bytes are given; none where it has no text
 abbrev pub parts_of : Option (List ℕ) → List (List ℕ)

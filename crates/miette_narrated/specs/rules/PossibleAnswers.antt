@@ -1,7 +1,7 @@
 -- Which answers the sources of a report can have given where it was told, where nothing is refused, and its text.
 use Rattle.std.specs.Prelude.{◌≡◌, ℕ, Bool, true, ◌&&◌, ◌||◌, List, ◌++◌, Option, Some, None}
 use Rattle.std.specs.List.{list_all}
-use Rattle.miette_style.specs.rules.Codes.{is_nil}
+use Rattle.miette_style.specs.rules.Lists.{is_nil}
 use Rattle.miette_protocol.specs.views.Meaning.{Label}
 use Rattle.miette_protocol.specs.rules.Reading.{Source, is_accepted}
 use Rattle.miette_tree.specs.rules.Tree.{Tree, tree, Trees, no_trees, more_trees, effective}

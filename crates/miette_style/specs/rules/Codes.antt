@@ -1,5 +1,5 @@
 -- The codes of colours and styles, and what begins and ends a style.
-use Rattle.std.specs.Prelude.{ℕ, Bool, true, false, if◌then◌else◌, List, [], ◌∷◌, ◌++◌, decimal, codes, Option, Some}
+use Rattle.std.specs.Prelude.{ℕ, Bool, if◌then◌else◌, List, [], ◌∷◌, ◌++◌, decimal, codes, Option, Some}
 use Rattle.std.specs.Prelude.{None}
 use Rattle.miette_style.specs.declared.style.Color.{Color}
 use Rattle.miette_style.specs.declared.style.Color.TheVariants.{Red, Green, Yellow, Blue, Magenta, Cyan, Rgb}
@@ -25,10 +25,6 @@ flag b code = if b then code ∷ [] else []
 abbrev pub style_codes : Style → List (List ℕ)
 style_codes s = foreground_codes s.fg ++ flag s.bold (codes "1") ++ flag s.dimmed (codes "2")
     ++ flag s.italic (codes "3") ++ flag s.underline (codes "4")
-
-abbrev pub is_nil : {A : Type 0} → List A → Bool
-is_nil [] = true
-is_nil (x ∷ xs) = false
 
 -- each behind a `;`
 abbrev pub behind_separators : List (List ℕ) → List ℕ

@@ -4,6 +4,7 @@ use Rattle.std.specs.Prelude.{List, [], ◌∷◌, ◌++◌, map, flat_map, sum_
 use Rattle.std.specs.Char.{is_whitespace}
 use Rattle.miette_runs.specs.rules.Sequences.{Token, Character, Sequence, tokens, spell, is_line_feed}
 use Rattle.miette_runs.specs.rules.Cells.{Cell, width, columns_of}
+use Rattle.miette_style.specs.rules.Lists.{onto}
 
 -- ---- characters with their sequences, and lines
 
@@ -69,11 +70,6 @@ with_space c (w ∷ ws) = elim w.letters [
 abbrev pub words : List Cell → List Word
 words [] = []
 words (c ∷ cs) = if is_space c.code then with_space c (words cs) else with_letter c (words cs)
-
--- The parts of what is cut: one more in front of the first, or a cut in front of it.
-abbrev pub onto : {A : Type 0} → A → List (List A) → List (List A)
-onto x [] = (x ∷ []) ∷ []
-onto x (p ∷ ps) = (x ∷ p) ∷ ps
 
 abbrev pub is_alphanumeric : ℕ → Bool
 is_alphanumeric c = (nat_le 48 c && nat_le c 57) || (nat_le 65 c && nat_le c 90) || (nat_le 97 c && nat_le c 122)
