@@ -19,6 +19,7 @@ use miette_lines::order::{Turn, by_offset};
 use miette_protocol::error::RenderError;
 use miette_protocol::protocol::{LabeledSpan, SourceOffset, SourceSpan};
 use miette_protocol::source::{MietteSpanContents, SourceCode};
+use miette_style::sums::sum;
 use miette_tree::report::SourceRef;
 use std::alloc::{AllocError, Global};
 
@@ -32,16 +33,6 @@ fn no_place() -> Place<'static>
     }
 }
 
-/// A number that counts from 1, from one that counts from 0.
-fn from_one(number: usize) -> Result<usize, AllocError>
-    ensures { IfOk result (λ next. next ≡ number + 1) }
-{
-    match number.checked_add(1) {
-        Some(next) => Ok(next),
-        None => Err(AllocError),
-    }
-}
-
 /// Where contents begin.
 fn begin_of<'a>(contents: &MietteSpanContents<'a>) -> Result<Place<'a>, AllocError>
     ensures { IfOk result (λ at. place_of at ≡ record {
@@ -49,8 +40,8 @@ fn begin_of<'a>(contents: &MietteSpanContents<'a>) -> Result<Place<'a>, AllocErr
       position = Some (record { line = contents.now.line + 1; column = contents.now.column + 1 });
     }) }
 {
-    let line = from_one(contents.line())?;
-    let column = from_one(contents.column())?;
+    let line = sum(contents.line(), 1)?;
+    let column = sum(contents.column(), 1)?;
     Ok(Place {
         name: contents.name(),
         position: Some(Position { line, column }),

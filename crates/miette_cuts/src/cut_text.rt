@@ -10,11 +10,12 @@ ghost use Rattle.miette_cuts.specs.views.Cuts.{cut_cells, is_kept};
 ghost use Rattle.miette_cuts.specs.steps.CellTokens.{cells_tokens};
 
 use crate::cells::push_cell;
-use crate::stretch::{Stretch, is_shown, sum};
+use crate::stretch::{Stretch, is_shown};
 use miette_lines::cells::Walk;
 use miette_page::canvas::Canvas;
 use miette_page::page::{PLAIN, Page};
 use miette_style::style::Style;
+use miette_style::sums::sum;
 use std::alloc::AllocError;
 
 // Of so many cells, those whose characters fill so many bytes; gives how many of them are left.

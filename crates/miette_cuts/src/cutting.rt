@@ -21,9 +21,10 @@ ghost use Rattle.miette_cuts.specs.views.LineTexts.{text_cells};
 use crate::line_text::LineText;
 use crate::marks::Mark;
 use crate::plain_cut::plain_stretches;
-use crate::stretch::{Cut, Stretch, is_shown, put_stretch, sum};
+use crate::stretch::{Cut, Stretch, is_shown, put_stretch};
 use miette_lines::cells::{Cell, Walk};
 use miette_lines::plain::all_printable;
+use miette_style::sums::sum;
 use std::alloc::{AllocError, Global};
 
 // Whether some column of a cell is at most so many columns away from this one.

@@ -17,6 +17,7 @@ use miette_lines::cells::Walk;
 use miette_lines::plain::all_printable;
 use miette_lines::sweep::PlacedLabel;
 use miette_newlines::lines::LineOfText;
+use miette_style::sums::sum;
 use std::alloc::{AllocError, Global};
 use std::marker::Model;
 
@@ -176,10 +177,7 @@ impl<'a> Columns<'a> {
         if offset <= self.text_end {
             return Ok(self.width);
         }
-        match self.width.checked_add(1) {
-            Some(column) => Ok(column),
-            None => Err(AllocError),
-        }
+        sum(self.width, 1)
     }
 
     /// The column of an offset, rounded down to a character's start. A column past the largest `usize` is refused as
@@ -247,9 +245,7 @@ fn next_mark(columns: &Columns<'_>, label: &PlacedLabel, reached: usize) -> Resu
     ensures anchored { IfOk result IsAnchored }
 {
     let from = columns.label_column(label)?.max(reached);
-    let Some(next) = from.checked_add(1) else {
-        return Err(AllocError);
-    };
+    let next = sum(from, 1)?;
     let until = if label.start == label.after {
         next
     } else {

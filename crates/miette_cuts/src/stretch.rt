@@ -4,6 +4,7 @@ ghost use Rattle.std.specs.Prelude.{◌≡◌, ◌++◌, ◌+◌, List, IfOk, On
 ghost use Rattle.miette_cuts.specs.views.Cuts.{is_kept};
 ghost use Rattle.miette_cuts.specs.steps.Cut.{grown, onto_made};
 
+use miette_style::sums::sum;
 use std::alloc::AllocError;
 
 /// A line's stretches; none where it isn't cut.
@@ -21,16 +22,6 @@ pub struct Stretch {
     pub columns: usize,
     /// The bytes that their characters have in a text.
     pub bytes: usize,
-}
-
-/// A sum, which is refused as want of memory where it is past the largest `usize`.
-pub(crate) fn sum(a: usize, b: usize) -> Result<usize, AllocError>
-    ensures { IfOk result (λ n. n ≡ a + b) }
-{
-    match a.checked_add(b) {
-        Some(n) => Ok(n),
-        None => Err(AllocError),
-    }
 }
 
 // A stretch and the one behind it, as near as the first.

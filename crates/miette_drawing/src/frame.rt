@@ -18,6 +18,7 @@ use miette_page::page::{PLAIN, Page};
 use miette_protocol::protocol::LabeledSpan;
 use miette_snippets::options::LayoutOptions;
 use miette_style::style::Style;
+use miette_style::sums::sum;
 use miette_style::theme::GraphicalTheme;
 use std::alloc::AllocError;
 
@@ -78,12 +79,8 @@ fn push_corner<O: Canvas>(page: &mut Page<O>, frame: &Frame, corner: char, many:
 fn push_place<O: Canvas>(page: &mut Page<O>, place: (usize, usize)) -> Outcome
     ensures { OnOk result (page.new ≡ page.old ⊕ text_tokens (place_text (place_at place))) }
 {
-    let Some(line) = place.0.checked_add(1) else {
-        return Err(AllocError);
-    };
-    let Some(column) = place.1.checked_add(1) else {
-        return Err(AllocError);
-    };
+    let line = sum(place.0, 1)?;
+    let column = sum(place.1, 1)?;
     page.push_number(line)?;
     page.push(':')?;
     page.push_number(column)?;

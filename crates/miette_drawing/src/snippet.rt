@@ -52,6 +52,7 @@ use miette_page::page::Page;
 use miette_protocol::protocol::LabeledSpan;
 use miette_protocol::source::MietteSpanContents;
 use miette_snippets::options::LayoutOptions;
+use miette_style::sums::sum;
 use miette_style::theme::GraphicalTheme;
 use std::alloc::{AllocError, Global};
 
@@ -101,24 +102,11 @@ fn digits(number: usize) -> usize
     buffer.format(number).len()
 }
 
-// The number of the line behind so many lines.
-fn number_behind(before: usize) -> Result<usize, AllocError>
-    ensures { IfOk result (λ number. number ≡ before + 1) }
-{
-    match before.checked_add(1) {
-        Some(number) => Ok(number),
-        None => Err(AllocError),
-    }
-}
-
 // The number of the line with this place, where so many lines stand before the first.
 fn number_of(before: usize, place: usize) -> Result<usize, AllocError>
     ensures { IfOk result (λ number. number ≡ before + place + 1) }
 {
-    match before.checked_add(place) {
-        Some(before) => number_behind(before),
-        None => Err(AllocError),
-    }
+    sum(sum(before, place)?, 1)
 }
 
 // The digits of the number of the last of so many lines, where this many stand before the first; 1 where there is none.

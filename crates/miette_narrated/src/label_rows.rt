@@ -21,6 +21,7 @@ use crate::words::push_number;
 use miette_lines::drawn_labels::text_of;
 use miette_lines::sweep::PlacedLabel;
 use miette_protocol::protocol::LabeledSpan;
+use miette_style::sums::sum;
 use std::alloc::{AllocError, Global};
 
 /// Whether a label begins on the line or behind it.
@@ -61,10 +62,7 @@ fn first_number(
     ensures { IfOk result (λ n. n ≡ first_number (shown_line it.now) label.now.start) }
 {
     let before = column(alloc, it.text, label.start.saturating_sub(it.line.start))?;
-    match before.checked_add(1) {
-        Some(number) => Ok(number),
-        None => Err(AllocError),
-    }
+    sum(before, 1)
 }
 
 /// The number of its last column; an empty label has one column.

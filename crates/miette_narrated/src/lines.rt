@@ -18,6 +18,7 @@ use crate::sweeping::{Sweep, come_to};
 use crate::words::push_number;
 use miette_newlines::lines::{LineOfText, Lines};
 use miette_protocol::source::MietteSpanContents;
+use miette_style::sums::sum;
 use std::alloc::{AllocError, Global};
 
 /// `snippet line 2:   text`
@@ -138,9 +139,7 @@ pub(crate) fn push_lines(
     let end = start + lent.data().len();
     let mut before = lent.line();
     for line in Lines::new(lent.data(), start) {
-        let Some(number) = before.checked_add(1) else {
-            return Err(AllocError);
-        };
+        let number = sum(before, 1)?;
         let it = shown_line(lent, line, number, line.end == end);
         push_shown(alloc, out, &it, order, sweep)?;
         before = number;

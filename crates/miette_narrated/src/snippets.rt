@@ -25,6 +25,7 @@ use miette_protocol::error::RenderError;
 use miette_protocol::laws::data_reach_the_span;
 use miette_protocol::protocol::LabeledSpan;
 use miette_protocol::source::{MietteSpanContents, SourceCode};
+use miette_style::sums::sum;
 use std::alloc::{AllocError, Global};
 
 /// ` for bad_file.rs`
@@ -42,10 +43,7 @@ fn push_name(out: &mut String, name: Option<&str>) -> Result<(), AllocError>
 fn push_place(out: &mut String, words: &str, before: usize) -> Result<(), AllocError>
     ensures { OnOk result (string_bytes out.new ≡ string_bytes out.old ++ (words.now ++ decimal (before + 1))) }
 {
-    match before.checked_add(1) {
-        Some(number) => push_number(out, words, number),
-        None => Err(AllocError),
-    }
+    push_number(out, words, sum(before, 1)?)
 }
 
 /// `Begin snippet for bad_file.rs starting at line 1, column 1`, and a blank row

@@ -5,18 +5,9 @@ ghost use Rattle.miette_runs.specs.rules.Cells.{columns_of, width};
 ghost use Rattle.miette_runs.specs.views.Interleaving.{interleaving};
 
 use crate::runs::RunsSlice;
+use miette_style::sums::sum;
 use std::alloc::AllocError;
 use unicode_width::UnicodeWidthChar;
-
-/// A sum; one past the largest number is no room.
-///
-/// # Errors
-/// `AllocError` where the sum is past the largest number.
-pub fn sum(a: usize, b: usize) -> Result<usize, AllocError>
-    ensures { IfOk result (λ n. n ≡ a + b) }
-{
-    a.checked_add(b).ok_or(AllocError)
-}
 
 /// How many columns a character takes.
 #[inline]

@@ -5,7 +5,8 @@ ghost use Rattle.miette_text.specs.steps.Ends.{IsFirstRow, begins_word, gap_len,
 ghost use Rattle.miette_runs.specs.steps.Cells.{code_columns};
 ghost use Rattle.miette_text.specs.rules.Wrapping.{is_alphanumeric};
 
-use miette_runs::runs::columns::{char_columns, sum};
+use miette_runs::runs::columns::char_columns;
+use miette_style::sums::sum;
 use std::alloc::AllocError;
 use std::marker::Model;
 

@@ -29,8 +29,8 @@ loop-line-preserved c =
     let told = ranges_of c.args.order.now.labels.now c.args.order.now.placed.now in
     let given = subst (λ (r : Option LineOfText). GivesLine l.line-iterator r c.next.new.self) c.in-Some.is c.next.ensures.steps in
     record {
-      left = left_more told lent l.before c.in-Some-checked_add.number l.line-iterator c.next.new.self c.in-Some.line _ (shown_line c.shown_line-it.result) (string_bytes l.out) (string_bytes c.push_shown.new.out) _ l.invariant.left
-          given.0 given.1 (search rules) (search rules) c.shown_line-it.ensures c.in_ok-push_shown.ensures.rows;
+      left = left_more told lent l.before c.in_ok-number.number l.line-iterator c.next.new.self c.in-Some.line _ (shown_line c.shown_line-it.result) (string_bytes l.out) (string_bytes c.push_shown.new.out) _ l.invariant.left
+          given.0 given.1 c.in_ok-number.ensures (search rules) c.shown_line-it.ensures c.in_ok-push_shown.ensures.rows;
       at = c.in_ok-push_shown.ensures.at;
     }
 
