@@ -1,6 +1,6 @@
 //! The stretches of a line that is cut: counts of cells, columns and bytes.
 
-ghost use Rattle.std.specs.Prelude.{◌≡◌, ◌++◌, ◌+◌, List, IfOk, OnOk};
+ghost use Rattle.std.specs.Prelude.{◌≡◌, ◌++◌, List, IfOk, OnOk};
 ghost use Rattle.miette_cuts.specs.views.Cuts.{is_kept};
 ghost use Rattle.miette_cuts.specs.steps.Cut.{grown, onto_made};
 

@@ -1,6 +1,6 @@
 //! Columns.
 
-ghost use Rattle.std.specs.Prelude.{◌≡◌, ◌+◌, IfOk};
+ghost use Rattle.std.specs.Prelude.{◌≡◌, IfOk};
 ghost use Rattle.miette_runs.specs.rules.Cells.{columns_of, width};
 ghost use Rattle.miette_runs.specs.views.Interleaving.{interleaving};
 
