@@ -3,7 +3,7 @@
 ghost use Rattle.std.specs.Prelude.{◌≡◌, ◌+◌, ◌^◌, ◌<◌, ◌≤◌, ◌&&◌, not, nat_eq, IsTrue, IfOk, false};
 ghost use Rattle.std.specs.Prelude.{length, drop, string_bytes};
 ghost use Rattle.std.specs.List.{starts_with};
-ghost use Rattle.miette_highlight.specs.rules.Patterns.{begins_within, close_end, is_among, is_escape, is_word_byte};
+ghost use Rattle.miette_highlight.specs.rules.Patterns.{begins_within, close_end, is_among, escapes_next, is_word_byte};
 ghost use Rattle.miette_highlight.specs.rules.Patterns.{inside, match_of, word_end};
 ghost use Rattle.miette_highlight.specs.rules.Tokens.{AreTokens, IsToken, first_match, running_token, token_at};
 ghost use Rattle.miette_highlight.specs.rules.Tokens.{token_of};
@@ -73,8 +73,8 @@ fn begins_within(first: u8, last: u8, text: &[u8]) -> bool
 }
 
 // Whether a byte is the escape.
-fn is_escape(escape: Option<u8>, byte: u8) -> bool
-    ensures { result ≡ is_escape escape byte }
+fn escapes_next(escape: Option<u8>, byte: u8) -> bool
+    ensures { result ≡ escapes_next escape byte }
 {
     match escape {
         Some(escape) => escape == byte,
@@ -102,7 +102,7 @@ fn close_end(delimiters: &Delimiters, start: usize, text: &[u8]) -> Option<usize
         if closes_here(delimiters, escaped, rest) {
             return Some(at + delimiters.closes.as_bytes().len());
         }
-        escaped = !escaped && is_escape(delimiters.escape, *byte);
+        escaped = !escaped && escapes_next(delimiters.escape, *byte);
         rest = tail;
         at += 1;
     }

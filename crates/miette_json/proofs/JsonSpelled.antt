@@ -11,7 +11,7 @@ use Rattle.std.proofs.lemmas.Bool.{ltb-true, ltb-false, lt-ltb, le-ltb, cases_lt
 use Rattle.std.proofs.lemmas.Bool.Decides.{eqb_tells, nat_tests}
 use Rattle.std.proofs.lemmas.Str.{encode_ascii, digit_value-digit_char}
 use Rattle.miette_json.specs.rules.Json.{Json, number, string, array, object, Items, no_items, item, Members, no_members, member, digits_within, numeral, is_escaped, escape_letter, escaped_byte, escaped_text, quoted_text, json_text, items_text, more_items_text, members_text, more_members_text}
-use Rattle.miette_json.specs.rules.Denotes.{Token, mark, text, whole, tokens_then, items_then, more_items_then, members_then, more_members_then, StringPart, plain, short, unit, short_for, IsStringPart, hex, part_text, part_value, AreStringParts, all_written, all_meant, IsDigit, AreDigits, value_after, NoLeadingZero, NoDigitNext, IsMark, IsString, IsNumber, Begins, Next, AreTokens, HasTokensOf}
+use Rattle.miette_json.specs.rules.Denotes.{Token, structural, text, whole, tokens_then, items_then, more_items_then, members_then, more_members_then, StringPart, plain, short, unit, short_for, IsStringPart, hex, part_text, part_value, AreStringParts, all_written, all_meant, IsDigit, AreDigits, value_after, NoLeadingZero, NoDigitNext, IsStructural, IsString, IsNumber, Begins, Next, AreTokens, HasTokensOf}
 
 -- ---- numbers
 
@@ -314,8 +314,8 @@ after_space [] bytes r = (inl refl, r)
 after_space (t ∷ ts) bytes r =
     (r.0, record { space = 32 ∷ r.1.space; blank = (inl refl, r.1.blank); after = r.1.after; spaced = ap (λ l. 32 ∷ l) r.1.spaced; begins = r.1.begins }, r.2)
 
-put : (x : ℕ) (ts : List Token) (bytes : List ℕ) → IsMark x → AreTokens ts bytes → AreTokens (mark x ∷ ts) (x ∷ bytes)
-put x ts bytes m r = (bytes, at_once (mark x) (x ∷ bytes) bytes (m, refl), r)
+put : (x : ℕ) (ts : List Token) (bytes : List ℕ) → IsStructural x → AreTokens ts bytes → AreTokens (structural x ∷ ts) (x ∷ bytes)
+put x ts bytes m r = (bytes, at_once (structural x) (x ∷ bytes) bytes (m, refl), r)
 
 more_items_end : (is : Items) (rest : List ℕ) → NoDigitNext (more_items_text is ++ rest)
 more_items_end no_items rest = inr (omega arith)
@@ -327,13 +327,13 @@ more_members_end (member k v more) rest = inl (omega arith)
 
 -- a key, a colon, a space and a value
 key_spelled : (k : List ℕ) (v : Json) (more : Members) (ts : List Token) (rest : List ℕ) → AreTokens (tokens_then v (more_members_then more ts)) (json_text v ++ (more_members_text more ++ rest))
-    → AreTokens (text k ∷ mark 58 ∷ tokens_then v (more_members_then more ts)) ((quoted_text k ++ (58 ∷ 32 ∷ (json_text v ++ more_members_text more))) ++ rest)
+    → AreTokens (text k ∷ structural 58 ∷ tokens_then v (more_members_then more ts)) ((quoted_text k ++ (58 ∷ 32 ∷ (json_text v ++ more_members_text more))) ++ rest)
 key_spelled k v more ts rest r =
     let us : List Token = tokens_then v (more_members_then more ts) in
     let tail : List ℕ = (json_text v ++ more_members_text more) ++ rest in
-    let colon : AreTokens (mark 58 ∷ us) (58 ∷ 32 ∷ tail) = put 58 us (32 ∷ tail) (inr (inl refl)) (after_space us tail (subst (AreTokens us) (sym (append_assoc (json_text v) (more_members_text more) rest)) r)) in
-    let key : AreTokens (text k ∷ mark 58 ∷ us) (quoted_text k ++ (58 ∷ 32 ∷ tail)) = (58 ∷ 32 ∷ tail, at_once (text k) (quoted_text k ++ (58 ∷ 32 ∷ tail)) (58 ∷ 32 ∷ tail) (string_spelled k (58 ∷ 32 ∷ tail)), colon) in
-    subst (AreTokens (text k ∷ mark 58 ∷ us)) (sym (append_assoc (quoted_text k) (58 ∷ 32 ∷ (json_text v ++ more_members_text more)) rest)) key
+    let colon : AreTokens (structural 58 ∷ us) (58 ∷ 32 ∷ tail) = put 58 us (32 ∷ tail) (inr (inl refl)) (after_space us tail (subst (AreTokens us) (sym (append_assoc (json_text v) (more_members_text more) rest)) r)) in
+    let key : AreTokens (text k ∷ structural 58 ∷ us) (quoted_text k ++ (58 ∷ 32 ∷ tail)) = (58 ∷ 32 ∷ tail, at_once (text k) (quoted_text k ++ (58 ∷ 32 ∷ tail)) (58 ∷ 32 ∷ tail) (string_spelled k (58 ∷ 32 ∷ tail)), colon) in
+    subst (AreTokens (text k ∷ structural 58 ∷ us)) (sym (append_assoc (quoted_text k) (58 ∷ 32 ∷ (json_text v ++ more_members_text more)) rest)) key
 
 mutual
   value_spelled : (v : Json) (ts : List Token) (rest : List ℕ) → NoDigitNext rest → AreTokens ts rest → AreTokens (tokens_then v ts) (json_text v ++ rest)
@@ -363,7 +363,7 @@ mutual
   more_members_spelled : (ms : Members) (ts : List Token) (rest : List ℕ) → AreTokens ts rest → AreTokens (more_members_then ms ts) (more_members_text ms ++ rest)
   more_members_spelled no_members ts rest r = put 125 ts rest (inr (inr (inr (inr (inr refl))))) r
   more_members_spelled (member k v more) ts rest r =
-      put 44 (text k ∷ mark 58 ∷ tokens_then v (more_members_then more ts)) _ (inl refl)
+      put 44 (text k ∷ structural 58 ∷ tokens_then v (more_members_then more ts)) _ (inl refl)
       (key_spelled k v more ts rest (value_spelled v (more_members_then more ts) (more_members_text more ++ rest) (more_members_end more rest) (more_members_spelled more ts rest r)))
 
 pub spelling_tokens_lem : (v : Json) → HasTokensOf (json_text v) v

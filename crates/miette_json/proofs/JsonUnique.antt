@@ -2,20 +2,20 @@
 use Rattle.std.proofs.Common.{◌≡◌, ◌≢◌, ◌⊎◌, inl, inr, ℕ, ◌+◌, ◌-◌, ◌*◌, ◌<◌, ◌≤◌, List, [], ◌∷◌, ◌++◌, get_or, refl, sym, ap, ◌∙◌, subst, arith}
 use Rattle.std.specs.Char.{encode_utf8}
 use Rattle.miette_json.specs.rules.Json.{Json, number, string, array, object, Items, no_items, item, Members, no_members, member}
-use Rattle.miette_json.specs.rules.Denotes.{Token, mark, text, whole, tokens_then, items_then, more_items_then, members_then, more_members_then, StringPart, plain, short, unit, pair, IsStringPart, hex, part_text, part_value, AreStringParts, all_written, all_meant, IsDigit, AreDigits, value_after, NoDigitNext, IsMark, IsBlank, AreBlank, IsString, IsNumber, Begins, Next, AreTokens, HasTokensOf}
+use Rattle.miette_json.specs.rules.Denotes.{Token, structural, text, whole, tokens_then, items_then, more_items_then, members_then, more_members_then, StringPart, plain, short, unit, pair, IsStringPart, hex, part_text, part_value, AreStringParts, all_written, all_meant, IsDigit, AreDigits, value_after, NoDigitNext, IsStructural, IsBlank, AreBlank, IsString, IsNumber, Begins, Next, AreTokens, HasTokensOf}
 
 -- ---- the tokens of two values
 
-first_mark : (x : ℕ) (w : Json) (ts us : List Token) → mark x ∷ ts ≡ tokens_then w us → (x ≡ 91) ⊎ (x ≡ 123)
+first_mark : (x : ℕ) (w : Json) (ts us : List Token) → structural x ∷ ts ≡ tokens_then w us → (x ≡ 91) ⊎ (x ≡ 123)
 first_mark x (number n) ts us e = cc
 first_mark x (string s) ts us e = cc
 first_mark x (array is) ts us e = inl cc
 first_mark x (object ms) ts us e = inr cc
 
-no_first : (x : ℕ) (w : Json) (ts us : List Token) → mark x ∷ ts ≡ tokens_then w us → x ≢ 91 → x ≢ 123 → ⊥
+no_first : (x : ℕ) (w : Json) (ts us : List Token) → structural x ∷ ts ≡ tokens_then w us → x ≢ 91 → x ≢ 123 → ⊥
 no_first x w ts us e f g = elim (first_mark x w ts us e) [ inl h ↦ f h | inr h ↦ g h ]
 
-marks_differ : (x y : ℕ) (ts us : List Token) → x ≢ y → mark x ∷ ts ≡ mark y ∷ us → ⊥
+marks_differ : (x y : ℕ) (ts us : List Token) → x ≢ y → structural x ∷ ts ≡ structural y ∷ us → ⊥
 marks_differ x y ts us ne e = let h : x ≡ y = cc in ne h
 
 mutual
@@ -197,7 +197,7 @@ number_one m n bytes x y f g =
 
 -- ---- one token
 
-mark_place : (x : ℕ) → IsMark x → (x ≡ 44) ⊎ (58 ≤ x)
+mark_place : (x : ℕ) → IsStructural x → (x ≡ 44) ⊎ (58 ≤ x)
 mark_place x (inl h) = inl h
 mark_place x (inr (inl h)) = inr (omega arith)
 mark_place x (inr (inr (inl h))) = inr (omega arith)
@@ -205,20 +205,20 @@ mark_place x (inr (inr (inr (inl h)))) = inr (omega arith)
 mark_place x (inr (inr (inr (inr (inl h))))) = inr (omega arith)
 mark_place x (inr (inr (inr (inr (inr h))))) = inr (omega arith)
 
-mark_no_quote : (x : ℕ) → IsMark x → x ≡ 34 → ⊥
+mark_no_quote : (x : ℕ) → IsStructural x → x ≡ 34 → ⊥
 mark_no_quote x m e = elim (mark_place x m) [ inl h ↦ omega arith | inr h ↦ omega arith ]
 
-mark_no_digit : (x d : ℕ) → IsMark x → IsDigit d → x ≡ d → ⊥
+mark_no_digit : (x d : ℕ) → IsStructural x → IsDigit d → x ≡ d → ⊥
 mark_no_digit x d m r e = elim (mark_place x m) [ inl h ↦ omega arith | inr h ↦ omega arith ]
 
 begins_one : (t u : Token) (bytes x y : List ℕ) → Begins t bytes x → Begins u bytes y → (t ≡ u) × (x ≡ y)
-begins_one (mark a) (mark b) bytes x y f g = let e : a ∷ x ≡ b ∷ y = sym f.1 ∙ g.1 in (cc, cc)
-begins_one (mark a) (text t) bytes x y f g = absurd (mark_no_quote a f.0 (heads _ _ _ _ (sym f.1 ∙ g.spelled)))
-begins_one (mark a) (whole n) bytes x y f g = absurd (mark_no_digit a g.first f.0 g.digits.0 (heads _ _ _ _ (sym f.1 ∙ g.spelled)))
-begins_one (text s) (mark b) bytes x y f g = absurd (mark_no_quote b g.0 (heads _ _ _ _ (sym g.1 ∙ f.spelled)))
+begins_one (structural a) (structural b) bytes x y f g = let e : a ∷ x ≡ b ∷ y = sym f.1 ∙ g.1 in (cc, cc)
+begins_one (structural a) (text t) bytes x y f g = absurd (mark_no_quote a f.0 (heads _ _ _ _ (sym f.1 ∙ g.spelled)))
+begins_one (structural a) (whole n) bytes x y f g = absurd (mark_no_digit a g.first f.0 g.digits.0 (heads _ _ _ _ (sym f.1 ∙ g.spelled)))
+begins_one (text s) (structural b) bytes x y f g = absurd (mark_no_quote b g.0 (heads _ _ _ _ (sym g.1 ∙ f.spelled)))
 begins_one (text s) (text t) bytes x y f g = let p = string_one s t bytes x y f g in (ap text p.0, p.1)
 begins_one (text s) (whole n) bytes x y f g = let h : 34 ≡ g.first = heads _ _ _ _ (sym f.spelled ∙ g.spelled) in let d : 48 ≤ g.first = g.digits.0.0 in let no : ⊥ = omega arith in absurd no
-begins_one (whole m) (mark b) bytes x y f g = absurd (mark_no_digit b f.first g.0 f.digits.0 (heads _ _ _ _ (sym g.1 ∙ f.spelled)))
+begins_one (whole m) (structural b) bytes x y f g = absurd (mark_no_digit b f.first g.0 f.digits.0 (heads _ _ _ _ (sym g.1 ∙ f.spelled)))
 begins_one (whole m) (text t) bytes x y f g = let h : 34 ≡ f.first = heads _ _ _ _ (sym g.spelled ∙ f.spelled) in let d : 48 ≤ f.first = f.digits.0.0 in let no : ⊥ = omega arith in absurd no
 begins_one (whole m) (whole n) bytes x y f g = let p = number_one m n bytes x y f g in (ap whole p.0, p.1)
 
@@ -230,7 +230,7 @@ Solid [] = ⊥
 Solid (c ∷ cs) = 32 < c
 
 begins_solid : (t : Token) (bytes x : List ℕ) → Begins t bytes x → Solid bytes
-begins_solid (mark a) bytes x f = subst Solid (sym f.1) (elim (mark_place a f.0) [ inl h ↦ omega arith | inr h ↦ omega arith ])
+begins_solid (structural a) bytes x f = subst Solid (sym f.1) (elim (mark_place a f.0) [ inl h ↦ omega arith | inr h ↦ omega arith ])
 begins_solid (text s) bytes x f = subst Solid (sym f.spelled) (omega arith)
 begins_solid (whole n) bytes x f = let d : 48 ≤ f.first = f.digits.0.0 in subst Solid (sym f.spelled) (omega arith)
 

@@ -7,7 +7,7 @@ use Rattle.std.proofs.lemmas.Bool.Decides.{nat_tests}
 use Rattle.std.proofs.lemmas.Str.{encode_ascii, digit_value-digit_char, IsUtf8-nil, IsUtf8-append, IsUtf8-encode, IsUtf8-take, IsUtf8-drop, IsCharBoundary-before_ascii, IsCharBoundary-after_ascii}
 use Rattle.std.proofs.lemmas.List.{take_at}
 use Rattle.miette_json.specs.rules.Json.{Json, number, string, array, object, Items, no_items, item, Members, no_members, member, numeral, is_escaped, escape_letter, escaped_byte, escaped_text, quoted_text, json_text, items_text, more_items_text, members_text, more_members_text}
-use Rattle.miette_json.specs.rules.Denotes.{Token, mark, text, whole, tokens_then, items_then, more_items_then, members_then, more_members_then, StringPart, plain, short, unit, pair, short_for, IsHex, AreHex, hex, AreStringParts, all_written, all_meant, AreDigits, IsMark, AreBlank, IsBlank, IsString, Next, AreTokens, TextsAreUtf8, HasUtf8Texts}
+use Rattle.miette_json.specs.rules.Denotes.{Token, text, whole, tokens_then, items_then, more_items_then, members_then, more_members_then, StringPart, plain, short, unit, pair, short_for, IsHex, AreHex, hex, AreStringParts, all_written, all_meant, AreDigits, AreBlank, IsBlank, IsString, Next, AreTokens, TextsAreUtf8, HasUtf8Texts, structural, IsStructural}
 use Rattle.miette_json.proofs.JsonSpelled.{letter_cases, byte_short, byte_low, byte_itself, escaped_is_ascii, number_spelled}
 
 -- ---- texts are cut at ASCII bytes
@@ -221,7 +221,7 @@ past_blank : (space rest : List ℕ) → AreBlank space → IsUtf8 (space ++ res
 past_blank [] rest b u = u
 past_blank (x ∷ space) rest b u = past_blank space rest b.1 (past x _ (blank_low x b.0) u)
 
-mark_low : (x : ℕ) → IsMark x → x < 128
+mark_low : (x : ℕ) → IsStructural x → x < 128
 mark_low x (inl h) = omega arith
 mark_low x (inr (inl h)) = omega arith
 mark_low x (inr (inr (inl h))) = omega arith
@@ -234,8 +234,8 @@ after_space t bytes rest f u = past_blank f.space f.after f.blank (subst IsUtf8 
 
 pub tokens_utf8 : (ts : List Token) (bytes : List ℕ) → IsUtf8 bytes → AreTokens ts bytes → TextsAreUtf8 ts
 tokens_utf8 [] bytes u f = tt
-tokens_utf8 (mark x ∷ ts) bytes u f =
-    let after = after_space (mark x) bytes f.0 f.1 u in
+tokens_utf8 (structural x ∷ ts) bytes u f =
+    let after = after_space (structural x) bytes f.0 f.1 u in
     tokens_utf8 ts f.0 (past x f.0 (mark_low x f.1.begins.0) (subst IsUtf8 f.1.begins.1 after)) f.2
 tokens_utf8 (text s ∷ ts) bytes u f =
     let q = string_utf8 s f.1.after f.0 f.1.begins (after_space (text s) bytes f.0 f.1 u) in

@@ -18,7 +18,7 @@ use Rattle.miette_lines.specs.declared.reading.ReadLabel.{ReadLabel}
 use Rattle.miette_lines.specs.rules.Around.{has_own, lines_around}
 use Rattle.miette_lines.specs.rules.Contexts.{contents, end_of_span}
 use Rattle.miette_lines.specs.views.GivenLabels.{label_at}
-use Rattle.miette_lines.specs.rules.Groups.{in_order, spans_of, joined_span, stretch, put_stretch, by_begin, stretches_from, joined_stretches, own_groups, groups_answered, groups_of, some_fails}
+use Rattle.miette_lines.specs.rules.Groups.{in_order, spans_of, joined_span, stretch, put_span, by_begin, stretches_from, joined_stretches, own_groups, groups_answered, groups_of, some_fails}
 use Rattle.miette_lines.specs.views.Reads.{IsRead, IsLent, AreGroups, AreGrouped}
 use Rattle.miette_lines.proofs.Sources.{IsCut, lines}
 use Rattle.miette_lines.proofs.Numbers.{by_cases}
@@ -43,15 +43,15 @@ own_nowhere labels i le h = sym (ap has_own (drop_all i labels le)) ∙ h
 abbrev pub stretches_read : List ReadLabel → List Span
 stretches_read reads = map (λ read. read.contents.span) reads
 
-put_same : (span : Span) (spans : List Span) → put (λ s. s.offset) span spans ≡ put_stretch span spans
+put_same : (span : Span) (spans : List Span) → put (λ s. s.offset) span spans ≡ put_span span spans
 put_same span [] = refl
 put_same span (next ∷ spans) =
-    by_cases {C = put (λ s. s.offset) span (next ∷ spans) ≡ put_stretch span (next ∷ spans)} (leb span.offset next.offset)
+    by_cases {C = put (λ s. s.offset) span (next ∷ spans) ≡ put_span span (next ∷ spans)} (leb span.offset next.offset)
     (λ t. rw t refl) (λ f. rw f (ap (λ r. next ∷ r) (put_same span spans)))
 
 sorted_same : (spans : List Span) → sorted (λ s. s.offset) spans ≡ by_begin spans
 sorted_same [] = refl
-sorted_same (span ∷ spans) = put_same span (sorted (λ s. s.offset) spans) ∙ ap (put_stretch span) (sorted_same spans)
+sorted_same (span ∷ spans) = put_same span (sorted (λ s. s.offset) spans) ∙ ap (put_span span) (sorted_same spans)
 
 pub sort_begins : (xs ys : List Span) → IsNonDecreasingBy (λ s. s.offset) ys → IsStableByKey (λ s. s.offset) nat_cmp xs ys → ys ≡ by_begin xs
 sort_begins xs ys up stable = sort_is (λ s. s.offset) xs ys up stable ∙ sorted_same xs
@@ -74,10 +74,10 @@ read_more source spans i groups more span lent h lt is accepted e m =
 
 -- ---- the spans of groups are accepted
 
-put_accepted : (bytes : List ℕ) (span : Span) (spans : List Span) → IsAccepted bytes span → AllByRecursion (IsAccepted bytes) spans → AllByRecursion (IsAccepted bytes) (put_stretch span spans)
+put_accepted : (bytes : List ℕ) (span : Span) (spans : List Span) → IsAccepted bytes span → AllByRecursion (IsAccepted bytes) spans → AllByRecursion (IsAccepted bytes) (put_span span spans)
 put_accepted bytes span [] own h = (own, tt)
 put_accepted bytes span (next ∷ spans) own h =
-    by_cases {C = AllByRecursion (IsAccepted bytes) (put_stretch span (next ∷ spans))} (leb span.offset next.offset)
+    by_cases {C = AllByRecursion (IsAccepted bytes) (put_span span (next ∷ spans))} (leb span.offset next.offset)
     (λ t. rw t (own, h)) (λ f. rw f (h.0, put_accepted bytes span spans own h.1))
 
 begin_accepted : (bytes : List ℕ) (spans : List Span) → AllByRecursion (IsAccepted bytes) spans → AllByRecursion (IsAccepted bytes) (by_begin spans)

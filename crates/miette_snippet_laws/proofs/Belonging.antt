@@ -10,7 +10,7 @@ use Rattle.miette_protocol.specs.rules.Reading.{Span, Source, IsAccepted}
 use Rattle.miette_lines.specs.rules.Around.{lines_around}
 use Rattle.miette_snippet_laws.specs.laws.Belonging.{holds, HasOneGroup}
 use Rattle.miette_lines.specs.rules.Contexts.{contents, end_of_span}
-use Rattle.miette_lines.specs.rules.Groups.{AreAccepted, joined_span, stretch, put_stretch, by_begin, stretches_from, joined_stretches}
+use Rattle.miette_lines.specs.rules.Groups.{AreAccepted, joined_span, stretch, put_span, by_begin, stretches_from, joined_stretches}
 use Rattle.miette_lines.proofs.Sources.{IsCut, lines, line_of, start_of}
 use Rattle.miette_lines.proofs.Numbers.{by_cases}
 use Rattle.miette_lines.proofs.Merging.{swap_or}
@@ -116,10 +116,10 @@ same_from o lent before (span ∷ spans) low high h any =
 
 -- ---- in order
 
-put_ascends : (from : ℕ) (span : Span) (spans : List Span) → from ≤ span.offset → Ascend from spans → Ascend from (put_stretch span spans)
+put_ascends : (from : ℕ) (span : Span) (spans : List Span) → from ≤ span.offset → Ascend from spans → Ascend from (put_span span spans)
 put_ascends from span [] le h = (le, tt)
 put_ascends from span (next ∷ spans) le h =
-    by_cases {C = Ascend from (put_stretch span (next ∷ spans))} (leb span.offset next.offset)
+    by_cases {C = Ascend from (put_span span (next ∷ spans))} (leb span.offset next.offset)
     (λ t. rw t (le, (leb-true span.offset next.offset t, h.1)))
     (λ f. rw f (h.0, put_ascends next.offset span spans (omega (arith, leb-false span.offset next.offset f)) h.1))
 
@@ -127,10 +127,10 @@ begin_ascends : (spans : List Span) → Ascend 0 (by_begin spans)
 begin_ascends [] = tt
 begin_ascends (span ∷ spans) = put_ascends 0 span (by_begin spans) (omega arith) (begin_ascends spans)
 
-put_any : (p : Span → Bool) (span : Span) (spans : List Span) → list_any p (put_stretch span spans) ≡ (p span || list_any p spans)
+put_any : (p : Span → Bool) (span : Span) (spans : List Span) → list_any p (put_span span spans) ≡ (p span || list_any p spans)
 put_any p span [] = refl
 put_any p span (next ∷ spans) =
-    by_cases {C = list_any p (put_stretch span (next ∷ spans)) ≡ (p span || list_any p (next ∷ spans))} (leb span.offset next.offset)
+    by_cases {C = list_any p (put_span span (next ∷ spans)) ≡ (p span || list_any p (next ∷ spans))} (leb span.offset next.offset)
     (λ t. rw t refl) (λ f. rw f (ap (λ b. p next || b) (put_any p span spans) ∙ swap_or (p next) (p span) (list_any p spans)))
 
 begin_any : (p : Span → Bool) (spans : List Span) → list_any p (by_begin spans) ≡ list_any p spans

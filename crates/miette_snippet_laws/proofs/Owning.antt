@@ -16,7 +16,7 @@ use Rattle.miette_lines.specs.rules.Contexts.{contents, lines_of_contents}
 use Rattle.miette_snippets.specs.rules.Folds.{Spread}
 use Rattle.miette_snippets.specs.rules.Frames.{SnippetSettings, width_of_lines}
 use Rattle.miette_lines.specs.rules.Groups as G
-use Rattle.miette_lines.specs.rules.Groups.{in_order, put_label, stretch, put_stretch, by_begin, stretches_from, joined_stretches, own_groups}
+use Rattle.miette_lines.specs.rules.Groups.{in_order, put_label, stretch, put_span, by_begin, stretches_from, joined_stretches, own_groups}
 use Rattle.miette_snippets.specs.rules.Gutters.{gutter_columns}
 use Rattle.miette_lines.specs.rules.Labels.{DrawnLabel}
 use Rattle.miette_snippets.specs.rules.SnippetLayout.{rows_of_lines, left_out, body_rows}
@@ -172,10 +172,10 @@ stretches_none : (context : ℕ) (source : Source) (all labels : List Label) →
 stretches_none context source all [] h none = tt
 stretches_none context source all (label ∷ labels) h none = (stretch_none context source all label h.0 none, stretches_none context source all labels h.1 none)
 
-put_nowhere : (span : Span) (spans : List Span) → span ≡ nowhere → AreNowhere spans → AreNowhere (put_stretch span spans)
+put_nowhere : (span : Span) (spans : List Span) → span ≡ nowhere → AreNowhere spans → AreNowhere (put_span span spans)
 put_nowhere span [] e h = (e, tt)
 put_nowhere span (next ∷ spans) e h =
-    by_cases {C = AreNowhere (put_stretch span (next ∷ spans))} (leb span.offset next.offset) (λ t. rw t (e, h)) (λ f. rw f (h.0, put_nowhere span spans e h.1))
+    by_cases {C = AreNowhere (put_span span (next ∷ spans))} (leb span.offset next.offset) (λ t. rw t (e, h)) (λ f. rw f (h.0, put_nowhere span spans e h.1))
 
 order_nowhere : (spans : List Span) → AreNowhere spans → AreNowhere (by_begin spans)
 order_nowhere [] h = tt
@@ -190,10 +190,10 @@ one_nowhere : (spans : List Span) → 0 < length spans → AreNowhere spans → 
 one_nowhere [] some h = absurd (omega (arith, some))
 one_nowhere (span ∷ spans) some h = from_nowhere span spans h.0 h.1
 
-put_length : (span : Span) (spans : List Span) → length (put_stretch span spans) ≡ suc (length spans)
+put_length : (span : Span) (spans : List Span) → length (put_span span spans) ≡ suc (length spans)
 put_length span [] = refl
 put_length span (next ∷ spans) =
-    by_cases {C = length (put_stretch span (next ∷ spans)) ≡ suc (suc (length spans))} (leb span.offset next.offset) (λ t. rw t refl) (λ f. rw f (ap suc (put_length span spans)))
+    by_cases {C = length (put_span span (next ∷ spans)) ≡ suc (suc (length spans))} (leb span.offset next.offset) (λ t. rw t refl) (λ f. rw f (ap suc (put_length span spans)))
 
 pub groups_nowhere : (context : ℕ) (source : Source) (labels : List Label) → 0 < length labels → Around context labels labels → length source.bytes ≡ 0 →
     own_groups context source labels ≡ nowhere ∷ []

@@ -6,7 +6,7 @@ use Rattle.std.proofs.lemmas.List.Elements.{filter_agree}
 use Rattle.std.specs.List.{range_with_len, filter, list_any, AllByRecursion}
 use Rattle.miette_newlines.specs.rules.Lines.{Line}
 use Rattle.miette_protocol.specs.rules.Reading.{Span}
-use Rattle.miette_lines.specs.rules.Groups.{joined_span, put_stretch, by_begin, stretches_from, joined_stretches}
+use Rattle.miette_lines.specs.rules.Groups.{joined_span, put_span, by_begin, stretches_from, joined_stretches}
 use Rattle.miette_snippets.specs.rules.Numbers.{ranges}
 use Rattle.miette_lines.proofs.Sources.{lines, start_of, end_of, end_of_span}
 use Rattle.miette_snippets.proofs.Numbers.{filter-none}
@@ -110,17 +110,17 @@ ordered_there all [] h = tt
 ordered_there all (b ∷ bs) h = put_there all b (blocks_by_begin bs) h.0 (ordered_there all bs h.1)
 
 put_same : (bytes : List ℕ) (b : Block) (bs : List Block) → IsBlock (length (lines bytes)) b → AreBlocks (length (lines bytes)) bs →
-    put_stretch (span_of bytes b) (map (span_of bytes) bs) ≡ map (span_of bytes) (put_block b bs)
+    put_span (span_of bytes b) (map (span_of bytes) bs) ≡ map (span_of bytes) (put_block b bs)
 put_same bytes b [] own h = refl
 put_same bytes b (next ∷ bs) own h =
     let same : leb (start_of (lines bytes) b.low) (start_of (lines bytes) next.low) ≡ leb b.low next.low = starts_same bytes b.low next.low own.there h.0.there in
-    by_cases {C = put_stretch (span_of bytes b) (map (span_of bytes) (next ∷ bs)) ≡ map (span_of bytes) (put_block b (next ∷ bs))} (leb b.low next.low)
+    by_cases {C = put_span (span_of bytes b) (map (span_of bytes) (next ∷ bs)) ≡ map (span_of bytes) (put_block b (next ∷ bs))} (leb b.low next.low)
     (λ t. rw (same, t) refl) (λ f. rw (same, f) (ap (λ r. span_of bytes next ∷ r) (put_same bytes b bs own h.1)))
 
 pub order_same : (bytes : List ℕ) (bs : List Block) → AreBlocks (length (lines bytes)) bs → by_begin (map (span_of bytes) bs) ≡ map (span_of bytes) (blocks_by_begin bs)
 order_same bytes [] h = refl
 order_same bytes (b ∷ bs) h =
-    ap (put_stretch (span_of bytes b)) (order_same bytes bs h.1) ∙ put_same bytes b (blocks_by_begin bs) h.0 (ordered_there (length (lines bytes)) bs h.1)
+    ap (put_span (span_of bytes b)) (order_same bytes bs h.1) ∙ put_same bytes b (blocks_by_begin bs) h.0 (ordered_there (length (lines bytes)) bs h.1)
 
 -- each begins where the one before it does, or later
 abbrev pub AreAscending : ℕ → List Block → Type 0

@@ -28,9 +28,9 @@ abbrev pub begins_within : ℕ → ℕ → List ℕ → Bool
 begins_within first last [] = false
 begins_within first last (b ∷ bs) = nat_le first b && nat_le b last
 
-abbrev pub is_escape : Option ℕ → ℕ → Bool
-is_escape None b = false
-is_escape (Some escape) b = escape == b
+abbrev pub escapes_next : Option ℕ → ℕ → Bool
+escapes_next None b = false
+escapes_next (Some escape) b = escape == b
 
 -- where the first closing delimiter ends that isn't escaped, the text beginning at a place, behind an escape or not
 abbrev pub close_end : Delimiters → Bool → ℕ → List ℕ → Option ℕ
@@ -38,7 +38,7 @@ close_end delimiters escaped at [] = None
 close_end delimiters escaped at (b ∷ bs) =
     if not escaped && starts_with nat_eq (b ∷ bs) (string_bytes delimiters.closes)
     then Some (at + length (string_bytes delimiters.closes))
-    else close_end delimiters (not escaped && is_escape delimiters.escape b) (at + 1) bs
+    else close_end delimiters (not escaped && escapes_next delimiters.escape b) (at + 1) bs
 
 -- up to the end that was found; else up to the line's end, and over it where delimiters may
 abbrev pub closed_at : Option ℕ → ℕ → Bool → ℕ × Bool

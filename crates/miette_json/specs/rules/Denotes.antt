@@ -7,7 +7,7 @@ use Rattle.miette_json.specs.rules.Json.{Json, number, string, array, object, It
 use Rattle.miette_json.specs.rules.Json.{no_members, member}
 
 pub data Token : Type 0 where
-  mark : ℕ → Token
+  structural : ℕ → Token
   text : List ℕ → Token
   whole : ℕ → Token
 
@@ -16,24 +16,25 @@ abbrev mutual
   pub tokens_then : Json → List Token → List Token
   tokens_then (number n) ts = whole n ∷ ts
   tokens_then (string s) ts = text s ∷ ts
-  tokens_then (array is) ts = mark 91 ∷ items_then is ts
-  tokens_then (object ms) ts = mark 123 ∷ members_then ms ts
+  tokens_then (array is) ts = structural 91 ∷ items_then is ts
+  tokens_then (object ms) ts = structural 123 ∷ members_then ms ts
 
   pub items_then : Items → List Token → List Token
-  items_then no_items ts = mark 93 ∷ ts
+  items_then no_items ts = structural 93 ∷ ts
   items_then (item v more) ts = tokens_then v (more_items_then more ts)
 
   pub more_items_then : Items → List Token → List Token
-  more_items_then no_items ts = mark 93 ∷ ts
-  more_items_then (item v more) ts = mark 44 ∷ tokens_then v (more_items_then more ts)
+  more_items_then no_items ts = structural 93 ∷ ts
+  more_items_then (item v more) ts = structural 44 ∷ tokens_then v (more_items_then more ts)
 
   pub members_then : Members → List Token → List Token
-  members_then no_members ts = mark 125 ∷ ts
-  members_then (member k v more) ts = text k ∷ mark 58 ∷ tokens_then v (more_members_then more ts)
+  members_then no_members ts = structural 125 ∷ ts
+  members_then (member k v more) ts = text k ∷ structural 58 ∷ tokens_then v (more_members_then more ts)
 
   pub more_members_then : Members → List Token → List Token
-  more_members_then no_members ts = mark 125 ∷ ts
-  more_members_then (member k v more) ts = mark 44 ∷ text k ∷ mark 58 ∷ tokens_then v (more_members_then more ts)
+  more_members_then no_members ts = structural 125 ∷ ts
+  more_members_then (member k v more) ts =
+      structural 44 ∷ text k ∷ structural 58 ∷ tokens_then v (more_members_then more ts)
 
 -- ---- the characters of a string
 
@@ -121,8 +122,9 @@ NoDigitNext (x ∷ xs) = (x < 48) ⊎ (57 < x)
 
 -- ---- tokens
 
-abbrev pub IsMark : ℕ → Type 0
-IsMark x = (x ≡ 44) ⊎ ((x ≡ 58) ⊎ ((x ≡ 91) ⊎ ((x ≡ 93) ⊎ ((x ≡ 123) ⊎ (x ≡ 125)))))
+-- a structural character: `,` `:` `[` `]` `{` or `}`
+abbrev pub IsStructural : ℕ → Type 0
+IsStructural x = (x ≡ 44) ⊎ ((x ≡ 58) ⊎ ((x ≡ 91) ⊎ ((x ≡ 93) ⊎ ((x ≡ 123) ⊎ (x ≡ 125)))))
 
 abbrev pub IsBlank : ℕ → Type 0
 IsBlank x = (x ≡ 32) ⊎ ((x ≡ 9) ⊎ ((x ≡ 10) ⊎ (x ≡ 13)))
@@ -148,7 +150,7 @@ pub record IsNumber (n : ℕ) (bytes rest : List ℕ) : Type 0 where
 
 -- the bytes are the token, and then the rest
 abbrev pub Begins : Token → List ℕ → List ℕ → Type 0
-Begins (mark x) bytes rest = IsMark x × (bytes ≡ x ∷ rest)
+Begins (structural x) bytes rest = IsStructural x × (bytes ≡ x ∷ rest)
 Begins (text s) bytes rest = IsString s bytes rest
 Begins (whole n) bytes rest = IsNumber n bytes rest
 
@@ -177,7 +179,7 @@ Denotes bytes v = IsUtf8 bytes × HasTokensOf bytes v
 
 abbrev pub TextsAreUtf8 : List Token → Type 0
 TextsAreUtf8 [] = ⊤
-TextsAreUtf8 (mark x ∷ ts) = TextsAreUtf8 ts
+TextsAreUtf8 (structural x ∷ ts) = TextsAreUtf8 ts
 TextsAreUtf8 (text s ∷ ts) = IsUtf8 s × TextsAreUtf8 ts
 TextsAreUtf8 (whole n ∷ ts) = TextsAreUtf8 ts
 

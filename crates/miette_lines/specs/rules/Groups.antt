@@ -74,15 +74,15 @@ abbrev pub stretch : ℕ → Source → List Label → Label → Span
 stretch context source labels label = (contents_around context source labels label).span
 
 -- a stretch comes before the first one that doesn't begin before it
-abbrev pub put_stretch : Span → List Span → List Span
-put_stretch span [] = span ∷ []
-put_stretch span (next ∷ spans) = if nat_le span.offset next.offset then span ∷ next ∷ spans
-    else next ∷ put_stretch span spans
+abbrev pub put_span : Span → List Span → List Span
+put_span span [] = span ∷ []
+put_span span (next ∷ spans) = if nat_le span.offset next.offset then span ∷ next ∷ spans
+    else next ∷ put_span span spans
 
 -- stretches by where they begin, ties as given
 abbrev pub by_begin : List Span → List Span
 by_begin [] = []
-by_begin (span ∷ spans) = put_stretch span (by_begin spans)
+by_begin (span ∷ spans) = put_span span (by_begin spans)
 
 -- a stretch is joined to those before it where it begins at or before their end
 abbrev pub stretches_from : Span → List Span → List Span
