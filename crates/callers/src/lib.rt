@@ -2,6 +2,6 @@
 //! of one report, what a message in front keeps, and an error on its way up. `report_tests` runs them.
 #![tactic(auto)]
 
+pub mod boxes;
 pub mod clauses;
 pub mod load;
-pub mod told;

@@ -7,6 +7,8 @@
 #![tactic(auto)]
 
 mod diagnostics;
+mod examples;
+mod fixtures;
 mod handlers;
 mod highlighters;
 mod labels;
@@ -19,8 +21,6 @@ mod stopping;
 mod stops;
 mod texts;
 mod themes;
-mod worked;
-mod written;
 
 use crate::rows::{Done, Stop, end_row};
 use miette::terminal::Streams;
@@ -73,7 +73,7 @@ fn worked_rows<R: AllocGlobal + Streams>(rt: &R, kind: &str, name: &str, handler
     if kind != "report" {
         return Err(Stop::Usage);
     }
-    worked::rows_of(rt.alloc(), &mut rt.output(), name, handler)
+    examples::rows_of(rt.alloc(), &mut rt.output(), name, handler)
 }
 
 /// What the calls of a module are about.

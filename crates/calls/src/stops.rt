@@ -2,8 +2,8 @@
 
 use crate::rows::{Done, Stop, end_row};
 use crate::stopping::{Reads, Stopping};
-use crate::worked::rendered;
-use crate::written::{M, Made, Written, beside_one, over, report_of, stopping_report};
+use crate::examples::rendered;
+use crate::fixtures::{M, Made, Written, beside_one, over, report_of, stopping_report};
 use std::alloc::{AllocError, Global};
 use std::cell::Cell;
 use std::io::Write;

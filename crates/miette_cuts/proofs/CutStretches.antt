@@ -15,7 +15,7 @@ use Rattle.miette_snippets.proofs.CutColumns.{AreColumns, columns_in-append, sho
 use Rattle.miette_cuts.specs.declared.stretch.Stretch.{Stretch as MadeStretch}
 use Rattle.miette_cuts.specs.declared.marks.Mark.{Mark as MadeMark}
 use Rattle.miette_cuts.specs.views.Cuts.{measure, is_kept}
-use Rattle.miette_cuts.specs.steps.Cut.{lone, grown, onto_made, kept_columns, made_column, made_mark}
+use Rattle.miette_cuts.specs.steps.Cut.{lone, grown_stretch, onto_made, kept_columns, made_column, made_mark}
 use Rattle.miette_cuts.specs.views.Marks.{mark_of, IsAnchored}
 
 -- ---- stretches and their counts
@@ -40,7 +40,7 @@ measure-onto s (next ∷ later) =
     (λ y. rw (y, length-append s.cells next.cells, columns_in-append s.cells next.cells, bytes_in-append s.cells next.cells) refl)
     (λ n. rw n refl)
 
-grown-assoc : (a b c : MadeStretch) → grown a (grown b c) ≡ grown (grown a b) c
+grown-assoc : (a b c : MadeStretch) → grown_stretch a (grown_stretch b c) ≡ grown_stretch (grown_stretch a b) c
 grown-assoc a b c =
     let cells : a.cells + (b.cells + c.cells) ≡ a.cells + b.cells + c.cells = omega arith in
     let columns : a.columns + (b.columns + c.columns) ≡ a.columns + b.columns + c.columns = omega arith in
@@ -55,11 +55,11 @@ agree-through true false c h = absurd (cc)
 agree-through false true c h = absurd (cc)
 agree-through false false c h = refl
 
-pub onto-same : (a b : MadeStretch) (ss : List MadeStretch) → agree a.near b.near ≡ true → onto_made a (onto_made b ss) ≡ onto_made (grown a b) ss
+pub onto-same : (a b : MadeStretch) (ss : List MadeStretch) → agree a.near b.near ≡ true → onto_made a (onto_made b ss) ≡ onto_made (grown_stretch a b) ss
 onto-same a b [] h = rw h refl
 onto-same a b (n ∷ later) h =
     let through : agree a.near n.near ≡ agree b.near n.near = agree-through a.near b.near n.near h in
-    by_cases {C = onto_made a (onto_made b (n ∷ later)) ≡ onto_made (grown a b) (n ∷ later)} (agree b.near n.near)
+    by_cases {C = onto_made a (onto_made b (n ∷ later)) ≡ onto_made (grown_stretch a b) (n ∷ later)} (agree b.near n.near)
     (λ y. let own : agree a.near n.near ≡ true = through ∙ y in rw (y, own, h) (ap (λ s. s ∷ later) (grown-assoc a b n)))
     (λ f. let own : agree a.near n.near ≡ false = through ∙ f in rw (f, own, h) refl)
 
@@ -93,7 +93,7 @@ agree-unequal false true h = refl
 agree-unequal false false h = absurd (cc)
 
 -- a stretch more, into which the last one goes on or doesn't
-pub put_same : (made whole : List MadeStretch) (reached next both : MadeStretch) (rest : List MadeStretch) → beq next.near reached.near ≡ true → both ≡ grown reached next → whole ≡ made →
+pub put_same : (made whole : List MadeStretch) (reached next both : MadeStretch) (rest : List MadeStretch) → beq next.near reached.near ≡ true → both ≡ grown_stretch reached next → whole ≡ made →
     whole ++ onto_made both rest ≡ made ++ onto_made reached (onto_made next rest)
 put_same made whole reached next both rest same b w =
     ap (λ xs. xs ++ onto_made both rest) w ∙ ap (λ (s : MadeStretch). made ++ onto_made s rest) b

@@ -7,6 +7,6 @@ pub mod cutting;
 pub mod line_text;
 pub mod marks;
 mod plain_cut;
-pub mod shown;
+pub mod printing;
 pub mod stretch;
 mod tabs;

@@ -2,7 +2,7 @@
 
 ghost use Rattle.std.specs.Prelude.{◌≡◌, ◌++◌, List, IfOk, OnOk};
 ghost use Rattle.miette_cuts.specs.views.Cuts.{is_kept};
-ghost use Rattle.miette_cuts.specs.steps.Cut.{grown, onto_made};
+ghost use Rattle.miette_cuts.specs.steps.Cut.{grown_stretch, onto_made};
 
 use miette_style::sums::sum;
 use std::alloc::AllocError;
@@ -26,7 +26,7 @@ pub struct Stretch {
 
 // A stretch and the one behind it, as near as the first.
 fn grown_stretch(first: &Stretch, next: &Stretch) -> Result<Stretch, AllocError>
-    ensures { IfOk result (λ both. both ≡ grown first.now next.now) }
+    ensures { IfOk result (λ both. both ≡ grown_stretch first.now next.now) }
 {
     Ok(Stretch {
         near: first.near,

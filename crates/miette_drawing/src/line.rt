@@ -26,7 +26,7 @@ use crate::texts::{push_before_marks, push_texts};
 use miette_cuts::cutting::{cut_around, marks_shown};
 use miette_cuts::line_text::LineText;
 use miette_cuts::marks::{Mark, marks_on};
-use miette_cuts::shown::push_shown_text;
+use miette_cuts::printing::push_shown_text;
 use miette_cuts::stretch::Cut;
 use miette_page::canvas::Canvas;
 use miette_page::page::{PLAIN, Page};

@@ -1,7 +1,7 @@
 //! Themes of a user's own: a bar that is a space, above line feeds at the end of an inner report, and no style for
 //! labels.
 
-use crate::drawn::draws;
+use crate::renderings::draws;
 use crate::highlighting::labelled;
 use miette::handlers::GraphicalReportHandler;
 use miette::report::Report;

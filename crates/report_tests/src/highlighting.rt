@@ -1,6 +1,6 @@
 //! Reports whose source lines a highlighter styles.
 
-use crate::drawn::draws;
+use crate::renderings::draws;
 use miette::diagnostic::MietteDiagnostic;
 use miette::handlers::GraphicalReportHandler;
 use miette::highlight::{BlankHighlighter, Highlighter};

@@ -8,7 +8,7 @@ mod comparing;
 #[cfg(test)]
 mod contexts;
 #[cfg(test)]
-mod drawn;
+mod renderings;
 #[cfg(test)]
 mod drops;
 #[cfg(test)]

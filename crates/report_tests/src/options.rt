@@ -1,7 +1,7 @@
 //! What options and a terminal choose. The words of `job` try each option; here stand the calls that it doesn't make.
 
 use crate::comparing::gives;
-use crate::drawn::given;
+use crate::renderings::given;
 use crate::highlighting::{FirstRed, PLAIN, labelled};
 use miette::error::RenderError;
 use miette::handlers::{BriefReportHandler, DebugReportHandler, GraphicalReportHandler};

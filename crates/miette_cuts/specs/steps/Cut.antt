@@ -22,8 +22,8 @@ abbrev pub cell_at : ℕ → Cell
 cell_at column = record { code = 32; start = 0; after = 1; from = column; until = column + 1 }
 
 -- a stretch with the one behind it
-abbrev pub grown : MadeStretch → MadeStretch → MadeStretch
-grown s next = record {
+abbrev pub grown_stretch : MadeStretch → MadeStretch → MadeStretch
+grown_stretch s next = record {
   near = s.near;
   cells = s.cells + next.cells;
   columns = s.columns + next.columns;
@@ -32,7 +32,7 @@ grown s next = record {
 
 abbrev pub onto_made : MadeStretch → List MadeStretch → List MadeStretch
 onto_made s [] = s ∷ []
-onto_made s (next ∷ later) = if agree s.near next.near then grown s next ∷ later else s ∷ next ∷ later
+onto_made s (next ∷ later) = if agree s.near next.near then grown_stretch s next ∷ later else s ∷ next ∷ later
 
 abbrev pub kept_columns : MadeStretch → ℕ
 kept_columns s = if is_kept s then s.columns else 3

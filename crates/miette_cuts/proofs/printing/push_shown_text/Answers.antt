@@ -6,7 +6,7 @@ use Rattle.miette_cuts.specs.views.Cuts.{made_runs}
 use Rattle.miette_cuts.specs.steps.Cut.{plain_told}
 use Rattle.miette_cuts.specs.views.LineTexts.{text_cells}
 use Rattle.miette_cuts.proofs.CutPlain.{plain_cut_put}
-use Rattle.miette_cuts.proofs.shown.push_shown_text.Goals as goal
+use Rattle.miette_cuts.proofs.printing.push_shown_text.Goals as goal
 
 pub push_plain_cut-requires : goal.push_plain_cut-requires
 push_plain_cut-requires g c = sym c.all_printable.ensures ∙ c.if-all_printable.true

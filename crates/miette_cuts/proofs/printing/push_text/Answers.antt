@@ -1,7 +1,7 @@
 use Rattle.std.proofs.Common.{eqb-true, sym, ◌∙◌}
 use Rattle.miette_cuts.proofs.Untabbing.{untabbed_put}
 use Rattle.miette_cuts.proofs.Tabbing.{tabbed_put, tabbed_ascii}
-use Rattle.miette_cuts.proofs.shown.push_text.Goals as goal
+use Rattle.miette_cuts.proofs.printing.push_text.Goals as goal
 
 pub returns-in-Some : goal.returns-in-Some
 returns-in-Some g c =

@@ -1,6 +1,6 @@
 use Rattle.miette_cuts.proofs.CellPrints.{piece_end, piece_more}
 use Rattle.std.proofs.Common.{refl}
-use Rattle.miette_cuts.proofs.shown.push_line_text.Goals as goal
+use Rattle.miette_cuts.proofs.printing.push_line_text.Goals as goal
 
 pub loop-piece-preserved : goal.loop-piece-preserved
 loop-piece-preserved g c =

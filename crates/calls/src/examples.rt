@@ -4,7 +4,7 @@ use crate::rows::{Done, appended, end_row, given};
 use crate::sources::README;
 use crate::stopping::{Reads, Red, Stopping};
 use crate::themes::terminal;
-use crate::written::{
+use crate::fixtures::{
     M, Made, Written, beside, beside_one, over, report_of, stopping_report, told_why,
 };
 use miette::handlers::{
