@@ -8,7 +8,7 @@ use Rattle.miette_style.specs.rules.Themes.{ansi_styles, no_styles, unicode_char
 use Rattle.miette_snippets.specs.rules.Marks.{Mark}
 use Rattle.miette_snippets.specs.rules.Numbers.{ranges}
 use Rattle.miette_graphical.specs.rules.Settings.{Settings, default_settings}
-use Rattle.miette_graphical.specs.laws.Headline.{AreOwnMarks, ShowsRuns, SnippetHangs, groups_of, marks_under}
+use Rattle.miette_graphical.specs.laws.Headline.{AreOwnMarks, ShowsRanges, SnippetHangs, groups_of, marks_under}
 use Rattle.miette_graphical.specs.laws.Headline.{shown_lines}
 use Rattle.std.specs.List.{AllByRecursion}
 
@@ -42,7 +42,7 @@ plain = default_settings unicode_characters no_styles
 -- the lines 0 and 1, in one frame
 pub record ShowsBothLines (s : Settings) : Type 0 where
   pub lines : ranges (shown_lines s settings_file (name_label ∷ [])) ≡ (0 ∷ 1 ∷ []) ∷ []
-  pub shown : ShowsRuns s settings_file (name_label ∷ [])
+  pub shown : ShowsRanges s settings_file (name_label ∷ [])
 
 -- the columns that a mark has
 abbrev pub columns_of : Mark → List ℕ

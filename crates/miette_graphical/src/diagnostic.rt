@@ -11,7 +11,7 @@ ghost use Rattle.miette_style.specs.rules.Lists.{is_nil};
 
 use crate::header::{push_header, severity_title};
 use crate::indents::{Branch, push_message, push_text_under_arrow};
-use crate::settings::{Layout, severity_style};
+use crate::settings::{Settings, severity_style};
 use miette_protocol::protocol::{Diagnostic, Severity};
 use miette_protocol::source::SourceCode;
 use miette_text::runs::output::Output;
@@ -20,18 +20,18 @@ use std::alloc::{AllocError, Global};
 
 /// Appends a report's header, and says whether there is one.
 pub fn push_header_of<D: Diagnostic, S: SourceCode>(
-    layout: Layout<'_>,
+    settings: Settings<'_>,
     report: &Report<D, S>,
     out: &mut Output,
 ) -> Result<bool, AllocError>
     ensures text { OnOk result (out.new ≡ out.old
-        ++ runs.print (parts.header (settings_of layout.entry) (head (tree_of D.meaning S.source report.now)))) }
+        ++ runs.print (parts.header (settings_of settings.entry) (head (tree_of D.meaning S.source report.now)))) }
     ensures shown { IfOk result (λ shown. shown
-        ≡ not (is_nil (parts.header (settings_of layout.entry) (head (tree_of D.meaning S.source report.now))))) }
+        ≡ not (is_nil (parts.header (settings_of settings.entry) (head (tree_of D.meaning S.source report.now))))) }
 {
     push_header(
-        layout,
-        severity_style(layout, report.severity()),
+        settings,
+        severity_style(settings, report.severity()),
         report.url(),
         report.code(),
         out,
@@ -41,28 +41,28 @@ pub fn push_header_of<D: Diagnostic, S: SourceCode>(
 /// Appends a report's message behind its icon.
 pub fn push_message_of<D: Diagnostic, S: SourceCode>(
     alloc: Global,
-    layout: Layout<'_>,
+    settings: Settings<'_>,
     report: &Report<D, S>,
     out: &mut Output,
 ) -> Result<(), AllocError>
-    ensures { OnOk result (out.new ≡ out.old ++ parts.message_text (settings_of layout.entry)
+    ensures { OnOk result (out.new ≡ out.old ++ parts.message_text (settings_of settings.entry)
         (head (tree_of D.meaning S.source report.now))) }
 {
-    push_message(alloc, layout, report.severity(), report.message(), out)
+    push_message(alloc, settings, report.severity(), report.message(), out)
 }
 
 /// Appends what a sibling begins with: its severity, and its header or else the end of the row.
 pub fn push_title<D: Diagnostic, S: SourceCode>(
-    layout: Layout<'_>,
+    settings: Settings<'_>,
     report: &Report<D, S>,
     out: &mut Output,
 ) -> Result<(), AllocError>
-    ensures { OnOk result (out.new ≡ out.old ++ parts.title_text (settings_of layout.entry)
+    ensures { OnOk result (out.new ≡ out.old ++ parts.title_text (settings_of settings.entry)
         (head (tree_of D.meaning S.source report.now))) }
 {
     out.push('\n')?;
     out.push_str(severity_title(report.severity()))?;
-    if !push_header_of(layout, report, out)? {
+    if !push_header_of(settings, report, out)? {
         out.push('\n')?;
     }
     Ok(())
@@ -81,12 +81,12 @@ pub fn is_nil(list: &[String]) -> bool
 /// Appends causes that are texts, each under its arrow.
 pub fn push_cause_texts(
     alloc: Global,
-    layout: Layout<'_>,
+    settings: Settings<'_>,
     outer: Option<Severity>,
     list: &[String],
     out: &mut Output,
 ) -> Result<(), AllocError>
-    ensures { OnOk result (out.new ≡ out.old ++ texts.cause_texts (settings_of layout.entry) outer
+    ensures { OnOk result (out.new ≡ out.old ++ texts.cause_texts (settings_of settings.entry) outer
         (map string_bytes list.now)) }
 {
     let mut rest = list;
@@ -95,7 +95,7 @@ pub fn push_cause_texts(
             outer,
             is_last: is_nil(more),
         };
-        push_text_under_arrow(alloc, layout, branch, text.as_str(), out)?;
+        push_text_under_arrow(alloc, settings, branch, text.as_str(), out)?;
         rest = more;
     }
     Ok(())

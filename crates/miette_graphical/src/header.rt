@@ -8,7 +8,7 @@ ghost use Rattle.miette_graphical.specs.views.Modes.{urls_of};
 ghost use Rattle.miette_graphical.specs.steps.SettingsView.{settings_of};
 ghost use Rattle.miette_tree.specs.rules.DiagnosticParts.{severity_title};
 
-use crate::settings::{Layout, UrlMode};
+use crate::settings::{Settings, UrlMode};
 use miette_page::page::PLAIN;
 use miette_protocol::protocol::Severity;
 use miette_style::style::Style;
@@ -37,35 +37,35 @@ fn push_linked_code(style: Style, code: &str, out: &mut Output) -> Result<(), Al
 }
 
 fn push_link_header(
-    layout: Layout<'_>,
+    settings: Settings<'_>,
     style: Style,
     url: &str,
     code: Option<&str>,
     out: &mut Output,
 ) -> Result<(), AllocError>
     ensures { OnOk result (out.new ≡ out.old ++ print
-        (parts.link_header (settings_of layout.entry) style url.now (option_map (λ t. t.now) code.entry))) }
+        (parts.link_header (settings_of settings.entry) style url.now (option_map (λ t. t.now) code.entry))) }
 {
     out.push_link(url)?;
     if let Some(code) = code {
         push_linked_code(style, code, out)?;
     }
-    out.push_run(layout.theme.styles.link, layout.link_text)?;
+    out.push_run(settings.theme.styles.link, settings.link_text)?;
     out.push_link_end()?;
     push_blank_row(out)
 }
 
 /// Appends a url in parentheses.
-fn push_url_behind(layout: Layout<'_>, url: &str, out: &mut Output) -> Result<(), AllocError>
-    ensures { OnOk result (out.new ≡ out.old ++ print (parts.url_behind (settings_of layout.entry) (Some url.now))) }
+fn push_url_behind(settings: Settings<'_>, url: &str, out: &mut Output) -> Result<(), AllocError>
+    ensures { OnOk result (out.new ≡ out.old ++ print (parts.url_behind (settings_of settings.entry) (Some url.now))) }
 {
     out.push_chars(&[' ', '('])?;
-    out.push_run(layout.theme.styles.link, url)?;
+    out.push_run(settings.theme.styles.link, url)?;
     out.push(')')
 }
 
 fn push_code_header(
-    layout: Layout<'_>,
+    settings: Settings<'_>,
     style: Style,
     url: Option<&str>,
     code: &str,
@@ -73,34 +73,34 @@ fn push_code_header(
 ) -> Result<(), AllocError>
     ensures { OnOk result (out.new ≡ out.old ++ print
         (parts.code_header style (Some code.now)
-        (parts.url_behind (settings_of layout.entry) (option_map (λ t. t.now) url.entry)))) }
+        (parts.url_behind (settings_of settings.entry) (option_map (λ t. t.now) url.entry)))) }
 {
     out.push_run(style, code)?;
     if let Some(url) = url {
-        push_url_behind(layout, url, out)?;
+        push_url_behind(settings, url, out)?;
     }
     push_blank_row(out)
 }
 
 /// Appends a header, and says whether there is one.
 pub fn push_header(
-    layout: Layout<'_>,
+    settings: Settings<'_>,
     style: Style,
     url: Option<&str>,
     code: Option<&str>,
     out: &mut Output,
 ) -> Result<bool, AllocError>
     ensures text { OnOk result (out.new ≡ out.old
-        ++ print (parts.header_by (urls_of layout.entry.urls) (settings_of layout.entry) style
+        ++ print (parts.header_by (urls_of settings.entry.urls) (settings_of settings.entry) style
         (option_map (λ t. t.now) url.entry) (option_map (λ t. t.now) code.entry))) }
     ensures shown { IfOk result (λ shown. shown
-        ≡ not (is_nil (parts.header_by (urls_of layout.entry.urls) (settings_of layout.entry) style
+        ≡ not (is_nil (parts.header_by (urls_of settings.entry.urls) (settings_of settings.entry) style
         (option_map (λ t. t.now) url.entry) (option_map (λ t. t.now) code.entry)))) }
 {
-    let behind = match layout.urls {
+    let behind = match settings.urls {
         UrlMode::Links => {
             if let Some(url) = url {
-                push_link_header(layout, style, url, code, out)?;
+                push_link_header(settings, style, url, code, out)?;
                 return Ok(true);
             }
             None
@@ -111,7 +111,7 @@ pub fn push_header(
     let Some(code) = code else {
         return Ok(false);
     };
-    push_code_header(layout, style, behind, code, out)?;
+    push_code_header(settings, style, behind, code, out)?;
     Ok(true)
 }
 

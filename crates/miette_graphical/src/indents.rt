@@ -11,7 +11,7 @@ ghost use Rattle.miette_runs.specs.rules.Runs.{print};
 ghost use Rattle.miette_runs.specs.rules.Sequences.{spell, tokens};
 ghost use Rattle.miette_text.specs.rules.Wrapping.{wrapped_text};
 
-use crate::settings::{Layout, icon, severity_style};
+use crate::settings::{Settings, icon, severity_style};
 use miette_protocol::protocol::Severity;
 use miette_text::runs::Runs;
 use miette_text::runs::output::Output;
@@ -29,19 +29,19 @@ pub struct Branch {
 }
 
 /// How a text is wrapped under a first and a further indent.
-fn plan<'a>(layout: Layout<'_>, first: &'a Runs, further: &'a Runs) -> Plan<'a>
-    ensures wraps { result.wraps ≡ layout.entry.wraps }
-    ensures hyphens { result.hyphens ≡ splits layout.entry.splitter }
-    ensures breaks { result.breaks ≡ layout.entry.breaks }
-    ensures width { result.width ≡ layout.entry.width - 2 }
+fn plan<'a>(settings: Settings<'_>, first: &'a Runs, further: &'a Runs) -> Plan<'a>
+    ensures wraps { result.wraps ≡ settings.entry.wraps }
+    ensures hyphens { result.hyphens ≡ splits settings.entry.splitter }
+    ensures breaks { result.breaks ≡ settings.entry.breaks }
+    ensures width { result.width ≡ settings.entry.width - 2 }
     ensures first { result.first.now ≡ first.now }
     ensures further { result.further.now ≡ further.now }
 {
     Plan {
-        wraps: layout.wraps,
-        hyphens: cuts_hyphens(layout.splitter),
-        breaks: layout.breaks,
-        width: layout.width.saturating_sub(2),
+        wraps: settings.wraps,
+        hyphens: cuts_hyphens(settings.splitter),
+        breaks: settings.breaks,
+        width: settings.width.saturating_sub(2),
         first,
         further,
     }
@@ -63,18 +63,18 @@ fn push_wrapped(
 
 // Appends a text behind an indent, and a line feed, where both stand in one row as they are; says whether.
 fn push_row(
-    layout: Layout<'_>,
+    settings: Settings<'_>,
     first: &Runs,
     text: &str,
     out: &mut Output,
 ) -> Result<bool, AllocError>
     ensures fits { IfOk result (λ fits. fits ≡ true → (further : List ℕ) → out.new ≡ out.old
-        ++ (indents.wrapped_behind (settings_of layout.entry) (spell first.now) further (chars text.now)
+        ++ (indents.wrapped_behind (settings_of settings.entry) (spell first.now) further (chars text.now)
         ++ parts.line_feed)) }
     ensures otherwise { IfOk result (λ fits. fits ≡ false → out.new ≡ out.old) }
 {
-    let width = layout.width.saturating_sub(2);
-    if !push_fitting(layout.wraps, width, first, text, out)? {
+    let width = settings.width.saturating_sub(2);
+    if !push_fitting(settings.wraps, width, first, text, out)? {
         return Ok(false);
     }
     out.push('\n')?;
@@ -84,14 +84,14 @@ fn push_row(
 // `  × `
 fn icon_indent(
     alloc: Global,
-    layout: Layout<'_>,
+    settings: Settings<'_>,
     severity: Option<Severity>,
 ) -> Result<Runs, AllocError>
-    ensures { IfOk result (λ r. spell r ≡ print (indents.icon_indent (settings_of layout.entry) severity)) }
+    ensures { IfOk result (λ r. spell r ≡ print (indents.icon_indent (settings_of settings.entry) severity)) }
 {
     let mut runs = Runs::new(alloc);
     runs.push_chars(&[' ', ' '])?;
-    runs.push_run(severity_style(layout, severity), icon(layout, severity))?;
+    runs.push_run(severity_style(settings, severity), icon(settings, severity))?;
     runs.push(' ')?;
     Ok(runs)
 }
@@ -99,25 +99,25 @@ fn icon_indent(
 // `  │ `
 fn bar_indent(
     alloc: Global,
-    layout: Layout<'_>,
+    settings: Settings<'_>,
     severity: Option<Severity>,
 ) -> Result<Runs, AllocError>
-    ensures { IfOk result (λ r. spell r ≡ print (indents.bar_indent (settings_of layout.entry) severity)) }
+    ensures { IfOk result (λ r. spell r ≡ print (indents.bar_indent (settings_of settings.entry) severity)) }
 {
-    let bar = [layout.theme.characters.vbar];
+    let bar = [settings.theme.characters.vbar];
     let mut runs = Runs::new(alloc);
     runs.push_chars(&[' ', ' '])?;
-    runs.push_run_chars(severity_style(layout, severity), &bar)?;
+    runs.push_run_chars(severity_style(settings, severity), &bar)?;
     runs.push(' ')?;
     Ok(runs)
 }
 
 // `  ├─▶ `, the last one `  ╰─▶ `
-fn arrow_indent(alloc: Global, layout: Layout<'_>, branch: Branch) -> Result<Runs, AllocError>
+fn arrow_indent(alloc: Global, settings: Settings<'_>, branch: Branch) -> Result<Runs, AllocError>
     ensures { IfOk result (λ r. spell r ≡ print
-        (indents.arrow_indent (settings_of layout.entry) branch.outer branch.is_last)) }
+        (indents.arrow_indent (settings_of settings.entry) branch.outer branch.is_last)) }
 {
-    let characters = &layout.theme.characters;
+    let characters = &settings.theme.characters;
     let blank = ' ';
     let last = characters.lbot;
     let other = characters.lcross;
@@ -126,112 +126,112 @@ fn arrow_indent(alloc: Global, layout: Layout<'_>, branch: Branch) -> Result<Run
     let corner = if branch.is_last { last } else { other };
     let arrow = [blank, blank, corner, hbar, head, blank];
     let mut runs = Runs::new(alloc);
-    runs.push_run_chars(severity_style(layout, branch.outer), &arrow)?;
+    runs.push_run_chars(severity_style(settings, branch.outer), &arrow)?;
     Ok(runs)
 }
 
 // `  │   `, under the last one six spaces
-fn stem_indent(alloc: Global, layout: Layout<'_>, branch: Branch) -> Result<Runs, AllocError>
+fn stem_indent(alloc: Global, settings: Settings<'_>, branch: Branch) -> Result<Runs, AllocError>
     ensures { IfOk result (λ r. spell r ≡ print
-        (indents.stem_indent (settings_of layout.entry) branch.outer branch.is_last)) }
+        (indents.stem_indent (settings_of settings.entry) branch.outer branch.is_last)) }
 {
     let blank = ' ';
-    let vbar = layout.theme.characters.vbar;
+    let vbar = settings.theme.characters.vbar;
     let bar = if branch.is_last { blank } else { vbar };
     let stem = [blank, blank, bar, blank, blank, blank];
     let mut runs = Runs::new(alloc);
-    runs.push_run_chars(severity_style(layout, branch.outer), &stem)?;
+    runs.push_run_chars(severity_style(settings, branch.outer), &stem)?;
     Ok(runs)
 }
 
 // The columns of the indent of what stands under an arrow, behind its first row.
-fn stem_columns(alloc: Global, layout: Layout<'_>, branch: Branch) -> Result<usize, AllocError>
+fn stem_columns(alloc: Global, settings: Settings<'_>, branch: Branch) -> Result<usize, AllocError>
     ensures { IfOk result (λ n. n ≡ columns_of (tokens (print
-        (indents.stem_indent (settings_of layout.entry) branch.outer branch.is_last)))) }
+        (indents.stem_indent (settings_of settings.entry) branch.outer branch.is_last)))) }
 {
-    let stem = stem_indent(alloc, layout, branch)?;
+    let stem = stem_indent(alloc, settings, branch)?;
     let columns = columns_of(alloc, &stem)?;
     Ok(columns)
 }
 
-/// The layout of what stands under an arrow.
-pub fn layout_under<'a>(
+/// The settings of what stands under an arrow.
+pub fn settings_under<'a>(
     alloc: Global,
-    layout: Layout<'a>,
+    settings: Settings<'a>,
     branch: Branch,
-) -> Result<Layout<'a>, AllocError>
+) -> Result<Settings<'a>, AllocError>
     ensures { IfOk result (λ l. settings_of l
-        ≡ indents.narrow_settings (settings_of layout.entry) branch.outer branch.is_last) }
+        ≡ indents.narrow_settings (settings_of settings.entry) branch.outer branch.is_last) }
 {
-    let columns = stem_columns(alloc, layout, branch)?;
-    let mut narrow = layout;
-    narrow.width = layout.width.saturating_sub(columns);
+    let columns = stem_columns(alloc, settings, branch)?;
+    let mut narrow = settings;
+    narrow.width = settings.width.saturating_sub(columns);
     Ok(narrow)
 }
 
 /// Appends a cause or a nested related report under its arrow.
 pub fn push_under_arrow(
     alloc: Global,
-    layout: Layout<'_>,
+    settings: Settings<'_>,
     branch: Branch,
     text: &Runs,
     out: &mut Output,
 ) -> Result<(), AllocError>
-    ensures { OnOk result (out.new ≡ out.old ++ parts.under_arrow (settings_of layout.entry) branch.outer branch.is_last
-        (spell text.now)) }
+    ensures { OnOk result (out.new ≡ out.old ++ parts.under_arrow (settings_of settings.entry) branch.outer
+        branch.is_last (spell text.now)) }
 {
-    let first = arrow_indent(alloc, layout, branch)?;
-    let further = stem_indent(alloc, layout, branch)?;
-    push_wrapped(alloc, plan(layout, &first, &further), text, out)
+    let first = arrow_indent(alloc, settings, branch)?;
+    let further = stem_indent(alloc, settings, branch)?;
+    push_wrapped(alloc, plan(settings, &first, &further), text, out)
 }
 
 /// Appends a cause that is a text under its arrow.
 pub fn push_text_under_arrow(
     alloc: Global,
-    layout: Layout<'_>,
+    settings: Settings<'_>,
     branch: Branch,
     text: &str,
     out: &mut Output,
 ) -> Result<(), AllocError>
-    ensures { OnOk result (out.new ≡ out.old ++ parts.under_arrow (settings_of layout.entry) branch.outer branch.is_last
-        (chars text.now)) }
+    ensures { OnOk result (out.new ≡ out.old ++ parts.under_arrow (settings_of settings.entry) branch.outer
+        branch.is_last (chars text.now)) }
 {
-    let first = arrow_indent(alloc, layout, branch)?;
-    if push_row(layout, &first, text, out)? {
+    let first = arrow_indent(alloc, settings, branch)?;
+    if push_row(settings, &first, text, out)? {
         return Ok(());
     }
-    let further = stem_indent(alloc, layout, branch)?;
+    let further = stem_indent(alloc, settings, branch)?;
     let text = read_text(alloc, text)?;
-    push_wrapped(alloc, plan(layout, &first, &further), &text, out)
+    push_wrapped(alloc, plan(settings, &first, &further), &text, out)
 }
 
 /// Appends a message behind its icon.
 pub fn push_message(
     alloc: Global,
-    layout: Layout<'_>,
+    settings: Settings<'_>,
     severity: Option<Severity>,
     message: &str,
     out: &mut Output,
 ) -> Result<(), AllocError>
-    ensures { OnOk result (out.new ≡ out.old ++ (indents.wrapped_under (settings_of layout.entry)
-        (indents.icon_indent (settings_of layout.entry) severity)
-        (indents.bar_indent (settings_of layout.entry) severity) (chars message.now) ++ parts.line_feed)) }
+    ensures { OnOk result (out.new ≡ out.old ++ (indents.wrapped_under (settings_of settings.entry)
+        (indents.icon_indent (settings_of settings.entry) severity)
+        (indents.bar_indent (settings_of settings.entry) severity) (chars message.now) ++ parts.line_feed)) }
 {
-    let first = icon_indent(alloc, layout, severity)?;
-    if push_row(layout, &first, message, out)? {
+    let first = icon_indent(alloc, settings, severity)?;
+    if push_row(settings, &first, message, out)? {
         return Ok(());
     }
-    let further = bar_indent(alloc, layout, severity)?;
+    let further = bar_indent(alloc, settings, severity)?;
     let message = read_text(alloc, message)?;
-    push_wrapped(alloc, plan(layout, &first, &further), &message, out)
+    push_wrapped(alloc, plan(settings, &first, &further), &message, out)
 }
 
 // `  help: `
-fn help_indent(alloc: Global, layout: Layout<'_>) -> Result<Runs, AllocError>
-    ensures { IfOk result (λ r. spell r ≡ print (indents.help_indent (settings_of layout.entry))) }
+fn help_indent(alloc: Global, settings: Settings<'_>) -> Result<Runs, AllocError>
+    ensures { IfOk result (λ r. spell r ≡ print (indents.help_indent (settings_of settings.entry))) }
 {
     let mut runs = Runs::new(alloc);
-    runs.push_run(layout.theme.styles.help, "  help: ")?;
+    runs.push_run(settings.theme.styles.help, "  help: ")?;
     Ok(runs)
 }
 
@@ -247,37 +247,37 @@ fn blank_indent(alloc: Global, spaces: &[char]) -> Result<Runs, AllocError>
 /// Appends a help text, where there is one.
 pub fn push_help(
     alloc: Global,
-    layout: Layout<'_>,
+    settings: Settings<'_>,
     help: Option<&str>,
     out: &mut Output,
 ) -> Result<(), AllocError>
-    ensures { OnOk result (out.new ≡ out.old ++ parts.help_text (settings_of layout.entry)
+    ensures { OnOk result (out.new ≡ out.old ++ parts.help_text (settings_of settings.entry)
         (option_map (λ t. t.now) help.entry)) }
 {
     let Some(help) = help else {
         return Ok(());
     };
-    let first = help_indent(alloc, layout)?;
-    if push_row(layout, &first, help, out)? {
+    let first = help_indent(alloc, settings)?;
+    if push_row(settings, &first, help, out)? {
         return Ok(());
     }
     let further = blank_indent(alloc, &[' '; 8])?;
     let help = read_text(alloc, help)?;
-    push_wrapped(alloc, plan(layout, &first, &further), &help, out)
+    push_wrapped(alloc, plan(settings, &first, &further), &help, out)
 }
 
 /// Appends a blank row and the footer, where there is one.
-pub fn push_footer(alloc: Global, layout: Layout<'_>, out: &mut Output) -> Result<(), AllocError>
-    ensures { OnOk result (out.new ≡ out.old ++ parts.footer_text (settings_of layout.entry)) }
+pub fn push_footer(alloc: Global, settings: Settings<'_>, out: &mut Output) -> Result<(), AllocError>
+    ensures { OnOk result (out.new ≡ out.old ++ parts.footer_text (settings_of settings.entry)) }
 {
-    let Some(footer) = layout.footer else {
+    let Some(footer) = settings.footer else {
         return Ok(());
     };
     let indent = blank_indent(alloc, &[' ', ' '])?;
     out.push('\n')?;
-    if push_row(layout, &indent, footer, out)? {
+    if push_row(settings, &indent, footer, out)? {
         return Ok(());
     }
     let footer = read_text(alloc, footer)?;
-    push_wrapped(alloc, plan(layout, &indent, &indent), &footer, out)
+    push_wrapped(alloc, plan(settings, &indent, &indent), &footer, out)
 }

@@ -18,9 +18,9 @@ ghost use Rattle.miette_tree.specs.rules.Tree.{cause_of, effective, head, source
 ghost use Rattle.miette_runs.specs.rules.Sequences.{spell};
 
 use crate::diagnostic::{is_nil, push_cause_texts, push_header_of, push_message_of, push_title};
-use crate::indents::{Branch, layout_under, push_help, push_under_arrow};
+use crate::indents::{Branch, push_help, push_under_arrow, settings_under};
 use crate::pen::Pen;
-use crate::settings::Layout;
+use crate::settings::Settings;
 use miette_highlight::highlight::Highlighter;
 use miette_layout::options::{LayoutOptions, Look};
 use miette_layout::snippets::snippets;
@@ -38,12 +38,12 @@ use std::mem;
 /// Appends the text of the rows of a diagnostic's snippets, over its effective source.
 fn push_rows<D: Diagnostic, S: SourceCode, H: Highlighter>(
     pen: &mut Pen<H>,
-    layout: Layout<'_>,
+    settings: Settings<'_>,
     source: Option<SourceRef<'_, S>>,
     report: &Report<D, S>,
     out: &mut Output,
 ) -> Result<(), RenderError>
-    ensures ok { OnOk result (AppendsOne (IsDrawn drawn_rows (settings_of layout.entry)
+    ensures ok { OnOk result (AppendsOne (IsDrawn drawn_rows (settings_of settings.entry)
         (leaves_plain H.is_blank pen.old.highlighter)
         (AreCallsOn H.may_follow pen.old.highlighter pen.new.highlighter)
         (option_map (shown_source S.source) source.entry)
@@ -55,19 +55,19 @@ fn push_rows<D: Diagnostic, S: SourceCode, H: Highlighter>(
 {
     match source {
         None => Ok(()),
-        Some(source) => push_shown(pen, layout, source, report, out),
+        Some(source) => push_shown(pen, settings, source, report, out),
     }
 }
 
 /// The same over a source that is there.
 fn push_shown<D: Diagnostic, S: SourceCode, H: Highlighter>(
     pen: &mut Pen<H>,
-    layout: Layout<'_>,
+    settings: Settings<'_>,
     source: SourceRef<'_, S>,
     report: &Report<D, S>,
     out: &mut Output,
 ) -> Result<(), RenderError>
-    ensures ok { OnOk result (AppendsOne (IsDrawn drawn_rows (settings_of layout.entry)
+    ensures ok { OnOk result (AppendsOne (IsDrawn drawn_rows (settings_of settings.entry)
         (leaves_plain H.is_blank pen.old.highlighter)
         (AreCallsOn H.may_follow pen.old.highlighter pen.new.highlighter) (Some (shown_source S.source source.entry))
         (head (tree_of D.meaning S.source report.now))) out.old out.new) }
@@ -79,19 +79,19 @@ fn push_shown<D: Diagnostic, S: SourceCode, H: Highlighter>(
     let labels = labels_of(report);
     match labels {
         [] => Ok(()),
-        [_, ..] => push_drawn(pen, layout, source, labels, out),
+        [_, ..] => push_drawn(pen, settings, source, labels, out),
     }
 }
 
 /// Appends the text of the rows of some labels' snippets, over a source.
 fn push_drawn<S: SourceCode, H: Highlighter>(
     pen: &mut Pen<H>,
-    layout: Layout<'_>,
+    settings: Settings<'_>,
     source: SourceRef<'_, S>,
     labels: &[LabeledSpan],
     out: &mut Output,
 ) -> Result<(), RenderError>
-    ensures ok { OnOk result (AppendsOne (AreDrawn (settings_of layout.entry)
+    ensures ok { OnOk result (AppendsOne (AreDrawn (settings_of settings.entry)
         (leaves_plain H.is_blank pen.old.highlighter)
         (AreCallsOn H.may_follow pen.old.highlighter pen.new.highlighter)
         (shown_source S.source source.entry) labels.now) out.old
@@ -101,14 +101,14 @@ fn push_drawn<S: SourceCode, H: Highlighter>(
 {
     let look = Look {
         alloc: pen.alloc,
-        theme: layout.theme,
+        theme: settings.theme,
         options: LayoutOptions {
-            tab_width: layout.tab,
-            context_lines: layout.context,
-            primary_start: layout.primary_start,
-            end_labels: layout.end_labels,
-            label_lines: layout.label_lines,
-            line_columns: layout.line_columns,
+            tab_width: settings.tab,
+            context_lines: settings.context,
+            primary_start: settings.primary_start,
+            end_labels: settings.end_labels,
+            label_lines: settings.label_lines,
+            line_columns: settings.line_columns,
         },
     };
     let page = Page::over(mem::replace(out, Output::for_text(pen.alloc)));
@@ -140,28 +140,28 @@ fn are_last<D: Diagnostic, S: SourceCode>(reports: &[Report<D, S>]) -> bool
 #[cycle(report)]
 pub fn push_causes<D: Diagnostic, S: SourceCode, H: Highlighter>(
     pen: &mut Pen<H>,
-    layout: Layout<'_>,
+    settings: Settings<'_>,
     outer: Option<Severity>,
     inherited: Option<SourceRef<'_, S>>,
     report: &Report<D, S>,
     out: &mut Output,
 ) -> Result<(), RenderError>
-    ensures ok { OnOk result (AppendsOne (AreCauses drawn_rows (settings_of layout.entry)
+    ensures ok { OnOk result (AppendsOne (AreCauses drawn_rows (settings_of settings.entry)
         (leaves_plain H.is_blank pen.old.highlighter)
         (AreCallsOn H.may_follow pen.old.highlighter pen.new.highlighter)
         outer (option_map (shown_source S.source) inherited.entry)
         (cause_of (tree_of D.meaning S.source report.now))) out.old out.new) }
     ensures refused { (result ≡ Err RenderError.Refused) →
-        all_read (printed_causes layout.entry.nested (option_map (shown_source S.source) inherited.entry)
+        all_read (printed_causes settings.entry.nested (option_map (shown_source S.source) inherited.entry)
         (cause_of (tree_of D.meaning S.source report.now))) ≡ false }
     ensures stays { leaves_plain H.is_blank pen.new.highlighter ≡ leaves_plain H.is_blank pen.old.highlighter }
 {
     let mut at = report;
     while let Cause::Diagnostic(next) = at.cause() {
-        push_one_cause(pen, layout, outer, inherited, next, out)?;
+        push_one_cause(pen, settings, outer, inherited, next, out)?;
         at = next;
     }
-    push_cause_texts(pen.alloc, layout, outer, cause_texts(at), out)?;
+    push_cause_texts(pen.alloc, settings, outer, cause_texts(at), out)?;
     Ok(())
 }
 
@@ -169,19 +169,19 @@ pub fn push_causes<D: Diagnostic, S: SourceCode, H: Highlighter>(
 #[cycle(report)]
 fn push_one_cause<D: Diagnostic, S: SourceCode, H: Highlighter>(
     pen: &mut Pen<H>,
-    layout: Layout<'_>,
+    settings: Settings<'_>,
     outer: Option<Severity>,
     inherited: Option<SourceRef<'_, S>>,
     cause: &Report<D, S>,
     out: &mut Output,
 ) -> Result<(), RenderError>
-    ensures ok { OnOk result (AppendsOne (IsOneCause drawn_rows (settings_of layout.entry)
+    ensures ok { OnOk result (AppendsOne (IsOneCause drawn_rows (settings_of settings.entry)
         (leaves_plain H.is_blank pen.old.highlighter)
         (AreCallsOn H.may_follow pen.old.highlighter pen.new.highlighter)
         outer (option_map (shown_source S.source) inherited.entry)
         (tree_of D.meaning S.source cause.now)) out.old out.new) }
     ensures refused { (result ≡ Err RenderError.Refused) →
-        all_read (printed_inner layout.entry.nested
+        all_read (printed_inner settings.entry.nested
         (effective (source_of (tree_of D.meaning S.source cause.now))
         (option_map (shown_source S.source) inherited.entry)) (tree_of D.meaning S.source cause.now)) ≡ false }
     ensures stays { leaves_plain H.is_blank pen.new.highlighter ≡ leaves_plain H.is_blank pen.old.highlighter }
@@ -190,9 +190,9 @@ fn push_one_cause<D: Diagnostic, S: SourceCode, H: Highlighter>(
         outer,
         is_last: ends_there(cause),
     };
-    let narrow = layout_under(pen.alloc, layout, branch)?;
+    let narrow = settings_under(pen.alloc, settings, branch)?;
     let inner = inner_text(pen, narrow, own_or(cause, inherited), cause)?;
-    push_under_arrow(pen.alloc, layout, branch, &inner, out)?;
+    push_under_arrow(pen.alloc, settings, branch, &inner, out)?;
     Ok(())
 }
 
@@ -200,24 +200,24 @@ fn push_one_cause<D: Diagnostic, S: SourceCode, H: Highlighter>(
 #[cycle(report)]
 fn inner_text<D: Diagnostic, S: SourceCode, H: Highlighter>(
     pen: &mut Pen<H>,
-    layout: Layout<'_>,
+    settings: Settings<'_>,
     source: Option<SourceRef<'_, S>>,
     report: &Report<D, S>,
 ) -> Result<Runs, RenderError>
-    ensures ok { IfOk result (λ r. IsInner drawn_rows (settings_of layout.entry)
+    ensures ok { IfOk result (λ r. IsInner drawn_rows (settings_of settings.entry)
         (leaves_plain H.is_blank pen.old.highlighter)
         (AreCallsOn H.may_follow pen.old.highlighter pen.new.highlighter)
         (option_map (shown_source S.source) source.entry)
         (tree_of D.meaning S.source report.now) (spell r)) }
     ensures refused { (result ≡ Err RenderError.Refused) →
-        all_read (printed_inner layout.entry.nested (option_map (shown_source S.source) source.entry)
+        all_read (printed_inner settings.entry.nested (option_map (shown_source S.source) source.entry)
         (tree_of D.meaning S.source report.now)) ≡ false }
     ensures stays { leaves_plain H.is_blank pen.new.highlighter ≡ leaves_plain H.is_blank pen.old.highlighter }
 {
     let mut text = Output::for_runs(pen.alloc);
-    push_header_of(layout, report, &mut text)?;
-    push_message_of(pen.alloc, layout, report, &mut text)?;
-    push_below(pen, layout, source, report, &mut text)?;
+    push_header_of(settings, report, &mut text)?;
+    push_message_of(pen.alloc, settings, report, &mut text)?;
+    push_below(pen, settings, source, report, &mut text)?;
     let runs = text.into_runs(pen.alloc)?;
     Ok(without_leading(pen.alloc, runs)?)
 }
@@ -227,25 +227,25 @@ fn inner_text<D: Diagnostic, S: SourceCode, H: Highlighter>(
 #[cycle(report)]
 pub fn push_below<D: Diagnostic, S: SourceCode, H: Highlighter>(
     pen: &mut Pen<H>,
-    layout: Layout<'_>,
+    settings: Settings<'_>,
     source: Option<SourceRef<'_, S>>,
     report: &Report<D, S>,
     out: &mut Output,
 ) -> Result<(), RenderError>
-    ensures ok { OnOk result (AppendsOne (IsBelow drawn_rows (settings_of layout.entry)
+    ensures ok { OnOk result (AppendsOne (IsBelow drawn_rows (settings_of settings.entry)
         (leaves_plain H.is_blank pen.old.highlighter)
         (AreCallsOn H.may_follow pen.old.highlighter pen.new.highlighter)
         (option_map (shown_source S.source) source.entry)
         (tree_of D.meaning S.source report.now)) out.old out.new) }
     ensures refused { (result ≡ Err RenderError.Refused) →
-        all_read (printed_inner layout.entry.nested (option_map (shown_source S.source) source.entry)
+        all_read (printed_inner settings.entry.nested (option_map (shown_source S.source) source.entry)
         (tree_of D.meaning S.source report.now)) ≡ false }
     ensures stays { leaves_plain H.is_blank pen.new.highlighter ≡ leaves_plain H.is_blank pen.old.highlighter }
 {
-    push_rows(pen, layout, source, report, out)?;
-    push_help(pen.alloc, layout, report.help(), out)?;
+    push_rows(pen, settings, source, report, out)?;
+    push_help(pen.alloc, settings, report.help(), out)?;
     let related = report.related();
-    push_related(pen, layout, report.severity(), source, related, out)?;
+    push_related(pen, settings, report.severity(), source, related, out)?;
     Ok(())
 }
 
@@ -253,25 +253,25 @@ pub fn push_below<D: Diagnostic, S: SourceCode, H: Highlighter>(
 #[cycle(report)]
 fn push_sibling<D: Diagnostic, S: SourceCode, H: Highlighter>(
     pen: &mut Pen<H>,
-    layout: Layout<'_>,
+    settings: Settings<'_>,
     source: Option<SourceRef<'_, S>>,
     report: &Report<D, S>,
     out: &mut Output,
 ) -> Result<(), RenderError>
-    ensures ok { OnOk result (AppendsOne (IsSibling drawn_rows (settings_of layout.entry)
+    ensures ok { OnOk result (AppendsOne (IsSibling drawn_rows (settings_of settings.entry)
         (leaves_plain H.is_blank pen.old.highlighter)
         (AreCallsOn H.may_follow pen.old.highlighter pen.new.highlighter)
         (option_map (shown_source S.source) source.entry)
         (tree_of D.meaning S.source report.now)) out.old out.new) }
     ensures refused { (result ≡ Err RenderError.Refused) →
-        all_read (printed_sibling layout.entry.nested (option_map (shown_source S.source) source.entry)
+        all_read (printed_sibling settings.entry.nested (option_map (shown_source S.source) source.entry)
         (tree_of D.meaning S.source report.now)) ≡ false }
     ensures stays { leaves_plain H.is_blank pen.new.highlighter ≡ leaves_plain H.is_blank pen.old.highlighter }
 {
-    push_title(layout, report, out)?;
-    push_message_of(pen.alloc, layout, report, out)?;
-    push_causes(pen, layout, report.severity(), source, report, out)?;
-    push_below(pen, layout, source, report, out)?;
+    push_title(settings, report, out)?;
+    push_message_of(pen.alloc, settings, report, out)?;
+    push_causes(pen, settings, report.severity(), source, report, out)?;
+    push_below(pen, settings, source, report, out)?;
     Ok(())
 }
 
@@ -279,26 +279,26 @@ fn push_sibling<D: Diagnostic, S: SourceCode, H: Highlighter>(
 #[cycle(report)]
 fn push_nested<D: Diagnostic, S: SourceCode, H: Highlighter>(
     pen: &mut Pen<H>,
-    layout: Layout<'_>,
+    settings: Settings<'_>,
     branch: Branch,
     source: Option<SourceRef<'_, S>>,
     report: &Report<D, S>,
     out: &mut Output,
 ) -> Result<(), RenderError>
-    ensures ok { OnOk result (AppendsOne (IsNested drawn_rows (settings_of layout.entry)
+    ensures ok { OnOk result (AppendsOne (IsNested drawn_rows (settings_of settings.entry)
         (leaves_plain H.is_blank pen.old.highlighter)
         (AreCallsOn H.may_follow pen.old.highlighter pen.new.highlighter)
         branch.outer (option_map (shown_source S.source) source.entry)
         branch.is_last (tree_of D.meaning S.source report.now)) out.old out.new) }
     ensures refused { (result ≡ Err RenderError.Refused) →
-        all_read (printed_inner layout.entry.nested (option_map (shown_source S.source) source.entry)
+        all_read (printed_inner settings.entry.nested (option_map (shown_source S.source) source.entry)
         (tree_of D.meaning S.source report.now)) ≡ false }
     ensures stays { leaves_plain H.is_blank pen.new.highlighter ≡ leaves_plain H.is_blank pen.old.highlighter }
 {
-    let narrow = layout_under(pen.alloc, layout, branch)?;
+    let narrow = settings_under(pen.alloc, settings, branch)?;
     let inner = inner_text(pen, narrow, source, report)?;
     let cut = without_trailing(pen.alloc, inner)?;
-    push_under_arrow(pen.alloc, layout, branch, &cut, out)?;
+    push_under_arrow(pen.alloc, settings, branch, &cut, out)?;
     Ok(())
 }
 
@@ -306,26 +306,26 @@ fn push_nested<D: Diagnostic, S: SourceCode, H: Highlighter>(
 #[cycle(report)]
 fn push_one_related<D: Diagnostic, S: SourceCode, H: Highlighter>(
     pen: &mut Pen<H>,
-    layout: Layout<'_>,
+    settings: Settings<'_>,
     branch: Branch,
     source: Option<SourceRef<'_, S>>,
     report: &Report<D, S>,
     out: &mut Output,
 ) -> Result<(), RenderError>
-    ensures ok { OnOk result (AppendsOne (IsOneRelated drawn_rows (settings_of layout.entry)
+    ensures ok { OnOk result (AppendsOne (IsOneRelated drawn_rows (settings_of settings.entry)
         (leaves_plain H.is_blank pen.old.highlighter)
         (AreCallsOn H.may_follow pen.old.highlighter pen.new.highlighter)
         branch.outer (option_map (shown_source S.source) source.entry)
         branch.is_last (tree_of D.meaning S.source report.now)) out.old out.new) }
     ensures refused { (result ≡ Err RenderError.Refused) →
-        all_read (printed_one layout.entry.nested (option_map (shown_source S.source) source.entry)
+        all_read (printed_one settings.entry.nested (option_map (shown_source S.source) source.entry)
         (tree_of D.meaning S.source report.now)) ≡ false }
     ensures stays { leaves_plain H.is_blank pen.new.highlighter ≡ leaves_plain H.is_blank pen.old.highlighter }
 {
-    if layout.nested {
-        push_nested(pen, layout, branch, source, report, out)
+    if settings.nested {
+        push_nested(pen, settings, branch, source, report, out)
     } else {
-        push_sibling(pen, layout, source, report, out)
+        push_sibling(pen, settings, source, report, out)
     }
 }
 
@@ -333,19 +333,19 @@ fn push_one_related<D: Diagnostic, S: SourceCode, H: Highlighter>(
 #[cycle(report)]
 fn push_related<D: Diagnostic, S: SourceCode, H: Highlighter>(
     pen: &mut Pen<H>,
-    layout: Layout<'_>,
+    settings: Settings<'_>,
     outer: Option<Severity>,
     inherited: Option<SourceRef<'_, S>>,
     reports: &[Report<D, S>],
     out: &mut Output,
 ) -> Result<(), RenderError>
-    ensures ok { OnOk result (AppendsOne (AreRelated drawn_rows (settings_of layout.entry)
+    ensures ok { OnOk result (AppendsOne (AreRelated drawn_rows (settings_of settings.entry)
         (leaves_plain H.is_blank pen.old.highlighter)
         (AreCallsOn H.may_follow pen.old.highlighter pen.new.highlighter)
         outer (option_map (shown_source S.source) inherited.entry)
         (trees (map (tree_of D.meaning S.source) reports.now))) out.old out.new) }
     ensures refused { (result ≡ Err RenderError.Refused) →
-        all_read (printed_related layout.entry.nested (option_map (shown_source S.source) inherited.entry)
+        all_read (printed_related settings.entry.nested (option_map (shown_source S.source) inherited.entry)
         (trees (map (tree_of D.meaning S.source) reports.now))) ≡ false }
     ensures stays { leaves_plain H.is_blank pen.new.highlighter ≡ leaves_plain H.is_blank pen.old.highlighter }
 {
@@ -356,7 +356,7 @@ fn push_related<D: Diagnostic, S: SourceCode, H: Highlighter>(
             is_last: are_last(more),
         };
         let source = own_or(report, inherited);
-        push_one_related(pen, layout, branch, source, report, out)?;
+        push_one_related(pen, settings, branch, source, report, out)?;
         rest = more;
     }
     Ok(())

@@ -22,7 +22,7 @@ pub enum UrlMode {
 
 /// How one report is laid out: a handler's settings, with the width that is left for it.
 #[derive(Clone, Copy)]
-pub struct Layout<'a> {
+pub struct Settings<'a> {
     pub theme: &'a GraphicalTheme,
     pub width: usize,
     pub tab: usize,
@@ -42,23 +42,23 @@ pub struct Layout<'a> {
 }
 
 /// The style of a severity; that of an error where there is none.
-pub fn severity_style(layout: Layout<'_>, severity: Option<Severity>) -> Style
-    ensures { result ≡ severity_style (settings_of layout.entry) severity }
+pub fn severity_style(settings: Settings<'_>, severity: Option<Severity>) -> Style
+    ensures { result ≡ severity_style (settings_of settings.entry) severity }
 {
     match severity {
-        Some(Severity::Advice) => layout.theme.styles.advice,
-        Some(Severity::Warning) => layout.theme.styles.warning,
-        _ => layout.theme.styles.error,
+        Some(Severity::Advice) => settings.theme.styles.advice,
+        Some(Severity::Warning) => settings.theme.styles.warning,
+        _ => settings.theme.styles.error,
     }
 }
 
 /// The icon of a severity; that of an error where there is none.
-pub fn icon<'a>(layout: Layout<'a>, severity: Option<Severity>) -> &'a str
-    ensures { chars result.now ≡ icon (settings_of layout.entry) severity }
+pub fn icon<'a>(settings: Settings<'a>, severity: Option<Severity>) -> &'a str
+    ensures { chars result.now ≡ icon (settings_of settings.entry) severity }
 {
     match severity {
-        Some(Severity::Advice) => layout.theme.characters.advice.as_str(),
-        Some(Severity::Warning) => layout.theme.characters.warning.as_str(),
-        _ => layout.theme.characters.error.as_str(),
+        Some(Severity::Advice) => settings.theme.characters.advice.as_str(),
+        Some(Severity::Warning) => settings.theme.characters.warning.as_str(),
+        _ => settings.theme.characters.error.as_str(),
     }
 }

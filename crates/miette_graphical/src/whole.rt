@@ -15,7 +15,7 @@ use crate::diagnostic::{push_header_of, push_message_of};
 use crate::indents::push_footer;
 use crate::pen::Pen;
 use crate::report::{push_below, push_causes};
-use crate::settings::Layout;
+use crate::settings::Settings;
 use miette_highlight::highlight::Highlighter;
 use miette_protocol::error::RenderError;
 use miette_protocol::protocol::Diagnostic;
@@ -29,45 +29,45 @@ const SMALL: usize = 256;
 /// Appends the causes of the outermost report, where they are shown.
 fn push_root_causes<D: Diagnostic, S: SourceCode, H: Highlighter>(
     pen: &mut Pen<H>,
-    layout: Layout<'_>,
+    settings: Settings<'_>,
     report: &Report<D, S>,
     out: &mut Output,
 ) -> Result<(), RenderError>
-    ensures ok { OnOk result (AppendsOne (AreRootCauses drawn_rows (settings_of layout.entry)
+    ensures ok { OnOk result (AppendsOne (AreRootCauses drawn_rows (settings_of settings.entry)
         (leaves_plain H.is_blank pen.old.highlighter)
         (AreCallsOn H.may_follow pen.old.highlighter pen.new.highlighter)
         (tree_of D.meaning S.source report.now)) out.old out.new) }
     ensures refused { (result ≡ Err RenderError.Refused) →
-        all_read (printed_root_causes layout.entry.chain layout.entry.nested (tree_of D.meaning S.source report.now))
-        ≡ false }
+        all_read (printed_root_causes settings.entry.chain settings.entry.nested
+        (tree_of D.meaning S.source report.now)) ≡ false }
     ensures stays { leaves_plain H.is_blank pen.new.highlighter ≡ leaves_plain H.is_blank pen.old.highlighter }
 {
-    if !layout.chain {
+    if !settings.chain {
         return Ok(());
     }
     let source = report.source_code();
-    push_causes(pen, layout, report.severity(), source, report, out)
+    push_causes(pen, settings, report.severity(), source, report, out)
 }
 
 /// The outermost report, from its header to its footer.
 pub fn report_output<D: Diagnostic, S: SourceCode, H: Highlighter>(
     pen: &mut Pen<H>,
-    layout: Layout<'_>,
+    settings: Settings<'_>,
     report: &Report<D, S>,
 ) -> Result<Output, RenderError>
-    ensures ok { IfOk result (λ o. IsAskedReport drawn_rows (settings_of layout.entry)
+    ensures ok { IfOk result (λ o. IsAskedReport drawn_rows (settings_of settings.entry)
         (leaves_plain H.is_blank pen.old.highlighter)
         (AreCallsOn H.may_follow pen.old.highlighter pen.new.highlighter) (tree_of D.meaning S.source report.now) o) }
     ensures refused { (result ≡ Err RenderError.Refused) →
-        all_read (diagnostics_of (settings_of layout.entry) (tree_of D.meaning S.source report.now)) ≡ false }
+        all_read (diagnostics_of (settings_of settings.entry) (tree_of D.meaning S.source report.now)) ≡ false }
     ensures stays { leaves_plain H.is_blank pen.new.highlighter ≡ leaves_plain H.is_blank pen.old.highlighter }
 {
     let mut text = Output::for_text(pen.alloc);
     text.reserve(' ', SMALL)?;
-    push_header_of(layout, report, &mut text)?;
-    push_message_of(pen.alloc, layout, report, &mut text)?;
-    push_root_causes(pen, layout, report, &mut text)?;
-    push_below(pen, layout, report.source_code(), report, &mut text)?;
-    push_footer(pen.alloc, layout, &mut text)?;
+    push_header_of(settings, report, &mut text)?;
+    push_message_of(pen.alloc, settings, report, &mut text)?;
+    push_root_causes(pen, settings, report, &mut text)?;
+    push_below(pen, settings, report.source_code(), report, &mut text)?;
+    push_footer(pen.alloc, settings, &mut text)?;
     Ok(text)
 }

@@ -48,10 +48,10 @@ abbrev pub group_settings : Settings → List Label → frames.SnippetSettings
 group_settings s labels = settings_around (layout_settings s) (in_order labels)
 
 -- The snippets show the lines in the context of some label, once and in order, each with its number: the rows are
--- those of the maximal runs of these lines, each line with its own cells, in whatever pieces, each run in a frame;
--- and a group shows the lines of one run. Where labels are folded, just the lines of a run that lie in the context of
--- no label as it is folded are left out, and the row of a break stands in place of each stretch of them.
-pub record ShowsRuns (s : Settings) (source : Source) (labels : List Label) : Type 0 where
+-- those of the maximal ranges of these lines, each line with its own cells, in whatever pieces, each range in a frame;
+-- and a group shows the lines of one range. Where labels are folded, just the lines of a range that lie in the context
+-- of no label as it is folded are left out, and the row of a break stands in place of each stretch of them.
+pub record ShowsRanges (s : Settings) (source : Source) (labels : List Label) : Type 0 where
   pub rows : (pieces : List (List (List Highlight))) →
       drawn_rows s (Some source) labels (pieces_listed pieces)
       ≡ shown_rows (Some (framed_ranges (layout_settings s) source labels (pieces_listed pieces)))
@@ -67,7 +67,7 @@ abbrev pub LinesAreShown : Settings → PrintedDiagnostic → Type 0
 LinesAreShown s p =
     IfSome p.source (λ source.
     source.always_reads ≡ true → AreAccepted source.bytes (given_labels p.meaning.labels) →
-    HaveContext s.context (given_labels p.meaning.labels) → ShowsRuns s source (given_labels p.meaning.labels))
+    HaveContext s.context (given_labels p.meaning.labels) → ShowsRanges s source (given_labels p.meaning.labels))
 
 -- ---- the marks under a line
 

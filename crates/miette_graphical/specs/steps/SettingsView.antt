@@ -3,9 +3,9 @@ use Rattle.std.specs.Prelude.{chars, option_map}
 use Rattle.miette_style.specs.rules.Themes.{characters_of, styles_of}
 use Rattle.miette_graphical.specs.rules.Settings as values
 use Rattle.miette_graphical.specs.views.Modes.{urls_of, splits}
-use Rattle.miette_graphical.specs.declared.settings.Layout.{Layout}
+use Rattle.miette_graphical.specs.declared.settings.Settings.{Settings}
 
-abbrev pub settings_of : Layout → values.Settings
+abbrev pub settings_of : Settings → values.Settings
 settings_of l = record {
   characters = characters_of l.theme.now.characters;
   styles = styles_of l.theme.now.styles;

@@ -26,7 +26,7 @@ use crate::handler::GraphicalReportHandler;
 use crate::laws::{erasing_law, snippets_law};
 use crate::pen::Pen;
 use crate::printing::append_printed;
-use crate::settings::Layout;
+use crate::settings::Settings;
 use crate::whole::report_output;
 use miette_highlight::highlight::Highlighter;
 use miette_protocol::error::RenderError;
@@ -54,10 +54,10 @@ impl<H: Highlighter> GraphicalReportHandler<H> {
         }
     }
 
-    fn layout(&self) -> Layout<'_>
+    fn settings(&self) -> Settings<'_>
         ensures { settings_of result ≡ self.now.settings }
     {
-        Layout {
+        Settings {
             theme: &self.theme,
             width: self.width,
             tab: self.tab_width,
@@ -97,7 +97,7 @@ impl<H: Highlighter> GraphicalReportHandler<H> {
             alloc,
             highlighter: self.highlighter.take(),
         };
-        let drawn = report_output(&mut pen, self.layout(), report);
+        let drawn = report_output(&mut pen, self.settings(), report);
         self.highlighter = pen.highlighter;
         append_printed(alloc, drawn?, out)?;
         Ok(())

@@ -8,7 +8,7 @@ use Rattle.miette_graphical.proofs.indents.push_help.Goals as goal
 
 pub returns-then-branch : goal.returns-then-branch
 returns-then-branch c =
-    let s = settings_of c.args.layout in
+    let s = settings_of c.args.settings in
     let further = print further_help_indent in
     c.in_ok-push_row.ensures.fits c.if-branch.true further
     ∙ ap (λ first. c.args.out.now ++ (wrapped_behind s first further (chars c.in-Some.help.now) ++ 10 ∷ [])) c.in_ok-first.ensures

@@ -7,7 +7,7 @@ use Rattle.miette_graphical.proofs.indents.push_row.Goals as goal
 
 pub returns-clause-fits : goal.returns-clause-fits
 returns-clause-fits c = λ h further.
-    let s = settings_of c.args.layout in
+    let s = settings_of c.args.settings in
     let did : c.in_ok-push_fitting.field-0 ≡ true = search rules in
     c.in_ok-push.ensures
     ∙ ap (λ o. o ++ 10 ∷ []) (c.in_ok-push_fitting.ensures.fits did (record {

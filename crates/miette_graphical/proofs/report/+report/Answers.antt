@@ -41,7 +41,7 @@ push_causes-loop-next-preserved g t c =
     let begun : List Call → Type 0 = follows g.H.Highlighter.may_follow c.args.pen.now.highlighter in
     let was : List Call → Type 0 = follows g.H.Highlighter.may_follow c.loop-next.pen.highlighter in
     let next : List Call → Type 0 = follows g.H.Highlighter.may_follow c.push_one_cause.new.pen.highlighter in
-    let s = settings_of c.args.layout in
+    let s = settings_of c.args.settings in
     let outer = c.args.outer in
     let inherited = option_map (shown_source g.S.SourceCode.source) c.args.inherited in
     let value = tree_of g.D.Diagnostic.meaning g.S.SourceCode.source in
@@ -58,7 +58,7 @@ pub push_causes-returns-in_err-push_one_cause-clause-refused : goal.push_causes-
 push_causes-returns-in_err-push_one_cause-clause-refused g t c = λ h.
     let inherited = option_map (shown_source g.S.SourceCode.source) c.args.inherited in
     let cause = tree_of g.D.Diagnostic.meaning g.S.SourceCode.source c.in-Diagnostic.next.now in
-    let nested = c.args.layout.nested in
+    let nested = c.args.settings.nested in
     let one : all_read (printed_inner nested (effective (source_of cause) inherited) cause) ≡ false = c.in_err-push_one_cause.ensures.refused (search rules) in
     c.loop-next.invariant.0.fails (subst (λ x. all_read (printed_causes nested inherited x) ≡ false) c.in-Diagnostic.ensures.value (one_cause_fails nested inherited cause one))
 
@@ -67,7 +67,7 @@ push_causes-returns-clause-ok g t c =
     let blank = leaves_plain g.H.Highlighter.is_blank c.args.pen.now.highlighter in
     let begun : List Call → Type 0 = follows g.H.Highlighter.may_follow c.args.pen.now.highlighter in
     let was : List Call → Type 0 = follows g.H.Highlighter.may_follow c.loop-next.pen.highlighter in
-    let s = settings_of c.args.layout in
+    let s = settings_of c.args.settings in
     let outer = c.args.outer in
     let inherited = option_map (shown_source g.S.SourceCode.source) c.args.inherited in
     let all = cause_of (tree_of g.D.Diagnostic.meaning g.S.SourceCode.source c.args.report.now) in
@@ -83,7 +83,7 @@ push_causes-returns-clause-ok g t c =
 pub push_one_cause-returns-clause-ok : goal.push_one_cause-returns-clause-ok
 push_one_cause-returns-clause-ok g t c =
     let blank = leaves_plain g.H.Highlighter.is_blank c.args.pen.now.highlighter in
-    let s = settings_of c.args.layout in
+    let s = settings_of c.args.settings in
     let outer = c.args.outer in
     let value = tree_of g.D.Diagnostic.meaning g.S.SourceCode.source c.args.cause.now in
     let own = option_map (shown_source g.S.SourceCode.source) c.own_or.result in
@@ -103,7 +103,7 @@ push_one_cause-returns-clause-ok g t c =
 pub inner_text-returns-clause-ok : goal.inner_text-returns-clause-ok
 inner_text-returns-clause-ok g t c =
     let blank = leaves_plain g.H.Highlighter.is_blank c.args.pen.now.highlighter in
-    let s = settings_of c.args.layout in
+    let s = settings_of c.args.settings in
     let source = option_map (shown_source g.S.SourceCode.source) c.args.source in
     let value = tree_of g.D.Diagnostic.meaning g.S.SourceCode.source c.args.report.now in
     inner_whole drawn_rows s blank (AreCallsOn g.H.Highlighter.may_follow c.args.pen.now.highlighter c.push_below.new.pen.highlighter) source value c.for_runs-text.result c.push_header_of.new.out c.push_message_of.new.out c.push_below.new.out (spell c.in_ok-without_leading.field-0)
@@ -111,15 +111,15 @@ inner_text-returns-clause-ok g t c =
 
 pub push_below-returns-in_err-push_rows-clause-refused : goal.push_below-returns-in_err-push_rows-clause-refused
 push_below-returns-in_err-push_rows-clause-refused g t c = λ h.
-    inner_rows_fail c.args.layout.nested (option_map (shown_source g.S.SourceCode.source) c.args.source) (tree_of g.D.Diagnostic.meaning g.S.SourceCode.source c.args.report.now)
+    inner_rows_fail c.args.settings.nested (option_map (shown_source g.S.SourceCode.source) c.args.source) (tree_of g.D.Diagnostic.meaning g.S.SourceCode.source c.args.report.now)
     (c.in_err-push_rows.ensures.refused (search rules))
 
 pub push_below-returns-in_err-push_related-clause-refused : goal.push_below-returns-in_err-push_related-clause-refused
 push_below-returns-in_err-push_related-clause-refused g t c = λ h.
     let source = option_map (shown_source g.S.SourceCode.source) c.args.source in
     let value = tree_of g.D.Diagnostic.meaning g.S.SourceCode.source c.args.report.now in
-    let related : all_read (printed_related c.args.layout.nested source (trees (map (tree_of g.D.Diagnostic.meaning g.S.SourceCode.source) c.related-related.result.now))) ≡ false = c.in_err-push_related.ensures.refused (search rules) in
-    inner_related_fail c.args.layout.nested source value (subst (λ r. all_read (printed_related c.args.layout.nested source r) ≡ false) c.related-related.ensures related)
+    let related : all_read (printed_related c.args.settings.nested source (trees (map (tree_of g.D.Diagnostic.meaning g.S.SourceCode.source) c.related-related.result.now))) ≡ false = c.in_err-push_related.ensures.refused (search rules) in
+    inner_related_fail c.args.settings.nested source value (subst (λ r. all_read (printed_related c.args.settings.nested source r) ≡ false) c.related-related.ensures related)
 
 pub push_below-returns-clause-ok : goal.push_below-returns-clause-ok
 push_below-returns-clause-ok g t c =
@@ -127,7 +127,7 @@ push_below-returns-clause-ok g t c =
     let begun : List Call → Type 0 = follows g.H.Highlighter.may_follow c.args.pen.now.highlighter in
     let mid : List Call → Type 0 = follows g.H.Highlighter.may_follow c.push_rows.new.pen.highlighter in
     let now : List Call → Type 0 = follows g.H.Highlighter.may_follow c.push_related.new.pen.highlighter in
-    let s = settings_of c.args.layout in
+    let s = settings_of c.args.settings in
     let source = option_map (shown_source g.S.SourceCode.source) c.args.source in
     let value = tree_of g.D.Diagnostic.meaning g.S.SourceCode.source c.args.report.now in
     let drawn = c.push_rows.new.out in
@@ -143,12 +143,12 @@ push_below-returns-clause-ok g t c =
 
 pub push_sibling-returns-in_err-push_causes-clause-refused : goal.push_sibling-returns-in_err-push_causes-clause-refused
 push_sibling-returns-in_err-push_causes-clause-refused g t c = λ h.
-    sibling_causes_fail c.args.layout.nested (option_map (shown_source g.S.SourceCode.source) c.args.source) (tree_of g.D.Diagnostic.meaning g.S.SourceCode.source c.args.report.now)
+    sibling_causes_fail c.args.settings.nested (option_map (shown_source g.S.SourceCode.source) c.args.source) (tree_of g.D.Diagnostic.meaning g.S.SourceCode.source c.args.report.now)
     (c.in_err-push_causes.ensures.refused (search rules))
 
 pub push_sibling-returns-in_err-push_below-clause-refused : goal.push_sibling-returns-in_err-push_below-clause-refused
 push_sibling-returns-in_err-push_below-clause-refused g t c = λ h.
-    sibling_below_fails c.args.layout.nested (option_map (shown_source g.S.SourceCode.source) c.args.source) (tree_of g.D.Diagnostic.meaning g.S.SourceCode.source c.args.report.now)
+    sibling_below_fails c.args.settings.nested (option_map (shown_source g.S.SourceCode.source) c.args.source) (tree_of g.D.Diagnostic.meaning g.S.SourceCode.source c.args.report.now)
     (c.in_err-push_below.ensures.refused (search rules))
 
 pub push_sibling-returns-clause-ok : goal.push_sibling-returns-clause-ok
@@ -157,7 +157,7 @@ push_sibling-returns-clause-ok g t c =
     let begun : List Call → Type 0 = follows g.H.Highlighter.may_follow c.args.pen.now.highlighter in
     let mid : List Call → Type 0 = follows g.H.Highlighter.may_follow c.push_causes.new.pen.highlighter in
     let now : List Call → Type 0 = follows g.H.Highlighter.may_follow c.push_below.new.pen.highlighter in
-    let s = settings_of c.args.layout in
+    let s = settings_of c.args.settings in
     let source = option_map (shown_source g.S.SourceCode.source) c.args.source in
     let value = tree_of g.D.Diagnostic.meaning g.S.SourceCode.source c.args.report.now in
     let titled = c.push_title.new.out in
@@ -173,7 +173,7 @@ push_sibling-returns-clause-ok g t c =
 pub push_nested-returns-clause-ok : goal.push_nested-returns-clause-ok
 push_nested-returns-clause-ok g t c =
     let blank = leaves_plain g.H.Highlighter.is_blank c.args.pen.now.highlighter in
-    let s = settings_of c.args.layout in
+    let s = settings_of c.args.settings in
     let outer = c.args.branch.outer in
     let last = c.args.branch.is_last in
     let source = option_map (shown_source g.S.SourceCode.source) c.args.source in
@@ -204,7 +204,7 @@ push_related-loop-rest-preserved g t c =
     let begun : List Call → Type 0 = follows g.H.Highlighter.may_follow c.args.pen.now.highlighter in
     let was : List Call → Type 0 = follows g.H.Highlighter.may_follow c.loop-rest.pen.highlighter in
     let next : List Call → Type 0 = follows g.H.Highlighter.may_follow c.push_one_related.new.pen.highlighter in
-    let s = settings_of c.args.layout in
+    let s = settings_of c.args.settings in
     let outer = c.args.outer in
     let inherited = option_map (shown_source g.S.SourceCode.source) c.args.inherited in
     let value = tree_of g.D.Diagnostic.meaning g.S.SourceCode.source in
@@ -228,7 +228,7 @@ pub push_related-returns-in_err-push_one_related-clause-refused : goal.push_rela
 push_related-returns-in_err-push_one_related-clause-refused g t c = λ h.
     let inherited = option_map (shown_source g.S.SourceCode.source) c.args.inherited in
     let value = tree_of g.D.Diagnostic.meaning g.S.SourceCode.source in
-    let nested = c.args.layout.nested in
+    let nested = c.args.settings.nested in
     let rs = c.loop-rest.rest.now in
     let more = take (length rs - 1) (drop 1 rs) in
     let item = c.report-item.result in
@@ -243,7 +243,7 @@ push_related-returns-clause-ok g t c =
     let blank = leaves_plain g.H.Highlighter.is_blank c.args.pen.now.highlighter in
     let begun : List Call → Type 0 = follows g.H.Highlighter.may_follow c.args.pen.now.highlighter in
     let was : List Call → Type 0 = follows g.H.Highlighter.may_follow c.loop-rest.pen.highlighter in
-    let s = settings_of c.args.layout in
+    let s = settings_of c.args.settings in
     let now = c.loop-rest.out in
     let inherited = option_map (shown_source g.S.SourceCode.source) c.args.inherited in
     let value = tree_of g.D.Diagnostic.meaning g.S.SourceCode.source in

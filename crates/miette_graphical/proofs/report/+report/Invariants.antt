@@ -42,7 +42,7 @@ invariant-push_causes-loop-next g l =
     let blank = leaves_plain g.H.Highlighter.is_blank l.fn.pen.highlighter in
     let begun = follows g.H.Highlighter.may_follow l.fn.pen.highlighter in
     let state = follows g.H.Highlighter.may_follow l.pen.highlighter in
-    CausesRemain drawn_rows (settings_of l.layout) blank begun state l.outer (option_map (shown_source g.S.SourceCode.source) l.inherited) (cause_of (value l.report)) (cause_of (value l.at)) l.fn.out l.out
+    CausesRemain drawn_rows (settings_of l.settings) blank begun state l.outer (option_map (shown_source g.S.SourceCode.source) l.inherited) (cause_of (value l.report)) (cause_of (value l.at)) l.fn.out l.out
     × (leaves_plain g.H.Highlighter.is_blank l.pen.highlighter ≡ blank)
 
 abbrev pub decreases-push_related-loop-rest : goal.decreases-push_related-loop-rest
@@ -54,5 +54,5 @@ invariant-push_related-loop-rest g l =
     let blank = leaves_plain g.H.Highlighter.is_blank l.fn.pen.highlighter in
     let begun = follows g.H.Highlighter.may_follow l.fn.pen.highlighter in
     let state = follows g.H.Highlighter.may_follow l.pen.highlighter in
-    RelatedRemain drawn_rows (settings_of l.layout) blank begun state l.outer (option_map (shown_source g.S.SourceCode.source) l.inherited) (trees (map value l.reports)) (trees (map value l.rest)) l.fn.out l.out
+    RelatedRemain drawn_rows (settings_of l.settings) blank begun state l.outer (option_map (shown_source g.S.SourceCode.source) l.inherited) (trees (map value l.reports)) (trees (map value l.rest)) l.fn.out l.out
     × (leaves_plain g.H.Highlighter.is_blank l.pen.highlighter ≡ blank)

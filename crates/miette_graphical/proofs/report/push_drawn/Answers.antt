@@ -14,12 +14,12 @@ use Rattle.miette_graphical.proofs.report.push_drawn.Goals as goal
 pub returns-in_err-page-clause-refused : goal.returns-in_err-page-clause-refused
 returns-in_err-page-clause-refused g c = λ h.
     let refused : c.in_err-page.field-0.0 ≡ errors.Refused = search rules in
-    refused_page (settings_of c.args.layout) (shown_source g.S.SourceCode.source c.args.source) c.args.labels.now (leaves_plain g.H.Highlighter.is_blank c.args.pen.now.highlighter) c.over-page.result
-    (subst (λ e. RefusesWith (layout_settings (settings_of c.args.layout)) (shown_source g.S.SourceCode.source c.args.source) c.args.labels.now (leaves_plain g.H.Highlighter.is_blank c.args.pen.now.highlighter) (AreCallsOn g.H.Highlighter.may_follow c.args.pen.now.highlighter c.snippets.new.highlighter) c.over-page.result e) refused c.in_err-page.ensures.gives)
+    refused_page (settings_of c.args.settings) (shown_source g.S.SourceCode.source c.args.source) c.args.labels.now (leaves_plain g.H.Highlighter.is_blank c.args.pen.now.highlighter) c.over-page.result
+    (subst (λ e. RefusesWith (layout_settings (settings_of c.args.settings)) (shown_source g.S.SourceCode.source c.args.source) c.args.labels.now (leaves_plain g.H.Highlighter.is_blank c.args.pen.now.highlighter) (AreCallsOn g.H.Highlighter.may_follow c.args.pen.now.highlighter c.snippets.new.highlighter) c.over-page.result e) refused c.in_err-page.ensures.gives)
 
 pub returns-clause-ok : goal.returns-clause-ok
 returns-clause-ok g c =
-    let s = settings_of c.args.layout in
+    let s = settings_of c.args.settings in
     let blank = leaves_plain g.H.Highlighter.is_blank c.args.pen.now.highlighter in
     let source = shown_source g.S.SourceCode.source c.args.source in
     let happen = AreCallsOn g.H.Highlighter.may_follow c.args.pen.now.highlighter c.snippets.new.highlighter in

@@ -15,7 +15,7 @@ use Rattle.miette_graphical.proofs.report.push_shown.Goals as goal
 pub returns-in-empty-clause-ok : goal.returns-in-empty-clause-ok
 returns-in-empty-clause-ok g c =
     let m = head (tree_of g.D.Diagnostic.meaning g.S.SourceCode.source c.args.report.now) in
-    let s = settings_of c.args.layout in
+    let s = settings_of c.args.settings in
     let blank = leaves_plain g.H.Highlighter.is_blank c.args.pen.now.highlighter in
     let now : List Call → Type 0 = follows g.H.Highlighter.may_follow c.args.pen.now.highlighter in
     let source = shown_source g.S.SourceCode.source c.args.source in

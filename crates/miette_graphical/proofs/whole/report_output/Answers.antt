@@ -15,13 +15,13 @@ use Rattle.miette_graphical.specs.steps.PrintedParts.{printed_inner}
 
 pub returns-in_err-push_root_causes-clause-refused : goal.returns-in_err-push_root_causes-clause-refused
 returns-in_err-push_root_causes-clause-refused g c = λ h.
-    root_causes_fail (settings_of c.args.layout) (tree_of g.D.Diagnostic.meaning g.S.SourceCode.source c.args.report.now) (c.in_err-push_root_causes.ensures.refused (search rules))
+    root_causes_fail (settings_of c.args.settings) (tree_of g.D.Diagnostic.meaning g.S.SourceCode.source c.args.report.now) (c.in_err-push_root_causes.ensures.refused (search rules))
 
 pub returns-in_err-push_below-clause-refused : goal.returns-in_err-push_below-clause-refused
 returns-in_err-push_below-clause-refused g c = λ h.
     let value = tree_of g.D.Diagnostic.meaning g.S.SourceCode.source c.args.report.now in
-    let below : all_read (printed_inner c.args.layout.nested (option_map (shown_source g.S.SourceCode.source) c.source_code.result) value) ≡ false = c.in_err-push_below.ensures.refused (search rules) in
-    root_below_fails (settings_of c.args.layout) value (subst (λ o. all_read (printed_inner c.args.layout.nested o value) ≡ false) c.source_code.ensures below)
+    let below : all_read (printed_inner c.args.settings.nested (option_map (shown_source g.S.SourceCode.source) c.source_code.result) value) ≡ false = c.in_err-push_below.ensures.refused (search rules) in
+    root_below_fails (settings_of c.args.settings) value (subst (λ o. all_read (printed_inner c.args.settings.nested o value) ≡ false) c.source_code.ensures below)
 
 pub returns-clause-ok : goal.returns-clause-ok
 returns-clause-ok g c =
@@ -29,7 +29,7 @@ returns-clause-ok g c =
     let begun : List Call → Type 0 = follows g.H.Highlighter.may_follow c.args.pen.now.highlighter in
     let mid : List Call → Type 0 = follows g.H.Highlighter.may_follow c.push_root_causes.new.pen.highlighter in
     let now : List Call → Type 0 = follows g.H.Highlighter.may_follow c.push_below.new.pen.highlighter in
-    let s = settings_of c.args.layout in
+    let s = settings_of c.args.settings in
     let value = tree_of g.D.Diagnostic.meaning g.S.SourceCode.source c.args.report.now in
     let source = option_map (shown_source g.S.SourceCode.source) c.source_code.result in
     let caused = c.push_root_causes.new.out in
