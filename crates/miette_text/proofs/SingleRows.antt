@@ -7,7 +7,7 @@ use Rattle.std.proofs.Math.Bool.{and-false}
 use Rattle.std.specs.Char.{is_whitespace}
 use Rattle.miette_style.specs.rules.Escapes.{is_escape, no_escape}
 use Rattle.miette_runs.specs.rules.Sequences.{Token, Character, tokens, spell, is_line_feed, are_settled}
-use Rattle.miette_text.specs.rules.FilledRows.{Fits, IsFilled}
+use Rattle.miette_text.specs.laws.FilledRows.{Fits, IsFilled}
 use Rattle.miette_text.specs.rules.Wrapping.{Cuts, TextLine, Plan, Word, all_white, cell_tokens, columns, cut_words, cuts_of, filled_text, first_room, further_room, is_space, joined_rows, map_indents, on_first, only_spaces, text_line_rows, text_lines, row_tokens, rows, text_rows, trimmed_row, whole_lines, with_code, with_rest, word_cells, wrapped_text}
 use Rattle.miette_runs.specs.rules.Cells.{Cell, columns_of, width}
 use Rattle.miette_text.specs.steps.Ends.{codes_of, row_cells}

@@ -1,7 +1,7 @@
 -- The rows of the rules are the only ones.
 use Rattle.std.proofs.Common.{◌≡◌, ℕ, ◌+◌, ◌<◌, ◌≤◌, Bool, true, false, nat_lt, List, [], ◌∷◌, ◌++◌, refl, sym, ap, ◌∙◌, if◌then◌else◌, ltb-true, ltb-false, lt-ltb, le-ltb}
 use Rattle.miette_text.specs.rules.Wrapping.{Word, columns, word_cells, rows, rows_behind}
-use Rattle.miette_text.specs.rules.FilledRows.{all_words, Fits, used_behind, Below, IsFilled}
+use Rattle.miette_text.specs.laws.FilledRows.{all_words, Fits, used_behind, Below, IsFilled}
 use Rattle.miette_style.specs.rules.Lists.{onto}
 
 -- the rest of a row behind so many columns, and the rows below it

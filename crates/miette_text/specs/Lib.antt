@@ -1,6 +1,7 @@
 pub mod rules
 pub mod views
 pub mod steps
+pub mod laws
 pub use Rattle.miette_style.specs.rules.Styles
 pub use Rattle.miette_style.specs.rules.Themes
 pub use Rattle.miette_highlight.specs.rules.Pieces

@@ -1,5 +1,4 @@
 -- What users rely on, in the words of docs/RULES.md.
-pub mod FilledRows
 pub mod Fitting
 pub mod Tame
 pub mod Wrapping
