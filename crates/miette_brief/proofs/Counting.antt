@@ -9,6 +9,7 @@ use Rattle.std.proofs.lemmas.Bool.{lt-ltb, and_parts, leb-true, ltb-true}
 use Rattle.std.proofs.lemmas.Bool.Decides.{nat_tests}
 use Rattle.std.proofs.lemmas.List.{length-append, length-map}
 use Rattle.std.proofs.lemmas.Str.{encode_ascii, NoCharPasses-nil, NoCharPasses-append}
+use Rattle.std.specs.Option.{option_len}
 use Rattle.miette_protocol.specs.rules.Reading.{Source}
 use Rattle.miette_protocol.specs.views.Meaning.{Label}
 use Rattle.miette_protocol.specs.declared.protocol.Severity.{Severity}
@@ -22,7 +23,7 @@ use Rattle.miette_brief.specs.declared.rows.Position.{Position}
 use Rattle.miette_brief.specs.rules.Rows.{Place, Kind, finding, note, cause, help, ReportRow, gap, shown_for, spaced_text, one_row, position_text, behind_colon, place_text, code_text, kind_text, row_text, rows_text}
 use Rattle.miette_brief.specs.rules.Places.{label_place, diagnostic_place}
 use Rattle.miette_brief.specs.rules.Report.{BriefSettings, Answers, RelatedAnswers, cause_answers, related_answers, first_answers, later_answers, note_rows_of, note_rows, cause_row, cause_rows, caused_rows, cause_rows_if, help_rows, own_rows, report_rows, related_rows, brief}
-use Rattle.miette_brief.specs.laws.Parts.{one_if, texts_in, told_causes, parts, all_parts, text_of_rows, IsRows}
+use Rattle.miette_brief.specs.laws.Parts.{texts_in, told_causes, parts, all_parts, text_of_rows, IsRows}
 
 -- ---- no control character
 
@@ -176,11 +177,11 @@ each_row (row ∷ rows) = ((text_clean row, text_nonempty row), each_row rows)
 
 -- ---- how many
 
-note_counted : (at : Place) (text : Option (List ℕ)) → length (note_rows_of at text) ≡ one_if text
+note_counted : (at : Place) (text : Option (List ℕ)) → length (note_rows_of at text) ≡ option_len text
 note_counted at None = refl
 note_counted at (Some text) = refl
 
-help_counted : (at : Place) (text : Option (List ℕ)) → length (help_rows at text) ≡ one_if text
+help_counted : (at : Place) (text : Option (List ℕ)) → length (help_rows at text) ≡ option_len text
 help_counted at None = refl
 help_counted at (Some text) = refl
 
@@ -190,16 +191,16 @@ notes_counted source (label ∷ labels) =
     length-append (note_rows_of (label_place source label.span) label.text) (note_rows source labels)
     ∙ ap₂ (λ m n. m + n) (note_counted (label_place source label.span) label.text) (notes_counted source labels)
 
-put_counted : (label : Label) (labels : List Label) → texts_in (put_label label labels) ≡ one_if label.text + texts_in labels
+put_counted : (label : Label) (labels : List Label) → texts_in (put_label label labels) ≡ option_len label.text + texts_in labels
 put_counted label [] = refl
 put_counted label (next ∷ labels) =
-    by_cases {C = texts_in (put_label label (next ∷ labels)) ≡ one_if label.text + texts_in (next ∷ labels)} (nat_le label.span.offset next.span.offset)
+    by_cases {C = texts_in (put_label label (next ∷ labels)) ≡ option_len label.text + texts_in (next ∷ labels)} (nat_le label.span.offset next.span.offset)
     (λ t. rw t refl)
     (λ f. rw f (let h = put_counted label labels in omega (arith, h)))
 
 order_counted : (labels : List Label) → texts_in (in_order labels) ≡ texts_in labels
 order_counted [] = refl
-order_counted (label ∷ labels) = put_counted label (in_order labels) ∙ ap (λ n. one_if label.text + n) (order_counted labels)
+order_counted (label ∷ labels) = put_counted label (in_order labels) ∙ ap (λ n. option_len label.text + n) (order_counted labels)
 
 mutual
   causes_counted : (at : Place) (inherited : Option Source) (a : Answers) (c : Cause) → length (cause_rows at inherited a c) ≡ length (causes_of c)
@@ -222,7 +223,7 @@ mutual
       let causes = cause_rows_if chain at from (cause_answers a) c in
       let n : length notes ≡ texts_in (given_labels m.labels) = notes_counted from (in_order (given_labels m.labels)) ∙ order_counted (given_labels m.labels) in
       let k : length causes ≡ told_causes chain (causes_of c) = told_counted chain at from (cause_answers a) c in
-      let tail : length (notes ++ (causes ++ help_rows at m.help)) ≡ texts_in (given_labels m.labels) + (told_causes chain (causes_of c) + one_if m.help) =
+      let tail : length (notes ++ (causes ++ help_rows at m.help)) ≡ texts_in (given_labels m.labels) + (told_causes chain (causes_of c) + option_len m.help) =
       length-append notes (causes ++ help_rows at m.help) ∙ ap₂ (λ x y. x + y) n (length-append causes (help_rows at m.help) ∙ ap₂ (λ x y. x + y) k (help_counted at m.help)) in
       let more = related_counted chain from (related_answers a) r in
       let whole = length-append (own_rows chain from a m c) (related_rows chain from (related_answers a) r) in

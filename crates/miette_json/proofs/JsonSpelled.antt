@@ -10,8 +10,9 @@ use Rattle.std.proofs.lemmas.Fmt.{decimal_by_steps}
 use Rattle.std.proofs.lemmas.Bool.{ltb-true, ltb-false, lt-ltb, le-ltb, cases_lt}
 use Rattle.std.proofs.lemmas.Bool.Decides.{eqb_tells, nat_tests}
 use Rattle.std.proofs.lemmas.Str.{encode_ascii, digit_value-digit_char}
-use Rattle.miette_json.specs.rules.Json.{Json, number, string, array, object, Items, no_items, item, Members, no_members, member, digits_within, numeral, is_escaped, escape_letter, escaped_byte, escaped_text, quoted_text, json_text, items_text, more_items_text, members_text, more_members_text}
+use Rattle.miette_json.specs.rules.Json.{Json, number, string, array, object, Items, no_items, item, Members, no_members, member, digits_within, numeral, is_escaped, escaped_text, quoted_text, json_text, items_text, more_items_text, members_text, more_members_text}
 use Rattle.miette_json.specs.rules.Denotes.{Token, structural, text, whole, tokens_then, items_then, more_items_then, members_then, more_members_then, StringPart, plain, short, unit, short_for, IsStringPart, hex, part_text, part_value, AreStringParts, all_written, all_meant, IsDigit, AreDigits, value_after, NoLeadingZero, NoDigitNext, IsStructural, IsString, IsNumber, Begins, Next, AreTokens, HasTokensOf}
+use Rattle.json.specs.Print.{escape_letter, escape_byte}
 
 -- ---- numbers
 
@@ -143,28 +144,28 @@ letter_cases x =
     ]
 
 -- the three ways to write a byte
-pub byte_short : (x : ℕ) → 0 < escape_letter x → escaped_byte x ≡ 92 ∷ escape_letter x ∷ []
-unfolding escaped_byte
+pub byte_short : (x : ℕ) → 0 < escape_letter x → escape_byte x ≡ 92 ∷ escape_letter x ∷ []
+unfolding escape_byte
 byte_short x h = rw (lt-ltb 0 (escape_letter x) h) refl
 
-pub byte_low : (x : ℕ) → escape_letter x ≡ 0 → x < 32 → escaped_byte x ≡ 92 ∷ 117 ∷ 48 ∷ 48 ∷ digit_char (x / 16) ∷ digit_char (x % 16) ∷ []
-unfolding escaped_byte
+pub byte_low : (x : ℕ) → escape_letter x ≡ 0 → x < 32 → escape_byte x ≡ 92 ∷ 117 ∷ 48 ∷ 48 ∷ digit_char (x / 16) ∷ digit_char (x % 16) ∷ []
+unfolding escape_byte
 byte_low x e h = rw (le-ltb 0 (escape_letter x) (omega arith), lt-ltb x 32 h) refl
 
-byte_plain : (x : ℕ) → escape_letter x ≡ 0 → 32 ≤ x → escaped_byte x ≡ x ∷ []
-unfolding escaped_byte
+byte_plain : (x : ℕ) → escape_letter x ≡ 0 → 32 ≤ x → escape_byte x ≡ x ∷ []
+unfolding escape_byte
 byte_plain x e h = rw (le-ltb 0 (escape_letter x) (omega arith), le-ltb x 32 h) refl
 
 -- a byte that may not stand for itself and has no short escape is a control character
 pub byte_control : (x : ℕ) → x ≢ 34 → x ≢ 92 → x ≢ 8 → x ≢ 12 → x ≢ 10 → x ≢ 13 → x ≢ 9 → is_escaped x ≡ true
-    → escaped_byte x ≡ 92 ∷ 117 ∷ 48 ∷ 48 ∷ digit_char (x / 16) ∷ digit_char (x % 16) ∷ []
+    → escape_byte x ≡ 92 ∷ 117 ∷ 48 ∷ 48 ∷ digit_char (x / 16) ∷ digit_char (x % 16) ∷ []
 byte_control x a b d f g h k e =
     let none : escape_letter x ≡ 0 = grind (arith, nat_tests) in
     let low : x < 32 = grind (arith, nat_tests) in
     byte_low x none low
 
 -- a byte that may stand for itself does
-pub byte_itself : (x : ℕ) → is_escaped x ≡ false → escaped_byte x ≡ x ∷ []
+pub byte_itself : (x : ℕ) → is_escaped x ≡ false → escape_byte x ≡ x ∷ []
 byte_itself x e =
     let none : escape_letter x ≡ 0 = grind (arith, nat_tests) in
     let high : 32 ≤ x = grind (arith, nat_tests) in
@@ -194,13 +195,13 @@ next_escape xs i e =
 
 -- what is written up to it and with it
 pub run_written : (start mid new xs goal : List ℕ) (i : ℕ) → NextEscape xs i → start ++ escaped_text xs ≡ goal
-    → mid ≡ start ++ take i xs → new ≡ mid ++ escaped_byte (get_or xs i 0) → new ++ escaped_text (drop (i + 1) xs) ≡ goal
+    → mid ≡ start ++ take i xs → new ≡ mid ++ escape_byte (get_or xs i 0) → new ++ escaped_text (drop (i + 1) xs) ≡ goal
 run_written start mid new xs goal i n e f g =
     let x = get_or xs i 0 in
     let after = escaped_text (drop (i + 1) xs) in
-    let cut : escaped_text (drop i xs) ≡ escaped_byte x ++ after = ap escaped_text (drop-cons xs i 0 n.inside ∙ ap (λ k. x ∷ drop k xs) (sym (add-one i))) in
-    let split : escaped_text xs ≡ take i xs ++ (escaped_byte x ++ after) = escaped_run xs i (omega (arith, n.inside)) n.before ∙ ap (λ l. take i xs ++ l) cut in
-    ap (λ l. l ++ after) g ∙ (append_assoc mid (escaped_byte x) after ∙ (ap (λ l. l ++ (escaped_byte x ++ after)) f ∙ (append_assoc start (take i xs) (escaped_byte x ++ after) ∙ (ap (λ l. start ++ l) (sym split) ∙ e))))
+    let cut : escaped_text (drop i xs) ≡ escape_byte x ++ after = ap escaped_text (drop-cons xs i 0 n.inside ∙ ap (λ k. x ∷ drop k xs) (sym (add-one i))) in
+    let split : escaped_text xs ≡ take i xs ++ (escape_byte x ++ after) = escaped_run xs i (omega (arith, n.inside)) n.before ∙ ap (λ l. take i xs ++ l) cut in
+    ap (λ l. l ++ after) g ∙ (append_assoc mid (escape_byte x) after ∙ (ap (λ l. l ++ (escape_byte x ++ after)) f ∙ (append_assoc start (take i xs) (escape_byte x ++ after) ∙ (ap (λ l. start ++ l) (sym split) ∙ e))))
 
 -- no byte is escaped where none is found
 one_plain : (x : ℕ) (xs : List ℕ) (b : Bool) → is_escaped x ≡ b → suc (length xs) ≤ cond (not b) (1 + prefix_len (λ y. not (is_escaped y)) xs) 0
@@ -226,13 +227,13 @@ no_such x y e h i = let same : escape_letter x ≡ escape_letter y = ap escape_l
 -- ---- what several writes add
 
 -- \u00 and two digits in base 16 are written
-pub control_written : (out front mid new : List ℕ) (x h l : ℕ) → escaped_byte x ≡ 92 ∷ 117 ∷ 48 ∷ 48 ∷ digit_char (x / 16) ∷ digit_char (x % 16) ∷ []
+pub control_written : (out front mid new : List ℕ) (x h l : ℕ) → escape_byte x ≡ 92 ∷ 117 ∷ 48 ∷ 48 ∷ digit_char (x / 16) ∷ digit_char (x % 16) ∷ []
     → front ≡ out ++ 92 ∷ 117 ∷ 48 ∷ 48 ∷ [] → h ≡ digit_char (x / 16) → h < 128 → mid ≡ front ++ encode_utf8 h → l ≡ digit_char (x % 16) → l < 128
-    → new ≡ mid ++ encode_utf8 l → new ≡ out ++ escaped_byte x
+    → new ≡ mid ++ encode_utf8 l → new ≡ out ++ escape_byte x
 control_written out front mid new x h l is e i k f j m g =
     let high : encode_utf8 h ≡ h ∷ [] = encode_ascii h k in
     let low : encode_utf8 l ≡ l ∷ [] = encode_ascii l m in
-    let whole : escaped_byte x ≡ 92 ∷ 117 ∷ 48 ∷ 48 ∷ h ∷ l ∷ [] = is ∙ (ap (λ y. 92 ∷ 117 ∷ 48 ∷ 48 ∷ y ∷ digit_char (x % 16) ∷ []) (sym i) ∙ ap (λ y. 92 ∷ 117 ∷ 48 ∷ 48 ∷ h ∷ y ∷ []) (sym j)) in
+    let whole : escape_byte x ≡ 92 ∷ 117 ∷ 48 ∷ 48 ∷ h ∷ l ∷ [] = is ∙ (ap (λ y. 92 ∷ 117 ∷ 48 ∷ 48 ∷ y ∷ digit_char (x % 16) ∷ []) (sym i) ∙ ap (λ y. 92 ∷ 117 ∷ 48 ∷ 48 ∷ h ∷ y ∷ []) (sym j)) in
     let seam : mid ≡ out ++ 92 ∷ 117 ∷ 48 ∷ 48 ∷ h ∷ [] = f ∙ (ap (λ y. y ++ encode_utf8 h) e ∙ (append_assoc out (92 ∷ 117 ∷ 48 ∷ 48 ∷ []) (encode_utf8 h) ∙ ap (λ y. out ++ 92 ∷ 117 ∷ 48 ∷ 48 ∷ y) high)) in
     g ∙ (ap (λ y. y ++ encode_utf8 l) seam ∙ (append_assoc out (92 ∷ 117 ∷ 48 ∷ 48 ∷ h ∷ []) (encode_utf8 l) ∙ ap (λ y. out ++ y) (ap (λ y. 92 ∷ 117 ∷ 48 ∷ 48 ∷ h ∷ y) low ∙ sym whole)))
 
@@ -241,7 +242,7 @@ control_written out front mid new x h l is e i k f j m g =
 record SpellsByte (x : ℕ) : Type 0 where
   piece : StringPart
   right : IsStringPart piece
-  spelled : (rest : List ℕ) → escaped_byte x ++ rest ≡ part_text piece rest
+  spelled : (rest : List ℕ) → escape_byte x ++ rest ≡ part_text piece rest
   means : part_value piece ≡ x ∷ []
 
 low_byte : (x : ℕ) → escape_letter x ≡ 0 → x < 32 → SpellsByte x
@@ -289,7 +290,7 @@ spells_all (x ∷ s) =
     record {
       pieces = b.piece ∷ r.pieces;
       right = (b.right, r.right);
-      spelled = λ rest. append_assoc (escaped_byte x) (escaped_text s) rest ∙ (b.spelled (escaped_text s ++ rest) ∙ ap (part_text b.piece) (r.spelled rest));
+      spelled = λ rest. append_assoc (escape_byte x) (escaped_text s) rest ∙ (b.spelled (escaped_text s ++ rest) ∙ ap (part_text b.piece) (r.spelled rest));
       means = ap (λ l. l ++ all_meant r.pieces) b.means ∙ ap (λ l. x ∷ l) r.means;
     }
 

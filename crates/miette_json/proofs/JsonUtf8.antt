@@ -6,9 +6,10 @@ use Rattle.std.proofs.lemmas.Bool.{le-ltb, cases_lt}
 use Rattle.std.proofs.lemmas.Bool.Decides.{nat_tests}
 use Rattle.std.proofs.lemmas.Str.{encode_ascii, digit_value-digit_char, IsUtf8-nil, IsUtf8-append, IsUtf8-encode, IsUtf8-take, IsUtf8-drop, IsCharBoundary-before_ascii, IsCharBoundary-after_ascii}
 use Rattle.std.proofs.lemmas.List.{take_at}
-use Rattle.miette_json.specs.rules.Json.{Json, number, string, array, object, Items, no_items, item, Members, no_members, member, numeral, is_escaped, escape_letter, escaped_byte, escaped_text, quoted_text, json_text, items_text, more_items_text, members_text, more_members_text}
+use Rattle.miette_json.specs.rules.Json.{Json, number, string, array, object, Items, no_items, item, Members, no_members, member, numeral, is_escaped, escaped_text, quoted_text, json_text, items_text, more_items_text, members_text, more_members_text}
 use Rattle.miette_json.specs.rules.Denotes.{Token, text, whole, tokens_then, items_then, more_items_then, members_then, more_members_then, StringPart, plain, short, unit, pair, short_for, IsHex, AreHex, hex, AreStringParts, all_written, all_meant, AreDigits, AreBlank, IsBlank, IsString, Next, AreTokens, TextsAreUtf8, HasUtf8Texts, structural, IsStructural}
 use Rattle.miette_json.proofs.JsonSpelled.{letter_cases, byte_short, byte_low, byte_itself, escaped_is_ascii, number_spelled}
+use Rattle.json.specs.Print.{escape_letter, escape_byte}
 
 -- ---- texts are cut at ASCII bytes
 
@@ -79,7 +80,7 @@ control_utf8 x y a b =
 no_letter_low : (x : ℕ) → is_escaped x ≡ true → escape_letter x ≡ 0 → x < 32
 no_letter_low x e n = grind (arith, nat_tests)
 
-escape_utf8 : (x : ℕ) → is_escaped x ≡ true → IsUtf8 (escaped_byte x)
+escape_utf8 : (x : ℕ) → is_escaped x ≡ true → IsUtf8 (escape_byte x)
 escape_utf8 x e = elim (letter_cases x) [
   | inl l ↦ subst IsUtf8 (sym (byte_short x l.above)) (two_low 92 (escape_letter x) (omega arith) (short_low (escape_letter x) (λ z. absurd (omega (arith, l.back, l.seen, z)))))
   | inr n ↦
@@ -94,9 +95,9 @@ escaped_step : (pre : List ℕ) (x : ℕ) (s : List ℕ) (b : Bool) → is_escap
     → IsUtf8 (pre ++ escaped_text (x ∷ s))
 escaped_step pre x s true e u more =
     let c = cut pre s x (escaped_is_ascii x e) u in
-    IsUtf8-append pre (escaped_byte x ++ escaped_text s) c.0 (IsUtf8-append (escaped_byte x) (escaped_text s) (escape_utf8 x e) (more [] c.1))
+    IsUtf8-append pre (escape_byte x ++ escaped_text s) c.0 (IsUtf8-append (escape_byte x) (escaped_text s) (escape_utf8 x e) (more [] c.1))
 escaped_step pre x s false e u more =
-    let same : (pre ++ x ∷ []) ++ escaped_text s ≡ pre ++ (escaped_byte x ++ escaped_text s) = append_assoc pre (x ∷ []) (escaped_text s) ∙ ap (λ b. pre ++ (b ++ escaped_text s)) (sym (byte_itself x e)) in
+    let same : (pre ++ x ∷ []) ++ escaped_text s ≡ pre ++ (escape_byte x ++ escaped_text s) = append_assoc pre (x ∷ []) (escaped_text s) ∙ ap (λ b. pre ++ (b ++ escaped_text s)) (sym (byte_itself x e)) in
     subst IsUtf8 same (more (pre ++ x ∷ []) (subst IsUtf8 (sym (append_assoc pre (x ∷ []) s)) u))
 
 escaped_utf8 : (s pre : List ℕ) → IsUtf8 (pre ++ s) → IsUtf8 (pre ++ escaped_text s)

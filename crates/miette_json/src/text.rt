@@ -2,7 +2,8 @@
 
 ghost use Rattle.std.specs.Prelude.{◌≡◌, ◌<◌, ◌++◌, true, OnOk, position, string_bytes};
 ghost use Rattle.std.specs.Char.{digit_char};
-ghost use Rattle.miette_json.specs.rules.Json.{numeral, is_escaped, escaped_byte, escaped_text, quoted_text};
+ghost use Rattle.miette_json.specs.rules.Json.{numeral, is_escaped, escaped_text, quoted_text};
+ghost use Rattle.json.specs.Print.{escape_byte};
 
 use std::alloc::AllocError;
 
@@ -53,7 +54,7 @@ fn needs_escape(byte: u8) -> bool
 #[tactic(auto, using(crate::proofs::JsonSpelled::byte_short, crate::proofs::JsonSpelled::byte_control))]
 fn push_escape(out: &mut String, byte: u8) -> Result<(), AllocError>
     requires { is_escaped byte ≡ true }
-    ensures { OnOk result (string_bytes out.new ≡ string_bytes out.old ++ escaped_byte byte) }
+    ensures { OnOk result (string_bytes out.new ≡ string_bytes out.old ++ escape_byte byte) }
 {
     match byte {
         b'"' => out.push_str("\\\""),

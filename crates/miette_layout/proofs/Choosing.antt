@@ -1,5 +1,5 @@
 -- The primary label among labels that were read, and the rows of groups one after the other.
-use Rattle.std.proofs.Common.{ℕ, Bool, ◌≡◌, true, false, cond, List, [], ◌∷◌, map, Option, Some, None, refl, sym, ap, ◌∙◌, subst, arith, All}
+use Rattle.std.proofs.Common.{ℕ, Bool, ◌≡◌, true, false, cond, List, [], ◌∷◌, map, Option, Some, None, refl, sym, ap, ◌∙◌, subst, arith, All, unwrap_or}
 use Rattle.std.proofs.lemmas.List.Elements.{All-tail}
 use Rattle.std.specs.List.{filter}
 use Rattle.std.specs.Option.{option_map}
@@ -13,7 +13,7 @@ use Rattle.miette_lines.specs.rules.Contexts.{contents}
 use Rattle.miette_snippets.specs.rules.Frames.{Place}
 use Rattle.miette_lines.specs.views.GivenLabels.{label_at}
 use Rattle.miette_snippets.specs.rules.SnippetLayout.{is_within, first_marked, primary_of, begins_at, place_of}
-use Rattle.miette_lines.specs.views.Primary.{lies_within, or_else, chosen_label, PointsTo, begins_of, is_unread}
+use Rattle.miette_lines.specs.views.Primary.{lies_within, chosen_label, PointsTo, begins_of, is_unread}
 use Rattle.miette_lines.specs.views.Reads.{IsRead}
 use Rattle.miette_lines.proofs.Numbers.{by_cases}
 use Rattle.miette_lines.proofs.Refusing.{read_of}
@@ -21,7 +21,7 @@ use Rattle.miette_lines.proofs.Refusing.{read_of}
 -- the span of the first label that is marked, else of the first one that was found
 abbrev marked : Option Span → List Label → Option Span
 marked first [] = first
-marked first (l ∷ ls) = cond l.primary (Some l.span) (marked (Some (or_else first l.span)) ls)
+marked first (l ∷ ls) = cond l.primary (Some l.span) (marked (Some (unwrap_or first l.span)) ls)
 
 marked_first : (first : Label) (ls : List Label) → marked (Some first.span) ls ≡ Some (first_marked first ls).span
 marked_first first [] = refl
@@ -43,9 +43,9 @@ chosen_marked context source labels own group first (r ∷ rs) h =
     let within : is_within own group l ≡ lies_within own group r.span = ap (lies_within own group) (sym mine.span) in
     by_cases {C = chosen_label own group first (r ∷ rs) ≡ marked first (filter (is_within own group) (map (read_of labels) (r ∷ rs)))} (lies_within own group r.span)
     (λ t. let u : is_within own group l ≡ true = within ∙ t in
-    rw (t, u) (ap (λ b. cond b (Some r.span) (chosen_label own group (Some (or_else first r.span)) rs)) mine.primary
-    ∙ ap (λ s. cond l.primary (Some s) (chosen_label own group (Some (or_else first s)) rs)) mine.span
-    ∙ ap (cond l.primary (Some l.span)) (chosen_marked context source labels own group (Some (or_else first l.span)) rs later)))
+    rw (t, u) (ap (λ b. cond b (Some r.span) (chosen_label own group (Some (unwrap_or first r.span)) rs)) mine.primary
+    ∙ ap (λ s. cond l.primary (Some s) (chosen_label own group (Some (unwrap_or first s)) rs)) mine.span
+    ∙ ap (cond l.primary (Some l.span)) (chosen_marked context source labels own group (Some (unwrap_or first l.span)) rs later)))
     (λ f. let u : is_within own group l ≡ false = within ∙ f in rw (f, u) (chosen_marked context source labels own group first rs later))
 
 -- the chosen span is that of the primary label
@@ -58,7 +58,7 @@ abbrev IfAccepted : List ℕ → Option Span → Type 0
 IfAccepted bytes None = Unit {0}
 IfAccepted bytes (Some span) = IsAccepted bytes span
 
-accepted_else : (bytes : List ℕ) (first : Option Span) (span : Span) → IfAccepted bytes first → IsAccepted bytes span → IsAccepted bytes (or_else first span)
+accepted_else : (bytes : List ℕ) (first : Option Span) (span : Span) → IfAccepted bytes first → IsAccepted bytes span → IsAccepted bytes (unwrap_or first span)
 accepted_else bytes None span h mine = mine
 accepted_else bytes (Some first) span h mine = h
 
@@ -71,7 +71,7 @@ chosen_accepted context source labels own group first (r ∷ rs) k h =
     by_cases {C = IfAccepted source.bytes (chosen_label own group first (r ∷ rs))} (lies_within own group r.span)
     (λ t. by_cases {C = IfAccepted source.bytes (chosen_label own group first (r ∷ rs))} r.primary
     (λ u. rw (t, u) mine.accepted)
-    (λ g. rw (t, g) (chosen_accepted context source labels own group (Some (or_else first r.span)) rs (accepted_else source.bytes first r.span k mine.accepted) later)))
+    (λ g. rw (t, g) (chosen_accepted context source labels own group (Some (unwrap_or first r.span)) rs (accepted_else source.bytes first r.span k mine.accepted) later)))
     (λ f. rw f (chosen_accepted context source labels own group first rs k later))
 
 -- a place that can't be read is one of a source that may fail

@@ -1,5 +1,5 @@
 -- The label that a frame points to.
-use Rattle.std.proofs.Common.{ℕ, zero, suc, ◌+◌, ◌-◌, ◌<◌, ◌≤◌, ◌≡◌, Bool, true, false, leb, ltb, List, [], ◌∷◌, length, map, take, drop, get_or, Option, Some, None, refl, sym, ap, arith, All}
+use Rattle.std.proofs.Common.{ℕ, zero, suc, ◌+◌, ◌-◌, ◌<◌, ◌≤◌, ◌≡◌, Bool, true, false, leb, ltb, List, [], ◌∷◌, length, map, take, drop, get_or, Option, Some, None, refl, sym, ap, arith, All, unwrap_or}
 use Rattle.std.proofs.lemmas.Bool.Decides.{nat_tests}
 use Rattle.miette_protocol.specs.views.Meaning.{Label}
 use Rattle.miette_protocol.specs.rules.Reading.{Span, Source}
@@ -7,7 +7,7 @@ use Rattle.miette_lines.specs.declared.reading.ReadLabel.{ReadLabel}
 use Rattle.miette_lines.specs.rules.Contexts.{end_of_span}
 use Rattle.miette_lines.specs.views.GivenLabels.{label_at}
 use Rattle.miette_lines.specs.rules.Groups.{spans_of}
-use Rattle.miette_lines.specs.views.Primary.{end_within, lies_within, or_else, chosen_label}
+use Rattle.miette_lines.specs.views.Primary.{end_within, lies_within, chosen_label}
 use Rattle.miette_lines.specs.views.Reads.{IsRead}
 use Rattle.miette_lines.proofs.Numbers.{by_cases}
 use Rattle.miette_lines.proofs.Merging.{IsAscending}
@@ -48,7 +48,7 @@ front_chosen own group first (suc n) (r ∷ rs) h =
     by_cases {C = chosen_label own group first (r ∷ take n rs) ≡ chosen_label own group first (r ∷ rs)} (lies_within own group r.span)
     (λ t. by_cases {C = chosen_label own group first (r ∷ take n rs) ≡ chosen_label own group first (r ∷ rs)} r.primary
     (λ u. rw (t, u) refl)
-    (λ g. rw (t, g) (front_chosen own group (Some (or_else first r.span)) n rs later)))
+    (λ g. rw (t, g) (front_chosen own group (Some (unwrap_or first r.span)) n rs later)))
     (λ f. rw f (front_chosen own group first n rs later))
 
 pub between_chosen : (own : Bool) (group : Span) (first : Option Span) (m n : ℕ) (reads : List ReadLabel) → ((j : ℕ) (d : ReadLabel) → j < m → j < length reads → IsOutside own group (get_or reads j d)) →

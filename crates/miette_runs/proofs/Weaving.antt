@@ -2,9 +2,10 @@
 use Rattle.std.proofs.Common.{◌≡◌, true, false, if◌then◌else◌, nat_le, ℕ, zero, suc, ◌+◌, ◌-◌, ◌<◌, ◌≤◌, List, [], ◌∷◌, ◌++◌, map, length, length-drop, min, take, drop, drop-drop, get_or, refl, sym, ap, ap₂, ◌∙◌, arith, append_assoc, append-nil}
 use Rattle.std.proofs.lemmas.Bool.Decides.{nat_tests}
 use Rattle.std.proofs.lemmas.List.{drop_more, drop_all, take_all}
+use Rattle.std.specs.List.{concat}
 use Rattle.miette_runs.specs.steps.Cells.{plain_cell, plain_cells}
 use Rattle.miette_runs.specs.rules.Cells.{tags_text, piece_text, Cell}
-use Rattle.miette_runs.specs.rules.Sequences.{Token, Character, spell, concatenation}
+use Rattle.miette_runs.specs.rules.Sequences.{Token, Character, spell}
 use Rattle.miette_runs.specs.views.Interleaving.{tag_text, tag_token, upto, beyond, interleaving, cells_at, left_at, tags_spelled}
 use Rattle.miette_runs.specs.declared.runs.sign.Tag.{Tag}
 use Rattle.miette_runs.proofs.Appending.{appended}
@@ -58,13 +59,13 @@ woven-gap (suc k) p (c ∷ cs) m ms h =
 text-near : (p : ℕ) (cs : List ℕ) (m : Tag) (ms : List Tag) → m.at ≤ p → 0 < length cs → piece_text (cells_at p cs (m ∷ ms)) ≡ tag_text m ++ piece_text (cells_at p cs ms)
 text-near p [] m ms h l = absurd (omega arith)
 text-near p (c ∷ cs) m ms h l =
-    ap₂ (λ us vs. (concatenation (map tag_text us) ++ c ∷ []) ++ piece_text (cells_at (suc p) cs vs)) (upto-near p m ms h) (beyond-near p m ms h)
+    ap₂ (λ us vs. (concat (map tag_text us) ++ c ∷ []) ++ piece_text (cells_at (suc p) cs vs)) (upto-near p m ms h) (beyond-near p m ms h)
     ∙ simp append_assoc
 
 tags-near : (p : ℕ) (cs : List ℕ) (m : Tag) (ms : List Tag) → m.at ≤ p → 0 < length cs → tags_text (cells_at p cs (m ∷ ms)) ≡ tag_text m ++ tags_text (cells_at p cs ms)
 tags-near p [] m ms h l = absurd (omega arith)
 tags-near p (c ∷ cs) m ms h l =
-    ap₂ (λ us vs. concatenation (map tag_text us) ++ tags_text (cells_at (suc p) cs vs)) (upto-near p m ms h) (beyond-near p m ms h)
+    ap₂ (λ us vs. concat (map tag_text us) ++ tags_text (cells_at (suc p) cs vs)) (upto-near p m ms h) (beyond-near p m ms h)
     ∙ simp append_assoc
 
 left-near : (p : ℕ) (cs : List ℕ) (m : Tag) (ms : List Tag) → m.at ≤ p → 0 < length cs → left_at p cs (m ∷ ms) ≡ left_at p cs ms
@@ -164,9 +165,9 @@ woven-step s n k cs ms m h i e =
 
 -- ---- what the whole prints
 
-spell-tags-before : (ms : List Tag) (ts : List Token) → spell (map tag_token ms ++ ts) ≡ concatenation (map tag_text ms) ++ spell ts
+spell-tags-before : (ms : List Tag) (ts : List Token) → spell (map tag_token ms ++ ts) ≡ concat (map tag_text ms) ++ spell ts
 spell-tags-before [] ts = refl
-spell-tags-before (m ∷ ms) ts = ap (λ xs. tag_text m ++ xs) (spell-tags-before ms ts) ∙ sym (append_assoc (tag_text m) (concatenation (map tag_text ms)) (spell ts))
+spell-tags-before (m ∷ ms) ts = ap (λ xs. tag_text m ++ xs) (spell-tags-before ms ts) ∙ sym (append_assoc (tag_text m) (concat (map tag_text ms)) (spell ts))
 
 spell-tags-left : (ms : List Tag) → spell (map tag_token ms) ≡ tags_spelled ms
 spell-tags-left [] = refl
@@ -175,7 +176,7 @@ spell-tags-left (m ∷ ms) = ap (λ xs. tag_text m ++ xs) (spell-tags-left ms)
 pub spell-woven : (p : ℕ) (cs : List ℕ) (ms : List Tag) → spell (interleaving p cs ms) ≡ piece_text (cells_at p cs ms) ++ tags_spelled (left_at p cs ms)
 spell-woven p [] ms = spell-tags-left ms
 spell-woven p (c ∷ cs) ms =
-    let us = concatenation (map tag_text (upto p ms)) in
+    let us = concat (map tag_text (upto p ms)) in
     let next = piece_text (cells_at (suc p) cs (beyond p ms)) in
     let left = tags_spelled (left_at (suc p) cs (beyond p ms)) in
     spell-tags-before (upto p ms) (Character c ∷ interleaving (suc p) cs (beyond p ms))

@@ -1,6 +1,6 @@
 -- The first word, and a row without its last spaces.
 use Rattle.std.proofs.Common.{◌≡◌, ℕ, suc, Bool, true, false, not, ◌&&◌, List, [], ◌∷◌, ◌++◌, length, take, drop, refl, sym, ap, ap₂, ◌∙◌, append_assoc, if◌then◌else◌}
-use Rattle.miette_runs.specs.rules.Sequences.{concatenation}
+use Rattle.std.specs.List.{concat}
 use Rattle.miette_text.specs.rules.Wrapping.{Word, words, with_space, with_letter, is_space}
 use Rattle.miette_runs.specs.rules.Cells.{Cell, piece_text, tags_text}
 use Rattle.miette_text.specs.steps.Ends.{all_spaces, bare_len}
@@ -59,18 +59,18 @@ and-right false false e = e
 shown-spaces : (cs : List Cell) → all_spaces cs ≡ true → shown cs ≡ tags_text cs
 shown-spaces [] e = refl
 shown-spaces (c ∷ cs) e =
-    ap (λ (b : Bool). concatenation c.tags ++ ((if not b then c.code ∷ [] else []) ++ shown cs)) e
-    ∙ ap (λ (xs : List ℕ). concatenation c.tags ++ xs) (shown-spaces cs (and-right (is_space c.code) (all_spaces cs) e))
+    ap (λ (b : Bool). concat c.tags ++ ((if not b then c.code ∷ [] else []) ++ shown cs)) e
+    ∙ ap (λ (xs : List ℕ). concat c.tags ++ xs) (shown-spaces cs (and-right (is_space c.code) (all_spaces cs) e))
 
 pub shown-bare : (cs : List Cell) → shown cs ≡ piece_text (take (bare_len cs) cs) ++ tags_text (drop (bare_len cs) cs)
 shown-bare [] = refl
 shown-bare (c ∷ cs) =
-    elim (is_space c.code && all_spaces cs) as (λ b. (is_space c.code && all_spaces cs) ≡ b → concatenation c.tags ++ ((if not b then c.code ∷ [] else []) ++ shown cs) ≡ piece_text (take (if b then 0 else suc (bare_len cs)) (c ∷ cs)) ++ tags_text (drop (if b then 0 else suc (bare_len cs)) (c ∷ cs))) [
-      | true ↦ λ e. ap (λ (xs : List ℕ). concatenation c.tags ++ xs) (shown-spaces cs (and-right (is_space c.code) (all_spaces cs) e))
+    elim (is_space c.code && all_spaces cs) as (λ b. (is_space c.code && all_spaces cs) ≡ b → concat c.tags ++ ((if not b then c.code ∷ [] else []) ++ shown cs) ≡ piece_text (take (if b then 0 else suc (bare_len cs)) (c ∷ cs)) ++ tags_text (drop (if b then 0 else suc (bare_len cs)) (c ∷ cs))) [
+      | true ↦ λ e. ap (λ (xs : List ℕ). concat c.tags ++ xs) (shown-spaces cs (and-right (is_space c.code) (all_spaces cs) e))
       | false ↦ λ e.
-          sym (append_assoc (concatenation c.tags) (c.code ∷ []) (shown cs))
-          ∙ ap (λ (xs : List ℕ). (concatenation c.tags ++ c.code ∷ []) ++ xs) (shown-bare cs)
-          ∙ sym (append_assoc (concatenation c.tags ++ c.code ∷ []) (piece_text (take (bare_len cs) cs)) (tags_text (drop (bare_len cs) cs)))
+          sym (append_assoc (concat c.tags) (c.code ∷ []) (shown cs))
+          ∙ ap (λ (xs : List ℕ). (concat c.tags ++ c.code ∷ []) ++ xs) (shown-bare cs)
+          ∙ sym (append_assoc (concat c.tags ++ c.code ∷ []) (piece_text (take (bare_len cs) cs)) (tags_text (drop (bare_len cs) cs)))
     ] refl
 
 spaces-snoc : (cs : List Cell) (c : Cell) → all_spaces (cs ++ c ∷ []) ≡ (all_spaces cs && is_space c.code)

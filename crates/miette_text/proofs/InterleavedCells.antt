@@ -2,7 +2,7 @@
 use Rattle.std.proofs.Common.{◌≡◌, ℕ, zero, suc, ◌+◌, ◌-◌, ◌<◌, ◌≤◌, Bool, false, ◌&&◌, List, [], ◌∷◌, ◌++◌, map, length, take, drop, get_or, refl, sym, ap, ap₂, ◌∙◌, append-nil, if◌then◌else◌, arith, length-take}
 use Rattle.std.proofs.lemmas.Bool.Decides.{nat_tests}
 use Rattle.std.proofs.lemmas.List.{map_more, length-map}
-use Rattle.miette_runs.specs.rules.Sequences.{concatenation}
+use Rattle.std.specs.List.{concat}
 use Rattle.miette_text.specs.rules.Wrapping.{is_space}
 use Rattle.miette_runs.specs.rules.Cells.{Cell, piece_text, tags_text}
 use Rattle.miette_runs.specs.steps.Cells.{plain_cell, plain_cells}
@@ -73,10 +73,10 @@ plain_found row n d h k e =
 
 -- ---- what tags print
 
-pub spelled-flat : (ms : List Tag) → concatenation (map tag_text ms) ≡ tags_spelled ms
+pub spelled-flat : (ms : List Tag) → concat (map tag_text ms) ≡ tags_spelled ms
 spelled-flat [] = refl
 spelled-flat (m ∷ ms) = ap (λ us. tag_text m ++ us) (spelled-flat ms)
 
 -- the tags before a line feed
-pub feed-tags : (at : ℕ) (ms : List Tag) → tags_text (cells_at at (10 ∷ []) ms) ≡ concatenation (map tag_text (upto at ms))
-feed-tags at ms = append-nil (concatenation (map tag_text (upto at ms)))
+pub feed-tags : (at : ℕ) (ms : List Tag) → tags_text (cells_at at (10 ∷ []) ms) ≡ concat (map tag_text (upto at ms))
+feed-tags at ms = append-nil (concat (map tag_text (upto at ms)))

@@ -1,7 +1,8 @@
 -- What the rows of the rules spell.
 use Rattle.std.proofs.Common.{◌≡◌, ℕ, true, false, not, ◌&&◌, List, [], ◌∷◌, ◌++◌, map, flat_map, refl, sym, ap, ap₂, ◌∙◌, append_assoc, append-nil, if◌then◌else◌}
 use Rattle.std.proofs.lemmas.List.{map-append}
-use Rattle.miette_runs.specs.rules.Sequences.{concatenation, Token, Character, Sequence, spell}
+use Rattle.std.specs.List.{concat}
+use Rattle.miette_runs.specs.rules.Sequences.{Token, Character, Sequence, spell}
 use Rattle.miette_text.specs.rules.Wrapping.{Cuts, TextLine, Word, is_space, cell_tokens, cut_words, text_line_rows, rows, text_rows, trimmed_row, only_spaces, row_tokens, with_rest, joined_rows, line_feed}
 use Rattle.miette_runs.specs.rules.Cells.{Cell}
 use Rattle.miette_text.specs.steps.Ends.{all_spaces, row_cells}
@@ -10,7 +11,7 @@ use Rattle.miette_runs.proofs.Appending.{spell-append}
 
 -- ---- what rows spell
 
-pub spell-tags : (ms : List (List ℕ)) → spell (map Sequence ms) ≡ concatenation ms
+pub spell-tags : (ms : List (List ℕ)) → spell (map Sequence ms) ≡ concat ms
 spell-tags [] = refl
 spell-tags (m ∷ ms) = ap (λ xs. m ++ xs) (spell-tags ms)
 

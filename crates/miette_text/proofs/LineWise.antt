@@ -1,7 +1,8 @@
 -- A text, line by line.
 use Rattle.std.proofs.Common.{◌≡◌, ℕ, suc, ◌+◌, ◌-◌, ◌<◌, ◌≤◌, min, Bool, true, false, List, [], ◌∷◌, ◌++◌, map, length, take, drop, refl, sym, ap, ap₂, ◌∙◌, append_assoc, append-nil, if◌then◌else◌, arith, eqb-true}
 use Rattle.std.proofs.lemmas.List.{length-map}
-use Rattle.miette_runs.specs.rules.Sequences.{Token, Character, Sequence, is_line_feed, concatenation, spell}
+use Rattle.std.specs.List.{concat}
+use Rattle.miette_runs.specs.rules.Sequences.{Token, Character, Sequence, is_line_feed, spell}
 use Rattle.miette_text.specs.rules.Wrapping.{Cuts, TextLine, Plan, Word, cut_words, filled_text, joined_rows, line_feed, text_rows, on_first, with_tag, with_code, no_characters, text_lines, rows, rows_behind, columns, word_cells}
 use Rattle.miette_runs.specs.rules.Cells.{Cell, columns_of}
 use Rattle.miette_text.specs.steps.Ends.{line_len, row_cells}
@@ -102,16 +103,16 @@ rest-rows : (further : List ℕ) (rest : List (List ℕ)) (r s : List Cell) (ss 
 rest-rows further rest r s [] = refl
 rest-rows further rest r s (t ∷ ts) = refl
 
-rest-behind : (further : List ℕ) (rest : List (List ℕ)) (rs : List (List Cell)) → 0 < length rs → bare_lines further (lines_of rest rs) ≡ bare_lines further (lines_of [] rs) ++ concatenation rest
+rest-behind : (further : List ℕ) (rest : List (List ℕ)) (rs : List (List Cell)) → 0 < length rs → bare_lines further (lines_of rest rs) ≡ bare_lines further (lines_of [] rs) ++ concat rest
 rest-behind further rest [] h = absurd (omega arith)
-rest-behind further rest (r ∷ []) h = append-nil (shown r ++ concatenation rest) ∙ ap (λ us. us ++ concatenation rest) (sym (append-nil (shown r ++ []) ∙ append-nil (shown r)))
+rest-behind further rest (r ∷ []) h = append-nil (shown r ++ concat rest) ∙ ap (λ us. us ++ concat rest) (sym (append-nil (shown r ++ []) ∙ append-nil (shown r)))
 rest-behind further rest (r ∷ s ∷ ss) h =
     let more = bare_lines further (lines_of [] (s ∷ ss)) in
     rest-rows further rest r s ss
     ∙ ap (λ us. shown r ++ ((10 ∷ further) ++ us)) (rest-behind further rest (s ∷ ss) (omega arith))
-    ∙ ap (λ us. shown r ++ us) (sym (append_assoc (10 ∷ further) more (concatenation rest)))
-    ∙ sym (append_assoc (shown r) ((10 ∷ further) ++ more) (concatenation rest))
-    ∙ ap (λ us. us ++ concatenation rest) (sym (rest-rows further [] r s ss))
+    ∙ ap (λ us. shown r ++ us) (sym (append_assoc (10 ∷ further) more (concat rest)))
+    ∙ sym (append_assoc (shown r) ((10 ∷ further) ++ more) (concat rest))
+    ∙ ap (λ us. us ++ concat rest) (sym (rest-rows further [] r s ss))
 
 -- ---- the pieces of what is woven
 
@@ -200,7 +201,7 @@ abbrev pub line_text : Cuts → List ℕ → ℕ → ℕ → ℕ → List ℕ �
 line_text cuts further room room' at line ms = bare_lines further (lines_of [] (map row_cells (rows room room' (cut_words cuts (cells_at at line ms)))))
 
 piece-text : (cuts : Cuts) (room room' at : ℕ) (further line : List ℕ) (ms : List Tag) (rest : List (List ℕ)) →
-    bare_lines further (piece_lines cuts room room' (line_piece at line ms rest)) ≡ line_text cuts further room room' at line ms ++ concatenation rest
+    bare_lines further (piece_lines cuts room room' (line_piece at line ms rest)) ≡ line_text cuts further room room' at line ms ++ concat rest
 piece-text cuts room room' at further line ms rest =
     rest-behind further rest (map row_cells (rows room room' (cut_words cuts (cells_at at line ms)))) (rows-some room room' (cut_words cuts (cells_at at line ms)))
 
@@ -209,7 +210,7 @@ piece-some cuts room room' p = lines_of-some p.rest (map row_cells (rows room ro
 
 pub line-at : (cuts : Cuts) (further : List ℕ) (room room' n at : ℕ) (cs : List ℕ) (ms : List Tag) → n ≡ line_len cs → n < length cs →
     text_of cuts further room room' (interleaving at cs ms)
-    ≡ (line_text cuts further room room' at (take n cs) ms ++ concatenation (map tag_text (upto (at + n) (left_at at (take n cs) ms))))
+    ≡ (line_text cuts further room room' at (take n cs) ms ++ concat (map tag_text (upto (at + n) (left_at at (take n cs) ms))))
     ++ ((10 ∷ further) ++ text_of cuts further room' room' (interleaving ((at + n) + 1) (drop (n + 1) cs) (beyond (at + n) (left_at at (take n cs) ms))))
 line-at cuts further room room' n at cs ms e l =
     let p = line_piece at (take n cs) ms (rest_of n at cs ms) in
@@ -220,7 +221,7 @@ line-at cuts further room room' n at cs ms e l =
     ap (λ ps. bare_lines further (lines_from cuts room room' ps)) split
     ∙ bare-append further (piece_lines cuts room room' p) (lines_from cuts room' room' (text_lines below)) (piece-some cuts room room' p) (lines-some cuts room' room' (text_lines below) (pieces-some below))
     ∙ ap (λ us. us ++ ((10 ∷ further) ++ text_of cuts further room' room' below)) (piece-text cuts room room' at further (take n cs) ms (rest_of n at cs ms))
-    ∙ ap (λ k. (line_text cuts further room room' at (take n cs) ms ++ concatenation (rest_of n at cs ms)) ++ ((10 ∷ further) ++ text_of cuts further room' room' (interleaving ((at + n) + 1) (drop k cs) (beyond (at + n) (left_at at (take n cs) ms))))) next
+    ∙ ap (λ k. (line_text cuts further room room' at (take n cs) ms ++ concat (rest_of n at cs ms)) ++ ((10 ∷ further) ++ text_of cuts further room' room' (interleaving ((at + n) + 1) (drop k cs) (beyond (at + n) (left_at at (take n cs) ms))))) next
 
 pub last-line : (cuts : Cuts) (further : List ℕ) (room room' n at : ℕ) (cs : List ℕ) (ms : List Tag) → n ≡ line_len cs → length cs ≤ n →
     text_of cuts further room room' (interleaving at cs ms) ≡ line_text cuts further room room' at cs ms ++ tags_spelled (left_at at cs ms)

@@ -1,6 +1,6 @@
 -- What rows print, row by row.
 use Rattle.std.proofs.Common.{ℕ, ◌&&◌, not, if◌then◌else◌, List, [], ◌∷◌, ◌++◌}
-use Rattle.miette_runs.specs.rules.Sequences.{concatenation}
+use Rattle.std.specs.List.{concat}
 use Rattle.miette_text.specs.rules.Wrapping.{is_space}
 use Rattle.miette_runs.specs.rules.Cells.{Cell}
 use Rattle.miette_text.specs.steps.Ends.{all_spaces}
@@ -8,11 +8,11 @@ use Rattle.miette_text.specs.steps.Ends.{all_spaces}
 -- a row without its last spaces
 abbrev pub shown : List Cell → List ℕ
 shown [] = []
-shown (c ∷ cs) = concatenation c.tags ++ ((if not (is_space c.code && all_spaces cs) then c.code ∷ [] else []) ++ shown cs)
+shown (c ∷ cs) = concat c.tags ++ ((if not (is_space c.code && all_spaces cs) then c.code ∷ [] else []) ++ shown cs)
 
 abbrev pub lines_of : List (List ℕ) → List (List Cell) → List (List ℕ)
 lines_of rest [] = []
-lines_of rest (r ∷ rs) = elim rs [ [] ↦ (shown r ++ concatenation rest) ∷ [] | s ∷ ss ↦ shown r ∷ lines_of rest rs ]
+lines_of rest (r ∷ rs) = elim rs [ [] ↦ (shown r ++ concat rest) ∷ [] | s ∷ ss ↦ shown r ∷ lines_of rest rs ]
 
 -- lines below the first
 abbrev pub behind : List ℕ → List (List ℕ) → List ℕ

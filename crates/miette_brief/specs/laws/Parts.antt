@@ -3,19 +3,15 @@ use Rattle.std.specs.Prelude.{◌≡◌, ◌≢◌, ℕ, ◌+◌, Bool, true, fa
 use Rattle.std.specs.Char.{is_control}
 use Rattle.std.specs.List.{AllByRecursion}
 use Rattle.std.specs.Str.{NoCharPasses}
+use Rattle.std.specs.Option.{option_len}
 use Rattle.miette_protocol.specs.views.Meaning.{Label}
 use Rattle.miette_tree.specs.rules.Tree.{Tree, tree, causes_of, Trees, no_trees, more_trees}
 use Rattle.miette_tree.specs.rules.DiagnosticParts.{given_labels}
 
--- one where there is a text
-abbrev pub one_if : Option (List ℕ) → ℕ
-one_if None = 0
-one_if (Some text) = 1
-
 -- how many labels have a text
 abbrev pub texts_in : List Label → ℕ
 texts_in [] = 0
-texts_in (label ∷ labels) = one_if label.text + texts_in labels
+texts_in (label ∷ labels) = option_len label.text + texts_in labels
 
 -- how many causes are told
 abbrev pub told_causes : Bool → List (List ℕ) → ℕ
@@ -26,7 +22,7 @@ told_causes false causes = 0
 abbrev mutual
   pub parts : Bool → Tree → ℕ
   parts chain (tree m s c r) =
-      (1 + (texts_in (given_labels m.labels) + (told_causes chain (causes_of c) + one_if m.help))) + all_parts chain r
+      (1 + (texts_in (given_labels m.labels) + (told_causes chain (causes_of c) + option_len m.help))) + all_parts chain r
 
   pub all_parts : Bool → Trees → ℕ
   all_parts chain no_trees = 0

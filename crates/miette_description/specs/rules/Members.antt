@@ -10,8 +10,7 @@ use Rattle.miette_protocol.specs.declared.protocol.Severity.TheVariants.{Advice,
 
 -- nothing where the first is nothing, and else what is made of it
 abbrev pub and_then : {A B : Type 0} → Option A → (A → Option B) → Option B
-and_then None f = None
-and_then (Some x) f = f x
+and_then o f = option_and_then f o
 
 -- null is as absent
 abbrev pub present : Option Data → Option Data

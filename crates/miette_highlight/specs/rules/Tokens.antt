@@ -1,7 +1,7 @@
 -- The pieces that rules cut a line into: each is what the first rule finds at its place.
 use Rattle.std.specs.Prelude.{◌≡◌, ℕ, ◌+◌, ◌<◌, ◌≤◌, Bool, max, if◌then◌else◌, Option, Some, None}
 use Rattle.std.specs.Prelude.{List, [], ◌∷◌, length, drop}
-use Rattle.std.specs.Prelude.{slice_get}
+use Rattle.std.specs.Prelude.{slice_get, unwrap_or}
 use Rattle.std.specs.Str.{IsCharBoundary}
 use Rattle.miette_highlight.specs.rules.Pieces.{Piece}
 use Rattle.miette_style.specs.rules.Styles.{plain}
@@ -15,11 +15,6 @@ use Rattle.miette_highlight.specs.declared.tokens.Token.{Token}
 -- what the rule of this number found: so many bytes, which stay open or not
 abbrev pub token_of : ℕ → Style → ℕ × Bool → Token
 token_of rule style found = record { bytes = found.0; style = style; left_open = if found.1 then Some rule else None }
-
--- the first token where there is one, else the second
-abbrev pub else_token : Option Token → Token → Token
-else_token None other = other
-else_token (Some token) other = token
 
 -- what a rule found, or what the others find
 abbrev pub found_or : ℕ → Style → Option (ℕ × Bool) → Option Token → Option Token
@@ -53,7 +48,7 @@ plain_token text = record { bytes = word_end 0 text; style = plain; left_open = 
 -- what stands at the start of a text: the rest of the open rule, what the first rule finds, or a plain word
 unfoldable pub token_at : List Rule → Option ℕ → List ℕ → Token
 token_at rules left_open text =
-    else_token (running_token rules left_open text) (else_token (first_match 0 rules text) (plain_token text))
+    unwrap_or (running_token rules left_open text) (unwrap_or (first_match 0 rules text) (plain_token text))
 
 -- k is where the first character ends at or behind n
 pub record EndsFrom (text : List ℕ) (n k : ℕ) : Type 0 where

@@ -1,6 +1,6 @@
 -- JSON values over whole numbers, strings, lists and objects, and the one spelling that is written for each.
 use Rattle.std.specs.Prelude.{ℕ, zero, suc, ◌+◌, ◌/◌, ◌%◌, Bool, ◌||◌, ◌==◌, nat_lt, cond, List, [], ◌∷◌, ◌++◌}
-use Rattle.std.specs.Char.{digit_char}
+use Rattle.json.specs.Print.{escape_byte}
 
 mutual
   pub data Json : Type 0 where
@@ -23,7 +23,7 @@ abbrev pub digits_within : ℕ → ℕ → List ℕ
 digits_within zero n = []
 digits_within (suc most) n = cond (nat_lt n 10) ((48 + n) ∷ []) (digits_within most (n / 10) ++ (48 + n % 10) ∷ [])
 
--- the decimal digits of a number of any size
+-- the decimal digits of a number of any size; the kit's `decimal` gives no more than 64
 unfoldable pub numeral : ℕ → List ℕ
 numeral n = digits_within (suc n) n
 
@@ -31,20 +31,10 @@ numeral n = digits_within (suc n) n
 abbrev pub is_escaped : ℕ → Bool
 is_escaped x = nat_lt x 32 || ((x == 34) || (x == 92))
 
--- the letter of a byte's short escape, or 0 where it has none: `"` `\` \b \f \n \r \t
-abbrev pub escape_letter : ℕ → ℕ
-escape_letter x = cond ((x == 34) || (x == 92)) x
-    (cond (x == 8) 98 (cond (x == 12) 102 (cond (x == 10) 110 (cond (x == 13) 114 (cond (x == 9) 116 0)))))
-
--- what stands in a string for a byte: its short escape, \u00 and two digits in base 16, or the byte itself
-unfoldable pub escaped_byte : ℕ → List ℕ
-escaped_byte x =
-    cond (nat_lt 0 (escape_letter x)) (92 ∷ escape_letter x ∷ [])
-    (cond (nat_lt x 32) (92 ∷ 117 ∷ 48 ∷ 48 ∷ digit_char (x / 16) ∷ digit_char (x % 16) ∷ []) (x ∷ []))
-
+-- each byte of a string by what stands for it: its short escape, \u00 and two digits in base 16, or the byte itself
 abbrev pub escaped_text : List ℕ → List ℕ
 escaped_text [] = []
-escaped_text (x ∷ xs) = escaped_byte x ++ escaped_text xs
+escaped_text (x ∷ xs) = escape_byte x ++ escaped_text xs
 
 -- a string in quotes
 abbrev pub quoted_text : List ℕ → List ℕ

@@ -1,5 +1,6 @@
 -- Where a snippet's frame points to, of labels that were read.
 use Rattle.std.specs.Prelude.{ℕ, ◌≡◌, List, [], ◌∷◌, Option, Some, None, Bool, true, false, ◌&&◌, if◌then◌else◌, nat_le}
+use Rattle.std.specs.Prelude.{unwrap_or}
 use Rattle.miette_protocol.specs.rules.Reading.{Span, Source, IsAccepted}
 use Rattle.miette_lines.specs.declared.primary.Place.{Place}
 use Rattle.miette_lines.specs.declared.primary.Place.TheVariants as places
@@ -13,16 +14,12 @@ end_within own span = if own then span.offset else end_of_span span
 abbrev pub lies_within : Bool → Span → Span → Bool
 lies_within own group span = nat_le group.offset span.offset && nat_le (end_within own span) (end_of_span group)
 
-abbrev pub or_else : Option Span → Span → Span
-or_else None span = span
-or_else (Some first) span = first
-
 -- the first label of a group that is marked as primary, else the first of it that was found
 abbrev pub chosen_label : Bool → Span → Option Span → List ReadLabel → Option Span
 chosen_label own group first [] = first
 chosen_label own group first (read ∷ reads) =
     if lies_within own group read.span then (if read.primary then Some read.span
-    else chosen_label own group (Some (or_else first read.span)) reads)
+    else chosen_label own group (Some (unwrap_or first read.span)) reads)
     else chosen_label own group first reads
 
 -- a place is where a read without context of this label begins; where there is a label, it isn't nowhere

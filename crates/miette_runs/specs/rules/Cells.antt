@@ -1,7 +1,8 @@
 -- Characters with their sequences: what they print, and how wide they are.
 use Rattle.std.specs.Prelude.{ℕ, false, List, [], ◌∷◌, ◌++◌, sum_by, unwrap_or}
+use Rattle.std.specs.List.{concat}
 use Rattle.unicode_width.specs.Width.{char_width}
-use Rattle.miette_runs.specs.rules.Sequences.{Token, Character, Sequence, concatenation}
+use Rattle.miette_runs.specs.rules.Sequences.{Token, Character, Sequence}
 
 -- A character, with the sequences that stand before it: they go where it goes.
 pub record Cell : Type 0 where
@@ -10,11 +11,11 @@ pub record Cell : Type 0 where
 
 abbrev pub piece_text : List Cell → List ℕ
 piece_text [] = []
-piece_text (c ∷ cs) = (concatenation c.tags ++ c.code ∷ []) ++ piece_text cs
+piece_text (c ∷ cs) = (concat c.tags ++ c.code ∷ []) ++ piece_text cs
 
 abbrev pub tags_text : List Cell → List ℕ
 tags_text [] = []
-tags_text (c ∷ cs) = concatenation c.tags ++ tags_text cs
+tags_text (c ∷ cs) = concat c.tags ++ tags_text cs
 
 abbrev pub width : ℕ → ℕ
 width c = unwrap_or (char_width false c) 0

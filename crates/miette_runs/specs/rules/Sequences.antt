@@ -129,8 +129,3 @@ erase_behind zero (c ∷ cs) = elim (colour_len (c ∷ cs)) [
 -- A text without its colours: each `ESC [`, any digits and `;`, `m` is deleted.
 abbrev pub erase : List ℕ → List ℕ
 erase = erase_behind 0
-
--- lists, end to end
-abbrev pub concatenation : List (List ℕ) → List ℕ
-concatenation [] = []
-concatenation (x ∷ xs) = x ++ concatenation xs

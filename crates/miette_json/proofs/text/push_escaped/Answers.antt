@@ -1,8 +1,9 @@
 use Rattle.std.proofs.Common.{◌≡◌, ap, ◌∙◌, ◌++◌, string_bytes, get_or, take, rules}
 use Rattle.std.proofs.lemmas.Str.{IsCharBoundary-before_ascii, IsCharBoundary-after_ascii}
-use Rattle.miette_json.specs.rules.Json.{is_escaped, escaped_text, escaped_byte}
+use Rattle.miette_json.specs.rules.Json.{is_escaped, escaped_text}
 use Rattle.miette_json.proofs.JsonSpelled.{next_escape, run_written, none_escaped}
 use Rattle.miette_json.proofs.text.push_escaped.Goals as goal
+use Rattle.json.specs.Print.{escape_byte}
 
 pub range-requires-clause-end_boundary : goal.range-requires-clause-end_boundary
 range-requires-clause-end_boundary c =
@@ -24,8 +25,8 @@ loop-at-preserved c =
     let rest = c.loop-at.rest.now in
     let at = c.in-Some.at in
     let run : string_bytes c.push_str.new.self ≡ string_bytes c.loop-at.out ++ take at rest = search rules in
-    let escape : string_bytes c.push_escape.new.out ≡ string_bytes c.push_str.new.self ++ escaped_byte (get_or rest at 0) =
-    c.in_ok-push_escape.ensures ∙ ap (λ l. string_bytes c.push_str.new.self ++ escaped_byte (get_or l at 0)) c.as_bytes.ensures.value in
+    let escape : string_bytes c.push_escape.new.out ≡ string_bytes c.push_str.new.self ++ escape_byte (get_or rest at 0) =
+    c.in_ok-push_escape.ensures ∙ ap (λ l. string_bytes c.push_str.new.self ++ escape_byte (get_or l at 0)) c.as_bytes.ensures.value in
     let written = run_written _ _ _ _ _ at (next_escape rest at c.in-Some.ensures) c.loop-at.invariant.0 run escape in
     (ap (λ l. string_bytes c.push_escape.new.out ++ escaped_text l) c.range_from-rest.ensures.value ∙ written, c.range_from-rest.utf8)
 

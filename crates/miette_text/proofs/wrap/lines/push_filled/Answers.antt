@@ -1,8 +1,9 @@
 use Rattle.std.proofs.Common.{◌≡◌, ◌∙◌, ◌+◌, ◌-◌, ◌<◌, ◌≤◌, ◌++◌, ◌∷◌, [], ap, ap₂, arith, drop, drop-drop, length, length-drop, map, sym, take}
 use Rattle.std.proofs.lemmas.List.{drop-take, take_rest}
+use Rattle.std.specs.List.{concat}
 use Rattle.miette_text.specs.steps.Ends.{line_len}
 use Rattle.miette_runs.specs.rules.Cells.{tags_text}
-use Rattle.miette_runs.specs.rules.Sequences.{concatenation, spell}
+use Rattle.miette_runs.specs.rules.Sequences.{spell}
 use Rattle.miette_text.specs.rules.Wrapping.{text_lines}
 use Rattle.miette_runs.specs.views.Interleaving.{beyond, cells_at, left_at, tag_text, tags_spelled, upto, interleaving}
 use Rattle.miette_text.proofs.LineWise.{last-line, line-at, line_text, text_of}
@@ -73,7 +74,7 @@ rest-preserved g c =
     let said : drop m ms ≡ left_at s (drop s (take (s + n) cs)) ms = c.in_ok-inside.ensures.left in
     let left : rest ≡ left_at s (take n (drop s cs)) (drop k all) =
     rq ∙ sym (drop-drop m k all) ∙ ap (drop m) (sym mq) ∙ said ∙ ap₂ (left_at s) line mq in
-    let signs = concatenation (map tag_text (upto (s + n) (left_at s (take n (drop s cs)) (drop k all)))) in
+    let signs = concat (map tag_text (upto (s + n) (left_at s (take n (drop s cs)) (drop k all)))) in
     let f : g.S.Sink.holds c.push_signs.new.out ≡ g.S.Sink.holds c.push_rows.new.out ++ g.S.Sink.spells (tags_text (cells_at (s + n) (10 ∷ []) rest)) = c.in_ok-behind.ensures.text in
     let told : drop j rest ≡ beyond (s + n) rest = c.in_ok-behind.ensures.left in
     let below : drop ((k + m) + j) all ≡ beyond (s + n) (left_at s (take n (drop s cs)) (drop k all)) =
@@ -86,7 +87,7 @@ rest-preserved g c =
     ∙ ap₂ (λ us vs. (text ++ signs) ++ ((10 ∷ further) ++ text_of u further room room (interleaving ((s + n) + 1) us vs))) d (sym below) in
     let row : g.S.Sink.holds c.push_rows.new.out ≡ o ++ g.S.Sink.spells text = e ∙ ap₂ (λ us vs. o ++ g.S.Sink.spells (line_text u further c.rest.room room s us vs)) line mq in
     let both : g.S.Sink.holds c.push_signs.new.out ≡ o ++ g.S.Sink.spells (text ++ signs) =
-    f ∙ ap₂ (λ us vs. us ++ g.S.Sink.spells vs) row (feed-tags (s + n) rest ∙ ap (λ us. concatenation (map tag_text (upto (s + n) us))) left)
+    f ∙ ap₂ (λ us vs. us ++ g.S.Sink.spells vs) row (feed-tags (s + n) rest ∙ ap (λ us. concat (map tag_text (upto (s + n) us))) left)
     ∙ appended g.S.Sink.spells g.met.S.Sink.joins o text signs in
     record {
       printed =
