@@ -8,7 +8,7 @@ pub use Rattle.miette_tree.specs.rules.Answers.{unlisted, listed, no_more, and_m
 pub use Rattle.miette_tree.specs.rules.Answers.{first_answers, later_answers}
 use Rattle.miette_tree.specs.rules.DiagnosticParts.{given_labels}
 use Rattle.miette_lines.specs.rules.Groups.{in_order}
-use Rattle.miette_brief.specs.rules.Rows.{Place, ReportRow, finding, note, cause, help, rows_text}
+use Rattle.miette_brief.specs.rules.Rows.{Place, ReportRow, Kind, finding, note, cause, help, rows_text}
 use Rattle.miette_brief.specs.rules.Places.{label_place, diagnostic_place, cause_place}
 
 -- what a handler is set to: whether causes are told
@@ -34,15 +34,16 @@ RelatedAnswers = AnswerTrees Bool
 abbrev pub finding_row : Place → Meaning → ReportRow
 finding_row at m = record { place = at; kind = finding m.severity m.code; text = m.message }
 
--- a row for a text, where there is one
+-- a row of a kind for a text, where there is one
+abbrev pub rows_of_kind : Kind → Place → Option (List ℕ) → List ReportRow
+rows_of_kind kind at None = []
+rows_of_kind kind at (Some text) = record { place = at; kind = kind; text = text } ∷ []
 
 abbrev pub note_rows_of : Place → Option (List ℕ) → List ReportRow
-note_rows_of at None = []
-note_rows_of at (Some text) = record { place = at; kind = note; text = text } ∷ []
+note_rows_of at text = rows_of_kind note at text
 
 abbrev pub help_rows : Place → Option (List ℕ) → List ReportRow
-help_rows at None = []
-help_rows at (Some text) = record { place = at; kind = help; text = text } ∷ []
+help_rows at text = rows_of_kind help at text
 
 -- a row for each of these labels that has a text
 abbrev pub note_rows : Option Source → List Label → List ReportRow

@@ -18,7 +18,7 @@ IsReadAt (Some source) span = IsAccepted source.bytes span
 
 -- the read of a span: where it begins, or that it was refused
 abbrev pub IsBegin : Source → Span → Option Place → Type 0
-IsBegin source span None = IsAccepted source.bytes span → source.always_reads ≡ false
+IsBegin source span None = IsUnread (Some source) span
 IsBegin source span (Some at) = IsAccepted source.bytes span × (at ≡ span_place source span)
 
 -- the place of the name alone, for some answer

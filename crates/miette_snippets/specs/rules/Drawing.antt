@@ -1,4 +1,4 @@
--- The mark row of a line and the rows of texts under it, and what it means that a text hangs from its mark.
+-- The mark row of a line and the rows of texts under it.
 use Rattle.std.specs.Prelude.{ℕ, ◌+◌, ◌-◌, ◌<◌, ◌≤◌, ◌≡◌, List, [], ◌∷◌, ◌++◌, map, replicate, if◌then◌else◌, ◌==◌}
 use Rattle.std.specs.List.{range_with_len}
 use Rattle.miette_page.specs.rules.Rows.{Run, Row, glyph_of, styled_run}

@@ -1,4 +1,4 @@
--- SnippetSettings and answers, the groups of labels, and the rows of a frame.
+-- The settings of snippets, the row of a refused label, and what frames a snippet's lines.
 use Rattle.std.specs.Prelude.{ℕ, ◌+◌, ◌-◌, List, [], ◌∷◌, ◌++◌, length, decimal, codes, chars, replicate, Option, Some}
 use Rattle.std.specs.Prelude.{None, Bool, ◌&&◌, if◌then◌else◌, nat_lt}
 use Rattle.miette_style.specs.declared.style.Style.{Style}
