@@ -7,7 +7,7 @@ use Rattle.miette_tree.specs.rules.DiagnosticParts.{given_labels}
 use Rattle.miette_lines.specs.rules.Groups.{in_order}
 use Rattle.miette_brief.specs.rules.Rows.{Place, rows_text}
 use Rattle.miette_brief.specs.rules.Report.{Answers, unlisted, listed, no_more, cause_row, cause_rows}
-use Rattle.miette_brief.specs.rules.PossibleAnswers.{CausePossible}
+use Rattle.miette_brief.specs.rules.PossibleAnswers.{AreCauseAnswers}
 use Rattle.miette_brief.specs.steps.Reads.{IsCausePlace}
 use Rattle.miette_brief.proofs.Putting.{rows_joined}
 use Rattle.miette_brief.specs.steps.AppendedParts.{AppendsCauses}
@@ -15,7 +15,7 @@ use Rattle.miette_brief.specs.steps.AppendedParts.{AppendsCauses}
 -- Some causes are told, and these are left: whatever answers these have, the whole has some.
 pub record CausesSoFar (at : Place) (source : Option Source) (all left : Cause) (old now : List ℕ) : Type 0 where
   pub with_rest : Answers → Answers
-  pub possible : (more : Answers) → CausePossible source more left → CausePossible source (with_rest more) all
+  pub possible : (more : Answers) → AreCauseAnswers source more left → AreCauseAnswers source (with_rest more) all
   pub joined : (more : Answers) → now ++ rows_text (cause_rows at source more left) ≡ old ++ rows_text (cause_rows at source (with_rest more) all)
 
 pub none_so_far : (at : Place) (source : Option Source) (all : Cause) (old : List ℕ) → CausesSoFar at source all all old old

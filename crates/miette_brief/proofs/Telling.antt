@@ -13,7 +13,7 @@ use Rattle.miette_lines.specs.rules.Groups.{in_order}
 use Rattle.miette_brief.specs.rules.Rows.{Place, ReportRow, rows_text}
 use Rattle.miette_brief.specs.rules.Places.{diagnostic_place, cause_place}
 use Rattle.miette_brief.specs.rules.Report.{BriefSettings, Answers, RelatedAnswers, unlisted, listed, no_more, and_more, cause_answers, related_answers, first_answers, later_answers, finding_row, note_rows, cause_row, cause_rows, caused_rows, cause_rows_if, help_rows, rows_at, own_rows, report_rows, related_rows, brief}
-use Rattle.miette_brief.specs.rules.PossibleAnswers.{accepts, accepts_report, accepts_related, MayMeet, HasAccepted, CausePossible, CausedPossible, ArePossible, AllPossible, IsBrief}
+use Rattle.miette_brief.specs.rules.PossibleAnswers.{accepts, accepts_report, accepts_related, MayMeet, HasAccepted, AreCauseAnswers, AreCausedAnswers, AreAnswers, AllAnswers, IsBrief}
 use Rattle.miette_brief.specs.steps.Reads.{IsDiagnosticPlace}
 use Rattle.miette_brief.proofs.Putting.{rows_joined}
 use Rattle.miette_brief.specs.steps.AppendedParts.{AppendsCauses, AppendsOwn, AppendsReport, AppendsRelated}
@@ -25,11 +25,11 @@ nothing_met None = refl
 nothing_met (Some source) = λ f. cc
 
 mutual
-  none_met : (source : Option Source) (c : Cause) → CausePossible source unlisted c
+  none_met : (source : Option Source) (c : Cause) → AreCauseAnswers source unlisted c
   none_met source (diagnostic t) = none_met_in source t
   none_met source (texts ts) = tt
 
-  none_met_in : (source : Option Source) (t : Tree) → CausedPossible source unlisted t
+  none_met_in : (source : Option Source) (t : Tree) → AreCausedAnswers source unlisted t
   none_met_in source (tree m own c r) = (nothing_met (effective own source), none_met source c)
 
 pub untold : (at : Place) (source : Option Source) (c : Cause) (old new : List ℕ) → new ≡ old → AppendsCauses false at source c old new
@@ -89,7 +89,7 @@ report_told chain inherited (tree m s c rs) source related old mid new es er own
 -- Some are told, and these are left: whatever answers these have, the whole has some.
 pub record RelatedSoFar (chain : Bool) (inherited : Option Source) (all left : Trees) (old now : List ℕ) : Type 0 where
   pub with_rest : RelatedAnswers → RelatedAnswers
-  pub possible : (more : RelatedAnswers) → AllPossible inherited more left → AllPossible inherited (with_rest more) all
+  pub possible : (more : RelatedAnswers) → AllAnswers inherited more left → AllAnswers inherited (with_rest more) all
   pub joined : (more : RelatedAnswers) → now ++ rows_text (related_rows chain inherited more left) ≡ old ++ rows_text (related_rows chain inherited (with_rest more) all)
 
 pub none_so_far : (chain : Bool) (inherited : Option Source) (all : Trees) (old : List ℕ) → RelatedSoFar chain inherited all all old old
@@ -144,23 +144,23 @@ fault_free None b h r = h
 fault_free (Some s) b h r = no_fault b s.always_reads r h
 
 mutual
-  same_causes : (at : Place) (inherited : Option Source) (a : Answers) (c : Cause) → CausePossible inherited a c → Reads inherited → CauseAlwaysReads c → cause_rows at inherited a c ≡ cause_rows at inherited unlisted c
+  same_causes : (at : Place) (inherited : Option Source) (a : Answers) (c : Cause) → AreCauseAnswers inherited a c → Reads inherited → CauseAlwaysReads c → cause_rows at inherited a c ≡ cause_rows at inherited unlisted c
   same_causes at inherited a (diagnostic t) p i reads = same_caused at inherited a t p i reads
   same_causes at inherited a (texts ts) p i reads = refl
 
-  same_caused : (at : Place) (inherited : Option Source) (a : Answers) (t : Tree) → CausedPossible inherited a t → Reads inherited → AlwaysReads t → caused_rows at inherited a t ≡ caused_rows at inherited unlisted t
+  same_caused : (at : Place) (inherited : Option Source) (a : Answers) (t : Tree) → AreCausedAnswers inherited a t → Reads inherited → AlwaysReads t → caused_rows at inherited a t ≡ caused_rows at inherited unlisted t
   same_caused at inherited a (tree m own c r) p i reads =
       let from = effective own inherited in
       let from_reads : Reads from = effective_reads own inherited reads.0 i in
       ap₂ (λ b rows. cause_row (cause_place at from b (in_order (given_labels m.labels))) m.message ∷ rows)
       (fault_free from (own_fault a) p.0 from_reads) (same_causes at inherited (cause_answers a) c p.1 i reads.1)
 
-same_if : (chain : Bool) (at : Place) (inherited : Option Source) (a : Answers) (c : Cause) → CausePossible inherited a c → Reads inherited → CauseAlwaysReads c → cause_rows_if chain at inherited a c ≡ cause_rows_if chain at inherited unlisted c
+same_if : (chain : Bool) (at : Place) (inherited : Option Source) (a : Answers) (c : Cause) → AreCauseAnswers inherited a c → Reads inherited → CauseAlwaysReads c → cause_rows_if chain at inherited a c ≡ cause_rows_if chain at inherited unlisted c
 same_if true at inherited a c p i reads = same_causes at inherited a c p i reads
 same_if false at inherited a c p i reads = refl
 
 mutual
-  same_report : (chain : Bool) (inherited : Option Source) (a : Answers) (t : Tree) → ArePossible inherited a t → Reads inherited → AlwaysReads t → report_rows chain inherited a t ≡ report_rows chain inherited unlisted t
+  same_report : (chain : Bool) (inherited : Option Source) (a : Answers) (t : Tree) → AreAnswers inherited a t → Reads inherited → AlwaysReads t → report_rows chain inherited a t ≡ report_rows chain inherited unlisted t
   same_report chain inherited a (tree m own c r) p i reads =
       let from = effective own inherited in
       let from_reads : Reads from = effective_reads own inherited reads.0 i in
@@ -171,7 +171,7 @@ mutual
       ∙ ap₂ (λ causes others. (finding_row at m ∷ (note_rows from ls ++ (causes ++ help_rows at m.help))) ++ others)
       (same_if chain at from (cause_answers a) c p.2 from_reads reads.1) (same_related chain from (related_answers a) r p.3 from_reads reads.2)
 
-  same_related : (chain : Bool) (inherited : Option Source) (more : RelatedAnswers) (ts : Trees) → AllPossible inherited more ts → Reads inherited → AllAlwaysRead ts → related_rows chain inherited more ts ≡ related_rows chain inherited no_more ts
+  same_related : (chain : Bool) (inherited : Option Source) (more : RelatedAnswers) (ts : Trees) → AllAnswers inherited more ts → Reads inherited → AllAlwaysRead ts → related_rows chain inherited more ts ≡ related_rows chain inherited no_more ts
   same_related chain inherited more no_trees p i reads = refl
   same_related chain inherited more (more_trees t ts) p i reads =
       ap₂ (λ x y. x ++ y) (same_report chain inherited (first_answers more) t p.0 i reads.0) (same_related chain inherited (later_answers more) ts p.1 i reads.1)

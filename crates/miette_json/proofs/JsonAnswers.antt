@@ -7,7 +7,7 @@ use Rattle.miette_protocol.specs.views.Meaning.{Label}
 use Rattle.miette_tree.specs.rules.Tree.{Tree, tree, Trees, no_trees, more_trees, trees, effective, head, source_of, cause_of, causes_of, related_of}
 use Rattle.miette_json.specs.rules.Json.{Json, string, array, object, Items, item, no_members, member, items_text, json_text}
 use Rattle.miette_json.specs.rules.Denotes.{Denotes, HasTokensOf}
-use Rattle.miette_json.specs.rules.JsonReport.{NameAnswers, unlisted, listed, RelatedNameAnswers, no_more, and_more, related_answers, first_answers, later_answers, MayFail, ArePossible, AllPossible, report_json, reports_json, maybe, strings, labels_json, file_name}
+use Rattle.miette_json.specs.rules.JsonReport.{NameAnswers, unlisted, listed, RelatedNameAnswers, no_more, and_more, related_answers, first_answers, later_answers, MayFail, AreAnswers, AllAnswers, report_json, reports_json, maybe, strings, labels_json, file_name}
 use Rattle.miette_tree.specs.rules.DiagnosticParts.{given_labels, severity_text}
 use Rattle.miette_tree.specs.rules.Reads.{AlwaysReads, AllAlwaysRead}
 use Rattle.miette_tree.specs.rules.Answers.{own_fault}
@@ -20,7 +20,7 @@ use Rattle.miette_json.specs.steps.JsonParts.{rest_text, AppendsReport, AppendsR
 -- Some related reports are written, and these are left: whatever answers these have, the whole has some.
 pub record RelatedSoFar (inherited : Option Source) (all left : Trees) (first : Bool) (old now : List ℕ) : Type 0 where
   pub with_rest : RelatedNameAnswers → RelatedNameAnswers
-  pub possible : (more : RelatedNameAnswers) → AllPossible inherited more left → AllPossible inherited (with_rest more) all
+  pub possible : (more : RelatedNameAnswers) → AllAnswers inherited more left → AllAnswers inherited (with_rest more) all
   pub joined : (more : RelatedNameAnswers) → now ++ rest_text first (reports_json inherited more left) ≡ old ++ items_text (reports_json inherited (with_rest more) all)
 
 pub none_so_far : (inherited : Option Source) (all : Trees) (old : List ℕ) → RelatedSoFar inherited all all true old old
@@ -84,7 +84,7 @@ same_name (Some s) [] b f r = refl
 same_name (Some s) (l ∷ ls) b f r = ap (λ fault. Some (file_name fault (l ∷ ls) s)) (fault_free (Some s) b f r)
 
 mutual
-  same_value : (inherited : Option Source) (a : NameAnswers) (t : Tree) → ArePossible inherited a t → NamesAlwaysRead inherited t → report_json inherited a t ≡ report_json inherited unlisted t
+  same_value : (inherited : Option Source) (a : NameAnswers) (t : Tree) → AreAnswers inherited a t → NamesAlwaysRead inherited t → report_json inherited a t ≡ report_json inherited unlisted t
   same_value inherited a (tree m s c r) p reads =
       let own : Option Source = effective s inherited in
       let labels : List Label = given_labels m.labels in
@@ -103,7 +103,7 @@ mutual
             (member (codes "labels") (array (labels_json (given_labels m.labels)))
             (member (codes "related") (array others) no_members)))))))))
 
-  same_values : (inherited : Option Source) (a : RelatedNameAnswers) (ts : Trees) → AllPossible inherited a ts → AllNamesAlwaysRead inherited ts → reports_json inherited a ts ≡ reports_json inherited no_more ts
+  same_values : (inherited : Option Source) (a : RelatedNameAnswers) (ts : Trees) → AllAnswers inherited a ts → AllNamesAlwaysRead inherited ts → reports_json inherited a ts ≡ reports_json inherited no_more ts
   same_values inherited a no_trees p reads = refl
   same_values inherited a (more_trees t ts) p reads =
       ap (λ j. item j (reports_json inherited (later_answers a) ts)) (same_value inherited (first_answers a) t p.0 reads.0)

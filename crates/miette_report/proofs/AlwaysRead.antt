@@ -125,19 +125,19 @@ one_kept None labels p a = refl
 one_kept (Some s) labels p a = and_from _ _ (accept_all s.bytes (in_order labels) a) (or_right (is_nil labels) s.always_reads p)
 
 mutual
-  tree_kept : (inherited : Option Source) (a : brief.Answers) (t : Tree) → Reads inherited → AlwaysReads t → briefly.ArePossible inherited a t → told.holds_of told.accepts inherited t ≡ true
+  tree_kept : (inherited : Option Source) (a : brief.Answers) (t : Tree) → Reads inherited → AlwaysReads t → briefly.AreAnswers inherited a t → told.holds_of told.accepts inherited t ≡ true
   tree_kept inherited a (tree m own c r) p q k =
       let source = effective own inherited in
       let here : Reads source = effective_reads own inherited q.0 p in
       and_from _ _ (one_kept source _ here k.0) (trees_kept source (brief.related_answers a) r here q.2 k.3)
 
-  trees_kept : (inherited : Option Source) (more : brief.RelatedAnswers) (ts : Trees) → Reads inherited → AllAlwaysRead ts → briefly.AllPossible inherited more ts → told.holds_of_all told.accepts inherited ts ≡ true
+  trees_kept : (inherited : Option Source) (more : brief.RelatedAnswers) (ts : Trees) → Reads inherited → AllAlwaysRead ts → briefly.AllAnswers inherited more ts → told.holds_of_all told.accepts inherited ts ≡ true
   trees_kept inherited more no_trees p q k = refl
   trees_kept inherited more (more_trees t ts) p q k =
       and_from _ _ (tree_kept inherited (brief.first_answers more) t p q.0 k.0) (trees_kept inherited (brief.later_answers more) ts p q.1 k.1)
 
 -- a brief report is given only where a narrated one is
-pub brief-accepted : (t : Tree) (a : brief.Answers) → AlwaysReads t → briefly.ArePossible None a t → told.report_accepted t ≡ true
+pub brief-accepted : (t : Tree) (a : brief.Answers) → AlwaysReads t → briefly.AreAnswers None a t → told.report_accepted t ≡ true
 brief-accepted t a q k = tree_kept None a t tt q k
 
 one_alike : (source : Option Source) (labels : List Label) → Reads source → told.accepts source labels ≡ briefly.accepts source (in_order labels)

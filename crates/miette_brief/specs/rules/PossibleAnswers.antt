@@ -48,31 +48,31 @@ HasAccepted None labels = ⊤
 HasAccepted (Some source) labels = AreAccepted source.bytes labels
 
 abbrev mutual
-  pub CausePossible : Option Source → Answers → Cause → Type 0
-  CausePossible inherited a (diagnostic t) = CausedPossible inherited a t
-  CausePossible inherited a (texts ts) = ⊤
+  pub AreCauseAnswers : Option Source → Answers → Cause → Type 0
+  AreCauseAnswers inherited a (diagnostic t) = AreCausedAnswers inherited a t
+  AreCauseAnswers inherited a (texts ts) = ⊤
 
-  pub CausedPossible : Option Source → Answers → Tree → Type 0
-  CausedPossible inherited a (tree m own c r) = MayMeet (effective own inherited) (own_fault a)
-      × CausePossible inherited (cause_answers a) c
+  pub AreCausedAnswers : Option Source → Answers → Tree → Type 0
+  AreCausedAnswers inherited a (tree m own c r) = MayMeet (effective own inherited) (own_fault a)
+      × AreCauseAnswers inherited (cause_answers a) c
 
 abbrev mutual
-  pub ArePossible : Option Source → Answers → Tree → Type 0
-  ArePossible inherited a (tree m own c r) =
+  pub AreAnswers : Option Source → Answers → Tree → Type 0
+  AreAnswers inherited a (tree m own c r) =
       HasAccepted (effective own inherited) (in_order (given_labels m.labels))
       × MayMeet (effective own inherited) (own_fault a)
-      × CausePossible (effective own inherited) (cause_answers a) c
-      × AllPossible (effective own inherited) (related_answers a) r
+      × AreCauseAnswers (effective own inherited) (cause_answers a) c
+      × AllAnswers (effective own inherited) (related_answers a) r
 
-  pub AllPossible : Option Source → RelatedAnswers → Trees → Type 0
-  AllPossible inherited more no_trees = ⊤
-  AllPossible inherited more (more_trees t ts) =
-      ArePossible inherited (first_answers more) t × AllPossible inherited (later_answers more) ts
+  pub AllAnswers : Option Source → RelatedAnswers → Trees → Type 0
+  AllAnswers inherited more no_trees = ⊤
+  AllAnswers inherited more (more_trees t ts) =
+      AreAnswers inherited (first_answers more) t × AllAnswers inherited (later_answers more) ts
 
 -- ---- the text of a report
 
 -- a brief text of a report: for answers that its sources can have given
 pub record IsBrief (s : BriefSettings) (t : Tree) (text : List ℕ) : Type 0 where
   pub answers : Answers
-  pub possible : ArePossible None answers t
+  pub possible : AreAnswers None answers t
   pub is : text ≡ brief s t answers

@@ -9,13 +9,13 @@ use Rattle.miette_lines.specs.rules.Groups.{in_order}
 use Rattle.miette_brief.specs.rules.Rows.{Place, rows_text}
 use Rattle.miette_brief.specs.rules.Report.{Answers, RelatedAnswers, cause_answers, cause_rows_if, own_rows}
 use Rattle.miette_brief.specs.rules.Report.{report_rows, related_rows}
-use Rattle.miette_brief.specs.rules.PossibleAnswers.{MayMeet, HasAccepted, CausePossible, ArePossible, AllPossible}
+use Rattle.miette_brief.specs.rules.PossibleAnswers.{MayMeet, HasAccepted, AreCauseAnswers, AreAnswers, AllAnswers}
 
 -- new is old and then the rows of a cause where causes are told, for some answers
 pub record AppendsCauses (chain : Bool) (at : Place) (inherited : Option Source) (c : Cause) (old new : List ℕ) : Type 0
   where
     pub answers : Answers
-    pub possible : CausePossible inherited answers c
+    pub possible : AreCauseAnswers inherited answers c
     pub appended : new ≡ old ++ rows_text (cause_rows_if chain at inherited answers c)
 
 -- new is old and then the rows of a diagnostic with its cause, for some answers
@@ -24,17 +24,17 @@ pub record AppendsOwn (chain : Bool) (source : Option Source) (m : Meaning) (c :
     pub answers : Answers
     pub accepted : HasAccepted source (in_order (given_labels m.labels))
     pub possible : MayMeet source (own_fault answers)
-    pub causes : CausePossible source (cause_answers answers) c
+    pub causes : AreCauseAnswers source (cause_answers answers) c
     pub appended : new ≡ old ++ rows_text (own_rows chain source answers m c)
 
 -- new is old and then a report, for some answers
 pub record AppendsReport (chain : Bool) (inherited : Option Source) (t : Tree) (old new : List ℕ) : Type 0 where
   pub answers : Answers
-  pub possible : ArePossible inherited answers t
+  pub possible : AreAnswers inherited answers t
   pub appended : new ≡ old ++ rows_text (report_rows chain inherited answers t)
 
 -- new is old and then related reports, for some answers
 pub record AppendsRelated (chain : Bool) (inherited : Option Source) (ts : Trees) (old new : List ℕ) : Type 0 where
   pub answers : RelatedAnswers
-  pub possible : AllPossible inherited answers ts
+  pub possible : AllAnswers inherited answers ts
   pub appended : new ≡ old ++ rows_text (related_rows chain inherited answers ts)

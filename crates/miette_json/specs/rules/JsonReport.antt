@@ -27,14 +27,14 @@ MayFail (Some s) = s.always_reads ≡ false
 
 -- only a source that doesn't always read meets a fault
 abbrev mutual
-  pub ArePossible : Option Source → NameAnswers → Tree → Type 0
-  ArePossible inherited a (tree m s c r) = (own_fault a ≡ true → MayFail (effective s inherited))
-      × AllPossible (effective s inherited) (related_answers a) r
+  pub AreAnswers : Option Source → NameAnswers → Tree → Type 0
+  AreAnswers inherited a (tree m s c r) = (own_fault a ≡ true → MayFail (effective s inherited))
+      × AllAnswers (effective s inherited) (related_answers a) r
 
-  pub AllPossible : Option Source → RelatedNameAnswers → Trees → Type 0
-  AllPossible inherited a no_trees = ⊤
-  AllPossible inherited a (more_trees t ts) =
-      ArePossible inherited (first_answers a) t × AllPossible inherited (later_answers a) ts
+  pub AllAnswers : Option Source → RelatedNameAnswers → Trees → Type 0
+  AllAnswers inherited a no_trees = ⊤
+  AllAnswers inherited a (more_trees t ts) =
+      AreAnswers inherited (first_answers a) t × AllAnswers inherited (later_answers a) ts
 
 -- ---- parts of the value
 
@@ -88,7 +88,7 @@ abbrev mutual
 -- a value that a report may have: for some answers of its sources
 pub record IsValueOf (t : Tree) (value : Json) : Type 0 where
   pub answers : NameAnswers
-  pub possible : ArePossible None answers t
+  pub possible : AreAnswers None answers t
   pub is : value ≡ report_json None answers t
 
 -- the value of a report whose file names are read from sources that always read

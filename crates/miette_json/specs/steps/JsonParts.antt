@@ -4,20 +4,20 @@ use Rattle.miette_protocol.specs.views.Meaning.{Label, Meaning}
 use Rattle.miette_protocol.specs.rules.Reading.{Source}
 use Rattle.miette_tree.specs.rules.Tree.{Tree, Trees}
 use Rattle.miette_json.specs.rules.Json.{Items, quoted_text, json_text, items_text, more_items_text}
-use Rattle.miette_json.specs.rules.JsonReport.{NameAnswers, RelatedNameAnswers, ArePossible, AllPossible, MayFail}
+use Rattle.miette_json.specs.rules.JsonReport.{NameAnswers, RelatedNameAnswers, AreAnswers, AllAnswers, MayFail}
 use Rattle.miette_json.specs.rules.JsonReport.{strings, labels_json, file_name, report_json, reports_json}
 use Rattle.miette_tree.specs.rules.DiagnosticParts.{severity_text}
 
 -- new is old and then the text of a report, for some answers
 pub record AppendsReport (inherited : Option Source) (t : Tree) (old new : List ℕ) : Type 0 where
   pub answers : NameAnswers
-  pub possible : ArePossible inherited answers t
+  pub possible : AreAnswers inherited answers t
   pub appended : new ≡ old ++ json_text (report_json inherited answers t)
 
 -- new is old and then the texts of related reports and the end of their list, for some answers
 pub record AppendsRelated (inherited : Option Source) (ts : Trees) (old new : List ℕ) : Type 0 where
   pub answers : RelatedNameAnswers
-  pub possible : AllPossible inherited answers ts
+  pub possible : AllAnswers inherited answers ts
   pub appended : new ≡ old ++ items_text (reports_json inherited answers ts)
 
 -- the file name under a source, where there is one; only a source that may fail meets a fault
