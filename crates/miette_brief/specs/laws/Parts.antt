@@ -22,7 +22,8 @@ told_causes false causes = 0
 abbrev mutual
   pub parts : Bool → Tree → ℕ
   parts chain (tree m s c r) =
-      (1 + (texts_in (given_labels m.labels) + (told_causes chain (causes_of c) + option_len m.help))) + all_parts chain r
+      (1 + (texts_in (given_labels m.labels) + (told_causes chain (causes_of c) + option_len m.help)))
+      + all_parts chain r
 
   pub all_parts : Bool → Trees → ℕ
   all_parts chain no_trees = 0
