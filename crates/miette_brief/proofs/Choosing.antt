@@ -7,7 +7,7 @@ use Rattle.std.proofs.lemmas.List.{drop_all}
 use Rattle.miette_protocol.specs.rules.Reading.{Source, Span, is_accepted}
 use Rattle.miette_protocol.specs.views.Meaning.{Label}
 use Rattle.miette_brief.specs.rules.Places.{marked_span, primary_span}
-use Rattle.miette_brief.specs.rules.PossibleAnswers.{accepts}
+use Rattle.miette_tree.specs.rules.Reads.{accepts}
 use Rattle.miette_brief.specs.steps.Reads.{IsUnread}
 use Rattle.miette_brief.proofs.Noting.{true_accepted}
 

@@ -1,19 +1,20 @@
 -- The rows and the answers of a tree, put together from those of its parts.
-use Rattle.std.proofs.Common.{◌≡◌, ℕ, suc, zero, ◌<◌, ◌≤◌, List, [], ◌∷◌, ◌++◌, length, get_or, map, drop, Bool, true, false, ◌&&◌, Option, Some, None, refl, sym, ap, ap₂, subst, ◌∙◌, append_assoc, append-nil, arith}
+use Rattle.std.proofs.Common.{◌≡◌, ℕ, ◌≤◌, List, [], ◌∷◌, ◌++◌, length, map, drop, Bool, true, false, ◌&&◌, ◌||◌, Option, Some, None, refl, sym, ap, ap₂, subst, ◌∙◌, append_assoc, append-nil}
 use Rattle.std.proofs.lemmas.List.{drop_all}
-use Rattle.std.proofs.Math.Bool.{and-false}
-use Rattle.miette_protocol.specs.rules.Reading.{Source}
+use Rattle.miette_protocol.specs.rules.Reading.{Source, is_accepted}
 use Rattle.miette_protocol.specs.views.Meaning.{Label}
 use Rattle.miette_tree.specs.rules.Tree.{Tree, tree, Cause, diagnostic, texts, Trees, no_trees, more_trees, trees, effective, head, source_of, cause_of, related_of}
 use Rattle.miette_tree.specs.rules.DiagnosticParts.{given_labels}
-use Rattle.miette_tree.specs.rules.Reads.{AlwaysReads, CauseAlwaysReads, AllAlwaysRead}
+use Rattle.miette_tree.specs.rules.Reads.{AlwaysReads, CauseAlwaysReads, AllAlwaysRead, holds_of, holds_of_all, accepts, MayMeet}
 use Rattle.miette_tree.specs.rules.Answers.{own_fault}
 use Rattle.miette_tree.proofs.Nesting.{Reads, effective_reads}
+use Rattle.miette_tree.proofs.Readings.{fault_free}
 use Rattle.miette_lines.specs.rules.Groups.{in_order}
+use Rattle.miette_lines.proofs.Owning.{order_all, order_nil}
 use Rattle.miette_brief.specs.rules.Rows.{Place, ReportRow, rows_text}
 use Rattle.miette_brief.specs.rules.Places.{diagnostic_place, cause_place}
 use Rattle.miette_brief.specs.rules.Report.{BriefSettings, Answers, RelatedAnswers, unlisted, listed, no_more, and_more, cause_answers, related_answers, first_answers, later_answers, finding_row, note_rows, cause_row, cause_rows, caused_rows, cause_rows_if, help_rows, rows_at, own_rows, report_rows, related_rows, brief}
-use Rattle.miette_brief.specs.rules.PossibleAnswers.{accepts, accepts_report, accepts_related, MayMeet, HasAccepted, AreCauseAnswers, AreCausedAnswers, AreAnswers, AllAnswers, IsBrief}
+use Rattle.miette_brief.specs.rules.PossibleAnswers.{HasAccepted, AreCauseAnswers, AreCausedAnswers, AreAnswers, AllAnswers, IsBrief}
 use Rattle.miette_brief.specs.steps.Reads.{IsDiagnosticPlace}
 use Rattle.miette_brief.proofs.Putting.{rows_joined}
 use Rattle.miette_brief.specs.steps.AppendedParts.{AppendsCauses, AppendsOwn, AppendsReport, AppendsRelated}
@@ -115,33 +116,16 @@ at_the_end value chain inherited rs all i old now h r = subst (λ l. RelatedSoFa
 
 -- ---- where something is refused
 
+accepts_order : (source : Option Source) (labels : List Label) → accepts source (in_order labels) ≡ accepts source labels
+accepts_order None labels = refl
+accepts_order (Some s) labels = ap₂ (λ all nil. all && (nil || s.always_reads)) (order_all (λ label. is_accepted s.bytes label.span) labels) (order_nil labels)
+
 pub refused_here : (t : Tree) (inherited source : Option Source) → source ≡ effective (source_of t) inherited →
-    accepts source (in_order (given_labels (head t).labels)) ≡ false → accepts_report inherited t ≡ false
+    accepts source (in_order (given_labels (head t).labels)) ≡ false → holds_of accepts inherited t ≡ false
 refused_here (tree m s c r) inherited source es e =
-    ap (λ b. b && accepts_related (effective s inherited) r) (sym (ap (λ o. accepts o (in_order (given_labels m.labels))) es) ∙ e)
-
-pub refused_below : (t : Tree) (inherited source : Option Source) (related : Trees) → source ≡ effective (source_of t) inherited → related ≡ related_of t →
-    accepts_related source related ≡ false → accepts_report inherited t ≡ false
-refused_below (tree m s c r) inherited source related es er e =
-    ap (λ b. accepts (effective s inherited) (in_order (given_labels m.labels)) && b) (sym (ap₂ accepts_related es er) ∙ e) ∙ and-false (accepts (effective s inherited) (in_order (given_labels m.labels)))
-
-pub one_refused : {R : Type 0} (value : R → Tree) (inherited : Option Source) (rs : List R) (i : ℕ) (d : R) → i < length rs → d ≡ get_or rs i d → accepts_report inherited (value d) ≡ false →
-    accepts_related inherited (trees (map value rs)) ≡ false
-one_refused value inherited [] i d lt is e = absurd (omega arith)
-one_refused value inherited (r ∷ rs) zero d lt is e =
-    ap (λ b. b && accepts_related inherited (trees (map value rs))) (ap (λ x. accepts_report inherited (value x)) (sym is) ∙ e)
-one_refused value inherited (r ∷ rs) (suc i) d lt is e =
-    ap (λ b. accepts_report inherited (value r) && b) (one_refused value inherited rs i d (omega arith) is e) ∙ and-false (accepts_report inherited (value r))
+    ap (λ b. b && holds_of_all accepts (effective s inherited) r) (sym (ap (λ o. accepts o (given_labels m.labels)) es) ∙ (sym (accepts_order source (given_labels m.labels)) ∙ e))
 
 -- ---- where every source always reads
-
-no_fault : (b reads : Bool) → reads ≡ true → (b ≡ true → reads ≡ false) → b ≡ false
-no_fault false reads r f = refl
-no_fault true reads r f = (let no : reads ≡ false = f refl in cc)
-
-fault_free : (s : Option Source) (b : Bool) → MayMeet s b → Reads s → b ≡ false
-fault_free None b h r = h
-fault_free (Some s) b h r = no_fault b s.always_reads r h
 
 mutual
   same_causes : (at : Place) (inherited : Option Source) (a : Answers) (c : Cause) → AreCauseAnswers inherited a c → Reads inherited → CauseAlwaysReads c → cause_rows at inherited a c ≡ cause_rows at inherited unlisted c

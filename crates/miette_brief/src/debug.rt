@@ -1,7 +1,8 @@
 //! The brief report, as a handler among the others.
 
 ghost use Rattle.std.specs.Prelude.{◌≡◌, false};
-ghost use Rattle.miette_brief.specs.rules.PossibleAnswers.{IsBrief, report_accepted};
+ghost use Rattle.miette_brief.specs.rules.PossibleAnswers.{IsBrief};
+ghost use Rattle.miette_tree.specs.rules.Reads.{report_accepted};
 
 use crate::handler::BriefReportHandler;
 use miette_protocol::error::RenderError;

@@ -3,9 +3,9 @@
 ghost use Rattle.std.specs.Prelude.{◌≡◌, ◌++◌, true, false, OnOk, OnErr, string_bytes};
 ghost use Rattle.miette_tree.specs.views.Report.{tree_of};
 ghost use Rattle.miette_tree.specs.views.Handler.{AppendsOne};
-ghost use Rattle.miette_tree.specs.rules.Reads.{AlwaysReads};
+ghost use Rattle.miette_tree.specs.rules.Reads.{AlwaysReads, report_accepted};
 ghost use Rattle.miette_brief.specs.rules.Report.{default_settings, brief, unlisted};
-ghost use Rattle.miette_brief.specs.rules.PossibleAnswers.{IsBrief, report_accepted};
+ghost use Rattle.miette_brief.specs.rules.PossibleAnswers.{IsBrief};
 
 use crate::report::brief_of;
 use miette_protocol::error::RenderError;

@@ -6,6 +6,7 @@ ghost use Rattle.miette_lines.specs.rules.Groups.{in_order};
 ghost use Rattle.miette_brief.specs.rules.Rows.{nowhere};
 ghost use Rattle.miette_brief.specs.rules.Places.{label_place as place_of_label};
 ghost use Rattle.std.specs.List.{All};
+ghost use Rattle.miette_tree.specs.rules.Reads.{accepts};
 ghost use Rattle.miette_brief.specs.steps.Reads.{IsUnread, IsReadAt, IsBegin, IsNamePlace, IsDiagnosticPlace};
 ghost use Rattle.miette_brief.specs.steps.Reads.{IsCausePlace};
 ghost use Rattle.miette_brief.specs.rules.PossibleAnswers.{accepts};

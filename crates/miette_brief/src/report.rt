@@ -8,13 +8,13 @@ ghost use Rattle.miette_tree.specs.rules.Tree.{head, cause_of, trees};
 ghost use Rattle.miette_tree.specs.views.Report.{tree_of};
 ghost use Rattle.miette_tree.specs.views.Owned.{shown_source};
 ghost use Rattle.miette_tree.specs.rules.DiagnosticParts.{given_labels};
+ghost use Rattle.miette_tree.specs.rules.Reads.{holds_of, holds_of_all, accepts, report_accepted};
 ghost use Rattle.miette_lines.specs.rules.Groups.{in_order};
 ghost use Rattle.miette_lines.specs.views.GivenLabels.{label_at};
 ghost use Rattle.miette_brief.specs.rules.Rows.{rows_text};
 ghost use Rattle.miette_brief.specs.rules.Places.{label_place as place_of_label};
 ghost use Rattle.miette_brief.specs.rules.Report.{finding_row, note_rows_of, note_rows, cause_row, help_rows};
-ghost use Rattle.miette_brief.specs.rules.PossibleAnswers.{HasAccepted, accepts, accepts_report, accepts_related};
-ghost use Rattle.miette_brief.specs.rules.PossibleAnswers.{report_accepted};
+ghost use Rattle.miette_brief.specs.rules.PossibleAnswers.{HasAccepted};
 ghost use Rattle.miette_brief.specs.rules.PossibleAnswers.{IsBrief};
 ghost use Rattle.miette_brief.specs.steps.Conversions.{place_of};
 ghost use Rattle.miette_brief.specs.steps.Reads.{IsUnread, IsReadAt};
@@ -187,7 +187,7 @@ fn push_report<'a, D: Diagnostic, S: SourceCode>(
     ensures text { OnOk result (AppendsReport chain (option_map (shown_source S.source) inherited.entry)
         (tree_of D.meaning S.source report.now) (string_bytes out.old) (string_bytes out.new)) }
     ensures refused { (result ≡ Err RenderError.Refused) →
-        accepts_report (option_map (shown_source S.source) inherited.entry) (tree_of D.meaning S.source report.now)
+        holds_of accepts (option_map (shown_source S.source) inherited.entry) (tree_of D.meaning S.source report.now)
         ≡ false }
 {
     let source = own_or(report, inherited);
@@ -208,7 +208,7 @@ fn push_related<'a, D: Diagnostic, S: SourceCode>(
     ensures text { OnOk result (AppendsRelated chain (option_map (shown_source S.source) source.entry)
         (trees (map (tree_of D.meaning S.source) reports.now)) (string_bytes out.old) (string_bytes out.new)) }
     ensures refused { (result ≡ Err RenderError.Refused) →
-        accepts_related (option_map (shown_source S.source) source.entry)
+        holds_of_all accepts (option_map (shown_source S.source) source.entry)
         (trees (map (tree_of D.meaning S.source) reports.now)) ≡ false }
 {
     for report in reports {

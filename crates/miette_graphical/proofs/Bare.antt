@@ -14,7 +14,8 @@ use Rattle.miette_graphical.specs.laws.Colourless.{colourless, unhighlighted_ans
 use Rattle.miette_graphical.specs.rules.Indents.{narrow_settings}
 use Rattle.miette_graphical.specs.rules.DiagnosticText.{SnippetRows, rows_text, under_arrow, title_text}
 use Rattle.miette_tree.specs.rules.DiagnosticParts.{given_labels}
-use Rattle.miette_graphical.specs.rules.PrintedDiagnostics.{always_reads, all_read, diagnostics_of, printed_causes, printed_related}
+use Rattle.miette_tree.specs.rules.Reads.{always_reads}
+use Rattle.miette_graphical.specs.rules.PrintedDiagnostics.{all_read, diagnostics_of, printed_causes, printed_related}
 use Rattle.miette_graphical.specs.rules.Snippets.{layout_settings}
 use Rattle.miette_graphical.specs.rules.Text.{ends_there, are_last, only_if, body, inner_text, causes_text, related_text, report_text}
 use Rattle.miette_graphical.specs.rules.PossibleAnswers.{IsAnswer, AreCauseAnswers, AreRelatedAnswers, AreAnswers}
@@ -46,7 +47,7 @@ later-bare no_more = refl
 later-bare (and_more first more) = refl
 
 -- where every read succeeds, such an answer says nothing
-own-nothing : (l : frames.SnippetSettings) (blank : Bool) (source : Option Source) (m : Meaning) (a : Answers) → IsAnswer l blank source m (own_answer a) → always_reads source m ≡ true →
+own-nothing : (l : frames.SnippetSettings) (blank : Bool) (source : Option Source) (m : Meaning) (a : Answers) → IsAnswer l blank source m (own_answer a) → always_reads source (given_labels m.labels) ≡ true →
     own_answer (unhighlighted_answers a) ≡ nothing_listed
 own-nothing l blank source m a h e = sym (own-bare a) ∙ ap unhighlighted_answer (h.read e)
 
@@ -61,7 +62,7 @@ mutual
       let source = effective own inherited in
       let n = narrow_settings s outer (ends_there c) in
       let p = both_read (printed_inner nested source (tree m own c r)) (printed_causes nested inherited c) e in
-      let q = and_parts (always_reads source m) (all_read (printed_related nested source r)) p.0 in
+      let q = and_parts (always_reads source (given_labels m.labels)) (all_read (printed_related nested source r)) p.0 in
       ap₂ (λ x y. x ++ y)
       (ap (under_arrow s outer (ends_there c))
       (ap₂ (inner_text rows n m source) (own-nothing l blank source m a h.0 q.0)
@@ -77,7 +78,7 @@ mutual
       let source = effective own inherited in
       let n = narrow_settings s outer (are_last ts) in
       let p = both_read (printed_inner true source (tree m own c r)) (printed_related true inherited ts) e in
-      let q = and_parts (always_reads source m) (all_read (printed_related true source r)) p.0 in
+      let q = and_parts (always_reads source (given_labels m.labels)) (all_read (printed_related true source r)) p.0 in
       ap₂ (λ x y. x ++ y)
       (if_same s.nested _ _ _ _
       (λ y. ap (λ x. under_arrow s outer (are_last ts) (without_trailing x))
@@ -88,7 +89,7 @@ mutual
   bare-related l blank rows s outer inherited (more_trees (tree m own c r) ts) (and_more a later) false w h e =
       let source = effective own inherited in
       let p = both_read (printed_sibling false source (tree m own c r)) (printed_related false inherited ts) e in
-      let q = and_parts (always_reads source m) (all_read (printed_causes false source c ++ printed_related false source r)) p.0 in
+      let q = and_parts (always_reads source (given_labels m.labels)) (all_read (printed_causes false source c ++ printed_related false source r)) p.0 in
       let o = both_read (printed_causes false source c) (printed_related false source r) q.1 in
       ap₂ (λ x y. x ++ y)
       (if_same s.nested _ _ _ _
@@ -111,7 +112,7 @@ bare-report rows s blank (tree m own c r) a h e =
     let l = layout_settings s in
     let u = colourless s in
     let causes = if s.chain then printed_causes s.nested own c else [] in
-    let p = and_parts (always_reads own m) (all_read (causes ++ printed_related s.nested own r)) e in
+    let p = and_parts (always_reads own (given_labels m.labels)) (all_read (causes ++ printed_related s.nested own r)) e in
     let q = both_read causes (printed_related s.nested own r) p.1 in
     ap (λ o. report_over u m (rows_text (rows u own (given_labels m.labels) o)) (only_if s.chain (causes_text rows u m.severity own c (cause_answers (unhighlighted_answers a)))) (related_text rows u m.severity own r (related_answers (unhighlighted_answers a)))) (own-nothing l blank own m a h.0 p.0)
     ∙ ap₂ (report_over u m (rows_text (rows u own (given_labels m.labels) nothing_listed)))

@@ -20,7 +20,7 @@ use Rattle.miette_page.specs.views.Printouts.{Printout, printout_of, ended_text,
 use Rattle.miette_tree.specs.views.Handler.{AppendsOne}
 use Rattle.miette_graphical.specs.rules.Answers.{Answer, nothing_listed, pieces_listed}
 use Rattle.miette_graphical.specs.rules.PossibleAnswers.{HasRows, HasPieces, IsAnswerOf}
-use Rattle.miette_graphical.specs.rules.PrintedDiagnostics.{always_reads}
+use Rattle.miette_tree.specs.rules.Reads.{always_reads}
 use Rattle.miette_graphical.specs.rules.DiagnosticText.{rows_text}
 use Rattle.miette_tree.specs.rules.DiagnosticParts.{given_labels}
 use Rattle.miette_graphical.specs.rules.Settings.{Settings}
@@ -148,13 +148,13 @@ refused_page s source labels blank before g =
 -- ---- a diagnostic's snippets
 
 pub drawn_nowhere : (s : Settings) (blank : Bool) (now : List Call → Type 0) (m : Meaning) (text : List ℕ) → text ≡ [] → IsDrawn drawn_rows s blank (λ calls. Leads now calls now) None m text
-drawn_nowhere s blank now m text e = (nothing_listed, unlisted_is (layout_settings s) blank None (given_labels m.labels) (always_reads None m), (λ later h. h), e)
+drawn_nowhere s blank now m text e = (nothing_listed, unlisted_is (layout_settings s) blank None (given_labels m.labels) (always_reads None (given_labels m.labels)), (λ later h. h), e)
 
 pub drawn_unlabelled : (s : Settings) (blank : Bool) (now : List Call → Type 0) (source : Source) (m : Meaning) (text : List ℕ) → given_labels m.labels ≡ [] → text ≡ [] →
     IsDrawn drawn_rows s blank (λ calls. Leads now calls now) (Some source) m text
 drawn_unlabelled s blank now source m text e t = (
   nothing_listed,
-  unlisted_is (layout_settings s) blank (Some source) (given_labels m.labels) (always_reads (Some source) m),
+  unlisted_is (layout_settings s) blank (Some source) (given_labels m.labels) (always_reads (Some source) (given_labels m.labels)),
   subst (λ (ls : List Label). Leads now (snippet_calls s.context source ls nothing_listed) now) (sym e) (λ later h. h),
   t ∙ ap (λ ls. rows_text (drawn_rows s (Some source) ls nothing_listed)) (sym e),
 )

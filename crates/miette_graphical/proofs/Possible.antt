@@ -17,7 +17,7 @@ use Rattle.miette_graphical.specs.rules.Settings.{Settings}
 use Rattle.miette_graphical.specs.rules.Snippets.{layout_settings}
 use Rattle.miette_graphical.specs.rules.Answers.{Answer, Answers, unlisted, RelatedAnswers, no_more, and_more, own_answer, cause_answers, related_answers}
 use Rattle.miette_graphical.specs.rules.PossibleAnswers.{AreAnswers, AreCauseAnswers, AreRelatedAnswers, HasPieces, HasRows, IsAnswer, IsAnswerOf}
-use Rattle.miette_graphical.specs.rules.PrintedDiagnostics.{always_reads}
+use Rattle.miette_tree.specs.rules.Reads.{always_reads}
 use Rattle.miette_graphical.specs.laws.Colourless.{colourless, unhighlighted_answers, unhighlighted_related_answers}
 use Rattle.miette_graphical.proofs.Bare.{own-bare, cause-bare, related-bare}
 
@@ -52,7 +52,7 @@ module _ (kept : AreRowsKept) where
   own_possible : (l : frames.SnippetSettings) (blank : Bool) (source : Option Source) (m : Meaning) (a : Answers) → IsAnswer l blank source m (own_answer a) →
       IsAnswer (fading.colourless l) true source m (own_answer (unhighlighted_answers a))
   own_possible l blank source m a h =
-      subst (IsAnswer (fading.colourless l) true source m) (own-bare a) (answer_possible l blank source (given_labels m.labels) (always_reads source m) (own_answer a) h)
+      subst (IsAnswer (fading.colourless l) true source m) (own-bare a) (answer_possible l blank source (given_labels m.labels) (always_reads source (given_labels m.labels)) (own_answer a) h)
 
   mutual
     causes_possible : (l : frames.SnippetSettings) (blank : Bool) (inherited : Option Source) (c : Cause) (a : Answers) → AreCauseAnswers l blank inherited c a →

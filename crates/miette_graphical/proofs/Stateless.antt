@@ -21,13 +21,14 @@ use Rattle.miette_snippets.specs.rules.Highlighting.{group_calls, highlight_of, 
 use Rattle.miette_snippets.specs.rules.SnippetLayout.{all_snippets, cells_of, drawn_labels, left_out, line_or_break, place_of, rows_of_lines, rows_unless, settings_around}
 use Rattle.miette_tree.specs.rules.DiagnosticParts.{given_labels}
 use Rattle.miette_tree.specs.rules.Tree.{Tree, tree, Cause, diagnostic, texts, Trees, no_trees, more_trees, effective}
+use Rattle.miette_tree.specs.rules.Reads.{always_reads}
 use Rattle.miette_graphical.specs.rules.PossibleAnswers.{AppendsAsked, AreAnswers, AreCauseAnswers, AreRelatedAnswers}
 use Rattle.miette_graphical.specs.rules.Answers.{Answer, Answers, RelatedAnswers, pieces_listed, own_answer, cause_answers, related_answers, first_answers, later_answers}
 use Rattle.miette_graphical.specs.rules.ByLine.{answers_by, causes_by, labels_by, own_by, related_by}
 use Rattle.miette_graphical.specs.rules.Calls.{cause_calls, own_calls, related_calls, report_calls}
 use Rattle.miette_graphical.specs.rules.Indents.{narrow_settings}
 use Rattle.miette_graphical.specs.rules.DiagnosticText.{rows_text, title_text, under_arrow}
-use Rattle.miette_graphical.specs.rules.PrintedDiagnostics.{all_read, always_reads, diagnostics_of, printed_causes, printed_related}
+use Rattle.miette_graphical.specs.rules.PrintedDiagnostics.{all_read, diagnostics_of, printed_causes, printed_related}
 use Rattle.miette_graphical.specs.rules.Settings.{Settings}
 use Rattle.miette_graphical.specs.rules.Snippets.{drawn_rows, layout_settings, shown_rows}
 use Rattle.miette_graphical.specs.rules.Text.{are_last, body_over, causes_text, ends_there, inner_over, only_if, related_text, report_text}
@@ -99,7 +100,7 @@ mutual
       let source = effective own inherited in
       let n = narrow_settings s outer (ends_there c) in
       let p = both_read (printed_inner nested source (tree m own c r)) (printed_causes nested inherited c) e in
-      let q = and_parts (always_reads source m) (all_read (printed_related nested source r)) p.0 in
+      let q = and_parts (always_reads source (given_labels m.labels)) (all_read (printed_related nested source r)) p.0 in
       let more = related_calls s.context nested source r (related_answers a) in
       let k = parts_by f (own_calls s.context source m (own_answer a) ++ more) (cause_calls s.context nested inherited c (cause_answers a)) b in
       let j = parts_by f (own_calls s.context source m (own_answer a)) more k.0 in
@@ -117,7 +118,7 @@ mutual
       let n = narrow_settings s outer (are_last ts) in
       let a = first_answers more in
       let p = both_read (printed_inner true source (tree m own c r)) (printed_related true inherited ts) e in
-      let q = and_parts (always_reads source m) (all_read (printed_related true source r)) p.0 in
+      let q = and_parts (always_reads source (given_labels m.labels)) (all_read (printed_related true source r)) p.0 in
       let own_ones = own_calls s.context source m (own_answer a) in
       let below = related_calls s.context true source r (related_answers a) in
       let k = parts_by f (own_ones ++ below) (related_calls s.context true inherited ts (later_answers more)) b in
@@ -132,7 +133,7 @@ mutual
       let source = effective own inherited in
       let a = first_answers more in
       let p = both_read (printed_sibling false source (tree m own c r)) (printed_related false inherited ts) e in
-      let q = and_parts (always_reads source m) (all_read (printed_causes false source c ++ printed_related false source r)) p.0 in
+      let q = and_parts (always_reads source (given_labels m.labels)) (all_read (printed_causes false source c ++ printed_related false source r)) p.0 in
       let o = both_read (printed_causes false source c) (printed_related false source r) q.1 in
       let caused = cause_calls s.context false source c (cause_answers a) in
       let own_ones = own_calls s.context source m (own_answer a) in
@@ -160,7 +161,7 @@ report_text_by : (f : List ℕ → List Piece) (s : Settings) (blank : Bool) (t 
 report_text_by f s blank (tree m own c r) a h e b =
     let l = layout_settings s in
     let causes = if s.chain then printed_causes s.nested own c else [] in
-    let p = and_parts (always_reads own m) (all_read (causes ++ printed_related s.nested own r)) e in
+    let p = and_parts (always_reads own (given_labels m.labels)) (all_read (causes ++ printed_related s.nested own r)) e in
     let q = both_read causes (printed_related s.nested own r) p.1 in
     let caused = if s.chain then cause_calls s.context s.nested own c (cause_answers a) else [] in
     let own_ones = own_calls s.context own m (own_answer a) in

@@ -15,12 +15,13 @@ use Rattle.miette_tree.specs.rules.DiagnosticParts.{given_labels}
 use Rattle.miette_graphical.specs.rules.Text.{cause_texts, ends_there, are_last, body, body_over, inner_over, inner_text, causes_text, related_text, only_if}
 use Rattle.miette_tree.specs.rules.Tree.{effective}
 use Rattle.miette_snippets.specs.rules.Frames as frames
-use Rattle.miette_graphical.specs.rules.PrintedDiagnostics.{all_read, always_reads, over, diagnostics_of, printed_causes, printed_related}
+use Rattle.miette_graphical.specs.rules.PrintedDiagnostics.{all_read, over, diagnostics_of, printed_causes, printed_related}
 use Rattle.miette_graphical.specs.rules.Snippets.{layout_settings}
 use Rattle.miette_graphical.proofs.DrawnRows.{unlisted_is}
 use Rattle.miette_graphical.proofs.Lists.{first_fails, later_fails}
 use Rattle.miette_graphical.proofs.Outermost.{report_over}
 use Rattle.miette_tree.specs.views.Handler.{AppendsOne}
+use Rattle.miette_tree.specs.rules.Reads.{always_reads}
 use Rattle.miette_graphical.specs.rules.PossibleAnswers.{IsAnswer, AreCauseAnswers, AreRelatedAnswers, IsAskedReport}
 use Rattle.miette_graphical.specs.rules.Calls.{own_calls, cause_calls, related_calls}
 use Rattle.miette_graphical.specs.steps.PartTexts.{IsDrawn, AreCauses, AreRelated, IsInner, IsSibling, IsOneCause, IsNested, IsOneRelated, AreRootCauses, IsBelow}
@@ -42,7 +43,7 @@ mutual
   causes-unlisted : (l : frames.SnippetSettings) (blank : Bool) (inherited : Option Source) (c : Cause) → AreCauseAnswers l blank inherited c unlisted
   causes-unlisted l blank inherited (texts ts) = tt
   causes-unlisted l blank inherited (diagnostic (tree m own c r)) = (
-    unlisted_is l blank (effective own inherited) (given_labels m.labels) (always_reads (effective own inherited) m),
+    unlisted_is l blank (effective own inherited) (given_labels m.labels) (always_reads (effective own inherited) (given_labels m.labels)),
     related-unlisted l blank (effective own inherited) r,
     causes-unlisted l blank inherited c,
   )
@@ -50,7 +51,7 @@ mutual
   related-unlisted : (l : frames.SnippetSettings) (blank : Bool) (inherited : Option Source) (ts : Trees) → AreRelatedAnswers l blank inherited ts no_more
   related-unlisted l blank inherited no_trees = tt
   related-unlisted l blank inherited (more_trees (tree m own c r) ts) = (
-    unlisted_is l blank (effective own inherited) (given_labels m.labels) (always_reads (effective own inherited) m),
+    unlisted_is l blank (effective own inherited) (given_labels m.labels) (always_reads (effective own inherited) (given_labels m.labels)),
     causes-unlisted l blank (effective own inherited) c,
     related-unlisted l blank (effective own inherited) r,
     related-unlisted l blank inherited ts,
@@ -248,17 +249,17 @@ and_later : (a b c : Bool) → (b ≡ false → c ≡ false) → (a && b) ≡ fa
 and_later true b c f h = f h
 and_later false b c f h = refl
 
-pub inner_rows_fail : (nested : Bool) (source : Option Source) (t : Tree) → always_reads source (head t) ≡ false → all_read (printed_inner nested source t) ≡ false
+pub inner_rows_fail : (nested : Bool) (source : Option Source) (t : Tree) → always_reads source (given_labels (head t).labels) ≡ false → all_read (printed_inner nested source t) ≡ false
 inner_rows_fail nested source (tree m own c r) h = ap (λ b. b && all_read (printed_related nested source r)) h
 
 pub sibling_below_fails : (nested : Bool) (source : Option Source) (t : Tree) → all_read (printed_inner nested source t) ≡ false → all_read (printed_sibling nested source t) ≡ false
 sibling_below_fails nested source (tree m own c r) h =
-    and_later (always_reads source m) (all_read (printed_related nested source r)) (all_read (printed_causes nested source c ++ printed_related nested source r)) (later_fails (printed_causes nested source c) (printed_related nested source r)) h
+    and_later (always_reads source (given_labels m.labels)) (all_read (printed_related nested source r)) (all_read (printed_causes nested source c ++ printed_related nested source r)) (later_fails (printed_causes nested source c) (printed_related nested source r)) h
 
 pub root_below_fails : (s : Settings) (t : Tree) → all_read (printed_inner s.nested (source_of t) t) ≡ false → all_read (diagnostics_of s t) ≡ false
 root_below_fails s (tree m own c r) h =
     let causes = printed_root_causes s.chain s.nested (tree m own c r) in
-    and_later (always_reads own m) (all_read (printed_related s.nested own r)) (all_read (causes ++ printed_related s.nested own r)) (later_fails causes (printed_related s.nested own r)) h
+    and_later (always_reads own (given_labels m.labels)) (all_read (printed_related s.nested own r)) (all_read (causes ++ printed_related s.nested own r)) (later_fails causes (printed_related s.nested own r)) h
 
 pub sibling_causes_fail : (nested : Bool) (source : Option Source) (t : Tree) → all_read (printed_causes nested source (cause_of t)) ≡ false →
     all_read (printed_sibling nested source t) ≡ false

@@ -5,7 +5,7 @@ ghost use Rattle.std.specs.Prelude.{false};
 ghost use Rattle.miette_graphical.specs.steps.PartTexts.{AreCauses, AreDrawn, AreRelated, IsBelow, IsDrawn, IsInner};
 ghost use Rattle.miette_graphical.specs.steps.PartTexts.{IsNested, IsOneCause, IsOneRelated, IsSibling};
 ghost use Rattle.miette_tree.specs.views.Handler.{AppendsOne};
-ghost use Rattle.miette_graphical.specs.rules.PrintedDiagnostics.{all_read, always_reads, printed_causes};
+ghost use Rattle.miette_graphical.specs.rules.PrintedDiagnostics.{all_read, printed_causes};
 ghost use Rattle.miette_graphical.specs.steps.PrintedParts.{printed_inner, printed_one, printed_sibling};
 ghost use Rattle.miette_graphical.specs.rules.PrintedDiagnostics.{printed_related};
 ghost use Rattle.miette_snippets.specs.rules.Highlighting.{AreCallsOn, leaves_plain};
@@ -15,6 +15,8 @@ ghost use Rattle.miette_graphical.specs.rules.Text as texts;
 ghost use Rattle.miette_graphical.specs.steps.SettingsView.{settings_of};
 ghost use Rattle.miette_tree.specs.views.Report.{tree_of};
 ghost use Rattle.miette_tree.specs.rules.Tree.{cause_of, effective, head, source_of, trees};
+ghost use Rattle.miette_tree.specs.rules.DiagnosticParts.{given_labels};
+ghost use Rattle.miette_tree.specs.rules.Reads.{always_reads};
 ghost use Rattle.miette_runs.specs.rules.Sequences.{spell};
 
 use crate::diagnostic::{is_nil, push_cause_texts, push_header_of, push_message_of, push_title};
@@ -49,8 +51,8 @@ fn push_rows<D: Diagnostic, S: SourceCode, H: Highlighter>(
         (option_map (shown_source S.source) source.entry)
         (head (tree_of D.meaning S.source report.now))) out.old out.new) }
     ensures refused { (result ≡ Err RenderError.Refused) →
-        always_reads (option_map (shown_source S.source) source.entry) (head (tree_of D.meaning S.source report.now))
-        ≡ false }
+        always_reads (option_map (shown_source S.source) source.entry)
+        (given_labels (head (tree_of D.meaning S.source report.now)).labels) ≡ false }
     ensures stays { leaves_plain H.is_blank pen.new.highlighter ≡ leaves_plain H.is_blank pen.old.highlighter }
 {
     match source {
@@ -72,8 +74,8 @@ fn push_shown<D: Diagnostic, S: SourceCode, H: Highlighter>(
         (AreCallsOn H.may_follow pen.old.highlighter pen.new.highlighter) (Some (shown_source S.source source.entry))
         (head (tree_of D.meaning S.source report.now))) out.old out.new) }
     ensures refused { (result ≡ Err RenderError.Refused) →
-        always_reads (Some (shown_source S.source source.entry)) (head (tree_of D.meaning S.source report.now))
-        ≡ false }
+        always_reads (Some (shown_source S.source source.entry))
+        (given_labels (head (tree_of D.meaning S.source report.now)).labels) ≡ false }
     ensures stays { leaves_plain H.is_blank pen.new.highlighter ≡ leaves_plain H.is_blank pen.old.highlighter }
 {
     let labels = labels_of(report);

@@ -19,8 +19,8 @@ pub use Rattle.miette_graphical.specs.rules.Snippets
 pub use Rattle.miette_graphical.specs.laws.Headline
 pub use Rattle.miette_json.specs.rules.Json
 pub use Rattle.miette_json.specs.rules.Denotes
-pub use Rattle.miette_json.specs.rules.Reads
 pub use Rattle.miette_json.specs.rules.JsonReport
 pub use Rattle.miette_json.specs.rules.JsonText
 pub use Rattle.miette_tree.specs.rules.Display
+pub use Rattle.miette_tree.specs.rules.Reads
 pub use Rattle.miette_tree.specs.views.Handler

@@ -2,17 +2,17 @@
 use Rattle.std.proofs.Common.{◌≡◌, ℕ, ◌≤◌, List, [], ◌∷◌, ◌++◌, length, map, drop, Bool, true, false, Option, Some, None, refl, sym, ap, subst, ◌∙◌, append_assoc, codes}
 use Rattle.std.specs.Prelude.{IsUtf8, if◌then◌else◌, option_map}
 use Rattle.std.proofs.lemmas.List.{drop_all}
+use Rattle.std.proofs.lemmas.Bool.{and_parts}
 use Rattle.miette_protocol.specs.rules.Reading.{Source}
 use Rattle.miette_protocol.specs.views.Meaning.{Label}
 use Rattle.miette_tree.specs.rules.Tree.{Tree, tree, Trees, no_trees, more_trees, trees, effective, head, source_of, cause_of, causes_of, related_of}
 use Rattle.miette_json.specs.rules.Json.{Json, string, array, object, Items, item, no_members, member, items_text, json_text}
 use Rattle.miette_json.specs.rules.Denotes.{Denotes, HasTokensOf}
-use Rattle.miette_json.specs.rules.JsonReport.{NameAnswers, unlisted, listed, RelatedNameAnswers, no_more, and_more, related_answers, first_answers, later_answers, MayFail, AreAnswers, AllAnswers, report_json, reports_json, maybe, strings, labels_json, file_name}
+use Rattle.miette_json.specs.rules.JsonReport.{NameAnswers, unlisted, listed, RelatedNameAnswers, no_more, and_more, related_answers, first_answers, later_answers, AreAnswers, AllAnswers, report_json, reports_json, maybe, strings, labels_json, file_name}
 use Rattle.miette_tree.specs.rules.DiagnosticParts.{given_labels, severity_text}
-use Rattle.miette_tree.specs.rules.Reads.{AlwaysReads, AllAlwaysRead}
 use Rattle.miette_tree.specs.rules.Answers.{own_fault}
-use Rattle.miette_tree.proofs.Nesting.{Reads, effective_reads}
-use Rattle.miette_json.specs.rules.Reads.{NameAlwaysReads, NamesAlwaysRead, AllNamesAlwaysRead}
+use Rattle.miette_tree.proofs.Readings.{fault_free}
+use Rattle.miette_tree.specs.rules.Reads.{MayMeet, always_reads, holds_of, holds_of_all}
 use Rattle.miette_json.specs.rules.JsonText.{IsJsonOf}
 use Rattle.miette_json.proofs.JsonJoined.{last_piece, report_parts}
 use Rattle.miette_json.specs.steps.JsonParts.{rest_text, AppendsReport, AppendsRelated, AppendsPlaces, head_text, reasons_text, key_text}
@@ -60,36 +60,26 @@ report_written inherited (tree m s c rs) source labels related old a b p k q r n
     let there : AppendsRelated own rs q r = subst (λ ts. AppendsRelated own ts q r) er (subst (λ o. AppendsRelated o related q r) es others) in
     let answers : NameAnswers = listed here.fault unlisted there.answers in record {
       answers = answers;
-      possible = (here.may_fail, there.possible);
+      possible = (here.possible, there.possible);
       appended = joined _ _ _ _ _ _ _ _ _ _ _ _ _ e f here.appended g h there.appended i ∙ ap (λ l. old ++ l) (sym (report_parts inherited answers (tree m s c rs)));
     }
 
 -- ---- sources that always read
 
-never : (s : Option Source) → Reads s → MayFail s → ⊥
-never None r f = f
-never (Some s) r f = cc
-
-no_fault : (s : Option Source) (b : Bool) → (b ≡ true → MayFail s) → (MayFail s → ⊥) → b ≡ false
-no_fault s false f g = refl
-no_fault s true f g = absurd (g (f refl))
-
-fault_free : (s : Option Source) (b : Bool) → (b ≡ true → MayFail s) → Reads s → b ≡ false
-fault_free s b f r = no_fault s b f (never s r)
-
-same_name : (source : Option Source) (labels : List Label) (b : Bool) → (b ≡ true → MayFail source) → NameAlwaysReads source labels
+same_name : (source : Option Source) (labels : List Label) (b : Bool) → MayMeet source b → always_reads source labels ≡ true
     → option_map (file_name b labels) source ≡ option_map (file_name false labels) source
 same_name None labels b f r = refl
 same_name (Some s) [] b f r = refl
 same_name (Some s) (l ∷ ls) b f r = ap (λ fault. Some (file_name fault (l ∷ ls) s)) (fault_free (Some s) b f r)
 
 mutual
-  same_value : (inherited : Option Source) (a : NameAnswers) (t : Tree) → AreAnswers inherited a t → NamesAlwaysRead inherited t → report_json inherited a t ≡ report_json inherited unlisted t
+  same_value : (inherited : Option Source) (a : NameAnswers) (t : Tree) → AreAnswers inherited a t → holds_of always_reads inherited t ≡ true → report_json inherited a t ≡ report_json inherited unlisted t
   same_value inherited a (tree m s c r) p reads =
       let own : Option Source = effective s inherited in
       let labels : List Label = given_labels m.labels in
-      let name : option_map (file_name (own_fault a) labels) own ≡ option_map (file_name false labels) own = same_name own labels (own_fault a) p.0 reads.0 in
-      let others : reports_json own (related_answers a) r ≡ reports_json own no_more r = same_values own (related_answers a) r p.1 reads.1 in
+      let read = and_parts (always_reads own labels) (holds_of_all always_reads own r) reads in
+      let name : option_map (file_name (own_fault a) labels) own ≡ option_map (file_name false labels) own = same_name own labels (own_fault a) p.0 read.0 in
+      let others : reports_json own (related_answers a) r ≡ reports_json own no_more r = same_values own (related_answers a) r p.1 read.1 in
       ap (λ n. with_parts n (reports_json own (related_answers a) r)) name ∙ ap (with_parts (option_map (file_name false labels) own)) others where
         with_parts : Option (List ℕ) → Items → Json
         with_parts name others = object
@@ -103,29 +93,12 @@ mutual
             (member (codes "labels") (array (labels_json (given_labels m.labels)))
             (member (codes "related") (array others) no_members)))))))))
 
-  same_values : (inherited : Option Source) (a : RelatedNameAnswers) (ts : Trees) → AllAnswers inherited a ts → AllNamesAlwaysRead inherited ts → reports_json inherited a ts ≡ reports_json inherited no_more ts
+  same_values : (inherited : Option Source) (a : RelatedNameAnswers) (ts : Trees) → AllAnswers inherited a ts → holds_of_all always_reads inherited ts ≡ true → reports_json inherited a ts ≡ reports_json inherited no_more ts
   same_values inherited a no_trees p reads = refl
   same_values inherited a (more_trees t ts) p reads =
-      ap (λ j. item j (reports_json inherited (later_answers a) ts)) (same_value inherited (first_answers a) t p.0 reads.0)
-      ∙ ap (item (report_json inherited unlisted t)) (same_values inherited (later_answers a) ts p.1 reads.1)
-
--- where all sources always read, so do these
-name_reads : (source : Option Source) (labels : List Label) → Reads source → NameAlwaysReads source labels
-name_reads source [] r = tt
-name_reads source (l ∷ ls) r = r
-
-mutual
-  names_read : (inherited : Option Source) (t : Tree) → Reads inherited → AlwaysReads t → NamesAlwaysRead inherited t
-  names_read inherited (tree m s c r) i reads =
-      let own_reads : Reads (effective s inherited) = effective_reads s inherited reads.0 i in
-      (name_reads (effective s inherited) (given_labels m.labels) own_reads, all_names_read (effective s inherited) r own_reads reads.2)
-
-  all_names_read : (inherited : Option Source) (ts : Trees) → Reads inherited → AllAlwaysRead ts → AllNamesAlwaysRead inherited ts
-  all_names_read inherited no_trees i reads = tt
-  all_names_read inherited (more_trees t ts) i reads = (names_read inherited t i reads.0, all_names_read inherited ts i reads.1)
-
-pub names_always_read : (t : Tree) → AlwaysReads t → NamesAlwaysRead None t
-names_always_read t reads = names_read None t tt reads
+      let read = and_parts (holds_of always_reads inherited t) (holds_of_all always_reads inherited ts) reads in
+      ap (λ j. item j (reports_json inherited (later_answers a) ts)) (same_value inherited (first_answers a) t p.0 read.0)
+      ∙ ap (item (report_json inherited unlisted t)) (same_values inherited (later_answers a) ts p.1 read.1)
 
 -- all that is claimed of a report's text
 pub is_json : ((v : Json) → HasTokensOf (json_text v) v) → ((bytes : List ℕ) (v w : Json) → Denotes bytes v → Denotes bytes w → v ≡ w)

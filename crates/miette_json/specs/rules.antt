@@ -1,6 +1,5 @@
 -- What users rely on, in the words of docs/RULES.md.
 pub mod Json
 pub mod Denotes
-pub mod Reads
 pub mod JsonReport
 pub mod JsonText

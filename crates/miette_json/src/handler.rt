@@ -1,10 +1,10 @@
 //! The JSON report.
 
-ghost use Rattle.std.specs.Prelude.{◌≡◌, ◌++◌, None, IfOk, OnOk, OnErr, string_bytes};
+ghost use Rattle.std.specs.Prelude.{◌≡◌, ◌++◌, true, IfOk, OnOk, OnErr, string_bytes};
 ghost use Rattle.miette_tree.specs.views.Report.{tree_of};
-ghost use Rattle.miette_json.specs.rules.Reads.{NamesAlwaysRead};
 ghost use Rattle.miette_json.specs.rules.JsonText.{IsJsonOf, value_text};
 ghost use Rattle.miette_tree.specs.views.Handler.{AppendsOne};
+ghost use Rattle.miette_tree.specs.rules.Reads.{report_reads};
 
 use crate::laws;
 use crate::report::push_report;
@@ -35,7 +35,7 @@ impl JSONReportHandler {
         // Where the sources that its file names are read from always read, there is one such value.
         ensures value { let tree = tree_of ⟦<Box<dyn Diagnostic> as Diagnostic>⟧.meaning
             ⟦<Box<dyn SourceCode> as SourceCode>⟧.source report.now in
-            OnOk result (NamesAlwaysRead None tree →
+            OnOk result (report_reads tree ≡ true →
             string_bytes out.new ≡ string_bytes out.old ++ value_text tree) }
         ensures memory { OnErr result (result ≡ Err RenderError.Memory) }
         ensures err { OnErr result (string_bytes out.new ≡ string_bytes out.old) }
@@ -65,7 +65,7 @@ fn render<D: Diagnostic, S: SourceCode>(
 ) -> Result<(), RenderError>
     ensures text { OnOk result (AppendsOne (IsJsonOf (tree_of D.meaning S.source report.now)) (string_bytes out.old)
         (string_bytes out.new)) }
-    ensures value { OnOk result (NamesAlwaysRead None (tree_of D.meaning S.source report.now)
+    ensures value { OnOk result (report_reads (tree_of D.meaning S.source report.now) ≡ true
         → string_bytes out.new ≡ string_bytes out.old ++ value_text (tree_of D.meaning S.source report.now)) }
     ensures memory { OnErr result (result ≡ Err RenderError.Memory) }
     ensures err { OnErr result (string_bytes out.new ≡ string_bytes out.old) }

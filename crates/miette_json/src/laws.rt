@@ -1,10 +1,9 @@
 //! What holds of every JSON text and every value, whatever a handler writes. Each law is the contract of a function
 //! that does nothing; a caller cites it by calling it.
 
-ghost use Rattle.std.specs.Prelude.{◌≡◌, ℕ, List, None};
+ghost use Rattle.std.specs.Prelude.{◌≡◌, ℕ, List, true};
 ghost use Rattle.miette_tree.specs.rules.Tree.{Tree};
-ghost use Rattle.miette_tree.specs.rules.Reads.{AlwaysReads};
-ghost use Rattle.miette_json.specs.rules.Reads.{NamesAlwaysRead};
+ghost use Rattle.miette_tree.specs.rules.Reads.{AlwaysReads, report_reads};
 ghost use Rattle.miette_json.specs.rules.Json.{Json, json_text};
 ghost use Rattle.miette_json.specs.rules.Denotes.{Denotes, HasTokensOf, HasUtf8Texts};
 
@@ -33,5 +32,5 @@ pub fn equal_spellings_are_of_equal_values()
 
 /// Where all sources of a report always read, so do those that its file names are read from.
 pub fn names_are_read_where_sources_are()
-    ensures { (t : Tree) → AlwaysReads t → NamesAlwaysRead None t }
+    ensures { (t : Tree) → AlwaysReads t → report_reads t ≡ true }
 {}

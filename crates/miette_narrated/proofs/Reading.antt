@@ -22,10 +22,11 @@ use Rattle.miette_lines.specs.rules.Groups as groups
 use Rattle.miette_lines.specs.views.Placing.{placed_one, placed_from}
 use Rattle.miette_lines.specs.views.Reads.{IsRead, AreRead, IsLent, AreGroups, AreGrouped, IsUnread}
 use Rattle.miette_lines.proofs.Numbers.{by_cases}
+use Rattle.miette_lines.proofs.Owning.{order_all}
 use Rattle.miette_narrated.specs.rules.Labels.{LabelRange, label_range}
 use Rattle.miette_narrated.specs.steps.Conversions.{range_of, ranges_of}
 use Rattle.miette_narrated.specs.rules.Snippets.{snippet, snippets_of}
-use Rattle.miette_narrated.specs.rules.PossibleAnswers.{accepts}
+use Rattle.miette_tree.specs.rules.Reads.{accepts}
 use Rattle.miette_narrated.specs.steps.Sweeping.{BeginsFrom, AreOrdered}
 use Rattle.miette_narrated.specs.steps.AppendedParts.{AppendsSnippets}
 use Rattle.std.proofs.lemmas.List.{drop_all}
@@ -156,7 +157,7 @@ pub unread_group : (context : ℕ) (source : Source) (labels : List Label) (r : 
 unread_group context source labels r h is =
     let none : IsUnread context source (in_order labels) = subst (λ (o : Option (List Group)). AreGrouped context source (in_order labels) o) is h in
     let own = and_parts (has_own (in_order labels)) (some_fails none.fails (groups_of context source none.fails (in_order labels))) none.unread in
-    not_all (list_all (λ l. is_accepted source.bytes l.span) (in_order labels)) (is_nil labels) source.always_reads (own_some labels own.0) none.always
+    not_all (list_all (λ l. is_accepted source.bytes l.span) labels) (is_nil labels) source.always_reads (own_some labels own.0) none.always
 
 -- ---- a refused label
 
@@ -187,8 +188,8 @@ reads_or_nil false c e f = e
 
 refused_label : (context : ℕ) (source : Source) (labels : List Label) (index : ℕ) (reason : Refusal) → AreRead context source labels (in_order labels) (reads.Refused index reason) → accepts (Some source) labels ≡ false
 refused_label context source labels index reason h =
-    not_both (list_all (λ l. is_accepted source.bytes l.span) (in_order labels)) (is_nil labels || source.always_reads)
-    (λ all reads. never_both _ _ (accepts_all source.bytes h.0 (in_order labels) (h.1 (reads_or_nil (is_nil labels) source.always_reads reads (refused_nil source.bytes h.0 _ labels h.2))) all) h.2)
+    not_both (list_all (λ l. is_accepted source.bytes l.span) labels) (is_nil labels || source.always_reads)
+    (λ all reads. never_both _ _ (accepts_all source.bytes h.0 (in_order labels) (h.1 (reads_or_nil (is_nil labels) source.always_reads reads (refused_nil source.bytes h.0 _ labels h.2))) (order_all (λ l. is_accepted source.bytes l.span) labels ∙ all)) h.2)
 
 pub refused_read : (context : ℕ) (source : Source) (labels order : List Label) (r : ReadLabels) (index : ℕ) (reason : Refusal) → AreRead context source labels order r → r ≡ reads.Refused index reason → order ≡ in_order labels →
     accepts (Some source) labels ≡ false

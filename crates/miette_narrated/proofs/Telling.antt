@@ -1,5 +1,5 @@
 -- The text and the answers of a tree, put together from those of its parts.
-use Rattle.std.proofs.Common.{◌≡◌, ℕ, suc, zero, ◌<◌, ◌≤◌, List, [], ◌∷◌, ◌++◌, length, get_or, map, drop, Bool, true, false, ◌&&◌, Option, Some, None, refl, sym, ap, ap₂, subst, ◌∙◌, append_assoc, append-nil, arith}
+use Rattle.std.proofs.Common.{◌≡◌, ℕ, ◌≤◌, List, [], ◌∷◌, ◌++◌, length, map, drop, Bool, true, Option, Some, None, refl, sym, ap, ap₂, subst, ◌∙◌, append_assoc, append-nil}
 use Rattle.std.proofs.lemmas.Bool.{and_parts}
 use Rattle.miette_protocol.specs.rules.Reading.{Source}
 use Rattle.miette_protocol.specs.views.Meaning.{Label}
@@ -11,10 +11,10 @@ use Rattle.miette_narrated.specs.rules.Labels.{label_range}
 use Rattle.miette_narrated.specs.rules.Snippets.{snippets_of}
 use Rattle.miette_narrated.specs.rules.Report.{NarrationSettings, Answers, unlisted, listed, RelatedAnswers, no_more, and_more, own_answer, related_answers, first_answers, later_answers, head_rows, titled_rows, cause_rows, causes_if, advice_rows, row_if, snippet_rows, blank_before, related_report, related_reports, narration}
 use Rattle.miette_tree.specs.rules.DiagnosticParts.{given_labels}
-use Rattle.miette_narrated.specs.rules.PossibleAnswers.{holds_of, holds_of_all, always_reads, accepts, report_reads, IsAnswered, AreAnswers, AllAnswers, IsNarrated, Appends}
+use Rattle.miette_tree.specs.rules.Reads.{holds_of, holds_of_all, always_reads, report_reads}
+use Rattle.miette_narrated.specs.rules.PossibleAnswers.{IsAnswered, AreAnswers, AllAnswers, IsNarrated}
 use Rattle.miette_narrated.specs.steps.AppendedParts.{AppendsSnippets, AppendsReport, AppendsRelated}
 use Rattle.std.proofs.lemmas.List.{drop_all}
-use Rattle.std.proofs.Math.Bool.{and-false}
 
 -- ---- related reports, one after the other
 
@@ -98,21 +98,6 @@ whole_told s (tree m own c rs) source labels related start a b p q r new es el e
           ++ ((blank_before rs ++ related_reports s.context o there.answers rs) ++ row_if [] s.footer)))) (own_none own);
     }
 
--- ---- where something is refused
-
-pub refused_below : (t : Tree) (inherited source : Option Source) (related : Trees) → source ≡ effective (source_of t) inherited → related ≡ related_of t →
-    holds_of_all accepts source related ≡ false → holds_of accepts inherited t ≡ false
-refused_below (tree m s c r) inherited source related es er e =
-    ap (λ b. accepts (effective s inherited) (given_labels m.labels) && b) (sym (ap₂ (holds_of_all accepts) es er) ∙ e) ∙ and-false (accepts (effective s inherited) (given_labels m.labels))
-
-pub one_refused : {R : Type 0} (value : R → Tree) (inherited : Option Source) (rs : List R) (i : ℕ) (d : R) → i < length rs → d ≡ get_or rs i d → holds_of accepts inherited (value d) ≡ false →
-    holds_of_all accepts inherited (trees (map value rs)) ≡ false
-one_refused value inherited [] i d lt is e = absurd (omega arith)
-one_refused value inherited (r ∷ rs) zero d lt is e =
-    ap (λ b. b && holds_of_all accepts inherited (trees (map value rs))) (ap (λ x. holds_of accepts inherited (value x)) (sym is) ∙ e)
-one_refused value inherited (r ∷ rs) (suc i) d lt is e =
-    ap (λ b. holds_of accepts inherited (value r) && b) (one_refused value inherited rs i d (omega arith) is e) ∙ and-false (holds_of accepts inherited (value r))
-
 -- ---- where every source always reads
 
 same_snippets : (context : ℕ) (source : Option Source) (fails : List Bool) (labels : List Label) → IsAnswered source labels fails → always_reads source labels ≡ true →
@@ -144,9 +129,6 @@ same_whole s (tree m own c r) a h e =
     ap₂ f
     (ap (λ o. snippet_rows s.context o (own_answer a) (given_labels m.labels)) (sym e0) ∙ same_snippets s.context (effective own None) (own_answer a) (given_labels m.labels) h.0 p.0 ∙ ap (λ o. snippet_rows s.context o [] (given_labels m.labels)) e0)
     (ap (λ o. related_reports s.context o (related_answers a) r) (sym e0) ∙ same_reports s.context (effective own None) (related_answers a) r h.1 p.1 ∙ ap (λ o. related_reports s.context o no_more r) e0)
-
-pub appended_text : (s : NarrationSettings) (t : Tree) (text old new : List ℕ) → IsNarrated s t text → new ≡ old ++ text → Appends s t old new
-appended_text s t text old new h e = record { text = text; is_narrated = h; appended = e }
 
 pub appended_only : (s : NarrationSettings) (t : Tree) (text old new : List ℕ) → IsNarrated s t text → new ≡ old ++ text → report_reads t ≡ true → new ≡ old ++ narration s t unlisted
 appended_only s t text old new h e r = e ∙ ap (λ x. old ++ x) (h.is ∙ same_whole s t h.answers h.possible r)

@@ -1,7 +1,8 @@
 //! The narrated report, as a handler among the others.
 
 ghost use Rattle.std.specs.Prelude.{◌≡◌, false};
-ghost use Rattle.miette_narrated.specs.rules.PossibleAnswers.{IsNarrated, report_accepted};
+ghost use Rattle.miette_narrated.specs.rules.PossibleAnswers.{IsNarrated};
+ghost use Rattle.miette_tree.specs.rules.Reads.{report_accepted};
 
 use crate::handler::NarratableReportHandler;
 use miette_protocol::error::RenderError;

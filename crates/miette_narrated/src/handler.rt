@@ -2,8 +2,10 @@
 
 ghost use Rattle.std.specs.Prelude.{◌≡◌, ◌++◌, true, false, Some, OnOk, OnErr, string_bytes, option_copied};
 ghost use Rattle.miette_tree.specs.views.Report.{tree_of};
+ghost use Rattle.miette_tree.specs.rules.Reads.{report_reads, report_accepted};
+ghost use Rattle.miette_tree.specs.views.Handler.{AppendsOne};
 ghost use Rattle.miette_narrated.specs.rules.Report.{default_settings, narration, unlisted};
-ghost use Rattle.miette_narrated.specs.rules.PossibleAnswers.{Appends, report_reads, report_accepted};
+ghost use Rattle.miette_narrated.specs.rules.PossibleAnswers.{IsNarrated};
 ghost use Rattle.miette_narrated.specs.steps.NarrationSettings.{settings_of};
 
 use crate::report::narration_of;
@@ -144,9 +146,9 @@ impl NarratableReportHandler {
     /// or a group of labels of which one has its own number of context lines, which is read again.
     pub fn render_report(&self, report: &Report, out: &mut String) -> Result<(), RenderError>
         // a text for answers that the sources can have given
-        ensures text { OnOk result (Appends self.now
+        ensures text { OnOk result (AppendsOne (IsNarrated self.now
             (tree_of ⟦<Box<dyn Diagnostic> as Diagnostic>⟧.meaning ⟦<Box<dyn SourceCode> as SourceCode>⟧.source
-            report.now) (string_bytes out.old) (string_bytes out.new)) }
+            report.now)) (string_bytes out.old) (string_bytes out.new)) }
         // where every source that labels are read from always reads, there is one such text
         ensures only { OnOk result (report_reads
             (tree_of ⟦<Box<dyn Diagnostic> as Diagnostic>⟧.meaning ⟦<Box<dyn SourceCode> as SourceCode>⟧.source
@@ -168,8 +170,8 @@ impl NarratableReportHandler {
         report: &Report<D, S>,
         out: &mut String,
     ) -> Result<(), RenderError>
-        ensures text { OnOk result (Appends self.now (tree_of D.meaning S.source report.now) (string_bytes out.old)
-            (string_bytes out.new)) }
+        ensures text { OnOk result (AppendsOne (IsNarrated self.now (tree_of D.meaning S.source report.now))
+            (string_bytes out.old) (string_bytes out.new)) }
         ensures only { OnOk result (report_reads (tree_of D.meaning S.source report.now) ≡ true →
             string_bytes out.new ≡ string_bytes out.old
             ++ narration self.now (tree_of D.meaning S.source report.now) unlisted) }

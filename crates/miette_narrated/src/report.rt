@@ -10,7 +10,7 @@ ghost use Rattle.miette_narrated.specs.rules.Report.{severity_row, head_rows, ti
 ghost use Rattle.miette_narrated.specs.rules.Report.{causes_if, advice_rows, url_rows, blank_before};
 ghost use Rattle.miette_narrated.specs.steps.AppendedParts.{AppendsSnippets, AppendsReport, AppendsRelated};
 ghost use Rattle.miette_narrated.specs.rules.PossibleAnswers.{IsNarrated};
-ghost use Rattle.miette_narrated.specs.rules.PossibleAnswers.{accepts, holds_of, holds_of_all, report_accepted};
+ghost use Rattle.miette_tree.specs.rules.Reads.{accepts, holds_of, holds_of_all, report_accepted};
 ghost use Rattle.miette_narrated.specs.steps.NarrationSettings.{settings_of};
 
 use crate::settings::NarrationSettings;

@@ -7,7 +7,7 @@ ghost use Rattle.miette_lines.specs.rules.Groups.{in_order};
 ghost use Rattle.miette_lines.specs.views.GivenLabels.{label_at};
 ghost use Rattle.miette_lines.specs.views.Reads.{IsRead};
 ghost use Rattle.miette_narrated.specs.steps.Conversions.{ranges_of};
-ghost use Rattle.miette_narrated.specs.rules.PossibleAnswers.{accepts};
+ghost use Rattle.miette_tree.specs.rules.Reads.{accepts};
 ghost use Rattle.miette_narrated.specs.rules.Snippets.{name_text, begin_rows, snippet};
 ghost use Rattle.miette_narrated.specs.steps.Ends.{IsOrder};
 ghost use Rattle.miette_narrated.specs.steps.Sweeping.{IsAt};

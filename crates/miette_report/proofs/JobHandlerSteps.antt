@@ -8,17 +8,16 @@ use Rattle.miette_style.specs.declared.theme.Terminal.{Terminal}
 use Rattle.miette_tree.specs.rules.Tree.{Tree}
 use Rattle.miette_brief.specs.rules.PossibleAnswers as briefly
 use Rattle.miette_brief.specs.rules.Report as brief
-use Rattle.miette_narrated.specs.rules.PossibleAnswers.{report_accepted, report_reads, Appends}
 use Rattle.miette_narrated.specs.rules.Report as narrated
+use Rattle.miette_narrated.specs.rules.PossibleAnswers.{IsNarrated}
 use Rattle.miette_graphical.specs.rules.Answers.{unlisted}
 use Rattle.miette_tree.specs.views.Handler.{AppendsOne}
-use Rattle.miette_tree.specs.rules.Reads.{AlwaysReads}
+use Rattle.miette_tree.specs.rules.Reads.{AlwaysReads, report_accepted, report_reads}
+use Rattle.miette_tree.proofs.Readings.{told_reads}
 use Rattle.miette_handlers.specs.rules.DebugText.{IsDebugText}
 use Rattle.miette_graphical.specs.rules.PrintedDiagnostics.{all_read, diagnostics_of}
 use Rattle.miette_json.specs.rules.Json.{json_text}
 use Rattle.miette_json.specs.rules.JsonReport.{value_of}
-use Rattle.miette_json.specs.rules.Reads.{NamesAlwaysRead}
-use Rattle.miette_json.proofs.JsonAnswers.{names_always_read}
 use Rattle.miette_graphical.specs.rules.PossibleAnswers as drawn
 use Rattle.miette_graphical.specs.views.Handling.{Handling, draws_plain}
 use Rattle.miette_graphical.specs.rules.Snippets.{drawn_rows}
@@ -29,15 +28,15 @@ use Rattle.miette_report.specs.rules.Job.{IsBuiltText, IsJobText, IsTelling, IsR
 use Rattle.miette_report.specs.declared.job_handler.JobHandler.{JobHandler}
 use Rattle.miette_report.specs.declared.job_handler.JobHandler.TheVariants as chosen
 use Rattle.miette_report.specs.declared.option_words.Choice.{Choice}
-use Rattle.miette_report.proofs.AlwaysRead.{printed-reads, told-reads, told-accepted, brief-accepted, brief-accepts}
+use Rattle.miette_report.proofs.AlwaysRead.{printed-reads, told-accepted, brief-accepted}
 
 -- ---- what a handler of the library appends
 
 pub json-given : {A E H : Type 0} (is_blank : H → Bool) (h : JobHandler H) (t : Tree) (old new : List ℕ) (r : Result A E) → h ≡ chosen.Json → AlwaysReads t
-    → OnOk r (NamesAlwaysRead None t → new ≡ old ++ json_text (value_of t)) → OnOk r (AppendsOne (IsGiven is_blank h t) old new)
+    → OnOk r (report_reads t ≡ true → new ≡ old ++ json_text (value_of t)) → OnOk r (AppendsOne (IsGiven is_blank h t) old new)
 json-given is_blank h t old new (Err e) is reads value = tt
 json-given is_blank h t old new (Ok x) is reads value =
-    let one : AppendsOne (IsGiven is_blank chosen.Json t) old new = record { text = json_text (value_of t); is_given = refl; appended = value (names_always_read t reads) } in
+    let one : AppendsOne (IsGiven is_blank chosen.Json t) old new = record { text = json_text (value_of t); is_given = refl; appended = value (told_reads t reads) } in
     subst (λ k. AppendsOne (IsGiven is_blank k t) old new) (sym is) one
 
 pub debug-given : {A E H : Type 0} (is_blank : H → Bool) (h : JobHandler H) (t : Tree) (old new : List ℕ) (r : Result A E) → h ≡ chosen.Debug
@@ -69,14 +68,14 @@ pub graphical-accepts : {H : Type 0} (h : JobHandler H) (it : Handling H) (t : T
 graphical-accepts h it t reads refused = let no : true ≡ false = sym (printed-reads it.settings t reads) ∙ refused in cc
 
 pub narrated-given : {A E H : Type 0} (is_blank : H → Bool) (h : JobHandler H) (s : narrated.NarrationSettings) (t : Tree) (old new : List ℕ) (r : Result A E) → h ≡ chosen.Built (handler.Narrated s) → AlwaysReads t
-    → OnOk r (Appends s t old new) → OnOk r (report_reads t ≡ true → new ≡ old ++ narrated.narration s t narrated.unlisted) → OnOk r (AppendsOne (IsGiven is_blank h t) old new)
+    → OnOk r (AppendsOne (IsNarrated s t) old new) → OnOk r (report_reads t ≡ true → new ≡ old ++ narrated.narration s t narrated.unlisted) → OnOk r (AppendsOne (IsGiven is_blank h t) old new)
 narrated-given is_blank h s t old new (Err e) is reads text only = tt
 narrated-given is_blank h s t old new (Ok x) is reads text only =
     let one : AppendsOne (IsGiven is_blank (chosen.Built (handler.Narrated s)) t) old new =
     record {
       text = narrated.narration s t narrated.unlisted;
-      is_given = (told-accepted t text.is_narrated.answers reads text.is_narrated.possible, refl);
-      appended = only (told-reads t reads);
+      is_given = (told-accepted t text.is_given.answers reads text.is_given.possible, refl);
+      appended = only (told_reads t reads);
     } in
     subst (λ k. AppendsOne (IsGiven is_blank k t) old new) (sym is) one
 
@@ -92,9 +91,9 @@ brief-given is_blank h s t old new (Ok x) is reads text only =
     } in
     subst (λ k. AppendsOne (IsGiven is_blank k t) old new) (sym is) one
 
-pub brief-refuses : {H : Type 0} (h : JobHandler H) (s : brief.BriefSettings) (t : Tree) → h ≡ chosen.Built (handler.Brief s) → AlwaysReads t → briefly.report_accepted t ≡ false → MayRefuse h t
-brief-refuses {H} h s t is reads refused =
-    let here : MayRefuse {H = H} (chosen.Built (handler.Brief s)) t = brief-accepts t reads ∙ refused in
+pub brief-refuses : {H : Type 0} (h : JobHandler H) (s : brief.BriefSettings) (t : Tree) → h ≡ chosen.Built (handler.Brief s) → report_accepted t ≡ false → MayRefuse h t
+brief-refuses {H} h s t is refused =
+    let here : MayRefuse {H = H} (chosen.Built (handler.Brief s)) t = refused in
     subst (λ (k : JobHandler H). MayRefuse k t) (sym is) here
 
 -- the text where it was appended to none

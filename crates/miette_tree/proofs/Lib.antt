@@ -3,3 +3,4 @@ pub mod Missing
 pub mod Nesting
 pub mod ChainLaws
 pub mod TreeSizes
+pub mod Readings

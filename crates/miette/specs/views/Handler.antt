@@ -1,8 +1,9 @@
 -- What each handler may give, refuse and keep: what the one that was chosen does.
 use Rattle.std.specs.Prelude.{◌≡◌, ℕ, Bool, List, false}
 use Rattle.miette_tree.specs.rules.Tree.{Tree}
+use Rattle.miette_tree.specs.rules.Reads.{report_accepted}
 use Rattle.miette_brief.specs.rules.PossibleAnswers as brief
-use Rattle.miette_narrated.specs.rules.PossibleAnswers.{IsNarrated, report_accepted}
+use Rattle.miette_narrated.specs.rules.PossibleAnswers.{IsNarrated}
 use Rattle.miette_graphical.specs.rules.PossibleAnswers.{IsTextOf}
 use Rattle.miette_graphical.specs.views.Handling.{draws_plain}
 use Rattle.miette_graphical.specs.rules.PrintedDiagnostics.{all_read, diagnostics_of}
@@ -18,7 +19,7 @@ Gives is_blank (Brief it) t = brief.IsBrief it t
 abbrev pub Refuses : {H : Type 0} → MietteHandler H → Tree → Type 0
 Refuses (Graphical it) t = all_read (diagnostics_of it.settings t) ≡ false
 Refuses (Narrated it) t = report_accepted t ≡ false
-Refuses (Brief it) t = brief.report_accepted t ≡ false
+Refuses (Brief it) t = report_accepted t ≡ false
 
 -- The kind stays; of a graphical handler the settings do, and whether it leaves lines plain.
 abbrev pub Keeps : {H : Type 0} → (H → Bool) → MietteHandler H → MietteHandler H → Type 0

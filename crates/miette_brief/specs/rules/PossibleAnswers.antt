@@ -1,46 +1,18 @@
--- Which answers the sources of a report can have given where it was told, where nothing is refused, and its text.
-use Rattle.std.specs.Prelude.{◌≡◌, ℕ, Bool, true, false, ◌&&◌, ◌||◌, List, Option, Some, None}
+-- Which answers the sources of a report can have given where it was told, and its text.
+use Rattle.std.specs.Prelude.{◌≡◌, ℕ, List, Option, Some, None}
 use Rattle.std.specs.Prelude.{⊤}
-use Rattle.std.specs.List.{list_all}
-use Rattle.miette_style.specs.rules.Lists.{is_nil}
 use Rattle.miette_protocol.specs.views.Meaning.{Label}
-use Rattle.miette_protocol.specs.rules.Reading.{Source, is_accepted}
+use Rattle.miette_protocol.specs.rules.Reading.{Source}
 use Rattle.miette_tree.specs.rules.Tree.{Tree, tree, Cause, diagnostic, texts, Trees, no_trees, more_trees, effective}
 use Rattle.miette_tree.specs.rules.DiagnosticParts.{given_labels}
+use Rattle.miette_tree.specs.rules.Reads.{MayMeet}
 use Rattle.miette_tree.specs.rules.Answers.{own_fault}
 use Rattle.miette_lines.specs.rules.Groups.{in_order, AreAccepted}
 use Rattle.miette_brief.specs.rules.Report.{BriefSettings, Answers, RelatedAnswers, cause_answers}
 use Rattle.miette_brief.specs.rules.Report.{related_answers, first_answers, later_answers}
 use Rattle.miette_brief.specs.rules.Report.{brief}
 
--- ---- where nothing is refused
-
--- labels by offset that are accepted, over a source that always reads
-abbrev pub accepts : Option Source → List Label → Bool
-accepts None labels = true
-accepts (Some source) labels = list_all (λ label. is_accepted source.bytes label.span) labels
-    && (is_nil labels || source.always_reads)
-
--- The report has such labels over its effective source, and so has each one related to it.
-abbrev mutual
-  pub accepts_report : Option Source → Tree → Bool
-  accepts_report inherited (tree m own c r) =
-      accepts (effective own inherited) (in_order (given_labels m.labels))
-      && accepts_related (effective own inherited) r
-
-  pub accepts_related : Option Source → Trees → Bool
-  accepts_related inherited no_trees = true
-  accepts_related inherited (more_trees t ts) = accepts_report inherited t && accepts_related inherited ts
-
-abbrev pub report_accepted : Tree → Bool
-report_accepted t = accepts_report None t
-
 -- ---- answers of sources
-
--- only a source that doesn't always read meets a fault
-abbrev pub MayMeet : Option Source → Bool → Type 0
-MayMeet None fault = fault ≡ false
-MayMeet (Some source) fault = fault ≡ true → source.always_reads ≡ false
 
 -- a source accepted these labels
 abbrev pub HasAccepted : Option Source → List Label → Type 0

@@ -5,11 +5,12 @@ use Rattle.miette_protocol.specs.rules.Reading.{Source}
 use Rattle.miette_tree.specs.rules.Tree.{Tree, Cause, Trees}
 use Rattle.miette_tree.specs.rules.DiagnosticParts.{given_labels}
 use Rattle.miette_tree.specs.rules.Answers.{own_fault}
+use Rattle.miette_tree.specs.rules.Reads.{MayMeet}
 use Rattle.miette_lines.specs.rules.Groups.{in_order}
 use Rattle.miette_brief.specs.rules.Rows.{Place, rows_text}
 use Rattle.miette_brief.specs.rules.Report.{Answers, RelatedAnswers, cause_answers, cause_rows_if, own_rows}
 use Rattle.miette_brief.specs.rules.Report.{report_rows, related_rows}
-use Rattle.miette_brief.specs.rules.PossibleAnswers.{MayMeet, HasAccepted, AreCauseAnswers, AreAnswers, AllAnswers}
+use Rattle.miette_brief.specs.rules.PossibleAnswers.{HasAccepted, AreCauseAnswers, AreAnswers, AllAnswers}
 
 -- new is old and then the rows of a cause where causes are told, for some answers
 pub record AppendsCauses (chain : Bool) (at : Place) (inherited : Option Source) (c : Cause) (old new : List ℕ) : Type 0

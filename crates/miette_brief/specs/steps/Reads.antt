@@ -4,7 +4,7 @@ use Rattle.miette_protocol.specs.views.Meaning.{Label}
 use Rattle.miette_protocol.specs.rules.Reading.{Span, Source, IsAccepted}
 use Rattle.miette_brief.specs.rules.Rows.{Place}
 use Rattle.miette_brief.specs.rules.Places.{span_place, name_place, diagnostic_place, cause_place}
-use Rattle.miette_brief.specs.rules.PossibleAnswers.{MayMeet}
+use Rattle.miette_tree.specs.rules.Reads.{MayMeet}
 
 -- a read that was refused: of a span that isn't accepted, or by a source that doesn't always read
 abbrev pub IsUnread : Option Source → Span → Type 0

@@ -17,7 +17,7 @@ use Rattle.miette_highlight.specs.rules.HighlighterCalls.{Call}
 use Rattle.miette_snippets.specs.rules.Highlighting.{SnippetsHavePieces}
 use Rattle.miette_snippets.specs.rules.SnippetLayout.{snippet_rows}
 use Rattle.miette_tree.specs.views.Handler.{AppendsOne}
-use Rattle.miette_graphical.specs.rules.PrintedDiagnostics.{always_reads}
+use Rattle.miette_tree.specs.rules.Reads.{always_reads}
 use Rattle.miette_graphical.specs.rules.Snippets.{layout_settings}
 use Rattle.miette_graphical.specs.rules.Calls.{report_calls}
 use Rattle.miette_graphical.specs.rules.Text.{report_text}
@@ -48,7 +48,7 @@ pub record IsAnswerOf (l : frames.SnippetSettings) (blank : Bool) (source : Opti
   pub rows : HasRows l source labels a
 
 abbrev pub IsAnswer : frames.SnippetSettings → Bool → Option Source → Meaning → Answer → Type 0
-IsAnswer l blank source m a = IsAnswerOf l blank source (given_labels m.labels) (always_reads source m) a
+IsAnswer l blank source m a = IsAnswerOf l blank source (given_labels m.labels) (always_reads source (given_labels m.labels)) a
 
 abbrev mutual
   pub AreCauseAnswers : frames.SnippetSettings → Bool → Option Source → Cause → Answers → Type 0

@@ -1,11 +1,11 @@
 -- The diagnostics that a report prints, each with its effective source.
-use Rattle.std.specs.Prelude.{Bool, true, ◌&&◌, if◌then◌else◌, List, [], ◌∷◌, ◌++◌, Option, Some, None}
-use Rattle.miette_style.specs.rules.Lists.{is_nil}
+use Rattle.std.specs.Prelude.{Bool, true, ◌&&◌, if◌then◌else◌, List, [], ◌∷◌, ◌++◌, Option}
 use Rattle.miette_protocol.specs.views.Meaning.{Meaning}
 use Rattle.miette_protocol.specs.rules.Reading.{Source}
 use Rattle.miette_tree.specs.rules.Tree.{effective, Tree, tree, Cause, diagnostic, texts, Trees, no_trees, more_trees}
 use Rattle.miette_graphical.specs.rules.Settings.{Settings}
 use Rattle.miette_tree.specs.rules.DiagnosticParts.{given_labels}
+use Rattle.miette_tree.specs.rules.Reads.{always_reads}
 
 -- a printed diagnostic
 pub record PrintedDiagnostic : Type 0 where
@@ -37,17 +37,7 @@ abbrev pub diagnostics_of : Settings → Tree → List PrintedDiagnostic
 diagnostics_of s (tree m own c r) =
     over own m ∷ ((if s.chain then printed_causes s.nested own c else []) ++ printed_related s.nested own r)
 
--- ---- where every read of the labels succeeds
-
-abbrev pub source_reads : Option Source → Bool
-source_reads None = true
-source_reads (Some source) = source.always_reads
-
--- a diagnostic without labels reads nothing
-abbrev pub always_reads : Option Source → Meaning → Bool
-always_reads source m = if is_nil (given_labels m.labels) then true else source_reads source
-
--- of all these diagnostics
+-- whether every source that labels of these diagnostics are read from always reads
 abbrev pub all_read : List PrintedDiagnostic → Bool
 all_read [] = true
-all_read (p ∷ ps) = always_reads p.source p.meaning && all_read ps
+all_read (p ∷ ps) = always_reads p.source (given_labels p.meaning.labels) && all_read ps

@@ -1,5 +1,5 @@
 -- The JSON value of a report, by its tree and by what the reads for its file names answered.
-use Rattle.std.specs.Prelude.{◌≡◌, ℕ, Bool, true, false, if◌then◌else◌, List, [], ◌∷◌}
+use Rattle.std.specs.Prelude.{◌≡◌, ℕ, Bool, if◌then◌else◌, List, [], ◌∷◌}
 use Rattle.std.specs.Prelude.{Option, Some, None, option_map, unwrap_or, codes, ⊤}
 use Rattle.miette_protocol.specs.views.Meaning.{Label}
 use Rattle.miette_protocol.specs.rules.Reading.{Source, Span, is_accepted}
@@ -10,6 +10,7 @@ pub use Rattle.miette_tree.specs.rules.Answers.{first_answers, later_answers}
 use Rattle.miette_json.specs.rules.Json.{Json, number, string, array, object, Items, no_items, item, Members}
 use Rattle.miette_json.specs.rules.Json.{no_members, member}
 use Rattle.miette_tree.specs.rules.DiagnosticParts.{given_labels, severity_text}
+use Rattle.miette_tree.specs.rules.Reads.{MayMeet}
 
 -- ---- answers
 
@@ -21,14 +22,10 @@ NameAnswers = AnswerTree Bool
 abbrev pub RelatedNameAnswers : Type 0
 RelatedNameAnswers = AnswerTrees Bool
 
-abbrev pub MayFail : Option Source → Type 0
-MayFail None = ⊥
-MayFail (Some s) = s.always_reads ≡ false
-
--- only a source that doesn't always read meets a fault
+-- the answers that sources can have given
 abbrev mutual
   pub AreAnswers : Option Source → NameAnswers → Tree → Type 0
-  AreAnswers inherited a (tree m s c r) = (own_fault a ≡ true → MayFail (effective s inherited))
+  AreAnswers inherited a (tree m s c r) = MayMeet (effective s inherited) (own_fault a)
       × AllAnswers (effective s inherited) (related_answers a) r
 
   pub AllAnswers : Option Source → RelatedNameAnswers → Trees → Type 0

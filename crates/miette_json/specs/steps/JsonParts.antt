@@ -4,9 +4,10 @@ use Rattle.miette_protocol.specs.views.Meaning.{Label, Meaning}
 use Rattle.miette_protocol.specs.rules.Reading.{Source}
 use Rattle.miette_tree.specs.rules.Tree.{Tree, Trees}
 use Rattle.miette_json.specs.rules.Json.{Items, quoted_text, json_text, items_text, more_items_text}
-use Rattle.miette_json.specs.rules.JsonReport.{NameAnswers, RelatedNameAnswers, AreAnswers, AllAnswers, MayFail}
+use Rattle.miette_json.specs.rules.JsonReport.{NameAnswers, RelatedNameAnswers, AreAnswers, AllAnswers}
 use Rattle.miette_json.specs.rules.JsonReport.{strings, labels_json, file_name, report_json, reports_json}
 use Rattle.miette_tree.specs.rules.DiagnosticParts.{severity_text}
+use Rattle.miette_tree.specs.rules.Reads.{MayMeet}
 
 -- new is old and then the text of a report, for some answers
 pub record AppendsReport (inherited : Option Source) (t : Tree) (old new : List ℕ) : Type 0 where
@@ -20,10 +21,10 @@ pub record AppendsRelated (inherited : Option Source) (ts : Trees) (old new : Li
   pub possible : AllAnswers inherited answers ts
   pub appended : new ≡ old ++ items_text (reports_json inherited answers ts)
 
--- the file name under a source, where there is one; only a source that may fail meets a fault
+-- the file name under a source, where there is one; for some answer of the source
 pub record NamesFile (source : Option Source) (labels : List Label) (name : Option (List ℕ)) : Type 0 where
   pub fault : Bool
-  pub may_fail : fault ≡ true → MayFail source
+  pub possible : MayMeet source fault
   pub is : name ≡ option_map (file_name fault labels) source
 
 -- a brace and the key of an object's first member
@@ -63,7 +64,7 @@ places_text fault source labels = maybe_text (codes "filename") (option_map (fil
 -- new is old and then the file name and the labels, for some answer of the source
 pub record AppendsPlaces (source : Option Source) (labels : List Label) (old new : List ℕ) : Type 0 where
   pub fault : Bool
-  pub may_fail : fault ≡ true → MayFail source
+  pub possible : MayMeet source fault
   pub appended : new ≡ old ++ places_text fault source labels
 
 -- the beginning of an object with a text, where there is one, up to the value behind the second key

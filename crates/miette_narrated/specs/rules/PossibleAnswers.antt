@@ -1,9 +1,7 @@
--- Which answers the sources of a report can have given where it was told, where nothing is refused, and its text.
-use Rattle.std.specs.Prelude.{◌≡◌, ℕ, Bool, true, ◌&&◌, ◌||◌, List, ◌++◌, Option, Some, None}
-use Rattle.std.specs.List.{list_all}
-use Rattle.miette_style.specs.rules.Lists.{is_nil}
+-- Which answers the sources of a report can have given where it was told, and its text.
+use Rattle.std.specs.Prelude.{◌≡◌, ℕ, Bool, true, List, Option, Some, None}
 use Rattle.miette_protocol.specs.views.Meaning.{Label}
-use Rattle.miette_protocol.specs.rules.Reading.{Source, is_accepted}
+use Rattle.miette_protocol.specs.rules.Reading.{Source}
 use Rattle.miette_tree.specs.rules.Tree.{Tree, tree, Trees, no_trees, more_trees, effective}
 use Rattle.miette_lines.specs.rules.Answers.{NoneFails}
 use Rattle.miette_lines.specs.rules.Groups.{in_order, AreAccepted}
@@ -11,37 +9,6 @@ use Rattle.miette_narrated.specs.rules.Report.{NarrationSettings, Answers, Relat
 use Rattle.miette_narrated.specs.rules.Report.{first_answers, later_answers}
 use Rattle.miette_narrated.specs.rules.Report.{narration}
 use Rattle.miette_tree.specs.rules.DiagnosticParts.{given_labels}
-
--- ---- where reads are determined, and where nothing is refused
-
--- a test of each diagnostic that is told: of its effective source and its labels
-abbrev mutual
-  pub holds_of : (Option Source → List Label → Bool) → Option Source → Tree → Bool
-  holds_of test inherited (tree m own c r) = test (effective own inherited) (given_labels m.labels)
-      && holds_of_all test (effective own inherited) r
-
-  pub holds_of_all : (Option Source → List Label → Bool) → Option Source → Trees → Bool
-  holds_of_all test inherited no_trees = true
-  holds_of_all test inherited (more_trees t ts) = holds_of test inherited t && holds_of_all test inherited ts
-
--- a diagnostic without labels reads nothing
-abbrev pub always_reads : Option Source → List Label → Bool
-always_reads None labels = true
-always_reads (Some source) labels = is_nil labels || source.always_reads
-
--- labels that are accepted, over a source that always reads
-abbrev pub accepts : Option Source → List Label → Bool
-accepts None labels = true
-accepts (Some source) labels = list_all (λ label. is_accepted source.bytes label.span) (in_order labels)
-    && (is_nil labels || source.always_reads)
-
--- every source that labels of the report are read from always reads
-abbrev pub report_reads : Tree → Bool
-report_reads t = holds_of always_reads None t
-
--- and accepts these labels
-abbrev pub report_accepted : Tree → Bool
-report_accepted t = holds_of accepts None t
 
 -- ---- answers of sources
 
@@ -71,9 +38,3 @@ pub record IsNarrated (s : NarrationSettings) (t : Tree) (text : List ℕ) : Typ
   pub answers : Answers
   pub possible : AreAnswers None answers t
   pub is : text ≡ narration s t answers
-
--- new is old and then a narrated text of a report
-pub record Appends (s : NarrationSettings) (t : Tree) (old new : List ℕ) : Type 0 where
-  pub text : List ℕ
-  pub is_narrated : IsNarrated s t text
-  pub appended : new ≡ old ++ text

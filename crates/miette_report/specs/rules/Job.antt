@@ -7,7 +7,7 @@ use Rattle.miette.specs.declared.options.handler.MietteHandler.TheVariants.{Grap
 use Rattle.miette_style.specs.declared.theme.Terminal.{Terminal}
 use Rattle.miette_tree.specs.rules.Tree.{Tree}
 use Rattle.miette_brief.specs.rules.Report as brief
-use Rattle.miette_narrated.specs.rules.PossibleAnswers.{report_accepted}
+use Rattle.miette_tree.specs.rules.Reads.{report_accepted}
 use Rattle.miette_narrated.specs.rules.Report as narrated
 use Rattle.miette_graphical.specs.rules.PossibleAnswers.{IsTextOf}
 use Rattle.miette_graphical.specs.rules.Answers.{unlisted}

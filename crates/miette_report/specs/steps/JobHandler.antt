@@ -6,7 +6,7 @@ use Rattle.miette.specs.rules.Options.{Options}
 use Rattle.miette.specs.declared.options.handler.MietteHandler.TheVariants as handler
 use Rattle.miette_style.specs.declared.theme.Terminal.{Terminal}
 use Rattle.miette_tree.specs.rules.Tree.{Tree}
-use Rattle.miette_narrated.specs.rules.PossibleAnswers.{report_accepted}
+use Rattle.miette_tree.specs.rules.Reads.{report_accepted}
 use Rattle.miette_json.specs.rules.Json.{json_text}
 use Rattle.miette_json.specs.rules.JsonReport.{value_of}
 use Rattle.miette_handlers.specs.rules.DebugText.{IsDebugText}

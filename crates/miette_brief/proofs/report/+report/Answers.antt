@@ -6,9 +6,10 @@ use Rattle.miette_tree.specs.views.Owned.{shown_source}
 use Rattle.miette_tree.specs.views.Report.{tree_of}
 use Rattle.miette_tree.proofs.TreeSizes.{tree_size, trees_size, one_falls}
 use Rattle.miette_tree.proofs.Nesting.{next_of}
+use Rattle.miette_tree.specs.rules.Reads.{holds_of, holds_of_all, accepts}
+use Rattle.miette_tree.proofs.Readings.{refused_below, one_refused}
 use Rattle.miette_lines.specs.rules.Groups.{in_order}
-use Rattle.miette_brief.specs.rules.PossibleAnswers.{accepts, accepts_report, accepts_related}
-use Rattle.miette_brief.proofs.Telling.{none_so_far, one_more, all_told, at_the_end, report_told, RelatedSoFar, refused_here, refused_below, one_refused}
+use Rattle.miette_brief.proofs.Telling.{none_so_far, one_more, all_told, at_the_end, report_told, RelatedSoFar, refused_here}
 use Rattle.miette_brief.proofs.report.+report.Goals as goal
 
 pub push_related-loop-report-init : goal.push_related-loop-report-init
@@ -34,7 +35,7 @@ pub push_related-returns-in_err-push_report-clause-refused : goal.push_related-r
 push_related-returns-in_err-push_report-clause-refused g t c = λ h.
     let value = tree_of g.D.Diagnostic.meaning g.S.SourceCode.source in
     let inherited = option_map (shown_source g.S.SourceCode.source) c.args.source in
-    let one : accepts_report inherited (value c.report-item.result) ≡ false = c.in_err-push_report.ensures.refused (search rules) in
+    let one : holds_of accepts inherited (value c.report-item.result) ≡ false = c.in_err-push_report.ensures.refused (search rules) in
     one_refused value inherited c.args.reports.now c.loop-report.report-index c.report-item.result c.loop-report-test.true c.report-item.is one
 
 pub push_related-returns-clause-text : goal.push_related-returns-clause-text
@@ -64,5 +65,5 @@ push_report-returns-in_err-push_related-clause-refused g t c = λ h.
     let inherited = option_map (shown_source g.S.SourceCode.source) c.args.inherited in
     let source = option_map (shown_source g.S.SourceCode.source) c.own_or-source.result in
     let related = trees (map value c.related.result.now) in
-    let below : accepts_related source related ≡ false = c.in_err-push_related.ensures.refused (search rules) in
+    let below : holds_of_all accepts source related ≡ false = c.in_err-push_related.ensures.refused (search rules) in
     refused_below (value c.args.report.now) inherited source related c.own_or-source.ensures c.related.ensures below

@@ -2,12 +2,13 @@ use Rattle.std.proofs.Common.{rules, ◌≡◌, false, List, sym, ap, subst, ◌
 use Rattle.std.specs.Option.{option_map, option_copied}
 use Rattle.miette_tree.specs.views.Owned.{shown_source}
 use Rattle.miette_tree.specs.views.Report.{tree_of}
+use Rattle.miette_tree.specs.rules.Reads.{accepts}
 use Rattle.miette_lines.specs.rules.Groups.{in_order}
 use Rattle.miette_lines.specs.views.GivenLabels.{label_at}
 use Rattle.miette_lines.specs.declared.order.Turn.{Turn}
 use Rattle.miette_brief.specs.rules.Rows.{rows_text}
 use Rattle.miette_brief.specs.rules.Report.{note_rows}
-use Rattle.miette_brief.specs.rules.PossibleAnswers.{accepts, HasAccepted}
+use Rattle.miette_brief.specs.rules.PossibleAnswers.{HasAccepted}
 use Rattle.miette_brief.specs.steps.Conversions.{place_of}
 use Rattle.miette_brief.specs.steps.Reads.{IsDiagnosticPlace}
 use Rattle.miette_brief.proofs.Telling.{own_told}

@@ -11,6 +11,6 @@ returns g c =
     let labels = c.args.labels.now in
     let named = c.file_name_for.ensures in record {
       fault = named.fault;
-      may_fail = named.may_fail;
+      possible = named.possible;
       appended = append_parts _ _ _ _ _ _ _ _ (c.in_ok-push_maybe.ensures ∙ ap (λ o. string_bytes c.args.out.now ++ maybe_text (codes "filename") o) named.is) c.in_ok-push_key.ensures c.in_ok-push_str.ensures.bytes c.in_ok-push_labels.ensures;
     }

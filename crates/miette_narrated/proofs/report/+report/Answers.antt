@@ -4,9 +4,10 @@ use Rattle.miette_tree.specs.rules.Tree.{trees}
 use Rattle.miette_tree.specs.views.Owned.{shown_source}
 use Rattle.miette_tree.specs.views.Report.{tree_of}
 use Rattle.miette_tree.proofs.Nesting.{next_of}
-use Rattle.miette_narrated.specs.rules.PossibleAnswers.{accepts, holds_of, holds_of_all}
-use Rattle.miette_narrated.proofs.Telling.{none_so_far, one_more, all_told, at_the_end, report_told, RelatedSoFar, refused_below, one_refused}
+use Rattle.miette_tree.specs.rules.Reads.{accepts, holds_of, holds_of_all}
+use Rattle.miette_narrated.proofs.Telling.{none_so_far, one_more, all_told, at_the_end, report_told, RelatedSoFar}
 use Rattle.miette_tree.proofs.TreeSizes.{tree_size, trees_size, one_falls}
+use Rattle.miette_tree.proofs.Readings.{refused_below, one_refused}
 use Rattle.miette_narrated.proofs.report.+report.Goals as goal
 
 pub push_related-loop-report-init : goal.push_related-loop-report-init

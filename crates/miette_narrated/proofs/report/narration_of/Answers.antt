@@ -4,9 +4,10 @@ use Rattle.std.specs.Option.{option_map}
 use Rattle.miette_tree.specs.rules.Tree.{trees}
 use Rattle.miette_tree.specs.views.Owned.{shown_source}
 use Rattle.miette_tree.specs.views.Report.{tree_of}
-use Rattle.miette_narrated.specs.rules.PossibleAnswers.{accepts, holds_of_all}
+use Rattle.miette_tree.specs.rules.Reads.{accepts, holds_of_all}
+use Rattle.miette_tree.proofs.Readings.{refused_below}
 use Rattle.miette_narrated.specs.steps.NarrationSettings.{settings_of}
-use Rattle.miette_narrated.proofs.Telling.{whole_told, refused_below}
+use Rattle.miette_narrated.proofs.Telling.{whole_told}
 use Rattle.miette_narrated.proofs.report.narration_of.Goals as goal
 
 pub returns-clause-text : goal.returns-clause-text

@@ -28,4 +28,4 @@ returns-in-Built-Brief-clause-ok g c =
 
 pub returns-in-Built-Brief-clause-refused : goal.returns-in-Built-Brief-clause-refused
 returns-in-Built-Brief-clause-refused g c =
-    λ refused. brief-refuses _ c.in-Built-Brief.handler _ (c.in-Built-Brief.is ∙ ap chosen.Built c.in-Built-Brief.field-0-is) c.requires.reads (c.render_report-in-Built-Brief.ensures.refused refused)
+    λ refused. brief-refuses _ c.in-Built-Brief.handler _ (c.in-Built-Brief.is ∙ ap chosen.Built c.in-Built-Brief.field-0-is) (c.render_report-in-Built-Brief.ensures.refused refused)
