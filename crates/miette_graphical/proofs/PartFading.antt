@@ -18,10 +18,11 @@ use Rattle.miette_graphical.specs.rules.Text.{cause_texts, body, inner_text}
 use Rattle.miette_tree.specs.rules.Tree.{effective}
 use Rattle.std.specs.List.{AllByRecursion}
 use Rattle.miette_snippet_laws.specs.laws.Clean.{IsClean, IsCleanText, IsCleanLabel, IsCleanSource}
+use Rattle.miette_snippet_laws.specs.laws.Fading.{faded_styles}
 use Rattle.miette_snippet_laws.proofs.CleanTexts.{clean_cons, clean_append}
 use Rattle.miette_snippet_laws.specs.laws.Fading.{unhighlighted_answer}
 use Rattle.miette_graphical.specs.laws.Clean.{AreCleanCharacters, AreCleanSettings, AreCleanLabels, IsCleanMeaning}
-use Rattle.miette_graphical.specs.laws.Colourless.{faded_styles, colourless, AreSnippets}
+use Rattle.miette_graphical.specs.laws.Colourless.{colourless, AreSnippets}
 use Rattle.miette_graphical.proofs.Fading.{Fades, Pales, fades-to, fades-append, fades-clean, fades-print, fades-leading, fades-under, fades-feed, fades-rows, columns-pale}
 
 module _ (laws : TextLaws) where

@@ -1,8 +1,7 @@
 -- The same settings with every style plain, and the same answers with the blank highlighter.
-use Rattle.std.specs.Prelude.{◌≡◌, ℕ, Bool, true, List, [], map, Option, IfSome, encode_utf8_all}
+use Rattle.std.specs.Prelude.{◌≡◌, ℕ, Bool, true, List, map, Option, IfSome, encode_utf8_all}
 use Rattle.miette_runs.specs.rules.Runs.{plain_run}
 use Rattle.miette_runs.specs.rules.Sequences.{erase}
-use Rattle.miette_style.specs.rules.Styles.{plain}
 use Rattle.miette_protocol.specs.views.Meaning.{Label}
 use Rattle.miette_protocol.specs.rules.Reading.{Source}
 use Rattle.miette_graphical.specs.rules.Settings.{Settings}
@@ -13,20 +12,9 @@ use Rattle.miette_graphical.specs.rules.DiagnosticText.{SnippetRows, rows_text}
 use Rattle.miette_graphical.specs.rules.Text.{report_text}
 use Rattle.miette_tree.specs.rules.Tree.{Tree}
 use Rattle.std.specs.List.{AllByRecursion}
-use Rattle.miette_snippet_laws.specs.laws.Fading.{unhighlighted_answer}
+use Rattle.miette_snippet_laws.specs.laws.Fading.{faded_styles, unhighlighted_answer}
 use Rattle.miette_snippet_laws.specs.laws.Clean.{IsCleanLabel, IsCleanSource}
 use Rattle.miette_graphical.specs.laws.Clean.{AreCleanSettings, HaveNoEscapes}
-
-abbrev pub faded_styles : Styles → Styles
-faded_styles s = record {
-  error = plain;
-  warning = plain;
-  advice = plain;
-  help = plain;
-  link = plain;
-  linum = plain;
-  highlights = [];
-}
 
 abbrev pub colourless : Settings → Settings
 colourless s = record s { styles = faded_styles s.styles }

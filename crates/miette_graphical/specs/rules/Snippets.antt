@@ -12,13 +12,7 @@ use Rattle.miette_graphical.specs.rules.DiagnosticText.{SnippetRows}
 abbrev pub layout_settings : Settings → frames.SnippetSettings
 layout_settings s = record {
   characters = s.characters;
-  styles = record {
-    error = s.styles.error;
-    warning = s.styles.warning;
-    link = s.styles.link;
-    linum = s.styles.linum;
-    highlights = s.styles.highlights;
-  };
+  styles = s.styles;
   width = width_of;
   tab = s.tab;
   context = s.context;

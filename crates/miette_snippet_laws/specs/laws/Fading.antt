@@ -2,14 +2,17 @@
 use Rattle.std.specs.Prelude.{◌≡◌, []}
 use Rattle.std.specs.List.{AllByRecursion}
 use Rattle.miette_lines.specs.rules.Answers.{Answers}
-use Rattle.miette_snippets.specs.rules.Frames.{Styles, SnippetSettings}
+use Rattle.miette_snippets.specs.rules.Frames.{SnippetSettings}
 use Rattle.miette_page.specs.rules.Rows.{Row}
 use Rattle.miette_style.specs.rules.Styles.{plain}
+use Rattle.miette_style.specs.rules.Themes.{Styles}
 
 abbrev pub faded_styles : Styles → Styles
 faded_styles s = record {
   error = plain;
   warning = plain;
+  advice = plain;
+  help = plain;
   link = plain;
   linum = plain;
   highlights = [];

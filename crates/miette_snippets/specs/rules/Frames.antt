@@ -1,7 +1,6 @@
 -- The settings of snippets, the row of a refused label, and what frames a snippet's lines.
 use Rattle.std.specs.Prelude.{ℕ, ◌+◌, ◌-◌, List, [], ◌∷◌, ◌++◌, length, decimal, codes, chars, replicate, Option, Some}
 use Rattle.std.specs.Prelude.{None, Bool, ◌&&◌, if◌then◌else◌, nat_lt}
-use Rattle.miette_style.specs.declared.style.Style.{Style}
 use Rattle.miette_page.specs.rules.Rows.{Row, styled_run, plain_run}
 use Rattle.miette_newlines.specs.rules.Lines.{Line}
 use Rattle.miette_protocol.specs.views.Meaning.{Label}
@@ -9,14 +8,7 @@ use Rattle.miette_protocol.specs.rules.Reading.{Contents}
 use Rattle.miette_lines.specs.rules.Contexts.{lines_of_contents}
 use Rattle.miette_snippets.specs.rules.Drawing.{blank}
 use Rattle.miette_lines.specs.rules.Groups.{Refusal}
-use Rattle.miette_style.specs.rules.Themes.{Characters}
-
-pub record Styles : Type 0 where
-  pub error : Style
-  pub warning : Style
-  pub link : Style
-  pub linum : Style
-  pub highlights : List Style
+use Rattle.miette_style.specs.rules.Themes.{Characters, Styles}
 
 -- The width is that of a character, 0 where it has none. A label over more lines than `label_lines` is folded, and a
 -- line of more columns than `line_columns` is cut.

@@ -1,19 +1,9 @@
 -- The settings of a theme and options.
-use Rattle.miette_style.specs.declared.theme.ThemeStyles.{ThemeStyles}
 use Rattle.miette_style.specs.declared.theme.GraphicalTheme.{GraphicalTheme}
 use Rattle.miette_snippets.specs.declared.options.LayoutOptions.{LayoutOptions}
-use Rattle.miette_snippets.specs.rules.Frames.{Styles, SnippetSettings}
+use Rattle.miette_snippets.specs.rules.Frames.{SnippetSettings}
 use Rattle.miette_lines.specs.views.GivenLabels.{width_of}
-use Rattle.miette_style.specs.rules.Themes.{characters_of}
-
-abbrev pub styles_of : ThemeStyles → Styles
-styles_of it = record {
-  error = it.error;
-  warning = it.warning;
-  link = it.link;
-  linum = it.linum;
-  highlights = it.highlights.items;
-}
+use Rattle.miette_style.specs.rules.Themes.{characters_of, styles_of}
 
 -- the settings of a theme and options
 abbrev pub settings_of : GraphicalTheme → LayoutOptions → SnippetSettings
