@@ -20,6 +20,7 @@ use Rattle.miette_graphical.specs.views.Handling.{Handling, draws_plain, without
 use Rattle.miette_runs.specs.rules.Sequences.{erase}
 use Rattle.miette_text.specs.rules.Tame.{AppendsErasing}
 use Rattle.callers.specs.Known.{HasOwnMark, ShowsBothLines, TextHangs, in_colours, plain, warning_tree}
+use Rattle.miette_lines.specs.views.GivenLabels.{width_of}
 
 -- ---- how the handlers are set
 
@@ -55,7 +56,7 @@ own_mark h t p q all =
     (subst (λ g. AllByRecursion (MarksAreApart g.settings) (diagnostics_of g.settings t)) p all) in
     record { columns = (refl, tt); own = here.0 1 }
 
-pub text_hangs : {H : Type 0} (h : Handling H) (t : Tree) → h ≡ without_highlighter plain → t ≡ warning_tree → AreNarrow unicode_characters
+pub text_hangs : {H : Type 0} (h : Handling H) (t : Tree) → h ≡ without_highlighter plain → t ≡ warning_tree → AreNarrow width_of unicode_characters
     → AllByRecursion (TextsHang h.settings) (diagnostics_of h.settings t) → TextHangs plain
 text_hangs h t p q narrow all =
     let here : AllByRecursion (TextsHang plain) (diagnostics_of plain warning_tree) = subst (λ u. AllByRecursion (TextsHang plain) (diagnostics_of plain u)) q

@@ -25,22 +25,8 @@ unfolding char_width
 space_narrow = refl
 
 -- with a space and the digits, which always are
-pub is_narrow : (c : Characters) → AreNarrow c → IsNarrow width_of c
-is_narrow c h = record {
-  space = space_narrow;
-  uarrow = h.uarrow;
-  underbar = h.underbar;
-  underline = h.underline;
-  lbot = h.lbot;
-  hbar = h.hbar;
-  vbar = h.vbar;
-  rcross = h.rcross;
-  vbar_break = h.vbar_break;
-  rarrow = h.rarrow;
-  ltop = h.ltop;
-  lcross = h.lcross;
-  digits = digit_narrow;
-}
+pub is_narrow : (c : Characters) → AreNarrow width_of c → IsNarrow width_of c
+is_narrow c h = record { drawings = h; space = space_narrow; digits = digit_narrow }
 
 -- what each table has, the shipped characters have
 shipped : {X : Type 0} (c : Characters) → AreShipped c → (f : Characters → X) (x : X) → f unicode_characters ≡ x → f emoji_characters ≡ x → f ascii_characters ≡ x → f c ≡ x
@@ -49,7 +35,7 @@ shipped c h f x unicode emoji ascii = elim h [
   | inr other ↦ elim other [ inl same ↦ ap f same ∙ emoji | inr same ↦ ap f same ∙ ascii ]
 ]
 
-pub shipped_narrow : (c : Characters) → AreShipped c → AreNarrow c
+pub shipped_narrow : (c : Characters) → AreShipped c → AreNarrow width_of c
 unfolding unicode_width
 shipped_narrow c h = record {
   hbar = shipped c h (λ c. width_of c.hbar) 1 refl refl refl;

@@ -23,6 +23,7 @@ ghost use Rattle.miette_style.specs.declared.theme.Terminal.{Terminal};
 ghost use Rattle.miette_style.specs.rules.Themes.{Characters, Styles, terminal_theme};
 ghost use Rattle.miette_runs.specs.rules.Sequences.{erase};
 ghost use Rattle.miette_text.specs.rules.Tame.{IsTame};
+ghost use Rattle.miette_lines.specs.views.GivenLabels.{width_of};
 
 use miette_layout::laws::{
     cut_lines_are_parted, cut_rows_are_narrow, ends_are_drawn, groups_are_ranges,
@@ -137,7 +138,7 @@ pub fn printed_law()
 /// (`narrow`), none that is printed is an escape (`clean`), and so the settings that a handler is made with hold none,
 /// in whatever styles (`settings`). The theme that fits a terminal has such characters (`terminal`).
 pub fn themes_law()
-    ensures narrow { (c : Characters) → AreShipped c → AreNarrow c }
+    ensures narrow { (c : Characters) → AreShipped c → AreNarrow width_of c }
     ensures clean { (c : Characters) → AreShipped c → AreCleanCharacters c }
     ensures settings { (c : Characters) (styles : Styles) → AreShipped c →
         AreCleanSettings (default_settings c styles) }

@@ -50,14 +50,14 @@ pub other_gutter-columns : (width : ℕ → ℕ) (t : Characters) (n : IsNarrow 
 other_gutter-columns width t n line left [] h = alone (blank width left) ∙ columns_of-blank width left n.space
 other_gutter-columns width t n line left (label ∷ labels) h =
     by_cases {C = columns_of (glyphs_of (other_gutter width t line left (label ∷ labels))) ≡ left} (ends_on line label)
-    (λ y. rw y (alone (styled_run width label.style (t.lbot ∷ replicate (left - 1) t.hbar)) ∙ omega (arith, n.lbot, columns_of-copies width t.hbar (left - 1) n.hbar, h)))
+    (λ y. rw y (alone (styled_run width label.style (t.lbot ∷ replicate (left - 1) t.hbar)) ∙ omega (arith, n.drawings.lbot, columns_of-copies width t.hbar (left - 1) n.drawings.hbar, h)))
     (λ f. rw f (front (styled_run width label.style (t.vbar ∷ [])) (other_gutter width t line (left - 1) labels)
-    ∙ omega (arith, n.vbar, h, other_gutter-columns width t n line (left - 1) labels (omega (arith, h)))))
+    ∙ omega (arith, n.drawings.vbar, h, other_gutter-columns width t n line (left - 1) labels (omega (arith, h)))))
 
 pub other_start-columns : (s : SnippetSettings) (w : ℕ) → IsNarrow s.width s.characters → columns_of (glyphs_of (other_start s w)) ≡ w + 4
 other_start-columns s w n =
     columns_of-append (replicate (w + 2) (glyph_of s.width 32)) (glyph_of s.width s.characters.vbar_break ∷ glyph_of s.width 32 ∷ [])
-    ∙ omega (arith, n.space, n.vbar_break, columns_of-blank s.width (w + 2) n.space)
+    ∙ omega (arith, n.space, n.drawings.vbar_break, columns_of-blank s.width (w + 2) n.space)
 
 pub other-columns : (s : SnippetSettings) (w columns : ℕ) (labels : List DrawnLabel) (line : Line) → IsNarrow s.width s.characters → HasRoom labels line columns →
     columns_of (glyphs_of (other_start s w ++ other_gutter s.width s.characters line columns (multi_line line labels))) ≡ text_start w columns
@@ -147,11 +147,11 @@ number_start-columns s w number n fits =
     let num : Run = styled_run width s.styles.linum (replicate (w - length (decimal number)) 32 ++ decimal number) in
     let bar : Run = styled_run width plain (32 ∷ s.characters.vbar ∷ 32 ∷ []) in
     front (blank width 1) (num ∷ bar ∷ [])
-    ∙ omega (arith, columns_of-blank width 1 n.space, front num (bar ∷ []), alone bar, n.space, n.vbar, fits, padded width s.characters n (w - length (decimal number)) (decimal number), decimal-columns width s.characters n number)
+    ∙ omega (arith, columns_of-blank width 1 n.space, front num (bar ∷ []), alone bar, n.space, n.drawings.vbar, fits, padded width s.characters n (w - length (decimal number)) (decimal number), decimal-columns width s.characters n number)
 
 corner-narrow : (width : ℕ → ℕ) (t : Characters) (n : IsNarrow width t) (parts : List (List ℕ)) → width (ending_corner t parts) ≡ 1
-corner-narrow width t n [] = n.lbot
-corner-narrow width t n (part ∷ parts) = n.lcross
+corner-narrow width t n [] = n.drawings.lbot
+corner-narrow width t n (part ∷ parts) = n.drawings.lcross
 
 arrow-columns : (width : ℕ → ℕ) (t : Characters) (n : IsNarrow width t) (label : DrawnLabel) (corner left : ℕ) → width corner ≡ 1 → 3 ≤ left → columns_of (glyphs_of (arrow width t label corner left ∷ blank width 1 ∷ [])) ≡ left
 arrow-columns width t n label corner left one le =
@@ -162,8 +162,8 @@ arrow-columns width t n label corner left one le =
       le,
       alone (blank width 1),
       columns_of-blank width 1 n.space,
-      n.rarrow,
-      columns_of-copies width t.hbar (left - 3) n.hbar,
+      n.drawings.rarrow,
+      columns_of-copies width t.hbar (left - 3) n.drawings.hbar,
       ap columns_of (map-append (glyph_of width) (replicate (left - 3) t.hbar) (t.rarrow ∷ [])),
       columns_of-append (map (glyph_of width) (replicate (left - 3) t.hbar)) (glyph_of width t.rarrow ∷ []),
     )
@@ -173,11 +173,11 @@ number_gutter-columns : (width : ℕ → ℕ) (t : Characters) (n : IsNarrow wid
 number_gutter-columns width t n line left [] h = alone (blank width left) ∙ columns_of-blank width left n.space
 number_gutter-columns width t n line left (label ∷ labels) h =
     by_cases {C = columns_of (glyphs_of (number_gutter width t line left (label ∷ labels))) ≡ left} (starts_on line label)
-    (λ y. rw y (arrow-columns width t n label t.ltop left n.ltop (omega (arith, h))))
+    (λ y. rw y (arrow-columns width t n label t.ltop left n.drawings.ltop (omega (arith, h))))
     (λ f. by_cases {C = columns_of (glyphs_of (number_gutter width t line left (label ∷ labels))) ≡ left} (ends_on line label)
     (λ y. rw (f, y) (arrow-columns width t n label (ending_corner t label.parts) left (corner-narrow width t n label.parts) (omega (arith, h))))
     (λ g. rw (f, g) (front (styled_run width label.style (t.vbar ∷ [])) (number_gutter width t line (left - 1) labels)
-    ∙ omega (arith, n.vbar, h, number_gutter-columns width t n line (left - 1) labels (omega (arith, h))))))
+    ∙ omega (arith, n.drawings.vbar, h, number_gutter-columns width t n line (left - 1) labels (omega (arith, h))))))
 
 -- the text of a number row begins where the marks' columns do
 pub line_begins : (s : SnippetSettings) (w columns : ℕ) (labels : List DrawnLabel) (line : Line) (number : ℕ) (cells : List Cell) (pieces : List Highlight) → IsNarrow s.width s.characters → HasRoom labels line columns →

@@ -15,15 +15,15 @@ use Rattle.miette_style.specs.rules.Themes.{Characters}
 -- each drawing character is one column wide
 
 code-narrow : (width : ℕ → ℕ) (t : Characters) (n : IsNarrow width t) (parts : List (List ℕ)) → width (code_with_parts t parts) ≡ 1
-code-narrow width t n [] = n.underline
-code-narrow width t n (part ∷ parts) = n.underbar
+code-narrow width t n [] = n.drawings.underline
+code-narrow width t n (part ∷ parts) = n.drawings.underbar
 
 mark-narrow : (width : ℕ → ℕ) (t : Characters) (n : IsNarrow width t) (mark : Mark) (column : ℕ) → width (mark_code t mark column) ≡ 1
 mark-narrow width t n mark column =
     by_cases {C = width (mark_code t mark column) ≡ 1} (eqb column mark.anchor)
     (λ a. by_cases {C = width (mark_code t mark column) ≡ 1} (is_empty mark.label)
-    (λ b. rw (a, b) n.uarrow) (λ b. rw (a, b) (code-narrow width t n mark.label.parts)))
-    (λ a. rw a n.underline)
+    (λ b. rw (a, b) n.drawings.uarrow) (λ b. rw (a, b) (code-narrow width t n mark.label.parts)))
+    (λ a. rw a n.drawings.underline)
 
 mark_at-narrow : (width : ℕ → ℕ) (t : Characters) (n : IsNarrow width t) (ms : List Mark) (column : ℕ) → (mark_at width t ms column).columns ≡ 1
 mark_at-narrow width t n [] column = n.space
@@ -35,7 +35,7 @@ lead_at-narrow : (width : ℕ → ℕ) (t : Characters) (n : IsNarrow width t) (
 lead_at-narrow width t n [] column = n.space
 lead_at-narrow width t n (m ∷ ms) column =
     by_cases {C = (lead_at width t (m ∷ ms) column).columns ≡ 1} (eqb column m.anchor)
-    (λ a. rw a n.vbar) (λ a. rw a (lead_at-narrow width t n ms column))
+    (λ a. rw a n.drawings.vbar) (λ a. rw a (lead_at-narrow width t n ms column))
 
 -- the mark row's picture
 pub mark_row-at : (width : ℕ → ℕ) (t : Characters) (n : IsNarrow width t) (ms : List Mark) (column : ℕ) → column < marks_end 0 ms → code_at (mark_row width t ms) column ≡ Some (mark_at width t ms column).code
@@ -130,9 +130,9 @@ cornered width t n earlier mark p q r s part is a b c d = (
 own_rows : (width : ℕ → ℕ) (t : Characters) (n : IsNarrow width t) (earlier : List Mark) (mark : Mark) (part : List ℕ) (parts : List (List ℕ)) →
     HangsFrom t mark.anchor (map (glyph_of width) part) (plain_parts width t earlier mark (part ∷ parts))
 own_rows width t n earlier mark part [] =
-    inl (cornered width t n earlier mark (glyph_of width t.lbot) (glyph_of width t.hbar) (glyph_of width t.hbar) (glyph_of width 32) (map (glyph_of width) part) refl n.lbot n.hbar n.hbar n.space)
+    inl (cornered width t n earlier mark (glyph_of width t.lbot) (glyph_of width t.hbar) (glyph_of width t.hbar) (glyph_of width 32) (map (glyph_of width) part) refl n.drawings.lbot n.drawings.hbar n.drawings.hbar n.space)
 own_rows width t n earlier mark part (next ∷ parts) =
-    inl (cornered width t n earlier mark (glyph_of width t.lbot) (glyph_of width t.hbar) (glyph_of width t.rcross) (glyph_of width 32) (map (glyph_of width) part) refl n.lbot n.hbar n.rcross n.space)
+    inl (cornered width t n earlier mark (glyph_of width t.lbot) (glyph_of width t.hbar) (glyph_of width t.rcross) (glyph_of width 32) (map (glyph_of width) part) refl n.drawings.lbot n.drawings.hbar n.drawings.rcross n.space)
 
 hangs_at_top : (width : ℕ → ℕ) (t : Characters) (n : IsNarrow width t) (earlier : List Mark) (mark : Mark) (above : List (List Glyph)) (parts : List (List ℕ)) →
     AllByRecursion (HasBar t mark.anchor) above → PartHangs width t (above ++ plain_parts width t earlier mark parts) mark.anchor parts

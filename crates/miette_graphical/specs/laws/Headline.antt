@@ -16,6 +16,7 @@ use Rattle.miette_snippets.specs.rules.SnippetLayout as layout
 use Rattle.miette_snippets.specs.rules.SnippetLayout.{body_rows, cells_of, line_cut, line_marks, settings_around}
 use Rattle.miette_page.specs.rules.Rows.{Row, columns_of, glyphs_of}
 use Rattle.miette_lines.specs.rules.Cells.{Cell}
+use Rattle.miette_lines.specs.views.GivenLabels.{width_of}
 use Rattle.miette_snippets.specs.rules.CutLines.{Stretch, ends, is_near}
 use Rattle.miette_snippet_laws.specs.laws.Cuts.{AreAsWide, AreStretches, Fits, by_nearness, by_stretch}
 use Rattle.miette_snippet_laws.specs.laws.Cuts.{most_columns, pieces_shown}
@@ -195,7 +196,7 @@ SnippetHangs s source labels group =
 abbrev pub TextsHang : Settings → PrintedDiagnostic → Type 0
 TextsHang s p =
     IfSome p.source (λ source.
-    AreNarrow s.characters → AllByRecursion (SnippetHangs s source (given_labels p.meaning.labels))
+    AreNarrow width_of s.characters → AllByRecursion (SnippetHangs s source (given_labels p.meaning.labels))
     (groups_of s source (given_labels p.meaning.labels)))
 
 -- ---- labels at the end of the source

@@ -7,20 +7,24 @@ use Rattle.miette_lines.specs.rules.Labels.{is_empty}
 use Rattle.miette_snippets.specs.rules.Marks.{Mark}
 use Rattle.miette_style.specs.rules.Themes.{Characters}
 
--- the drawing characters are one column wide, and so are a space and the digits
-pub record IsNarrow (width : ℕ → ℕ) (t : Characters) : Type 0 where
+-- each character that frames, gutters and marks are drawn with is one column wide
+pub record AreNarrow (width : ℕ → ℕ) (c : Characters) : Type 0 where
+  pub hbar : width c.hbar ≡ 1
+  pub vbar : width c.vbar ≡ 1
+  pub vbar_break : width c.vbar_break ≡ 1
+  pub uarrow : width c.uarrow ≡ 1
+  pub rarrow : width c.rarrow ≡ 1
+  pub ltop : width c.ltop ≡ 1
+  pub lbot : width c.lbot ≡ 1
+  pub lcross : width c.lcross ≡ 1
+  pub rcross : width c.rcross ≡ 1
+  pub underbar : width c.underbar ≡ 1
+  pub underline : width c.underline ≡ 1
+
+-- and so are a space and the digits
+pub record IsNarrow (width : ℕ → ℕ) (c : Characters) : Type 0 where
+  pub drawings : AreNarrow width c
   pub space : width 32 ≡ 1
-  pub uarrow : width t.uarrow ≡ 1
-  pub underbar : width t.underbar ≡ 1
-  pub underline : width t.underline ≡ 1
-  pub lbot : width t.lbot ≡ 1
-  pub hbar : width t.hbar ≡ 1
-  pub vbar : width t.vbar ≡ 1
-  pub rcross : width t.rcross ≡ 1
-  pub vbar_break : width t.vbar_break ≡ 1
-  pub rarrow : width t.rarrow ≡ 1
-  pub ltop : width t.ltop ≡ 1
-  pub lcross : width t.lcross ≡ 1
   pub digits : (d : ℕ) → 48 ≤ d → d < 58 → width d ≡ 1
 
 abbrev pub blank : (ℕ → ℕ) → ℕ → Run
