@@ -1,12 +1,12 @@
 //! Worked reports, by each handler: `calls report`, or `calls report NAME HANDLER` for one row.
 
+use crate::fixtures::{
+    M, Made, Written, beside, beside_one, over, report_of, stopping_report, told_why,
+};
 use crate::rows::{Done, appended, end_row, given};
 use crate::sources::README;
 use crate::stopping::{Reads, Red, Stopping};
 use crate::themes::terminal;
-use crate::fixtures::{
-    M, Made, Written, beside, beside_one, over, report_of, stopping_report, told_why,
-};
 use miette::handlers::{
     BriefReportHandler, DebugReportHandler, GraphicalReportHandler, JSONReportHandler,
     NarratableReportHandler, ReportHandler,

@@ -1,9 +1,9 @@
 //! Reports over sources that stop after each number of reads: `calls stops`.
 
-use crate::rows::{Done, Stop, end_row};
-use crate::stopping::{Reads, Stopping};
 use crate::examples::rendered;
 use crate::fixtures::{M, Made, Written, beside_one, over, report_of, stopping_report};
+use crate::rows::{Done, Stop, end_row};
+use crate::stopping::{Reads, Stopping};
 use std::alloc::{AllocError, Global};
 use std::cell::Cell;
 use std::io::Write;

@@ -267,7 +267,11 @@ pub fn push_help(
 }
 
 /// Appends a blank row and the footer, where there is one.
-pub fn push_footer(alloc: Global, settings: Settings<'_>, out: &mut Output) -> Result<(), AllocError>
+pub fn push_footer(
+    alloc: Global,
+    settings: Settings<'_>,
+    out: &mut Output,
+) -> Result<(), AllocError>
     ensures { OnOk result (out.new ≡ out.old ++ parts.footer_text (settings_of settings.entry)) }
 {
     let Some(footer) = settings.footer else {

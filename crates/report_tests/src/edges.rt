@@ -1,8 +1,8 @@
 //! Themes of a user's own: a bar that is a space, above line feeds at the end of an inner report, and no style for
 //! labels.
 
-use crate::renderings::draws;
 use crate::highlighting::labelled;
+use crate::renderings::draws;
 use miette::handlers::GraphicalReportHandler;
 use miette::report::Report;
 use miette::theme::GraphicalTheme;

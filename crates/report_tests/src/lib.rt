@@ -8,8 +8,6 @@ mod comparing;
 #[cfg(test)]
 mod contexts;
 #[cfg(test)]
-mod renderings;
-#[cfg(test)]
 mod drops;
 #[cfg(test)]
 mod edges;
@@ -23,5 +21,7 @@ mod json;
 mod narrated;
 #[cfg(test)]
 mod options;
+#[cfg(test)]
+mod renderings;
 #[cfg(test)]
 mod trees;

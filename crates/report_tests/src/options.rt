@@ -1,8 +1,8 @@
 //! What options and a terminal choose. The words of `job` try each option; here stand the calls that it doesn't make.
 
 use crate::comparing::gives;
-use crate::renderings::given;
 use crate::highlighting::{FirstRed, PLAIN, labelled};
+use crate::renderings::given;
 use miette::error::RenderError;
 use miette::handlers::{BriefReportHandler, DebugReportHandler, GraphicalReportHandler};
 use miette::highlight::Highlighter;
