@@ -48,7 +48,8 @@ pub record IsAnswerOf (l : frames.SnippetSettings) (blank : Bool) (source : Opti
   pub rows : HasRows l source labels a
 
 abbrev pub IsAnswer : frames.SnippetSettings → Bool → Option Source → Meaning → Answer → Type 0
-IsAnswer l blank source m a = IsAnswerOf l blank source (given_labels m.labels) (always_reads source (given_labels m.labels)) a
+IsAnswer l blank source m a =
+    IsAnswerOf l blank source (given_labels m.labels) (always_reads source (given_labels m.labels)) a
 
 abbrev mutual
   pub AreCauseAnswers : frames.SnippetSettings → Bool → Option Source → Cause → Answers → Type 0
