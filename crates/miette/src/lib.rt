@@ -13,4 +13,4 @@ pub use miette_highlight::highlight;
 pub use miette_protocol::{diagnostic, error, protocol, source};
 pub use miette_text::{style, theme, wrap};
 pub use miette_tree::report::{Report as ErrReport, Report as Error};
-pub use miette_tree::{bail, ensure, miette, report};
+pub use miette_tree::{bail, diagnostic, ensure, miette, report};
