@@ -9,7 +9,6 @@ ghost use Rattle.std.specs.List.{All};
 ghost use Rattle.miette_tree.specs.rules.Reads.{accepts};
 ghost use Rattle.miette_brief.specs.steps.Reads.{IsUnread, IsReadAt, IsBegin, IsNamePlace, IsDiagnosticPlace};
 ghost use Rattle.miette_brief.specs.steps.Reads.{IsCausePlace};
-ghost use Rattle.miette_brief.specs.rules.PossibleAnswers.{accepts};
 ghost use Rattle.miette_brief.specs.rules.Places.{span_place as begin_of_span, primary_span as primary_of};
 ghost use Rattle.miette_protocol.specs.rules.Reading.{IsAccepted};
 ghost use Rattle.miette_lines.specs.views.GivenLabels.{label_at};

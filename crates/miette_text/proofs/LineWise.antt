@@ -13,7 +13,6 @@ use Rattle.miette_text.proofs.Joining.{lines_from, piece_lines, spell-text_rows}
 use Rattle.miette_runs.proofs.Appending.{spell-append}
 use Rattle.miette_text.proofs.InterleavedCells.{spelled-flat}
 use Rattle.miette_text.proofs.Parting.{onto-some}
-use Rattle.miette_style.specs.rules.Lists.{onto}
 
 -- ---- pieces
 
