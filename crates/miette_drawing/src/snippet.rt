@@ -106,7 +106,8 @@ fn digits(number: usize) -> usize
 fn number_of(before: usize, place: usize) -> Result<usize, AllocError>
     ensures { IfOk result (λ number. number ≡ before + place + 1) }
 {
-    sum(sum(before, place)?, 1)
+    let number = sum(sum(before, place)?, 1)?;
+    Ok(number)
 }
 
 // The digits of the number of the last of so many lines, where this many stand before the first; 1 where there is none.
