@@ -36,7 +36,7 @@ fn next_counted(
     requires { place + 1 < 2 ^ 64 }
     ensures { result ≡ next_counted labels.now first inside folds.now place (line_of_text line.now) }
 {
-    if !inside {
+    if !inside || folds.is_empty() {
         return next_start(folds, place, line, false);
     }
     let far = next_start(folds, place, line, true);
