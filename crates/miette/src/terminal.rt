@@ -117,24 +117,59 @@ impl Variables {
         ensures output { IfOk result (λ it. it.stdout_terminal ≡ stdout_terminal) }
         ensures faults { IfOk result (λ it. it.stderr_terminal ≡ stderr_terminal) }
     {
-        Ok(Variables {
-            force_color: variable(rt, "FORCE_COLOR")?,
-            no_color: variable(rt, "NO_COLOR")?,
-            clicolor: variable(rt, "CLICOLOR")?,
-            colorterm: variable(rt, "COLORTERM")?,
-            term: variable(rt, "TERM")?,
-            term_program: variable(rt, "TERM_PROGRAM")?,
-            vte_version: variable(rt, "VTE_VERSION")?,
-            konsole_version: variable(rt, "KONSOLE_VERSION")?,
-            wt_session: variable(rt, "WT_SESSION")?,
-            lc_all: variable(rt, "LC_ALL")?,
-            lc_ctype: variable(rt, "LC_CTYPE")?,
-            lang: variable(rt, "LANG")?,
-            columns: variable(rt, "COLUMNS")?,
-            no_graphics: variable(rt, "NO_GRAPHICS")?,
-            stdout_terminal,
-            stderr_terminal,
-        })
+        let mut it = Variables::default();
+        it.stdout_terminal = stdout_terminal;
+        it.stderr_terminal = stderr_terminal;
+        it.read_all(rt)?;
+        Ok(it)
+    }
+
+    fn read_all<R: Env + AllocGlobal>(&mut self, rt: &R) -> Result<(), AllocError>
+        ensures output { self.new.stdout_terminal ≡ self.old.stdout_terminal }
+        ensures faults { self.new.stderr_terminal ≡ self.old.stderr_terminal }
+    {
+        self.read_colours(rt)?;
+        self.read_kind(rt)?;
+        self.read_locale(rt)?;
+        self.columns = variable(rt, "COLUMNS")?;
+        self.no_graphics = variable(rt, "NO_GRAPHICS")?;
+        Ok(())
+    }
+
+    // The variables that ask for colours or tell of them.
+    fn read_colours<R: Env + AllocGlobal>(&mut self, rt: &R) -> Result<(), AllocError>
+        ensures output { self.new.stdout_terminal ≡ self.old.stdout_terminal }
+        ensures faults { self.new.stderr_terminal ≡ self.old.stderr_terminal }
+    {
+        self.force_color = variable(rt, "FORCE_COLOR")?;
+        self.no_color = variable(rt, "NO_COLOR")?;
+        self.clicolor = variable(rt, "CLICOLOR")?;
+        self.colorterm = variable(rt, "COLORTERM")?;
+        Ok(())
+    }
+
+    // The variables that name the terminal.
+    fn read_kind<R: Env + AllocGlobal>(&mut self, rt: &R) -> Result<(), AllocError>
+        ensures output { self.new.stdout_terminal ≡ self.old.stdout_terminal }
+        ensures faults { self.new.stderr_terminal ≡ self.old.stderr_terminal }
+    {
+        self.term = variable(rt, "TERM")?;
+        self.term_program = variable(rt, "TERM_PROGRAM")?;
+        self.vte_version = variable(rt, "VTE_VERSION")?;
+        self.konsole_version = variable(rt, "KONSOLE_VERSION")?;
+        self.wt_session = variable(rt, "WT_SESSION")?;
+        Ok(())
+    }
+
+    // The variables that name the locale.
+    fn read_locale<R: Env + AllocGlobal>(&mut self, rt: &R) -> Result<(), AllocError>
+        ensures output { self.new.stdout_terminal ≡ self.old.stdout_terminal }
+        ensures faults { self.new.stderr_terminal ≡ self.old.stderr_terminal }
+    {
+        self.lc_all = variable(rt, "LC_ALL")?;
+        self.lc_ctype = variable(rt, "LC_CTYPE")?;
+        self.lang = variable(rt, "LANG")?;
+        Ok(())
     }
 
     /// What they say of the terminal that a text for this stream goes to. Takes no memory.
