@@ -128,47 +128,20 @@ impl Variables {
         ensures output { self.new.stdout_terminal ≡ self.old.stdout_terminal }
         ensures faults { self.new.stderr_terminal ≡ self.old.stderr_terminal }
     {
-        self.read_colours(rt)?;
-        self.read_kind(rt)?;
-        self.read_locale(rt)?;
-        self.columns = variable(rt, "COLUMNS")?;
-        self.no_graphics = variable(rt, "NO_GRAPHICS")?;
-        Ok(())
-    }
-
-    // The variables that ask for colours or tell of them.
-    fn read_colours<R: Env + AllocGlobal>(&mut self, rt: &R) -> Result<(), AllocError>
-        ensures output { self.new.stdout_terminal ≡ self.old.stdout_terminal }
-        ensures faults { self.new.stderr_terminal ≡ self.old.stderr_terminal }
-    {
-        self.force_color = variable(rt, "FORCE_COLOR")?;
-        self.no_color = variable(rt, "NO_COLOR")?;
-        self.clicolor = variable(rt, "CLICOLOR")?;
-        self.colorterm = variable(rt, "COLORTERM")?;
-        Ok(())
-    }
-
-    // The variables that name the terminal.
-    fn read_kind<R: Env + AllocGlobal>(&mut self, rt: &R) -> Result<(), AllocError>
-        ensures output { self.new.stdout_terminal ≡ self.old.stdout_terminal }
-        ensures faults { self.new.stderr_terminal ≡ self.old.stderr_terminal }
-    {
-        self.term = variable(rt, "TERM")?;
-        self.term_program = variable(rt, "TERM_PROGRAM")?;
-        self.vte_version = variable(rt, "VTE_VERSION")?;
-        self.konsole_version = variable(rt, "KONSOLE_VERSION")?;
-        self.wt_session = variable(rt, "WT_SESSION")?;
-        Ok(())
-    }
-
-    // The variables that name the locale.
-    fn read_locale<R: Env + AllocGlobal>(&mut self, rt: &R) -> Result<(), AllocError>
-        ensures output { self.new.stdout_terminal ≡ self.old.stdout_terminal }
-        ensures faults { self.new.stderr_terminal ≡ self.old.stderr_terminal }
-    {
-        self.lc_all = variable(rt, "LC_ALL")?;
-        self.lc_ctype = variable(rt, "LC_CTYPE")?;
-        self.lang = variable(rt, "LANG")?;
+        fill(rt, "FORCE_COLOR", &mut self.force_color)?;
+        fill(rt, "NO_COLOR", &mut self.no_color)?;
+        fill(rt, "CLICOLOR", &mut self.clicolor)?;
+        fill(rt, "COLORTERM", &mut self.colorterm)?;
+        fill(rt, "TERM", &mut self.term)?;
+        fill(rt, "TERM_PROGRAM", &mut self.term_program)?;
+        fill(rt, "VTE_VERSION", &mut self.vte_version)?;
+        fill(rt, "KONSOLE_VERSION", &mut self.konsole_version)?;
+        fill(rt, "WT_SESSION", &mut self.wt_session)?;
+        fill(rt, "LC_ALL", &mut self.lc_all)?;
+        fill(rt, "LC_CTYPE", &mut self.lc_ctype)?;
+        fill(rt, "LANG", &mut self.lang)?;
+        fill(rt, "COLUMNS", &mut self.columns)?;
+        fill(rt, "NO_GRAPHICS", &mut self.no_graphics)?;
         Ok(())
     }
 
@@ -271,6 +244,16 @@ impl Variables {
             None => None,
         }
     }
+}
+
+// A variable goes into its slot where it is set.
+fn fill<R: Env + AllocGlobal>(
+    rt: &R,
+    name: &str,
+    slot: &mut Option<String>,
+) -> Result<(), AllocError> {
+    *slot = variable(rt, name)?;
+    Ok(())
 }
 
 // A variable where it is set.
