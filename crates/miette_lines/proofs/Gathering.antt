@@ -175,7 +175,7 @@ no_groups context source [] groups none e =
     subst (λ (d : List Group). AreJoined context source [] d) (sym e) (record { fails = []; always = λ a. tt; are = refl; lent = λ k d lt. absurd (omega (arith, lt)) })
 no_groups context source (l ∷ ls) groups none e = absurd (omega (arith, none))
 
--- what `extended` says
+-- what `larger_group` says
 abbrev pub Extends : ℕ → Source → Group → ReadLabel → Option Group → Type 0
 Extends context source before label r =
     MatchOption r (joins_before context source before.span label.span ≡ true → source.always_reads ≡ false)

@@ -1,4 +1,4 @@
--- SnippetSettings and answers without colours, and rows that are plain.
+-- The settings of snippets and answers without colours, and rows that are plain.
 use Rattle.std.specs.Prelude.{◌≡◌, []}
 use Rattle.std.specs.List.{AllByRecursion}
 use Rattle.miette_lines.specs.rules.Answers.{Answers}
