@@ -16,7 +16,7 @@ use Rattle.miette_graphical.specs.rules.DiagnosticText.{SnippetRows, rows_text, 
 use Rattle.miette_tree.specs.rules.DiagnosticParts.{given_labels}
 use Rattle.miette_tree.specs.rules.Reads.{always_reads}
 use Rattle.miette_graphical.specs.rules.PrintedDiagnostics.{all_read, diagnostics_of, printed_causes, printed_related}
-use Rattle.miette_graphical.specs.rules.Snippets.{layout_settings}
+use Rattle.miette_graphical.specs.rules.Snippets.{snippet_settings}
 use Rattle.miette_graphical.specs.rules.Text.{ends_there, are_last, only_if, body, inner_text, causes_text, related_text, report_text}
 use Rattle.miette_graphical.specs.rules.PossibleAnswers.{IsAnswer, AreCauseAnswers, AreRelatedAnswers, AreAnswers}
 use Rattle.miette_graphical.proofs.Lists.{both_read}
@@ -109,7 +109,7 @@ bare-root l blank rows s m own c a false nested w h e = refl
 pub bare-report : (rows : SnippetRows) (s : Settings) (blank : Bool) (t : Tree) (a : Answers) → AreAnswers s blank t a → all_read (diagnostics_of s t) ≡ true →
     report_text rows (colourless s) t (unhighlighted_answers a) ≡ report_text rows (colourless s) t unlisted
 bare-report rows s blank (tree m own c r) a h e =
-    let l = layout_settings s in
+    let l = snippet_settings s in
     let u = colourless s in
     let causes = if s.chain then printed_causes s.nested own c else [] in
     let p = and_parts (always_reads own (given_labels m.labels)) (all_read (causes ++ printed_related s.nested own r)) e in

@@ -24,7 +24,7 @@ use Rattle.miette_tree.specs.rules.Reads.{always_reads}
 use Rattle.miette_graphical.specs.rules.DiagnosticText.{rows_text}
 use Rattle.miette_tree.specs.rules.DiagnosticParts.{given_labels}
 use Rattle.miette_graphical.specs.rules.Settings.{Settings}
-use Rattle.miette_graphical.specs.rules.Snippets.{layout_settings, shown_rows, drawn_rows}
+use Rattle.miette_graphical.specs.rules.Snippets.{snippet_settings, shown_rows, drawn_rows}
 use Rattle.miette_graphical.proofs.PrintedRows.{rows_printed}
 use Rattle.miette_graphical.specs.steps.PartTexts.{AreDrawn, IsDrawn}
 use Rattle.miette_lines.proofs.Bodies.{next_none, later_none, some_none}
@@ -106,9 +106,9 @@ calls_same context source labels a h =
     (refusal_none source.bytes a.label_fails (in_order labels) h.labels) (grouped_none context source a.join_fails (in_order labels) h.joins)
 
 drawn_text : {happen : List Call → Type 0} (s : Settings) (source : Source) (labels : List Label) (blank : Bool) (before : List ℕ) (page : Printout) →
-    (g : MayGive (layout_settings s) source labels blank happen (printout_of before) (Some page)) → AreDrawn s blank happen source labels (rows_text (drawn_rows s (Some source) labels g.answers))
+    (g : MayGive (snippet_settings s) source labels blank happen (printout_of before) (Some page)) → AreDrawn s blank happen source labels (rows_text (drawn_rows s (Some source) labels g.answers))
 drawn_text {happen} s source labels blank before page g =
-    let l = layout_settings s in
+    let l = snippet_settings s in
     let a = g.answers in
     elim (cases_Bool source.always_reads) [
       | inl reads ↦ (
@@ -131,30 +131,30 @@ drawn_text {happen} s source labels blank before page g =
     ]
 
 pub drawn_page : {happen : List Call → Type 0} (s : Settings) (source : Source) (labels : List Label) (blank : Bool) (before : List ℕ) (page : Printout) →
-    MayGive (layout_settings s) source labels blank happen (printout_of before) (Some page) → AppendsOne (AreDrawn s blank happen source labels) before (ended_text page)
+    MayGive (snippet_settings s) source labels blank happen (printout_of before) (Some page) → AppendsOne (AreDrawn s blank happen source labels) before (ended_text page)
 drawn_page {happen} s source labels blank before page g =
-    let l = layout_settings s in
+    let l = snippet_settings s in
     let a = g.answers in
     let text : List ℕ = rows_text (drawn_rows s (Some source) labels a) in
     record { text = text; is_given = drawn_text s source labels blank before page g; appended = page_given before (snippet_rows l source labels a) page g.is }
 
-pub refused_page : {happen : List Call → Type 0} (s : Settings) (source : Source) (labels : List Label) (blank : Bool) (before : Printout) → MayGive (layout_settings s) source labels blank happen before None → source.always_reads ≡ false
+pub refused_page : {happen : List Call → Type 0} (s : Settings) (source : Source) (labels : List Label) (blank : Bool) (before : Printout) → MayGive (snippet_settings s) source labels blank happen before None → source.always_reads ≡ false
 refused_page s source labels blank before g =
     elim (cases_Bool source.always_reads) [
-      | inl reads ↦ absurd (no_rows_fail (layout_settings s) source labels g.answers (g.always reads) (rows_none before (snippet_rows (layout_settings s) source labels g.answers) g.is))
+      | inl reads ↦ absurd (no_rows_fail (snippet_settings s) source labels g.answers (g.always reads) (rows_none before (snippet_rows (snippet_settings s) source labels g.answers) g.is))
       | inr fails ↦ fails
     ]
 
 -- ---- a diagnostic's snippets
 
 pub drawn_nowhere : (s : Settings) (blank : Bool) (now : List Call → Type 0) (m : Meaning) (text : List ℕ) → text ≡ [] → IsDrawn drawn_rows s blank (λ calls. Leads now calls now) None m text
-drawn_nowhere s blank now m text e = (nothing_listed, unlisted_is (layout_settings s) blank None (given_labels m.labels) (always_reads None (given_labels m.labels)), (λ later h. h), e)
+drawn_nowhere s blank now m text e = (nothing_listed, unlisted_is (snippet_settings s) blank None (given_labels m.labels) (always_reads None (given_labels m.labels)), (λ later h. h), e)
 
 pub drawn_unlabelled : (s : Settings) (blank : Bool) (now : List Call → Type 0) (source : Source) (m : Meaning) (text : List ℕ) → given_labels m.labels ≡ [] → text ≡ [] →
     IsDrawn drawn_rows s blank (λ calls. Leads now calls now) (Some source) m text
 drawn_unlabelled s blank now source m text e t = (
   nothing_listed,
-  unlisted_is (layout_settings s) blank (Some source) (given_labels m.labels) (always_reads (Some source) (given_labels m.labels)),
+  unlisted_is (snippet_settings s) blank (Some source) (given_labels m.labels) (always_reads (Some source) (given_labels m.labels)),
   subst (λ (ls : List Label). Leads now (snippet_calls s.context source ls nothing_listed) now) (sym e) (λ later h. h),
   t ∙ ap (λ ls. rows_text (drawn_rows s (Some source) ls nothing_listed)) (sym e),
 )

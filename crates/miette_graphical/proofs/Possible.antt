@@ -4,7 +4,7 @@ use Rattle.miette_protocol.specs.views.Meaning.{Label, Meaning}
 use Rattle.miette_protocol.specs.rules.Reading.{Source}
 use Rattle.miette_tree.specs.rules.DiagnosticParts.{given_labels}
 use Rattle.miette_tree.specs.rules.Tree.{effective, Tree, tree, Cause, diagnostic, texts, Trees, no_trees, more_trees}
-use Rattle.miette_lines.specs.rules.Answers as layout
+use Rattle.miette_lines.specs.rules.Answers as snippet_answers
 use Rattle.miette_lines.specs.rules.Around.{group_context}
 use Rattle.miette_lines.specs.rules.Groups.{groups_of, in_order}
 use Rattle.miette_snippet_laws.specs.laws.Fading as fading
@@ -14,7 +14,7 @@ use Rattle.miette_snippets.specs.rules.SnippetLayout.{snippet_rows}
 use Rattle.miette_snippets.proofs.NoPieces.{none_have}
 use Rattle.miette_page.specs.rules.Rows.{Row, glyphs_of}
 use Rattle.miette_graphical.specs.rules.Settings.{Settings}
-use Rattle.miette_graphical.specs.rules.Snippets.{layout_settings}
+use Rattle.miette_graphical.specs.rules.Snippets.{snippet_settings}
 use Rattle.miette_graphical.specs.rules.Answers.{Answer, Answers, unlisted, RelatedAnswers, no_more, and_more, own_answer, cause_answers, related_answers}
 use Rattle.miette_graphical.specs.rules.PossibleAnswers.{AreAnswers, AreCauseAnswers, AreRelatedAnswers, HasPieces, HasRows, IsAnswer, IsAnswerOf}
 use Rattle.miette_tree.specs.rules.Reads.{always_reads}
@@ -23,7 +23,7 @@ use Rattle.miette_graphical.proofs.Bare.{own-bare, cause-bare, related-bare}
 
 -- in plain styles the rows have the same characters, which the layer of snippets promises
 abbrev pub AreRowsKept : Type 0
-AreRowsKept = (s : frames.SnippetSettings) (source : Source) (labels : List Label) (answers : layout.Answers) →
+AreRowsKept = (s : frames.SnippetSettings) (source : Source) (labels : List Label) (answers : snippet_answers.Answers) →
     option_map (map glyphs_of) (snippet_rows (fading.colourless s) source labels (fading.unhighlighted_answer answers)) ≡ option_map (map glyphs_of) (snippet_rows s source labels answers)
 
 some_kept : (plain rows : Option (List Row)) → option_map (map glyphs_of) plain ≡ option_map (map glyphs_of) rows → is_some rows ≡ true → is_some plain ≡ true
@@ -85,7 +85,7 @@ module _ (kept : AreRowsKept) where
 
   pub answers_possible : (s : Settings) (blank : Bool) (t : Tree) (a : Answers) → AreAnswers s blank t a → AreAnswers (colourless s) true t (unhighlighted_answers a)
   answers_possible s blank (tree m own c r) a h =
-      let l = layout_settings s in (
+      let l = snippet_settings s in (
         own_possible l blank own m a h.0,
         λ chain. subst (AreCauseAnswers (fading.colourless l) true own c) (cause-bare a) (causes_possible l blank own c (cause_answers a) (h.1 chain)),
         subst (AreRelatedAnswers (fading.colourless l) true own r) (related-bare a) (related_possible l blank own r (related_answers a) h.2),

@@ -10,7 +10,7 @@ use Rattle.miette_tree.specs.views.Handler.{AppendsOne}
 use Rattle.miette_graphical.specs.rules.DiagnosticText.{SnippetRows}
 use Rattle.miette_graphical.specs.rules.PrintedDiagnostics.{PrintedDiagnostic, all_read, printed_causes, printed_related}
 use Rattle.miette_graphical.specs.rules.Settings.{Settings}
-use Rattle.miette_graphical.specs.rules.Snippets.{layout_settings}
+use Rattle.miette_graphical.specs.rules.Snippets.{snippet_settings}
 use Rattle.miette_graphical.specs.rules.Text.{are_last, causes_text, related_text}
 use Rattle.miette_graphical.proofs.Sizes.{cause_size, tree_size, trees_size, cause_falls}
 use Rattle.miette_graphical.proofs.Steps.{cause_step, later_cause_fails, related_step, later_related_fails}
@@ -25,11 +25,11 @@ pub record Remains {X A : Type 0} (are : X → A → Type 0) (calls : X → A �
 
 abbrev pub CausesRemain : SnippetRows → Settings → Bool → (List Call → Type 0) → (List Call → Type 0) → Option Severity → Option Source → Cause → Cause → List ℕ → List ℕ → Type 0
 CausesRemain rows s blank begun state outer inherited all left old now =
-    Remains (AreCauseAnswers (layout_settings s) blank inherited) (cause_calls s.context s.nested inherited) (causes_text rows s outer inherited) (printed_causes s.nested inherited) cause_size begun state all left old now
+    Remains (AreCauseAnswers (snippet_settings s) blank inherited) (cause_calls s.context s.nested inherited) (causes_text rows s outer inherited) (printed_causes s.nested inherited) cause_size begun state all left old now
 
 abbrev pub RelatedRemain : SnippetRows → Settings → Bool → (List Call → Type 0) → (List Call → Type 0) → Option Severity → Option Source → Trees → Trees → List ℕ → List ℕ → Type 0
 RelatedRemain rows s blank begun state outer inherited all left old now =
-    Remains (AreRelatedAnswers (layout_settings s) blank inherited) (related_calls s.context s.nested inherited) (related_text rows s outer inherited) (printed_related s.nested inherited) trees_size begun state all left old now
+    Remains (AreRelatedAnswers (snippet_settings s) blank inherited) (related_calls s.context s.nested inherited) (related_text rows s outer inherited) (printed_related s.nested inherited) trees_size begun state all left old now
 
 pub all_remain : {X A : Type 0} (are : X → A → Type 0) (calls : X → A → List Call) (shows : X → A → List ℕ) (prints : X → List PrintedDiagnostic) (size : X → ℕ) (begun : List Call → Type 0) (all : X) (old : List ℕ) →
     Remains are calls shows prints size begun begun all all old old
@@ -52,13 +52,13 @@ pub causes_appended : (rows : SnippetRows) (s : Settings) (blank : Bool) (begun 
     CausesRemain rows s blank begun state outer inherited all left old now → AppendsOne (AreCauses rows s blank (λ calls. Leads state calls end) outer inherited left) now new →
     AppendsOne (AreCauses rows s blank (λ calls. Leads begun calls end) outer inherited all) old new
 causes_appended rows s blank begun state end outer inherited all left old now new r p =
-    rest_appended (AreCauseAnswers (layout_settings s) blank inherited) (cause_calls s.context s.nested inherited) (causes_text rows s outer inherited) (printed_causes s.nested inherited) cause_size begun state end all left old now new r p
+    rest_appended (AreCauseAnswers (snippet_settings s) blank inherited) (cause_calls s.context s.nested inherited) (causes_text rows s outer inherited) (printed_causes s.nested inherited) cause_size begun state end all left old now new r p
 
 pub related_appended : (rows : SnippetRows) (s : Settings) (blank : Bool) (begun state end : List Call → Type 0) (outer : Option Severity) (inherited : Option Source) (all left : Trees) (old now new : List ℕ) →
     RelatedRemain rows s blank begun state outer inherited all left old now → AppendsOne (AreRelated rows s blank (λ calls. Leads state calls end) outer inherited left) now new →
     AppendsOne (AreRelated rows s blank (λ calls. Leads begun calls end) outer inherited all) old new
 related_appended rows s blank begun state end outer inherited all left old now new r p =
-    rest_appended (AreRelatedAnswers (layout_settings s) blank inherited) (related_calls s.context s.nested inherited) (related_text rows s outer inherited) (printed_related s.nested inherited) trees_size begun state end all left old now new r p
+    rest_appended (AreRelatedAnswers (snippet_settings s) blank inherited) (related_calls s.context s.nested inherited) (related_text rows s outer inherited) (printed_related s.nested inherited) trees_size begun state end all left old now new r p
 
 pub cause_printed : (rows : SnippetRows) (s : Settings) (blank : Bool) (begun state next : List Call → Type 0) (outer : Option Severity) (inherited : Option Source) (all : Cause) (t : Tree) (old now new : List ℕ) →
     CausesRemain rows s blank begun state outer inherited all (diagnostic t) old now → AppendsOne (IsOneCause rows s blank (λ calls. Leads state calls next) outer inherited t) now new →

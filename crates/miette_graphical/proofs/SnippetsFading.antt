@@ -11,7 +11,7 @@ use Rattle.miette_protocol.specs.rules.Reading.{Source}
 use Rattle.miette_runs.specs.rules.Runs.{HaveNoEscape, print, printed_run, plain_run}
 use Rattle.miette_style.specs.rules.Styles.{plain}
 use Rattle.miette_style.specs.rules.Escapes.{no_escape}
-use Rattle.miette_lines.specs.rules.Answers as layout
+use Rattle.miette_lines.specs.rules.Answers as snippet_answers
 use Rattle.miette_snippet_laws.specs.laws.Clean.{IsCleanLabel, IsCleanRow, IsCleanSource, AreCleanDrawings}
 use Rattle.miette_snippet_laws.specs.laws.Fading as fading
 use Rattle.miette_snippet_laws.specs.laws.Fading.{IsPlainRow, unhighlighted_answer}
@@ -23,15 +23,15 @@ use Rattle.miette_graphical.specs.laws.Clean.{AreCleanSettings, HaveNoEscapes}
 use Rattle.miette_graphical.specs.laws.Colourless.{AreSnippets, colourless}
 use Rattle.miette_graphical.specs.rules.DiagnosticText.{line_feed, rows_text}
 use Rattle.miette_graphical.specs.rules.Settings.{Settings}
-use Rattle.miette_graphical.specs.rules.Snippets.{drawn_rows, layout_settings, run_text, runs_of_row, shown_rows}
+use Rattle.miette_graphical.specs.rules.Snippets.{drawn_rows, snippet_settings, run_text, runs_of_row, shown_rows}
 
 -- the clauses of the laws of that layer
 pub record LayoutLaws : Type 0 where
-  pub same : (s : frames.SnippetSettings) (source : Source) (labels : List Label) (answers : layout.Answers) →
+  pub same : (s : frames.SnippetSettings) (source : Source) (labels : List Label) (answers : snippet_answers.Answers) →
       option_map (map glyphs_of) (snippet_rows (fading.colourless s) source labels (fading.unhighlighted_answer answers)) ≡ option_map (map glyphs_of) (snippet_rows s source labels answers)
-  pub plain : (s : frames.SnippetSettings) (source : Source) (labels : List Label) (answers : layout.Answers) →
+  pub plain : (s : frames.SnippetSettings) (source : Source) (labels : List Label) (answers : snippet_answers.Answers) →
       IfSome (snippet_rows (fading.colourless s) source labels (fading.unhighlighted_answer answers)) (AllByRecursion IsPlainRow)
-  pub clean : (s : frames.SnippetSettings) (source : Source) (labels : List Label) (answers : layout.Answers) →
+  pub clean : (s : frames.SnippetSettings) (source : Source) (labels : List Label) (answers : snippet_answers.Answers) →
       AreCleanDrawings s.characters → IsCleanSource source → AllByRecursion IsCleanLabel labels → IfSome (snippet_rows s source labels answers) (AllByRecursion IsCleanRow)
 
 -- ---- the bytes of any codes read as these codes
@@ -153,14 +153,14 @@ drawn_fade : LayoutLaws → (s : Settings) (source : Option Source) (labels : Li
     rows_text (drawn_rows (colourless s) source labels (unhighlighted_answer a)) ≡ rows_text (map (map plain_run) (drawn_rows s source labels a))
 drawn_fade laws s None labels a = refl
 drawn_fade laws s (Some source) labels a =
-    let l = layout_settings s in
+    let l = snippet_settings s in
     plain_shown (snippet_rows (fading.colourless l) source labels (fading.unhighlighted_answer a)) (laws.plain l source labels a)
     ∙ ap shown_text (laws.same l source labels a) ∙ sym (bare_shown (snippet_rows l source labels a))
 
 drawn_clean : LayoutLaws → (s : Settings) (source : Option Source) (labels : List Label) (a : Answer) →
     AreCleanSettings s → IfSome source IsCleanSource → AllByRecursion IsCleanLabel labels → HaveNoEscapes (drawn_rows s source labels a)
 drawn_clean laws s None labels a h k j = tt
-drawn_clean laws s (Some source) labels a h k j = clean_shown (snippet_rows (layout_settings s) source labels a) (laws.clean (layout_settings s) source labels a h.0.drawings k j)
+drawn_clean laws s (Some source) labels a h k j = clean_shown (snippet_rows (snippet_settings s) source labels a) (laws.clean (snippet_settings s) source labels a h.0.drawings k j)
 
 pub drawn_snippets : LayoutLaws → AreSnippets drawn_rows
 drawn_snippets laws = record { fade = drawn_fade laws; clean = drawn_clean laws }

@@ -30,7 +30,7 @@ use Rattle.miette_graphical.specs.rules.Indents.{narrow_settings}
 use Rattle.miette_graphical.specs.rules.DiagnosticText.{rows_text, title_text, under_arrow}
 use Rattle.miette_graphical.specs.rules.PrintedDiagnostics.{all_read, diagnostics_of, printed_causes, printed_related}
 use Rattle.miette_graphical.specs.rules.Settings.{Settings}
-use Rattle.miette_graphical.specs.rules.Snippets.{drawn_rows, layout_settings, shown_rows}
+use Rattle.miette_graphical.specs.rules.Snippets.{drawn_rows, snippet_settings, shown_rows}
 use Rattle.miette_graphical.specs.rules.Text.{are_last, body_over, causes_text, ends_there, inner_over, only_if, related_text, report_text}
 use Rattle.miette_graphical.proofs.DrawnRows.{groups_given, none_listed}
 use Rattle.miette_graphical.proofs.Lists.{both_read}
@@ -84,7 +84,7 @@ rows_by : (f : List ℕ → List Piece) (s : Settings) (source : Option Source) 
     rows_text (drawn_rows s source (given_labels m.labels) a) ≡ rows_text (drawn_rows s source (given_labels m.labels) (own_by f s.context source m))
 rows_by f s None m a e h = refl
 rows_by f s (Some source) m a e h =
-    let l = layout_settings s in
+    let l = snippet_settings s in
     let labels = in_order (given_labels m.labels) in
     ap (λ x. rows_text (drawn_rows s (Some source) (given_labels m.labels) x)) e
     ∙ ap (λ r. rows_text (shown_rows r)) (unless_by f l source labels a.pieces (refusal source.bytes [] labels) (subst (λ x. AnsweredBy f (own_calls s.context (Some source) m x)) e h))
@@ -159,7 +159,7 @@ root_text_by f l blank s m own c a false h e b = refl
 report_text_by : (f : List ℕ → List Piece) (s : Settings) (blank : Bool) (t : Tree) (a : Answers) → AreAnswers s blank t a → all_read (diagnostics_of s t) ≡ true → AnsweredBy f (report_calls s t a) →
     report_text drawn_rows s t a ≡ report_text drawn_rows s t (answers_by f s.context t)
 report_text_by f s blank (tree m own c r) a h e b =
-    let l = layout_settings s in
+    let l = snippet_settings s in
     let causes = if s.chain then printed_causes s.nested own c else [] in
     let p = and_parts (always_reads own (given_labels m.labels)) (all_read (causes ++ printed_related s.nested own r)) e in
     let q = both_read causes (printed_related s.nested own r) p.1 in

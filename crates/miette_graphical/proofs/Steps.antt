@@ -16,7 +16,7 @@ use Rattle.miette_graphical.specs.rules.Text.{cause_texts, ends_there, are_last,
 use Rattle.miette_tree.specs.rules.Tree.{effective}
 use Rattle.miette_snippets.specs.rules.Frames as frames
 use Rattle.miette_graphical.specs.rules.PrintedDiagnostics.{all_read, over, diagnostics_of, printed_causes, printed_related}
-use Rattle.miette_graphical.specs.rules.Snippets.{layout_settings}
+use Rattle.miette_graphical.specs.rules.Snippets.{snippet_settings}
 use Rattle.miette_graphical.proofs.DrawnRows.{unlisted_is}
 use Rattle.miette_graphical.proofs.Lists.{first_fails, later_fails}
 use Rattle.miette_graphical.proofs.Outermost.{report_over}
@@ -115,13 +115,13 @@ sibling_step rows s blank begun mid now source (tree m own c r) causes text q p 
 -- one of several related reports, with its answers in one
 one_by : (rows : SnippetRows) (s : Settings) (blank : Bool) (happen : List Call → Type 0) (outer : Option Severity) (source : Option Source) (last : Bool) (m : Meaning) (own : Option Source) (c : Cause) (r : Trees) (text : List ℕ) (nested : Bool) →
     MatchBool nested (IsNested rows s blank happen outer source last (tree m own c r) text) (IsSibling rows s blank happen source (tree m own c r) text) →
-    (a : Answers) × IsAnswer (layout_settings s) blank source m (own_answer a) × AreCauseAnswers (layout_settings s) blank source c (cause_answers a) × AreRelatedAnswers (layout_settings s) blank source r (related_answers a)
+    (a : Answers) × IsAnswer (snippet_settings s) blank source m (own_answer a) × AreCauseAnswers (snippet_settings s) blank source c (cause_answers a) × AreRelatedAnswers (snippet_settings s) blank source r (related_answers a)
     × happen ((if nested then [] else cause_calls s.context s.nested source c (cause_answers a)) ++ (own_calls s.context source m (own_answer a) ++ related_calls s.context s.nested source r (related_answers a)))
     × (text ≡ (if nested then
     under_arrow s outer last (without_trailing (inner_text rows (narrow_settings s outer last) m source (own_answer a) (related_text rows (narrow_settings s outer last) m.severity source r (related_answers a))))
     else title_text s m ++ body rows s m source (own_answer a) (causes_text rows s m.severity source c (cause_answers a)) (related_text rows s m.severity source r (related_answers a))))
 one_by rows s blank happen outer source last m own c r text true p =
-    (listed p.1.0 unlisted p.1.1, p.1.2, causes-unlisted (layout_settings s) blank source c, p.1.3, p.1.4, p.2 ∙ ap (λ x. under_arrow s outer last (without_trailing x)) p.1.5)
+    (listed p.1.0 unlisted p.1.1, p.1.2, causes-unlisted (snippet_settings s) blank source c, p.1.3, p.1.4, p.2 ∙ ap (λ x. under_arrow s outer last (without_trailing x)) p.1.5)
 one_by rows s blank happen outer source last m own c r text false p = (listed p.0 p.1 p.2, p.3, p.4, p.5, p.6, p.7)
 
 pub related_step : (rows : SnippetRows) (s : Settings) (blank : Bool) (begun mid now : List Call → Type 0) (outer : Option Severity) (inherited : Option Source) (t : Tree) (ts : Trees) (one more : List ℕ) →
@@ -135,9 +135,9 @@ related_step rows s blank begun mid now outer inherited (tree m own c r) ts one 
 
 root_by : (rows : SnippetRows) (s : Settings) (blank : Bool) (happen : List Call → Type 0) (m : Meaning) (own : Option Source) (c : Cause) (causes : List ℕ) (chain : Bool) →
     MatchBool chain (AreCauses rows s blank happen m.severity own c causes) (happen [] × (causes ≡ [])) →
-    (a : Answers) × (chain ≡ true → AreCauseAnswers (layout_settings s) blank own c a) × happen (if chain then cause_calls s.context s.nested own c a else []) × (causes ≡ only_if chain (causes_text rows s m.severity own c a))
+    (a : Answers) × (chain ≡ true → AreCauseAnswers (snippet_settings s) blank own c a) × happen (if chain then cause_calls s.context s.nested own c a else []) × (causes ≡ only_if chain (causes_text rows s m.severity own c a))
 root_by rows s blank happen m own c causes true p = (p.0, λ h. p.1, p.2, p.3)
-root_by rows s blank happen m own c causes false p = (unlisted, λ h. causes-unlisted (layout_settings s) blank own c, p.0, p.1)
+root_by rows s blank happen m own c causes false p = (unlisted, λ h. causes-unlisted (snippet_settings s) blank own c, p.0, p.1)
 
 pub root_step : (rows : SnippetRows) (s : Settings) (blank : Bool) (begun mid now : List Call → Type 0) (t : Tree) (causes text : List ℕ) →
     AreRootCauses rows s blank (λ calls. Leads begun calls mid) t causes → (p : IsBelow rows s blank (λ calls. Leads mid calls now) (source_of t) t text) →

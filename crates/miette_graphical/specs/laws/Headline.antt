@@ -12,7 +12,7 @@ use Rattle.miette_snippets.specs.rules.Frames as frames
 use Rattle.miette_lines.specs.rules.Groups as grouping
 use Rattle.miette_lines.specs.rules.Groups.{AreAccepted, in_order, lines_of_groups}
 use Rattle.miette_lines.specs.rules.Labels.{DrawnLabel, multi_line, one_line, some_shows_end}
-use Rattle.miette_snippets.specs.rules.SnippetLayout as layout
+use Rattle.miette_snippets.specs.rules.SnippetLayout as snippet_layout
 use Rattle.miette_snippets.specs.rules.SnippetLayout.{body_rows, cells_of, line_cut, line_marks, settings_around}
 use Rattle.miette_page.specs.rules.Rows.{Row, columns_of, glyphs_of}
 use Rattle.miette_lines.specs.rules.Cells.{Cell}
@@ -32,7 +32,7 @@ use Rattle.miette_tree.specs.rules.DiagnosticParts.{given_labels}
 use Rattle.miette_graphical.specs.rules.PrintedDiagnostics.{PrintedDiagnostic}
 use Rattle.miette_graphical.specs.rules.Settings.{Settings}
 use Rattle.miette_graphical.specs.laws.CharacterSets.{AreNarrow}
-use Rattle.miette_graphical.specs.rules.Snippets.{layout_settings, shown_rows, drawn_rows}
+use Rattle.miette_graphical.specs.rules.Snippets.{snippet_settings, shown_rows, drawn_rows}
 
 -- ---- the lines of the snippets
 
@@ -44,9 +44,9 @@ shown_lines s source labels = shown_numbers s.context source.bytes labels
 abbrev pub groups_of : Settings → Source → List Label → List Span
 groups_of s source labels = grouping.groups_of s.context source [] (in_order labels)
 
--- the settings of the layout, with the lines of context with which these groups are read
+-- the settings of the snippets, with the lines of context with which these groups are read
 abbrev pub group_settings : Settings → List Label → frames.SnippetSettings
-group_settings s labels = settings_around (layout_settings s) (in_order labels)
+group_settings s labels = settings_around (snippet_settings s) (in_order labels)
 
 -- The snippets show the lines in the context of some label, once and in order, each with its number: the rows are
 -- those of the maximal ranges of these lines, each line with its own cells, in whatever pieces, each range in a frame;
@@ -55,7 +55,7 @@ group_settings s labels = settings_around (layout_settings s) (in_order labels)
 pub record ShowsRanges (s : Settings) (source : Source) (labels : List Label) : Type 0 where
   pub rows : (pieces : List (List (List Highlight))) →
       drawn_rows s (Some source) labels (pieces_listed pieces)
-      ≡ shown_rows (Some (framed_ranges (layout_settings s) source labels (pieces_listed pieces)))
+      ≡ shown_rows (Some (framed_ranges (snippet_settings s) source labels (pieces_listed pieces)))
   pub groups : lines_of_groups (group_settings s labels).context source (groups_of s source labels)
       ≡ snippets s.context source.bytes labels
   pub whole : concat (ranges (shown_lines s source labels)) ≡ shown_lines s source labels
@@ -75,14 +75,14 @@ LinesAreShown s p =
 -- the labels as they are drawn, by offset
 abbrev pub drawn_labels : Settings → Source → List Label → List DrawnLabel
 drawn_labels s source labels =
-    layout.drawn_labels (group_settings s labels) (length source.bytes) (in_order labels)
+    snippet_layout.drawn_labels (group_settings s labels) (length source.bytes) (in_order labels)
 
 -- line k and its cells
 abbrev pub line_of : Source → ℕ → Line
 line_of source k = line_at (lines_of source.bytes) k
 
 abbrev pub cells_under : Settings → Source → ℕ → List Cell
-cells_under s source k = cells_of (layout_settings s) source.bytes (line_of source k)
+cells_under s source k = cells_of (snippet_settings s) source.bytes (line_of source k)
 
 -- the labels that lie on line k alone
 abbrev pub labels_under : Settings → Source → List Label → ℕ → List DrawnLabel
@@ -91,7 +91,7 @@ labels_under s source labels k = one_line (line_of source k) (drawn_labels s sou
 -- their marks, by the columns of the line's row
 abbrev pub marks_under : Settings → Source → List Label → ℕ → List Mark
 marks_under s source labels k =
-    marks_of_line (layout_settings s) (drawn_labels s source labels) (line_of source k) (cells_under s source k)
+    marks_of_line (snippet_settings s) (drawn_labels s source labels) (line_of source k) (cells_under s source k)
 
 -- no mark is empty, each begins where the one before it ends or later, and each anchor lies in its own mark and in no
 -- other
@@ -141,7 +141,7 @@ LabelsAreFolded s p =
 -- what is shown of line k, in these pieces of a highlighter
 abbrev pub text_shown : Settings → Source → List Label → ℕ → List Highlight → Row
 text_shown s source labels k pieces =
-    text_of_line (layout_settings s) (drawn_labels s source labels) (line_of source k) (cells_under s source k) pieces
+    text_of_line (snippet_settings s) (drawn_labels s source labels) (line_of source k) (cells_under s source k) pieces
 
 -- Line k is cut into stretches that have its cells, each once and in order, and are near where the cells are. Of each
 -- stretch that is near or at most three columns wide the cells are printed, and dots in place of each other one, in no
@@ -160,7 +160,7 @@ pub record IsCutExactly (s : Settings) (source : Source) (labels : List Label) (
 -- each line of a diagnostic's source that is cut
 abbrev pub CutsAreExact : Settings → PrintedDiagnostic → Type 0
 CutsAreExact s p = IfSome p.source (λ source. (k limit : ℕ) (cut : List Stretch) → s.line_columns ≡ Some limit →
-    line_cut (layout_settings s) (line_of source k) (cells_under s source k)
+    line_cut (snippet_settings s) (line_of source k) (cells_under s source k)
     (labels_under s source (given_labels p.meaning.labels) k) ≡ Some cut →
     IsCutExactly s source (given_labels p.meaning.labels) k limit cut)
 
@@ -169,7 +169,7 @@ CutsAreExact s p = IfSome p.source (λ source. (k limit : ℕ) (cut : List Stret
 abbrev pub SnippetStays : Settings → Source → List Label → Span → Type 0
 SnippetStays s source labels group =
     (spreads : List Spread) (pieces : List (List Highlight)) →
-    AllByRecursion (λ line. Fits s.line_columns (cells_of (layout_settings s) source.bytes line))
+    AllByRecursion (λ line. Fits s.line_columns (cells_of (snippet_settings s) source.bytes line))
     (lines_of_contents (contents (group_settings s labels).context source group)) →
     body_rows (group_settings s labels) spreads (drawn_labels s source labels) source.bytes
     (contents (group_settings s labels).context source group) pieces
@@ -206,7 +206,7 @@ TextsHang s p =
 pub record EndsBehind (s : Settings) (source : Source) (labels : List Label) : Type 0 where
   pub lines : EndsStandBehind (group_settings s labels) source.bytes (in_order labels)
   pub marks : (k : ℕ) (pieces : List Highlight) →
-      AreBehindShown (layout_settings s) (drawn_labels s source labels) (line_of source k) (cells_under s source k)
+      AreBehindShown (snippet_settings s) (drawn_labels s source labels) (line_of source k) (cells_under s source k)
       pieces
 
 -- where labels at the end are drawn, and one of them has a line of context

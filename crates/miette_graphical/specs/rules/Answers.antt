@@ -1,6 +1,6 @@
 -- What isn't determined by a tree and the settings: what reads answered, and the highlighter's pieces.
 use Rattle.std.specs.Prelude.{List, []}
-use Rattle.miette_lines.specs.rules.Answers as layout
+use Rattle.miette_lines.specs.rules.Answers as snippet_answers
 use Rattle.miette_tree.specs.rules.Answers.{AnswerTree, AnswerTrees, own_or}
 pub use Rattle.miette_tree.specs.rules.Answers.{unlisted, listed, no_more, and_more, cause_answers, related_answers}
 pub use Rattle.miette_tree.specs.rules.Answers.{first_answers, later_answers}
@@ -8,10 +8,10 @@ pub use Rattle.miette_tree.specs.rules.Answers.{first_answers, later_answers}
 -- Of one diagnostic: whether each read failed, and the highlighter's pieces for each line of each snippet. A read
 -- that isn't listed succeeds, and a line that isn't listed is plain.
 abbrev pub Answer : Type 0
-Answer = layout.Answers
+Answer = snippet_answers.Answers
 
 -- no read failed
-abbrev pub pieces_listed : List (List (List layout.Highlight)) → Answer
+abbrev pub pieces_listed : List (List (List snippet_answers.Highlight)) → Answer
 pieces_listed pieces = record { label_fails = []; join_fails = []; place_fails = []; pieces = pieces }
 
 abbrev pub nothing_listed : Answer

@@ -18,7 +18,7 @@ use Rattle.miette_snippets.specs.rules.Highlighting.{SnippetsHavePieces}
 use Rattle.miette_snippets.specs.rules.SnippetLayout.{snippet_rows}
 use Rattle.miette_tree.specs.views.Handler.{AppendsOne}
 use Rattle.miette_tree.specs.rules.Reads.{always_reads}
-use Rattle.miette_graphical.specs.rules.Snippets.{layout_settings}
+use Rattle.miette_graphical.specs.rules.Snippets.{snippet_settings}
 use Rattle.miette_graphical.specs.rules.Calls.{report_calls}
 use Rattle.miette_graphical.specs.rules.Text.{report_text}
 use Rattle.miette_tree.specs.rules.Tree.{effective}
@@ -27,7 +27,7 @@ use Rattle.miette_tree.specs.rules.Tree.{effective}
 -- each line make up its text, and there are none where lines are left plain; and the places of all snippets were
 -- read, since else nothing is printed.
 
--- there are rows, under these settings of the layout
+-- there are rows, under these settings of snippets
 abbrev pub HasRows : frames.SnippetSettings → Option Source → List Label → Answer → Type 0
 HasRows l None labels a = Unit {0}
 HasRows l (Some source) labels a = is_some (snippet_rows l source labels a) ≡ true
@@ -39,9 +39,8 @@ HasPieces l blank (Some source) labels a = SnippetsHavePieces (group_context l.c
     (groups_of l.context source a.join_fails (in_order labels)) a.pieces
 
 -- of labels over a source; are lines left plain, and does every read succeed?
-pub record IsAnswerOf (l : frames.SnippetSettings) (blank : Bool) (source : Option Source) (labels : List Label) (reads
-    : Bool)
-    (a : Answer) : Type 0 where
+pub record IsAnswerOf (l : frames.SnippetSettings) (blank : Bool) (source : Option Source) (labels : List Label)
+    (reads : Bool) (a : Answer) : Type 0 where
   pub read : reads ≡ true → a ≡ pieces_listed a.pieces
   pub plain : blank ≡ true → a.pieces ≡ []
   pub pieces : HasPieces l blank source labels a
@@ -69,9 +68,9 @@ abbrev mutual
 
 abbrev pub AreAnswers : Settings → Bool → Tree → Answers → Type 0
 AreAnswers s blank (tree m own c r) a =
-    IsAnswer (layout_settings s) blank own m (own_answer a)
-    × (s.chain ≡ true → AreCauseAnswers (layout_settings s) blank own c (cause_answers a))
-    × AreRelatedAnswers (layout_settings s) blank own r (related_answers a)
+    IsAnswer (snippet_settings s) blank own m (own_answer a)
+    × (s.chain ≡ true → AreCauseAnswers (snippet_settings s) blank own c (cause_answers a))
+    × AreRelatedAnswers (snippet_settings s) blank own r (related_answers a)
 
 -- ---- a whole report
 

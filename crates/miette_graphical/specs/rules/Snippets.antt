@@ -1,16 +1,16 @@
 -- The rows of a diagnostic's snippets, as runs.
 use Rattle.std.specs.Prelude.{ℕ, List, [], map, chars, encode_utf8_all, Option, Some, None, unwrap_or}
 use Rattle.miette_runs.specs.rules.Runs.{Fragment, Styled}
-use Rattle.miette_page.specs.rules.Rows as layout
+use Rattle.miette_page.specs.rules.Rows.{Row, Run}
 use Rattle.miette_snippets.specs.rules.Frames as frames
 use Rattle.miette_lines.specs.views.GivenLabels.{width_of}
 use Rattle.miette_snippets.specs.rules.SnippetLayout.{snippet_rows}
 use Rattle.miette_graphical.specs.rules.Settings.{Settings}
 use Rattle.miette_graphical.specs.rules.DiagnosticText.{SnippetRows}
 
--- the settings of the layout
-abbrev pub layout_settings : Settings → frames.SnippetSettings
-layout_settings s = record {
+-- the settings of the snippets
+abbrev pub snippet_settings : Settings → frames.SnippetSettings
+snippet_settings s = record {
   characters = s.characters;
   styles = s.styles;
   width = width_of;
@@ -23,19 +23,19 @@ layout_settings s = record {
 }
 
 -- a run's characters, as their bytes read
-abbrev pub run_text : layout.Run → List ℕ
+abbrev pub run_text : Run → List ℕ
 run_text run = chars (encode_utf8_all (map (λ p. p.code) run.glyphs))
 
-abbrev pub run_of_row : layout.Run → Fragment
+abbrev pub run_of_row : Run → Fragment
 run_of_row run = Styled run.style (run_text run)
 
-abbrev pub runs_of_row : layout.Row → List Fragment
+abbrev pub runs_of_row : Row → List Fragment
 runs_of_row row = map run_of_row row
 
-abbrev pub shown_rows : Option (List layout.Row) → List (List Fragment)
+abbrev pub shown_rows : Option (List Row) → List (List Fragment)
 shown_rows rows = map runs_of_row (unwrap_or rows [])
 
 -- no rows without a source; else the frames, lines and marks of its snippets, or the row of a refused label
 abbrev pub drawn_rows : SnippetRows
 drawn_rows s None labels a = []
-drawn_rows s (Some source) labels a = shown_rows (snippet_rows (layout_settings s) source labels a)
+drawn_rows s (Some source) labels a = shown_rows (snippet_rows (snippet_settings s) source labels a)

@@ -12,7 +12,7 @@ use Rattle.miette_graphical.specs.rules.DiagnosticText.{SnippetRows, rows_text, 
 use Rattle.miette_tree.specs.rules.DiagnosticParts.{given_labels}
 use Rattle.miette_highlight.specs.rules.HighlighterCalls.{Call}
 use Rattle.miette_snippets.specs.rules.Highlighting.{snippet_calls}
-use Rattle.miette_graphical.specs.rules.Snippets.{drawn_rows, layout_settings}
+use Rattle.miette_graphical.specs.rules.Snippets.{drawn_rows, snippet_settings}
 use Rattle.miette_graphical.specs.rules.Calls.{own_calls, cause_calls, related_calls}
 use Rattle.miette_graphical.specs.rules.Text.{ends_there, body, inner_text, causes_text, related_text}
 use Rattle.miette_graphical.specs.rules.PossibleAnswers.{IsAnswerOf, IsAnswer, AreCauseAnswers, AreRelatedAnswers}
@@ -20,13 +20,13 @@ use Rattle.miette_graphical.specs.rules.PossibleAnswers.{IsAnswerOf, IsAnswer, A
 -- the text of the rows of a diagnostic's snippets
 abbrev pub IsDrawn : SnippetRows → Settings → Bool → (List Call → Type 0) → Option Source → Meaning → List ℕ → Type 0
 IsDrawn rows s blank happen source m text =
-    (a : Answer) × IsAnswer (layout_settings s) blank source m a × happen (own_calls s.context source m a)
+    (a : Answer) × IsAnswer (snippet_settings s) blank source m a × happen (own_calls s.context source m a)
     × (text ≡ rows_text (rows s source (given_labels m.labels) a))
 
 -- the text of the rows of some labels' snippets over a source
 abbrev pub AreDrawn : Settings → Bool → (List Call → Type 0) → Source → List Label → List ℕ → Type 0
 AreDrawn s blank happen source labels text =
-    (a : Answer) × IsAnswerOf (layout_settings s) blank (Some source) labels source.always_reads a
+    (a : Answer) × IsAnswerOf (snippet_settings s) blank (Some source) labels source.always_reads a
     × happen (snippet_calls s.context source labels a)
     × (text ≡ rows_text (drawn_rows s (Some source) labels a))
 
@@ -34,7 +34,7 @@ AreDrawn s blank happen source labels text =
 abbrev pub AreCauses : SnippetRows → Settings → Bool → (List Call → Type 0) → Option Severity → Option Source → Cause →
     List ℕ → Type 0
 AreCauses rows s blank happen outer inherited c text =
-    (a : Answers) × AreCauseAnswers (layout_settings s) blank inherited c a
+    (a : Answers) × AreCauseAnswers (snippet_settings s) blank inherited c a
     × happen (cause_calls s.context s.nested inherited c a)
     × (text ≡ causes_text rows s outer inherited c a)
 
@@ -42,7 +42,7 @@ AreCauses rows s blank happen outer inherited c text =
 abbrev pub AreRelated : SnippetRows → Settings → Bool → (List Call → Type 0) → Option Severity → Option Source →
     Trees → List ℕ → Type 0
 AreRelated rows s blank happen outer inherited ts text =
-    (more : RelatedAnswers) × AreRelatedAnswers (layout_settings s) blank inherited ts more
+    (more : RelatedAnswers) × AreRelatedAnswers (snippet_settings s) blank inherited ts more
     × happen (related_calls s.context s.nested inherited ts more)
     × (text ≡ related_text rows s outer inherited ts more)
 
@@ -50,8 +50,8 @@ AreRelated rows s blank happen outer inherited ts text =
 -- reports
 abbrev pub IsBelow : SnippetRows → Settings → Bool → (List Call → Type 0) → Option Source → Tree → List ℕ → Type 0
 IsBelow rows s blank happen source t text =
-    (a : Answer) × (more : RelatedAnswers) × IsAnswer (layout_settings s) blank source (head t) a
-    × AreRelatedAnswers (layout_settings s) blank source (related_of t) more
+    (a : Answer) × (more : RelatedAnswers) × IsAnswer (snippet_settings s) blank source (head t) a
+    × AreRelatedAnswers (snippet_settings s) blank source (related_of t) more
     × happen (own_calls s.context source (head t) a ++ related_calls s.context s.nested source (related_of t) more)
     × (text ≡ rows_text (rows s source (given_labels (head t).labels) a) ++ help_text s (head t).help
     ++ related_text rows s (head t).severity source (related_of t) more)
@@ -59,17 +59,17 @@ IsBelow rows s blank happen source t text =
 -- a tree as an inner report, over its effective source
 abbrev pub IsInner : SnippetRows → Settings → Bool → (List Call → Type 0) → Option Source → Tree → List ℕ → Type 0
 IsInner rows s blank happen source (tree m own c r) text =
-    (a : Answer) × (more : RelatedAnswers) × IsAnswer (layout_settings s) blank source m a
-    × AreRelatedAnswers (layout_settings s) blank source r more
+    (a : Answer) × (more : RelatedAnswers) × IsAnswer (snippet_settings s) blank source m a
+    × AreRelatedAnswers (snippet_settings s) blank source r more
     × happen (own_calls s.context source m a ++ related_calls s.context s.nested source r more)
     × (text ≡ inner_text rows s m source a (related_text rows s m.severity source r more))
 
 -- a related tree as a sibling
 abbrev pub IsSibling : SnippetRows → Settings → Bool → (List Call → Type 0) → Option Source → Tree → List ℕ → Type 0
 IsSibling rows s blank happen source (tree m own c r) text =
-    (a : Answer) × (below : Answers) × (more : RelatedAnswers) × IsAnswer (layout_settings s) blank source m a
-    × AreCauseAnswers (layout_settings s) blank source c below
-    × AreRelatedAnswers (layout_settings s) blank source r more
+    (a : Answer) × (below : Answers) × (more : RelatedAnswers) × IsAnswer (snippet_settings s) blank source m a
+    × AreCauseAnswers (snippet_settings s) blank source c below
+    × AreRelatedAnswers (snippet_settings s) blank source r more
     × happen (cause_calls s.context s.nested source c below
     ++ (own_calls s.context source m a ++ related_calls s.context s.nested source r more))
     × (text ≡ title_text s m ++ body rows s m source a (causes_text rows s m.severity source c below)

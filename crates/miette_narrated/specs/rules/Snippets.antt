@@ -29,7 +29,7 @@ snippets_of context source labels [] = []
 snippets_of context source labels (group ∷ groups) =
     snippet labels (contents context source group) ++ snippets_of context source labels groups
 
--- the snippets of labels over a source, where these reads of groups fail: labels by offset, in the groups of the layout
+-- the snippets of labels over a source, where these reads of groups fail: labels by offset, in the groups of pictures
 abbrev pub snippets : ℕ → Source → List Bool → List Label → List ℕ
 snippets context source fails labels =
     snippets_of (group_context context (in_order labels)) source

@@ -8,7 +8,7 @@ use Rattle.miette_newlines.specs.views.Walking.{line_of_text}
 use Rattle.miette_narrated.specs.declared.snippet_line.ShownLine.{ShownLine}
 use Rattle.miette_narrated.specs.rules.Labels.{LabelRange, SnippetLine}
 
--- a label that the layout has placed, with the text that it has among these labels
+-- a label that has been placed, with the text that it has among these labels
 abbrev pub range_of : List Label → PlacedLabel → LabelRange
 range_of labels p = record { start = p.start; after = p.after; text = text_at labels p.index }
 

@@ -17,7 +17,7 @@ use Rattle.miette_graphical.specs.rules.Settings.{Settings}
 use Rattle.miette_graphical.specs.laws.Headline.{EndsAreDrawn, LabelsAreFolded, LinesAreShown, MarksAreApart, TextsHang, SnippetHangs, drawn_labels, groups_of, group_settings, labels_under, shown_lines, CutsAreExact, LinesThatFitStay, SnippetStays, cells_under, line_of}
 use Rattle.miette_tree.specs.rules.DiagnosticParts.{given_labels}
 use Rattle.miette_graphical.specs.rules.PrintedDiagnostics.{diagnostics_of}
-use Rattle.miette_graphical.specs.rules.Snippets.{drawn_rows, layout_settings, shown_rows}
+use Rattle.miette_graphical.specs.rules.Snippets.{drawn_rows, snippet_settings, shown_rows}
 use Rattle.miette_lines.specs.rules.Answers.{Answers}
 use Rattle.miette_snippets.specs.rules.SnippetLayout.{snippet_rows}
 use Rattle.miette_graphical.proofs.DrawnRows.{none_listed}
@@ -49,17 +49,17 @@ if_is P (Some x) f = f x refl
 
 -- the rows with labels folded to so many lines, in which nothing is left out
 short_rows : (limit : ℕ) (s : Settings) (source : Source) (labels : List Label) (answers : Answers) → s.label_lines ≡ Some limit →
-    snippet_rows (record (layout_settings s) { label_lines = Some limit }) source labels answers ≡ snippet_rows (record (layout_settings s) { label_lines = None }) source labels answers →
+    snippet_rows (record (snippet_settings s) { label_lines = Some limit }) source labels answers ≡ snippet_rows (record (snippet_settings s) { label_lines = None }) source labels answers →
     drawn_rows s (Some source) labels answers ≡ drawn_rows (record s { label_lines = None }) (Some source) labels answers
 short_rows limit s source labels answers e h =
-    ap (λ o. shown_rows (snippet_rows (record (layout_settings s) { label_lines = o }) source labels answers)) e ∙ ap shown_rows h
+    ap (λ o. shown_rows (snippet_rows (record (snippet_settings s) { label_lines = o }) source labels answers)) e ∙ ap shown_rows h
 
 pub returns-clause-lines : goal.returns-clause-lines
 returns-clause-lines c = λ s t. each (LinesAreShown s) (λ p.
     let labels = given_labels p.meaning.labels in
     if_some _ (λ source reads accepted context.
     let maximal = c.ranges_are_maximal.ensures (shown_lines s source labels) in record {
-      rows = λ pieces. ap (λ rows. shown_rows rows) (c.snippets_draw_ranges.ensures (layout_settings s) source labels (pieces_listed pieces) context accepted (none_listed pieces));
+      rows = λ pieces. ap (λ rows. shown_rows rows) (c.snippets_draw_ranges.ensures (snippet_settings s) source labels (pieces_listed pieces) context accepted (none_listed pieces));
       groups = c.groups_are_ranges.ensures s.context source [] labels context tt;
       whole = maximal.0;
       consecutive = maximal.1;
@@ -69,15 +69,15 @@ returns-clause-lines c = λ s t. each (LinesAreShown s) (λ p.
 pub returns-clause-marks : goal.returns-clause-marks
 returns-clause-marks c = λ s t. each (MarksAreApart s) (λ p.
     if_some _ (λ source k. record {
-      apart = c.marks_are_apart.ensures.row (layout_settings s) (drawn_labels s source (given_labels p.meaning.labels)) source.bytes (line_of source k);
-      anchors = c.marks_are_apart.ensures.row_anchors (layout_settings s) (drawn_labels s source (given_labels p.meaning.labels)) source.bytes (line_of source k);
+      apart = c.marks_are_apart.ensures.row (snippet_settings s) (drawn_labels s source (given_labels p.meaning.labels)) source.bytes (line_of source k);
+      anchors = c.marks_are_apart.ensures.row_anchors (snippet_settings s) (drawn_labels s source (given_labels p.meaning.labels)) source.bytes (line_of source k);
     }) p.source) (diagnostics_of s t)
 
 pub returns-clause-cuts : goal.returns-clause-cuts
 returns-clause-cuts c = λ s t. each (CutsAreExact s) (λ p.
     let labels = given_labels p.meaning.labels in
     if_some _ (λ source k limit cut some is.
-    let lay = layout_settings s in
+    let lay = snippet_settings s in
     let cells = cells_under s source k in
     let own = line_marks (line_of source k) cells (labels_under s source labels k) in
     let whole : cut ≡ stretches (is_near limit (ends own)) false cells = cut_whole lay.line_columns limit own cells cut some is in record {
@@ -106,7 +106,7 @@ returns-clause-ends c = λ s t. each (EndsAreDrawn s) (λ p.
     let labels = given_labels p.meaning.labels in
     if_some _ (λ source on shows. record {
       lines = c.ends_are_drawn.ensures.lines (group_settings s labels) source.bytes (in_order labels) on shows;
-      marks = λ k pieces. c.ends_are_drawn.ensures.row (layout_settings s) (drawn_labels s source labels) source.bytes (line_of source k) pieces;
+      marks = λ k pieces. c.ends_are_drawn.ensures.row (snippet_settings s) (drawn_labels s source labels) source.bytes (line_of source k) pieces;
     }) p.source) (diagnostics_of s t)
 
 pub returns-clause-folds : goal.returns-clause-folds
@@ -117,5 +117,5 @@ returns-clause-folds c = λ s t. each (LabelsAreFolded s) (λ p.
       inside = λ k. c.left_out_lines_are_inside.ensures.inside _ _ limit s.context source.bytes labels k context;
       same = λ k. c.left_out_lines_are_inside.ensures.same _ _ limit s.context source.bytes labels k context;
       short = λ fit pieces. short_rows limit s source labels (pieces_listed pieces) is
-          (c.short_labels_stay.ensures (layout_settings s) limit source labels (pieces_listed pieces) context accepted (none_listed pieces) fit);
+          (c.short_labels_stay.ensures (snippet_settings s) limit source labels (pieces_listed pieces) context accepted (none_listed pieces) fit);
     })) p.source) (diagnostics_of s t)
