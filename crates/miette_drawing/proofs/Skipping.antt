@@ -15,7 +15,7 @@ use Rattle.miette_snippets.specs.rules.SnippetLayout.{line_or_break, left_out}
 use Rattle.miette_folds.specs.declared.folds.LineStart.{LineStart}
 use Rattle.miette_drawing.specs.views.SnippetRows.{cells_in, text_in, texts_in, lent_rows}
 use Rattle.miette_drawing.proofs.Lending.{AreLinedBefore, AreLined}
-use Rattle.miette_folds.proofs.Running.{IsBetween}
+use Rattle.miette_folds.proofs.Passing.{IsBetween}
 use Rattle.miette_folds.proofs.Starts.{Begins, RunOf, run_of}
 
 -- lines with numbers from this one on are left out

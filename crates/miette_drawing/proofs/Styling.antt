@@ -25,10 +25,6 @@ cut_pieces blank text ps h n = record {
   none = λ b. ap (map highlight_of) (n b);
 }
 
--- there are none
-pub no_pieces : (blank : Bool) (text : List ℕ) (ps : List Piece) → ps ≡ [] → ArePieces blank text (map highlight_of ps)
-no_pieces blank text ps e = record { cut = λ some. absurd (some (ap (map highlight_of) e)); none = λ b. ap (map highlight_of) e }
-
 -- rows of lines that are left plain
 rows_plain : (out : ℕ → Line → Bool) (gap : Bool) (s : SnippetSettings) (w columns : ℕ) (labels : List DrawnLabel) (source : List ℕ) (number : ℕ) (pieces : List (List Highlight)) (ls : List Line) → EachHasPieces true (texts_of source ls) pieces →
     rows_of_lines out gap s w columns labels source number pieces ls ≡ rows_of_lines out gap s w columns labels source number [] ls

@@ -27,7 +27,7 @@ use std::alloc::AllocError;
 pub struct Frame<'a> {
     /// The characters and styles.
     pub theme: &'a GraphicalTheme,
-    /// Whether the frame shows where its primary label begins.
+    /// How snippets are laid out.
     pub options: LayoutOptions,
     /// The columns of the line numbers.
     pub number_width: usize,

@@ -16,7 +16,7 @@ pub(crate) type Outcome = Result<(), AllocError>;
 pub(crate) struct Sheet<'a> {
     /// The characters and styles.
     pub(crate) theme: &'a GraphicalTheme,
-    /// The width of tabs.
+    /// How snippets are laid out.
     pub(crate) options: LayoutOptions,
     /// The columns of the line numbers.
     pub(crate) number_width: usize,

@@ -11,14 +11,14 @@
 //!
 //! The steps, in order:
 //!
-//! 1. `push_snippet` brings the sweep over the labels to the snippet's first line.
+//! 1. `push_snippet` brings the sweep over the labels to the snippet's first line, and restarts the highlighter.
 //! 2. `push_framed` counts lines and the widest gutter (`miette_folds::extent`), and puts the frame around
 //!    (`frame.rt`).
 //! 3. `push_lines` goes on line by line: which labels lie on it (the sweep), a highlighter's pieces, whether it is left
 //!    out inside a folded label (`miette_folds::folds`). Those left out behind such a line are passed over at once,
-//!    where no highlighter is to be asked for them (`miette_folds::runs`).
+//!    where no highlighter is to be asked for them (`miette_folds::gaps`).
 //! 4. `push_line_or_break` (`line.rt`) puts the rows of a line: its number row over the gutter
-//!    (`gutters.rt`), the marks and their leaders (`strokes.rt`), the texts (`texts.rt`), and the
+//!    (`gutters.rt`), the marks (`strokes.rt`), the texts with their leaders (`texts.rt`), and the
 //!    texts of labels that end there (`closings.rt`). Where a line's marks stand, and what is shown
 //!    of its text, says `miette_cuts`: a line that is too wide is cut into stretches, by whose
 //!    columns its marks then stand.
@@ -43,7 +43,7 @@ use crate::sheet::{Outcome, Sheet, ShownLine};
 use itoa::Buffer;
 use miette_folds::extent::extent_of;
 use miette_folds::folds::{Fold, Spread, folds_in, leaves_out};
-use miette_folds::runs::{enter_line, next_start, pass_over};
+use miette_folds::gaps::{enter_line, next_start, pass_over};
 use miette_highlight::highlight::Highlighter;
 use miette_lines::line_sweep::line_at;
 use miette_lines::sweep::{Bounds, PlacedLabel, Sweep, advance};
@@ -158,7 +158,7 @@ fn seek(alloc: Global, labels: &[PlacedLabel], place: usize, passage: &mut Passa
 }
 
 // The rows of a snippet's lines, in the highlighter's pieces, which is asked for those that are left out too. Where
-// there is none, a run of such lines is passed over at once.
+// there is none, a gap is passed over at once.
 fn push_lines<'a, H: Highlighter, O: Canvas>(
     drawing: &Drawing<'a>,
     body: &Body<'a>,

@@ -1,4 +1,4 @@
--- How many lines there are, and the greatest number of labels of several lines on one, where runs of lines are passed over.
+-- How many lines there are, and the greatest number of labels of several lines on one, where gaps are passed over.
 use Rattle.std.proofs.Common.{ℕ, zero, suc, ◌+◌, ◌-◌, ◌<◌, ◌≤◌, ◌≡◌, max, Bool, true, false, cond, not, ◌&&◌, ltb, List, [], ◌∷◌, ◌++◌, length, get_or, drop, ⊎_elim, refl, sym, ap, ◌∙◌, subst, arith}
 use Rattle.std.specs.List.{AllByRecursion, filter}
 use Rattle.std.proofs.lemmas.Bool.{cases_lt, lt-ltb, ltb-true, ltb-false}
@@ -18,12 +18,12 @@ use Rattle.miette_lines.proofs.Swept.{earlier_multi, inside_past, later_none}
 use Rattle.miette_folds.specs.declared.folds.Fold.{Fold}
 use Rattle.miette_folds.specs.declared.folds.LineStart.{LineStart}
 use Rattle.miette_folds.specs.views.Folding.{AreFoldsIn}
-use Rattle.miette_folds.specs.views.Runs.{next_line, next_start}
+use Rattle.miette_folds.specs.views.Gaps.{next_line, next_start}
 use Rattle.miette_folds.specs.steps.Counting.{begins_before, next_counted}
-use Rattle.miette_folds.proofs.Running.{next_begins, next_further}
+use Rattle.miette_folds.proofs.Passing.{next_begins, next_further}
 use Rattle.miette_folds.proofs.Starts.{Begins, RunOf, begins_first, begins_next, run_of}
 
--- ---- the labels on a later line of a run
+-- ---- the labels on a later line of a gap
 
 -- a label that begins before a line's end, and lies on a later line with others, goes on past that end
 past_first : (line later : Line) (p : PlacedLabel) → line.end ≤ later.start → later.start < later.end → p.start < line.end → is_multi later p ≡ true → passes line.end p ≡ true
@@ -62,7 +62,7 @@ fewer : (p q : PlacedLabel → Bool) (xs : List PlacedLabel) → ((k : ℕ) → 
 fewer p q [] h = omega arith
 fewer p q (x ∷ xs) h = fewer_step (p x) (q x) x (filter p xs) (filter q xs) (h 0 (omega arith)) (fewer p q xs (λ k lt. h (suc k) (omega (arith, lt))))
 
--- no more labels lie on a line of a run than on the line before it, where none begins in the run
+-- no more labels lie on a line of a gap than on the line before it, where none begins in the gap
 few_on : (labels : List PlacedLabel) (line later : Line) (next to : ℕ) → AreSorted labels → line.start < line.end → line.end ≤ later.start → later.start < later.end → later.end ≤ to →
     ((k : ℕ) → k < next → start_at labels k < line.end) → ((k : ℕ) → next ≤ k → k < length labels → to ≤ start_at labels k) →
     length (filter (is_multi later) labels) ≤ length (filter (is_multi line) labels)
@@ -111,7 +111,7 @@ counted_first labels start bytes next running at =
       state = subst (λ (n : ℕ). IsAt labels n next running) sums at;
     }
 
--- none of the labels begins in a run that is passed over
+-- none of the labels begins in a gap that is passed over
 clear_of : (labels : List PlacedLabel) (first offset : ℕ) → AreSorted labels → begins_before labels first offset ≡ false → (k : ℕ) → first ≤ k → k < length labels → offset ≤ start_at labels k
 clear_of labels first offset sorted clear k le lt =
     let inside : ltb first (length labels) ≡ true = lt-ltb first (length labels) (omega (arith, le, lt)) in
@@ -127,7 +127,7 @@ turned false false h = refl
 max_turned : (a b c : ℕ) → max (max a b) c ≡ max b (max a c)
 max_turned a b c = omega arith
 
--- the greatest number behind a run
+-- the greatest number behind a gap
 most_behind : (labels : List PlacedLabel) (start : ℕ) (bytes : List ℕ) (line : Line) (next most : ℕ) (near far : LineStart) (jumps : Bool) → AreSorted labels → line.start < line.end → near.offset ≡ line.end →
     ((k : ℕ) → k < next → start_at labels k < line.end) → length (filter (is_multi line) labels) ≤ most → (jumps ≡ false → far ≡ near) → (jumps ≡ true → (k : ℕ) → next ≤ k → k < length labels → far.offset ≤ start_at labels k) →
     Begins start bytes near.offset near.place → Begins start bytes far.offset far.place → near.offset ≤ far.offset →

@@ -2,6 +2,6 @@ pub mod Extending
 pub mod Folding
 pub mod Numbering
 pub mod Reaching
-pub mod Running
+pub mod Passing
 pub mod Spreading
 pub mod Starts

@@ -6,7 +6,7 @@ use Rattle.std.proofs.lemmas.List.{drop-drop, drop-take, get_or-drop, get_or_pas
 use Rattle.std.proofs.lemmas.List.Sums.{sum_by-cons}
 use Rattle.miette_newlines.specs.rules.Lines.{Line, LF, CR, ends_line, is_terminated, lines_from, line_of, line_end}
 use Rattle.miette_newlines.proofs.Scans.{ends_before, ends_by, ends_count, ends_count-lines_from}
-use Rattle.miette_newlines.proofs.Places.{line_of-is, line_of_no, line_of_end, line_end_past, line_start_next, line_start_le}
+use Rattle.miette_newlines.proofs.Places.{line_of-is, line_of_no, line_of_end, line_end_past, line_start_next, line_start_le, ends_by_none, ends_by_one}
 use Rattle.miette_snippets.specs.rules.Folds.{place_among}
 
 -- ---- terminators of a part
@@ -126,24 +126,14 @@ rest_line bs from to o at rest low high within w here is =
 
 -- ---- the place of an offset among the lines of a part
 
-none_by : (x t : Bool) (n : ℕ) → t ≡ false → n ≡ 0 → cond x (cond t 1 0 + n) n ≡ 0
-none_by true true n e f = cc
-none_by true false n e f = omega (arith, f)
-none_by false t n e f = f
-
-one_by : (x t : Bool) (n m : ℕ) → t ≡ true → n ≡ m → cond x (cond t 1 0 + n) n ≡ cond x (suc m) m
-one_by true true n m e f = omega (arith, f)
-one_by true false n m e f = cc
-one_by false t n m e f = f
-
 ends_by_place : (o at : ℕ) (bs : List ℕ) (j : ℕ) → j ≡ o - at → ends_by (λ e. nat_le e o) at bs ≡ ends_before j bs
 ends_by_place o at [] zero e = refl
 ends_by_place o at [] (suc j) e = refl
 ends_by_place o at (b ∷ bs) zero e =
-    none_by (ends_line b (slice_index bs 0)) (nat_le (at + 1) o) (ends_by (λ e. nat_le e o) (at + 1) bs)
+    ends_by_none (ends_line b (slice_index bs 0)) (nat_le (at + 1) o) (ends_by (λ e. nat_le e o) (at + 1) bs)
     (lt-leb (at + 1) o (omega (arith, e))) (ends_by_place o (at + 1) bs zero (omega (arith, e)))
 ends_by_place o at (b ∷ bs) (suc j) e =
-    one_by (ends_line b (slice_index bs 0)) (nat_le (at + 1) o) (ends_by (λ e. nat_le e o) (at + 1) bs) (ends_before j bs)
+    ends_by_one (ends_line b (slice_index bs 0)) (nat_le (at + 1) o) (ends_by (λ e. nat_le e o) (at + 1) bs) (ends_before j bs)
     (le-leb (at + 1) o (omega (arith, e))) (ends_by_place o (at + 1) bs j (omega (arith, e)))
 
 place_is : (at : ℕ) (bs : List ℕ) (o : ℕ) → place_among (lines_from at bs) o ≡ ends_before (o - at) bs

@@ -6,7 +6,7 @@ use Rattle.miette_newlines.specs.rules.Lines.{LF, CR, is_terminated, lines_from,
 use Rattle.miette_newlines.proofs.Places.{line_of_mono, line_of_start_before, line_start_le, line_end_le, line_end_after, terminators_in-line_of}
 use Rattle.miette_protocol.specs.views.Meaning.{Label}
 use Rattle.miette_protocol.specs.rules.Reading.{Span, Source, Contents, IsAccepted, span_end, splits_crlf, reading_end, data_start, data_end}
-use Rattle.miette_protocol.proofs.Wholes.{offset-le-reading}
+use Rattle.miette_protocol.proofs.Wholes.{offset-le-reading, before_le, after_ge}
 use Rattle.miette_lines.specs.declared.reading.ReadLabel.{ReadLabel}
 use Rattle.miette_lines.specs.rules.Around.{lines_around}
 use Rattle.miette_lines.specs.rules.Contexts.{end_of_span, contents, lines_of_contents}
@@ -23,17 +23,9 @@ use Rattle.miette_folds.proofs.Numbering.{IsWhole, both, past_whole, line_whole,
 
 -- ---- where the data of a read begin and end
 
-le_both : (x : Bool) (a b m : ℕ) → a ≤ m → b ≤ m → cond x a b ≤ m
-le_both true a b m h g = h
-le_both false a b m h g = g
-
-ge_both : (x : Bool) (a b m : ℕ) → m ≤ a → m ≤ b → m ≤ cond x a b
-ge_both true a b m h g = h
-ge_both false a b m h g = g
-
 begins : (bytes : List ℕ) (span : Span) (c : ℕ) → data_start bytes span c ≤ span.offset
 begins bytes span c =
-    le_both (c == 0) span.offset (line_start bytes (line_of bytes span.offset - c)) span.offset (omega arith)
+    before_le (c == 0) span.offset (line_start bytes (line_of bytes span.offset - c)) span.offset (omega arith)
     (line_start_le bytes (line_of bytes span.offset - c) span.offset (omega arith))
 
 begins_with : (bytes : List ℕ) (span : Span) (c : ℕ) → 1 ≤ c → line_of bytes span.offset - c ≡ line_of bytes (data_start bytes span c)
@@ -47,12 +39,12 @@ ends : (bytes : List ℕ) (span : Span) (c : ℕ) → IsAccepted bytes span → 
 ends bytes span c ok =
     let r : ℕ = reading_end bytes span in
     let reach : span.offset ≤ r = offset-le-reading bytes span in
-    ge_both (c == 0) (min (length bytes) r) (line_end bytes (line_of bytes r + c)) span.offset (omega (arith, ok.begins, reach))
+    after_ge (c == 0) (min (length bytes) r) (line_end bytes (line_of bytes r + c)) span.offset (omega (arith, ok.begins, reach))
     (line_end_after bytes span.offset (line_of bytes r + c) ok.begins (omega (arith, line_of_mono bytes span.offset r reach)))
 
 ends_in : (bytes : List ℕ) (span : Span) (c : ℕ) → data_end bytes span c ≤ length bytes
 ends_in bytes span c =
-    le_both (c == 0) (min (length bytes) (reading_end bytes span)) (line_end bytes (line_of bytes (reading_end bytes span) + c)) (length bytes)
+    before_le (c == 0) (min (length bytes) (reading_end bytes span)) (line_end bytes (line_of bytes (reading_end bytes span) + c)) (length bytes)
     (omega arith) (line_end_le bytes (line_of bytes (reading_end bytes span) + c))
 
 -- ---- a read parts no CRLF at its end

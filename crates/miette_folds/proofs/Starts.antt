@@ -17,7 +17,7 @@ use Rattle.miette_lines.proofs.Bridge.{lines_same}
 use Rattle.miette_snippets.specs.rules.Folds.{place_among}
 use Rattle.miette_folds.specs.declared.folds.LineStart.{LineStart}
 use Rattle.miette_folds.specs.views.Folding.{start_in}
-use Rattle.miette_folds.specs.views.Runs.{nearer, further}
+use Rattle.miette_folds.specs.views.Gaps.{nearer, further}
 
 -- ---- places of offsets
 

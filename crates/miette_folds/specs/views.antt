@@ -1,5 +1,5 @@
 -- What the code's values stand for.
 pub mod Folding
 pub mod ReadSpreads
-pub mod Runs
+pub mod Gaps
 pub mod Spreads

@@ -9,11 +9,20 @@ ghost use Rattle.miette_lines.specs.views.LabelCounts.{most_multi};
 ghost use Rattle.miette_folds.specs.views.Folding.{AreFoldsIn};
 
 use crate::folds::{Fold, LineStart};
-use crate::runs::{enter_line, next_start, pass_over};
-use miette_lines::line_sweep::{Extent, line_at};
+use crate::gaps::{enter_line, next_start, pass_over};
+use miette_lines::line_sweep::line_at;
 use miette_lines::sweep::{PlacedLabel, Sweep};
 use miette_newlines::lines::LineOfText;
 use std::alloc::AllocError;
+
+/// How many lines there are, and the greatest number of labels of several lines on one of them.
+#[derive(Clone, Copy, Debug, PartialEq, Eq, Drop)]
+pub struct Extent {
+    /// How many lines there are.
+    pub lines: usize,
+    /// The greatest number of labels of several lines on one of them.
+    pub most: usize,
+}
 
 // Whether a label begins before an offset, of those from this one on.
 fn begins_before(labels: &[PlacedLabel], first: usize, offset: usize) -> bool

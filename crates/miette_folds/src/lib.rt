@@ -1,7 +1,7 @@
-//! Labels as they may be folded: the lines that they run over, and the runs of lines that are left out inside them.
+//! Labels as they may be folded: the lines that they run over, and the gaps inside them, whose lines are left out.
 #![tactic(auto)]
 
 pub mod extent;
 pub mod folds;
-pub mod runs;
+pub mod gaps;
 pub mod spreads;

@@ -15,8 +15,8 @@ use Rattle.miette_lines.specs.declared.primary.Place.{Place as Found}
 use Rattle.miette_lines.specs.declared.reading.ReadLabel.{ReadLabel}
 use Rattle.miette_lines.specs.declared.reading.ReadLabels.{ReadLabels}
 use Rattle.miette_lines.specs.declared.reading.ReadLabels.TheVariants as reads
-use Rattle.miette_lines.specs.declared.reading.Refusal.{Refusal}
-use Rattle.miette_lines.specs.declared.reading.Refusal.TheVariants as reasons
+use Rattle.miette_lines.specs.declared.reading.RefusalReason.{RefusalReason}
+use Rattle.miette_lines.specs.declared.reading.RefusalReason.TheVariants as reasons
 use Rattle.miette_lines.specs.declared.sweep.PlacedLabel.{PlacedLabel}
 use Rattle.miette_page.specs.rules.Rows.{Row}
 use Rattle.miette_lines.specs.rules.Answers.{Answers, Highlight, first_of}
@@ -264,13 +264,13 @@ place_ordered context source labels own group reads found which order h p u =
     place_is context source labels own group reads found (which ∙ sym (own_ordered labels) ∙ ap has_own (sym order)) h p u ∙ ap (place_of source group) order
 
 -- the characters of a reason's name
-named : (reason : Refusal) → chars (name_of reason) ≡ name_of reason
+named : (reason : RefusalReason) → chars (name_of reason) ≡ name_of reason
 unfolding chars
 named reasons.IoError = refl
 named reasons.OutOfBounds = refl
 
 -- a label is refused
-pub gives_refused : (s : SnippetSettings) (source : Source) (labels order : List Label) (blank : Bool) (happen : List Call → Type 0) (read : ReadLabels) (index : ℕ) (reason : Refusal) (label : Label) (text : List ℕ) (before page : Printout) →
+pub gives_refused : (s : SnippetSettings) (source : Source) (labels order : List Label) (blank : Bool) (happen : List Call → Type 0) (read : ReadLabels) (index : ℕ) (reason : RefusalReason) (label : Label) (text : List ℕ) (before page : Printout) →
     AreRead s.context source labels order read → read ≡ reads.Refused index reason → order ≡ in_order labels → label ≡ get_or labels index label → text ≡ name_of reason →
     page ≡ before ⊕ rows_tokens (refused_row s (record { label = label; name = chars text }) ∷ []) → happen [] → MayGive s source labels blank happen before (Some page)
 gives_refused s source labels order blank happen read index reason label text before page h is same at called e nothing =

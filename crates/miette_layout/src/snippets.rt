@@ -18,7 +18,7 @@ use miette_lines::drawn_labels::{placed_labels, told_end};
 use miette_lines::grouping::groups;
 use miette_lines::order::by_offset;
 use miette_lines::primary::{near, place_of};
-use miette_lines::reading::{ReadLabel, ReadLabels, Refusal, read_labels, some_own};
+use miette_lines::reading::{ReadLabel, ReadLabels, RefusalReason, read_labels, some_own};
 use miette_lines::sweep::Sweep;
 use miette_page::canvas::Canvas;
 use miette_page::page::Page;
@@ -29,12 +29,12 @@ use miette_snippets::options::Look;
 use std::alloc::AllocError;
 
 // The bare name of a reason.
-fn name_of(refusal: Refusal) -> &'static str
+fn name_of(refusal: RefusalReason) -> &'static str
     ensures { result.now ≡ name_of_reason refusal }
 {
     match refusal {
-        Refusal::IoError => "IoError",
-        Refusal::OutOfBounds => "OutOfBounds",
+        RefusalReason::IoError => "IoError",
+        RefusalReason::OutOfBounds => "OutOfBounds",
     }
 }
 

@@ -12,7 +12,7 @@ use Rattle.miette_protocol.specs.declared.error.MietteError.TheVariants as error
 use Rattle.miette_lines.specs.declared.order.Turn.{Turn}
 use Rattle.miette_lines.specs.declared.reading.ReadLabel.{ReadLabel}
 use Rattle.miette_lines.specs.declared.reading.ReadLabels.TheVariants as reads
-use Rattle.miette_lines.specs.declared.reading.Refusal.{Refusal}
+use Rattle.miette_lines.specs.declared.reading.RefusalReason.{RefusalReason}
 use Rattle.miette_lines.specs.rules.Around.{has_own, contents_around}
 use Rattle.miette_lines.specs.rules.Contexts.{contents}
 use Rattle.miette_lines.specs.views.GivenLabels.{label_at}
@@ -110,7 +110,7 @@ parted_at labels order i d front lt e =
     ∙ ap (λ x. x ++ turn_of labels (get_or order i d) ∷ drop (i + 1) (map (turn_of labels) order)) (sym e)
 
 -- the label that is refused, as the loop finds it
-refused_by : (context : ℕ) (source : Source) (labels : List Label) (order : List Turn) (i : ℕ) (read : List ReadLabel) (d : Turn) (e : MietteError) (reason : Refusal) →
+refused_by : (context : ℕ) (source : Source) (labels : List Label) (order : List Turn) (i : ℕ) (read : List ReadLabel) (d : Turn) (e : MietteError) (reason : RefusalReason) →
     AreReadTo context source labels order i read → i < length order → (get_or order i d).index < length labels → Refuses source (turn_of labels (get_or order i d)).span e → Reason e reason →
     AreRead context source labels (map (turn_of labels) order) (reads.Refused (get_or order i d).index reason)
 refused_by context source labels order i read d (errors.IoError x) reason h lt inside refuses why =
@@ -135,7 +135,7 @@ refused_by context source labels order i read d errors.OutOfBounds reason h lt i
       inside,
     )
 
-pub refused_here : (context : ℕ) (source : Source) (labels : List Label) (order : List Turn) (i : ℕ) (read : List ReadLabel) (d : Turn) (label : Label) (span : Span) (e : MietteError) (reason : Refusal) →
+pub refused_here : (context : ℕ) (source : Source) (labels : List Label) (order : List Turn) (i : ℕ) (read : List ReadLabel) (d : Turn) (label : Label) (span : Span) (e : MietteError) (reason : RefusalReason) →
     AreReadTo context source labels order i read → i < length order → (get_or order i d).index < length labels → label ≡ get_or labels (get_or order i d).index label → span ≡ label.span →
     Refuses source span e → Reason e reason →
     AreRead context source labels (map (turn_of labels) order) (reads.Refused (get_or order i d).index reason)

@@ -2,6 +2,7 @@
 use Rattle.std.proofs.Common.{ℕ, zero, suc, ◌+◌, ◌<◌, ◌≡◌, Bool, true, false, cond, eqb, List, [], ◌∷◌, length, drop, refl, sym, ap, ◌∙◌, arith}
 use Rattle.std.proofs.Math.Seq.{drop-nil}
 use Rattle.miette_newlines.specs.rules.Lines.{Line}
+use Rattle.miette_newlines.proofs.Only.{made}
 use Rattle.miette_lines.proofs.Sources.{begins_with_lf, with_text, with_cr, lines_from}
 use Rattle.miette_lines.proofs.Numbers.{by_cases}
 
@@ -13,9 +14,6 @@ first_text (byte ∷ bytes) = cond (eqb byte 10) 0 (cond (eqb byte 13) 0 (suc (f
 abbrev pub first_size : List ℕ → ℕ
 first_size [] = 0
 first_size (byte ∷ bytes) = cond (eqb byte 10) 1 (cond (eqb byte 13) (cond (begins_with_lf bytes) 2 1) (suc (first_size bytes)))
-
-abbrev pub made : ℕ → ℕ → ℕ → Line
-made at text_end end = record { start = at; text_end = text_end; end = end }
 
 abbrev pub IsParted : ℕ → List ℕ → Type 0
 IsParted at bytes = lines_from at bytes ≡ made at (at + first_text bytes) (at + first_size bytes) ∷ lines_from (at + first_size bytes) (drop (first_size bytes) bytes)

@@ -1,8 +1,9 @@
 -- Lines, places and reads in the forms that the proofs go by: recursions over bytes and over lists of lines. `Bridge` joins them to the words of miette_protocol.
 use Rattle.std.specs.Prelude.{ℕ, zero, suc, ◌+◌, ◌-◌, ◌<◌, ◌≤◌, max, ◌≡◌, List, [], ◌∷◌, length, slice_index, Bool, false, ◌&&◌, if◌then◌else◌, nat_lt, nat_le, ◌==◌}
 use Rattle.std.specs.List.{range_with_len, filter}
-use Rattle.miette_newlines.specs.rules.Lines.{Line}
+use Rattle.miette_newlines.specs.rules.Lines.{Line, is_terminated}
 use Rattle.miette_protocol.specs.rules.Reading.{Span}
+use Rattle.miette_lines.specs.rules.Contexts.{end_of_span}
 
 abbrev pub begins_with_lf : List ℕ → Bool
 begins_with_lf [] = false
@@ -36,18 +37,15 @@ abbrev pub IsCut : ℕ → ℕ → List Line → Type 0
 IsCut at n [] = at ≡ n
 IsCut at n (l ∷ ls) = (l.start ≡ at) × (at ≤ l.text_end) × (l.text_end ≤ l.end) × (at < l.end) × (l.end < n → l.text_end < l.end) × IsCut l.end n ls
 
-abbrev pub is_ended : Line → Bool
-is_ended l = nat_lt l.text_end l.end
-
 -- the line of an offset: how many lines with a terminator end there or before
 abbrev pub line_of : List Line → ℕ → ℕ
 line_of [] offset = 0
-line_of (l ∷ ls) offset = (if nat_le l.end offset && is_ended l then 1 else 0) + line_of ls offset
+line_of (l ∷ ls) offset = (if nat_le l.end offset && is_terminated l then 1 else 0) + line_of ls offset
 
 -- how many terminators have their last byte in a range
 abbrev pub terminators_in : List Line → ℕ → ℕ → ℕ
 terminators_in [] begin end = 0
-terminators_in (l ∷ ls) begin end = (if nat_lt begin l.end && nat_le l.end end && is_ended l then 1 else 0) + terminators_in ls begin end
+terminators_in (l ∷ ls) begin end = (if nat_lt begin l.end && nat_le l.end end && is_terminated l then 1 else 0) + terminators_in ls begin end
 
 -- where line k begins, or 0 where it isn't there
 abbrev pub start_of : List Line → ℕ → ℕ
@@ -60,9 +58,6 @@ abbrev pub end_of : ℕ → List Line → ℕ → ℕ
 end_of n [] k = n
 end_of n (l ∷ ls) zero = l.end
 end_of n (l ∷ ls) (suc k) = end_of n ls k
-
-abbrev pub end_of_span : Span → ℕ
-end_of_span span = span.offset + span.len
 
 -- a CR and its LF aren't parted
 abbrev pub past_lf : List ℕ → ℕ → ℕ

@@ -7,7 +7,7 @@ use Rattle.miette_lines.specs.rules.Cells.{Cell, Character, cells_from, characte
 abbrev cell : ℕ → ℕ → ℕ → ℕ → ℕ → Cell
 cell code start after from until = record { code = code; start = start; after = after; from = from; until = until }
 
-abbrev character : Decoded → Character
+abbrev pub character : Decoded → Character
 character p = record { code = or_replacement p.char; bytes = p.size }
 
 abbrev first_and_rest : (ℕ → ℕ) → ℕ → ℕ → ℕ → List ℕ → ℕ → ℕ → ℕ → Bool → List Cell

@@ -29,7 +29,7 @@ pub struct ReadLabel<'a> {
 
 /// Why a label is refused.
 #[derive(Clone, Copy, Debug, PartialEq, Eq)]
-pub enum Refusal {
+pub enum RefusalReason {
     /// Its read failed.
     IoError,
     /// Its span isn't accepted.
@@ -42,15 +42,15 @@ pub enum ReadLabels<'a> {
     /// All labels, in the order of their reads.
     All(Vec<ReadLabel<'a>>),
     /// The first one that is refused, by its number in the list as given.
-    Refused(usize, Refusal),
+    Refused(usize, RefusalReason),
 }
 
-fn reason_of(error: &MietteError) -> Refusal
+fn reason_of(error: &MietteError) -> RefusalReason
     ensures { Reason error.now result }
 {
     match error {
-        MietteError::IoError(_) => Refusal::IoError,
-        MietteError::OutOfBounds => Refusal::OutOfBounds,
+        MietteError::IoError(_) => RefusalReason::IoError,
+        MietteError::OutOfBounds => RefusalReason::OutOfBounds,
     }
 }
 

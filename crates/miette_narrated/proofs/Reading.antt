@@ -10,7 +10,7 @@ use Rattle.miette_protocol.specs.rules.Reading.{Span, Source, IsAccepted, conten
 use Rattle.miette_lines.specs.declared.sweep.PlacedLabel.{PlacedLabel}
 use Rattle.miette_lines.specs.declared.grouping.Group.{Group}
 use Rattle.miette_lines.specs.declared.reading.ReadLabel.{ReadLabel}
-use Rattle.miette_lines.specs.declared.reading.Refusal.{Refusal}
+use Rattle.miette_lines.specs.declared.reading.RefusalReason.{RefusalReason}
 use Rattle.miette_lines.specs.declared.reading.ReadLabels.{ReadLabels}
 use Rattle.miette_lines.specs.declared.reading.ReadLabels.TheVariants as reads
 use Rattle.miette_lines.specs.rules.Answers.{NoneFails}
@@ -186,12 +186,12 @@ reads_or_nil : (b c : Bool) → (b || c) ≡ true → (b ≡ true → ⊥) → c
 reads_or_nil true c e f = absurd (f refl)
 reads_or_nil false c e f = e
 
-refused_label : (context : ℕ) (source : Source) (labels : List Label) (index : ℕ) (reason : Refusal) → AreRead context source labels (in_order labels) (reads.Refused index reason) → accepts (Some source) labels ≡ false
+refused_label : (context : ℕ) (source : Source) (labels : List Label) (index : ℕ) (reason : RefusalReason) → AreRead context source labels (in_order labels) (reads.Refused index reason) → accepts (Some source) labels ≡ false
 refused_label context source labels index reason h =
     not_both (list_all (λ l. is_accepted source.bytes l.span) labels) (is_nil labels || source.always_reads)
     (λ all reads. never_both _ _ (accepts_all source.bytes h.0 (in_order labels) (h.1 (reads_or_nil (is_nil labels) source.always_reads reads (refused_nil source.bytes h.0 _ labels h.2))) (order_all (λ l. is_accepted source.bytes l.span) labels ∙ all)) h.2)
 
-pub refused_read : (context : ℕ) (source : Source) (labels order : List Label) (r : ReadLabels) (index : ℕ) (reason : Refusal) → AreRead context source labels order r → r ≡ reads.Refused index reason → order ≡ in_order labels →
+pub refused_read : (context : ℕ) (source : Source) (labels order : List Label) (r : ReadLabels) (index : ℕ) (reason : RefusalReason) → AreRead context source labels order r → r ≡ reads.Refused index reason → order ≡ in_order labels →
     accepts (Some source) labels ≡ false
 refused_read context source labels order r index reason h is sorted =
     refused_label context source labels index reason

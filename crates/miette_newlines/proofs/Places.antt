@@ -7,12 +7,12 @@ use Rattle.miette_newlines.specs.rules.Lines.{ends_line, line_of, line_start, li
 use Rattle.miette_newlines.specs.views.Index.{IsIndex}
 use Rattle.miette_newlines.proofs.Scans.{ends_before, after, ends_by, ends_count-lines_from, ends_before-suc, ends_before_past, after_here, after_all, after_le, after_gt, after_mono, after_lt, ends_before_all, ends_before_le, end_at-lines_from, start_at-lines_from}
 
-ends_by_none : (x t : Bool) (n : ℕ) → t ≡ false → n ≡ 0 → cond x (cond t 1 0 + n) n ≡ 0
+pub ends_by_none : (x t : Bool) (n : ℕ) → t ≡ false → n ≡ 0 → cond x (cond t 1 0 + n) n ≡ 0
 ends_by_none true true n e f = cc
 ends_by_none true false n e f = omega arith
 ends_by_none false t n e f = f
 
-ends_by_one : (x t : Bool) (n m : ℕ) → t ≡ true → n ≡ m → cond x (cond t 1 0 + n) n ≡ cond x (suc m) m
+pub ends_by_one : (x t : Bool) (n m : ℕ) → t ≡ true → n ≡ m → cond x (cond t 1 0 + n) n ≡ cond x (suc m) m
 ends_by_one true true n m e f = omega arith
 ends_by_one true false n m e f = cc
 ends_by_one false t n m e f = f

@@ -122,11 +122,11 @@ numbers source span before after k h g lt =
 
 -- the data reach the end of the span, as far as there are bytes
 
-before_le : (x : Bool) (a b m : ℕ) → a ≤ m → b ≤ m → cond x a b ≤ m
+pub before_le : (x : Bool) (a b m : ℕ) → a ≤ m → b ≤ m → cond x a b ≤ m
 before_le true a b m h g = h
 before_le false a b m h g = g
 
-after_ge : (x : Bool) (a b m : ℕ) → m ≤ a → m ≤ b → m ≤ cond x a b
+pub after_ge : (x : Bool) (a b m : ℕ) → m ≤ a → m ≤ b → m ≤ cond x a b
 after_ge true a b m h g = h
 after_ge false a b m h g = g
 

@@ -13,6 +13,7 @@ use Rattle.miette_style.specs.rules.Escapes.{is_escape}
 use Rattle.miette_style.specs.rules.Escapes.{no_escape}
 use Rattle.miette_style.specs.rules.Lists.{onto}
 use Rattle.miette_lines.specs.rules.Answers.{Highlight}
+use Rattle.miette_lines.proofs.Stepping.{character}
 use Rattle.miette_snippets.specs.rules.PrintedCells.{printed_glyphs, printed_cells, cells_within, cells_beyond, line_runs, text_bytes}
 use Rattle.miette_lines.specs.rules.Cells.{Character, Cell, cells_from, characters, hides_next, width_at}
 use Rattle.miette_snippet_laws.specs.laws.Clean.{IsCleanCode, IsClean, IsCleanRow}
@@ -109,15 +110,12 @@ clean_decoded bytes h = by (decoded bytes).char refl where
   by None e = refl
   by (Some c) e = let s = SpellsChar-decoded bytes c e in spelled c bytes (drop (decoded bytes).size bytes) h s.bytes
 
-abbrev character_of : Decoded → Character
-character_of p = record { code = or_replacement p.char; bytes = p.size }
-
-clean_pieces : (fuel : ℕ) (bytes : List ℕ) → IsClean bytes → IsClean (map (λ (c : Character). c.code) (map character_of (pieces_from fuel bytes)))
+clean_pieces : (fuel : ℕ) (bytes : List ℕ) → IsClean bytes → IsClean (map (λ (c : Character). c.code) (map character (pieces_from fuel bytes)))
 unfolding pieces_from
 clean_pieces zero bytes h = refl
 clean_pieces (suc fuel) [] h = refl
 clean_pieces (suc fuel) (b ∷ bytes) h =
-    clean_cons (or_replacement (decoded (b ∷ bytes)).char) (map (λ (c : Character). c.code) (map character_of (pieces_from fuel (drop (decoded (b ∷ bytes)).size (b ∷ bytes)))))
+    clean_cons (or_replacement (decoded (b ∷ bytes)).char) (map (λ (c : Character). c.code) (map character (pieces_from fuel (drop (decoded (b ∷ bytes)).size (b ∷ bytes)))))
     (clean_decoded (b ∷ bytes) h) (clean_pieces fuel (drop (decoded (b ∷ bytes)).size (b ∷ bytes)) (clean_drop (decoded (b ∷ bytes)).size (b ∷ bytes) h))
 
 pub clean_characters : (bytes : List ℕ) → IsClean bytes → IsClean (map (λ (c : Character). c.code) (characters bytes))

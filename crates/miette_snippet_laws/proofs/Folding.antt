@@ -5,12 +5,12 @@ use Rattle.std.specs.List.{range_with_len, filter, list_any, AllByRecursion}
 use Rattle.std.proofs.lemmas.Bool.{lt-ltb, le-ltb, le-leb, lt-leb, ltb-true, ltb-false, leb-true, leb-false, cases_lt, and_parts, and_from}
 use Rattle.std.proofs.Math.Bool.{and_comm}
 use Rattle.miette_newlines.specs.rules.Lines as P
-use Rattle.miette_newlines.specs.rules.Lines.{Line, lines_of}
+use Rattle.miette_newlines.specs.rules.Lines.{Line, lines_of, is_terminated}
 use Rattle.miette_protocol.specs.views.Meaning.{Label}
 use Rattle.miette_protocol.specs.rules.Reading.{Span, Source}
 use Rattle.miette_lines.specs.rules.Around.{lines_around}
 use Rattle.miette_lines.specs.rules.Contexts as C
-use Rattle.miette_lines.specs.rules.Contexts.{contents}
+use Rattle.miette_lines.specs.rules.Contexts.{contents, end_of_span}
 use Rattle.miette_lines.specs.rules.Groups.{in_order}
 use Rattle.miette_snippets.specs.rules.Folds.{Spread, spread, spreads_of, last_byte, hides, place_among, is_around, is_near, leaves_out}
 use Rattle.miette_snippets.specs.rules.Frames.{SnippetSettings}
@@ -18,7 +18,7 @@ use Rattle.miette_snippets.specs.rules.SnippetLayout.{left_out}
 use Rattle.miette_snippets.specs.rules.Numbers.{ranges}
 use Rattle.miette_snippets.specs.rules.ShownLines.{line_at}
 use Rattle.miette_snippets.specs.rules.Snippets as N
-use Rattle.miette_lines.proofs.Sources.{IsCut, is_ended, lines, line_of, start_of, end_of, end_of_span, first_line, last_line, reading_end}
+use Rattle.miette_lines.proofs.Sources.{IsCut, lines, line_of, start_of, end_of, first_line, last_line, reading_end}
 use Rattle.miette_lines.proofs.Numbers.{by_cases}
 use Rattle.miette_lines.proofs.Lines.{cut-le}
 use Rattle.miette_lines.proofs.Data.{cut}
@@ -41,10 +41,10 @@ none_left n o [] h = refl
 none_left n o (l ∷ ls) h = absurd (omega (arith, h.3, cut-le l.end n ls h.5))
 
 -- no line is counted behind one that isn't
-none_behind : (at n o : ℕ) (l : Line) (ls : List Line) → IsCut at n (l ∷ ls) → (leb l.end o && is_ended l) ≡ false → line_of ls o ≡ 0
+none_behind : (at n o : ℕ) (l : Line) (ls : List Line) → IsCut at n (l ∷ ls) → (leb l.end o && is_terminated l) ≡ false → line_of ls o ≡ 0
 none_behind at n o l ls h fails =
     by_cases {C = line_of ls o ≡ 0} (leb l.end o)
-    (λ t. let bare : is_ended l ≡ false = rw t at fails in
+    (λ t. let bare : is_terminated l ≡ false = rw t at fails in
     let same : l.end ≡ n = last_one l.text_end l.end n h.4 (ltb-false l.text_end l.end bare) (cut-le l.end n ls h.5) in
     none_left n o ls (subst (λ (e : ℕ). IsCut e n ls) same h.5))
     (λ f. line-zero l.end n o ls h.5 (omega (arith, leb-false l.end o f)))
@@ -55,15 +55,15 @@ one_more k m = ⊎_elim {C = ltb k m ≡ ltb (suc k) (1 + m)}
     (λ ge. le-ltb k m ge ∙ sym (le-ltb (suc k) (1 + m) (omega (arith, ge)))) (cases_lt k m)
 
 -- a line with a terminator ends before an offset where it comes before the offset's line
-ended_lt : (at n k o : ℕ) (ls : List Line) → IsCut at n ls → k < length ls → (leb (line_at ls k).end o && is_ended (line_at ls k)) ≡ ltb k (line_of ls o)
+ended_lt : (at n k o : ℕ) (ls : List Line) → IsCut at n ls → k < length ls → (leb (line_at ls k).end o && is_terminated (line_at ls k)) ≡ ltb k (line_of ls o)
 ended_lt at n k o [] h lt = absurd (omega (arith, lt))
 ended_lt at n zero o (l ∷ ls) h lt =
-    by_cases {C = (leb l.end o && is_ended l) ≡ ltb zero (cond (leb l.end o && is_ended l) 1 0 + line_of ls o)} (leb l.end o && is_ended l)
+    by_cases {C = (leb l.end o && is_terminated l) ≡ ltb zero (cond (leb l.end o && is_terminated l) 1 0 + line_of ls o)} (leb l.end o && is_terminated l)
     (λ t. rw t (sym (lt-ltb zero (1 + line_of ls o) (omega arith))))
     (λ f. let none : line_of ls o ≡ 0 = none_behind at n o l ls h f in rw (f, none) (sym (le-ltb zero (0 + 0) (omega arith))))
 ended_lt at n (suc k) o (l ∷ ls) h lt =
-    let later : (leb (line_at ls k).end o && is_ended (line_at ls k)) ≡ ltb k (line_of ls o) = ended_lt l.end n k o ls h.5 (omega (arith, lt)) in
-    later ∙ by_cases {C = ltb k (line_of ls o) ≡ ltb (suc k) (cond (leb l.end o && is_ended l) 1 0 + line_of ls o)} (leb l.end o && is_ended l)
+    let later : (leb (line_at ls k).end o && is_terminated (line_at ls k)) ≡ ltb k (line_of ls o) = ended_lt l.end n k o ls h.5 (omega (arith, lt)) in
+    later ∙ by_cases {C = ltb k (line_of ls o) ≡ ltb (suc k) (cond (leb l.end o && is_terminated l) 1 0 + line_of ls o)} (leb l.end o && is_terminated l)
     (λ t. rw t (one_more k (line_of ls o)))
     (λ f. let none : line_of ls o ≡ 0 = none_behind at n o l ls h f in rw (f, none) (le-ltb k 0 (omega arith) ∙ sym (le-ltb (suc k) (0 + 0) (omega arith))))
 

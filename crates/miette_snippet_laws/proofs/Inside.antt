@@ -13,7 +13,8 @@ use Rattle.miette_lines.specs.rules.Labels.{DrawnLabel, drawn_label, drawn_from,
 use Rattle.miette_snippets.specs.rules.Folds.{last_byte, hides}
 use Rattle.miette_snippets.specs.rules.ShownLines.{line_at}
 use Rattle.miette_snippets.specs.rules.Snippets as N
-use Rattle.miette_lines.proofs.Sources.{lines, line_of, start_of, end_of, end_of_span, first_line, last_line, reading_end}
+use Rattle.miette_lines.specs.rules.Contexts.{end_of_span}
+use Rattle.miette_lines.proofs.Sources.{lines, line_of, start_of, end_of, first_line, last_line, reading_end}
 use Rattle.miette_lines.proofs.Numbers.{by_cases}
 use Rattle.miette_lines.proofs.Data.{cut}
 use Rattle.miette_lines.proofs.Bridge.{lines_same}

@@ -8,7 +8,8 @@ use Rattle.miette_newlines.specs.rules.Lines.{Line}
 use Rattle.miette_protocol.specs.rules.Reading.{Span}
 use Rattle.miette_lines.specs.rules.Groups.{joined_span, put_span, by_begin, stretches_from, joined_stretches}
 use Rattle.miette_snippets.specs.rules.Numbers.{ranges}
-use Rattle.miette_lines.proofs.Sources.{lines, start_of, end_of, end_of_span}
+use Rattle.miette_lines.specs.rules.Contexts.{end_of_span}
+use Rattle.miette_lines.proofs.Sources.{lines, start_of, end_of}
 use Rattle.miette_snippets.proofs.Numbers.{filter-none}
 use Rattle.miette_lines.proofs.Numbers.{by_cases}
 use Rattle.miette_snippets.proofs.Lines.{line-mono, line-start, start-next, start-le-end, end-mono}

@@ -6,12 +6,13 @@ use Rattle.std.proofs.lemmas.Bool.{ne_eqb}
 use Rattle.std.proofs.lemmas.List.Sums.{sum_by-cons}
 use Rattle.std.proofs.Math.Bool.{and_comm}
 use Rattle.miette_newlines.specs.rules.Lines as P
-use Rattle.miette_newlines.specs.rules.Lines.{Line}
+use Rattle.miette_newlines.specs.rules.Lines.{Line, is_terminated}
 use Rattle.miette_protocol.specs.rules.Reading as R
 use Rattle.miette_protocol.specs.rules.Reading.{Span, Source}
 use Rattle.miette_protocol.specs.rules.Context as around
 use Rattle.miette_lines.specs.rules.Contexts as C
-use Rattle.miette_lines.proofs.Sources.{lines, is_ended, line_of, terminators_in, start_of, end_of_span, past_lf, reading_end, first_line, last_line, read}
+use Rattle.miette_lines.specs.rules.Contexts.{end_of_span}
+use Rattle.miette_lines.proofs.Sources.{lines, line_of, terminators_in, start_of, past_lf, reading_end, first_line, last_line, read}
 use Rattle.miette_snippets.proofs.Data.{first-lt}
 use Rattle.miette_lines.proofs.Bridge.{end_same, lines_same, some-context}
 
@@ -19,7 +20,7 @@ use Rattle.miette_lines.proofs.Bridge.{end_same, lines_same, some-context}
 
 pub counted : (ls : List Line) (offset : ℕ) → count_by (λ l. P.is_terminated l && leb l.end offset) ls ≡ line_of ls offset
 counted [] offset = refl
-counted (l ∷ ls) offset = sum_by-cons (λ l. cond (P.is_terminated l && leb l.end offset) 1 0) l ls ∙ ap (λ b. cond b 1 0 + count_by (λ l. P.is_terminated l && leb l.end offset) ls) (and_comm (is_ended l) (leb l.end offset)) ∙ ap (λ n. cond (leb l.end offset && is_ended l) 1 0 + n) (counted ls offset)
+counted (l ∷ ls) offset = sum_by-cons (λ l. cond (P.is_terminated l && leb l.end offset) 1 0) l ls ∙ ap (λ b. cond b 1 0 + count_by (λ l. P.is_terminated l && leb l.end offset) ls) (and_comm (is_terminated l) (leb l.end offset)) ∙ ap (λ n. cond (leb l.end offset && is_terminated l) 1 0 + n) (counted ls offset)
 
 pub line_of_same : (bytes : List ℕ) (offset : ℕ) → P.line_of bytes offset ≡ line_of (lines bytes) offset
 unfolding P.line_of
@@ -32,8 +33,8 @@ counted_in : (ls : List Line) (from to : ℕ) → count_by (λ l. P.is_terminate
 counted_in [] from to = refl
 counted_in (l ∷ ls) from to =
     sum_by-cons (λ l. cond (P.is_terminated l && (ltb from l.end && leb l.end to)) 1 0) l ls
-    ∙ ap (λ b. cond b 1 0 + count_by (λ l. P.is_terminated l && (ltb from l.end && leb l.end to)) ls) (swap_three (is_ended l) (ltb from l.end) (leb l.end to))
-    ∙ ap (λ n. cond ((ltb from l.end && leb l.end to) && is_ended l) 1 0 + n) (counted_in ls from to)
+    ∙ ap (λ b. cond b 1 0 + count_by (λ l. P.is_terminated l && (ltb from l.end && leb l.end to)) ls) (swap_three (is_terminated l) (ltb from l.end) (leb l.end to))
+    ∙ ap (λ n. cond ((ltb from l.end && leb l.end to) && is_terminated l) 1 0 + n) (counted_in ls from to)
 
 pub terminators_same : (bytes : List ℕ) (from to : ℕ) → P.terminators_in bytes from to ≡ terminators_in (lines bytes) from to
 unfolding P.terminators_in

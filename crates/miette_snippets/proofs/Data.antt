@@ -3,7 +3,8 @@ use Rattle.std.proofs.Common.{ℕ, ◌+◌, ◌-◌, ◌<◌, ◌≤◌, ◌≡�
 use Rattle.std.specs.Prelude.{slice_index}
 use Rattle.std.proofs.lemmas.Bool.{le-leb, lt-leb, cases_lt, and_from, and_left, and_right}
 use Rattle.std.specs.List.{range_with_len, filter}
-use Rattle.miette_lines.proofs.Sources.{lines, line_of, start_of, end_of, past_lf, reading_end, end_of_span, first_line, last_line, read, lines_in, lines_between}
+use Rattle.miette_lines.specs.rules.Contexts.{end_of_span}
+use Rattle.miette_lines.proofs.Sources.{lines, line_of, start_of, end_of, past_lf, reading_end, first_line, last_line, read, lines_in, lines_between}
 use Rattle.miette_protocol.specs.rules.Reading.{Span}
 use Rattle.miette_snippets.proofs.Numbers.{filter-range}
 use Rattle.miette_lines.proofs.Numbers.{by_cases}

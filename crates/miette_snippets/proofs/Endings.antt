@@ -9,7 +9,7 @@ use Rattle.miette_protocol.specs.rules.Reading.{Span, Source}
 use Rattle.miette_lines.specs.declared.reading.ReadLabel.{ReadLabel}
 use Rattle.miette_lines.specs.rules.Around.{has_own, lines_around, group_context}
 use Rattle.miette_lines.specs.rules.Contexts as C
-use Rattle.miette_lines.specs.rules.Contexts.{contents}
+use Rattle.miette_lines.specs.rules.Contexts.{contents, end_of_span}
 use Rattle.miette_lines.specs.rules.Groups.{in_order}
 use Rattle.miette_lines.specs.rules.Labels.{drawn_from, shows_end, some_shows_end}
 use Rattle.miette_lines.specs.views.GivenLabels.{label_at}
@@ -17,7 +17,7 @@ use Rattle.miette_lines.specs.views.Reads.{IsRead}
 use Rattle.miette_lines.specs.views.Placing.{lends_before, told_end}
 use Rattle.miette_snippets.specs.rules.Frames.{SnippetSettings}
 use Rattle.miette_snippets.specs.rules.SnippetLayout.{drawn_labels, settings_around}
-use Rattle.miette_lines.proofs.Sources.{IsCut, line_of, end_of, lines, end_of_span, reading_end, first_line, last_line, read}
+use Rattle.miette_lines.proofs.Sources.{IsCut, line_of, end_of, lines, reading_end, first_line, last_line, read}
 use Rattle.miette_lines.proofs.Numbers.{by_cases}
 use Rattle.miette_lines.proofs.Lines.{cut-le, end-in}
 use Rattle.miette_lines.proofs.Data.{cut}

@@ -10,12 +10,12 @@ use Rattle.miette_style.specs.declared.style.Style.{Style}
 use Rattle.miette_lines.specs.declared.reading.ReadLabel.{ReadLabel}
 use Rattle.miette_lines.specs.rules.Around.{lines_around}
 use Rattle.miette_lines.specs.rules.Contexts as C
-use Rattle.miette_lines.specs.rules.Contexts.{contents}
+use Rattle.miette_lines.specs.rules.Contexts.{contents, end_of_span}
 use Rattle.miette_lines.specs.rules.Labels.{DrawnLabel, drawn_from, drawn_label, style_at, parts_of}
 use Rattle.miette_lines.specs.views.GivenLabels.{label_at, text_at, drawn_of}
 use Rattle.miette_lines.specs.views.Reads.{IsRead}
 use Rattle.miette_lines.specs.views.Placing.{end_drawn, is_told, placed_one, placed_from}
-use Rattle.miette_lines.proofs.Sources.{IsCut, line_of, end_of, lines, end_of_span, reading_end, last_line, read}
+use Rattle.miette_lines.proofs.Sources.{IsCut, line_of, end_of, lines, reading_end, last_line, read}
 use Rattle.miette_lines.proofs.Numbers.{by_cases}
 use Rattle.miette_snippets.proofs.Lines.{end-ge, line-mono}
 use Rattle.miette_lines.proofs.Lines.{cut-le, end-in}

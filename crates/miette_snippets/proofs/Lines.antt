@@ -2,8 +2,8 @@
 use Rattle.std.proofs.Common.{ℕ, zero, suc, ◌+◌, ◌<◌, ◌≤◌, ◌≡◌, min, Bool, true, false, cond, ltb, leb, List, [], ◌∷◌, length, refl, ⊎_elim, ◌&&◌, arith}
 use Rattle.std.proofs.lemmas.Bool.{lt-ltb, le-ltb, le-leb, lt-leb, ltb-false, leb-true, leb-false, cases_lt}
 use Rattle.miette_lines.proofs.Numbers.{by_cases}
-use Rattle.miette_newlines.specs.rules.Lines.{Line}
-use Rattle.miette_lines.proofs.Sources.{IsCut, is_ended, line_of, terminators_in, start_of, end_of}
+use Rattle.miette_newlines.specs.rules.Lines.{Line, is_terminated}
+use Rattle.miette_lines.proofs.Sources.{IsCut, line_of, terminators_in, start_of, end_of}
 use Rattle.miette_lines.proofs.Lines.{cut-le}
 
 pub last_one : (text_end after n : ℕ) → (after < n → text_end < after) → after ≤ text_end → after ≤ n → after ≡ n
@@ -36,7 +36,7 @@ line-le at n offset [] h = omega arith
 line-le at n offset (l ∷ ls) h =
     let later : line_of ls offset ≤ line_of ls n = line-le l.end n offset ls h.5 in
     let u : leb l.end n ≡ true = le-leb l.end n (cut-le l.end n ls h.5) in
-    rw u (omega (arith, later, one_or_none (leb l.end offset) (is_ended l)))
+    rw u (omega (arith, later, one_or_none (leb l.end offset) (is_terminated l)))
 
 pub line-le-length : (offset : ℕ) (ls : List Line) → line_of ls offset ≤ length ls
 line-le-length offset [] = omega arith

@@ -5,7 +5,8 @@ use Rattle.std.proofs.lemmas.Bool.Decides.{nat_tests}
 use Rattle.std.proofs.lemmas.List.Elements.{filter_agree}
 use Rattle.std.specs.List.{range_with_len, filter, list_any}
 use Rattle.miette_snippets.specs.rules.Numbers.{ranges}
-use Rattle.miette_lines.proofs.Sources.{lines, line_of, reading_end, end_of_span, first_line, last_line, read, lines_in}
+use Rattle.miette_lines.specs.rules.Contexts.{end_of_span}
+use Rattle.miette_lines.proofs.Sources.{lines, line_of, reading_end, first_line, last_line, read, lines_in}
 use Rattle.miette_protocol.specs.rules.Reading.{Span}
 use Rattle.miette_lines.specs.rules.Groups.{joined_span}
 use Rattle.miette_snippets.proofs.Joining.{put_by_offset, by_offset, lines_of_groups, is_in_context, is_shown, shown, snippets}

@@ -8,7 +8,8 @@ use Rattle.miette_newlines.specs.rules.Lines.{Line}
 use Rattle.miette_lines.proofs.Sources.{begins_with_lf, lines_from, lines, start_of, end_of}
 use Rattle.miette_snippets.specs.rules.ShownLines.{line_at}
 use Rattle.miette_lines.proofs.Numbers.{by_cases}
-use Rattle.miette_lines.proofs.Segments.{drop_drop, first_size, first_text, made, parted}
+use Rattle.miette_newlines.proofs.Only.{made}
+use Rattle.miette_lines.proofs.Segments.{drop_drop, first_size, first_text, parted}
 
 some-size : (bytes : List ℕ) → 0 < length bytes → 0 < first_size bytes
 some-size [] h = absurd (omega (arith, h))

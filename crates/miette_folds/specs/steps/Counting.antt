@@ -5,13 +5,13 @@ use Rattle.miette_lines.specs.declared.sweep.PlacedLabel.{PlacedLabel}
 use Rattle.miette_lines.specs.views.Sweeping.{start_at}
 use Rattle.miette_folds.specs.declared.folds.Fold.{Fold}
 use Rattle.miette_folds.specs.declared.folds.LineStart.{LineStart}
-use Rattle.miette_folds.specs.views.Runs.{next_start}
+use Rattle.miette_folds.specs.views.Gaps.{next_start}
 
 -- whether a label begins before an offset, of those from this one on
 abbrev pub begins_before : List PlacedLabel → ℕ → ℕ → Bool
 begins_before labels first offset = nat_lt first (length labels) && nat_lt (start_at labels first) offset
 
--- where the line begins that is counted behind a line: the one behind the run, if it lies inside a label, and no label
+-- where the line begins that is counted behind a line: the one behind the gap, if it lies inside a label, and no label
 -- begins in it
 abbrev pub next_counted : List PlacedLabel → ℕ → Bool → List Fold → ℕ → Line → LineStart
 next_counted labels first inside folds place line = next_start folds place line

@@ -3,16 +3,16 @@ use Rattle.std.specs.Prelude.{ℕ, ◌≡◌, true, List, Bool, map}
 use Rattle.std.specs.List.{All}
 use Rattle.miette_protocol.specs.rules.Reading.{Span, Source}
 use Rattle.miette_protocol.specs.declared.error.MietteError.{MietteError}
-use Rattle.miette_lines.specs.declared.reading.Refusal.{Refusal}
+use Rattle.miette_lines.specs.declared.reading.RefusalReason.{RefusalReason}
 use Rattle.miette_lines.specs.declared.grouping.Group.{Group}
 use Rattle.miette_lines.specs.rules.Answers.{NoneFails}
 use Rattle.miette_lines.specs.rules.Groups.{groups_answered}
 use Rattle.miette_lines.specs.views.Reads.{IsLent}
 use Rattle.miette_protocol.specs.declared.error.MietteError.TheVariants as errors
-use Rattle.miette_lines.specs.declared.reading.Refusal.TheVariants as reasons
+use Rattle.miette_lines.specs.declared.reading.RefusalReason.TheVariants as reasons
 
 -- an error's reason
-abbrev pub Reason : MietteError → Refusal → Type 0
+abbrev pub Reason : MietteError → RefusalReason → Type 0
 Reason (errors.IoError _) reason = reason ≡ reasons.IoError
 Reason errors.OutOfBounds reason = reason ≡ reasons.OutOfBounds
 

@@ -6,8 +6,8 @@ use Rattle.miette_protocol.specs.rules.Reading.{Span, Source, Contents, IsAccept
 use Rattle.miette_lines.specs.declared.reading.ReadLabel.{ReadLabel}
 use Rattle.miette_lines.specs.declared.reading.ReadLabels.{ReadLabels}
 use Rattle.miette_lines.specs.declared.reading.ReadLabels.TheVariants as reads
-use Rattle.miette_lines.specs.declared.reading.Refusal.{Refusal}
-use Rattle.miette_lines.specs.declared.reading.Refusal.TheVariants as reasons
+use Rattle.miette_lines.specs.declared.reading.RefusalReason.{RefusalReason}
+use Rattle.miette_lines.specs.declared.reading.RefusalReason.TheVariants as reasons
 use Rattle.miette_lines.specs.declared.grouping.Group.{Group}
 use Rattle.miette_lines.specs.rules.Answers.{NoneFails}
 use Rattle.miette_lines.specs.rules.Around.{contents_around, group_context}
@@ -16,7 +16,7 @@ use Rattle.miette_lines.specs.views.GivenLabels.{label_at}
 use Rattle.miette_lines.specs.rules.Groups.{refusal, groups_of, groups_fail}
 
 -- the bare name of a reason
-abbrev pub name_of : Refusal → List ℕ
+abbrev pub name_of : RefusalReason → List ℕ
 name_of reasons.IoError = codes "IoError"
 name_of reasons.OutOfBounds = codes "OutOfBounds"
 

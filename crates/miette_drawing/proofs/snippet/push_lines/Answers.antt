@@ -9,14 +9,14 @@ use Rattle.miette_newlines.specs.rules.Lines.{Line, lines_from}
 use Rattle.miette_folds.specs.declared.folds.LineStart.{LineStart}
 use Rattle.miette_folds.specs.views.Spreads.{spread_of}
 use Rattle.miette_drawing.specs.views.SnippetRows.{text_in}
-use Rattle.miette_folds.specs.views.Runs.{next_line}
+use Rattle.miette_folds.specs.views.Gaps.{next_line}
 use Rattle.miette_newlines.specs.views.Walking.{line_of_text}
 use Rattle.miette_lines.specs.views.Sweeping.{IsAt}
 use Rattle.miette_lines.proofs.Swept.{left_at}
 use Rattle.miette_highlight.specs.rules.HighlighterCalls.{Call}
 use Rattle.miette_drawing.proofs.Styling.{call_for}
 use Rattle.miette_folds.proofs.Starts.{Begins, begins_first, begins_next, begins_few}
-use Rattle.miette_folds.proofs.Running.{IsBetween, next_begins, next_further, next_outs}
+use Rattle.miette_folds.proofs.Passing.{IsBetween, next_begins, next_further, next_outs}
 use Rattle.miette_drawing.proofs.Skipping.{lines_run}
 use Rattle.miette_folds.proofs.Extending.{not_jumped}
 use Rattle.miette_drawing.proofs.Lending.{AreLined, lines_first, lines_more, lines_all, text_fits}

@@ -1,4 +1,4 @@
--- A run of lines that are left out ends where a line begins, and each of its lines is left out.
+-- A gap ends where a line begins, and each of its lines is left out.
 use Rattle.std.proofs.Common.{ℕ, ◌+◌, ◌-◌, ◌<◌, ◌≤◌, ◌≡◌, min, max, le_refl, Bool, true, false, cond, not, ◌&&◌, ◌||◌, ltb, leb, List, [], ◌∷◌, map, Option, Some, None, refl, sym, ap, ◌∙◌, subst, arith}
 use Rattle.std.specs.List.{AllByRecursion, list_any}
 use Rattle.std.specs.Option.{option_map_or}
@@ -13,7 +13,7 @@ use Rattle.miette_folds.specs.declared.folds.Spread.{Spread as MadeSpread}
 use Rattle.miette_folds.specs.views.Spreads.{spread_of}
 use Rattle.miette_folds.specs.views.Folding.{fold_in, is_around_fold}
 use Rattle.miette_folds.specs.steps.Nearness.{is_near_fold}
-use Rattle.miette_folds.specs.views.Runs.{next_line, further, nearest, stopped_by, stopped, goes_on, run_end, next_start}
+use Rattle.miette_folds.specs.views.Gaps.{next_line, further, nearest, nearer_stop, nearest_stop, goes_on, gap_end, next_start}
 use Rattle.miette_folds.proofs.Folding.{any_around, any_near}
 use Rattle.miette_folds.proofs.Starts.{Begins, begins_start, begins_nearer, begins_further, begun_low, few_among}
 
@@ -64,7 +64,7 @@ not_true : (a : Bool) → not a ≡ true → a ≡ false
 not_true true h = absurd (cc)
 not_true false h = refl
 
--- ---- a run ends where a line begins
+-- ---- a gap ends where a line begins
 
 abbrev BeginsIf : ℕ → List ℕ → Option LineStart → Type 0
 BeginsIf start bytes None = Unit {0}
@@ -75,7 +75,7 @@ begins_nearest : (start : ℕ) (bytes : List ℕ) (end : Option LineStart) (stop
 begins_nearest start bytes None stop h k = k
 begins_nearest start bytes (Some end) stop h k = begins_nearer start bytes end stop h k
 
-begins_by : (start : ℕ) (bytes : List ℕ) (line : Line) (end : Option LineStart) (label : MadeSpread) → BeginsIf start bytes end → BeginsIf start bytes (stopped_by line end (fold_in start bytes label))
+begins_by : (start : ℕ) (bytes : List ℕ) (line : Line) (end : Option LineStart) (label : MadeSpread) → BeginsIf start bytes end → BeginsIf start bytes (nearer_stop line end (fold_in start bytes label))
 begins_by start bytes line end label h =
     let fold : Fold = fold_in start bytes label in
     let ls : List Line = P.lines_from start bytes in
@@ -84,14 +84,14 @@ begins_by start bytes line end label h =
     (begins_nearest start bytes end fold.resumed h (begins_start start bytes (place_among ls label.last - label.around) (omega (arith, few_among label.last ls))))
     h
 
-stopped_begins : (start : ℕ) (bytes : List ℕ) (line : Line) (end : Option LineStart) (labels : List MadeSpread) → BeginsIf start bytes end → BeginsIf start bytes (stopped line end (map (fold_in start bytes) labels))
-stopped_begins start bytes line end [] h = h
-stopped_begins start bytes line end (label ∷ labels) h = stopped_begins start bytes line (stopped_by line end (fold_in start bytes label)) labels (begins_by start bytes line end label h)
+stop_begins : (start : ℕ) (bytes : List ℕ) (line : Line) (end : Option LineStart) (labels : List MadeSpread) → BeginsIf start bytes end → BeginsIf start bytes (nearest_stop line end (map (fold_in start bytes) labels))
+stop_begins start bytes line end [] h = h
+stop_begins start bytes line end (label ∷ labels) h = stop_begins start bytes line (nearer_stop line end (fold_in start bytes label)) labels (begins_by start bytes line end label h)
 
-run_begins : (start : ℕ) (bytes : List ℕ) (some : LineStart → Bool) (next : LineStart) (end : Option LineStart) → Begins start bytes next.offset next.place → BeginsIf start bytes end →
+gap_begins : (start : ℕ) (bytes : List ℕ) (some : LineStart → Bool) (next : LineStart) (end : Option LineStart) → Begins start bytes next.offset next.place → BeginsIf start bytes end →
     Begins start bytes (option_map_or (λ e. cond (some e) (further next e) next) end next).offset (option_map_or (λ e. cond (some e) (further next e) next) end next).place
-run_begins start bytes some next None h k = h
-run_begins start bytes some next (Some end) h k =
+gap_begins start bytes some next None h k = h
+gap_begins start bytes some next (Some end) h k =
     chosen (λ s. Begins start bytes s.offset s.place) (some end) (further next end) next (begins_further start bytes next end h k) h
 
 next_begins_in : (start : ℕ) (bytes : List ℕ) (labels : List MadeSpread) (place : ℕ) (line : Line) (jumps : Bool) → Begins start bytes line.end (place + 1) →
@@ -99,26 +99,26 @@ next_begins_in : (start : ℕ) (bytes : List ℕ) (labels : List MadeSpread) (pl
 next_begins_in start bytes labels place line jumps h =
     let folds : List Fold = map (fold_in start bytes) labels in
     let next : LineStart = next_line place line in
-    chosen (λ s. Begins start bytes s.offset s.place) jumps (run_end line next folds) next
-    (run_begins start bytes (λ end. list_any (goes_on line end) folds) next (stopped line None folds) h (stopped_begins start bytes line None labels tt)) h
+    chosen (λ s. Begins start bytes s.offset s.place) jumps (gap_end line next folds) next
+    (gap_begins start bytes (λ end. list_any (goes_on line end) folds) next (nearest_stop line None folds) h (stop_begins start bytes line None labels tt)) h
 
 pub next_begins : (start : ℕ) (bytes : List ℕ) (labels : List MadeSpread) (folds : List Fold) (place : ℕ) (line : Line) (jumps : Bool) → folds ≡ map (fold_in start bytes) labels → Begins start bytes line.end (place + 1) →
     Begins start bytes (next_start folds place line jumps).offset (next_start folds place line jumps).place
 next_begins start bytes labels folds place line jumps e h =
     subst (λ (fs : List Fold). Begins start bytes (next_start fs place line jumps).offset (next_start fs place line jumps).place) (sym e) (next_begins_in start bytes labels place line jumps h)
 
--- a run ends behind its first line
+-- a gap ends behind its first line
 
-run_further : (some : LineStart → Bool) (next : LineStart) (end : Option LineStart) → next.offset ≤ (option_map_or (λ e. cond (some e) (further next e) next) end next).offset
-run_further some next None = le_refl next.offset
-run_further some next (Some end) =
+gap_further : (some : LineStart → Bool) (next : LineStart) (end : Option LineStart) → next.offset ≤ (option_map_or (λ e. cond (some e) (further next e) next) end next).offset
+gap_further some next None = le_refl next.offset
+gap_further some next (Some end) =
     let more : next.offset ≤ max next.offset end.offset = omega arith in
     chosen (λ s. next.offset ≤ s.offset) (some end) (further next end) next more (le_refl next.offset)
 
 pub next_further : (folds : List Fold) (place : ℕ) (line : Line) (jumps : Bool) → line.end ≤ (next_start folds place line jumps).offset
 next_further folds place line jumps =
     let next : LineStart = next_line place line in
-    chosen (λ s. line.end ≤ s.offset) jumps (run_end line next folds) next (run_further (λ end. list_any (goes_on line end) folds) next (stopped line None folds)) (le_refl line.end)
+    chosen (λ s. line.end ≤ s.offset) jumps (gap_end line next folds) next (gap_further (λ end. list_any (goes_on line end) folds) next (nearest_stop line None folds)) (le_refl line.end)
 
 -- ---- its lines are left out
 
@@ -139,10 +139,10 @@ below_by true y e end a b h = (below_nearest e end a h).0
 below_by false true e end a b h = (below_nearest e end b h).0
 below_by false false e end a b h = h
 
-below_all : (e : LineStart) (line : Line) (end : Option LineStart) (folds : List Fold) → stopped line end folds ≡ Some e → IsBelow e end
+below_all : (e : LineStart) (line : Line) (end : Option LineStart) (folds : List Fold) → nearest_stop line end folds ≡ Some e → IsBelow e end
 below_all e line end [] is = subst (λ (o : Option LineStart). IsBelow e o) (sym is) (le_refl e.offset, le_refl e.place)
 below_all e line end (fold ∷ folds) is =
-    below_by (leb line.end fold.label.from) (ltb line.start fold.label.until) e end fold.begun fold.resumed (below_all e line (stopped_by line end fold) folds is)
+    below_by (leb line.end fold.label.from) (ltb line.start fold.label.until) e end fold.begun fold.resumed (below_all e line (nearer_stop line end fold) folds is)
 
 -- it lies no further than where a label's context begins behind the first line, or where the lines of one around it are shown again
 abbrev StopsAt : Line → LineStart → Fold → Type 0
@@ -155,11 +155,11 @@ stops_by true y e end a b h = (λ t. (below_nearest e end a h).1.0, λ f u. absu
 stops_by false true e end a b h = (λ t. absurd (cc), λ f u. (below_nearest e end b h).1.1)
 stops_by false false e end a b h = (λ t. absurd (cc), λ f u. absurd (cc))
 
-stops_all : (e : LineStart) (line : Line) (end : Option LineStart) (folds : List Fold) → stopped line end folds ≡ Some e → AllByRecursion (StopsAt line e) folds
+stops_all : (e : LineStart) (line : Line) (end : Option LineStart) (folds : List Fold) → nearest_stop line end folds ≡ Some e → AllByRecursion (StopsAt line e) folds
 stops_all e line end [] is = tt
 stops_all e line end (fold ∷ folds) is = (
-  stops_by (leb line.end fold.label.from) (ltb line.start fold.label.until) e end fold.begun fold.resumed (below_all e line (stopped_by line end fold) folds is),
-  stops_all e line (stopped_by line end fold) folds is,
+  stops_by (leb line.end fold.label.from) (ltb line.start fold.label.until) e end fold.begun fold.resumed (below_all e line (nearer_stop line end fold) folds is),
+  stops_all e line (nearer_stop line end fold) folds is,
 )
 
 -- a line, and which it is, behind one beginning and before another
@@ -202,7 +202,7 @@ hides_on limit first last around place k h le lt =
     and_both (leb limit (last - first)) (ltb around (k - first) && ltb around (last - k)) a
     (and_both (ltb around (k - first)) (ltb around (last - k)) (lt-ltb around (k - first) (omega (arith, b, le))) (lt-ltb around (last - k) (omega (arith, lt))))
 
--- a label that is not near on the first line is not near on a later one of the run
+-- a label that is not near on the first line is not near on a later one of the gap
 far_on : (start : ℕ) (bytes : List ℕ) (limit place k : ℕ) (line other : Line) (e : LineStart) (label : MadeSpread) → start ≤ line.end → line.start ≤ line.end → place ≤ k → k < e.place → line.end ≤ other.start → other.end ≤ e.offset →
     StopsAt line e (fold_in start bytes label) → is_near_fold limit place line (fold_in start bytes label) ≡ false → is_near_fold limit k other (fold_in start bytes label) ≡ false
 far_on start bytes limit place k line other e label low some le lt after to stops far =
@@ -256,7 +256,7 @@ abbrev AreAway : ℕ → ℕ → Line → List Fold → Type 0
 AreAway limit k other folds = (list_any (is_around_fold other) folds ≡ true) × (list_any (is_near_fold limit k other) folds ≡ false)
 
 away_of : (start : ℕ) (bytes : List ℕ) (labels : List MadeSpread) (limit place k : ℕ) (line other : Line) (e : LineStart) (some : Bool) → list_any (goes_on line e) (map (fold_in start bytes) labels) ≡ some →
-    stopped line None (map (fold_in start bytes) labels) ≡ Some e → start ≤ line.end → line.start ≤ line.end → list_any (is_near_fold limit place line) (map (fold_in start bytes) labels) ≡ false →
+    nearest_stop line None (map (fold_in start bytes) labels) ≡ Some e → start ≤ line.end → line.start ≤ line.end → list_any (is_near_fold limit place line) (map (fold_in start bytes) labels) ≡ false →
     IsBetween (next_line place line) (cond some (further (next_line place line) e) (next_line place line)) k other → AreAway limit k other (map (fold_in start bytes) labels)
 away_of start bytes labels limit place k line other e false goes is low order far h = absurd (no_between (next_line place line) k other h)
 away_of start bytes labels limit place k line other e true goes is low order far h =
@@ -271,7 +271,7 @@ away_of start bytes labels limit place k line other e true goes is low order far
       far_all start bytes limit place k line other e labels low order (omega (arith, first)) (omega (arith, first, last)) after to (stops_all e line None folds is) far,
     )
 
-away_if : (start : ℕ) (bytes : List ℕ) (labels : List MadeSpread) (limit place k : ℕ) (line other : Line) (end : Option LineStart) → stopped line None (map (fold_in start bytes) labels) ≡ end → start ≤ line.end → line.start ≤ line.end →
+away_if : (start : ℕ) (bytes : List ℕ) (labels : List MadeSpread) (limit place k : ℕ) (line other : Line) (end : Option LineStart) → nearest_stop line None (map (fold_in start bytes) labels) ≡ end → start ≤ line.end → line.start ≤ line.end →
     list_any (is_near_fold limit place line) (map (fold_in start bytes) labels) ≡ false →
     IsBetween (next_line place line) (option_map_or (λ e. cond (list_any (goes_on line e) (map (fold_in start bytes) labels)) (further (next_line place line) e) (next_line place line)) end (next_line place line)) k other →
     AreAway limit k other (map (fold_in start bytes) labels)
@@ -279,9 +279,9 @@ away_if start bytes labels limit place k line other None is low order far h = ab
 away_if start bytes labels limit place k line other (Some e) is low order far h =
     away_of start bytes labels limit place k line other e (list_any (goes_on line e) (map (fold_in start bytes) labels)) refl is low order far h
 
--- each line of the run is left out, as its first one is
+-- each line of the gap is left out, as its first one is
 run_out : (start : ℕ) (bytes : List ℕ) (labels : List MadeSpread) (limit : Option ℕ) (place k : ℕ) (line other : Line) → start ≤ line.end → line.start ≤ line.end →
-    leaves_out limit (P.lines_from start bytes) (map spread_of labels) place line ≡ true → IsBetween (next_line place line) (run_end line (next_line place line) (map (fold_in start bytes) labels)) k other →
+    leaves_out limit (P.lines_from start bytes) (map spread_of labels) place line ≡ true → IsBetween (next_line place line) (gap_end line (next_line place line) (map (fold_in start bytes) labels)) k other →
     leaves_out limit (P.lines_from start bytes) (map spread_of labels) k other ≡ true
 run_out start bytes labels None place k line other low order out h = let e : false ≡ true = out in absurd (cc)
 run_out start bytes labels (Some limit) place k line other low order out h =
@@ -290,7 +290,7 @@ run_out start bytes labels (Some limit) place k line other low order out h =
     let near : list_any (is_near limit ls place line) spreads ≡ false =
     not_true (list_any (is_near limit ls place line) spreads) (and_right (list_any (is_around line) spreads) (not (list_any (is_near limit ls place line) spreads)) out) in
     let away : AreAway limit k other (map (fold_in start bytes) labels) =
-    away_if start bytes labels limit place k line other (stopped line None (map (fold_in start bytes) labels)) refl low order (any_near limit place start bytes line labels ∙ near) h in
+    away_if start bytes labels limit place k line other (nearest_stop line None (map (fold_in start bytes) labels)) refl low order (any_near limit place start bytes line labels ∙ near) h in
     and_both (list_any (is_around other) spreads) (not (list_any (is_near limit ls k other) spreads)) (sym (any_around start bytes other labels) ∙ away.0)
     (ap not (sym (any_near limit k start bytes other labels) ∙ away.1))
 

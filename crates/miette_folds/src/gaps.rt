@@ -1,10 +1,10 @@
-//! Runs of lines that are left out inside folded labels: where one ends, and how a sweep over labels passes it.
+//! Gaps inside folded labels, whose lines are left out: where one ends, and how a sweep over labels passes it.
 
 ghost use Rattle.std.specs.Prelude.{◌≡◌, ◌+◌, ◌<◌, ◌≤◌, ◌^◌, None, length, OnOk};
 ghost use Rattle.std.specs.List.{list_any, filter};
 ghost use Rattle.miette_newlines.specs.views.Walking.{line_of_text};
 ghost use Rattle.miette_lines.specs.views.Sweeping.{IsAt, IsOn, AreSorted, is_one, line_of_bounds};
-ghost use Rattle.miette_folds.specs.views.Runs.{nearest, further, stopped_by, stopped, goes_on, run_end, next_start};
+ghost use Rattle.miette_folds.specs.views.Gaps.{nearest, further, nearer_stop, nearest_stop, goes_on, gap_end, next_start};
 
 use crate::folds::{Fold, LineStart, is_around};
 use miette_lines::sweep::{Bounds, PlacedLabel, Sweep};
@@ -35,8 +35,8 @@ fn further(a: LineStart, b: LineStart) -> LineStart
 }
 
 // Where lines behind one that is left out stop because of a label, if they go on to here.
-fn stopped_by(line: &LineOfText, end: Option<LineStart>, fold: &Fold) -> Option<LineStart>
-    ensures { result ≡ stopped_by (line_of_text line.now) end fold.now }
+fn nearer_stop(line: &LineOfText, end: Option<LineStart>, fold: &Fold) -> Option<LineStart>
+    ensures { result ≡ nearer_stop (line_of_text line.now) end fold.now }
 {
     if line.end <= fold.label.from {
         Some(nearest(end, fold.begun))
@@ -48,12 +48,12 @@ fn stopped_by(line: &LineOfText, end: Option<LineStart>, fold: &Fold) -> Option<
 }
 
 // Where lines behind one that is left out stop because of some label.
-fn stopped(line: &LineOfText, folds: &[Fold]) -> Option<LineStart>
-    ensures { result ≡ stopped (line_of_text line.now) None folds.now }
+fn nearest_stop(line: &LineOfText, folds: &[Fold]) -> Option<LineStart>
+    ensures { result ≡ nearest_stop (line_of_text line.now) None folds.now }
 {
     let mut end: Option<LineStart> = None;
     for fold in folds {
-        end = stopped_by(line, end, fold);
+        end = nearer_stop(line, end, fold);
     }
     end
 }
@@ -77,12 +77,12 @@ fn some_goes_on(line: &LineOfText, end: LineStart, folds: &[Fold]) -> bool
     false
 }
 
-// Where a run of lines that are left out ends, behind its first one, whose next line begins there. Each line before
+// Where a gap ends, behind its first line, whose next one begins there. Each line before
 // the end is left out: a label that hides the first one hides it too, and no label's context begins before.
-fn run_end(line: &LineOfText, next: LineStart, folds: &[Fold]) -> LineStart
-    ensures { result ≡ run_end (line_of_text line.now) next folds.now }
+fn gap_end(line: &LineOfText, next: LineStart, folds: &[Fold]) -> LineStart
+    ensures { result ≡ gap_end (line_of_text line.now) next folds.now }
 {
-    let Some(end) = stopped(line, folds) else {
+    let Some(end) = nearest_stop(line, folds) else {
         return next;
     };
     if some_goes_on(line, end, folds) {
@@ -93,7 +93,7 @@ fn run_end(line: &LineOfText, next: LineStart, folds: &[Fold]) -> LineStart
 }
 
 /// Where the line begins that is looked at behind a line, before which so many stand: the next one. Or where the line
-/// is left out, and those behind it may be passed over, the one behind the run that begins with it.
+/// is left out, and those behind it may be passed over, the one behind the gap that begins with it.
 pub fn next_start(folds: &[Fold], place: usize, line: &LineOfText, jumps: bool) -> LineStart
     requires { place + 1 < 2 ^ 64 }
     ensures { result ≡ next_start folds.now place (line_of_text line.now) jumps }
@@ -103,7 +103,7 @@ pub fn next_start(folds: &[Fold], place: usize, line: &LineOfText, jumps: bool) 
         place: place + 1,
     };
     if jumps {
-        run_end(line, next, folds)
+        gap_end(line, next, folds)
     } else {
         next
     }

@@ -1,4 +1,4 @@
--- Runs of lines that are left out, as a program passes over them.
+-- Gaps inside folded labels, whose lines are left out, as a program passes over them.
 use Rattle.std.specs.Prelude.{ℕ, ◌+◌, min, max, Bool, ◌&&◌, if◌then◌else◌, nat_lt, nat_le, List, [], ◌∷◌}
 use Rattle.std.specs.Prelude.{Option, Some, None}
 use Rattle.std.specs.Option.{option_map_or}
@@ -26,26 +26,26 @@ nearest (Some end) stop = nearer end stop
 
 -- Where lines behind one that is left out stop because of a label, if they go on to there: where its context begins
 -- behind that line, or where its own lines are shown again behind it.
-abbrev pub stopped_by : Line → Option LineStart → Fold → Option LineStart
-stopped_by line end fold =
+abbrev pub nearer_stop : Line → Option LineStart → Fold → Option LineStart
+nearer_stop line end fold =
     if nat_le line.end fold.label.from then Some (nearest end fold.begun)
     else if nat_lt line.start fold.label.until then Some (nearest end fold.resumed)
     else end
 
-abbrev pub stopped : Line → Option LineStart → List Fold → Option LineStart
-stopped line end [] = end
-stopped line end (fold ∷ folds) = stopped line (stopped_by line end fold) folds
+abbrev pub nearest_stop : Line → Option LineStart → List Fold → Option LineStart
+nearest_stop line end [] = end
+nearest_stop line end (fold ∷ folds) = nearest_stop line (nearer_stop line end fold) folds
 
 -- whether a label's context has a byte of a line, and goes on to where others stop
 abbrev pub goes_on : Line → LineStart → Fold → Bool
 goes_on line end fold = is_around_fold line fold && nat_le end.offset fold.label.until
 
--- where a run of lines that are left out ends, behind its first one: that one's next line where no context goes on
-abbrev pub run_end : Line → LineStart → List Fold → LineStart
-run_end line next folds = option_map_or
-    (λ end. if list_any (goes_on line end) folds then further next end else next) (stopped line None folds) next
+-- where a gap ends, behind its first line: that one's next line where no context goes on
+abbrev pub gap_end : Line → LineStart → List Fold → LineStart
+gap_end line next folds = option_map_or
+    (λ end. if list_any (goes_on line end) folds then further next end else next) (nearest_stop line None folds) next
 
--- where the line begins that is looked at behind a line: the next one, or the one behind the run
+-- where the line begins that is looked at behind a line: the next one, or the one behind the gap
 abbrev pub next_start : List Fold → ℕ → Line → Bool → LineStart
 next_start folds place line jumps =
-    if jumps then run_end line (next_line place line) folds else next_line place line
+    if jumps then gap_end line (next_line place line) folds else next_line place line
