@@ -6,7 +6,7 @@ ghost use Rattle.miette_tree.specs.rules.Tree.{cause_of, causes_of};
 ghost use Rattle.miette_tree.specs.views.Handler.{AppendsOne};
 ghost use Rattle.miette_tree.specs.views.Report.{tree_of};
 ghost use Rattle.miette_handlers.specs.rules.DebugText.{IsDebugText, IsField, IsLabelsField, IsQuoted};
-ghost use Rattle.miette_handlers.specs.rules.DebugText.{nearest, severity_shown};
+ghost use Rattle.miette_handlers.specs.rules.DebugText.{nearest, severity_variant};
 
 use miette_protocol::error::RenderError;
 use miette_protocol::protocol::{Diagnostic, LabeledSpan, Severity};
@@ -80,7 +80,7 @@ fn fields_of<D: Diagnostic, S: SourceCode>(
     let mut text = String::from_str(alloc, "Diagnostic { message: ")?;
     push_quoted(alloc, &mut text, report.message())?;
     push_field(alloc, &mut text, "code", report.code())?;
-    let severity = severity_name(report.severity());
+    let severity = severity_variant(report.severity());
     push_field(alloc, &mut text, "severity", severity)?;
     push_field(alloc, &mut text, "url", report.url())?;
     push_field(alloc, &mut text, "help", report.help())?;
@@ -130,9 +130,9 @@ fn push_labels(alloc: Global, out: &mut String, labels: &[LabeledSpan]) -> Resul
     Ok(())
 }
 
-/// The name of a severity, where one is set.
-fn severity_name(severity: Option<Severity>) -> Option<&'static str>
-    ensures { option_copied result ≡ severity_shown severity }
+/// The name of a severity's variant, where one is set.
+fn severity_variant(severity: Option<Severity>) -> Option<&'static str>
+    ensures { option_copied result ≡ severity_variant severity }
 {
     match severity {
         Some(Severity::Advice) => Some("Advice"),

@@ -22,12 +22,12 @@ abbrev pub IsField : List ℕ → Option (List ℕ) → List ℕ → Type 0
 IsField name None field = field ≡ []
 IsField name (Some text) field = IsShown name text field
 
--- the name of a severity, where one is set
-abbrev pub severity_shown : Option Severity → Option (List ℕ)
-severity_shown None = None
-severity_shown (Some Error) = Some (codes "Error")
-severity_shown (Some Warning) = Some (codes "Warning")
-severity_shown (Some Advice) = Some (codes "Advice")
+-- the name of a severity's variant, where one is set
+abbrev pub severity_variant : Option Severity → Option (List ℕ)
+severity_variant None = None
+severity_variant (Some Error) = Some (codes "Error")
+severity_variant (Some Warning) = Some (codes "Warning")
+severity_variant (Some Advice) = Some (codes "Advice")
 
 -- one field for all labels, none for an empty list; which text it shows isn't said
 abbrev pub IsLabelsField : List Label → List ℕ → Type 0
@@ -51,7 +51,7 @@ pub record IsDebugText (t : Tree) (text : List ℕ) : Type 0 where
   pub cause : List ℕ
   pub is_message : IsQuoted (head t).message message
   pub is_code : IsField (codes "code") (head t).code code
-  pub is_severity : IsField (codes "severity") (severity_shown (head t).severity) severity
+  pub is_severity : IsField (codes "severity") (severity_variant (head t).severity) severity
   pub is_url : IsField (codes "url") (head t).url url
   pub is_help : IsField (codes "help") (head t).help help
   pub are_labels : IsLabelsField (given_labels (head t).labels) labels
