@@ -21,6 +21,7 @@ pub use Rattle.miette_json.specs.rules.Json
 pub use Rattle.miette_json.specs.rules.Denotes
 pub use Rattle.miette_json.specs.rules.JsonReport
 pub use Rattle.miette_json.specs.rules.JsonText
+pub use Rattle.miette_json.specs.laws.Utf8Texts
 pub use Rattle.miette_tree.specs.rules.Display
 pub use Rattle.miette_tree.specs.rules.Reads
 pub use Rattle.miette_tree.specs.views.Handler

@@ -10,8 +10,9 @@ use Rattle.std.proofs.lemmas.Fmt.{decimal_by_steps}
 use Rattle.std.proofs.lemmas.Bool.{ltb-true, ltb-false, lt-ltb, le-ltb, cases_lt}
 use Rattle.std.proofs.lemmas.Bool.Decides.{eqb_tells, nat_tests}
 use Rattle.std.proofs.lemmas.Str.{encode_ascii, digit_value-digit_char}
-use Rattle.miette_json.specs.rules.Json.{Json, number, string, array, object, Items, no_items, item, Members, no_members, member, digits_within, numeral, is_escaped, escaped_text, quoted_text, json_text, items_text, more_items_text, members_text, more_members_text}
+use Rattle.miette_json.specs.rules.Json.{Json, number, string, array, object, Items, no_items, item, Members, no_members, member, digits_within, numeral, escaped_text, quoted_text, json_text, items_text, more_items_text, members_text, more_members_text}
 use Rattle.miette_json.specs.rules.Denotes.{Token, structural, text, whole, tokens_then, items_then, more_items_then, members_then, more_members_then, StringPart, plain, short, unit, short_for, IsStringPart, hex, part_text, part_value, AreStringParts, all_written, all_meant, IsDigit, AreDigits, value_after, NoLeadingZero, NoDigitNext, IsStructural, IsString, IsNumber, Begins, Next, AreTokens, HasTokensOf}
+use Rattle.miette_json.specs.steps.EscapedBytes.{is_escaped}
 use Rattle.json.specs.Print.{escape_letter, escape_byte}
 
 -- ---- numbers

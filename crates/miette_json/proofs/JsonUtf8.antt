@@ -6,8 +6,10 @@ use Rattle.std.proofs.lemmas.Bool.{le-ltb, cases_lt}
 use Rattle.std.proofs.lemmas.Bool.Decides.{nat_tests}
 use Rattle.std.proofs.lemmas.Str.{encode_ascii, digit_value-digit_char, IsUtf8-nil, IsUtf8-append, IsUtf8-encode, IsUtf8-take, IsUtf8-drop, IsCharBoundary-before_ascii, IsCharBoundary-after_ascii}
 use Rattle.std.proofs.lemmas.List.{take_at}
-use Rattle.miette_json.specs.rules.Json.{Json, number, string, array, object, Items, no_items, item, Members, no_members, member, numeral, is_escaped, escaped_text, quoted_text, json_text, items_text, more_items_text, members_text, more_members_text}
-use Rattle.miette_json.specs.rules.Denotes.{Token, text, whole, tokens_then, items_then, more_items_then, members_then, more_members_then, StringPart, plain, short, unit, pair, short_for, IsHex, AreHex, hex, AreStringParts, all_written, all_meant, AreDigits, AreBlank, IsBlank, IsString, Next, AreTokens, TextsAreUtf8, HasUtf8Texts, structural, IsStructural}
+use Rattle.miette_json.specs.rules.Json.{Json, number, string, array, object, Items, no_items, item, Members, no_members, member, numeral, escaped_text, quoted_text, json_text, items_text, more_items_text, members_text, more_members_text}
+use Rattle.miette_json.specs.rules.Denotes.{Token, text, whole, tokens_then, items_then, more_items_then, members_then, more_members_then, StringPart, plain, short, unit, pair, short_for, IsHex, AreHex, hex, AreStringParts, all_written, all_meant, AreDigits, AreBlank, IsBlank, IsString, Next, AreTokens, structural, IsStructural}
+use Rattle.miette_json.specs.steps.EscapedBytes.{is_escaped}
+use Rattle.miette_json.specs.laws.Utf8Texts.{TextsAreUtf8, HasUtf8Texts}
 use Rattle.miette_json.proofs.JsonSpelled.{letter_cases, byte_short, byte_low, byte_itself, escaped_is_ascii, number_spelled}
 use Rattle.json.specs.Print.{escape_letter, escape_byte}
 

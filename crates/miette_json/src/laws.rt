@@ -5,7 +5,8 @@ ghost use Rattle.std.specs.Prelude.{◌≡◌, ℕ, List, true};
 ghost use Rattle.miette_tree.specs.rules.Tree.{Tree};
 ghost use Rattle.miette_tree.specs.rules.Reads.{AlwaysReads, report_reads};
 ghost use Rattle.miette_json.specs.rules.Json.{Json, json_text};
-ghost use Rattle.miette_json.specs.rules.Denotes.{Denotes, HasTokensOf, HasUtf8Texts};
+ghost use Rattle.miette_json.specs.rules.Denotes.{Denotes, HasTokensOf};
+ghost use Rattle.miette_json.specs.laws.Utf8Texts.{HasUtf8Texts};
 
 /// A text stands for at most one value (RFC 8259, over whole numbers, strings, lists and objects).
 pub fn a_text_denotes_one_value()

@@ -2,7 +2,8 @@
 
 ghost use Rattle.std.specs.Prelude.{◌≡◌, ◌<◌, ◌++◌, true, OnOk, position, string_bytes};
 ghost use Rattle.std.specs.Char.{digit_char};
-ghost use Rattle.miette_json.specs.rules.Json.{numeral, is_escaped, escaped_text, quoted_text};
+ghost use Rattle.miette_json.specs.rules.Json.{numeral, escaped_text, quoted_text};
+ghost use Rattle.miette_json.specs.steps.EscapedBytes.{is_escaped};
 ghost use Rattle.json.specs.Print.{escape_byte};
 
 use std::alloc::AllocError;

@@ -174,15 +174,3 @@ HasTokensOf bytes v = AreTokens (tokens_then v []) bytes
 -- the text stands for the value: it is UTF-8, and its tokens are those of the value
 abbrev pub Denotes : List ℕ → Json → Type 0
 Denotes bytes v = IsUtf8 bytes × HasTokensOf bytes v
-
--- ---- values that a text may stand for
-
-abbrev pub TextsAreUtf8 : List Token → Type 0
-TextsAreUtf8 [] = ⊤
-TextsAreUtf8 (structural x ∷ ts) = TextsAreUtf8 ts
-TextsAreUtf8 (text s ∷ ts) = IsUtf8 s × TextsAreUtf8 ts
-TextsAreUtf8 (whole n ∷ ts) = TextsAreUtf8 ts
-
--- each string of the value and each key in it is UTF-8
-abbrev pub HasUtf8Texts : Json → Type 0
-HasUtf8Texts v = TextsAreUtf8 (tokens_then v [])

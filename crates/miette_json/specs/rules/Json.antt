@@ -1,5 +1,5 @@
 -- JSON values over whole numbers, strings, lists and objects, and the one spelling that is written for each.
-use Rattle.std.specs.Prelude.{ℕ, zero, suc, ◌+◌, ◌/◌, ◌%◌, Bool, ◌||◌, ◌==◌, nat_lt, cond, List, [], ◌∷◌, ◌++◌}
+use Rattle.std.specs.Prelude.{ℕ, zero, suc, ◌+◌, ◌/◌, ◌%◌, nat_lt, cond, List, [], ◌∷◌, ◌++◌}
 use Rattle.json.specs.Print.{escape_byte}
 
 mutual
@@ -26,10 +26,6 @@ digits_within (suc most) n = cond (nat_lt n 10) ((48 + n) ∷ []) (digits_within
 -- the decimal digits of a number of any size; the kit's `decimal` gives no more than 64
 unfoldable pub numeral : ℕ → List ℕ
 numeral n = digits_within (suc n) n
-
--- whether a byte may not stand for itself in a string: a control character, `"` or `\`
-abbrev pub is_escaped : ℕ → Bool
-is_escaped x = nat_lt x 32 || ((x == 34) || (x == 92))
 
 -- each byte of a string by what stands for it: its short escape, \u00 and two digits in base 16, or the byte itself
 abbrev pub escaped_text : List ℕ → List ℕ

@@ -1,6 +1,7 @@
 use Rattle.std.proofs.Common.{◌≡◌, ap, ◌∙◌, ◌++◌, string_bytes, get_or, take, rules}
 use Rattle.std.proofs.lemmas.Str.{IsCharBoundary-before_ascii, IsCharBoundary-after_ascii}
-use Rattle.miette_json.specs.rules.Json.{is_escaped, escaped_text}
+use Rattle.miette_json.specs.rules.Json.{escaped_text}
+use Rattle.miette_json.specs.steps.EscapedBytes.{is_escaped}
 use Rattle.miette_json.proofs.JsonSpelled.{next_escape, run_written, none_escaped}
 use Rattle.miette_json.proofs.text.push_escaped.Goals as goal
 use Rattle.json.specs.Print.{escape_byte}
