@@ -18,7 +18,7 @@ use Rattle.miette_graphical.specs.rules.Settings.{default_settings}
 use Rattle.miette_graphical.specs.rules.Snippets.{drawn_rows}
 use Rattle.miette_graphical.specs.views.Handling.{Handling, draws_plain, without_highlighter}
 use Rattle.miette_runs.specs.rules.Sequences.{erase}
-use Rattle.miette_text.specs.rules.Tame.{AppendsErasing}
+use Rattle.miette_text.specs.rules.ColouredTexts.{AppendsErasing}
 use Rattle.callers.specs.Known.{HasOwnMark, ShowsBothLines, TextHangs, in_colours, plain, warning_tree}
 use Rattle.miette_lines.specs.views.GivenLabels.{width_of}
 

@@ -1,7 +1,7 @@
 -- Texts that are tame, and the same texts without their colours.
 use Rattle.std.proofs.Common.{◌≡◌, ℕ, ◌-◌, Bool, true, false, List, [], ◌∷◌, ◌++◌, map, refl, sym, ap, ap₂, ◌∙◌, if◌then◌else◌}
 use Rattle.miette_runs.specs.rules.Sequences.{tokens, erase}
-use Rattle.miette_text.specs.rules.Tame.{IsTame, AllTame}
+use Rattle.miette_text.specs.laws.Tame.{IsTame, AllTame}
 use Rattle.miette_runs.specs.rules.Runs.{Fragment, HaveNoEscape, plain_run, print}
 use Rattle.miette_runs.specs.rules.Cutting.{without_leading, without_trailing}
 use Rattle.miette_text.specs.rules.Wrapping.{Plan, wrapped_text}

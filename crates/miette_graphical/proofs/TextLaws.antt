@@ -1,9 +1,9 @@
 -- What the layer of texts promises of deleting colours: the clauses of its laws, gathered.
 use Rattle.std.proofs.Common.{◌≡◌, ℕ, true, List, [], ◌∷◌, ◌++◌, map, refl, ap, ◌∙◌, sym, subst}
 use Rattle.miette_runs.specs.rules.Sequences.{tokens, erase}
-use Rattle.miette_text.specs.rules.Tame.{IsTame, AllTame}
+use Rattle.miette_text.specs.laws.Tame.{IsTame, AllTame}
 use Rattle.miette_style.specs.rules.Escapes.{no_escape}
-use Rattle.miette_text.specs.rules.Tame as tame
+use Rattle.miette_text.specs.rules.ColouredTexts as coloured
 use Rattle.miette_runs.specs.rules.Runs.{Fragment, Styled, HaveNoEscape, plain_run, print}
 use Rattle.miette_style.specs.rules.Styles.{plain}
 use Rattle.miette_runs.specs.rules.Cutting.{without_leading, without_trailing}
@@ -12,7 +12,7 @@ use Rattle.miette_runs.specs.rules.Cells.{columns_of}
 
 pub record TextLaws : Type 0 where
   pub wrapped-tame : (p : Plan (List ℕ)) (text : List ℕ) → AllTame p text → IsTame (wrapped_text p text)
-  pub erase-wrapped : (p : Plan (List ℕ)) (text : List ℕ) → AllTame p text → erase (wrapped_text p text) ≡ wrapped_text (tame.colourless p) (erase text)
+  pub erase-wrapped : (p : Plan (List ℕ)) (text : List ℕ) → AllTame p text → erase (wrapped_text p text) ≡ wrapped_text (coloured.colourless p) (erase text)
   pub append-tame : (x y : List ℕ) → IsTame x → IsTame y → IsTame (x ++ y)
   pub erase-append : (x y : List ℕ) → IsTame x → IsTame y → erase (x ++ y) ≡ erase x ++ erase y
   pub leading-tame : (text : List ℕ) → IsTame text → IsTame (without_leading text)

@@ -22,7 +22,7 @@ ghost use Rattle.miette_tree.specs.rules.Tree.{Tree};
 ghost use Rattle.miette_style.specs.declared.theme.Terminal.{Terminal};
 ghost use Rattle.miette_style.specs.rules.Themes.{Characters, Styles, terminal_theme};
 ghost use Rattle.miette_runs.specs.rules.Sequences.{erase};
-ghost use Rattle.miette_text.specs.rules.Tame.{IsTame};
+ghost use Rattle.miette_text.specs.laws.Tame.{IsTame};
 ghost use Rattle.miette_lines.specs.views.GivenLabels.{width_of};
 
 use miette_layout::laws::{

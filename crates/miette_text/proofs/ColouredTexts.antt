@@ -4,7 +4,7 @@ use Rattle.std.proofs.lemmas.Bool.{and_parts}
 use Rattle.std.proofs.lemmas.Bool.Decides.{nat_tests}
 use Rattle.miette_runs.specs.rules.Sequences.{Token, Character, Sequence, tokens_behind, erase, erase_behind, is_parameter, one_more, control_len, colour_end_len, sequence_len, after_escape_len, colour_len, after_colour_escape_len}
 use Rattle.miette_style.specs.rules.Escapes.{is_escape}
-use Rattle.miette_text.specs.rules.Tame.{Free, Escaped, Broken, state_behind, IsTame}
+use Rattle.miette_text.specs.laws.Tame.{Free, Escaped, Broken, state_behind, IsTame}
 use Rattle.miette_runs.specs.rules.Colours.{is_colour, is_colour_end, is_link}
 use Rattle.miette_style.specs.rules.Escapes.{no_escape}
 

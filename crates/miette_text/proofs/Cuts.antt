@@ -3,7 +3,7 @@ use Rattle.std.proofs.Common.{◌≡◌, ℕ, true, false, ◌&&◌, List, [], �
 use Rattle.std.proofs.lemmas.Bool.Decides.{nat_tests}
 use Rattle.std.proofs.lemmas.Bool.{and_parts}
 use Rattle.miette_runs.specs.rules.Sequences.{Token, Character, Sequence, tokens, spell, erase, is_line_feed}
-use Rattle.miette_text.specs.rules.Tame.{State, Free, Escaped, Opened, Waiting, Broken, step, state_behind, IsTame}
+use Rattle.miette_text.specs.laws.Tame.{State, Free, Escaped, Opened, Waiting, Broken, step, state_behind, IsTame}
 use Rattle.miette_runs.specs.rules.Cutting.{cut_front, only_feeds, cut_end, without_leading, without_trailing}
 use Rattle.miette_text.proofs.ErasedTokens.{erased}
 use Rattle.miette_text.proofs.Parsing.{broken_stays, tokens-spell, erase-spell}

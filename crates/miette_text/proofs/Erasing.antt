@@ -2,7 +2,8 @@
 use Rattle.std.proofs.Common.{◌≡◌, ℕ, List, [], ◌∷◌, ◌++◌, sym, ap, ap₂, ◌∙◌, arith}
 use Rattle.std.proofs.lemmas.Bool.Decides.{nat_tests}
 use Rattle.miette_runs.specs.rules.Sequences.{Token, Character, Sequence, tokens, spell, erase}
-use Rattle.miette_text.specs.rules.Tame.{State, Free, Escaped, Opened, Waiting, Broken, step, state_behind, AreTame, IsTame, colourless, AllTame}
+use Rattle.miette_text.specs.laws.Tame.{State, Free, Escaped, Opened, Waiting, Broken, step, state_behind, AreTame, IsTame, AllTame}
+use Rattle.miette_text.specs.rules.ColouredTexts.{colourless}
 use Rattle.miette_text.specs.rules.Wrapping.{Plan, map_indents, wrapped_tokens, wrapped_text}
 use Rattle.miette_text.proofs.ErasedTokens.{erased}
 use Rattle.miette_text.proofs.Parsing.{broken_stays, tokens-spell, erase-spell}

@@ -1,7 +1,7 @@
 -- What `fill` appends, without its colours.
 use Rattle.std.proofs.Common.{◌≡◌, ℕ, List, ◌++◌, ap, ◌∙◌, encode_utf8_all, Result, Ok, Err, OnOk}
 use Rattle.miette_runs.specs.rules.Sequences.{erase}
-use Rattle.miette_text.specs.rules.Tame.{AppendsErasing, AreColoured, colourless}
+use Rattle.miette_text.specs.rules.ColouredTexts.{AppendsErasing, AreColoured, colourless}
 use Rattle.miette_text.specs.rules.Wrapping.{Plan, wrapped_text}
 use Rattle.miette_text.proofs.Encoding.{erase-encode}
 use Rattle.miette_text.proofs.Erasing.{erase-wrapped}

@@ -4,7 +4,7 @@ use Rattle.std.proofs.lemmas.Bool.{and_parts, or_cases}
 use Rattle.std.proofs.lemmas.Bool.Decides.{nat_tests}
 use Rattle.miette_runs.specs.rules.Sequences.{Token, Character, Sequence, tokens, spell, erase, erase_behind, command_len, colour_end_len, sequence_len, after_escape_len, colour_len, after_colour_escape_len}
 use Rattle.miette_style.specs.rules.Escapes.{is_escape}
-use Rattle.miette_text.specs.rules.Tame.{State, Free, Escaped, Opened, Waiting, Broken, step, state_behind}
+use Rattle.miette_text.specs.laws.Tame.{State, Free, Escaped, Opened, Waiting, Broken, step, state_behind}
 use Rattle.miette_runs.specs.rules.Colours.{is_colour, is_colour_end, is_link, is_link_behind, is_link_end, is_backslash}
 use Rattle.miette_text.proofs.ErasedTokens.{erased}
 use Rattle.miette_runs.proofs.Tokens.{one_more_pos, colour_end_some, nil_of, colour-sequence, tokens_sequence, tokens_character}

@@ -4,7 +4,7 @@ use Rattle.std.proofs.lemmas.Bool.{and_parts}
 use Rattle.std.proofs.lemmas.Bool.Decides.{nat_tests}
 use Rattle.miette_runs.specs.rules.Sequences.{Token, Character, Sequence, tokens, spell, erase, is_line_feed, is_bell}
 use Rattle.miette_style.specs.rules.Escapes.{is_escape}
-use Rattle.miette_text.specs.rules.Tame.{Free, Opened, Waiting, Broken, step, state_behind, AreTame, IsTame}
+use Rattle.miette_text.specs.laws.Tame.{Free, Opened, Waiting, Broken, step, state_behind, AreTame, IsTame}
 use Rattle.miette_runs.specs.rules.Colours.{is_colour, is_link, is_link_end}
 use Rattle.miette_style.specs.rules.Escapes.{no_escape}
 use Rattle.miette_style.specs.rules.Styles.{plain}

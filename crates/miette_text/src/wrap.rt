@@ -18,7 +18,7 @@
 
 ghost use Rattle.std.specs.Prelude.{◌≡◌, ◌++◌, IfOk, OnErr, OnOk, chars, encode_utf8_all, string_bytes, true};
 ghost use Rattle.miette_runs.specs.rules.Sequences.{erase, spell, tokens};
-ghost use Rattle.miette_text.specs.rules.Tame.{AppendsErasing, AreColoured, colourless};
+ghost use Rattle.miette_text.specs.rules.ColouredTexts.{AppendsErasing, AreColoured, colourless};
 ghost use Rattle.miette_text.specs.rules.Wrapping.{filled_text, wrapped_text, wrapped_tokens};
 ghost use Rattle.miette_text.specs.views.Plans.{cuts_hyphens, options_plan, printed_plan, runs_plan};
 

@@ -17,7 +17,7 @@ ghost use Rattle.miette_graphical.specs.views.Handling.{AreCallsOf, draws_plain,
 ghost use Rattle.miette_graphical.specs.steps.SettingsView.{settings_of};
 ghost use Rattle.miette_tree.specs.views.Handler.{AppendsOne};
 ghost use Rattle.miette_runs.specs.rules.Sequences.{erase};
-ghost use Rattle.miette_text.specs.rules.Tame.{AppendsErasing};
+ghost use Rattle.miette_text.specs.rules.ColouredTexts.{AppendsErasing};
 ghost use Rattle.miette_highlight.specs.rules.HighlighterCalls.{AnsweredBy, Call};
 ghost use Rattle.miette_highlight.specs.rules.Pieces.{Piece};
 ghost use Rattle.miette_tree.specs.views.Report.{tree_of};

@@ -5,8 +5,9 @@ ghost use Rattle.std.specs.Prelude.{◌≡◌, ℕ, List, ◌++◌, map, encode_
 ghost use Rattle.miette_runs.specs.rules.Cutting.{without_leading, without_trailing};
 ghost use Rattle.miette_runs.specs.rules.Runs.{HaveNoEscape, Fragment, plain_run, print};
 ghost use Rattle.miette_runs.specs.rules.Sequences.{Token, erase, tokens};
-ghost use Rattle.miette_text.specs.rules.Tame.{AllTame, AreColoured, IsTame, colourless};
+ghost use Rattle.miette_text.specs.rules.ColouredTexts.{AreColoured, colourless};
 ghost use Rattle.miette_text.specs.laws.FilledRows.{IsFilled, IsTrimmed, all_words};
+ghost use Rattle.miette_text.specs.laws.Tame.{AllTame, IsTame};
 ghost use Rattle.miette_text.specs.rules.Wrapping.{Plan, Word, rows, trimmed_row, wrapped_text};
 ghost use Rattle.miette_runs.specs.rules.Cells.{columns_of};
 

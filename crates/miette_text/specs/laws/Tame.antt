@@ -1,10 +1,9 @@
 -- Texts from which colours can be deleted before or after wrapping.
-use Rattle.std.specs.Prelude.{◌≡◌, ℕ, true, ◌||◌, ◌==◌, if◌then◌else◌, List, [], ◌∷◌, ◌++◌}
-use Rattle.miette_style.specs.rules.Escapes.{no_escape}
-use Rattle.miette_runs.specs.rules.Sequences.{Token, Character, Sequence, tokens, erase, is_bell, is_line_feed}
+use Rattle.std.specs.Prelude.{◌≡◌, ℕ, ◌||◌, ◌==◌, if◌then◌else◌, List, [], ◌∷◌}
 use Rattle.miette_style.specs.rules.Escapes.{is_escape}
-use Rattle.miette_text.specs.rules.Wrapping.{Plan, is_space, map_indents}
 use Rattle.miette_runs.specs.rules.Colours.{is_colour, is_link}
+use Rattle.miette_runs.specs.rules.Sequences.{Token, Character, Sequence, tokens, is_bell, is_line_feed}
+use Rattle.miette_text.specs.rules.Wrapping.{Plan, is_space}
 
 -- Where a text stands. Free: anywhere. Escaped: behind an escape that is a character. Opened: behind an `ESC ]`
 -- that is finished by no BEL or `ESC \` on this line. Waiting: on a later line than such an escape, and what is to
@@ -40,21 +39,6 @@ AreTame ts = state_behind Free ts ≡ Free
 
 abbrev pub IsTame : List ℕ → Type 0
 IsTame text = AreTame (tokens text)
-
-abbrev pub colourless : Plan (List ℕ) → Plan (List ℕ)
-colourless = map_indents erase
-
--- Every escape belongs to a colour: none is left without them.
-abbrev pub IsColoured : List ℕ → Type 0
-IsColoured text = no_escape (erase text) ≡ true
-
--- Every escape of a text and its indents belongs to a colour.
-abbrev pub AreColoured : Plan (List ℕ) → List ℕ → Type 0
-AreColoured p text = IsColoured p.first × IsColoured p.further × IsColoured text
-
--- what is appended, without its colours, is that
-abbrev pub AppendsErasing : List ℕ → List ℕ → List ℕ → Type 0
-AppendsErasing old new bare = (added : List ℕ) × (new ≡ old ++ added) × (erase added ≡ bare)
 
 -- what is wrapped, and what it is wrapped under
 pub record AllTame (p : Plan (List ℕ)) (text : List ℕ) : Type 0 where
