@@ -10,11 +10,14 @@
 //! |---|---|
 //! | a text is read as runs, its escape sequences as signs | `read_text`, `reread` (`reading.rt` of `miette_runs`) |
 //! | lines are parted at line feeds | `line_len` (`lines.rt`) |
-//! | words, their parts, and how many of them a row takes | `row_len` (`ends.rt`) |
+//! | the part at the front: a word, or what is cut from one | `first_part` (`ends.rt`) |
+//! | the spaces behind it | `gap_len` (`ends.rt`) |
+//! | how many characters a row takes: parts, each with the spaces behind it | `row_len` (`ends.rt`) |
 //! | rows are printed with the signs that stand in them | `push_filled` (`lines.rt`) |
 //! | lines that aren't wrapped are printed whole | `push_whole` (`whole.rt`) |
 //!
-//! `fill` wraps a text, `wrap` runs. `cutting` cuts line feeds at an end.
+//! `fill` wraps a text, `wrap` runs. Where a text stands in one row as it is, `push_fitting` (`fitting.rt`) appends it
+//! without any of these stages, for callers that try it first. `cutting` cuts line feeds at an end.
 
 ghost use Rattle.std.specs.Prelude.{◌≡◌, ◌++◌, IfOk, OnErr, OnOk, chars, encode_utf8_all, string_bytes, true};
 ghost use Rattle.miette_runs.specs.rules.Sequences.{erase, spell, tokens};
