@@ -6,7 +6,7 @@ ghost use Rattle.miette_narrated.specs.rules.Columns.{column};
 ghost use Rattle.miette_narrated.specs.rules.Lines.{decoded_text};
 ghost use Rattle.miette_narrated.specs.steps.Places.{IsPlace};
 
-use crate::line_text::LineText;
+use crate::narrated_text::NarratedText;
 use crate::places::{PartingPlace, column_after, overlap_text, place_before};
 use crate::trails::{column_in, trail_at};
 use miette_lines::cells::{columns_of, first_character};
@@ -43,7 +43,7 @@ fn push_replaced(out: &mut String, bytes: &[u8]) -> Result<(), AllocError>
 /// the walk begins at the last place of the text before.
 pub(crate) fn column(
     alloc: Global,
-    text: LineText<'_, '_>,
+    text: NarratedText<'_, '_>,
     bytes: usize,
 ) -> Result<usize, AllocError>
     ensures { IfOk result (λ c. c ≡ column bytes (characters text.entry.bytes.now)) }

@@ -4,8 +4,8 @@ ghost use Rattle.std.specs.Prelude.{◌≡◌, nat_lt, IfOk};
 ghost use Rattle.std.specs.List.{filter};
 ghost use Rattle.std.specs.List.Sorted.{IsNonDecreasingBy};
 ghost use Rattle.miette_newlines.specs.views.Walking.{line_of_text};
-ghost use Rattle.miette_narrated.specs.steps.Ends.{is_begun, is_ended, ends_within, labels_of, ranked_labels, AreEnds};
-ghost use Rattle.miette_narrated.specs.steps.Ends.{IsOrder};
+ghost use Rattle.miette_narrated.specs.steps.Ends.{is_begun, is_ended, ends_within, without_ranks, ranked_labels};
+ghost use Rattle.miette_narrated.specs.steps.Ends.{AreEnds, IsOrder};
 ghost use Rattle.miette_narrated.specs.steps.Sweeping.{AreOrdered};
 
 use miette_lines::sweep::PlacedLabel;
@@ -86,7 +86,8 @@ pub(crate) fn ended_on(
     line: &LineOfText,
 ) -> Result<Vec<RankedLabel>, AllocError>
     requires { IsOrder order.now }
-    ensures { IfOk result (λ v. labels_of v.items ≡ filter (is_ended (line_of_text line.now)) order.now.placed.now) }
+    ensures { IfOk result (λ v. without_ranks v.items
+        ≡ filter (is_ended (line_of_text line.now)) order.now.placed.now) }
 {
     let mut ended = begun_before(alloc, ending(order.ends, line), line.start)?;
     ended.sort_by_key(|end| end.rank)?;

@@ -6,16 +6,16 @@ ghost use Rattle.miette_narrated.specs.rules.Labels.{first_number, last_number, 
 ghost use Rattle.miette_narrated.specs.rules.Labels.{column_row, start_row, end_row, begun_row, label_row};
 ghost use Rattle.miette_narrated.specs.rules.Labels.{label_rows};
 ghost use Rattle.std.specs.List.{All};
-ghost use Rattle.miette_narrated.specs.steps.Ends.{labels_of};
-ghost use Rattle.miette_narrated.specs.steps.Conversions.{range_of, ranges_of, shown_line};
+ghost use Rattle.miette_narrated.specs.steps.Ends.{without_ranks};
+ghost use Rattle.miette_narrated.specs.steps.Conversions.{range_of, ranges_of, narrated_line};
 ghost use Rattle.miette_narrated.specs.steps.Places.{IsPlace};
 ghost use Rattle.miette_narrated.specs.steps.Trails.{IsTrail};
 
 use crate::columns::column;
 use crate::label_order::RankedLabel;
-use crate::line_text::LineText;
+use crate::narrated_line::NarratedLine;
+use crate::narrated_text::NarratedText;
 use crate::places::{PartingPlace, places};
-use crate::snippet_line::ShownLine;
 use crate::trails::{Trail, trails};
 use crate::words::push_number;
 use miette_lines::drawn_labels::text_of;
@@ -25,30 +25,30 @@ use miette_style::sums::sum;
 use std::alloc::{AllocError, Global};
 
 /// Whether a label begins on the line or behind it.
-fn begins(it: &ShownLine<'_, '_>, label: &PlacedLabel) -> bool
-    ensures { result ≡ reaches_line (shown_line it.now) label.now.start }
+fn begins(it: &NarratedLine<'_, '_>, label: &PlacedLabel) -> bool
+    ensures { result ≡ reaches_line (narrated_line it.now) label.now.start }
 {
     it.line.start <= label.start
 }
 
 /// Whether a label begins before the text's end.
-fn begins_within(it: &ShownLine<'_, '_>, label: &PlacedLabel) -> bool
-    ensures { result ≡ begins_within (shown_line it.now) label.now.start }
+fn begins_within(it: &NarratedLine<'_, '_>, label: &PlacedLabel) -> bool
+    ensures { result ≡ begins_within (narrated_line it.now) label.now.start }
 {
     label.start <= it.line.text_end
 }
 
 /// Whether a label reaches the line.
-fn reaches(it: &ShownLine<'_, '_>, label: &PlacedLabel) -> bool
-    ensures { result ≡ reaches_line (shown_line it.now) label.now.after }
+fn reaches(it: &NarratedLine<'_, '_>, label: &PlacedLabel) -> bool
+    ensures { result ≡ reaches_line (narrated_line it.now) label.now.after }
 {
     it.line.start <= label.after
 }
 
 /// Whether a label ends before the text's end; on a snippet's last line also one does that begins in the data or
 /// where they end.
-fn ends_before(it: &ShownLine<'_, '_>, label: &PlacedLabel) -> bool
-    ensures { result ≡ ends_before (shown_line it.now) label.now.start label.now.after }
+fn ends_before(it: &NarratedLine<'_, '_>, label: &PlacedLabel) -> bool
+    ensures { result ≡ ends_before (narrated_line it.now) label.now.start label.now.after }
 {
     label.after <= it.line.text_end || it.is_last && label.start <= it.data_end
 }
@@ -56,10 +56,10 @@ fn ends_before(it: &ShownLine<'_, '_>, label: &PlacedLabel) -> bool
 /// The number of a label's first column.
 fn first_number(
     alloc: Global,
-    it: &ShownLine<'_, '_>,
+    it: &NarratedLine<'_, '_>,
     label: &PlacedLabel,
 ) -> Result<usize, AllocError>
-    ensures { IfOk result (λ n. n ≡ first_number (shown_line it.now) label.now.start) }
+    ensures { IfOk result (λ n. n ≡ first_number (narrated_line it.now) label.now.start) }
 {
     let before = column(alloc, it.text, label.start.saturating_sub(it.line.start))?;
     sum(before, 1)
@@ -68,10 +68,10 @@ fn first_number(
 /// The number of its last column; an empty label has one column.
 fn last_number(
     alloc: Global,
-    it: &ShownLine<'_, '_>,
+    it: &NarratedLine<'_, '_>,
     label: &PlacedLabel,
 ) -> Result<usize, AllocError>
-    ensures { IfOk result (λ n. n ≡ last_number (shown_line it.now) label.now.start label.now.after) }
+    ensures { IfOk result (λ n. n ≡ last_number (narrated_line it.now) label.now.start label.now.after) }
 {
     if label.start == label.after {
         let first = first_number(alloc, it, label)?;
@@ -110,7 +110,7 @@ fn push_columns(out: &mut String, first: usize, last: usize) -> Result<(), Alloc
 // one label.
 fn places_for(
     alloc: Global,
-    text: LineText<'_, '_>,
+    text: NarratedText<'_, '_>,
     labels: usize,
 ) -> Result<(Vec<PartingPlace>, Vec<Trail>), AllocError>
     ensures places { IfOk result (λ made. All (IsPlace text.entry.bytes.now) made.0.items) }
@@ -128,7 +128,7 @@ fn places_for(
 #[derive(Clone, Copy, Drop)]
 pub(crate) struct LabelledLine<'r, 'a, 'p> {
     /// The line.
-    pub(crate) line: &'r ShownLine<'a, 'p>,
+    pub(crate) line: &'r NarratedLine<'a, 'p>,
     /// The labels as given, whose texts are told.
     pub(crate) labels: &'r [LabeledSpan],
 }
@@ -143,7 +143,7 @@ impl LabelledLine<'_, '_, '_> {
     ) -> Result<(), AllocError>
         ensures { OnOk result (string_bytes out.new
             ≡ string_bytes out.old
-            ++ whole_row (shown_line self.now.line.now) (range_of self.now.labels.now label.now)) }
+            ++ whole_row (narrated_line self.now.line.now) (range_of self.now.labels.now label.now)) }
     {
         let first = first_number(alloc, self.line, label)?;
         let last = last_number(alloc, self.line, label)?;
@@ -162,7 +162,7 @@ impl LabelledLine<'_, '_, '_> {
         label: &PlacedLabel,
     ) -> Result<(), AllocError>
         ensures { OnOk result (string_bytes out.new ≡ string_bytes out.old
-            ++ column_row words.now (shown_line self.now.line.now) column (range_of self.now.labels.now label.now)) }
+            ++ column_row words.now (narrated_line self.now.line.now) column (range_of self.now.labels.now label.now)) }
     {
         push_number(out, words, self.line.number)?;
         push_number(out, ", column ", column)?;
@@ -179,7 +179,7 @@ impl LabelledLine<'_, '_, '_> {
     ) -> Result<(), AllocError>
         ensures { OnOk result (string_bytes out.new
             ≡ string_bytes out.old
-            ++ start_row (shown_line self.now.line.now) (range_of self.now.labels.now label.now)) }
+            ++ start_row (narrated_line self.now.line.now) (range_of self.now.labels.now label.now)) }
     {
         let first = first_number(alloc, self.line, label)?;
         self.push_column(out, "    label starting at line ", first, label)
@@ -192,8 +192,8 @@ impl LabelledLine<'_, '_, '_> {
         out: &mut String,
         label: &PlacedLabel,
     ) -> Result<(), AllocError>
-        ensures { OnOk result (string_bytes out.new
-            ≡ string_bytes out.old ++ end_row (shown_line self.now.line.now) (range_of self.now.labels.now label.now)) }
+        ensures { OnOk result (string_bytes out.new ≡ string_bytes out.old
+            ++ end_row (narrated_line self.now.line.now) (range_of self.now.labels.now label.now)) }
     {
         let last = last_number(alloc, self.line, label)?;
         self.push_column(out, "    label ending at line ", last, label)
@@ -208,7 +208,7 @@ impl LabelledLine<'_, '_, '_> {
     ) -> Result<(), AllocError>
         ensures { OnOk result (string_bytes out.new
             ≡ string_bytes out.old
-            ++ begun_row (shown_line self.now.line.now) (range_of self.now.labels.now label.now)) }
+            ++ begun_row (narrated_line self.now.line.now) (range_of self.now.labels.now label.now)) }
     {
         if ends_before(self.line, label) {
             self.push_whole(alloc, out, label)?;
@@ -227,7 +227,7 @@ impl LabelledLine<'_, '_, '_> {
     ) -> Result<(), AllocError>
         ensures { OnOk result (string_bytes out.new
             ≡ string_bytes out.old
-            ++ label_row (shown_line self.now.line.now) (range_of self.now.labels.now label.now)) }
+            ++ label_row (narrated_line self.now.line.now) (range_of self.now.labels.now label.now)) }
     {
         if begins(self.line, label) {
             self.push_begun(alloc, out, label)?;
@@ -245,7 +245,7 @@ impl LabelledLine<'_, '_, '_> {
         placed: &[PlacedLabel],
     ) -> Result<(), AllocError>
         ensures { OnOk result (string_bytes out.new ≡ string_bytes out.old
-            ++ label_rows (shown_line self.now.line.now) (ranges_of self.now.labels.now placed.now)) }
+            ++ label_rows (narrated_line self.now.line.now) (ranges_of self.now.labels.now placed.now)) }
     {
         for label in placed {
             self.push_label(alloc, out, label)?;
@@ -261,7 +261,7 @@ impl LabelledLine<'_, '_, '_> {
         ended: &[RankedLabel],
     ) -> Result<(), AllocError>
         ensures { OnOk result (string_bytes out.new ≡ string_bytes out.old
-            ++ label_rows (shown_line self.now.line.now) (ranges_of self.now.labels.now (labels_of ended.now))) }
+            ++ label_rows (narrated_line self.now.line.now) (ranges_of self.now.labels.now (without_ranks ended.now))) }
     {
         for end in ended {
             self.push_label(alloc, out, &end.label)?;
@@ -277,7 +277,7 @@ impl LabelledLine<'_, '_, '_> {
         placed: &[PlacedLabel],
     ) -> Result<(), AllocError>
         ensures { OnOk result (string_bytes out.new ≡ string_bytes out.old
-            ++ label_rows (shown_line self.now.line.now) (ranges_of self.now.labels.now placed.now)) }
+            ++ label_rows (narrated_line self.now.line.now) (ranges_of self.now.labels.now placed.now)) }
     {
         let (places, trails) = places_for(alloc, self.line.text, placed.len())?;
         let line = self.line.with_places(&places, &trails);
@@ -298,8 +298,8 @@ impl LabelledLine<'_, '_, '_> {
         begun: &[PlacedLabel],
     ) -> Result<(), AllocError>
         ensures { OnOk result (string_bytes out.new ≡ (string_bytes out.old
-            ++ label_rows (shown_line self.now.line.now) (ranges_of self.now.labels.now (labels_of ended.now)))
-            ++ label_rows (shown_line self.now.line.now) (ranges_of self.now.labels.now begun.now)) }
+            ++ label_rows (narrated_line self.now.line.now) (ranges_of self.now.labels.now (without_ranks ended.now)))
+            ++ label_rows (narrated_line self.now.line.now) (ranges_of self.now.labels.now begun.now)) }
     {
         let (places, trails) = places_for(
             alloc,

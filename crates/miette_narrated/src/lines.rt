@@ -3,7 +3,7 @@
 ghost use Rattle.std.specs.Prelude.{◌≡◌, false, ◌++◌, ◌+◌, ◌<◌, ◌≤◌, ◌^◌, length, OnOk, string_bytes};
 ghost use Rattle.miette_lines.specs.rules.Contexts.{lines_of_contents};
 ghost use Rattle.miette_newlines.specs.views.Walking.{line_of_text};
-ghost use Rattle.miette_narrated.specs.steps.Conversions.{ranges_of, shown_line};
+ghost use Rattle.miette_narrated.specs.steps.Conversions.{ranges_of, narrated_line};
 ghost use Rattle.miette_narrated.specs.rules.Lines.{snippet_line, line_row, rows_of_line, rows_of_lines};
 ghost use Rattle.miette_narrated.specs.steps.Ends.{IsOrder};
 ghost use Rattle.miette_narrated.specs.rules.Labels.{label_rows};
@@ -12,9 +12,9 @@ ghost use Rattle.miette_narrated.specs.steps.Sweeping.{IsAt, last_start};
 use crate::columns::push_decoded;
 use crate::label_order::{LabelOrder, begun_on, ended_on};
 use crate::label_rows::LabelledLine;
-use crate::line_text::LineText;
-use crate::snippet_line::ShownLine;
-use crate::sweeping::{Sweep, come_to};
+use crate::narrated_line::NarratedLine;
+use crate::narrated_text::NarratedText;
+use crate::sweeping::{ReachSweep, come_to};
 use crate::words::push_number;
 use miette_newlines::lines::{LineOfText, Lines};
 use miette_protocol::source::MietteSpanContents;
@@ -22,8 +22,8 @@ use miette_style::sums::sum;
 use std::alloc::{AllocError, Global};
 
 /// `snippet line 2:   text`
-fn push_line(out: &mut String, it: &ShownLine<'_, '_>) -> Result<(), AllocError>
-    ensures { OnOk result (string_bytes out.new ≡ string_bytes out.old ++ line_row (shown_line it.now)) }
+fn push_line(out: &mut String, it: &NarratedLine<'_, '_>) -> Result<(), AllocError>
+    ensures { OnOk result (string_bytes out.new ≡ string_bytes out.old ++ line_row (narrated_line it.now)) }
 {
     push_number(out, "snippet line ", it.number)?;
     out.push_str(": ")?;
@@ -33,8 +33,8 @@ fn push_line(out: &mut String, it: &ShownLine<'_, '_>) -> Result<(), AllocError>
 }
 
 /// Where the labels begin that may have a row on a line.
-fn last_start(it: &ShownLine<'_, '_>) -> usize
-    ensures { result ≡ last_start (shown_line it.now) }
+fn last_start(it: &NarratedLine<'_, '_>) -> usize
+    ensures { result ≡ last_start (narrated_line it.now) }
 {
     if it.is_last {
         it.data_end.max(it.line.text_end)
@@ -47,15 +47,15 @@ fn last_start(it: &ShownLine<'_, '_>) -> usize
 fn push_shown(
     alloc: Global,
     out: &mut String,
-    it: &ShownLine<'_, '_>,
+    it: &NarratedLine<'_, '_>,
     order: &LabelOrder<'_>,
-    sweep: &mut Sweep,
+    sweep: &mut ReachSweep,
 ) -> Result<(), AllocError>
     requires order { IsOrder order.now }
     requires at { IsAt order.now.placed.now sweep.old.at sweep.old.next sweep.old.running.items }
     ensures rows { OnOk result (string_bytes out.new
         ≡ string_bytes out.old
-        ++ rows_of_line (ranges_of order.now.labels.now order.now.placed.now) (shown_line it.now)) }
+        ++ rows_of_line (ranges_of order.now.labels.now order.now.placed.now) (narrated_line it.now)) }
     ensures at { OnOk result (IsAt order.now.placed.now sweep.new.at sweep.new.next sweep.new.running.items) }
 {
     push_line(out, it)?;
@@ -76,14 +76,14 @@ fn push_shown(
 fn push_inner(
     alloc: Global,
     out: &mut String,
-    it: &ShownLine<'_, '_>,
+    it: &NarratedLine<'_, '_>,
     order: &LabelOrder<'_>,
 ) -> Result<(), AllocError>
     requires order { IsOrder order.now }
     requires inner { it.now.is_last ≡ false }
     ensures { OnOk result (string_bytes out.new
         ≡ string_bytes out.old
-        ++ label_rows (shown_line it.now) (ranges_of order.now.labels.now order.now.placed.now)) }
+        ++ label_rows (narrated_line it.now) (ranges_of order.now.labels.now order.now.placed.now)) }
 {
     let ended = ended_on(alloc, order, &it.line)?;
     let begun = begun_on(order.placed, &it.line);
@@ -96,26 +96,26 @@ fn push_inner(
 }
 
 /// A line of what a snippet's read lent.
-fn shown_line<'a>(
+fn narrated_line<'a>(
     lent: &'a MietteSpanContents<'_>,
     line: LineOfText,
     number: usize,
     is_last: bool,
-) -> ShownLine<'a, 'static>
+) -> NarratedLine<'a, 'static>
     requires from { lent.now.span.offset ≤ line.start }
     requires text { line.start ≤ line.text_end }
     requires to { line.text_end ≤ lent.now.span.offset + length lent.now.bytes }
     requires small { lent.now.span.offset + length lent.now.bytes < 2 ^ 64 }
-    ensures { shown_line result ≡ snippet_line lent.now number is_last (line_of_text line) }
+    ensures { narrated_line result ≡ snippet_line lent.now number is_last (line_of_text line) }
 {
     let start = lent.span().offset();
     let data = lent.data();
-    ShownLine {
+    NarratedLine {
         line,
         number,
         is_last,
         data_end: start + data.len(),
-        text: LineText::new(&data[line.start - start..line.text_end - start]),
+        text: NarratedText::new(&data[line.start - start..line.text_end - start]),
     }
 }
 
@@ -125,7 +125,7 @@ pub(crate) fn push_lines(
     out: &mut String,
     lent: &MietteSpanContents<'_>,
     order: &LabelOrder<'_>,
-    sweep: &mut Sweep,
+    sweep: &mut ReachSweep,
 ) -> Result<(), AllocError>
     requires small { lent.now.span.offset + length lent.now.bytes < 2 ^ 64 }
     requires order { IsOrder order.now }
@@ -140,7 +140,7 @@ pub(crate) fn push_lines(
     let mut before = lent.line();
     for line in Lines::new(lent.data(), start) {
         let number = sum(before, 1)?;
-        let it = shown_line(lent, line, number, line.end == end);
+        let it = narrated_line(lent, line, number, line.end == end);
         push_shown(alloc, out, &it, order, sweep)?;
         before = number;
     }

@@ -15,7 +15,7 @@ ghost use Rattle.miette_narrated.specs.steps.AppendedParts.{AppendsSnippets};
 
 use crate::label_order::{LabelOrder, by_end};
 use crate::lines::push_lines;
-use crate::sweeping::Sweep;
+use crate::sweeping::ReachSweep;
 use crate::words::push_number;
 use miette_lines::drawn_labels::placed_labels;
 use miette_lines::grouping::groups;
@@ -64,7 +64,7 @@ fn push_snippet(
     out: &mut String,
     lent: &MietteSpanContents<'_>,
     order: &LabelOrder<'_>,
-    sweep: &mut Sweep,
+    sweep: &mut ReachSweep,
 ) -> Result<(), AllocError>
     requires order { IsOrder order.now }
     requires at { IsAt order.now.placed.now sweep.old.at sweep.old.next sweep.old.running.items }
@@ -108,7 +108,7 @@ fn push_read<'a, S: SourceCode>(
         placed: &placed,
         ends: &ends,
     };
-    let mut sweep = Sweep {
+    let mut sweep = ReachSweep {
         at: 0,
         next: 0,
         running: Vec::new(alloc),

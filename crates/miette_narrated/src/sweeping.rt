@@ -9,7 +9,7 @@ use std::alloc::{AllocError, Global};
 
 /// A sweep that has come to a place: how many labels have come, and those of them that reach the place.
 #[derive(Debug, Drop)]
-pub(crate) struct Sweep {
+pub(crate) struct ReachSweep {
     pub(crate) at: usize,
     pub(crate) next: usize,
     pub(crate) running: Vec<PlacedLabel>,
@@ -23,7 +23,7 @@ fn keep_reaching(running: &mut Vec<PlacedLabel>, place: usize)
 }
 
 /// Puts the labels that begin at `last` or before behind those that run, where they reach the sweep's place.
-fn take_more(labels: &[PlacedLabel], last: usize, sweep: &mut Sweep) -> Result<(), AllocError>
+fn take_more(labels: &[PlacedLabel], last: usize, sweep: &mut ReachSweep) -> Result<(), AllocError>
     requires { IsAt labels.now sweep.old.at sweep.old.next sweep.old.running.items }
     ensures place { sweep.new.at ≡ sweep.old.at }
     ensures at { OnOk result (IsAt labels.now sweep.new.at sweep.new.next sweep.new.running.items) }
@@ -47,7 +47,7 @@ pub(crate) fn come_to(
     labels: &[PlacedLabel],
     place: usize,
     last: usize,
-    sweep: &mut Sweep,
+    sweep: &mut ReachSweep,
 ) -> Result<(), AllocError>
     requires { IsAt labels.now sweep.old.at sweep.old.next sweep.old.running.items }
     ensures place { OnOk result (sweep.new.at ≡ place) }

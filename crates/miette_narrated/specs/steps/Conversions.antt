@@ -5,7 +5,7 @@ use Rattle.miette_lines.specs.declared.sweep.PlacedLabel.{PlacedLabel}
 use Rattle.miette_lines.specs.rules.Cells.{characters}
 use Rattle.miette_lines.specs.views.GivenLabels.{text_at}
 use Rattle.miette_newlines.specs.views.Walking.{line_of_text}
-use Rattle.miette_narrated.specs.declared.snippet_line.ShownLine.{ShownLine}
+use Rattle.miette_narrated.specs.declared.narrated_line.NarratedLine.{NarratedLine}
 use Rattle.miette_narrated.specs.rules.Labels.{LabelRange, SnippetLine}
 
 -- a label that has been placed, with the text that it has among these labels
@@ -16,8 +16,8 @@ abbrev pub ranges_of : List Label → List PlacedLabel → List LabelRange
 ranges_of labels ps = map (range_of labels) ps
 
 -- a line as a program shows it
-abbrev pub shown_line : ShownLine → SnippetLine
-shown_line it = record {
+abbrev pub narrated_line : NarratedLine → SnippetLine
+narrated_line it = record {
   line = line_of_text it.line;
   number = it.number;
   is_last = it.is_last;

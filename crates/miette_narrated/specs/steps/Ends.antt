@@ -25,8 +25,8 @@ abbrev pub ranked_labels : ℕ → List PlacedLabel → List RankedLabel
 ranked_labels rank [] = []
 ranked_labels rank (p ∷ ps) = record { rank = rank; label = p } ∷ ranked_labels (rank + 1) ps
 
-abbrev pub labels_of : List RankedLabel → List PlacedLabel
-labels_of ends = map (λ end. end.label) ends
+abbrev pub without_ranks : List RankedLabel → List PlacedLabel
+without_ranks ends = map (λ end. end.label) ends
 
 -- the same labels, by where they end
 pub record AreEnds (labels : List PlacedLabel) (ends : List RankedLabel) : Type 0 where

@@ -1,7 +1,7 @@
 use Rattle.std.proofs.Common.{Option, subst, string_bytes, rules, arith}
 use Rattle.miette_newlines.specs.declared.lines.LineOfText.{LineOfText}
 use Rattle.miette_newlines.specs.views.Walking.{GivesLine}
-use Rattle.miette_narrated.specs.steps.Conversions.{ranges_of, shown_line}
+use Rattle.miette_narrated.specs.steps.Conversions.{ranges_of, narrated_line}
 use Rattle.miette_narrated.proofs.Lining.{left_first, left_more, left_none}
 use Rattle.miette_narrated.proofs.lines.push_lines.Goals as goal
 
@@ -11,8 +11,8 @@ loop-line-init c = record {
   at = c.requires.at;
 }
 
-pub shown_line-it-requires : goal.shown_line-it-requires
-shown_line-it-requires c =
+pub narrated_line-it-requires : goal.narrated_line-it-requires
+narrated_line-it-requires c =
     let l = c.loop-line in
     let given = subst (λ (r : Option LineOfText). GivesLine l.line-iterator r c.next.new.self) c.in-Some.is c.next.ensures.steps in
     record {
@@ -29,8 +29,8 @@ loop-line-preserved c =
     let told = ranges_of c.args.order.now.labels.now c.args.order.now.placed.now in
     let given = subst (λ (r : Option LineOfText). GivesLine l.line-iterator r c.next.new.self) c.in-Some.is c.next.ensures.steps in
     record {
-      left = left_more told lent l.before c.in_ok-number.number l.line-iterator c.next.new.self c.in-Some.line _ (shown_line c.shown_line-it.result) (string_bytes l.out) (string_bytes c.push_shown.new.out) _ l.invariant.left
-          given.0 given.1 c.in_ok-number.ensures (search rules) c.shown_line-it.ensures c.in_ok-push_shown.ensures.rows;
+      left = left_more told lent l.before c.in_ok-number.number l.line-iterator c.next.new.self c.in-Some.line _ (narrated_line c.narrated_line-it.result) (string_bytes l.out) (string_bytes c.push_shown.new.out) _ l.invariant.left
+          given.0 given.1 c.in_ok-number.ensures (search rules) c.narrated_line-it.ensures c.in_ok-push_shown.ensures.rows;
       at = c.in_ok-push_shown.ensures.at;
     }
 

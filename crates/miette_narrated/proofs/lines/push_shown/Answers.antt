@@ -1,7 +1,7 @@
 use Rattle.std.proofs.Common.{ap, ◌∙◌, ◌++◌, string_bytes, subst, suc, drop}
 use Rattle.miette_narrated.specs.rules.Labels.{label_rows}
 use Rattle.miette_narrated.specs.rules.Lines.{line_row}
-use Rattle.miette_narrated.specs.steps.Conversions.{ranges_of, shown_line}
+use Rattle.miette_narrated.specs.steps.Conversions.{ranges_of, narrated_line}
 use Rattle.miette_narrated.specs.steps.Sweeping.{BeginsFrom}
 use Rattle.miette_narrated.proofs.Putting.{then}
 use Rattle.miette_narrated.proofs.Sweeps.{rows_swept}
@@ -9,7 +9,7 @@ use Rattle.miette_narrated.proofs.lines.push_shown.Goals as goal
 
 pub returns-clause-rows : goal.returns-clause-rows
 returns-clause-rows c =
-    let it = shown_line c.args.it.now in
+    let it = narrated_line c.args.it.now in
     let labels = c.args.order.now.labels.now in
     let placed = c.args.order.now.placed.now in
     let sweep = c.come_to.new.sweep in

@@ -1,13 +1,13 @@
 use Rattle.std.proofs.Common.{ap, ◌∙◌, ◌++◌, string_bytes, codes}
 use Rattle.std.specs.Prelude.{decimal}
 use Rattle.miette_narrated.specs.rules.Labels.{row, text_behind}
-use Rattle.miette_narrated.specs.steps.Conversions.{range_of, shown_line}
+use Rattle.miette_narrated.specs.steps.Conversions.{range_of, narrated_line}
 use Rattle.miette_narrated.proofs.Putting.{label_put_at}
 use Rattle.miette_narrated.proofs.label_rows.LabelledLine.push_column.Goals as goal
 
 pub returns : goal.returns
 returns c =
-    let it = shown_line c.args.self.now.line.now in
+    let it = narrated_line c.args.self.now.line.now in
     let d = range_of c.args.self.now.labels.now c.args.label.now in
     label_put_at (string_bytes c.args.out.now) (string_bytes c.push_number.new.out) (string_bytes c.push_number-2.new.out) (string_bytes c.push_end.new.out)
     c.args.words.now (decimal it.number) (codes ", column ") (decimal c.args.column) (text_behind d.text)

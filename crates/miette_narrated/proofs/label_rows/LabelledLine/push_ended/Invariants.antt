@@ -1,8 +1,8 @@
 use Rattle.std.proofs.Common.{◌≡◌, ◌++◌, string_bytes, drop}
-use Rattle.miette_narrated.specs.steps.Ends.{labels_of}
+use Rattle.miette_narrated.specs.steps.Ends.{without_ranks}
 use Rattle.miette_narrated.specs.rules.Labels.{label_rows}
-use Rattle.miette_narrated.specs.steps.Conversions.{ranges_of, shown_line}
+use Rattle.miette_narrated.specs.steps.Conversions.{ranges_of, narrated_line}
 use Rattle.miette_narrated.proofs.label_rows.LabelledLine.push_ended.Given as goal
 
 abbrev pub invariant-loop-end : goal.invariant-loop-end
-invariant-loop-end l = string_bytes l.out ++ label_rows (shown_line l.self.line.now) (ranges_of l.self.labels.now (labels_of (drop l.end-index l.ended))) ≡ string_bytes l.fn.out ++ label_rows (shown_line l.self.line.now) (ranges_of l.self.labels.now (labels_of l.ended))
+invariant-loop-end l = string_bytes l.out ++ label_rows (narrated_line l.self.line.now) (ranges_of l.self.labels.now (without_ranks (drop l.end-index l.ended))) ≡ string_bytes l.fn.out ++ label_rows (narrated_line l.self.line.now) (ranges_of l.self.labels.now (without_ranks l.ended))

@@ -1,13 +1,13 @@
 use Rattle.std.proofs.Common.{ap, ap₂, ◌∙◌, ◌++◌, string_bytes, codes}
 use Rattle.std.specs.Prelude.{decimal}
 use Rattle.miette_narrated.specs.rules.Labels.{row, columns_text, text_behind, first_number, last_number}
-use Rattle.miette_narrated.specs.steps.Conversions.{range_of, shown_line}
+use Rattle.miette_narrated.specs.steps.Conversions.{range_of, narrated_line}
 use Rattle.miette_narrated.proofs.Putting.{label_put}
 use Rattle.miette_narrated.proofs.label_rows.LabelledLine.push_whole.Goals as goal
 
 pub returns : goal.returns
 returns c =
-    let it = shown_line c.args.self.now.line.now in
+    let it = narrated_line c.args.self.now.line.now in
     let d = range_of c.args.self.now.labels.now c.args.label.now in
     label_put (string_bytes c.args.out.now) (string_bytes c.push_number.new.out) (string_bytes c.push_columns.new.out) (string_bytes c.push_end.new.out)
     (codes "    label at line ") (decimal it.number) (columns_text (first_number it d.start) (last_number it d.start d.after)) (text_behind d.text)

@@ -2,11 +2,11 @@
 
 ghost use Rattle.std.specs.Prelude.{◌≡◌};
 ghost use Rattle.std.specs.List.{All};
-ghost use Rattle.miette_narrated.specs.steps.Conversions.{shown_line};
+ghost use Rattle.miette_narrated.specs.steps.Conversions.{narrated_line};
 ghost use Rattle.miette_narrated.specs.steps.Places.{IsPlace};
 ghost use Rattle.miette_narrated.specs.steps.Trails.{IsTrail};
 
-use crate::line_text::LineText;
+use crate::narrated_text::NarratedText;
 use crate::places::PartingPlace;
 use crate::trails::Trail;
 use miette_newlines::lines::LineOfText;
@@ -14,26 +14,26 @@ use miette_newlines::lines::LineOfText;
 /// A line of a snippet: where it lies, its number, whether it is the snippet's last, where the snippet's data end,
 /// and its text.
 #[derive(Clone, Copy)]
-pub(crate) struct ShownLine<'a, 'p> {
+pub(crate) struct NarratedLine<'a, 'p> {
     pub(crate) line: LineOfText,
     pub(crate) number: usize,
     pub(crate) is_last: bool,
     pub(crate) data_end: usize,
-    pub(crate) text: LineText<'a, 'p>,
+    pub(crate) text: NarratedText<'a, 'p>,
 }
 
-impl<'a, 'p> ShownLine<'a, 'p> {
+impl<'a, 'p> NarratedLine<'a, 'p> {
     /// The same line, with places of its text from which a walk over its characters may go on, and trails.
     pub(crate) fn with_places<'q>(
         &self,
         places: &'q [PartingPlace],
         trails: &'q [Trail],
-    ) -> ShownLine<'a, 'q>
+    ) -> NarratedLine<'a, 'q>
         requires places { All (IsPlace self.now.text.bytes.now) places.now }
         requires trails { All (IsTrail self.now.text.bytes.now) trails.now }
-        ensures { shown_line result ≡ shown_line self.now }
+        ensures { narrated_line result ≡ narrated_line self.now }
     {
-        ShownLine {
+        NarratedLine {
             line: self.line,
             number: self.number,
             is_last: self.is_last,

@@ -13,7 +13,7 @@ use miette_lines::plain::all_printable;
 /// The bytes of a line's text, whether each is a printable ASCII character, places from which a walk over its
 /// characters may go on, and trails in which no walk is needed.
 #[derive(Clone, Copy)]
-pub(crate) struct LineText<'a, 'p> {
+pub(crate) struct NarratedText<'a, 'p> {
     pub(crate) bytes: &'a [u8],
     pub(crate) is_plain: bool,
     pub(crate) places: &'p [PartingPlace],
@@ -23,11 +23,11 @@ pub(crate) struct LineText<'a, 'p> {
     ghost trail: { All (IsTrail bytes.now) trails.now },
 }
 
-impl<'a, 'p> LineText<'a, 'p> {
+impl<'a, 'p> NarratedText<'a, 'p> {
     pub(crate) fn new(bytes: &'a [u8]) -> Self
         ensures { result.bytes.now ≡ bytes.now }
     {
-        LineText {
+        NarratedText {
             bytes,
             is_plain: all_printable(bytes),
             places: &[],
@@ -40,12 +40,12 @@ impl<'a, 'p> LineText<'a, 'p> {
         self,
         places: &'q [PartingPlace],
         trails: &'q [Trail],
-    ) -> LineText<'a, 'q>
+    ) -> NarratedText<'a, 'q>
         requires places { All (IsPlace self.bytes.now) places.now }
         requires trails { All (IsTrail self.bytes.now) trails.now }
         ensures { result.bytes.now ≡ self.entry.bytes.now }
     {
-        LineText {
+        NarratedText {
             bytes: self.bytes,
             is_plain: self.is_plain,
             places,
