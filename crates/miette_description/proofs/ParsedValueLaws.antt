@@ -9,10 +9,11 @@ use Rattle.json.specs.Find as parsed
 use Rattle.json.specs.Value.{value_view}
 use Rattle.json.specs.declared.value.Value.{Value}
 use Rattle.serde_json.specs.Data.{Num, unsigned, negative, float, Data, number, array, object, item, Members, no_members, member, put}
-use Rattle.serde_json.specs.Find.{get, get_member, as_u64, is_float, to_float}
+use Rattle.serde_json.specs.Find.{get, get_member, as_u64, is_float}
 use Rattle.serde_json.specs.Read.{number_of, of_json, of_items, of_members}
 use Rattle.serde_json.specs.Written.{has_float, items_have_float, members_have_float}
 use Rattle.serde_json.proofs.Views.{get_member-put, get_member-put_other}
+use Rattle.miette_description.proofs.NumberSteps.{no_number}
 use Rattle.miette_description.specs.steps.ParsedValues.{number_data, data_of, items_data, members_data, is_integral, are_integral, have_integral, value_data}
 
 -- ---- the value of a text, where it has one
@@ -33,7 +34,7 @@ mutual
   data_is : (j : json.Json) → IfSome (of_json j) (λ d. data_of j ≡ d)
   data_is json.null = refl
   data_is (json.boolean b) = refl
-  data_is (json.number s) = number_is (number_of s) (float (to_float (unsigned 0)))
+  data_is (json.number s) = number_is (number_of s) no_number
   data_is (json.string s) = refl
   data_is (json.array js) = within array (items_data js) (of_items js) (items_are js)
   data_is (json.object ms) = within object (members_data ms no_members) (of_members ms no_members) (members_are ms no_members)
@@ -73,10 +74,7 @@ or_both : (a b : Bool) → a ≡ false → b ≡ false → a || b ≡ false
 or_both true b e f = e
 or_both false b e f = f
 
-abbrev Z : Num
-Z = float (to_float (unsigned 0))
-
-integer_is : (o : Option Num) → is_some (as_u64 (unwrap_or o Z)) ≡ true → option_map number o ≡ Some (number (unwrap_or o Z))
+integer_is : (o : Option Num) → is_some (as_u64 (unwrap_or o no_number)) ≡ true → option_map number o ≡ Some (number (unwrap_or o no_number))
 integer_is None e = absurd (true≢false (sym e))
 integer_is (Some n) e = refl
 
