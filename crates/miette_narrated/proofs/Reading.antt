@@ -15,7 +15,6 @@ use Rattle.miette_lines.specs.declared.reading.ReadLabels.{ReadLabels}
 use Rattle.miette_lines.specs.declared.reading.ReadLabels.TheVariants as reads
 use Rattle.miette_lines.specs.rules.Answers.{NoneFails}
 use Rattle.miette_lines.specs.rules.Contexts.{contents, end_of_span}
-use Rattle.miette_lines.specs.views.GivenLabels.{label_at}
 use Rattle.miette_lines.specs.rules.Around.{has_own, lines_around, group_context}
 use Rattle.miette_lines.specs.rules.Groups.{put_label, in_order, refusal, AreAccepted, groups_of, some_fails}
 use Rattle.miette_lines.specs.rules.Groups as groups
@@ -23,6 +22,7 @@ use Rattle.miette_lines.specs.views.Placing.{placed_one, placed_from}
 use Rattle.miette_lines.specs.views.Reads.{IsRead, AreRead, IsLent, AreGroups, AreGrouped, IsUnread}
 use Rattle.miette_lines.proofs.Numbers.{by_cases}
 use Rattle.miette_lines.proofs.Owning.{order_all}
+use Rattle.miette_lines.proofs.Refusing.{read_of}
 use Rattle.miette_narrated.specs.rules.Labels.{LabelRange, label_range}
 use Rattle.miette_narrated.specs.steps.Conversions.{range_of, ranges_of}
 use Rattle.miette_narrated.specs.rules.Snippets.{snippet, snippets_of}
@@ -39,17 +39,14 @@ Reaches = (source : Source) → (span : Span) → (before after : ℕ) → IsAcc
     min (span.offset + span.len) (length source.bytes)
     ≡ min (span.offset + span.len) ((contents_of source span before after).span.offset + (contents_of source span before after).span.len)
 
-abbrev pub label_of_read : List Label → ReadLabel → Label
-label_of_read labels r = label_at labels r.index
-
 text_there : (o : Option Label) → option_map_or (λ label. label.text) o None ≡ (unwrap_or o (record { text = None; span = record { offset = 0; len = 0 }; primary = false; context = None })).text
 text_there None = refl
 text_there (Some label) = refl
 
 told_one : (context : ℕ) (source : Source) (labels : List Label) (i : ℕ) (r : ReadLabel) → Reaches → IsRead context source labels r →
-    range_of labels (placed_one None [] i r) ≡ label_range (length source.bytes) (label_of_read labels r)
+    range_of labels (placed_one None [] i r) ≡ label_range (length source.bytes) (read_of labels r)
 told_one context source labels i r law h =
-    let l = label_of_read labels r in
+    let l = read_of labels r in
     let n = length source.bytes in
     let around = lines_around context labels l in
     let ends : end_of_span r.contents.span ≡ end_of_span (contents around source r.span).span = ap (λ c. end_of_span c.span) (h.contents_are ∙ ap (contents around source) (sym h.span)) in
@@ -61,13 +58,13 @@ told_one context source labels i r law h =
       the a b t = record { start = a; after = b; text = t }
 
 told_reads : (context : ℕ) (source : Source) (labels : List Label) (i : ℕ) (rs : List ReadLabel) → Reaches → All (IsRead context source labels) rs →
-    ranges_of labels (placed_from None [] i rs) ≡ map (label_range (length source.bytes)) (map (label_of_read labels) rs)
+    ranges_of labels (placed_from None [] i rs) ≡ map (label_range (length source.bytes)) (map (read_of labels) rs)
 told_reads context source labels i [] law h = refl
 told_reads context source labels i (r ∷ rs) law h =
     ap₂ (λ x xs. x ∷ xs) (told_one context source labels i r law (All-head (IsRead context source labels) r rs h))
     (told_reads context source labels (i + 1) rs law (All-tail (IsRead context source labels) r rs h))
 
-pub told_in_order : (context : ℕ) (source : Source) (labels : List Label) (rs : List ReadLabel) (ps : List PlacedLabel) → Reaches → All (IsRead context source labels) rs → map (label_of_read labels) rs ≡ in_order labels →
+pub told_in_order : (context : ℕ) (source : Source) (labels : List Label) (rs : List ReadLabel) (ps : List PlacedLabel) → Reaches → All (IsRead context source labels) rs → map (read_of labels) rs ≡ in_order labels →
     ps ≡ placed_from None [] 0 rs → ranges_of labels ps ≡ map (label_range (length source.bytes)) (in_order labels)
 told_in_order context source labels rs ps law h order e =
     ap (ranges_of labels) e ∙ told_reads context source labels 0 rs law h ∙ ap (map (label_range (length source.bytes))) order
@@ -89,16 +86,16 @@ order_rises : (ls : List Label) → Rises 0 (in_order ls)
 order_rises [] = tt
 order_rises (l ∷ ls) = put_rises 0 l (in_order ls) (omega arith) (order_rises ls)
 
-ordered_reads : (context : ℕ) (source : Source) (labels : List Label) (i from : ℕ) (rs : List ReadLabel) → All (IsRead context source labels) rs → Rises from (map (label_of_read labels) rs) →
+ordered_reads : (context : ℕ) (source : Source) (labels : List Label) (i from : ℕ) (rs : List ReadLabel) → All (IsRead context source labels) rs → Rises from (map (read_of labels) rs) →
     AreOrdered (placed_from None [] i rs) × BeginsFrom from (placed_from None [] i rs)
 ordered_reads context source labels i from [] h up = (tt, tt)
 ordered_reads context source labels i from (r ∷ rs) h up =
-    let start : r.span.offset ≡ (label_of_read labels r).span.offset = ap (λ s. s.offset) (All-head (IsRead context source labels) r rs h).span in
+    let start : r.span.offset ≡ (read_of labels r).span.offset = ap (λ s. s.offset) (All-head (IsRead context source labels) r rs h).span in
     let more = ordered_reads context source labels (i + 1) r.span.offset rs (All-tail (IsRead context source labels) r rs h)
-    (subst (λ k. Rises k (map (label_of_read labels) rs)) (sym start) up.1) in
+    (subst (λ k. Rises k (map (read_of labels) rs)) (sym start) up.1) in
     ((omega arith, more.1, more.0), omega (arith, start, up.0))
 
-pub placed_ordered : (context : ℕ) (source : Source) (labels : List Label) (rs : List ReadLabel) (ps : List PlacedLabel) → All (IsRead context source labels) rs → map (label_of_read labels) rs ≡ in_order labels →
+pub placed_ordered : (context : ℕ) (source : Source) (labels : List Label) (rs : List ReadLabel) (ps : List PlacedLabel) → All (IsRead context source labels) rs → map (read_of labels) rs ≡ in_order labels →
     ps ≡ placed_from None [] 0 rs → AreOrdered ps
 placed_ordered context source labels rs ps h order e =
     subst (λ (xs : List PlacedLabel). AreOrdered xs) (sym e)
@@ -106,7 +103,7 @@ placed_ordered context source labels rs ps h order e =
 
 -- ---- acceptance
 
-accepted_reads : (context : ℕ) (source : Source) (labels : List Label) (rs : List ReadLabel) → All (IsRead context source labels) rs → AreAccepted source.bytes (map (label_of_read labels) rs)
+accepted_reads : (context : ℕ) (source : Source) (labels : List Label) (rs : List ReadLabel) → All (IsRead context source labels) rs → AreAccepted source.bytes (map (read_of labels) rs)
 accepted_reads context source labels [] h = tt
 accepted_reads context source labels (r ∷ rs) h =
     let own = All-head (IsRead context source labels) r rs h in
@@ -133,7 +130,7 @@ groups_end context source labels gs i out goal le h =
     sym (append-nil out) ∙ ap (λ xs. out ++ snippets_of context source labels (map (λ g. g.span) xs)) (sym (drop_all i gs le)) ∙ h
 
 pub snippets_told : (context : ℕ) (source : Source) (labels : List Label) (rs : List ReadLabel) (ps : List PlacedLabel) (gs : List Group) (old new : List ℕ) → Reaches → All (IsRead context source labels) rs →
-    map (label_of_read labels) rs ≡ in_order labels → ps ≡ placed_from None [] 0 rs → AreGroups context source (in_order labels) gs →
+    map (read_of labels) rs ≡ in_order labels → ps ≡ placed_from None [] 0 rs → AreGroups context source (in_order labels) gs →
     new ≡ old ++ snippets_of (group_context context (in_order labels)) source (ranges_of labels ps) (map (λ g. g.span) gs) → AppendsSnippets context (Some source) labels old new
 snippets_told context source labels rs ps gs old new law h order e are text =
     let fails = are.fails in
