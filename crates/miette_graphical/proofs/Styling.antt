@@ -1,20 +1,16 @@
--- A text in a style, and a header or the end of its row.
-use Rattle.std.proofs.Common.{◌≡◌, codes, refl}
+-- Fixed texts, character by character.
+use Rattle.std.proofs.Common.{◌≡◌, Option, Some, None, codes, refl}
 use Rattle.std.specs.Str.{chars}
+use Rattle.miette_protocol.specs.declared.protocol.Severity.{Severity}
+use Rattle.miette_protocol.specs.declared.protocol.Severity.TheVariants.{Advice, Warning, Error}
+use Rattle.miette_tree.specs.rules.DiagnosticParts.{severity_title}
 
--- fixed texts
-
-pub advice : chars (codes "Advice: ") ≡ codes "Advice: "
+pub title_characters : (severity : Option Severity) → chars (severity_title severity) ≡ severity_title severity
 unfolding chars
-advice = refl
-
-pub warning : chars (codes "Warning: ") ≡ codes "Warning: "
-unfolding chars
-warning = refl
-
-pub error : chars (codes "Error: ") ≡ codes "Error: "
-unfolding chars
-error = refl
+title_characters None = refl
+title_characters (Some Error) = refl
+title_characters (Some Warning) = refl
+title_characters (Some Advice) = refl
 
 pub help_text : chars (codes "  help: ") ≡ codes "  help: "
 unfolding chars

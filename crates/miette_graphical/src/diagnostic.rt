@@ -6,15 +6,17 @@ ghost use Rattle.miette_graphical.specs.rules.Text as texts;
 ghost use Rattle.miette_graphical.specs.steps.SettingsView.{settings_of};
 ghost use Rattle.miette_tree.specs.views.Report.{tree_of};
 ghost use Rattle.miette_tree.specs.rules.Tree.{head};
+ghost use Rattle.miette_tree.specs.rules.DiagnosticParts.{severity_title};
 ghost use Rattle.miette_runs.specs.rules.Runs as runs;
 ghost use Rattle.miette_style.specs.rules.Lists.{is_nil};
 
-use crate::header::{push_header, severity_title};
+use crate::header::push_header;
 use crate::indents::{Branch, push_message, push_text_under_arrow};
 use crate::settings::{Settings, severity_style};
 use miette_protocol::protocol::{Diagnostic, Severity};
 use miette_protocol::source::SourceCode;
 use miette_text::runs::output::Output;
+use miette_tree::parts::severity_title;
 use miette_tree::report::Report;
 use std::alloc::{AllocError, Global};
 
@@ -51,6 +53,14 @@ pub fn push_message_of<D: Diagnostic, S: SourceCode>(
     push_message(alloc, settings, report.severity(), report.message(), out)
 }
 
+/// Appends what names a severity in front of a message.
+fn push_severity_title(severity: Option<Severity>, out: &mut Output) -> Result<(), AllocError>
+    ensures { OnOk result (out.new ≡ out.old ++ severity_title severity) }
+{
+    out.push_str(severity_title(severity))?;
+    Ok(())
+}
+
 /// Appends what a sibling begins with: its severity, and its header or else the end of the row.
 pub fn push_title<D: Diagnostic, S: SourceCode>(
     settings: Settings<'_>,
@@ -61,7 +71,7 @@ pub fn push_title<D: Diagnostic, S: SourceCode>(
         (head (tree_of D.meaning S.source report.now))) }
 {
     out.push('\n')?;
-    out.push_str(severity_title(report.severity()))?;
+    push_severity_title(report.severity(), out)?;
     if !push_header_of(settings, report, out)? {
         out.push('\n')?;
     }

@@ -1,16 +1,14 @@
 //! Headers: a code, and a url as a link or as a text.
 
-ghost use Rattle.std.specs.Prelude.{◌≡◌, ◌++◌, IfOk, OnOk, chars, not, option_map};
+ghost use Rattle.std.specs.Prelude.{◌≡◌, ◌++◌, IfOk, OnOk, not, option_map};
 ghost use Rattle.miette_runs.specs.rules.Runs.{print};
 ghost use Rattle.miette_style.specs.rules.Lists.{is_nil};
 ghost use Rattle.miette_graphical.specs.rules.DiagnosticText as parts;
 ghost use Rattle.miette_graphical.specs.views.Modes.{urls_of};
 ghost use Rattle.miette_graphical.specs.steps.SettingsView.{settings_of};
-ghost use Rattle.miette_tree.specs.rules.DiagnosticParts.{severity_title};
 
 use crate::settings::{Settings, UrlMode};
 use miette_page::page::PLAIN;
-use miette_protocol::protocol::Severity;
 use miette_style::style::Style;
 use miette_text::runs::output::Output;
 use std::alloc::AllocError;
@@ -113,16 +111,4 @@ pub fn push_header(
     };
     push_code_header(settings, style, behind, code, out)?;
     Ok(true)
-}
-
-/// What names a severity; that of an error where there is none.
-#[tactic(auto, using(crate::proofs::Styling::advice, crate::proofs::Styling::warning, crate::proofs::Styling::error))]
-pub fn severity_title(severity: Option<Severity>) -> &'static str
-    ensures { chars result.now ≡ severity_title severity }
-{
-    match severity {
-        Some(Severity::Advice) => "Advice: ",
-        Some(Severity::Warning) => "Warning: ",
-        _ => "Error: ",
-    }
 }

@@ -5,7 +5,6 @@ ghost use Rattle.std.specs.Option.{option_map};
 ghost use Rattle.miette_tree.specs.rules.Tree.{head, cause_of, causes_of, trees};
 ghost use Rattle.miette_tree.specs.views.Report.{tree_of};
 ghost use Rattle.miette_tree.specs.views.Owned.{shown_source};
-ghost use Rattle.miette_tree.specs.rules.DiagnosticParts.{severity_title};
 ghost use Rattle.miette_narrated.specs.rules.Report.{severity_row, head_rows, titled_rows, cause_rows};
 ghost use Rattle.miette_narrated.specs.rules.Report.{causes_if, advice_rows, url_rows, blank_before};
 ghost use Rattle.miette_narrated.specs.steps.AppendedParts.{AppendsSnippets, AppendsReport, AppendsRelated};
@@ -19,19 +18,9 @@ use crate::words::{push_row, push_row_if};
 use miette_protocol::error::RenderError;
 use miette_protocol::protocol::{Diagnostic, LabeledSpan, Severity};
 use miette_protocol::source::SourceCode;
-use miette_tree::parts::{cause_texts, labels_of, own_or, severity_name};
+use miette_tree::parts::{cause_texts, labels_of, own_or, severity_name, severity_title};
 use miette_tree::report::{Cause, Report, SourceRef};
 use std::alloc::{AllocError, Global};
-
-fn title_of(severity: Option<Severity>) -> &'static str
-    ensures { result.now ≡ severity_title severity }
-{
-    match severity {
-        Some(Severity::Advice) => "Advice: ",
-        Some(Severity::Warning) => "Warning: ",
-        _ => "Error: ",
-    }
-}
 
 /// `    Diagnostic severity: error`
 fn push_severity(out: &mut String, severity: Option<Severity>) -> Result<(), AllocError>
@@ -62,7 +51,7 @@ fn push_titled<D: Diagnostic, S: SourceCode>(
     ensures { OnOk result (string_bytes out.new
         ≡ string_bytes out.old ++ titled_rows (head (tree_of D.meaning S.source report.now))) }
 {
-    push_row(out, title_of(report.severity()), report.message())?;
+    push_row(out, severity_title(report.severity()), report.message())?;
     push_severity(out, report.severity())?;
     push_row(out, "", "")?;
     Ok(())

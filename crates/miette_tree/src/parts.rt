@@ -4,7 +4,7 @@ ghost use Rattle.std.specs.Prelude.{◌≡◌, map, string_bytes};
 ghost use Rattle.std.specs.Option.{option_map};
 ghost use Rattle.miette_tree.specs.rules.Chain.{texts_below};
 ghost use Rattle.miette_tree.specs.views.Owned.{shown_source};
-ghost use Rattle.miette_tree.specs.rules.DiagnosticParts.{given_labels, severity_text};
+ghost use Rattle.miette_tree.specs.rules.DiagnosticParts.{given_labels, severity_text, severity_title};
 ghost use Rattle.miette_tree.specs.views.Report.{tree_of};
 ghost use Rattle.miette_tree.specs.rules.Tree.{cause_of, effective, head, source_of};
 
@@ -52,5 +52,16 @@ pub fn severity_name(severity: Option<Severity>) -> &'static str
         Some(Severity::Advice) => "advice",
         Some(Severity::Warning) => "warning",
         _ => "error",
+    }
+}
+
+/// What names a severity in front of a message; that of an error where there is none.
+pub fn severity_title(severity: Option<Severity>) -> &'static str
+    ensures { result.now ≡ severity_title severity }
+{
+    match severity {
+        Some(Severity::Advice) => "Advice: ",
+        Some(Severity::Warning) => "Warning: ",
+        _ => "Error: ",
     }
 }
