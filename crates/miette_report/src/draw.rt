@@ -138,16 +138,16 @@ fn run<R: Read, W: Write>(
 ) -> Result<(), Fault>
     requires reader_unmarked { reader.old.failed ≡ false }
     requires writer_unmarked { writer.old.failed ≡ false }
+    ensures usage { (result ≡ Err Fault.Usage) ↔ IsNoDrawCall (map string_bytes words.now) }
+    ensures unread { (result ≡ Err Fault.Usage) → (reader.new ≡ reader.old) × (writer.new ≡ writer.old) }
     // All that the reader had left is the source, and the writer took its picture and nothing else.
     ensures ok { OnOk result (IfSome (R.remaining reader.old.inner) (λ bytes.
         CallPictures (map string_bytes words.now) bytes
         (Appends (W.contents writer.old.inner) (W.contents writer.new.inner)))) }
-    ensures usage { (result ≡ Err Fault.Usage) ↔ IsNoDrawCall (map string_bytes words.now) }
     ensures read_mark { IsTrue reader.new.failed ↔ (result ≡ Err Fault.Read) }
     ensures write_mark { IsTrue writer.new.failed ↔ (result ≡ Err Fault.Write) }
     ensures others { OnErr result ((result ≡ Err Fault.Usage) ⊎ (result ≡ Err Fault.Memory) ⊎ (result ≡ Err Fault.Read)
         ⊎ (result ≡ Err Fault.Write)) }
-    ensures unread { (result ≡ Err Fault.Usage) → (reader.new ≡ reader.old) × (writer.new ≡ writer.old) }
 {
     let Some(words) = DrawWords::read(words) else {
         return Err(Fault::Usage);

@@ -178,6 +178,8 @@ fn run<R: Read, W: Write>(
 ) -> Result<bool, Fault>
     requires reader_unmarked { reader.old.failed ≡ false }
     requires writer_unmarked { writer.old.failed ≡ false }
+    ensures usage { (result ≡ Err Fault.Usage) ↔ IsNoLintCall (map string_bytes words.now) }
+    ensures unread { (result ≡ Err Fault.Usage) → (reader.new ≡ reader.old) × (writer.new ≡ writer.old) }
     // All that the reader had left is the source, and the writer took the text for what is found in it and nothing
     // else.
     ensures ok { IfOk result (λ clean. IfSome (R.remaining reader.old.inner) (λ bytes.
@@ -185,10 +187,8 @@ fn run<R: Read, W: Write>(
         (Appends (W.contents writer.old.inner) (W.contents writer.new.inner)))) }
     ensures clean { IfOk result (λ clean. IfSome (R.remaining reader.old.inner)
         (λ bytes. CallIsClean (map string_bytes words.now) bytes clean)) }
-    ensures usage { (result ≡ Err Fault.Usage) ↔ IsNoLintCall (map string_bytes words.now) }
     ensures read_mark { IsTrue reader.new.failed ↔ (result ≡ Err Fault.Read) }
     ensures write_mark { IsTrue writer.new.failed ↔ (result ≡ Err Fault.Write) }
-    ensures unread { (result ≡ Err Fault.Usage) → (reader.new ≡ reader.old) × (writer.new ≡ writer.old) }
 {
     let Some(words) = LintWords::read(words) else {
         return Err(Fault::Usage);
