@@ -12,10 +12,7 @@ pub(crate) fn same<T: PartialEq + Debug + Copy>(rt: &impl Abort, found: T, wante
 
 /// The text was made, and is this one.
 pub(crate) fn gives(rt: &impl Abort, made: Result<String, AllocError>, wanted: &str) {
-    match made {
-        Ok(text) => same(rt, text.as_str(), wanted),
-        Err(_) => panic!(rt; "no memory"),
-    }
+    same(rt, made.as_deref(), Ok(wanted));
 }
 
 /// Whether two values that were made are equal.
