@@ -11,27 +11,16 @@ use std::alloc::{AllocError, Global};
 use std::process::Abort;
 use std::test::Fail;
 
-/// Digits in cyan, and the rest plain.
-#[derive(Drop)]
-struct Digits;
-
-impl Highlighter for Digits {
-    fn restart(&mut self, _contents: &MietteSpanContents<'_>) {}
-
-    fn highlight_line(
-        &mut self,
-        alloc: Global,
-        line: &str,
-    ) -> Result<Vec<(usize, Style)>, AllocError> {
-        let cyan = Style::new().color(Color::Cyan);
-        by_char(alloc, line, |c| {
-            if c.is_ascii_digit() {
-                cyan
-            } else {
-                Style::new()
-            }
-        })
-    }
+/// The pieces of a line with its digits in cyan, and the rest plain.
+fn digits_in_cyan(alloc: Global, line: &str) -> Result<Vec<(usize, Style)>, AllocError> {
+    let cyan = Style::new().color(Color::Cyan);
+    by_char(alloc, line, |c| {
+        if c.is_ascii_digit() {
+            cyan
+        } else {
+            Style::new()
+        }
+    })
 }
 
 // The letter of a style.
@@ -89,7 +78,7 @@ fn paints(
 fn a_piece_for_each_character(rt: HostRuntime) -> Result<(), AllocError> {
     let cyan = Style::new().color(Color::Cyan);
     let wanted = [(1, Style::new()), (2, Style::new()), (1, cyan)];
-    let found = Digits.highlight_line(rt.alloc(), "aé1")?;
+    let found = digits_in_cyan(rt.alloc(), "aé1")?;
     same(&rt, found.as_slice(), wanted.as_slice());
     Ok(())
 }

@@ -17,29 +17,17 @@ fn fields(style: Style) -> [bool; 5] {
 #[test]
 fn builders_set_their_own_field(rt: HostRuntime) {
     let plain = Style::new();
-    same(&rt, fields(plain), [false; 5]);
-    let coloured = plain.color(Color::Blue);
-    same(&rt, fields(coloured), [true, false, false, false, false]);
-    same(
-        &rt,
-        fields(plain.bold()),
-        [false, true, false, false, false],
-    );
-    same(
-        &rt,
-        fields(plain.dimmed()),
-        [false, false, true, false, false],
-    );
-    same(
-        &rt,
-        fields(plain.italic()),
-        [false, false, false, true, false],
-    );
-    same(
-        &rt,
-        fields(plain.underline()),
-        [false, false, false, false, true],
-    );
+    let rows = [
+        (plain, [false; 5]),
+        (plain.color(Color::Blue), [true, false, false, false, false]),
+        (plain.bold(), [false, true, false, false, false]),
+        (plain.dimmed(), [false, false, true, false, false]),
+        (plain.italic(), [false, false, false, true, false]),
+        (plain.underline(), [false, false, false, false, true]),
+    ];
+    for (style, wanted) in rows {
+        same(&rt, fields(style), wanted);
+    }
     let rgb = Color::Rgb(1, 2, 3);
     same(&rt, plain.color(Color::Red).color(rgb).fg, Some(rgb));
 }

@@ -121,12 +121,9 @@ fn spaces_of_indents(rt: HostRuntime) {
 
 #[test]
 fn narrow_rows(rt: HostRuntime) {
-    let rows = [
-        ("漢a", 0, "漢\na"),
-        ("漢\u{301}", 1, "漢\n\u{301}"),
-        ("\u{301}漢", 1, "\u{301}漢"),
-    ];
-    fills(&rt, rt.alloc(), PLAIN, &rows);
+    fills(&rt, rt.alloc(), PLAIN, &[("漢a", 0, "漢\na")]);
+    fills(&rt, rt.alloc(), PLAIN, &[("漢\u{301}", 1, "漢\n\u{301}")]);
+    fills(&rt, rt.alloc(), PLAIN, &[("\u{301}漢", 1, "\u{301}漢")]);
 }
 
 #[test]
