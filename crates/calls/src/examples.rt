@@ -1,7 +1,7 @@
 //! Worked reports, by each handler: `calls report`, or `calls report NAME HANDLER` for one row.
 
 use crate::fixtures::{
-    M, Made, Written, beside, beside_one, over, report_of, stopping_report, told_why,
+    Label, M, Made, Written, beside, beside_one, over, report_of, stopping_report, told_why,
 };
 use crate::rows::{Done, appended, end_row, given};
 use crate::sources::README;
@@ -17,6 +17,9 @@ use miette::theme::GraphicalTheme;
 use std::alloc::{AllocError, Global};
 use std::cell::Cell;
 use std::io::Write;
+
+/// Labels, and the bytes of the source below them.
+type Labelled = (&'static [Label<'static>], &'static [u8]);
 
 /// The reports.
 pub static NAMES: [&str; 14] = [
@@ -92,35 +95,30 @@ static BESIDE: [Written<'static>; 2] = [
     OOPS,
 ];
 
-static ON_ONE_LINE: Written<'static> = Written {
-    labels: &[(1, 3, 0, "a"), (2, 3, 0, "b")],
-    source: Some(b"abcdef"),
-    ..M
-};
+static ON_ONE_LINE: Labelled = (&[(1, 3, 0, "a"), (2, 3, 0, "b")], b"abcdef");
 
-static WIDE: Written<'static> = Written {
-    labels: &[
+static WIDE: Labelled = (
+    &[
         (4, 4, 0, "wider than 4 columns"),
         (7, 1, 0, "no final terminator"),
     ],
-    source: Some(b"a\xe6\xbc\xa2\xe6\xbc\xa2b"),
-    ..M
-};
+    b"a\xe6\xbc\xa2\xe6\xbc\xa2b",
+);
 
-static TABS: Written<'static> = Written {
-    labels: &[(5, 1, 0, "blank"), (8, 1, 0, "tab")],
-    source: Some(b"x = 1 \n \ty\nend"),
-    ..M
-};
+static TABS: Labelled = (
+    &[(5, 1, 0, "blank"), (8, 1, 0, "tab")],
+    b"x = 1 \n \ty\nend",
+);
 
-static OWN: Written<'static> = Written {
-    labels: &[(0, 1, 1, ""), (8, 1, 0, "here"), (16, 1, 2, "")],
-    source: Some(b"1\n2\n3\n4\n5\n6\n7\n8\n9\n"),
-    ..M
-};
+const NINE_LINES: &[u8] = b"1\n2\n3\n4\n5\n6\n7\n8\n9\n";
 
-static MANY: Written<'static> = Written {
-    labels: &[
+static OWN: Labelled = (
+    &[(0, 1, 1, ""), (8, 1, 0, "here"), (16, 1, 2, "")],
+    NINE_LINES,
+);
+
+static MANY: Labelled = (
+    &[
         (0, 1, 0, "a"),
         (1, 1, 0, ""),
         (2, 3, 0, "c"),
@@ -132,15 +130,10 @@ static MANY: Written<'static> = Written {
         (12, 4, 0, "i"),
         (16, 1, 0, "j"),
     ],
-    source: Some(b"1\n2\n3\n4\n5\n6\n7\n8\n9\n"),
-    ..M
-};
+    NINE_LINES,
+);
 
-static REFUSED: Written<'static> = Written {
-    labels: &[(9, 1, 0, "far off"), (0, 1, 0, "here")],
-    source: Some(b"a"),
-    ..M
-};
+static REFUSED: Labelled = (&[(9, 1, 0, "far off"), (0, 1, 0, "here")], b"a");
 
 /// The report of this name. Of the source that stops the first read fails.
 ///
@@ -148,22 +141,36 @@ static REFUSED: Written<'static> = Written {
 /// Where memory is refused.
 fn report<'a>(alloc: Global, name: &str, reads: &'a Reads) -> Result<Made<'a>, AllocError> {
     match alone(name) {
-        Some(written) => report_of(alloc, written),
+        Some(written) => report_of(alloc, &written),
         None => with_others(alloc, name, reads),
     }
 }
 
 /// What is written of a report that has nothing beside it or below it.
-fn alone(name: &str) -> Option<&'static Written<'static>> {
+fn alone(name: &str) -> Option<Written<'static>> {
     match name {
-        "one label" => Some(&ONE_LABEL),
-        "labels on one line" => Some(&ON_ONE_LINE),
-        "wide characters" => Some(&WIDE),
-        "tabs" => Some(&TABS),
-        "lines that cross" => Some(&CROSSING),
-        "own context" => Some(&OWN),
-        "many labels" => Some(&MANY),
-        "a refused label" => Some(&REFUSED),
+        "one label" => Some(ONE_LABEL),
+        "lines that cross" => Some(CROSSING),
+        _ => match labels_and_source(name) {
+            Some((labels, source)) => Some(Written {
+                labels,
+                source: Some(source),
+                ..M
+            }),
+            None => None,
+        },
+    }
+}
+
+/// The labels and the source of a report that has no more.
+fn labels_and_source(name: &str) -> Option<Labelled> {
+    match name {
+        "labels on one line" => Some(ON_ONE_LINE),
+        "wide characters" => Some(WIDE),
+        "tabs" => Some(TABS),
+        "own context" => Some(OWN),
+        "many labels" => Some(MANY),
+        "a refused label" => Some(REFUSED),
         _ => None,
     }
 }

@@ -77,49 +77,51 @@ fn rendered(
     text: &mut String,
 ) -> Result<Result<(), RenderError>, Stop> {
     match name {
-        "NarratableReportHandler::render_report"
-        | "NarratableReportHandler::render"
-        | "ReportHandler::debug for NarratableReportHandler" => Ok(narrated(name, report, text)),
-        "BriefReportHandler::render_report"
-        | "BriefReportHandler::render"
-        | "ReportHandler::debug for BriefReportHandler" => Ok(brief(name, report, text)),
-        "JSONReportHandler::render_report" => {
-            Ok(JSONReportHandler::new().render_report(report, text))
-        }
-        "ReportHandler::debug for JSONReportHandler" => {
-            Ok(JSONReportHandler::new().debug(report, text))
-        }
         "ReportHandler::debug for MietteHandler" => drawn_as_chosen(alloc, report, text),
         "GraphicalReportHandler::render_report"
         | "ReportHandler::debug for GraphicalReportHandler" => drawn(alloc, name, report, text),
-        _ => Ok(as_fields(name, report, text)),
+        _ => {
+            if name.starts_with("ReportHandler::") {
+                Ok(render_by_trait(name, report, text))
+            } else {
+                Ok(render_by_method(name, report, text))
+            }
+        }
     }
 }
 
-fn narrated(name: &str, report: &Report, text: &mut String) -> Result<(), RenderError> {
-    let mut handler = NarratableReportHandler::new();
+/// What a handler's own method of this name answers.
+fn render_by_method(name: &str, report: &Report, text: &mut String) -> Result<(), RenderError> {
     match name {
-        "NarratableReportHandler::render_report" => handler.render_report(report, text),
-        "NarratableReportHandler::render" => handler.render(report, text),
-        _ => handler.debug(report, text),
+        "NarratableReportHandler::render_report" => {
+            NarratableReportHandler::new().render_report(report, text)
+        }
+        "NarratableReportHandler::render" => NarratableReportHandler::new().render(report, text),
+        "BriefReportHandler::render_report" => {
+            BriefReportHandler::new().render_report(report, text)
+        }
+        "BriefReportHandler::render" => BriefReportHandler::new().render(report, text),
+        "JSONReportHandler::render_report" => JSONReportHandler::new().render_report(report, text),
+        _ => DebugReportHandler::new().render_report(report, text),
     }
 }
 
-fn brief(name: &str, report: &Report, text: &mut String) -> Result<(), RenderError> {
-    let mut handler = BriefReportHandler::new();
+/// What a method of each handler answers, by this handler.
+fn render_by_trait(name: &str, report: &Report, text: &mut String) -> Result<(), RenderError> {
     match name {
-        "BriefReportHandler::render_report" => handler.render_report(report, text),
-        "BriefReportHandler::render" => handler.render(report, text),
-        _ => handler.debug(report, text),
-    }
-}
-
-fn as_fields(name: &str, report: &Report, text: &mut String) -> Result<(), RenderError> {
-    let mut handler = DebugReportHandler::new();
-    match name {
-        "DebugReportHandler::render_report" => handler.render_report(report, text),
-        "ReportHandler::debug for DebugReportHandler" => handler.debug(report, text),
-        _ => handler.display(report, true, text),
+        "ReportHandler::debug for NarratableReportHandler" => {
+            NarratableReportHandler::new().debug(report, text)
+        }
+        "ReportHandler::debug for BriefReportHandler" => {
+            BriefReportHandler::new().debug(report, text)
+        }
+        "ReportHandler::debug for JSONReportHandler" => {
+            JSONReportHandler::new().debug(report, text)
+        }
+        "ReportHandler::debug for DebugReportHandler" => {
+            DebugReportHandler::new().debug(report, text)
+        }
+        _ => DebugReportHandler::new().display(report, true, text),
     }
 }
 
