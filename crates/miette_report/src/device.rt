@@ -46,7 +46,7 @@ impl<D> Device<D> {
     }
 
     /// Whether a call failed.
-    pub fn failed(&self) -> bool
+    pub fn has_failed(&self) -> bool
         ensures { result ≡ self.now.failed }
     {
         self.failed

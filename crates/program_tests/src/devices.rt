@@ -76,14 +76,14 @@ fn with_room(alloc: Global, (room, at_once, errs): (usize, usize, bool)) -> Limi
 /// How many bytes a device takes, if it answers no error, and whether it is marked then.
 fn written(device: &mut Device<Limited>, bytes: &[u8]) -> (Option<usize>, bool) {
     let answer = device.write(bytes).ok();
-    (answer, device.failed())
+    (answer, device.has_failed())
 }
 
 /// How many bytes a device gives, if it answers no error, and whether it is marked then.
 fn read(device: &mut Device<Slow<'_>>) -> (Option<usize>, bool) {
     let mut buf = [0; 4];
     let answer = device.read(&mut buf).ok();
-    (answer, device.failed())
+    (answer, device.has_failed())
 }
 
 /// A writer with room for two bytes is marked by what it doesn't take, and by nothing else.
@@ -122,7 +122,7 @@ fn takes_a_beginning(rt: &impl Abort, alloc: Global, (room, at_once, errs): (usi
     let mut device = Device::new(with_room(alloc, (room, at_once, errs)));
     let answer = write_whole(&mut device, b"abc");
     let wanted = if room < 3 { Err(Fault::Write) } else { Ok(()) };
-    same(rt, (answer, device.failed()), (wanted, room < 3));
+    same(rt, (answer, device.has_failed()), (wanted, room < 3));
     let taken = device.into_inner().held;
     same(rt, taken.as_slice(), &b"abc"[..room.min(3)]);
 }
@@ -137,7 +137,7 @@ fn gives_all(rt: &impl Abort, alloc: Global, fails_in: usize) {
         Ok(bytes) => same(rt, (bytes.as_slice(), fails_in), (b"abc".as_slice(), 4)),
         Err(fault) => same(rt, (fault, fails_in < 4), (Fault::Read, true)),
     }
-    same(rt, device.failed(), fails_in < 4);
+    same(rt, device.has_failed(), fails_in < 4);
 }
 
 #[test]
@@ -282,7 +282,11 @@ fn is_done_or_marked(
     let mut writer = Device::new(with_room(alloc, (room, 9, errs)));
     let answer = run(alloc, &mut reader, &mut writer, settings);
     let is_done = room == SMALL_TEXT.len();
-    same(rt, (answer.is_ok(), writer.failed()), (is_done, !is_done));
+    same(
+        rt,
+        (answer.is_ok(), writer.has_failed()),
+        (is_done, !is_done),
+    );
     let taken = writer.into_inner().held;
     same(
         rt,
@@ -310,7 +314,11 @@ fn marks_the_reader(rt: &impl Abort, alloc: Global, settings: Arguments) {
     let mut writer = Device::new(Vec::new(alloc));
     let answer = run(alloc, &mut reader, &mut writer, settings);
     same(rt, answer, Err(JobError::Read));
-    same(rt, (reader.failed(), writer.failed()), (true, false));
+    same(
+        rt,
+        (reader.has_failed(), writer.has_failed()),
+        (true, false),
+    );
     same(rt, writer.into_inner().len(), 0);
 }
 
