@@ -20,13 +20,11 @@ use std::io::{Read, Write};
 /// number of bytes of one rendering in decimal and a line feed; 0 where N is 0. The words are N and then those of
 /// `job`. The status comes out, with `job`'s meaning; a fault's text and a line feed go to `faults`, whose own faults
 /// are ignored.
-pub fn bench_with<R: Read + Drop, W: Write + Drop, F: Write + Drop>(
-    alloc: Global,
-    words: &[String],
-    reader: R,
-    writer: W,
-    faults: F,
-) -> u8
+pub fn bench_with<R, W, F>(alloc: Global, words: &[String], reader: R, writer: W, faults: F) -> u8
+where
+    R: Read + Drop,
+    W: Write + Drop,
+    F: Write + Drop,
     ensures status { result < 5 }
     ensures done { result ≡ 0 → IfSome (R.remaining reader) IsDescription }
     ensures description { result ≡ 3 → IfSome (R.remaining reader) (λ bytes. IsUtf8 bytes → tree_for bytes ≡ None) }

@@ -129,6 +129,35 @@ pub fn write_picture<R: Read, W: Write>(
     Ok(())
 }
 
+/// The program `draw`: in go the words after its name, out comes the status. The words are checked first, then all
+/// input is read, then the report is made, then written.
+///
+/// The status is 0; 1 where memory, the reader or the writer failed; 2 where the words are wrong. A fault's text and a
+/// line feed go to `faults`, whose own faults are ignored.
+pub fn draw_with<R, W, F>(alloc: Global, words: &[String], reader: R, writer: W, faults: F) -> u8
+where
+    R: Read + Drop,
+    W: Write + Drop,
+    F: Write + Drop,
+    ensures status { result < 3 }
+    ensures usage { (result ≡ 2) ↔ IsNoDrawCall (map string_bytes words.now) }
+{
+    let mut reader = Device::new(reader);
+    let mut writer = Device::new(writer);
+    match run(alloc, words, &mut reader, &mut writer) {
+        Ok(()) => 0,
+        Err(fault) => Program::Draw.end(fault, faults),
+    }
+}
+
+/// Ends the program `draw` where its words could not be had: prints the fault's text and a line feed, and gives the
+/// status.
+pub fn refuse_words<F: Write + Drop>(fault: Fault, faults: F) -> u8
+    ensures { result ≡ status_of Program.Draw fault }
+{
+    Program::Draw.end(fault, faults)
+}
+
 // Checks the words before anything is read, and then writes the picture.
 fn run<R: Read, W: Write>(
     alloc: Global,
@@ -153,35 +182,4 @@ fn run<R: Read, W: Write>(
         return Err(Fault::Usage);
     };
     write_picture(alloc, &words, reader, writer)
-}
-
-/// The program `draw`: in go the words after its name, out comes the status. The words are checked first, then all
-/// input is read, then the report is made, then written.
-///
-/// The status is 0; 1 where memory, the reader or the writer failed; 2 where the words are wrong. A fault's text and a
-/// line feed go to `faults`, whose own faults are ignored.
-pub fn draw_with<R: Read + Drop, W: Write + Drop, F: Write + Drop>(
-    alloc: Global,
-    words: &[String],
-    reader: R,
-    writer: W,
-    faults: F,
-) -> u8
-    ensures status { result < 3 }
-    ensures usage { (result ≡ 2) ↔ IsNoDrawCall (map string_bytes words.now) }
-{
-    let mut reader = Device::new(reader);
-    let mut writer = Device::new(writer);
-    match run(alloc, words, &mut reader, &mut writer) {
-        Ok(()) => 0,
-        Err(fault) => Program::Draw.end(fault, faults),
-    }
-}
-
-/// Ends the program `draw` where its words could not be had: prints the fault's text and a line feed, and gives the
-/// status.
-pub fn refuse_words<F: Write + Drop>(fault: Fault, faults: F) -> u8
-    ensures { result ≡ status_of Program.Draw fault }
-{
-    Program::Draw.end(fault, faults)
 }

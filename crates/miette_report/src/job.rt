@@ -19,13 +19,11 @@ use std::io::{Read, Write};
 /// 1 for want of memory and for a device that failed; 2 for words that are no settings; 3 for a bad description; 4
 /// for a report that the handler refused. The words are checked first, before anything is read. The text of a fault
 /// and a line feed go to `faults`, whose own faults are ignored.
-pub fn job_with<R: Read + Drop, W: Write + Drop, F: Write + Drop>(
-    alloc: Global,
-    words: &[String],
-    reader: R,
-    writer: W,
-    faults: F,
-) -> u8
+pub fn job_with<R, W, F>(alloc: Global, words: &[String], reader: R, writer: W, faults: F) -> u8
+where
+    R: Read + Drop,
+    W: Write + Drop,
+    F: Write + Drop,
     ensures status { result < 5 }
     ensures done { result ≡ 0 → IfSome (R.remaining reader) IsDescription }
     ensures description { result ≡ 3 → IfSome (R.remaining reader) (λ bytes. IsUtf8 bytes → tree_for bytes ≡ None) }

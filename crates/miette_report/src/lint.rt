@@ -201,13 +201,11 @@ fn run<R: Read, W: Write>(
 ///
 /// The status is 0 where nothing is found; 1 where something is; 2 where the words are wrong, or where memory, the
 /// reader or the writer failed. A fault's text and a line feed go to `faults`, whose own faults are ignored.
-pub fn lint_with<R: Read + Drop, W: Write + Drop, F: Write + Drop>(
-    alloc: Global,
-    words: &[String],
-    reader: R,
-    writer: W,
-    faults: F,
-) -> u8
+pub fn lint_with<R, W, F>(alloc: Global, words: &[String], reader: R, writer: W, faults: F) -> u8
+where
+    R: Read + Drop,
+    W: Write + Drop,
+    F: Write + Drop,
     ensures status { result < 3 }
     ensures clean { result ≡ 0 → IfSome (R.remaining reader)
         (λ bytes. CallIsClean (map string_bytes words.now) bytes true) }
