@@ -1,6 +1,6 @@
 //! Diagnostics.
 
-use crate::rows::{Done, Stop, answered, given, made_and_cloned};
+use crate::rows::{Done, Stop, write_answer, write_clones_if_made, write_given};
 use miette::diagnostic::MietteDiagnostic;
 use miette::protocol::{LabeledSpan, Severity};
 use miette_tree::diagnostic;
@@ -28,12 +28,12 @@ pub static NAMES: [&str; 11] = [
 /// `Memory` where what it needs can't be made, `Write` where standard output took no more.
 pub fn make<W: Write>(alloc: Global, name: &str, out: &mut W) -> Done {
     match name {
-        "MietteDiagnostic::new" => answered(out, MietteDiagnostic::new(alloc, "oops!")),
-        "diagnostic!" => answered(out, by_macro(alloc)),
-        "MietteDiagnostic::clone" => made_and_cloned(out, full(alloc)),
+        "MietteDiagnostic::new" => write_answer(out, MietteDiagnostic::new(alloc, "oops!")),
+        "diagnostic!" => write_answer(out, by_macro(alloc)),
+        "MietteDiagnostic::clone" => write_clones_if_made(out, full_diagnostic(alloc)),
         _ => {
-            let full = given_full(alloc, out)?;
-            answered(out, changed(alloc, name, full)?)
+            let full = write_full_diagnostic(alloc, out)?;
+            write_answer(out, change(alloc, name, full)?)
         }
     }
 }
@@ -49,14 +49,17 @@ fn by_macro(alloc: Global) -> Result<MietteDiagnostic, AllocError> {
 ///
 /// # Errors
 /// `Memory` where it can't be made, `Write` where standard output took no more.
-pub fn given_full<W: Write>(alloc: Global, out: &mut W) -> Result<MietteDiagnostic, Stop> {
-    let full = full(alloc)?;
-    given(out, &full)?;
+pub fn write_full_diagnostic<W: Write>(
+    alloc: Global,
+    out: &mut W,
+) -> Result<MietteDiagnostic, Stop> {
+    let full = full_diagnostic(alloc)?;
+    write_given(out, &full)?;
     Ok(full)
 }
 
 /// What the call of this name makes of a diagnostic; an error where what it needs can't be made.
-fn changed(
+fn change(
     alloc: Global,
     name: &str,
     full: MietteDiagnostic,
@@ -92,7 +95,7 @@ fn and_this(alloc: Global) -> Result<LabeledSpan, AllocError> {
 }
 
 /// A diagnostic with all parts.
-pub fn full(alloc: Global) -> Result<MietteDiagnostic, AllocError> {
+pub fn full_diagnostic(alloc: Global) -> Result<MietteDiagnostic, AllocError> {
     let label = LabeledSpan::at(alloc, (9, 4), "This bit here")?;
     MietteDiagnostic::new(alloc, "oops!")?
         .with_severity(Severity::Warning)

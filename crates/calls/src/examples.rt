@@ -1,9 +1,10 @@
 //! Worked reports, by each handler: `calls report`, or `calls report NAME HANDLER` for one row.
 
 use crate::fixtures::{
-    Label, M, Made, Written, beside, beside_one, over, report_of, stopping_report, told_why,
+    Label, M, Made, Written, report_beside, report_beside_one, report_of, report_over,
+    report_over_texts, stopping_report,
 };
-use crate::rows::{Done, appended, end_row, given};
+use crate::rows::{Done, end_row, write_given, write_text};
 use crate::sources::README;
 use crate::stopping::{Reads, Red, Stopping};
 use crate::themes::terminal;
@@ -140,14 +141,14 @@ static REFUSED: Labelled = (&[(9, 1, 0, "far off"), (0, 1, 0, "here")], b"a");
 /// # Errors
 /// Where memory is refused.
 fn report<'a>(alloc: Global, name: &str, reads: &'a Reads) -> Result<Made<'a>, AllocError> {
-    match alone(name) {
+    match lone_report(name) {
         Some(written) => report_of(alloc, &written),
         None => with_others(alloc, name, reads),
     }
 }
 
 /// What is written of a report that has nothing beside it or below it.
-fn alone(name: &str) -> Option<Written<'static>> {
+fn lone_report(name: &str) -> Option<Written<'static>> {
     match name {
         "one label" => Some(ONE_LABEL),
         "lines that cross" => Some(CROSSING),
@@ -177,22 +178,22 @@ fn labels_and_source(name: &str) -> Option<Labelled> {
 
 fn with_others<'a>(alloc: Global, name: &str, reads: &'a Reads) -> Result<Made<'a>, AllocError> {
     match name {
-        "related reports" => related(alloc),
+        "related reports" => report_with_related(alloc),
         "related reports in one another" => {
             let outer = report_of(alloc, &CROSSING)?;
-            related_below(alloc, outer)
+            report_with_related_below(alloc, outer)
         }
-        "texts" => told_why(alloc, report_of(alloc, &PLAIN)?, &TEXTS),
+        "texts" => report_over_texts(alloc, report_of(alloc, &PLAIN)?, &TEXTS),
         _ => with_cause(alloc, report_of(alloc, &PLAIN)?, name, reads),
     }
 }
 
-fn related_below<'a>(alloc: Global, outer: Made<'a>) -> Result<Made<'a>, AllocError> {
-    beside_one(alloc, outer, related(alloc)?)
+fn report_with_related_below<'a>(alloc: Global, outer: Made<'a>) -> Result<Made<'a>, AllocError> {
+    report_beside_one(alloc, outer, report_with_related(alloc)?)
 }
 
-fn related<'a>(alloc: Global) -> Result<Made<'a>, AllocError> {
-    beside(alloc, report_of(alloc, &PLAIN)?, &BESIDE)
+fn report_with_related<'a>(alloc: Global) -> Result<Made<'a>, AllocError> {
+    report_beside(alloc, report_of(alloc, &PLAIN)?, &BESIDE)
 }
 
 fn with_cause<'a>(
@@ -202,13 +203,13 @@ fn with_cause<'a>(
     reads: &'a Reads,
 ) -> Result<Made<'a>, AllocError> {
     let cause = cause(alloc, name, reads)?;
-    over(alloc, outer, cause)
+    report_over(alloc, outer, cause)
 }
 
 fn cause<'a>(alloc: Global, name: &str, reads: &'a Reads) -> Result<Made<'a>, AllocError> {
     match name {
         "a linked cause" => report_of(alloc, &LINKED),
-        "causes with sources" => both_sourced(alloc, report_of(alloc, &ONE_LABEL)?),
+        "causes with sources" => cause_over_cause(alloc, report_of(alloc, &ONE_LABEL)?),
         _ => {
             let bytes = README;
             stopping_report(alloc, &ONE_LABEL, Stopping { bytes, reads })
@@ -216,8 +217,8 @@ fn cause<'a>(alloc: Global, name: &str, reads: &'a Reads) -> Result<Made<'a>, Al
     }
 }
 
-fn both_sourced<'a>(alloc: Global, outer: Made<'a>) -> Result<Made<'a>, AllocError> {
-    over(alloc, outer, report_of(alloc, &CROSSING)?)
+fn cause_over_cause<'a>(alloc: Global, outer: Made<'a>) -> Result<Made<'a>, AllocError> {
+    report_over(alloc, outer, report_of(alloc, &CROSSING)?)
 }
 
 /// The rows that are asked for: those of a report, of a handler, or all.
@@ -257,14 +258,14 @@ fn row<W: Write>(alloc: Global, out: &mut W, name: &str, handler: &str) -> Done 
         stays: false,
     };
     let report = report(alloc, name, &reads)?;
-    rendered(alloc, out, &report, handler, 1)
+    render(alloc, out, &report, handler, 1)
 }
 
 /// The text `> ` and what the handler of this name puts behind it.
 ///
 /// # Errors
 /// `Write` where standard output took no more, `Memory` where the handler wasn't made.
-pub fn rendered<W: Write>(
+pub fn render<W: Write>(
     alloc: Global,
     out: &mut W,
     report: &Made<'_>,
@@ -275,23 +276,23 @@ pub fn rendered<W: Write>(
     match handler {
         "narrated" => {
             let mut telling = NarratableReportHandler::new().with_context_lines(lines);
-            behind(alloc, out, &mut telling, report)
+            render_behind(alloc, out, &mut telling, report)
         }
-        "brief" => behind(alloc, out, &mut BriefReportHandler::new(), report),
-        "json" => behind(alloc, out, &mut JSONReportHandler::new(), report),
-        "debug" => behind(alloc, out, &mut DebugReportHandler::new(), report),
-        "wanting" => drawn(alloc, out, Red(2), false, &asked),
-        "nested wanting" => drawn(alloc, out, Red(2), true, &asked),
-        "chosen wanting" => chosen(alloc, out, Red(2), false, &asked),
-        "highlighted" => drawn(alloc, out, Red(usize::MAX), false, &asked),
-        "nested" => drawn(alloc, out, Red(usize::MAX), true, &asked),
-        "chosen" => chosen(alloc, out, Red(usize::MAX), false, &asked),
-        "chosen narrated" => chosen(alloc, out, Red(usize::MAX), true, &asked),
+        "brief" => render_behind(alloc, out, &mut BriefReportHandler::new(), report),
+        "json" => render_behind(alloc, out, &mut JSONReportHandler::new(), report),
+        "debug" => render_behind(alloc, out, &mut DebugReportHandler::new(), report),
+        "wanting" => draw(alloc, out, Red(2), false, &asked),
+        "nested wanting" => draw(alloc, out, Red(2), true, &asked),
+        "chosen wanting" => render_by_choice(alloc, out, Red(2), false, &asked),
+        "highlighted" => draw(alloc, out, Red(usize::MAX), false, &asked),
+        "nested" => draw(alloc, out, Red(usize::MAX), true, &asked),
+        "chosen" => render_by_choice(alloc, out, Red(usize::MAX), false, &asked),
+        "chosen narrated" => render_by_choice(alloc, out, Red(usize::MAX), true, &asked),
         _ => {
             let theme = GraphicalTheme::unicode(alloc)?;
             let mut drawing: GraphicalReportHandler<Red> = GraphicalReportHandler::themed(theme);
             drawing = drawing.with_width(40).with_context_lines(lines);
-            behind(alloc, out, &mut drawing, report)
+            render_behind(alloc, out, &mut drawing, report)
         }
     }
 }
@@ -303,18 +304,24 @@ struct Asked<'a, 'b> {
     lines: usize,
 }
 
-fn drawn<W: Write>(alloc: Global, out: &mut W, red: Red, nested: bool, it: &Asked<'_, '_>) -> Done {
+fn draw<W: Write>(alloc: Global, out: &mut W, red: Red, nested: bool, it: &Asked<'_, '_>) -> Done {
     let theme = GraphicalTheme::unicode(alloc)?;
     let mut drawing = GraphicalReportHandler::themed(theme)
         .with_width(30)
         .with_context_lines(it.lines)
         .with_show_related_as_nested(nested)
         .with_syntax_highlighting(red);
-    behind(alloc, out, &mut drawing, it.report)
+    render_behind(alloc, out, &mut drawing, it.report)
 }
 
 /// By the handler that options choose for a terminal.
-fn chosen<W: Write>(alloc: Global, out: &mut W, red: Red, told: bool, it: &Asked<'_, '_>) -> Done {
+fn render_by_choice<W: Write>(
+    alloc: Global,
+    out: &mut W,
+    red: Red,
+    told: bool,
+    it: &Asked<'_, '_>,
+) -> Done {
     let options: MietteHandlerOpts<Red> = MietteHandlerOpts::default();
     let mut handler = options
         .width(30)
@@ -322,17 +329,17 @@ fn chosen<W: Write>(alloc: Global, out: &mut W, red: Red, told: bool, it: &Asked
         .context_lines(it.lines)
         .with_syntax_highlighting(red)
         .build(alloc, &terminal(alloc)?)?;
-    behind(alloc, out, &mut handler, it.report)
+    render_behind(alloc, out, &mut handler, it.report)
 }
 
-fn behind<H: ReportHandler, W: Write>(
+fn render_behind<H: ReportHandler, W: Write>(
     alloc: Global,
     out: &mut W,
     handler: &mut H,
     report: &Made<'_>,
 ) -> Done {
     let mut text = String::from_str(alloc, "> ")?;
-    given(out, &text)?;
+    write_given(out, &text)?;
     let answer = handler.debug(report, &mut text);
-    appended(out, answer, &text)
+    write_text(out, answer, &text)
 }

@@ -73,7 +73,11 @@ pub fn stopping_report<'a>(
 ///
 /// # Errors
 /// Where memory is refused.
-pub fn over<'a>(alloc: Global, report: Made<'a>, cause: Made<'a>) -> Result<Made<'a>, AllocError> {
+pub fn report_over<'a>(
+    alloc: Global,
+    report: Made<'a>,
+    cause: Made<'a>,
+) -> Result<Made<'a>, AllocError> {
     match report.with_diagnostic_cause(alloc, cause) {
         Ok(made) => Ok(made),
         Err(_) => Err(AllocError),
@@ -84,7 +88,7 @@ pub fn over<'a>(alloc: Global, report: Made<'a>, cause: Made<'a>) -> Result<Made
 ///
 /// # Errors
 /// Where memory is refused.
-pub fn told_why<'a>(
+pub fn report_over_texts<'a>(
     alloc: Global,
     report: Made<'a>,
     texts: &[&str],
@@ -105,7 +109,7 @@ fn texts_of(alloc: Global, texts: &[&str]) -> Result<Vec<String>, AllocError> {
 ///
 /// # Errors
 /// Where memory is refused.
-pub fn beside<'a>(
+pub fn report_beside<'a>(
     alloc: Global,
     report: Made<'a>,
     others: &[Written<'_>],
@@ -126,7 +130,7 @@ fn reports_of<'a>(alloc: Global, others: &[Written<'_>]) -> Result<Vec<Made<'a>>
 ///
 /// # Errors
 /// Where memory is refused.
-pub fn beside_one<'a>(
+pub fn report_beside_one<'a>(
     alloc: Global,
     report: Made<'a>,
     other: Made<'a>,

@@ -1,7 +1,7 @@
 //! Handlers: what makes them, and the texts that they append.
 
-use crate::reports::caused;
-use crate::rows::{Done, Stop, answered, appended, cloned, given};
+use crate::reports::full_report;
+use crate::rows::{Done, Stop, write_answer, write_clones, write_given, write_text};
 use crate::sources::README;
 use crate::themes::terminal;
 use miette::error::RenderError;
@@ -46,40 +46,40 @@ pub fn make<W: Write>(alloc: Global, name: &str, out: &mut W) -> Done {
     match name {
         "NarratableReportHandler::clone" => {
             let footer = String::from_str(alloc, "bye")?;
-            cloned(out, &NarratableReportHandler::new().with_footer(footer))
+            write_clones(out, &NarratableReportHandler::new().with_footer(footer))
         }
         "GraphicalReportHandler::new" | "MietteHandlerOpts::build" | "MietteHandler::new" => {
-            made(alloc, name, out)
+            write_handler(alloc, name, out)
         }
-        _ => behind(alloc, name, out, &sourced(alloc)?),
+        _ => render_behind(alloc, name, out, &report_with_source(alloc)?),
     }
 }
 
 /// The report that is rendered.
-fn sourced(alloc: Global) -> Result<Report, AllocError> {
+fn report_with_source(alloc: Global) -> Result<Report, AllocError> {
     let source = OwnedSource::named(alloc, "bad_file.rs", None, README.to_vec(alloc)?)?;
-    Ok(caused(alloc)?.with_owned_source(source))
+    Ok(full_report(alloc)?.with_owned_source(source))
 }
 
 /// The text `> ` and what the call of this name puts behind it.
-fn behind<W: Write>(alloc: Global, name: &str, out: &mut W, report: &Report) -> Done {
+fn render_behind<W: Write>(alloc: Global, name: &str, out: &mut W, report: &Report) -> Done {
     let mut text = String::from_str(alloc, "> ")?;
-    given(out, &text)?;
-    let answer = rendered(alloc, name, report, &mut text)?;
-    appended(out, answer, &text)
+    write_given(out, &text)?;
+    let answer = render(alloc, name, report, &mut text)?;
+    write_text(out, answer, &text)
 }
 
 /// What the call of this name answers.
-fn rendered(
+fn render(
     alloc: Global,
     name: &str,
     report: &Report,
     text: &mut String,
 ) -> Result<Result<(), RenderError>, Stop> {
     match name {
-        "ReportHandler::debug for MietteHandler" => drawn_as_chosen(alloc, report, text),
+        "ReportHandler::debug for MietteHandler" => draw_by_choice(alloc, report, text),
         "GraphicalReportHandler::render_report"
-        | "ReportHandler::debug for GraphicalReportHandler" => drawn(alloc, name, report, text),
+        | "ReportHandler::debug for GraphicalReportHandler" => draw(alloc, name, report, text),
         _ => {
             if name.starts_with("ReportHandler::") {
                 Ok(render_by_trait(name, report, text))
@@ -125,7 +125,7 @@ fn render_by_trait(name: &str, report: &Report, text: &mut String) -> Result<(),
     }
 }
 
-fn drawn(
+fn draw(
     alloc: Global,
     name: &str,
     report: &Report,
@@ -140,7 +140,7 @@ fn drawn(
     }
 }
 
-fn drawn_as_chosen(
+fn draw_by_choice(
     alloc: Global,
     report: &Report,
     text: &mut String,
@@ -152,26 +152,26 @@ fn drawn_as_chosen(
 }
 
 /// A handler that a terminal chooses, and what it makes of a report.
-fn made<W: Write>(alloc: Global, name: &str, out: &mut W) -> Done {
+fn write_handler<W: Write>(alloc: Global, name: &str, out: &mut W) -> Done {
     let terminal = terminal(alloc)?;
-    given(out, &terminal)?;
-    chosen(alloc, name, out, &terminal)
+    write_given(out, &terminal)?;
+    write_choice(alloc, name, out, &terminal)
 }
 
-fn chosen<W: Write>(alloc: Global, name: &str, out: &mut W, terminal: &Terminal) -> Done {
+fn write_choice<W: Write>(alloc: Global, name: &str, out: &mut W, terminal: &Terminal) -> Done {
     match name {
         "GraphicalReportHandler::new" => {
-            shown(alloc, out, GraphicalReportHandler::new(alloc, terminal))
+            write_picture(alloc, out, GraphicalReportHandler::new(alloc, terminal))
         }
-        "MietteHandler::new" => shown(alloc, out, MietteHandler::new(alloc, terminal)),
+        "MietteHandler::new" => write_picture(alloc, out, MietteHandler::new(alloc, terminal)),
         _ => {
             let options: MietteHandlerOpts<BlankHighlighter> = MietteHandlerOpts::default();
-            shown(alloc, out, options.width(20).build(alloc, terminal))
+            write_picture(alloc, out, options.width(20).build(alloc, terminal))
         }
     }
 }
 
-fn shown<H: ReportHandler + Drop, W: Write>(
+fn write_picture<H: ReportHandler + Drop, W: Write>(
     alloc: Global,
     out: &mut W,
     answer: Result<H, AllocError>,
@@ -184,8 +184,8 @@ fn shown<H: ReportHandler + Drop, W: Write>(
         }
     };
     match picture(alloc, &mut handler) {
-        Ok(text) => given(out, &text),
-        Err(RenderError::Memory) => answered::<u8, W>(out, Err(AllocError)),
+        Ok(text) => write_given(out, &text),
+        Err(RenderError::Memory) => write_answer::<u8, W>(out, Err(AllocError)),
         Err(RenderError::Refused) => {
             write!(out, "\tnot read")?;
             Ok(())

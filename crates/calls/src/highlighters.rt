@@ -1,6 +1,6 @@
 //! Highlighters made of rules.
 
-use crate::rows::{Done, answered, given, kept, made_and_cloned};
+use crate::rows::{Done, write_answer, write_answer_and_value, write_clones_if_made, write_given};
 use miette::highlight::Highlighter;
 use miette::style::{Color, Style};
 use miette_highlight::highlight::{Delimiters, Pattern, PatternHighlighter, Rule, by_char};
@@ -28,34 +28,34 @@ pub static NAMES: [&str; 11] = [
 /// `Memory` where what it needs can't be made, `Write` where standard output took no more.
 pub fn make<W: Write>(alloc: Global, name: &str, out: &mut W) -> Done {
     match name {
-        "by_char" => digits(alloc, out),
-        "Delimiters::new" => answered(out, Delimiters::new(alloc, "/*", "*/")),
-        "Delimiters::clone" => made_and_cloned(out, Delimiters::new(alloc, "/*", "*/")),
-        "Pattern::words" => answered(out, Pattern::words(alloc, &["let", "in"])),
-        "Pattern::clone" => made_and_cloned(out, Pattern::words(alloc, &["let", "in"])),
-        _ => ready_made(alloc, name, out),
+        "by_char" => write_digits(alloc, out),
+        "Delimiters::new" => write_answer(out, Delimiters::new(alloc, "/*", "*/")),
+        "Delimiters::clone" => write_clones_if_made(out, Delimiters::new(alloc, "/*", "*/")),
+        "Pattern::words" => write_answer(out, Pattern::words(alloc, &["let", "in"])),
+        "Pattern::clone" => write_clones_if_made(out, Pattern::words(alloc, &["let", "in"])),
+        _ => make_by_language(alloc, name, out),
     }
 }
 
-fn ready_made<W: Write>(alloc: Global, name: &str, out: &mut W) -> Done {
+fn make_by_language<W: Write>(alloc: Global, name: &str, out: &mut W) -> Done {
     match name {
         "PatternHighlighter::json" => {
             let made = PatternHighlighter::json(alloc);
-            painted(alloc, out, "{\"a\": [1, true]}", made)
+            write_pieces(alloc, out, "{\"a\": [1, true]}", made)
         }
         "PatternHighlighter::toml" => {
             let made = PatternHighlighter::toml(alloc);
-            painted(alloc, out, "a = 'x' # c", made)
+            write_pieces(alloc, out, "a = 'x' # c", made)
         }
         "PatternHighlighter::rust" => {
             let made = PatternHighlighter::rust(alloc);
-            painted(alloc, out, "let s = \"x\"; // c", made)
+            write_pieces(alloc, out, "let s = \"x\"; // c", made)
         }
-        _ => of_rule(alloc, name, out),
+        _ => make_by_rule(alloc, name, out),
     }
 }
 
-fn digits<W: Write>(alloc: Global, out: &mut W) -> Done {
+fn write_digits<W: Write>(alloc: Global, out: &mut W) -> Done {
     let cyan = Style::new().color(Color::Cyan);
     let answer = by_char(alloc, "a1", |c| {
         if c.is_ascii_digit() {
@@ -64,20 +64,20 @@ fn digits<W: Write>(alloc: Global, out: &mut W) -> Done {
             Style::new()
         }
     });
-    answered(out, answer)
+    write_answer(out, answer)
 }
 
 /// The pieces of a line by the highlighter that a call gave.
-fn painted<W: Write>(
+fn write_pieces<W: Write>(
     alloc: Global,
     out: &mut W,
     line: &str,
     made: Result<PatternHighlighter, AllocError>,
 ) -> Done {
-    given(out, &line)?;
+    write_given(out, &line)?;
     match made {
-        Ok(mut highlighter) => answered(out, highlighter.highlight_line(alloc, line)),
-        Err(AllocError) => answered::<u8, W>(out, Err(AllocError)),
+        Ok(mut highlighter) => write_answer(out, highlighter.highlight_line(alloc, line)),
+        Err(AllocError) => write_answer::<u8, W>(out, Err(AllocError)),
     }
 }
 
@@ -90,22 +90,26 @@ fn rule(alloc: Global) -> Result<Rule, AllocError> {
     })
 }
 
-fn by_rule(alloc: Global) -> Result<PatternHighlighter, AllocError> {
+fn highlighter_by_rule(alloc: Global) -> Result<PatternHighlighter, AllocError> {
     Ok(PatternHighlighter::new(vec![in alloc; rule(alloc)?]?))
 }
 
-fn of_rule<W: Write>(alloc: Global, name: &str, out: &mut W) -> Done {
+fn make_by_rule<W: Write>(alloc: Global, name: &str, out: &mut W) -> Done {
     match name {
-        "Rule::clone" => made_and_cloned(out, rule(alloc)),
-        "PatternHighlighter::clone" => made_and_cloned(out, by_rule(alloc)),
-        _ => highlighted(alloc, out, by_rule(alloc)?),
+        "Rule::clone" => write_clones_if_made(out, rule(alloc)),
+        "PatternHighlighter::clone" => write_clones_if_made(out, highlighter_by_rule(alloc)),
+        _ => write_open_comment(alloc, out, highlighter_by_rule(alloc)?),
     }
 }
 
 /// The pieces of a line that leaves a comment open.
-fn highlighted<W: Write>(alloc: Global, out: &mut W, highlighter: PatternHighlighter) -> Done {
+fn write_open_comment<W: Write>(
+    alloc: Global,
+    out: &mut W,
+    highlighter: PatternHighlighter,
+) -> Done {
     let mut highlighter = highlighter;
-    given(out, &highlighter)?;
+    write_given(out, &highlighter)?;
     let answer = highlighter.highlight_line(alloc, "a /*b");
-    kept(out, answer, &highlighter)
+    write_answer_and_value(out, answer, &highlighter)
 }

@@ -32,11 +32,11 @@ use std::process::ExitCode;
 fn main(rt: HostRuntime) -> ExitCode {
     match run(&rt) {
         Ok(()) => ExitCode::SUCCESS,
-        Err(stop) => ended(stop, rt.faults()),
+        Err(stop) => end(stop, rt.faults()),
     }
 }
 
-fn ended<F: Write + Drop>(stop: Stop, mut faults: F) -> ExitCode {
+fn end<F: Write + Drop>(stop: Stop, mut faults: F) -> ExitCode {
     let (status, why) = match stop {
         Stop::Memory => (1, "calls: out of memory"),
         Stop::Write => (1, "calls: write fault"),
@@ -53,14 +53,14 @@ fn run<R: Env + AllocGlobal + Streams>(rt: &R) -> Done {
     };
     match words.as_slice() {
         [] => rows_of(rt, None),
-        [name] => named(rt, name.as_str()),
+        [name] => rows_of_word(rt, name.as_str()),
         [kind, name] => worked_rows(rt, kind.as_str(), name.as_str(), ""),
         [kind, name, handler] => worked_rows(rt, kind.as_str(), name.as_str(), handler.as_str()),
         _ => Err(Stop::Usage),
     }
 }
 
-fn named<R: Env + AllocGlobal + Streams>(rt: &R, name: &str) -> Done {
+fn rows_of_word<R: Env + AllocGlobal + Streams>(rt: &R, name: &str) -> Done {
     match name {
         "report" => worked_rows(rt, name, "", ""),
         "stops" => stops::rows(rt.alloc(), &mut rt.output()),
@@ -145,11 +145,11 @@ fn rows_of<R: Env + AllocGlobal + Streams>(rt: &R, wanted: Option<&str>) -> Done
 fn row<R: Env + AllocGlobal + Streams>(rt: &R, subject: Subject, name: &str) -> Done {
     let mut out = rt.output();
     write!(out, "{name}")?;
-    let done = made(rt, subject, name, &mut out);
+    let done = make(rt, subject, name, &mut out);
     end_row(&mut out, done)
 }
 
-fn made<R: Env + AllocGlobal + Streams, W: Write>(
+fn make<R: Env + AllocGlobal + Streams, W: Write>(
     rt: &R,
     subject: Subject,
     name: &str,

@@ -1,7 +1,7 @@
 //! What a program is told of its terminal, and reports that are printed there.
 
-use crate::reports::caused;
-use crate::rows::{Done, answered};
+use crate::reports::full_report;
+use crate::rows::{Done, write_answer};
 use miette::handlers::NarratableReportHandler;
 use miette::highlight::BlankHighlighter;
 use miette::options::MietteHandlerOpts;
@@ -33,14 +33,18 @@ pub static NAMES: [&str; 8] = [
 /// `Memory` where what it needs can't be made, `Write` where standard output took no more.
 pub fn make<R: Env + AllocGlobal + Streams, W: Write>(rt: &R, name: &str, out: &mut W) -> Done {
     match name {
-        "Variables::read" => answered(out, Variables::read(rt, true, true).map(|_| "read")),
-        "detect" => answered(out, detect(rt, Stream::Stdout).map(|_| "detected")),
-        "write_report" | "print_to" => written(rt, name, out),
-        _ => printed(rt, name, out),
+        "Variables::read" => write_answer(out, Variables::read(rt, true, true).map(|_| "read")),
+        "detect" => write_answer(out, detect(rt, Stream::Stdout).map(|_| "detected")),
+        "write_report" | "print_to" => write_narration(rt, name, out),
+        _ => write_printing(rt, name, out),
     }
 }
 
-fn printed<R: Env + AllocGlobal + Streams, W: Write>(rt: &R, name: &str, out: &mut W) -> Done {
+fn write_printing<R: Env + AllocGlobal + Streams, W: Write>(
+    rt: &R,
+    name: &str,
+    out: &mut W,
+) -> Done {
     let report = Report::msg(rt.alloc(), "oops!")?;
     writeln!(out, "\tprints:")?;
     print(rt, name, &report);
@@ -79,16 +83,20 @@ impl Write for Room {
     }
 }
 
-fn written<R: Env + AllocGlobal + Streams, W: Write>(rt: &R, name: &str, out: &mut W) -> Done {
-    let report = caused(rt.alloc())?;
+fn write_narration<R: Env + AllocGlobal + Streams, W: Write>(
+    rt: &R,
+    name: &str,
+    out: &mut W,
+) -> Done {
+    let report = full_report(rt.alloc())?;
     let mut room = Room {
         held: Vec::with_capacity(rt.alloc(), 4096)?,
     };
-    let answer = narrated(rt, name, &report, &mut room);
-    told(out, answer, &room)
+    let answer = narrate(rt, name, &report, &mut room);
+    write_room(out, answer, &room)
 }
 
-fn narrated<R: Env + AllocGlobal + Streams>(
+fn narrate<R: Env + AllocGlobal + Streams>(
     rt: &R,
     name: &str,
     report: &Report,
@@ -113,7 +121,7 @@ fn narrated<R: Env + AllocGlobal + Streams>(
     }
 }
 
-fn told<W: Write>(out: &mut W, answer: Result<(), PrintError>, room: &Room) -> Done {
+fn write_room<W: Write>(out: &mut W, answer: Result<(), PrintError>, room: &Room) -> Done {
     let held = str::from_utf8(room.held.as_slice()).unwrap_or("no text");
     match answer {
         Ok(()) => write!(out, "\t{held:?}")?,

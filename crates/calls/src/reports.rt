@@ -1,8 +1,8 @@
 //! Reports: what makes them, and what is put in front of them and below them.
 
-use crate::diagnostics::{full, given_full};
+use crate::diagnostics::{full_diagnostic, write_full_diagnostic};
 use crate::rows::{
-    Done, Stop, given, report_answered, report_changed, report_given, report_refused,
+    Done, Stop, write_given, write_outcome, write_refusal, write_report, write_report_or_refusal,
 };
 use miette::error::MietteError;
 use miette::report::{IntoDiagnostic, Report, Result, WrapErr};
@@ -38,24 +38,27 @@ pub static NAMES: [&str; 18] = [
 /// `Memory` where what it needs can't be made, `Write` where standard output took no more.
 pub fn make<W: Write>(alloc: Global, name: &str, out: &mut W) -> Done {
     match name {
-        "Report::copied" => copied(alloc, out),
-        "Report::msg" => made(out, Report::msg(alloc, "oops!")),
-        "Report::from_err" => made(out, Report::from_err(alloc, MietteError::OutOfBounds)),
-        "Report::with_diagnostic_cause" => over(alloc, out),
+        "Report::copied" => write_copy(alloc, out),
+        "Report::msg" => write_made_report(out, Report::msg(alloc, "oops!")),
+        "Report::from_err" => write_made_report(
+            out,
+            Report::from_err(alloc, MietteError::OutOfBounds),
+        ),
+        "Report::with_diagnostic_cause" => write_report_over(alloc, out),
         "Report::wrap_err" | "Report::context" => {
-            let report = given_caused(alloc, out)?;
-            report_changed(out, put_before(alloc, name, report))
+            let report = write_full_report(alloc, out)?;
+            write_outcome(out, put_before(alloc, name, report))
         }
-        "miette!" => report_answered(out, &by_macro(alloc)),
-        "bail!" => failed(out, is_refused(alloc, 7)),
-        "ensure!" => failed(out, is_held(alloc, 7)),
+        "miette!" => write_report_or_refusal(out, &by_macro(alloc)),
+        "bail!" => write_failure(out, is_refused(alloc, 7)),
+        "ensure!" => write_failure(out, is_held(alloc, 7)),
         _ => in_front(alloc, name, out),
     }
 }
 
-fn copied<W: Write>(alloc: Global, out: &mut W) -> Done {
-    let full = given_full(alloc, out)?;
-    made(out, Report::copied(alloc, &full))
+fn write_copy<W: Write>(alloc: Global, out: &mut W) -> Done {
+    let full = write_full_diagnostic(alloc, out)?;
+    write_made_report(out, Report::copied(alloc, &full))
 }
 
 fn put_before(alloc: Global, name: &str, report: Report) -> Result<Report, Report> {
@@ -73,31 +76,37 @@ fn by_macro(alloc: Global) -> Report {
 /// A message in front of what is missing or has failed.
 fn in_front<W: Write>(alloc: Global, name: &str, out: &mut W) -> Done {
     match name {
-        "WrapErr::wrap_err for Option" => failed(out, None.wrap_err(alloc, "nothing is there")),
-        "WrapErr::context for Option" => failed(out, None.context(alloc, "nothing is there")),
+        "WrapErr::wrap_err for Option" => write_failure(
+            out,
+            None.wrap_err(alloc, "nothing is there"),
+        ),
+        "WrapErr::context for Option" => write_failure(
+            out,
+            None.context(alloc, "nothing is there"),
+        ),
         "WrapErr::wrap_err_with for Option" => {
-            failed(
+            write_failure(
                 out,
                 None.wrap_err_with(alloc, || format!(in alloc; "item {} is missing", 7)),
             )
         }
         "WrapErr::with_context for Option" => {
-            failed(
+            write_failure(
                 out,
                 None.with_context(alloc, || format!(in alloc; "item {} is missing", 7)),
             )
         }
         "IntoDiagnostic::into_diagnostic for Result" => {
             let error: std::result::Result<u32, MietteError> = Err(MietteError::OutOfBounds);
-            failed(out, error.into_diagnostic(alloc))
+            write_failure(out, error.into_diagnostic(alloc))
         }
         _ => in_front_of_error(alloc, name, out),
     }
 }
 
 fn in_front_of_error<W: Write>(alloc: Global, name: &str, out: &mut W) -> Done {
-    let report = given_caused(alloc, out)?;
-    failed(out, put_in_front(alloc, name, Err(report)))
+    let report = write_full_report(alloc, out)?;
+    write_failure(out, put_in_front(alloc, name, Err(report)))
 }
 
 fn put_in_front(alloc: Global, name: &str, error: Result<u32>) -> Result<u32> {
@@ -112,37 +121,37 @@ fn put_in_front(alloc: Global, name: &str, error: Result<u32>) -> Result<u32> {
 }
 
 /// A report over another one; where memory is refused both come back.
-fn over<W: Write>(alloc: Global, out: &mut W) -> Done {
-    let report = Report::new(full(alloc)?);
-    report_given(out, &report)?;
-    let cause = given_caused(alloc, out)?;
-    over_answered(out, report.with_diagnostic_cause(alloc, cause))
+fn write_report_over<W: Write>(alloc: Global, out: &mut W) -> Done {
+    let report = Report::new(full_diagnostic(alloc)?);
+    write_report(out, &report)?;
+    let cause = write_full_report(alloc, out)?;
+    write_answer_over(out, report.with_diagnostic_cause(alloc, cause))
 }
 
-fn over_answered<W: Write>(out: &mut W, answer: Result<Report, (Report, Report)>) -> Done {
+fn write_answer_over<W: Write>(out: &mut W, answer: Result<Report, (Report, Report)>) -> Done {
     match answer {
-        Ok(made) => report_given(out, &made),
-        Err((report, cause)) => both(out, &report, &cause),
+        Ok(made) => write_report(out, &made),
+        Err((report, cause)) => write_both(out, &report, &cause),
     }
 }
 
 /// Two reports that came back.
-fn both<W: Write>(out: &mut W, report: &Report, cause: &Report) -> Done {
-    report_refused(out, report)?;
-    report_given(out, cause)
+fn write_both<W: Write>(out: &mut W, report: &Report, cause: &Report) -> Done {
+    write_refusal(out, report)?;
+    write_report(out, cause)
 }
 
 /// The report that a call is given, which the row shows.
-fn given_caused<W: Write>(alloc: Global, out: &mut W) -> Result<Report, Stop> {
-    let report = caused(alloc)?;
-    report_given(out, &report)?;
+fn write_full_report<W: Write>(alloc: Global, out: &mut W) -> Result<Report, Stop> {
+    let report = full_report(alloc)?;
+    write_report(out, &report)?;
     Ok(report)
 }
 
 /// `oops!` with all parts, over two texts.
-pub fn caused(alloc: Global) -> Result<Report, AllocError> {
+pub fn full_report(alloc: Global) -> Result<Report, AllocError> {
     let texts = two_texts(alloc)?;
-    Ok(Report::new(full(alloc)?).with_cause_texts(texts))
+    Ok(Report::new(full_diagnostic(alloc)?).with_cause_texts(texts))
 }
 
 fn two_texts(alloc: Global) -> Result<Vec<String>, AllocError> {
@@ -161,9 +170,9 @@ fn is_held(alloc: Global, number: u32) -> Result<u32> {
 }
 
 /// The report that a call gave, or that memory was refused.
-fn made<W: Write>(out: &mut W, answer: Result<Report, AllocError>) -> Done {
+fn write_made_report<W: Write>(out: &mut W, answer: Result<Report, AllocError>) -> Done {
     match answer {
-        Ok(report) => report_given(out, &report),
+        Ok(report) => write_report(out, &report),
         Err(AllocError) => {
             write!(out, "\trefused")?;
             Ok(())
@@ -172,9 +181,9 @@ fn made<W: Write>(out: &mut W, answer: Result<Report, AllocError>) -> Done {
 }
 
 /// The report of what is missing or has failed.
-fn failed<W: Write>(out: &mut W, answer: Result<u32>) -> Done {
+fn write_failure<W: Write>(out: &mut W, answer: Result<u32>) -> Done {
     match answer {
-        Ok(value) => given(out, &value),
-        Err(report) => report_answered(out, &report),
+        Ok(value) => write_given(out, &value),
+        Err(report) => write_report_or_refusal(out, &report),
     }
 }

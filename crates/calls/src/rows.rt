@@ -57,7 +57,7 @@ pub fn end_row<W: Write>(out: &mut W, done: Done) -> Done {
 ///
 /// # Errors
 /// `Write` where standard output took no more.
-pub fn given<T: Debug, W: Write>(out: &mut W, value: &T) -> Done {
+pub fn write_given<T: Debug, W: Write>(out: &mut W, value: &T) -> Done {
     write!(out, "\t{value:?}")?;
     Ok(())
 }
@@ -66,7 +66,7 @@ pub fn given<T: Debug, W: Write>(out: &mut W, value: &T) -> Done {
 ///
 /// # Errors
 /// `Write` where standard output took no more.
-pub fn answered<T: Debug + Drop, W: Write>(out: &mut W, answer: Result<T, AllocError>) -> Done {
+pub fn write_answer<T: Debug + Drop, W: Write>(out: &mut W, answer: Result<T, AllocError>) -> Done {
     match answer {
         Ok(value) => write!(out, "\t{value:?}")?,
         Err(AllocError) => write!(out, "\trefused")?,
@@ -78,7 +78,7 @@ pub fn answered<T: Debug + Drop, W: Write>(out: &mut W, answer: Result<T, AllocE
 ///
 /// # Errors
 /// `Write` where standard output took no more.
-pub fn appended<W: Write>(out: &mut W, answer: Result<(), RenderError>, text: &String) -> Done {
+pub fn write_text<W: Write>(out: &mut W, answer: Result<(), RenderError>, text: &String) -> Done {
     match answer {
         Ok(()) => write!(out, "\t{text:?}")?,
         Err(RenderError::Memory) => write!(out, "\trefused: {text:?}")?,
@@ -91,7 +91,11 @@ pub fn appended<W: Write>(out: &mut W, answer: Result<(), RenderError>, text: &S
 ///
 /// # Errors
 /// `Write` where standard output took no more.
-pub fn changed<T: Debug, W: Write>(out: &mut W, answer: Result<(), AllocError>, value: &T) -> Done {
+pub fn write_change<T: Debug, W: Write>(
+    out: &mut W,
+    answer: Result<(), AllocError>,
+    value: &T,
+) -> Done {
     match answer {
         Ok(()) => write!(out, "\t{value:?}")?,
         Err(AllocError) => write!(out, "\trefused")?,
@@ -103,7 +107,7 @@ pub fn changed<T: Debug, W: Write>(out: &mut W, answer: Result<(), AllocError>, 
 ///
 /// # Errors
 /// `Write` where standard output took no more.
-pub fn kept<T: Debug + Drop, V: Debug, W: Write>(
+pub fn write_answer_and_value<T: Debug + Drop, V: Debug, W: Write>(
     out: &mut W,
     answer: Result<T, AllocError>,
     value: &V,
@@ -119,22 +123,22 @@ pub fn kept<T: Debug + Drop, V: Debug, W: Write>(
 ///
 /// # Errors
 /// `Write` where standard output took no more.
-pub fn cloned<T: Clone + Debug + Drop, W: Write>(out: &mut W, value: &T) -> Done {
-    given(out, value)?;
-    answered(out, value.clone())?;
-    answered(out, value.clone())
+pub fn write_clones<T: Clone + Debug + Drop, W: Write>(out: &mut W, value: &T) -> Done {
+    write_given(out, value)?;
+    write_answer(out, value.clone())?;
+    write_answer(out, value.clone())
 }
 
 /// A value that a call is given, and two clones of it.
 ///
 /// # Errors
 /// `Memory` where the value can't be made, `Write` where standard output took no more.
-pub fn made_and_cloned<T: Clone + Debug + Drop, W: Write>(
+pub fn write_clones_if_made<T: Clone + Debug + Drop, W: Write>(
     out: &mut W,
     made: Result<T, AllocError>,
 ) -> Done {
     match made {
-        Ok(value) => cloned(out, &value),
+        Ok(value) => write_clones(out, &value),
         Err(AllocError) => Err(Stop::Memory),
     }
 }
@@ -143,17 +147,17 @@ pub fn made_and_cloned<T: Clone + Debug + Drop, W: Write>(
 ///
 /// # Errors
 /// `Write` where standard output took no more.
-pub fn parts<W: Write>(out: &mut W, report: &Report) -> Done {
+pub fn write_parts<W: Write>(out: &mut W, report: &Report) -> Done {
     write!(out, "{report:?}")?;
-    part(out, "code", &report.code())?;
-    part(out, "severity", &report.severity())?;
-    part(out, "help", &report.help())?;
-    part(out, "url", &report.url())?;
-    part(out, "labels", &report.labels())
+    write_part(out, "code", &report.code())?;
+    write_part(out, "severity", &report.severity())?;
+    write_part(out, "help", &report.help())?;
+    write_part(out, "url", &report.url())?;
+    write_part(out, "labels", &report.labels())
 }
 
 /// A part of a report, behind its name.
-fn part<T: Debug, W: Write>(out: &mut W, name: &str, value: &T) -> Done {
+fn write_part<T: Debug, W: Write>(out: &mut W, name: &str, value: &T) -> Done {
     write!(out, ", {name} {value:?}")?;
     Ok(())
 }
@@ -162,28 +166,28 @@ fn part<T: Debug, W: Write>(out: &mut W, name: &str, value: &T) -> Done {
 ///
 /// # Errors
 /// `Write` where standard output took no more.
-pub fn report_given<W: Write>(out: &mut W, report: &Report) -> Done {
+pub fn write_report<W: Write>(out: &mut W, report: &Report) -> Done {
     write!(out, "\t")?;
-    parts(out, report)
+    write_parts(out, report)
 }
 
 /// A report that says that memory was refused, or that came back.
 ///
 /// # Errors
 /// `Write` where standard output took no more.
-pub fn report_refused<W: Write>(out: &mut W, report: &Report) -> Done {
+pub fn write_refusal<W: Write>(out: &mut W, report: &Report) -> Done {
     write!(out, "\trefused: ")?;
-    parts(out, report)
+    write_parts(out, report)
 }
 
 /// A report that a call gave; in front of that of refused memory stands that it was refused.
 ///
 /// # Errors
 /// `Write` where standard output took no more.
-pub fn report_answered<W: Write>(out: &mut W, report: &Report) -> Done {
+pub fn write_report_or_refusal<W: Write>(out: &mut W, report: &Report) -> Done {
     match report.kind() {
-        ReportKind::OutOfMemory => report_refused(out, report),
-        _ => report_given(out, report),
+        ReportKind::OutOfMemory => write_refusal(out, report),
+        _ => write_report(out, report),
     }
 }
 
@@ -191,9 +195,9 @@ pub fn report_answered<W: Write>(out: &mut W, report: &Report) -> Done {
 ///
 /// # Errors
 /// `Write` where standard output took no more.
-pub fn report_changed<W: Write>(out: &mut W, answer: Result<Report, Report>) -> Done {
+pub fn write_outcome<W: Write>(out: &mut W, answer: Result<Report, Report>) -> Done {
     match answer {
-        Ok(report) => report_given(out, &report),
-        Err(report) => report_refused(out, &report),
+        Ok(report) => write_report(out, &report),
+        Err(report) => write_refusal(out, &report),
     }
 }

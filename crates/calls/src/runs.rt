@@ -1,6 +1,6 @@
 //! Runs of characters and signs, and outputs that print or collect them.
 
-use crate::rows::{Done, answered, changed, given};
+use crate::rows::{Done, write_answer, write_change, write_given};
 use miette::style::{Color, Style};
 use miette_text::runs::Runs;
 use miette_text::runs::output::Output;
@@ -42,17 +42,17 @@ pub static NAMES: [&str; 24] = [
 /// `Memory` where what it needs can't be made, `Write` where standard output took no more.
 pub fn make<W: Write>(alloc: Global, name: &str, out: &mut W) -> Done {
     match name {
-        "Runs::new" => given(out, &Runs::new(alloc)),
-        "Output::for_text" => given(out, &Output::for_text(alloc)),
-        "Output::for_runs" => given(out, &Output::for_runs(alloc)),
-        "Output::into_text" => ended(alloc, out, true),
-        "Output::into_runs" => ended(alloc, out, false),
+        "Runs::new" => write_given(out, &Runs::new(alloc)),
+        "Output::for_text" => write_given(out, &Output::for_text(alloc)),
+        "Output::for_runs" => write_given(out, &Output::for_runs(alloc)),
+        "Output::into_text" => write_ends(alloc, out, true),
+        "Output::into_runs" => write_ends(alloc, out, false),
         _ => {
             if name.starts_with("Runs::") {
-                pushed(alloc, name, out)
+                write_push(alloc, name, out)
             } else {
-                put(name, out, Output::for_text(alloc))?;
-                put(name, out, Output::for_runs(alloc))
+                write_put(name, out, Output::for_text(alloc))?;
+                write_put(name, out, Output::for_runs(alloc))
             }
         }
     }
@@ -62,12 +62,12 @@ fn red() -> Style {
     Style::new().color(Color::Red)
 }
 
-fn pushed<W: Write>(alloc: Global, name: &str, out: &mut W) -> Done {
+fn write_push<W: Write>(alloc: Global, name: &str, out: &mut W) -> Done {
     let mut runs = Runs::new(alloc);
     let more = read_text(alloc, "\u{1b}[32mb\u{1b}[0mc")?;
-    given(out, &runs)?;
+    write_given(out, &runs)?;
     let answer = push(name, &mut runs, &more);
-    changed(out, answer, &runs)
+    write_change(out, answer, &runs)
 }
 
 fn push(name: &str, runs: &mut Runs, more: &Runs) -> Result<(), AllocError> {
@@ -86,10 +86,10 @@ fn push(name: &str, runs: &mut Runs, more: &Runs) -> Result<(), AllocError> {
     }
 }
 
-fn put<W: Write>(name: &str, out: &mut W, output: Output) -> Done {
+fn write_put<W: Write>(name: &str, out: &mut W, output: Output) -> Done {
     let mut output = output;
     let answer = push_to(name, &mut output);
-    changed(out, answer, &output)
+    write_change(out, answer, &output)
 }
 
 fn push_to(name: &str, output: &mut Output) -> Result<(), AllocError> {
@@ -108,7 +108,7 @@ fn push_to(name: &str, output: &mut Output) -> Result<(), AllocError> {
 }
 
 /// An output with a red text, which prints or collects.
-fn filled(alloc: Global, prints: bool) -> Result<Output, AllocError> {
+fn filled_output(alloc: Global, prints: bool) -> Result<Output, AllocError> {
     let mut output = if prints {
         Output::for_text(alloc)
     } else {
@@ -118,15 +118,15 @@ fn filled(alloc: Global, prints: bool) -> Result<Output, AllocError> {
     Ok(output)
 }
 
-fn ended<W: Write>(alloc: Global, out: &mut W, as_text: bool) -> Done {
-    ended_as(alloc, out, filled(alloc, true)?, as_text)?;
-    ended_as(alloc, out, filled(alloc, false)?, as_text)
+fn write_ends<W: Write>(alloc: Global, out: &mut W, as_text: bool) -> Done {
+    write_end(alloc, out, filled_output(alloc, true)?, as_text)?;
+    write_end(alloc, out, filled_output(alloc, false)?, as_text)
 }
 
-fn ended_as<W: Write>(alloc: Global, out: &mut W, output: Output, as_text: bool) -> Done {
+fn write_end<W: Write>(alloc: Global, out: &mut W, output: Output, as_text: bool) -> Done {
     if as_text {
-        answered(out, output.into_text(alloc))
+        write_answer(out, output.into_text(alloc))
     } else {
-        answered(out, output.into_runs(alloc))
+        write_answer(out, output.into_runs(alloc))
     }
 }

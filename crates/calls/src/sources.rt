@@ -1,6 +1,6 @@
 //! Sources.
 
-use crate::rows::{Done, given};
+use crate::rows::{Done, write_given};
 use miette::protocol::{SourceOffset, SourceSpan};
 use miette::report::OwnedSource;
 use miette::source::{IndexedSource, NamedSource, SourceCode};
@@ -30,10 +30,10 @@ pub fn make<W: Write>(alloc: Global, name: &str, out: &mut W) -> Done {
 
 fn of_bytes<W: Write>(alloc: Global, name: &str, out: &mut W, bytes: Vec<u8>) -> Done {
     match name {
-        "IndexedSource::new" => read(out, IndexedSource::new(alloc, bytes)),
-        "NamedSource::new" => read(out, NamedSource::new(alloc, "bad_file.rs", bytes)),
-        "OwnedSource::new" => read(out, OwnedSource::new(alloc, bytes)),
-        "OwnedSource::named" => read(
+        "IndexedSource::new" => write_read(out, IndexedSource::new(alloc, bytes)),
+        "NamedSource::new" => write_read(out, NamedSource::new(alloc, "bad_file.rs", bytes)),
+        "OwnedSource::new" => write_read(out, OwnedSource::new(alloc, bytes)),
+        "OwnedSource::named" => write_read(
             out,
             OwnedSource::named(alloc, "bad_file.rs", Some("rust"), bytes),
         ),
@@ -44,20 +44,20 @@ fn of_bytes<W: Write>(alloc: Global, name: &str, out: &mut W, bytes: Vec<u8>) ->
 fn of_named<W: Write>(alloc: Global, name: &str, out: &mut W) -> Done {
     let named = NamedSource::new(alloc, "bad_file.rs", README.to_vec(alloc)?)?;
     if name == "NamedSource::clone" {
-        return clones(out, &named.with_language(alloc, "rust")?);
+        return write_clones(out, &named.with_language(alloc, "rust")?);
     }
-    given(out, &named)?;
-    read(out, named.with_language(alloc, "rust"))
+    write_given(out, &named)?;
+    write_read(out, named.with_language(alloc, "rust"))
 }
 
-fn clones<W: Write>(out: &mut W, named: &NamedSource<Vec<u8>>) -> Done {
-    given(out, named)?;
-    read(out, named.clone())?;
-    read(out, named.clone())
+fn write_clones<W: Write>(out: &mut W, named: &NamedSource<Vec<u8>>) -> Done {
+    write_given(out, named)?;
+    write_read(out, named.clone())?;
+    write_read(out, named.clone())
 }
 
 /// A read of the source that a call gave, with a line of context.
-fn read<S: SourceCode, W: Write>(out: &mut W, answer: Result<S, AllocError>) -> Done {
+fn write_read<S: SourceCode, W: Write>(out: &mut W, answer: Result<S, AllocError>) -> Done {
     match answer {
         Ok(source) => {
             let span = SourceSpan::new(SourceOffset::from(9), 4);

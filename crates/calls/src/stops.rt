@@ -1,7 +1,9 @@
 //! Reports over sources that stop after each number of reads: `calls stops`.
 
-use crate::examples::rendered;
-use crate::fixtures::{M, Made, Written, beside_one, over, report_of, stopping_report};
+use crate::examples::render;
+use crate::fixtures::{
+    M, Made, Written, report_beside_one, report_of, report_over, stopping_report,
+};
 use crate::rows::{Done, Stop, end_row};
 use crate::stopping::{Reads, Stopping};
 use std::alloc::{AllocError, Global};
@@ -104,7 +106,7 @@ fn row<W: Write>(
     reads: &Reads,
 ) -> Done {
     let report = report(alloc, name, reads)?;
-    rendered(alloc, out, &report, handler, lines)
+    render(alloc, out, &report, handler, lines)
 }
 
 fn report<'a>(alloc: Global, name: &str, reads: &'a Reads) -> Result<Made<'a>, AllocError> {
@@ -112,11 +114,11 @@ fn report<'a>(alloc: Global, name: &str, reads: &'a Reads) -> Result<Made<'a>, A
     if name == "a related report" || name == "a cause" {
         return with_another(alloc, name, stopping_report(alloc, &ONE, source)?);
     }
-    stopping_report(alloc, alone(name), source)
+    stopping_report(alloc, lone_report(name), source)
 }
 
 /// What is written of a report that has no other beside it or below it.
-fn alone(name: &str) -> &'static Written<'static> {
+fn lone_report(name: &str) -> &'static Written<'static> {
     match name {
         "two labels" => &TWO,
         "labels far apart" => &APART,
@@ -128,8 +130,8 @@ fn alone(name: &str) -> &'static Written<'static> {
 
 fn with_another<'a>(alloc: Global, name: &str, other: Made<'a>) -> Result<Made<'a>, AllocError> {
     if name == "a related report" {
-        beside_one(alloc, report_of(alloc, &PLAIN)?, other)
+        report_beside_one(alloc, report_of(alloc, &PLAIN)?, other)
     } else {
-        over(alloc, report_of(alloc, &APART)?, other)
+        report_over(alloc, report_of(alloc, &APART)?, other)
     }
 }

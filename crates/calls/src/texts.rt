@@ -1,6 +1,6 @@
 //! Texts that are wrapped, read as runs, and printed.
 
-use crate::rows::{Done, answered, appended, changed, given};
+use crate::rows::{Done, write_answer, write_change, write_given, write_text};
 use miette::error::RenderError;
 use miette::wrap::{Plan, WordSeparator, WordSplitter, WrapOptions, fill, wrap};
 use miette_text::runs::Runs;
@@ -36,41 +36,41 @@ const TEXT: &str =
 /// `Memory` where what it needs can't be made, `Write` where standard output took no more.
 pub fn make<W: Write>(alloc: Global, name: &str, out: &mut W) -> Done {
     match name {
-        "fill" => filled(alloc, out),
-        "wrap" => wrapped(alloc, out),
-        "push_fitting" => fitted(alloc, out),
+        "fill" => write_fill(alloc, out),
+        "wrap" => write_wrap(alloc, out),
+        "push_fitting" => write_fitting(alloc, out),
         "append_whole" => {
             let mut text = String::from_str(alloc, "> ")?;
-            given(out, &text)?;
+            write_given(out, &text)?;
             let answer = append_whole("a text that is longer than what is there", &mut text);
-            appended(out, answer, &text)
+            write_text(out, answer, &text)
         }
         "read" => {
             let codes: Vec<char> = TEXT.chars().collect(alloc)?;
-            answered(out, read(alloc, codes))
+            write_answer(out, read(alloc, codes))
         }
-        "read_text" => answered(out, read_text(alloc, TEXT)),
+        "read_text" => write_answer(out, read_text(alloc, TEXT)),
         _ => of_runs(alloc, name, out),
     }
 }
 
 fn of_runs<W: Write>(alloc: Global, name: &str, out: &mut W) -> Done {
     let runs = read_text(alloc, "\n\u{1b}[31m\nred\u{1b}[0m\n")?;
-    given(out, &runs)?;
-    cut(alloc, name, out, runs)
+    write_given(out, &runs)?;
+    write_cut(alloc, name, out, runs)
 }
 
-fn cut<W: Write>(alloc: Global, name: &str, out: &mut W, runs: Runs) -> Done {
+fn write_cut<W: Write>(alloc: Global, name: &str, out: &mut W, runs: Runs) -> Done {
     match name {
-        "without_leading" => answered(out, without_leading(alloc, runs)),
-        "without_trailing" => answered(out, without_trailing(alloc, runs)),
-        "print" => answered(out, print(alloc, &runs)),
-        "columns_of" => answered(out, columns_of(alloc, &runs)),
+        "without_leading" => write_answer(out, without_leading(alloc, runs)),
+        "without_trailing" => write_answer(out, without_trailing(alloc, runs)),
+        "print" => write_answer(out, print(alloc, &runs)),
+        "columns_of" => write_answer(out, columns_of(alloc, &runs)),
         _ => Ok(()),
     }
 }
 
-fn filled<W: Write>(alloc: Global, out: &mut W) -> Done {
+fn write_fill<W: Write>(alloc: Global, out: &mut W) -> Done {
     let options = WrapOptions {
         width: 12,
         first_indent: "* ",
@@ -81,16 +81,16 @@ fn filled<W: Write>(alloc: Global, out: &mut W) -> Done {
         splitter: WordSplitter::HyphenSplitter,
     };
     let mut text = String::from_str(alloc, "> ")?;
-    given(out, &text)?;
+    write_given(out, &text)?;
     let answer = fill(TEXT, &options, &mut text);
-    appended(out, answer.map_err(|it| RenderError::from(it)), &text)
+    write_text(out, answer.map_err(|it| RenderError::from(it)), &text)
 }
 
-fn wrapped<W: Write>(alloc: Global, out: &mut W) -> Done {
+fn write_wrap<W: Write>(alloc: Global, out: &mut W) -> Done {
     let mut output = Output::for_runs(alloc);
-    given(out, &output)?;
+    write_given(out, &output)?;
     let answer = wrap_text(alloc, &mut output)?;
-    changed(out, answer, &output)
+    write_change(out, answer, &output)
 }
 
 /// What the call answers; an error where what it is given can't be made.
@@ -109,10 +109,10 @@ fn wrap_text(alloc: Global, output: &mut Output) -> Result<Result<(), AllocError
     Ok(wrap(alloc, plan, &text, output))
 }
 
-fn fitted<W: Write>(alloc: Global, out: &mut W) -> Done {
+fn write_fitting<W: Write>(alloc: Global, out: &mut W) -> Done {
     let first = read_text(alloc, "* ")?;
     let mut output = Output::for_runs(alloc);
-    given(out, &output)?;
+    write_given(out, &output)?;
     let answer = push_fitting(true, 13, &first, "word-and-\u{6f22}", &mut output);
-    changed(out, answer.map(|_fits| ()), &output)
+    write_change(out, answer.map(|_fits| ()), &output)
 }

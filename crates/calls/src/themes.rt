@@ -1,6 +1,6 @@
 //! Themes and highlighters.
 
-use crate::rows::{Done, answered, given, made_and_cloned};
+use crate::rows::{Done, write_answer, write_clones_if_made, write_given};
 use miette::highlight::{BlankHighlighter, Highlighter};
 use miette::theme::{GraphicalTheme, Terminal, ThemeCharacters, ThemeStyles};
 use std::alloc::{AllocError, Global};
@@ -32,21 +32,21 @@ pub static NAMES: [&str; 16] = [
 /// `Memory` where what it needs can't be made, `Write` where standard output took no more.
 pub fn make<W: Write>(alloc: Global, name: &str, out: &mut W) -> Done {
     match name {
-        "ThemeCharacters::unicode" => answered(out, ThemeCharacters::unicode(alloc)),
-        "ThemeCharacters::emoji" => answered(out, ThemeCharacters::emoji(alloc)),
-        "ThemeCharacters::ascii" => answered(out, ThemeCharacters::ascii(alloc)),
-        "ThemeCharacters::clone" => made_and_cloned(out, ThemeCharacters::emoji(alloc)),
-        "ThemeStyles::rgb" => answered(out, ThemeStyles::rgb(alloc)),
-        "ThemeStyles::ansi" => answered(out, ThemeStyles::ansi(alloc)),
-        "ThemeStyles::none" => answered(out, ThemeStyles::none(alloc)),
-        "ThemeStyles::clone" => made_and_cloned(out, ThemeStyles::rgb(alloc)),
+        "ThemeCharacters::unicode" => write_answer(out, ThemeCharacters::unicode(alloc)),
+        "ThemeCharacters::emoji" => write_answer(out, ThemeCharacters::emoji(alloc)),
+        "ThemeCharacters::ascii" => write_answer(out, ThemeCharacters::ascii(alloc)),
+        "ThemeCharacters::clone" => write_clones_if_made(out, ThemeCharacters::emoji(alloc)),
+        "ThemeStyles::rgb" => write_answer(out, ThemeStyles::rgb(alloc)),
+        "ThemeStyles::ansi" => write_answer(out, ThemeStyles::ansi(alloc)),
+        "ThemeStyles::none" => write_answer(out, ThemeStyles::none(alloc)),
+        "ThemeStyles::clone" => write_clones_if_made(out, ThemeStyles::rgb(alloc)),
         _ => theme(alloc, name, out),
     }
 }
 
 fn theme<W: Write>(alloc: Global, name: &str, out: &mut W) -> Done {
     if name == "GraphicalTheme::clone" {
-        return made_and_cloned(out, GraphicalTheme::unicode(alloc));
+        return write_clones_if_made(out, GraphicalTheme::unicode(alloc));
     }
     let made = match name {
         "GraphicalTheme::ascii" => GraphicalTheme::ascii(alloc),
@@ -55,7 +55,7 @@ fn theme<W: Write>(alloc: Global, name: &str, out: &mut W) -> Done {
         "GraphicalTheme::none" => GraphicalTheme::none(alloc),
         _ => return others(alloc, name, out),
     };
-    answered(out, made)
+    write_answer(out, made)
 }
 
 fn others<W: Write>(alloc: Global, name: &str, out: &mut W) -> Done {
@@ -63,21 +63,21 @@ fn others<W: Write>(alloc: Global, name: &str, out: &mut W) -> Done {
         "GraphicalTheme::for_terminal" => { for_terminal(alloc, out, &terminal(alloc)?) }
         "Highlighter::highlight_line for BlankHighlighter" => {
             let mut highlighter = BlankHighlighter;
-            answered(out, highlighter.highlight_line(alloc, "let x = 1;"))
+            write_answer(out, highlighter.highlight_line(alloc, "let x = 1;"))
         }
-        "Highlighter::highlight_line for Box" => { boxed(alloc, out) }
+        "Highlighter::highlight_line for Box" => { write_by_box(alloc, out) }
         _ => Ok(()),
     }
 }
 
 fn for_terminal<W: Write>(alloc: Global, out: &mut W, terminal: &Terminal) -> Done {
-    given(out, terminal)?;
-    answered(out, GraphicalTheme::for_terminal(alloc, terminal))
+    write_given(out, terminal)?;
+    write_answer(out, GraphicalTheme::for_terminal(alloc, terminal))
 }
 
-fn boxed<W: Write>(alloc: Global, out: &mut W) -> Done {
+fn write_by_box<W: Write>(alloc: Global, out: &mut W) -> Done {
     let mut highlighter: Box<dyn Highlighter> = Box::new(alloc, BlankHighlighter)?;
-    answered(out, highlighter.highlight_line(alloc, "let x = 1;"))
+    write_answer(out, highlighter.highlight_line(alloc, "let x = 1;"))
 }
 
 /// Colours that its user doesn't want.
