@@ -74,13 +74,13 @@ fn with_room(alloc: Global, (room, at_once, errs): (usize, usize, bool)) -> Limi
 }
 
 /// How many bytes a device takes, if it answers no error, and whether it is marked then.
-fn written(device: &mut Device<Limited>, bytes: &[u8]) -> (Option<usize>, bool) {
+fn write_to(device: &mut Device<Limited>, bytes: &[u8]) -> (Option<usize>, bool) {
     let answer = device.write(bytes).ok();
     (answer, device.has_failed())
 }
 
 /// How many bytes a device gives, if it answers no error, and whether it is marked then.
-fn read(device: &mut Device<Slow<'_>>) -> (Option<usize>, bool) {
+fn read_from(device: &mut Device<Slow<'_>>) -> (Option<usize>, bool) {
     let mut buf = [0; 4];
     let answer = device.read(&mut buf).ok();
     (answer, device.has_failed())
@@ -89,12 +89,12 @@ fn read(device: &mut Device<Slow<'_>>) -> (Option<usize>, bool) {
 /// A writer with room for two bytes is marked by what it doesn't take, and by nothing else.
 fn marks_a_writer(rt: &impl Abort, alloc: Global, errs: bool) {
     let mut device = Device::new(with_room(alloc, (2, 9, errs)));
-    same(rt, written(&mut device, b"abc"), (Some(2), false));
+    same(rt, write_to(&mut device, b"abc"), (Some(2), false));
     if !errs {
-        same(rt, written(&mut device, b""), (Some(0), false));
+        same(rt, write_to(&mut device, b""), (Some(0), false));
     }
     let answer = if errs { None } else { Some(0) };
-    same(rt, written(&mut device, b"c"), (answer, true));
+    same(rt, write_to(&mut device, b"c"), (answer, true));
     let taken = device.into_inner().held;
     same(rt, taken.as_slice(), b"ab".as_slice());
 }
@@ -105,9 +105,9 @@ fn marks_a_reader(rt: &impl Abort) {
         rest: b"a",
         fails_in: 2,
     });
-    same(rt, read(&mut device), (Some(1), false));
-    same(rt, read(&mut device), (Some(0), false));
-    same(rt, read(&mut device), (None, true));
+    same(rt, read_from(&mut device), (Some(1), false));
+    same(rt, read_from(&mut device), (Some(0), false));
+    same(rt, read_from(&mut device), (None, true));
 }
 
 #[test]
@@ -176,14 +176,14 @@ pub(crate) fn words_of(alloc: Global, words: &[&str]) -> Result<Vec<String>, All
 }
 
 /// What a job leaves: its status, the text of its fault, and what the writer took.
-type Left = (u8, Vec<u8>, Vec<u8>);
+type JobEnd = (u8, Vec<u8>, Vec<u8>);
 
 fn job_over(
     alloc: Global,
     (words, description): Job<'_>,
     mut writer: Limited,
     fails_in: usize,
-) -> Result<Left, AllocError> {
+) -> Result<JobEnd, AllocError> {
     let words = words_of(alloc, words)?;
     let reader = Slow {
         rest: description.as_bytes(),
@@ -195,7 +195,7 @@ fn job_over(
 }
 
 /// This was left: status, fault and text.
-fn leaves(rt: &impl Abort, (status, faults, held): &Left, wanted: (u8, &str, Option<&[u8]>)) {
+fn leaves(rt: &impl Abort, (status, faults, held): &JobEnd, wanted: (u8, &str, Option<&[u8]>)) {
     same(
         rt,
         (*status, faults.as_slice(), Some(held.as_slice())),

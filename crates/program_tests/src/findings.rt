@@ -8,17 +8,17 @@ use std::process::Abort;
 use std::test::Fail;
 
 /// A label by its text, its offset and its length.
-type Told<'a> = (&'a str, usize, usize);
+type LabelParts<'a> = (&'a str, usize, usize);
 
-fn told_of(label: &LabeledSpan) -> (Option<&str>, usize, usize) {
+fn parts_of(label: &LabeledSpan) -> (Option<&str>, usize, usize) {
     (label.label(), label.offset(), label.len())
 }
 
 /// The labels are these.
-fn are_told(rt: &impl Abort, found: &[LabeledSpan], wanted: &[Told<'_>]) {
+fn have_parts(rt: &impl Abort, found: &[LabeledSpan], wanted: &[LabelParts<'_>]) {
     same(rt, found.len(), wanted.len());
     for (label, (text, offset, length)) in found.iter().zip(wanted) {
-        same(rt, told_of(label), (Some(*text), *offset, *length));
+        same(rt, parts_of(label), (Some(*text), *offset, *length));
     }
 }
 
@@ -27,10 +27,10 @@ fn expect(
     rt: &impl Abort,
     alloc: Global,
     (source, width): (&[u8], usize),
-    wanted: &[Told<'_>],
+    wanted: &[LabelParts<'_>],
 ) -> Result<(), Fail> {
     let found = findings(alloc, source, width)?;
-    are_told(rt, found.as_slice(), wanted);
+    have_parts(rt, found.as_slice(), wanted);
     Ok(())
 }
 
@@ -42,7 +42,7 @@ const UNENDED: &str = "no final terminator";
 
 #[test]
 fn lines_without_terminators_and_with_tabs(rt: HostRuntime) -> Result<(), Fail> {
-    let rows: [((&[u8], usize), &[Told<'_>]); 10] = [
+    let rows: [((&[u8], usize), &[LabelParts<'_>]); 10] = [
         (
             (b"x = 1 \n \ty\nend", 80),
             &[(TRAILING, 5, 1), (TAB, 8, 1), (UNENDED, 13, 1)],
@@ -65,7 +65,7 @@ fn lines_without_terminators_and_with_tabs(rt: HostRuntime) -> Result<(), Fail> 
 
 #[test]
 fn lines_that_are_too_wide_or_broken(rt: HostRuntime) -> Result<(), Fail> {
-    let rows: [((&[u8], usize), &[Told<'_>]); 10] = [
+    let rows: [((&[u8], usize), &[LabelParts<'_>]); 10] = [
         ((b"\ta\n", 4), &[("wider than 4 columns", 1, 1)]),
         ((b"\ta\n", 3), &[("wider than 3 columns", 0, 2)]),
         (

@@ -9,7 +9,7 @@ use std::process::Abort;
 use std::test::Fail;
 
 /// A program ended with this status and this row.
-fn ended(rt: &impl Abort, found: (u8, &[u8]), (status, row): (u8, &str)) {
+fn ends_with(rt: &impl Abort, found: (u8, &[u8]), (status, row): (u8, &str)) {
     same(rt, found, (status, row.as_bytes()));
 }
 
@@ -17,16 +17,16 @@ fn ended(rt: &impl Abort, found: (u8, &[u8]), (status, row): (u8, &str)) {
 fn no_memory_for_the_words(rt: HostRuntime) -> Result<(), Fail> {
     let mut row = Vec::new(rt.alloc());
     let status = draw::refuse_words(WordsFault::Memory, &mut row);
-    ended(&rt, (status, row.as_slice()), (1, "draw: out of memory\n"));
+    ends_with(&rt, (status, row.as_slice()), (1, "draw: out of memory\n"));
     row.clear();
     let status = job::refuse_words(job::WordsFault::Memory, &mut row);
-    ended(&rt, (status, row.as_slice()), (1, "job: out of memory\n"));
+    ends_with(&rt, (status, row.as_slice()), (1, "job: out of memory\n"));
     row.clear();
     let status = bench::refuse_words(WordsFault::Memory, &mut row);
-    ended(&rt, (status, row.as_slice()), (1, "bench: out of memory\n"));
+    ends_with(&rt, (status, row.as_slice()), (1, "bench: out of memory\n"));
     row.clear();
     let status = lint::refuse_words(WordsFault::Memory, &mut row);
-    ended(&rt, (status, row.as_slice()), (2, "lint: out of memory\n"));
+    ends_with(&rt, (status, row.as_slice()), (2, "lint: out of memory\n"));
     Ok(())
 }
 

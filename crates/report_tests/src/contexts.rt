@@ -2,7 +2,7 @@
 //! each call gives an error are rows of the program `calls`.
 
 use crate::comparing::{gives, same};
-use crate::trees::{joined, listed};
+use crate::trees::{join_cause, join_chain};
 use callers::load;
 use miette_protocol::diagnostic::MietteDiagnostic;
 use miette_protocol::protocol::{LabeledSpan, Severity};
@@ -69,7 +69,7 @@ fn a_lazy_text_is_made_only_on_the_error_side(rt: HostRuntime) {
 }
 
 /// An error with a lazy text in front, and how often that was made.
-fn failed_lazily(alloc: Global) -> (Result<u32>, u32) {
+fn fail_lazily(alloc: Global) -> (Result<u32>, u32) {
     let mut calls = 0u32;
     let failed: Result<u32, AllocError> = Err(AllocError);
     let told = failed.wrap_err_with(alloc, || {
@@ -81,14 +81,14 @@ fn failed_lazily(alloc: Global) -> (Result<u32>, u32) {
 
 /// The report has a lazy text in front of want of memory.
 fn is_item(rt: &impl Abort, alloc: Global, report: &Report) {
-    let text = listed(alloc, report.chain());
+    let text = join_chain(alloc, report.chain());
     gives(rt, text, "item 7 memory allocation failed ");
     same(rt, matches!(report.kind(), ReportKind::OutOfMemory), true);
 }
 
 #[test]
 fn a_lazy_text_is_made_once(rt: HostRuntime) {
-    let (told, calls) = failed_lazily(rt.alloc());
+    let (told, calls) = fail_lazily(rt.alloc());
     same(&rt, calls, 1);
     match told {
         Ok(_) => panic!(rt; "it failed"),
@@ -96,7 +96,7 @@ fn a_lazy_text_is_made_once(rt: HostRuntime) {
     }
 }
 
-fn halved(alloc: Global, n: u32) -> Result<u32> {
+fn half(alloc: Global, n: u32) -> Result<u32> {
     ensure!(in alloc; n % 2 == 0, code = "odd::number", "{n} is odd");
     if n > 100 {
         bail!(in alloc; "{n} is past {}", 100);
@@ -106,9 +106,9 @@ fn halved(alloc: Global, n: u32) -> Result<u32> {
 
 #[test]
 fn what_is_ensured(rt: HostRuntime) {
-    has_value(&rt, halved(rt.alloc(), 8), 4);
-    fails(&rt, halved(rt.alloc(), 3), "3 is odd", Some("odd::number"));
-    fails(&rt, halved(rt.alloc(), 102), "102 is past 100", None);
+    has_value(&rt, half(rt.alloc(), 8), 4);
+    fails(&rt, half(rt.alloc(), 3), "3 is odd", Some("odd::number"));
+    fails(&rt, half(rt.alloc(), 102), "102 is past 100", None);
 }
 
 /// A diagnostic of all parts, by macro.
@@ -140,7 +140,7 @@ fn is_missing_file(rt: &impl Abort, alloc: Global, report: &Report) {
     same(rt, report.root_cause(), system);
     gives(
         rt,
-        joined(alloc, report.cause()),
+        join_cause(alloc, report.cause()),
         "could not read no/such/file No such file or directory (os error 2) ",
     );
     same(rt, report.related().len(), 1);

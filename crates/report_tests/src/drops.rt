@@ -7,7 +7,7 @@ use std::alloc::{AllocError, Global};
 use std::rc::Rc;
 
 /// The report with this one as its cause.
-pub(crate) fn caused(
+pub(crate) fn report_over(
     alloc: Global,
     report: Result<Report, AllocError>,
     cause: Result<Report, AllocError>,
@@ -23,7 +23,7 @@ pub(crate) fn caused(
 fn long_chain(alloc: Global, count: usize) -> Result<Report, AllocError> {
     let mut report: Report = Report::msg(alloc, "innermost")?;
     for _ in 0..count {
-        report = caused(alloc, Report::msg(alloc, "outer"), Ok(report))?;
+        report = report_over(alloc, Report::msg(alloc, "outer"), Ok(report))?;
     }
     Ok(report)
 }
@@ -79,7 +79,7 @@ impl Diagnostic for Owner {
     }
 }
 
-fn made_owner(alloc: Global, message: &str, token: &Rc<u8>) -> Result<Owner, AllocError> {
+fn new_owner(alloc: Global, message: &str, token: &Rc<u8>) -> Result<Owner, AllocError> {
     let message = String::from_str(alloc, message)?;
     let _token = token.clone()?;
     Ok(Owner { message, _token })
@@ -91,38 +91,42 @@ pub(crate) fn boxed_owner(
     message: &str,
     token: &Rc<u8>,
 ) -> Result<Box<dyn Diagnostic>, AllocError> {
-    let boxed: Box<dyn Diagnostic> = Box::new(alloc, made_owner(alloc, message, token)?)?;
+    let boxed: Box<dyn Diagnostic> = Box::new(alloc, new_owner(alloc, message, token)?)?;
     Ok(boxed)
 }
 
 /// A report of a boxed owner.
-fn owned(alloc: Global, token: &Rc<u8>) -> Result<Report, AllocError> {
+fn report_of_owner(alloc: Global, token: &Rc<u8>) -> Result<Report, AllocError> {
     Ok(Report::new_boxed(boxed_owner(alloc, "m", token)?))
 }
 
 /// A report of an owner, with another one as its cause.
-fn owned_twice(alloc: Global, token: &Rc<u8>) -> Result<Report, AllocError> {
-    caused(alloc, owned(alloc, token), owned(alloc, token))
+fn report_of_two_owners(alloc: Global, token: &Rc<u8>) -> Result<Report, AllocError> {
+    report_over(
+        alloc,
+        report_of_owner(alloc, token),
+        report_of_owner(alloc, token),
+    )
 }
 
 /// Three reports of two owners each.
-fn three_owned_twice(alloc: Global, token: &Rc<u8>) -> Result<Vec<Report>, AllocError> {
+fn three_reports_of_two_owners(alloc: Global, token: &Rc<u8>) -> Result<Vec<Report>, AllocError> {
     let mut list = Vec::new(alloc);
     for _ in 0..3 {
-        list.push(owned_twice(alloc, token)?)?;
+        list.push(report_of_two_owners(alloc, token)?)?;
     }
     Ok(list)
 }
 
 /// A report of two owners, with three related reports of two owners each.
-fn owned_often(alloc: Global, token: &Rc<u8>) -> Result<Report, AllocError> {
-    let related = three_owned_twice(alloc, token)?;
-    Ok(owned_twice(alloc, token)?.with_related(related))
+fn report_of_eight_owners(alloc: Global, token: &Rc<u8>) -> Result<Report, AllocError> {
+    let related = three_reports_of_two_owners(alloc, token)?;
+    Ok(report_of_two_owners(alloc, token)?.with_related(related))
 }
 
 /// How many owners a token has with such a report.
 fn owners_with(alloc: Global, token: &Rc<u8>) -> Result<usize, AllocError> {
-    let _report = owned_often(alloc, token)?;
+    let _report = report_of_eight_owners(alloc, token)?;
     Ok(Rc::strong_count(token))
 }
 

@@ -1,7 +1,7 @@
 //! Themes of a user's own: a bar that is a space, above line feeds at the end of an inner report, and no style for
 //! labels.
 
-use crate::highlighting::labelled;
+use crate::highlighting::label_ab;
 use crate::renderings::draws;
 use miette::handlers::GraphicalReportHandler;
 use miette::report::Report;
@@ -29,7 +29,7 @@ fn line_feeds(alloc: Global) -> Result<Vec<Report>, AllocError> {
 }
 
 /// The same below another one.
-fn nested(alloc: Global) -> Result<Report, AllocError> {
+fn nest(alloc: Global) -> Result<Report, AllocError> {
     let related = line_feeds(alloc)?;
     Ok(Report::msg(alloc, "top")?.with_related(related))
 }
@@ -40,7 +40,7 @@ fn line_feeds_around_colours_at_the_end(rt: HostRuntime) {
     let alloc = rt.alloc();
     let wanted =
         "  \u{1B}[31m×\u{1B}[0m top\n\u{1B}[31m  ╰─▶ \u{1B}[0m  \u{1B}[31m×\u{1B}[0m r\u{1B}[31m\u{1B}[0m\n";
-    draws(&rt, alloc, without_bars(alloc), nested(alloc), wanted);
+    draws(&rt, alloc, without_bars(alloc), nest(alloc), wanted);
 }
 
 /// In colours, but with no style for labels.
@@ -59,7 +59,7 @@ fn no_style_for_labels(rt: HostRuntime) {
         &rt,
         alloc,
         without_highlights(alloc),
-        labelled(alloc),
+        label_ab(alloc),
         wanted,
     );
 }

@@ -56,11 +56,11 @@ const WARNING: &str =
     ·        ╰── this name\n   ╰────\n";
 
 /// The plain picture of that warning.
-fn warned(alloc: Global) -> Result<String, RenderError> {
+fn warning_picture(alloc: Global) -> Result<String, RenderError> {
     Ok(draw_both(alloc, &warning(alloc)?)?.plain)
 }
 
 #[test]
 fn a_warning_whose_clauses_are_used(rt: HostRuntime) {
-    gives(&rt, warned(rt.alloc()), WARNING);
+    gives(&rt, warning_picture(rt.alloc()), WARNING);
 }

@@ -40,14 +40,14 @@ fn over_ab(alloc: Global, label: LabeledSpan) -> Result<Report, AllocError> {
 }
 
 /// A label on its first byte.
-pub(crate) fn labelled(alloc: Global) -> Result<Report, AllocError> {
+pub(crate) fn label_ab(alloc: Global) -> Result<Report, AllocError> {
     over_ab(alloc, LabeledSpan::new(None, 0, 1))
 }
 
 pub(crate) const PLAIN: &str = "  × m\n   ╭────\n 1 │ ab\n   · ─\n   ╰────\n";
 
 /// A plain handler whose source lines this highlighter styles.
-fn highlighted(
+fn handler_with_highlighter(
     alloc: Global,
     highlighter: Box<dyn Highlighter>,
 ) -> Result<GraphicalReportHandler, AllocError> {
@@ -56,15 +56,15 @@ fn highlighted(
 }
 
 fn with_red(alloc: Global) -> Result<GraphicalReportHandler, AllocError> {
-    highlighted(alloc, Box::new(alloc, FirstRed)?)
+    handler_with_highlighter(alloc, Box::new(alloc, FirstRed)?)
 }
 
 fn with_blank(alloc: Global) -> Result<GraphicalReportHandler, AllocError> {
-    highlighted(alloc, Box::new(alloc, BlankHighlighter)?)
+    handler_with_highlighter(alloc, Box::new(alloc, BlankHighlighter)?)
 }
 
 /// Such a handler that styles nothing, and draws no label at the end: both are taken back.
-fn taken_back(alloc: Global) -> Result<GraphicalReportHandler, AllocError> {
+fn reset_handler(alloc: Global) -> Result<GraphicalReportHandler, AllocError> {
     Ok(
         with_red(alloc)?
             .with_end_labels()
@@ -77,15 +77,15 @@ fn taken_back(alloc: Global) -> Result<GraphicalReportHandler, AllocError> {
 fn pieces_are_styled(rt: HostRuntime) {
     let alloc = rt.alloc();
     let styled = "  × m\n   ╭────\n 1 │ \u{1b}[31ma\u{1b}[0mb\n   · ─\n   ╰────\n";
-    draws(&rt, alloc, with_red(alloc), labelled(alloc), styled);
-    draws(&rt, alloc, with_blank(alloc), labelled(alloc), PLAIN);
+    draws(&rt, alloc, with_red(alloc), label_ab(alloc), styled);
+    draws(&rt, alloc, with_blank(alloc), label_ab(alloc), PLAIN);
 }
 
 #[test]
 fn what_is_taken_back(rt: HostRuntime) {
     let alloc = rt.alloc();
-    draws(&rt, alloc, taken_back(alloc), labelled(alloc), PLAIN);
+    draws(&rt, alloc, reset_handler(alloc), label_ab(alloc), PLAIN);
     let at_the_end = over_ab(alloc, LabeledSpan::new(None, 2, 0));
     let bare = "  × m\n   ╭────\n 1 │ ab\n   ╰────\n";
-    draws(&rt, alloc, taken_back(alloc), at_the_end, bare);
+    draws(&rt, alloc, reset_handler(alloc), at_the_end, bare);
 }

@@ -2,7 +2,7 @@
 ghost use Rattle.std.specs.Prelude.{None, false};
 
 use crate::comparing::gives;
-use crate::drops::caused;
+use crate::drops::report_over;
 use miette::diagnostic::MietteDiagnostic;
 use miette::error::{MietteError, RenderError};
 use miette::handlers::{JSONReportHandler, ReportHandler};
@@ -14,7 +14,7 @@ use std::io;
 use std::io::ErrorKind;
 
 /// The short form, or the chain, behind what was there.
-fn short(
+fn display(
     alloc: Global,
     chain: bool,
     report: Result<Report, AllocError>,
@@ -26,7 +26,7 @@ fn short(
 }
 
 /// The message `inner`, and `outer` put in front.
-fn wrapped(alloc: Global) -> Result<Report, AllocError> {
+fn outer(alloc: Global) -> Result<Report, AllocError> {
     match Report::msg(alloc, "inner")?.wrap_err(alloc, "outer") {
         Ok(report) => Ok(report),
         Err(_) => Err(AllocError),
@@ -35,16 +35,16 @@ fn wrapped(alloc: Global) -> Result<Report, AllocError> {
 
 /// The message `top`, caused by the wrapped one.
 fn top(alloc: Global) -> Result<Report, AllocError> {
-    caused(alloc, Report::msg(alloc, "top"), wrapped(alloc))
+    report_over(alloc, Report::msg(alloc, "top"), outer(alloc))
 }
 
 #[test]
 fn short_forms(rt: HostRuntime) {
     let alloc = rt.alloc();
-    gives(&rt, short(alloc, true, wrapped(alloc)), "> outer: inner");
-    gives(&rt, short(alloc, false, wrapped(alloc)), "> outer");
-    gives(&rt, short(alloc, true, top(alloc)), "> top: outer: inner");
-    gives(&rt, short(alloc, false, top(alloc)), "> top");
+    gives(&rt, display(alloc, true, outer(alloc)), "> outer: inner");
+    gives(&rt, display(alloc, false, outer(alloc)), "> outer");
+    gives(&rt, display(alloc, true, top(alloc)), "> top: outer: inner");
+    gives(&rt, display(alloc, false, top(alloc)), "> top");
 }
 
 /// Bytes, of which no more than four are read at once.
@@ -76,21 +76,21 @@ fn stopping_source(alloc: Global) -> Result<NamedSource<Stopping>, AllocError> {
 }
 
 /// The same as a boxed source.
-fn stops_early(alloc: Global) -> Result<Box<dyn SourceCode>, AllocError> {
+fn boxed_stopping_source(alloc: Global) -> Result<Box<dyn SourceCode>, AllocError> {
     let source: Box<dyn SourceCode> = Box::new(alloc, stopping_source(alloc)?)?;
     Ok(source)
 }
 
 /// The message `m` with a label of this length over them.
-fn stopped(alloc: Global, length: usize) -> Result<Report, AllocError> {
+fn stopping_report(alloc: Global, length: usize) -> Result<Report, AllocError> {
     let label = LabeledSpan::new(None, 0, length);
     let diagnostic = MietteDiagnostic::new(alloc, "m")?.with_label(alloc, label)?;
-    Ok(Report::new(diagnostic).with_source_code(stops_early(alloc)?))
+    Ok(Report::new(diagnostic).with_source_code(boxed_stopping_source(alloc)?))
 }
 
 /// Its JSON text.
-fn told(alloc: Global, length: usize) -> Result<String, RenderError> {
-    let report = stopped(alloc, length)?;
+fn json_text(alloc: Global, length: usize) -> Result<String, RenderError> {
+    let report = stopping_report(alloc, length)?;
     let mut out = String::new(alloc);
     JSONReportHandler::default().render_report(&report, &mut out)?;
     Ok(out)
@@ -100,8 +100,8 @@ fn told(alloc: Global, length: usize) -> Result<String, RenderError> {
 fn a_source_that_stops_gives_no_name(rt: HostRuntime) {
     let read = "{\"message\": \"m\",\"severity\": \"error\",\"causes\": [],\"filename\": \"f\",\
         \"labels\": [{\"span\": {\"offset\": 0,\"length\": 2}}],\"related\": []}";
-    gives(&rt, told(rt.alloc(), 2), read);
+    gives(&rt, json_text(rt.alloc(), 2), read);
     let stopped = "{\"message\": \"m\",\"severity\": \"error\",\"causes\": [],\"filename\": \"\",\
         \"labels\": [{\"span\": {\"offset\": 0,\"length\": 5}}],\"related\": []}";
-    gives(&rt, told(rt.alloc(), 5), stopped);
+    gives(&rt, json_text(rt.alloc(), 5), stopped);
 }

@@ -9,7 +9,7 @@ use miette::report::{OwnedSource, Report};
 use std::alloc::{AllocError, Global};
 
 /// The narrated text of the report.
-fn told(alloc: Global, report: &Report) -> Result<String, RenderError> {
+fn narrate(alloc: Global, report: &Report) -> Result<String, RenderError> {
     let mut out = String::new(alloc);
     NarratableReportHandler::new().render_report(report, &mut out)?;
     Ok(out)
@@ -71,19 +71,19 @@ fn labels(alloc: Global) -> Result<Vec<LabeledSpan>, AllocError> {
 }
 
 /// The message `m` with these labels.
-fn labelled(alloc: Global) -> Result<MietteDiagnostic, AllocError> {
+fn labelled_message(alloc: Global) -> Result<MietteDiagnostic, AllocError> {
     let labels = labels(alloc)?;
     Ok(MietteDiagnostic::new(alloc, "m")?.with_labels(labels))
 }
 
 /// What is told of them over that line.
-fn told_of_labels(alloc: Global) -> Result<String, RenderError> {
+fn narrate_labels(alloc: Global) -> Result<String, RenderError> {
     let source = OwnedSource::new(alloc, LONG.to_vec(alloc)?)?;
-    let report = Report::new(labelled(alloc)?).with_owned_source(source);
-    told(alloc, &report)
+    let report = Report::new(labelled_message(alloc)?).with_owned_source(source);
+    narrate(alloc, &report)
 }
 
 #[test]
 fn labels_on_a_long_line(rt: HostRuntime) {
-    gives(&rt, told_of_labels(rt.alloc()), LONG_ROWS);
+    gives(&rt, narrate_labels(rt.alloc()), LONG_ROWS);
 }

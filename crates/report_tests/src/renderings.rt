@@ -8,7 +8,7 @@ use std::alloc::{AllocError, Global};
 use std::process::Abort;
 
 /// What the handler, as any handler, gives of the report.
-pub(crate) fn given<H: ReportHandler>(
+pub(crate) fn render<H: ReportHandler>(
     alloc: Global,
     handler: &mut H,
     report: Result<Report, AllocError>,
@@ -20,12 +20,12 @@ pub(crate) fn given<H: ReportHandler>(
 }
 
 /// What the handler draws of the report, where both were made.
-fn drawn(
+fn draw(
     alloc: Global,
     handler: Result<GraphicalReportHandler, AllocError>,
     report: Result<Report, AllocError>,
 ) -> Result<String, RenderError> {
-    given(alloc, &mut handler?, report)
+    render(alloc, &mut handler?, report)
 }
 
 /// The handler draws the report so.
@@ -36,5 +36,5 @@ pub(crate) fn draws(
     report: Result<Report, AllocError>,
     wanted: &str,
 ) {
-    gives(rt, drawn(alloc, handler, report), wanted);
+    gives(rt, draw(alloc, handler, report), wanted);
 }

@@ -1,7 +1,7 @@
 //! Reports as they are made, wrapped and looked into.
 
 use crate::comparing::{gives, same};
-use crate::drops::{boxed_owner, caused};
+use crate::drops::{boxed_owner, report_over};
 use miette::error::RenderError;
 use miette_protocol::diagnostic::MietteDiagnostic;
 use miette_protocol::protocol::{Diagnostic, SourceOffset, SourceSpan};
@@ -19,7 +19,7 @@ type Made = Result<Report, AllocError>;
 pub(crate) type Text = Result<String, RenderError>;
 
 /// The texts of a cause that is a list, joined by a space.
-pub(crate) fn joined(alloc: Global, cause: Cause<'_>) -> Text {
+pub(crate) fn join_cause(alloc: Global, cause: Cause<'_>) -> Text {
     let mut all = String::new(alloc);
     if let Cause::Texts(texts) = cause {
         for text in texts {
@@ -31,7 +31,7 @@ pub(crate) fn joined(alloc: Global, cause: Cause<'_>) -> Text {
 }
 
 /// The items of a chain, joined by a space.
-pub(crate) fn listed(alloc: Global, chain: Chain<'_>) -> Text {
+pub(crate) fn join_chain(alloc: Global, chain: Chain<'_>) -> Text {
     let mut all = String::new(alloc);
     for text in chain {
         all.push_str(text)?;
@@ -56,7 +56,7 @@ fn b_with_c(alloc: Global) -> Made {
 /// `a`, a diagnostic, caused by it.
 fn three_long(alloc: Global) -> Made {
     let report = Report::new(MietteDiagnostic::new(alloc, "a")?);
-    caused(alloc, Ok(report), b_with_c(alloc))
+    report_over(alloc, Ok(report), b_with_c(alloc))
 }
 
 /// The same with `x` put in front.
@@ -81,8 +81,8 @@ fn a_message_in_front_turns_the_chain_into_causes(rt: HostRuntime) -> Result<(),
     let report = with_x_in_front(alloc)?;
     same(&rt, (report.message(), report.root_cause()), ("x", "c"));
     same(&rt, built_message(&report), Some("a"));
-    gives(&rt, joined(alloc, report.cause()), "a b c ");
-    gives(&rt, listed(alloc, report.chain()), "x a b c ");
+    gives(&rt, join_cause(alloc, report.cause()), "a b c ");
+    gives(&rt, join_chain(alloc, report.chain()), "x a b c ");
     Ok(())
 }
 
@@ -99,17 +99,17 @@ fn has_two_ends(rt: &impl Abort, mut chain: Chain<'_>) {
 }
 
 /// The items of a clone of the chain, which is at its second one then.
-fn listed_again(alloc: Global, mut chain: Chain<'_>) -> Text {
+fn join_clone(alloc: Global, mut chain: Chain<'_>) -> Text {
     let again = chain.clone()?;
     chain.next();
-    listed(alloc, again)
+    join_chain(alloc, again)
 }
 
 #[test]
 fn a_chain_from_both_ends(rt: HostRuntime) -> Result<(), AllocError> {
     let report = three_long(rt.alloc())?;
     has_two_ends(&rt, report.chain());
-    gives(&rt, listed_again(rt.alloc(), report.chain()), "a b c ");
+    gives(&rt, join_clone(rt.alloc(), report.chain()), "a b c ");
     let empty: Chain<'_> = Chain::default();
     same(&rt, empty.len(), 0);
     Ok(())
@@ -137,16 +137,16 @@ fn with_a_boxed_source(alloc: Global, report: Made) -> Made {
 }
 
 /// The data, the name and the language that are read.
-type Seen<'a> = (&'a [u8], Option<&'a str>, Option<&'a str>);
+type ReadParts<'a> = (&'a [u8], Option<&'a str>, Option<&'a str>);
 
-fn seen<'a>(contents: &MietteSpanContents<'a>) -> Seen<'a> {
+fn parts_of<'a>(contents: &MietteSpanContents<'a>) -> ReadParts<'a> {
     (contents.data(), contents.name(), contents.language())
 }
 
 /// What a source gives around its sixth byte, with a line in front.
-fn read<'a>(source: SourceRef<'a>) -> Option<Seen<'a>> {
+fn read<'a>(source: SourceRef<'a>) -> Option<ReadParts<'a>> {
     match source.read_span(&SourceSpan::new(SourceOffset::from(5), 1), 1, 0) {
-        Ok(contents) => Some(seen(&contents)),
+        Ok(contents) => Some(parts_of(&contents)),
         Err(_) => None,
     }
 }
@@ -183,14 +183,14 @@ fn one_related(alloc: Global) -> Result<Vec<Report>, AllocError> {
 }
 
 /// A boxed diagnostic.
-fn lost(alloc: Global) -> Result<Box<dyn Diagnostic>, AllocError> {
+fn boxed_diagnostic(alloc: Global) -> Result<Box<dyn Diagnostic>, AllocError> {
     boxed_owner(alloc, "lost", &Rc::new(alloc, 0u8)?)
 }
 
 /// Its report, with a related report and an empty list of cause texts.
 fn of_a_box(alloc: Global) -> Made {
     let related = one_related(alloc)?;
-    let report = Report::new_boxed(lost(alloc)?).with_related(related);
+    let report = Report::new_boxed(boxed_diagnostic(alloc)?).with_related(related);
     Ok(report.with_cause_texts(Vec::new(alloc)))
 }
 
@@ -203,14 +203,14 @@ fn boxed_message(report: &Report) -> Option<&str> {
 }
 
 /// How a report prints.
-fn printed(alloc: Global, report: &Report) -> Text {
+fn text_of(alloc: Global, report: &Report) -> Text {
     Ok(format!(in alloc; "{report}")?)
 }
 
 #[test]
 fn a_boxed_diagnostic(rt: HostRuntime) -> Result<(), AllocError> {
     let report = of_a_box(rt.alloc())?;
-    gives(&rt, printed(rt.alloc(), &report), "lost");
+    gives(&rt, text_of(rt.alloc(), &report), "lost");
     same(&rt, boxed_message(&report), Some("lost"));
     same(&rt, matches!(report.cause(), Cause::None), true);
     same(

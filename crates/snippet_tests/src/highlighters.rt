@@ -47,7 +47,7 @@ impl Highlighter for Telling {
 }
 
 /// One that was told nothing yet.
-fn telling_nothing(alloc: Global) -> Option<Telling> {
+fn new_telling(alloc: Global) -> Option<Telling> {
     Some(Telling {
         reads: Vec::new(alloc),
         lines: String::new(alloc),
@@ -55,7 +55,7 @@ fn telling_nothing(alloc: Global) -> Option<Telling> {
 }
 
 /// The source's snippets, by the highlighter.
-fn drawn<S: SourceCode>(
+fn draw<S: SourceCode>(
     alloc: Global,
     highlighter: &mut Option<Telling>,
     source: &S,
@@ -95,7 +95,7 @@ fn was_told(rt: &impl Abort, highlighter: &Option<Telling>, reads: &[(usize, usi
 #[test]
 fn a_highlighter_is_asked_for_each_line(rt: HostRuntime) {
     let alloc = rt.alloc();
-    let mut highlighter = telling_nothing(alloc);
+    let mut highlighter = new_telling(alloc);
     let source = b"a\xFFb\tc\r\n2\n3\n4\n5\n6\n".as_slice();
     let labels = two(
         alloc,
@@ -104,7 +104,7 @@ fn a_highlighter_is_asked_for_each_line(rt: HostRuntime) {
     );
     let wanted =
         "   ╭─[1:1]\n 1 │ a\u{FFFD}b c\n   · ─\n 2 │ 2\n   ╰────\n   ╭─[6:1]\n 5 │ 5\n 6 │ 6\n   · ─\n   ╰────\n";
-    gives(&rt, drawn(alloc, &mut highlighter, &source, labels), wanted);
+    gives(&rt, draw(alloc, &mut highlighter, &source, labels), wanted);
     let lines = "a\u{FFFD}b\tc|2|5|6|";
     was_told(&rt, &highlighter, &[(0, 9), (4, 4)], lines);
 }
@@ -115,7 +115,7 @@ const NINE: &str = "1\n2\n3\n4\n5\n6\n7\n8\n9\n";
 #[test]
 fn a_highlighter_is_restarted_with_the_group(rt: HostRuntime) {
     let alloc = rt.alloc();
-    let mut highlighter = telling_nothing(alloc);
+    let mut highlighter = new_telling(alloc);
     let labels = two(
         alloc,
         LabeledSpan::new(None, 16, 1).with_context_lines(3),
@@ -123,6 +123,6 @@ fn a_highlighter_is_restarted_with_the_group(rt: HostRuntime) {
     );
     let wanted =
         "   ╭─[5:1]\n 4 │ 4\n 5 │ 5\n   · ─\n 6 │ 6\n 7 │ 7\n 8 │ 8\n 9 │ 9\n   · ─\n   ╰────\n";
-    gives(&rt, drawn(alloc, &mut highlighter, &NINE, labels), wanted);
+    gives(&rt, draw(alloc, &mut highlighter, &NINE, labels), wanted);
     was_told(&rt, &highlighter, &[(3, 12)], "4|5|6|7|8|9|");
 }

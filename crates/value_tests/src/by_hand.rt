@@ -49,19 +49,19 @@ impl Diagnostic for Missing {
     }
 }
 
-fn lost(alloc: Global) -> Result<Missing, AllocError> {
+fn missing_file(alloc: Global) -> Result<Missing, AllocError> {
     let message = String::from_str(alloc, "a file is missing")?;
     let help = String::from_str(alloc, "make it")?;
     Ok(Missing { message, help })
 }
 
 fn boxed_missing(alloc: Global) -> Result<Box<dyn Diagnostic>, Fail> {
-    let boxed: Box<dyn Diagnostic> = Box::new(alloc, lost(alloc)?)?;
+    let boxed: Box<dyn Diagnostic> = Box::new(alloc, missing_file(alloc)?)?;
     Ok(boxed)
 }
 
 #[test]
-fn boxed(rt: HostRuntime) -> Result<(), Fail> {
+fn a_diagnostic_in_a_box(rt: HostRuntime) -> Result<(), Fail> {
     let boxed = boxed_missing(rt.alloc())?;
     says(
         &rt,
@@ -73,7 +73,7 @@ fn boxed(rt: HostRuntime) -> Result<(), Fail> {
 }
 
 /// What it says, as a plain diagnostic.
-fn plain(alloc: Global) -> Result<MietteDiagnostic, AllocError> {
+fn plain_diagnostic(alloc: Global) -> Result<MietteDiagnostic, AllocError> {
     MietteDiagnostic::new(alloc, "a file is missing")?
         .with_severity(Severity::Warning)
         .with_help(alloc, "make it")
@@ -84,7 +84,7 @@ fn copy_of_a_box(alloc: Global) -> Result<MietteDiagnostic, Fail> {
 }
 
 #[test]
-fn copied(rt: HostRuntime) -> Result<(), Fail> {
-    assert!(rt; copy_of_a_box(rt.alloc())? == plain(rt.alloc())?);
+fn a_copy_of_a_diagnostic_in_a_box(rt: HostRuntime) -> Result<(), Fail> {
+    assert!(rt; copy_of_a_box(rt.alloc())? == plain_diagnostic(rt.alloc())?);
     Ok(())
 }

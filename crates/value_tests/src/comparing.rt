@@ -16,7 +16,7 @@ pub(crate) fn gives(rt: &impl Abort, made: Result<String, AllocError>, wanted: &
 }
 
 /// Whether two values that were made are equal.
-pub(crate) fn equal<T: PartialEq + Drop>(
+pub(crate) fn agree<T: PartialEq + Drop>(
     one: Result<T, AllocError>,
     other: Result<T, AllocError>,
 ) -> Result<bool, AllocError> {
@@ -24,6 +24,6 @@ pub(crate) fn equal<T: PartialEq + Drop>(
 }
 
 /// How a value prints.
-pub(crate) fn printed<T: Display>(alloc: Global, it: &T) -> Result<String, AllocError> {
+pub(crate) fn text_of<T: Display>(alloc: Global, it: &T) -> Result<String, AllocError> {
     format!(in alloc; "{it}")
 }

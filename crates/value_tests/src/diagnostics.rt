@@ -1,6 +1,6 @@
 //! Plain diagnostics. What their builders make is shown by the program `calls`; their JSON stands in `json`.
 
-use crate::comparing::{gives, printed, same};
+use crate::comparing::{gives, same, text_of};
 use miette_protocol::diagnostic::MietteDiagnostic;
 use miette_protocol::protocol::{Diagnostic, LabeledSpan, Severity};
 use std::alloc::{AllocError, Global};
@@ -15,7 +15,7 @@ fn labels(alloc: Global, from: usize) -> Result<Vec<LabeledSpan>, AllocError> {
 }
 
 /// The message `m` with a label at this offset.
-fn labelled(alloc: Global, offset: usize) -> Result<MietteDiagnostic, AllocError> {
+fn labelled_message(alloc: Global, offset: usize) -> Result<MietteDiagnostic, AllocError> {
     MietteDiagnostic::new(alloc, "m")?.with_label(alloc, LabeledSpan::underline(offset))
 }
 
@@ -37,7 +37,7 @@ fn has_offsets(rt: &impl Abort, found: &[LabeledSpan], wanted: &[usize]) {
 }
 
 /// All parts but labels.
-pub(crate) fn built(alloc: Global, message: &str) -> Result<MietteDiagnostic, AllocError> {
+pub(crate) fn all_but_labels(alloc: Global, message: &str) -> Result<MietteDiagnostic, AllocError> {
     MietteDiagnostic::new(alloc, message)?
         .with_code(alloc, "c")?
         .with_severity(Severity::Warning)
@@ -48,7 +48,7 @@ pub(crate) fn built(alloc: Global, message: &str) -> Result<MietteDiagnostic, Al
 /// Two labels in place of one.
 fn other_labels(alloc: Global) -> Result<MietteDiagnostic, AllocError> {
     let labels = labels(alloc, 8)?;
-    Ok(labelled(alloc, 0)?.with_labels(labels))
+    Ok(labelled_message(alloc, 0)?.with_labels(labels))
 }
 
 #[test]
@@ -59,7 +59,7 @@ fn labels_in_place_of_others(rt: HostRuntime) -> Result<(), Fail> {
 #[test]
 fn message_is_printed(rt: HostRuntime) -> Result<(), AllocError> {
     let made = other_labels(rt.alloc())?;
-    gives(&rt, printed(rt.alloc(), &made), "m");
+    gives(&rt, text_of(rt.alloc(), &made), "m");
     Ok(())
 }
 

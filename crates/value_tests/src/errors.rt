@@ -1,6 +1,6 @@
 //! What an error of a source says.
 
-use crate::comparing::{gives, printed, same};
+use crate::comparing::{gives, same, text_of};
 use miette_protocol::error::{MietteError, RenderError};
 use miette_protocol::protocol::Diagnostic;
 use std::alloc::Global;
@@ -36,13 +36,13 @@ fn out_of_bounds(rt: HostRuntime) {
     same(&rt, error.severity(), None);
 }
 
-fn not_found() -> MietteError {
+fn missing_file_error() -> MietteError {
     MietteError::from(io::Error::from(io::ErrorKind::NotFound))
 }
 
 #[test]
 fn io_error(rt: HostRuntime) {
-    let error = not_found();
+    let error = missing_file_error();
     let wanted = (
         "a source could not be read",
         Some("miette::io_error"),
@@ -55,12 +55,12 @@ fn io_error(rt: HostRuntime) {
 
 /// The error prints this, as an error of any kind.
 fn prints<E: Error>(rt: &impl Abort, alloc: Global, error: &E, wanted: &str) {
-    gives(rt, printed(alloc, error), wanted);
+    gives(rt, text_of(alloc, error), wanted);
 }
 
 #[test]
 fn errors_are_printed(rt: HostRuntime) {
-    prints(&rt, rt.alloc(), &not_found(), "entity not found");
+    prints(&rt, rt.alloc(), &missing_file_error(), "entity not found");
     prints(&rt, rt.alloc(), &MietteError::OutOfBounds, OUTSIDE);
 }
 

@@ -1,7 +1,7 @@
 //! Values as JSON.
 
 use crate::comparing::same;
-use crate::diagnostics::built;
+use crate::diagnostics::all_but_labels;
 use miette_protocol::diagnostic::MietteDiagnostic;
 use miette_protocol::protocol::{LabeledSpan, Severity, SourceOffset, SourceSpan};
 use serde::{Deserialize, Serialize};
@@ -117,8 +117,8 @@ fn a_diagnostic_with_nulls(rt: HostRuntime) -> Result<(), serde_json::Error> {
 }
 
 /// All parts, with a label.
-fn full(alloc: Global) -> Result<MietteDiagnostic, AllocError> {
-    built(alloc, "message")?.with_label(alloc, LabeledSpan::at(alloc, 1..3, "t")?)
+fn full_diagnostic(alloc: Global) -> Result<MietteDiagnostic, AllocError> {
+    all_but_labels(alloc, "message")?.with_label(alloc, LabeledSpan::at(alloc, 1..3, "t")?)
 }
 
 #[test]
@@ -126,7 +126,7 @@ fn a_diagnostic_of_all_parts(rt: HostRuntime) -> Result<(), serde_json::Error> {
     is_json(
         &rt,
         rt.alloc(),
-        &full(rt.alloc())?,
+        &full_diagnostic(rt.alloc())?,
         "{\"message\":\"message\",\"code\":\"c\",\"severity\":\"Warning\",\"help\":\"h\",\"url\":\"u\",\
         \"labels\":[{\"label\":\"t\",\"span\":{\"offset\":1,\"length\":2},\"primary\":false}]}",
     )

@@ -1,6 +1,6 @@
 //! Labels and their parts. What makes a label with a text is a row of the program `calls`.
 
-use crate::comparing::{equal, same};
+use crate::comparing::{agree, same};
 use miette_protocol::protocol::{LabeledSpan, SourceSpan};
 use std::alloc::{AllocError, Global};
 use std::process::Abort;
@@ -36,22 +36,22 @@ fn labels_without_text(rt: HostRuntime) {
 }
 
 /// A label with a text.
-fn told(alloc: Global) -> Result<LabeledSpan, AllocError> {
+fn label(alloc: Global) -> Result<LabeledSpan, AllocError> {
     LabeledSpan::at(alloc, 2..5, "x")
 }
 
 /// The same with context lines of its own.
-fn own(alloc: Global) -> Result<LabeledSpan, AllocError> {
-    Ok(told(alloc)?.with_context_lines(3))
+fn own_label(alloc: Global) -> Result<LabeledSpan, AllocError> {
+    Ok(label(alloc)?.with_context_lines(3))
 }
 
-fn clone_of_own(alloc: Global) -> Result<LabeledSpan, AllocError> {
-    own(alloc)?.clone()
+fn clone_label(alloc: Global) -> Result<LabeledSpan, AllocError> {
+    own_label(alloc)?.clone()
 }
 
 #[test]
 fn labels_with_their_own_context(rt: HostRuntime) -> Result<(), AllocError> {
-    let own = own(rt.alloc())?;
+    let own = own_label(rt.alloc())?;
     has(&rt, &own, Some("x"), SourceSpan::from(2..5));
     same(&rt, own.with_context_lines(4).context_lines(), Some(4));
     Ok(())
@@ -65,8 +65,8 @@ fn own_lines(label: Result<LabeledSpan, AllocError>) -> Result<Option<usize>, Al
 #[test]
 fn own_context_is_a_part(rt: HostRuntime) {
     let alloc = rt.alloc();
-    same(&rt, own_lines(told(alloc)), Ok(None));
-    same(&rt, own_lines(own(alloc)), Ok(Some(3)));
-    same(&rt, equal(own(alloc), told(alloc)), Ok(false));
-    same(&rt, equal(clone_of_own(alloc), own(alloc)), Ok(true));
+    same(&rt, own_lines(label(alloc)), Ok(None));
+    same(&rt, own_lines(own_label(alloc)), Ok(Some(3)));
+    same(&rt, agree(own_label(alloc), label(alloc)), Ok(false));
+    same(&rt, agree(clone_label(alloc), own_label(alloc)), Ok(true));
 }

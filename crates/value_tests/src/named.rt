@@ -25,7 +25,7 @@ fn is_before(first: Named, second: Named) -> Result<bool, AllocError> {
 }
 
 #[test]
-fn named(rt: HostRuntime) {
+fn order_of_named_sources(rt: HostRuntime) {
     let alloc = rt.alloc();
     let a = NamedSource::new(alloc, "a", "2");
     same(&rt, is_before(in_rust(alloc), a), Ok(true));
@@ -36,7 +36,7 @@ fn named(rt: HostRuntime) {
 }
 
 #[test]
-fn named_and_cloned(rt: HostRuntime) -> Result<(), AllocError> {
+fn a_clone_of_a_named_source(rt: HostRuntime) -> Result<(), AllocError> {
     let a = in_rust(rt.alloc())?;
     let again = a.clone()?;
     assert!(rt; again == a);

@@ -34,7 +34,7 @@ fn letter(style: Style) -> &'static str {
 }
 
 // A line's text in its pieces.
-fn painted(alloc: Global, it: &mut PatternHighlighter, line: &str) -> Result<String, Fail> {
+fn paint(alloc: Global, it: &mut PatternHighlighter, line: &str) -> Result<String, Fail> {
     let mut out = String::new(alloc);
     let mut rest = line;
     for piece in &it.highlight_line(alloc, line)? {
@@ -69,7 +69,7 @@ fn paints(
 ) -> Result<(), Fail> {
     it.restart(&MietteSpanContents::new(b"", SourceSpan::from((0, 0)), 0, 0, 0));
     for (line, wanted) in lines {
-        same(rt, painted(alloc, it, line)?.as_str(), *wanted);
+        same(rt, paint(alloc, it, line)?.as_str(), *wanted);
     }
     Ok(())
 }

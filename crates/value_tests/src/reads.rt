@@ -17,13 +17,13 @@ use std::test::Fail;
 const README: &str = "source\n  text\n    here";
 
 /// What a read gives: the data, its offset and length, line, column and count of lines.
-type Seen<'a> = (&'a [u8], (usize, usize), usize, usize, usize);
+type ReadParts<'a> = (&'a [u8], (usize, usize), usize, usize, usize);
 
 fn span(offset: usize, len: usize) -> SourceSpan {
     SourceSpan::new(SourceOffset::from(offset), len)
 }
 
-fn seen<'a>(contents: &MietteSpanContents<'a>) -> Seen<'a> {
+fn parts_of<'a>(contents: &MietteSpanContents<'a>) -> ReadParts<'a> {
     let place = contents.span();
     (
         contents.data(),
@@ -41,9 +41,9 @@ fn read<S: SourceCode>(
     len: usize,
     before: usize,
     after: usize,
-) -> Option<Seen<'_>> {
+) -> Option<ReadParts<'_>> {
     match code.read_span(&span(offset, len), before, after) {
-        Ok(contents) => Some(seen(&contents)),
+        Ok(contents) => Some(parts_of(&contents)),
         Err(_) => None,
     }
 }
@@ -96,7 +96,7 @@ fn terminators_are_read_whole(rt: HostRuntime) -> Result<(), AllocError> {
     Ok(())
 }
 
-fn indexed(alloc: Global, bytes: &[u8]) -> Result<IndexedSource, AllocError> {
+fn indexed_source(alloc: Global, bytes: &[u8]) -> Result<IndexedSource, AllocError> {
     IndexedSource::new(alloc, bytes.to_vec(alloc)?)
 }
 
@@ -112,7 +112,7 @@ fn stops_at_its_end<S: SourceCode>(rt: &impl Abort, code: &S) {
 #[test]
 fn the_largest_numbers(rt: HostRuntime) -> Result<(), AllocError> {
     stops_at_its_end(&rt, &README);
-    stops_at_its_end(&rt, &indexed(rt.alloc(), README.as_bytes())?);
+    stops_at_its_end(&rt, &indexed_source(rt.alloc(), README.as_bytes())?);
     Ok(())
 }
 
@@ -166,7 +166,7 @@ impl SourceCode for Broken {
     }
 }
 
-fn boxed_readme(alloc: Global) -> Result<NamedSource<Vec<u8>>, AllocError> {
+fn named_readme(alloc: Global) -> Result<NamedSource<Vec<u8>>, AllocError> {
     let bytes = README.as_bytes().to_vec(alloc)?;
     NamedSource::new(alloc, "bad_file.rs", bytes)?.with_language(alloc, "Rust")
 }
@@ -176,7 +176,7 @@ fn reads_the_word<S: SourceCode>(
     rt: &impl Abort,
     code: &S,
     lines: usize,
-    wanted: Seen<'_>,
+    wanted: ReadParts<'_>,
     name: &str,
 ) -> Result<(), MietteError> {
     let contents = code.read_span(&span(9, 4), lines, lines)?;
@@ -185,7 +185,7 @@ fn reads_the_word<S: SourceCode>(
 }
 
 fn boxed_source(alloc: Global) -> Result<Box<dyn SourceCode>, Fail> {
-    let code: Box<dyn SourceCode> = Box::new(alloc, boxed_readme(alloc)?)?;
+    let code: Box<dyn SourceCode> = Box::new(alloc, named_readme(alloc)?)?;
     Ok(code)
 }
 
@@ -215,13 +215,13 @@ fn broken_sources(rt: HostRuntime) -> Result<(), Fail> {
 }
 
 /// A source that is named twice.
-fn named_twice(alloc: Global) -> Result<NamedSource<NamedSource<Vec<u8>>>, AllocError> {
-    NamedSource::new(alloc, "other.rs", boxed_readme(alloc)?)
+fn twice_named_source(alloc: Global) -> Result<NamedSource<NamedSource<Vec<u8>>>, AllocError> {
+    NamedSource::new(alloc, "other.rs", named_readme(alloc)?)
 }
 
 #[test]
 fn names_pass_the_rest_on(rt: HostRuntime) -> Result<(), Fail> {
-    let outer = named_twice(rt.alloc())?;
+    let outer = twice_named_source(rt.alloc())?;
     same(&rt, outer.name(), "other.rs");
     same(&rt, outer.inner().name(), "bad_file.rs");
     same(&rt, outer.inner().inner().as_slice(), README.as_bytes());
@@ -234,10 +234,10 @@ fn names_pass_the_rest_on(rt: HostRuntime) -> Result<(), Fail> {
 fn says(
     rt: &impl Abort,
     contents: &MietteSpanContents<'_>,
-    wanted: Seen<'_>,
+    wanted: ReadParts<'_>,
     names: (Option<&str>, Option<&str>),
 ) {
-    same(rt, seen(contents), wanted);
+    same(rt, parts_of(contents), wanted);
     same(rt, (contents.name(), contents.language()), names);
 }
 
@@ -254,7 +254,7 @@ fn contents_by_hand(rt: HostRuntime) {
 #[test]
 fn few_looks_at_the_index(rt: HostRuntime) -> Result<(), AllocError> {
     let bytes = b"a\r\nb\rc\n".as_slice();
-    let source = indexed(rt.alloc(), bytes)?;
+    let source = indexed_source(rt.alloc(), bytes)?;
     same(&rt, source.bytes(), bytes);
     for (offset, line) in [(0, 0), (2, 0), (3, 1), (5, 2), (7, 3), (9, 3)] {
         let (found, looks) = source.line_of(offset);
@@ -265,7 +265,7 @@ fn few_looks_at_the_index(rt: HostRuntime) -> Result<(), AllocError> {
 
 #[test]
 fn no_look_at_an_index_without_ends(rt: HostRuntime) -> Result<(), AllocError> {
-    same(&rt, indexed(rt.alloc(), b"abc")?.line_of(2), (0, 0));
+    same(&rt, indexed_source(rt.alloc(), b"abc")?.line_of(2), (0, 0));
     Ok(())
 }
 
@@ -351,7 +351,7 @@ fn contents_are_cloned(rt: HostRuntime) -> Result<(), Fail> {
     let bytes = b"abc".as_slice();
     let contents = bytes.read_span(&span(1, 1), 0, 0)?;
     let again = contents.clone()?;
-    same(&rt, seen(&again), (b"b".as_slice(), (1, 1), 0, 1, 0));
+    same(&rt, parts_of(&again), (b"b".as_slice(), (1, 1), 0, 1, 0));
     same(&rt, RenderError::from(AllocError), RenderError::Memory);
     Ok(())
 }

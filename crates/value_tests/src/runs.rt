@@ -10,7 +10,7 @@ use miette_text::wrap::cutting::{without_leading, without_trailing};
 use miette_text::wrap::{Plan, wrap};
 use std::alloc::{AllocError, Global};
 
-fn wrapped(alloc: Global, text: &str, width: usize) -> Result<String, AllocError> {
+fn wrap_text(alloc: Global, text: &str, width: usize) -> Result<String, AllocError> {
     let read = read_text(alloc, text)?;
     let mut out = Output::for_text(alloc);
     wrap_plainly(alloc, &read, width, &mut out)?;
@@ -38,7 +38,7 @@ fn wrap_plainly(
 #[test]
 fn rows_of_runs(rt: HostRuntime) {
     for (text, width, wanted) in &SEQUENCES {
-        gives(&rt, wrapped(rt.alloc(), text, *width), *wanted);
+        gives(&rt, wrap_text(rt.alloc(), text, *width), *wanted);
     }
 }
 
@@ -50,15 +50,15 @@ fn with_line_feeds(alloc: Global) -> Result<Runs, AllocError> {
     Ok(runs)
 }
 
-fn leading_cut(alloc: Global) -> Result<Runs, AllocError> {
+fn cut_leading(alloc: Global) -> Result<Runs, AllocError> {
     without_leading(alloc, with_line_feeds(alloc)?)
 }
 
-fn both_cut(alloc: Global) -> Result<Runs, AllocError> {
-    without_trailing(alloc, leading_cut(alloc)?)
+fn cut_both(alloc: Global) -> Result<Runs, AllocError> {
+    without_trailing(alloc, cut_leading(alloc)?)
 }
 
-fn spelled(alloc: Global, runs: Result<Runs, AllocError>) -> Result<String, AllocError> {
+fn spell(alloc: Global, runs: Result<Runs, AllocError>) -> Result<String, AllocError> {
     print(alloc, &runs?)
 }
 
@@ -66,7 +66,7 @@ fn spelled(alloc: Global, runs: Result<Runs, AllocError>) -> Result<String, Allo
 fn runs_without_line_feeds(rt: HostRuntime) {
     let alloc = rt.alloc();
     let wanted = "\u{1B}[31ma\nb\n\u{1B}[0m\n";
-    gives(&rt, spelled(alloc, leading_cut(alloc)), wanted);
+    gives(&rt, spell(alloc, cut_leading(alloc)), wanted);
     let wanted = "\u{1B}[31ma\nb\u{1B}[0m";
-    gives(&rt, spelled(alloc, both_cut(alloc)), wanted);
+    gives(&rt, spell(alloc, cut_both(alloc)), wanted);
 }

@@ -1,10 +1,10 @@
 //! Places in texts, and what a span is made from.
 
-use crate::comparing::{gives, printed, same};
+use crate::comparing::{gives, same, text_of};
 use miette_protocol::protocol::{LabeledSpan, LengthOverflow, SourceOffset, SourceSpan};
 use std::alloc::{AllocError, Global};
 
-fn located(text: &str, line: usize, column: usize) -> usize {
+fn locate(text: &str, line: usize, column: usize) -> usize {
     SourceOffset::from_location(text, line, column).offset()
 }
 
@@ -29,7 +29,7 @@ fn locations(rt: HostRuntime) {
     for (text, line, column, offset) in rows {
         same(
             &rt,
-            (line, column, located(text, line, column)),
+            (line, column, locate(text, line, column)),
             (line, column, offset),
         );
     }
@@ -123,7 +123,7 @@ fn inclusive_ranges(rt: HostRuntime) {
 #[test]
 fn a_length_that_is_too_great_prints(rt: HostRuntime) {
     let wanted = "the length of the range is greater than a usize can say";
-    gives(&rt, printed(rt.alloc(), &LengthOverflow), wanted);
+    gives(&rt, text_of(rt.alloc(), &LengthOverflow), wanted);
 }
 
 #[test]

@@ -1,6 +1,6 @@
 //! Which theme a terminal has. The characters and styles of each theme are rows of the program `calls`.
 
-use crate::comparing::{equal, same};
+use crate::comparing::{agree, same};
 use miette_style::theme::{GraphicalTheme, Terminal, ThemeCharacters};
 use std::alloc::{AllocError, Global};
 use std::process::Abort;
@@ -9,11 +9,11 @@ use std::process::Abort;
 fn characters_are_compared(rt: HostRuntime) {
     let emoji = ThemeCharacters::emoji(rt.alloc());
     let unicode = ThemeCharacters::unicode(rt.alloc());
-    same(&rt, equal(unicode, emoji), Ok(false));
+    same(&rt, agree(unicode, emoji), Ok(false));
     let again = ThemeCharacters::unicode(rt.alloc());
     same(
         &rt,
-        equal(ThemeCharacters::unicode(rt.alloc()), again),
+        agree(ThemeCharacters::unicode(rt.alloc()), again),
         Ok(true),
     );
 }

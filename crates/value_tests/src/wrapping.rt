@@ -34,7 +34,7 @@ static INDENTED: WrapOptions<'static> = WrapOptions {
 pub(crate) type Row<'a> = (&'a str, usize, &'a str);
 
 /// The text, filled behind what is there.
-fn filled_behind(
+fn fill_behind(
     alloc: Global,
     before: &str,
     options: &WrapOptions<'_>,
@@ -52,7 +52,7 @@ fn fills(rt: &impl Abort, alloc: Global, options: WrapOptions<'_>, rows: &[Row<'
             width: *width,
             ..options
         };
-        gives(rt, filled_behind(alloc, "", &options, text), *wanted);
+        gives(rt, fill_behind(alloc, "", &options, text), *wanted);
     }
 }
 
@@ -88,7 +88,7 @@ fn whole(rt: HostRuntime) {
         wrap_lines: false,
         ..INDENTED
     };
-    let out = filled_behind(rt.alloc(), "x", &options, "a\n\n");
+    let out = fill_behind(rt.alloc(), "x", &options, "a\n\n");
     gives(&rt, out, "x> a\n.\n");
     // what is white loses its indent's last spaces, and sequences behind the last line feed stay
     let rows = [("\u{A0}\t\na\n\u{1B}[0m", 80, ">\u{A0}\t\n. a\n\u{1B}[0m")];
@@ -144,12 +144,7 @@ fn nothing_to_indent(rt: HostRuntime) {
 }
 
 /// What is appended behind a red indent of two columns, and whether the text fits.
-fn fitted(
-    alloc: Global,
-    wraps: bool,
-    width: usize,
-    text: &str,
-) -> Result<(bool, String), AllocError> {
+fn fit(alloc: Global, wraps: bool, width: usize, text: &str) -> Result<(bool, String), AllocError> {
     let first = read_text(alloc, "\u{1B}[31m>\u{1B}[0m ")?;
     let mut out = Output::for_text(alloc);
     let fits = push_fitting(wraps, width, &first, text, &mut out)?;
@@ -158,12 +153,12 @@ fn fitted(
 
 /// Whether it fits.
 fn fits(alloc: Global, wraps: bool, width: usize, text: &str) -> Result<bool, AllocError> {
-    Ok(fitted(alloc, wraps, width, text)?.0)
+    Ok(fit(alloc, wraps, width, text)?.0)
 }
 
 /// Whether it fits, and then stands behind the indent.
 fn stands(alloc: Global, width: usize, text: &str) -> Result<bool, AllocError> {
-    let (fits, found) = fitted(alloc, true, width, text)?;
+    let (fits, found) = fit(alloc, true, width, text)?;
     Ok(fits && found.as_str().strip_prefix("\u{1B}[31m>\u{1B}[0m ") == Some(text))
 }
 
