@@ -32,7 +32,7 @@ fn run<R: Env + Files + Print + AllocGlobal>(rt: &R) -> Result<()> {
     let text = fs::read_to_string(rt, name.as_str())
         .into_diagnostic(alloc)
         .wrap_err_with(alloc, || format!(in alloc; "could not read {name}"))?;
-    match checked(alloc, text.as_str()) {
+    match check(alloc, text.as_str()) {
         Ok(port) => println!(rt; "{name}: port {port}").into_diagnostic(alloc),
         Err(report) => {
             let source = OwnedSource::named(alloc, name.as_str(), Some("toml"), text.into_bytes())?;
@@ -42,7 +42,7 @@ fn run<R: Env + Files + Print + AllocGlobal>(rt: &R) -> Result<()> {
 }
 
 /// The port, or what is wrong with the settings.
-fn checked(alloc: Global, text: &str) -> Result<i64> {
+fn check(alloc: Global, text: &str) -> Result<i64> {
     match toml::table_from_str(alloc, text) {
         Ok(table) => match port_of(&table) {
             Some(port) => Ok(port),

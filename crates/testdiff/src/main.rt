@@ -36,7 +36,7 @@ fn run<R: Env + Files + Print + AllocGlobal + Streams>(rt: &R) -> Result<ExitCod
         json,
         expected,
         actual,
-    } = words_given(rt)?;
+    } = read_words(rt)?;
     let wanted = log(rt, expected.as_str())?;
     let found = log(rt, actual.as_str())?;
     let labels = differences(alloc, wanted.as_str(), found.as_str())?;
@@ -62,7 +62,7 @@ fn run<R: Env + Files + Print + AllocGlobal + Streams>(rt: &R) -> Result<ExitCod
     Ok(print_report(rt, &report))
 }
 
-fn words_given<R: Env + AllocGlobal>(rt: &R) -> Result<Words> {
+fn read_words<R: Env + AllocGlobal>(rt: &R) -> Result<Words> {
     let alloc = rt.alloc();
     let usage = "usage: testdiff [--json] EXPECTED ACTUAL";
     let mut words = env::args(rt).into_diagnostic(alloc)?.skip(1);
