@@ -1,6 +1,5 @@
 //! Tests of what a highlighter is told of the snippets that are drawn. What stands in their rows, by `job`, is in
-//! `cases/`, and so are snippets over sources that stop. Lines that are cut are worked out in
-//! `proofs/CutExamples.antt`.
+//! `cases/`, and so are snippets over sources that stop.
 #![tactic(auto)]
 
 #[cfg(test)]
