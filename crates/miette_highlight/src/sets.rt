@@ -42,7 +42,7 @@ impl PatternHighlighter {
 }
 
 /// A part of a line between delimiters: a comment or a text.
-struct Part {
+struct DelimitedPart {
     opens: &'static str,
     closes: &'static str,
     /// Whether a backslash takes its meaning from the character behind it.
@@ -52,7 +52,7 @@ struct Part {
     is_comment: bool,
 }
 
-const TEXT: Part = Part {
+const TEXT: DelimitedPart = DelimitedPart {
     opens: "\"",
     closes: "\"",
     escapes: false,
@@ -60,89 +60,89 @@ const TEXT: Part = Part {
     is_comment: false,
 };
 
-static JSON_PARTS: [Part; 1] = [Part {
+static JSON_PARTS: [DelimitedPart; 1] = [DelimitedPart {
     escapes: true,
     ..TEXT
 }];
 
-static TOML_PARTS: [Part; 5] = [
-    Part {
+static TOML_PARTS: [DelimitedPart; 5] = [
+    DelimitedPart {
         opens: "#",
         closes: "\n",
         is_comment: true,
         ..TEXT
     },
-    Part {
+    DelimitedPart {
         opens: "\"\"\"",
         closes: "\"\"\"",
         escapes: true,
         goes_on: true,
         ..TEXT
     },
-    Part {
+    DelimitedPart {
         opens: "'''",
         closes: "'''",
         goes_on: true,
         ..TEXT
     },
-    Part {
+    DelimitedPart {
         escapes: true,
         ..TEXT
     },
-    Part {
+    DelimitedPart {
         opens: "'",
         closes: "'",
         ..TEXT
     },
 ];
 
-static RUST_PARTS: [Part; 9] = [
-    Part {
+static RUST_PARTS: [DelimitedPart; 9] = [
+    DelimitedPart {
         opens: "//",
         closes: "\n",
         is_comment: true,
         ..TEXT
     },
-    Part {
+    DelimitedPart {
         opens: "/*",
         closes: "*/",
         goes_on: true,
         is_comment: true,
         ..TEXT
     },
-    Part {
+    DelimitedPart {
         opens: "'\"'",
         closes: "",
         ..TEXT
     },
-    Part {
+    DelimitedPart {
         opens: "'\\\"'",
         closes: "",
         ..TEXT
     },
-    Part {
+    DelimitedPart {
         opens: "r#\"",
         closes: "\"#",
         goes_on: true,
         ..TEXT
     },
-    Part {
+    DelimitedPart {
         opens: "r\"",
         goes_on: true,
         ..TEXT
     },
-    Part {
+    DelimitedPart {
         escapes: true,
         goes_on: true,
         ..TEXT
     },
-    Part {
+    DelimitedPart {
         opens: "b\"",
         escapes: true,
         goes_on: true,
         ..TEXT
     },
-    Part {
+    DelimitedPart {
         opens: "c\"",
         escapes: true,
         goes_on: true,
@@ -158,7 +158,7 @@ const RUST_WORDS: [&str; 37] = [
 ];
 
 // The delimiters of such a part.
-fn delimiters_of(alloc: Global, part: &Part) -> Result<Delimiters, AllocError> {
+fn delimiters_of(alloc: Global, part: &DelimitedPart) -> Result<Delimiters, AllocError> {
     let mut delimiters = Delimiters::new(alloc, part.opens, part.closes)?;
     if part.escapes {
         delimiters = delimiters.escaped_by(b'\\');
@@ -170,7 +170,11 @@ fn delimiters_of(alloc: Global, part: &Part) -> Result<Delimiters, AllocError> {
 }
 
 // Texts are green, and comments dimmed.
-fn push_parts(rules: &mut Vec<Rule>, alloc: Global, parts: &[Part]) -> Result<(), AllocError> {
+fn push_parts(
+    rules: &mut Vec<Rule>,
+    alloc: Global,
+    parts: &[DelimitedPart],
+) -> Result<(), AllocError> {
     for part in parts {
         let style = if part.is_comment {
             Style::new().dimmed()
