@@ -170,8 +170,7 @@ impl<D: Diagnostic, S: SourceCode> Report<D, S> {
         }
     }
 
-    /// With these texts as its causes, the nearest first, in place of the cause that it had. An empty
-    /// list is no cause. Takes no memory.
+    /// With these texts, the nearest first, as its causes in place of what it had; none is no cause. Takes no memory.
     pub fn with_cause_texts(self, list: Vec<String>) -> Report<D, S>
         ensures tree { tree_of D.meaning S.source result
             ≡ with_cause (texts (map string_bytes list.items)) (tree_of D.meaning S.source self) }
@@ -182,9 +181,8 @@ impl<D: Diagnostic, S: SourceCode> Report<D, S> {
         report
     }
 
-    /// With this report as its cause, in place of the cause that it had. Where memory is refused, both
-    /// come back as they were: first the one, then its cause. A chain of causes may be of any length: it is shown and
-    /// let go by loops, which take no stack a level.
+    /// With this report as its cause, in place of the cause that it had. Where memory is refused, both come back as
+    /// they were: first the one, then its cause. A chain may be of any length: loops show it and let it go.
     pub fn with_diagnostic_cause(
         self,
         alloc: Global,
@@ -266,8 +264,7 @@ impl<D: Diagnostic, S: SourceCode> Report<D, S> {
         self.wrap_err(alloc, message)
     }
 
-    /// The texts of the chain in place of the cause. Where they are the cause already but for the message, that alone
-    /// is copied.
+    /// The texts of the chain in place of the cause: the message alone is copied where they are the cause already.
     fn chain_becomes_causes(&mut self, alloc: Global) -> Result<(), AllocError>
         ensures tree { OnOk result (tree_of D.meaning S.source self.new
             ≡ with_cause (texts (chain_of (tree_of D.meaning S.source self.old)))
