@@ -1,5 +1,5 @@
 -- How many lines there are, and the greatest number of labels of several lines on one, where gaps are passed over.
-use Rattle.std.proofs.Common.{ℕ, zero, suc, ◌+◌, ◌-◌, ◌<◌, ◌≤◌, ◌≡◌, max, Bool, true, false, cond, not, ◌&&◌, ltb, List, [], ◌∷◌, ◌++◌, length, get_or, drop, ⊎_elim, refl, sym, ap, ◌∙◌, subst, arith}
+use Rattle.std.proofs.Common.{ℕ, suc, ◌+◌, ◌-◌, ◌<◌, ◌≤◌, ◌≡◌, max, Bool, true, false, cond, not, ◌&&◌, ltb, List, [], ◌∷◌, ◌++◌, length, get_or, drop, ⊎_elim, refl, sym, ap, ◌∙◌, subst, arith}
 use Rattle.std.specs.List.{AllByRecursion, filter}
 use Rattle.std.proofs.lemmas.Bool.{cases_lt, lt-ltb, ltb-true, ltb-false}
 use Rattle.std.proofs.lemmas.List.{drop_all, length-drop}
@@ -21,7 +21,7 @@ use Rattle.miette_folds.specs.views.Folding.{AreFoldsIn}
 use Rattle.miette_folds.specs.views.Gaps.{next_line, next_start}
 use Rattle.miette_folds.specs.steps.Counting.{begins_before, next_counted}
 use Rattle.miette_folds.proofs.Passing.{next_begins, next_further}
-use Rattle.miette_folds.proofs.Starts.{Begins, RunOf, begins_first, begins_next, run_of}
+use Rattle.miette_folds.proofs.Starts.{Begins, RunOf, begins_end, begins_first, begins_next, run_of}
 
 -- ---- the labels on a later line of a gap
 
@@ -190,6 +190,23 @@ counted_more labels start bytes folds at place most most' next next' running on 
     let same : far.offset ≡ offset = ap (λ (x : LineStart). x.offset) (e ∙ jumped folds place l jumps t) in
     omega (arith, same, clear_of labels first offset sorted (turned inside (begins_before labels first offset) t) k ge lt)) in
     counted_more_to labels start bytes at place most most' next next' running on running' line first far jumps sorted h part low some to is m (λ f. e ∙ not_jumped folds place l jumps f) clear b le state
+
+-- the lines behind one are counted at once, where no label begins behind it
+pub counted_rest : (labels : List PlacedLabel) (start : ℕ) (bytes : List ℕ) (at place most most' next next' : ℕ) (running on running' : List PlacedLabel) (line : LineOfText) (first : ℕ) (far : LineStart) → AreSorted labels →
+    AreCounted labels start bytes at place most next running →
+    P.lines_from (start + at) (drop at bytes) ≡ line_of_text line ∷ P.lines_from line.end (drop (line.end - start) bytes) → start ≤ line.end → line.start < line.end → line.end ≤ start + length bytes →
+    IsOn labels (line_of_bounds (record { start = line.start; after = line.end })) first on → most' ≡ max (length on) most → begins_before labels first (start + length bytes) ≡ false →
+    far.offset ≡ start + length bytes → far.place ≡ place + 1 + length (P.lines_from line.end (drop (line.end - start) bytes)) →
+    IsAt labels far.offset next' running' → AreCounted labels start bytes (far.offset - start) far.place most' next' running'
+counted_rest labels start bytes at place most most' next next' running on running' line first far sorted h part low some to is m none end all state =
+    let ls : List Line = P.lines_from start bytes in
+    let a : Begins start bytes line.end (place + 1) = begins_next start bytes at place line h.begun part low to in
+    let behind : length (drop (place + 1) ls) ≡ length ls - (place + 1) = length-drop (place + 1) ls in
+    let same : length (drop (place + 1) ls) ≡ length (P.lines_from line.end (drop (line.end - start) bytes)) = ap length a.lines in
+    let b : Begins start bytes far.offset far.place = begins_end start bytes far.offset far.place end (omega (arith, all, behind, same, a.count)) in
+    counted_more_to labels start bytes at place most most' next next' running on running' line first far true sorted h part low some to is m (λ f. absurd (cc))
+    (λ t k ge lt. let clear : start + length bytes ≤ start_at labels k = clear_of labels first (start + length bytes) sorted none k ge lt in omega (arith, end, clear))
+    b (omega (arith, to, end)) state
 
 max_none : (a : ℕ) → max a 0 ≡ a
 max_none a = omega arith

@@ -2,7 +2,7 @@
 use Rattle.std.proofs.Common.{ℕ, zero, suc, ◌+◌, ◌-◌, ◌≤◌, ◌≡◌, min, max, Bool, true, false, cond, nat_le, ◌&&◌, List, [], ◌∷◌, ◌++◌, length, take, drop, ⊎_elim, refl, sym, ap, ◌∙◌, subst, arith}
 use Rattle.std.specs.Prelude.{slice_index}
 use Rattle.std.proofs.lemmas.Bool.{cases_lt}
-use Rattle.std.proofs.lemmas.List.{drop-drop, length-drop, length-take-le, take-append-drop}
+use Rattle.std.proofs.lemmas.List.{drop-drop, drop_all, length-drop, length-take-le, take-append-drop}
 use Rattle.std.proofs.lemmas.List.Sums.{count_by-le-length}
 use Rattle.std.proofs.Math.Seq.{drop-nil}
 use Rattle.miette_newlines.specs.rules.Lines as P
@@ -98,6 +98,17 @@ begins_next start bytes at place line h part low to =
       high = to;
       count = omega (arith, some, one, h.count);
       lines = sym (drop-drop 1 place ls) ∙ ap (drop 1) here;
+    }
+
+-- behind the last line
+pub begins_end : (start : ℕ) (bytes : List ℕ) (offset place : ℕ) → offset ≡ start + length bytes → place ≡ length (P.lines_from start bytes) → Begins start bytes offset place
+begins_end start bytes offset place end all =
+    let none : drop (offset - start) bytes ≡ [] = drop_all (offset - start) bytes (omega (arith, end)) in
+    record {
+      low = omega (arith, end);
+      high = omega (arith, end);
+      count = omega (arith, all);
+      lines = drop_all place (P.lines_from start bytes) (omega (arith, all)) ∙ sym (ap (P.lines_from offset) none);
     }
 
 -- the line with a place

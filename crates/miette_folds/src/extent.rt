@@ -1,6 +1,6 @@
 //! How many lines a snippet has, and how many of its labels lie on one.
 
-ghost use Rattle.std.specs.Prelude.{◌≡◌, ◌+◌, ◌<◌, ◌^◌, length, IfOk};
+ghost use Rattle.std.specs.Prelude.{◌≡◌, ◌+◌, ◌-◌, ◌<◌, ◌≤◌, ◌^◌, ℕ, true, false, drop, length, IfOk};
 ghost use Rattle.miette_lines.specs.views.Sweeping.{IsAt, AreSorted};
 ghost use Rattle.miette_newlines.specs.rules.Lines.{lines_from};
 ghost use Rattle.miette_folds.specs.steps.Counting.{begins_before, next_counted};
@@ -12,8 +12,13 @@ use crate::folds::{Fold, LineStart};
 use crate::gaps::{enter_line, next_start, pass_over};
 use miette_lines::line_sweep::line_at;
 use miette_lines::sweep::{PlacedLabel, Sweep};
+use miette_newlines::find::FindLines;
 use miette_newlines::lines::LineOfText;
+use miette_newlines::scan::Scan;
 use std::alloc::AllocError;
+
+// So many bytes are looked at line by line, which costs less than to count their lines at once.
+const FEW: usize = 512;
 
 /// How many lines there are, and the greatest number of labels of several lines on one of them.
 #[derive(Clone, Copy, Debug, PartialEq, Eq, Drop)]
@@ -55,9 +60,45 @@ fn next_counted(
     far
 }
 
+// How many lines there are: one more than the terminators that end before the last byte.
+#[tactic(auto, using(crate::proofs::LineCounts::counting))]
+fn count_lines(bytes: &[u8]) -> usize
+    ensures lines { (at : ℕ) → result ≡ length (lines_from at bytes.now) }
+    ensures few { result ≤ length bytes.now }
+{
+    if bytes.is_empty() {
+        return 0;
+    }
+    Scan(bytes).line_from(0, 0, bytes.len() - 1) + 1
+}
+
+// Whether the lines behind a line are counted at once: no label begins on them, of those from this one on, and there are
+// so many bytes that it pays.
+fn counts_rest(labels: &[PlacedLabel], first: usize, end: usize, line: &LineOfText) -> bool
+    ensures { result ≡ true → begins_before labels.now first end ≡ false }
+{
+    end.saturating_sub(line.end) > FEW && !begins_before(labels, first, end)
+}
+
+// Where some bytes end, behind one of their lines, before which so many stand; the lines behind it are counted at once.
+fn counted_end(bytes: &[u8], start: usize, place: usize, line: &LineOfText) -> LineStart
+    requires order { start ≤ line.now.end }
+    requires inside { line.now.end ≤ start + length bytes.now }
+    requires place { place < line.now.end - start }
+    requires small { start + length bytes.now < 2 ^ 64 }
+    ensures offset { result.offset ≡ start + length bytes.now }
+    ensures place { result.place ≡ place + 1
+        + length (lines_from line.now.end (drop (line.now.end - start) bytes.now)) }
+{
+    LineStart {
+        offset: start + bytes.len(),
+        place: place + 1 + count_lines(&bytes[line.end - start..]),
+    }
+}
+
 /// The lines of some bytes of a source, which begin at this offset where the sweep is, are counted, without a look at
-/// those that are left out inside the folded labels. The sweep goes on to their end. What `one` holds is given up, and
-/// its room used. `AllocError` where memory is refused.
+/// those that are left out inside the folded labels, nor at those behind which no label begins. The sweep goes on to
+/// their end. What `one` holds is given up, and its room used. `AllocError` where memory is refused.
 pub fn extent_of(
     bytes: &[u8],
     start: usize,
@@ -73,6 +114,7 @@ pub fn extent_of(
     ensures lines { IfOk result (λ extent. extent.lines ≡ length (lines_from start bytes.now)) }
     ensures most { IfOk result (λ extent. extent.most ≡ most_multi labels.now (lines_from start bytes.now)) }
 {
+    let end = start + bytes.len();
     let mut at: usize = 0;
     let mut place: usize = 0;
     let mut most: usize = 0;
@@ -82,7 +124,11 @@ pub fn extent_of(
         most = sweep.running.len().max(most);
         sweep.leave(line.end);
         let inside = !sweep.running.is_empty();
-        let next = next_counted(labels, sweep.next, inside, folds, place, &line);
+        let next = if counts_rest(labels, sweep.next, end, &line) {
+            counted_end(bytes, start, place, &line)
+        } else {
+            next_counted(labels, sweep.next, inside, folds, place, &line)
+        };
         pass_over(labels, line.end, next.offset, sweep, one)?;
         place = next.place;
         at = next.offset - start;
