@@ -60,11 +60,16 @@ fn end_run<O: Canvas>(out: &mut O, style: Style, begun: bool) -> Result<(), Allo
     out.end()
 }
 
-// Copies of a character, whose room is taken at once.
+// Room for so many copies of a character is taken as they come.
+const FEW: usize = 8;
+
+// Copies of a character; the room for many is taken at once.
 fn push_each<O: Canvas>(out: &mut O, character: char, many: usize) -> Result<(), AllocError>
     ensures { OnOk result (O.written out.new ≡ O.written out.old ++ replicate many character) }
 {
-    out.reserve(character, many)?;
+    if many > FEW {
+        out.reserve(character, many)?;
+    }
     for i in 0..many {
         let _count = i;
         out.push(character)?;
