@@ -72,8 +72,8 @@ fn count_lines(bytes: &[u8]) -> usize
     Scan(bytes).line_from(0, 0, bytes.len() - 1) + 1
 }
 
-// Whether the lines behind a line are counted at once: no label begins on them, of those from this one on, and there are
-// so many bytes that it pays.
+// Whether the lines behind a line are counted at once: of the labels from this one on none begins before the end, and
+// there are so many bytes that it pays.
 fn counts_rest(labels: &[PlacedLabel], first: usize, end: usize, line: &LineOfText) -> bool
     ensures { result ≡ true → begins_before labels.now first end ≡ false }
 {
@@ -96,9 +96,9 @@ fn counted_end(bytes: &[u8], start: usize, place: usize, line: &LineOfText) -> L
     }
 }
 
-/// The lines of some bytes of a source, which begin at this offset where the sweep is, are counted, without a look at
-/// those that are left out inside the folded labels, nor at those behind which no label begins. The sweep goes on to
-/// their end. What `one` holds is given up, and its room used. `AllocError` where memory is refused.
+/// The lines of some bytes of a source, which begin at this offset where the sweep is, are counted: those that are left
+/// out inside the folded labels without a look at them, many behind the last label at once. The sweep goes on to their
+/// end. What `one` holds is given up, and its room used. `AllocError` where memory is refused.
 pub fn extent_of(
     bytes: &[u8],
     start: usize,
