@@ -72,12 +72,20 @@ fn count_lines(bytes: &[u8]) -> usize
     Scan(bytes).line_from(0, 0, bytes.len() - 1) + 1
 }
 
-// Whether the lines behind a line are counted at once: of the labels from this one on none begins before the end, and
-// there are so many bytes that it pays.
-fn counts_rest(labels: &[PlacedLabel], first: usize, end: usize, line: &LineOfText) -> bool
+// Whether the lines behind a line are counted at once: no folded label goes on past it, of the labels from this one on
+// none begins before the end, and there are so many bytes that it pays.
+fn counts_rest(
+    labels: &[PlacedLabel],
+    first: usize,
+    inside: bool,
+    folds: &[Fold],
+    end: usize,
+    line: &LineOfText,
+) -> bool
     ensures { result ≡ true → begins_before labels.now first end ≡ false }
 {
-    end.saturating_sub(line.end) > FEW && !begins_before(labels, first, end)
+    let jumps = inside && !folds.is_empty();
+    !jumps && end.saturating_sub(line.end) > FEW && !begins_before(labels, first, end)
 }
 
 // Where some bytes end, behind one of their lines, before which so many stand; the lines behind it are counted at once.
@@ -97,8 +105,8 @@ fn counted_end(bytes: &[u8], start: usize, place: usize, line: &LineOfText) -> L
 }
 
 /// The lines of some bytes of a source, which begin at this offset where the sweep is, are counted: those that are left
-/// out inside the folded labels without a look at them, many behind the last label at once. The sweep goes on to their
-/// end. What `one` holds is given up, and its room used. `AllocError` where memory is refused.
+/// out inside the folded labels without a look at them, many behind the line where the last label begins at once. The
+/// sweep goes on to their end. What `one` holds is given up, and its room used. `AllocError` where memory is refused.
 pub fn extent_of(
     bytes: &[u8],
     start: usize,
@@ -124,7 +132,7 @@ pub fn extent_of(
         most = sweep.running.len().max(most);
         sweep.leave(line.end);
         let inside = !sweep.running.is_empty();
-        let next = if counts_rest(labels, sweep.next, end, &line) {
+        let next = if counts_rest(labels, sweep.next, inside, folds, end, &line) {
             counted_end(bytes, start, place, &line)
         } else {
             next_counted(labels, sweep.next, inside, folds, place, &line)
