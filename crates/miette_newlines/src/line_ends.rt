@@ -27,7 +27,7 @@ impl LineEnds {
     {
         let mut ends = Vec::new(alloc);
         let mut from = 0;
-        while let Some(at) = scan::next_mark(bytes, from) {
+        while let Some(at) = scan::next_newline(bytes, from) {
             if scan::ends_line(bytes, at) {
                 ends.push(at + 1)?;
             }

@@ -75,7 +75,7 @@ fn line_from(bytes: &[u8], from: usize, line: usize, offset: usize) -> usize
 }
 
 /// Where the first LF or CR at or after an offset stands. No terminator ends between the offset and it.
-pub(crate) fn next_mark(bytes: &[u8], offset: usize) -> Option<usize>
+pub(crate) fn next_newline(bytes: &[u8], offset: usize) -> Option<usize>
     requires { offset ≤ length bytes.now }
     ensures none { IsNone result → line_of bytes.now offset ≡ line_of bytes.now (length bytes.now) }
     ensures after { IfSome result (λ at. offset ≤ at) }
@@ -89,7 +89,7 @@ pub(crate) fn next_mark(bytes: &[u8], offset: usize) -> Option<usize>
 }
 
 /// Where the last LF or CR before an offset stands. No terminator ends between it and the offset.
-fn last_mark(bytes: &[u8], offset: usize) -> Option<usize>
+fn last_newline(bytes: &[u8], offset: usize) -> Option<usize>
     requires { offset ≤ length bytes.now }
     ensures none { IsNone result → line_of bytes.now offset ≡ 0 }
     ensures before { IfSome result (λ at. at < offset) }
@@ -109,7 +109,7 @@ pub fn start_before(bytes: &[u8], offset: usize, lines: usize) -> (usize, usize)
 {
     let mut passed = 0;
     let mut end = offset;
-    while let Some(at) = last_mark(bytes, end) {
+    while let Some(at) = last_newline(bytes, end) {
         if ends_line(bytes, at) {
             if passed == lines {
                 return (at + 1, passed);
@@ -132,7 +132,7 @@ fn end_after(bytes: &[u8], offset: usize, line: usize, lines: usize) -> (usize, 
     let mut line = line;
     let mut left = lines;
     let mut from = offset;
-    while let Some(at) = next_mark(bytes, from) {
+    while let Some(at) = next_newline(bytes, from) {
         if ends_line(bytes, at) {
             line += 1;
             if left == 0 {
