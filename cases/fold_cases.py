@@ -3,8 +3,8 @@
 
 It is a model of the rules of pictures (docs/RULES.md, 'Which lines are shown', 'Folded labels', 'Frames and rows',
 'Labels of one line', 'Labels over several lines'), made without the programs: one report of ASCII drawn by chance from
-a fixed seed, in the theme `unicode_nocolor`, with the rows that the rules ask for. In the last of them labels at the
-source's end are drawn too. What a line holds: run.py."""
+a fixed seed, in the theme `unicode_nocolor`, with the rows that the rules ask for. In some labels at the source's end
+are drawn too, and in the last of them many lines are shown behind the labels. What a line holds: run.py."""
 import json
 import random
 import re
@@ -12,6 +12,7 @@ import re
 TERMINATOR = re.compile(rb"\r\n|\r|\n")
 COUNT = 400
 WITH_ENDS = 60
+WITH_MORE = 24
 TAB = 4
 
 # ---- sources and reads
@@ -345,6 +346,20 @@ def with_ends(number):
     return report, context, limit
 
 
+def with_more(number):
+    """Labels that begin in the first third of many lines, of which many more are shown: one may go on to the last ones."""
+    dice = random.Random(number)
+    ends = dice.choice([["\n"], ["\r\n"], ["\r"], ["\n", "\r\n", "\r"]])
+    rows = [dice.choice(WORDS) + dice.choice(ends) for _ in range(dice.randint(150, 300))]
+    text = "".join(rows) + dice.choice(["", "end"])
+    labels = [label_of(dice, text[: len(text) // 3].encode(), False) for _ in range(dice.choice([1, 1, 2, 3]))]
+    if dice.random() < 0.5:
+        begin = dice.randint(0, len(text) // 3)
+        labels.append({"offset": begin, "length": len(text) - begin - dice.randint(0, 20), "label": dice.choice(TEXTS)})
+    report = {"message": "m", "source": {"name": "f.rs", "text": text}, "labels": labels}
+    return report, dice.choice([60, 200, 400]), dice.choice([3, 5, 1000])
+
+
 def words_of(dice, context, limit):
     """Words that ask for this, of which the last one counts."""
     words = [["--context", str(context)]] if context != 1 or dice.random() < 0.2 else []
@@ -355,13 +370,15 @@ def words_of(dice, context, limit):
 
 
 def case(number):
-    ends = number >= COUNT
-    report, context, limit = worked(number) if number < 3 else with_ends(number) if ends else chance(number)
+    more = number >= COUNT + WITH_ENDS
+    ends = COUNT <= number and not more
+    made = with_more if more else with_ends if ends else worked if number < 3 else chance
+    report, context, limit = made(number)
     argv = ["job", *words_of(random.Random(-number), context, limit), *(["--end-labels", "yes"] if ends else [])]
     text = "".join(row + "\n" for row in ["  × m", *snippet_rows(report, context, limit, ends)])
     return {"what": "folded labels", "argv": argv, "report": report, "stdout_text": text, "status": 0, "stderr": ""}
 
 
 if __name__ == "__main__":
-    for number in range(COUNT + WITH_ENDS):
+    for number in range(COUNT + WITH_ENDS + WITH_MORE):
         print(json.dumps(case(number), ensure_ascii=True))

@@ -45,6 +45,8 @@ HANDLERS = (PLAIN, COLOUR, NARRATED, BRIEF, JSON, DEBUG)
 NESTED = Way("nested", "job", (*PLAIN.words, "--nested", "yes"), draws=True)
 NESTED_COLOUR = Way("nested colour", "job", (*COLOUR.words, "--nested", "yes"), draws=True)
 ALL = (*HANDLERS, NESTED, NESTED_COLOUR)
+FOLDED = Way("folded", "job", (*PLAIN.words, "--label-lines", "5"), draws=True)
+WHOLE = Way("whole", "job", (*PLAIN.words, "--context", "100000000"), draws=True)
 BENCH = Way("bench", "bench", ("2", *PLAIN.words), draws=True)
 DRAW = Way("draw", "draw", ("f", MIDDLE, "1", "here", "m"), draws=True)
 LINT = Way("lint", "lint", ("f", "80"), 1, draws=True)
@@ -127,6 +129,16 @@ def one_line(label=None):
 def line_each(size):
     """So many lines, each with a label of its own."""
     return labelled("ab\n" * size, ((3 * i, 2) for i in range(size)), "x")
+
+
+def all_lines(size):
+    """So many lines under one label."""
+    return labelled("ab\n" * size, [(0, 3 * size)], "x")
+
+
+def first_line(size):
+    """So many lines, of which the first has a label."""
+    return labelled("ab\n" * size, [(0, 2)], "x")
 
 
 def chained(size):
@@ -262,6 +274,8 @@ def pictures():
     yield Family("labels on one line", one_line(), COUNTS, (10_000,), (*HANDLERS, BENCH))
     yield Family("a label on each line", line_each, COUNTS, (10_000,), HANDLERS)
     yield Family("labels over three lines", chained, COUNTS, (10_000,), HANDLERS)
+    yield Family("a label on all lines", all_lines, COUNTS, (20_000,), (PLAIN, FOLDED, NARRATED))
+    yield Family("lines behind a label", first_line, COUNTS, (20_000,), (WHOLE,))
     yield Family("texts on one line", one_line("x"), SQUARES, (1_000,), HANDLERS, True, TOLD)
     sizes = doubled(125, 2_000)
     yield Family("labels in labels", nested, sizes, (250,), DRAWN, True, (PLAIN,))
