@@ -14,13 +14,13 @@ IfSome-read_end (Some xs) (Some ys) None bs buf n z p q e = absurd q
 IfSome-read_end (Some xs) (Some ys) (Some zs) bs buf n z p q e =
     sym (p ∙ ap (λ l. bs ++ l) (q ∙ ap (λ k. take k buf ++ zs) z ∙ e) ∙ append-nil bs)
 
--- a write that took something leaves the mark off
-pub mark-off : {E : Type 0} (old new : Bool) (r : Result ℕ E) (buf : List ℕ) (n : ℕ)
+-- a write that took something is no failure
+pub none-failed : {E : Type 0} (old new : Bool) (r : Result ℕ E) (buf : List ℕ) (n : ℕ)
     → (IsTrue new ↔ (IsTrue old ⊎ IsWriteFault r buf)) → old ≡ false → r ≡ Ok n → (n ≡ 0 → ⊥) → new ≡ false
-mark-off old false r buf n h o e z = refl
-mark-off true true r buf n h o e z = cc
-mark-off false true (Err x) buf n h o e z = cc
-mark-off false true (Ok m) buf n h o e z =
+none-failed old false r buf n h o e z = refl
+none-failed true true r buf n h o e z = cc
+none-failed false true (Err x) buf n h o e z = cc
+none-failed false true (Ok m) buf n h o e z =
     absurd (elim (h.0 refl) [ inl p ↦ (let p' : false ≡ true = p in cc) | inr (inl q) ↦ (let q' : false ≡ true = q in cc) | inr (inr w) ↦ z (let k : Ok n ≡ Ok 0 = sym e ∙ w.0 in cc) ])
 
 -- what was taken, a step later

@@ -1,5 +1,5 @@
 -- What the code's values stand for.
-pub mod MarkedDevice
+pub mod DeviceState
 pub mod Device
 pub mod DrawReports
 pub mod LintReports

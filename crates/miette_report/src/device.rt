@@ -3,13 +3,13 @@
 ghost use Rattle.std.specs.Prelude.{◌≡◌, ◌⊎◌, ◌↔◌, IsTrue, IsErr, false};
 ghost use Rattle.std.specs.Io.{ReadsAtMost, WritesAtMost};
 ghost use Rattle.std.specs.Io.KnownBytes.{ReadConsumes, WriteAppends};
-ghost use Rattle.miette_report.specs.views.MarkedDevice.{MarkedDevice};
+ghost use Rattle.miette_report.specs.views.DeviceState.{DeviceState};
 
 use std::io;
 use std::io::{Read, Write};
 use std::marker::Model;
 
-/// A reader or a writer with a mark, which is set where a call of it failed and then stays.
+/// A reader or a writer that knows whether a call of it failed.
 ///
 /// A `Device` is no `Read` and no `Write` itself: std's own helpers over those repeat a call that was interrupted, and
 /// here each error is a fault.
@@ -20,16 +20,16 @@ pub struct Device<D> {
 }
 
 impl<D> Model for Device<D> {
-    ghost Value = { MarkedDevice D };
+    ghost Value = { DeviceState D };
 
     ghost view = { λ it. record { inner = it.inner; failed = it.failed } };
 }
 
 impl<D> Device<D> {
-    /// The device over a reader or a writer. Its mark is off.
+    /// The device over a reader or a writer, none of whose calls failed yet.
     pub fn new(inner: D) -> Self
         ensures inner { result.inner ≡ inner }
-        ensures unmarked { result.failed ≡ false }
+        ensures sound { result.failed ≡ false }
     {
         Device {
             inner,
@@ -55,14 +55,14 @@ impl<D> Device<D> {
 
 impl<D: Read> Device<D> {
     /// Reads into the buffer, and gives how many bytes there were: 0 at the end, or where the buffer is empty. The
-    /// mark is set exactly where it was, or where the inner call answers an error.
+    /// device has then failed exactly where it had before, or where the inner call answers an error.
     ///
     /// # Errors
     /// That of the inner call.
     pub fn read(&mut self, buf: &mut [u8]) -> io::Result<usize>
         ensures bound { ReadsAtMost result buf.new }
         ensures bytes { ReadConsumes (D.remaining self.old.inner) (D.remaining self.new.inner) result buf.new }
-        ensures mark { IsTrue self.new.failed ↔ (IsTrue self.old.failed ⊎ IsErr result) }
+        ensures failed { IsTrue self.new.failed ↔ (IsTrue self.old.failed ⊎ IsErr result) }
     {
         let result = self.inner.read(buf);
         if result.is_err() {
@@ -75,15 +75,15 @@ impl<D: Read> Device<D> {
 impl<D: Write> Device<D> {
     ghost use Rattle.miette_report.specs.views.Device.{IsWriteFault};
 
-    /// Writes a beginning of the buffer, and gives how many bytes that was. The mark is set exactly where it was, where
-    /// the inner call answers an error, or where it takes 0 bytes of a nonempty buffer.
+    /// Writes a beginning of the buffer, and gives how many bytes that was. The device has then failed exactly where it
+    /// had before, where the inner call answers an error, or where it takes 0 bytes of a nonempty buffer.
     ///
     /// # Errors
     /// That of the inner call.
     pub fn write(&mut self, buf: &[u8]) -> io::Result<usize>
         ensures bound { WritesAtMost result buf.now }
         ensures bytes { WriteAppends (D.contents self.old.inner) (D.contents self.new.inner) result buf.now }
-        ensures mark { IsTrue self.new.failed ↔ (IsTrue self.old.failed ⊎ IsWriteFault result buf.now) }
+        ensures failed { IsTrue self.new.failed ↔ (IsTrue self.old.failed ⊎ IsWriteFault result buf.now) }
     {
         let result = self.inner.write(buf);
         match &result {

@@ -104,14 +104,14 @@ pub fn write_picture<R: Read, W: Write>(
     reader: &mut Device<R>,
     writer: &mut Device<W>,
 ) -> Result<(), Fault>
-    requires reader_unmarked { reader.old.failed ≡ false }
-    requires writer_unmarked { writer.old.failed ≡ false }
+    requires reader_sound { reader.old.failed ≡ false }
+    requires writer_sound { writer.old.failed ≡ false }
     // All that the reader had left is the source, and the writer took its picture and nothing else.
     ensures ok { OnOk result (IfSome (R.remaining reader.old.inner) (λ bytes.
         Pictures words.now.name.now words.now.offset words.now.length words.now.label.now words.now.message.now bytes
         (Appends (W.contents writer.old.inner) (W.contents writer.new.inner)))) }
-    ensures read_mark { IsTrue reader.new.failed ↔ (result ≡ Err Fault.Read) }
-    ensures write_mark { IsTrue writer.new.failed ↔ (result ≡ Err Fault.Write) }
+    ensures read_failed { IsTrue reader.new.failed ↔ (result ≡ Err Fault.Read) }
+    ensures write_failed { IsTrue writer.new.failed ↔ (result ≡ Err Fault.Write) }
     ensures others { OnErr result ((result ≡ Err Fault.Memory) ⊎ (result ≡ Err Fault.Read)
         ⊎ (result ≡ Err Fault.Write)) }
     // After a write fault a beginning of the picture was taken.
@@ -165,16 +165,16 @@ fn run<R: Read, W: Write>(
     reader: &mut Device<R>,
     writer: &mut Device<W>,
 ) -> Result<(), Fault>
-    requires reader_unmarked { reader.old.failed ≡ false }
-    requires writer_unmarked { writer.old.failed ≡ false }
+    requires reader_sound { reader.old.failed ≡ false }
+    requires writer_sound { writer.old.failed ≡ false }
     ensures usage { (result ≡ Err Fault.Usage) ↔ IsNoDrawCall (map string_bytes words.now) }
     ensures unread { (result ≡ Err Fault.Usage) → (reader.new ≡ reader.old) × (writer.new ≡ writer.old) }
     // All that the reader had left is the source, and the writer took its picture and nothing else.
     ensures ok { OnOk result (IfSome (R.remaining reader.old.inner) (λ bytes.
         CallPictures (map string_bytes words.now) bytes
         (Appends (W.contents writer.old.inner) (W.contents writer.new.inner)))) }
-    ensures read_mark { IsTrue reader.new.failed ↔ (result ≡ Err Fault.Read) }
-    ensures write_mark { IsTrue writer.new.failed ↔ (result ≡ Err Fault.Write) }
+    ensures read_failed { IsTrue reader.new.failed ↔ (result ≡ Err Fault.Read) }
+    ensures write_failed { IsTrue writer.new.failed ↔ (result ≡ Err Fault.Write) }
     ensures others { OnErr result ((result ≡ Err Fault.Usage) ⊎ (result ≡ Err Fault.Memory) ⊎ (result ≡ Err Fault.Read)
         ⊎ (result ≡ Err Fault.Write)) }
 {

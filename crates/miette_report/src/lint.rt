@@ -144,16 +144,16 @@ pub fn write_findings<R: Read, W: Write>(
     reader: &mut Device<R>,
     writer: &mut Device<W>,
 ) -> Result<bool, Fault>
-    requires reader_unmarked { reader.old.failed ≡ false }
-    requires writer_unmarked { writer.old.failed ≡ false }
+    requires reader_sound { reader.old.failed ≡ false }
+    requires writer_sound { writer.old.failed ≡ false }
     ensures ok { IfOk result (λ clean. IfSome (R.remaining reader.old.inner) (λ bytes.
         Lints words.now.brief words.now.name.now words.now.width bytes clean
         (Appends (W.contents writer.old.inner) (W.contents writer.new.inner)))) }
     ensures others { OnErr result ((result ≡ Err Fault.Memory) ⊎ (result ≡ Err Fault.Read)
         ⊎ (result ≡ Err Fault.Write)) }
     ensures called { ¬ (result ≡ Err Fault.Usage) }
-    ensures read_mark { IsTrue reader.new.failed ↔ (result ≡ Err Fault.Read) }
-    ensures write_mark { IsTrue writer.new.failed ↔ (result ≡ Err Fault.Write) }
+    ensures read_failed { IsTrue reader.new.failed ↔ (result ≡ Err Fault.Read) }
+    ensures write_failed { IsTrue writer.new.failed ↔ (result ≡ Err Fault.Write) }
     // After a write fault a beginning of the text was taken.
     ensures beginning { (result ≡ Err Fault.Write) → IfSome (R.remaining reader.old.inner) (λ bytes.
         LintsText words.now.brief words.now.name.now words.now.width bytes
@@ -176,8 +176,8 @@ fn run<R: Read, W: Write>(
     reader: &mut Device<R>,
     writer: &mut Device<W>,
 ) -> Result<bool, Fault>
-    requires reader_unmarked { reader.old.failed ≡ false }
-    requires writer_unmarked { writer.old.failed ≡ false }
+    requires reader_sound { reader.old.failed ≡ false }
+    requires writer_sound { writer.old.failed ≡ false }
     ensures usage { (result ≡ Err Fault.Usage) ↔ IsNoLintCall (map string_bytes words.now) }
     ensures unread { (result ≡ Err Fault.Usage) → (reader.new ≡ reader.old) × (writer.new ≡ writer.old) }
     // All that the reader had left is the source, and the writer took the text for what is found in it and nothing
@@ -187,8 +187,8 @@ fn run<R: Read, W: Write>(
         (Appends (W.contents writer.old.inner) (W.contents writer.new.inner)))) }
     ensures clean { IfOk result (λ clean. IfSome (R.remaining reader.old.inner)
         (λ bytes. CallIsClean (map string_bytes words.now) bytes clean)) }
-    ensures read_mark { IsTrue reader.new.failed ↔ (result ≡ Err Fault.Read) }
-    ensures write_mark { IsTrue writer.new.failed ↔ (result ≡ Err Fault.Write) }
+    ensures read_failed { IsTrue reader.new.failed ↔ (result ≡ Err Fault.Read) }
+    ensures write_failed { IsTrue writer.new.failed ↔ (result ≡ Err Fault.Write) }
 {
     let Some(words) = LintWords::read(words) else {
         return Err(Fault::Usage);

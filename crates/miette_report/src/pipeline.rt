@@ -94,16 +94,16 @@ pub fn run<R: Read, W: Write>(
     writer: &mut Device<W>,
     settings: Arguments,
 ) -> Result<(), Fault>
-    requires reader_unmarked { reader.old.failed ≡ false }
-    requires writer_unmarked { writer.old.failed ≡ false }
+    requires reader_sound { reader.old.failed ≡ false }
+    requires writer_sound { writer.old.failed ≡ false }
     // All that the reader had left is a description, and the writer took its text and nothing else.
     ensures ok { OnOk result (IfSome (R.remaining reader.old.inner) (λ bytes.
         Writes ⟦<LanguageHighlighter as Highlighter>⟧.is_blank settings.choice settings.options settings.terminal bytes
         (Appends (W.contents writer.old.inner) (W.contents writer.new.inner)))) }
     ensures description { (result ≡ Err Fault.Description) → IfSome (R.remaining reader.old.inner) (λ bytes.
         IsUtf8 bytes → tree_for bytes ≡ None) }
-    ensures read_mark { IsTrue reader.new.failed ↔ (result ≡ Err Fault.Read) }
-    ensures write_mark { IsTrue writer.new.failed ↔ (result ≡ Err Fault.Write) }
+    ensures read_failed { IsTrue reader.new.failed ↔ (result ≡ Err Fault.Read) }
+    ensures write_failed { IsTrue writer.new.failed ↔ (result ≡ Err Fault.Write) }
     // Only a narrated or brief report is refused, and only where a label that it tells isn't accepted.
     ensures refused { (result ≡ Err Fault.Refused) →
         IsTelling settings.choice settings.options settings.terminal

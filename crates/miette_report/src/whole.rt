@@ -19,9 +19,9 @@ const CHUNK: usize = 16384;
 // What a chunk needs of the stack is given back before anything is made of what was read.
 #[inline(never)]
 pub fn read_whole<R: Read>(alloc: Global, reader: &mut Device<R>) -> Result<Vec<u8>, Fault>
-    requires unmarked { reader.old.failed ≡ false }
+    requires sound { reader.old.failed ≡ false }
     ensures bytes { IfOk result (λ all. IfSome (R.remaining reader.old.inner) (λ told. all.items ≡ told)) }
-    ensures mark { IsTrue reader.new.failed ↔ (result ≡ Err Fault.Read) }
+    ensures failed { IsTrue reader.new.failed ↔ (result ≡ Err Fault.Read) }
     ensures others { OnErr result ((result ≡ Err Fault.Read) ⊎ (result ≡ Err Fault.Memory)) }
 {
     let mut bytes = Vec::new(alloc);
@@ -41,10 +41,10 @@ pub fn read_whole<R: Read>(alloc: Global, reader: &mut Device<R>) -> Result<Vec<
 /// # Errors
 /// `Write`, exactly where a call of the writer failed, or took nothing. It has then taken a beginning of the bytes.
 pub fn write_whole<W: Write>(writer: &mut Device<W>, bytes: &[u8]) -> Result<(), Fault>
-    requires unmarked { writer.old.failed ≡ false }
+    requires sound { writer.old.failed ≡ false }
     ensures ok { OnOk result (Appends (W.contents writer.old.inner) (W.contents writer.new.inner) bytes.now) }
     ensures err { OnErr result (TakesBeginning (W.contents writer.old.inner) (W.contents writer.new.inner) bytes.now) }
-    ensures mark { IsTrue writer.new.failed ↔ IsErr result }
+    ensures failed { IsTrue writer.new.failed ↔ IsErr result }
     ensures fault { OnErr result (result ≡ Err Fault.Write) }
 {
     let mut rest = bytes;

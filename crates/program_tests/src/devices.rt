@@ -73,21 +73,21 @@ fn with_room(alloc: Global, (room, at_once, errs): (usize, usize, bool)) -> Limi
     }
 }
 
-/// How many bytes a device takes, if it answers no error, and whether it is marked then.
+/// How many bytes a device takes, if it answers no error, and whether it has failed then.
 fn write_to(device: &mut Device<Limited>, bytes: &[u8]) -> (Option<usize>, bool) {
     let answer = device.write(bytes).ok();
     (answer, device.has_failed())
 }
 
-/// How many bytes a device gives, if it answers no error, and whether it is marked then.
+/// How many bytes a device gives, if it answers no error, and whether it has failed then.
 fn read_from(device: &mut Device<Slow<'_>>) -> (Option<usize>, bool) {
     let mut buf = [0; 4];
     let answer = device.read(&mut buf).ok();
     (answer, device.has_failed())
 }
 
-/// A writer with room for two bytes is marked by what it doesn't take, and by nothing else.
-fn marks_a_writer(rt: &impl Abort, alloc: Global, errs: bool) {
+/// A writer with room for two bytes fails by what it doesn't take, and by nothing else.
+fn a_writer_fails(rt: &impl Abort, alloc: Global, errs: bool) {
     let mut device = Device::new(with_room(alloc, (2, 9, errs)));
     same(rt, write_to(&mut device, b"abc"), (Some(2), false));
     if !errs {
@@ -99,8 +99,8 @@ fn marks_a_writer(rt: &impl Abort, alloc: Global, errs: bool) {
     same(rt, taken.as_slice(), b"ab".as_slice());
 }
 
-/// A reader is marked by its error, and not by its end.
-fn marks_a_reader(rt: &impl Abort) {
+/// A reader fails by its error, and not by its end.
+fn a_reader_fails(rt: &impl Abort) {
     let mut device = Device::new(Slow {
         rest: b"a",
         fails_in: 2,
@@ -111,10 +111,10 @@ fn marks_a_reader(rt: &impl Abort) {
 }
 
 #[test]
-fn a_mark_is_set_by_a_fault_alone(rt: HostRuntime) {
-    marks_a_writer(&rt, rt.alloc(), false);
-    marks_a_writer(&rt, rt.alloc(), true);
-    marks_a_reader(&rt);
+fn a_device_fails_by_a_fault_alone(rt: HostRuntime) {
+    a_writer_fails(&rt, rt.alloc(), false);
+    a_writer_fails(&rt, rt.alloc(), true);
+    a_reader_fails(&rt);
 }
 
 /// Of three bytes a writer takes a beginning; where it isn't all, that is a fault.
@@ -271,8 +271,8 @@ fn json(alloc: Global) -> Result<Arguments, Fail> {
     }
 }
 
-/// A run over a writer with so much room is done, or marks the writer.
-fn is_done_or_marked(
+/// A run over a writer with so much room is done, or its writer has failed.
+fn is_done_or_failed(
     rt: &impl Abort,
     alloc: Global,
     settings: Arguments,
@@ -296,17 +296,17 @@ fn is_done_or_marked(
 }
 
 #[test]
-fn a_run_marks_a_writer_that_fails(rt: HostRuntime) -> Result<(), Fail> {
+fn a_run_knows_a_writer_that_failed(rt: HostRuntime) -> Result<(), Fail> {
     for room in 0..=SMALL_TEXT.len() {
         for errs in [false, true] {
-            is_done_or_marked(&rt, rt.alloc(), json(rt.alloc())?, (room, errs));
+            is_done_or_failed(&rt, rt.alloc(), json(rt.alloc())?, (room, errs));
         }
     }
     Ok(())
 }
 
-/// A run over a reader that fails marks it, and writes nothing.
-fn marks_the_reader(rt: &impl Abort, alloc: Global, settings: Arguments) {
+/// A run over a reader that fails writes nothing, and the reader has failed.
+fn fails_the_reader(rt: &impl Abort, alloc: Global, settings: Arguments) {
     let mut reader = Device::new(Slow {
         rest: SMALL.as_bytes(),
         fails_in: 1,
@@ -323,7 +323,7 @@ fn marks_the_reader(rt: &impl Abort, alloc: Global, settings: Arguments) {
 }
 
 #[test]
-fn a_run_marks_a_reader_that_fails(rt: HostRuntime) -> Result<(), Fail> {
-    marks_the_reader(&rt, rt.alloc(), json(rt.alloc())?);
+fn a_run_knows_a_reader_that_failed(rt: HostRuntime) -> Result<(), Fail> {
+    fails_the_reader(&rt, rt.alloc(), json(rt.alloc())?);
     Ok(())
 }

@@ -1,4 +1,4 @@
--- What a device's mark says of a call.
+-- What a device's failure says of a call.
 use Rattle.std.specs.Prelude.{◌≡◌, ℕ, ◌<◌, ◌⊎◌, List, ◌++◌, length, Some, None, IsErr, Option, Result, Ok}
 
 -- a write that failed, or that took nothing of a nonempty rest

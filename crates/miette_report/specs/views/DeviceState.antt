@@ -2,6 +2,6 @@
 use Rattle.std.specs.Prelude.{Bool}
 
 -- the reader or writer itself, and whether one of its calls failed
-pub record MarkedDevice (D : Type 0) : Type 0 where
+pub record DeviceState (D : Type 0) : Type 0 where
   pub inner : D
   pub failed : Bool
