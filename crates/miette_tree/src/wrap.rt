@@ -18,7 +18,7 @@ use std::fmt::Display;
 /// it is the report of an `AllocError`.
 pub trait WrapErr<T, D: Diagnostic, S: SourceCode>: Sized {
     /// The value, where it is there.
-    ghost given: { Self → Option T };
+    ghost value: { Self → Option T };
 
     /// What a text stands in front of, where the value is missing: the report of the error, or nothing.
     ghost stands_behind: { Self → Option (Report D S) → Type 0 };
@@ -27,16 +27,16 @@ pub trait WrapErr<T, D: Diagnostic, S: SourceCode>: Sized {
     fn wrap_err(self, alloc: Global, text: &str) -> Result<T, Report<D, S>>
     where
         Report<D, S>: UsualBoxes,
-        ensures given { IfSome (given self) (λ value. result ≡ Ok value) }
-        ensures missing { IsNone (given self) →
+        ensures value { IfSome (value self) (λ it. result ≡ Ok it) }
+        ensures missing { IsNone (value self) →
             IsErrAnd result (λ r. (below : _) × stands_behind self below × Tells D.meaning S.source text.now below r) };
 
     /// As `wrap_err`.
     fn context(self, alloc: Global, text: &str) -> Result<T, Report<D, S>>
     where
         Report<D, S>: UsualBoxes,
-        ensures given { IfSome (given self) (λ value. result ≡ Ok value) }
-        ensures missing { IsNone (given self) →
+        ensures value { IfSome (value self) (λ it. result ≡ Ok it) }
+        ensures missing { IsNone (value self) →
             IsErrAnd result (λ r. (below : _) × stands_behind self below × Tells D.meaning S.source text.now below r) };
 
     /// A message in front that is made only where it is needed, by at most one call.
@@ -48,9 +48,9 @@ pub trait WrapErr<T, D: Diagnostic, S: SourceCode>: Sized {
     where
         F: Drop,
         Report<D, S>: UsualBoxes,
-        requires { IsNone (given self) → F.IsAlwaysCallable make }
-        ensures given { IfSome (given self) (λ value. result ≡ Ok value) }
-        ensures missing { IsNone (given self) → IsErrAnd result (λ r. (below : _) × stands_behind self below
+        requires { IsNone (value self) → F.IsAlwaysCallable make }
+        ensures value { IfSome (value self) (λ it. result ≡ Ok it) }
+        ensures missing { IsNone (value self) → IsErrAnd result (λ r. (below : _) × stands_behind self below
             × ((made : _) × F.post make made × TellsMade D.meaning S.source made below r)) };
 
     /// As `wrap_err_with`.
@@ -62,9 +62,9 @@ pub trait WrapErr<T, D: Diagnostic, S: SourceCode>: Sized {
     where
         F: Drop,
         Report<D, S>: UsualBoxes,
-        requires { IsNone (given self) → F.IsAlwaysCallable make }
-        ensures given { IfSome (given self) (λ value. result ≡ Ok value) }
-        ensures missing { IsNone (given self) → IsErrAnd result (λ r. (below : _) × stands_behind self below
+        requires { IsNone (value self) → F.IsAlwaysCallable make }
+        ensures value { IfSome (value self) (λ it. result ≡ Ok it) }
+        ensures missing { IsNone (value self) → IsErrAnd result (λ r. (below : _) × stands_behind self below
             × ((made : _) × F.post make made × TellsMade D.meaning S.source made below r)) };
 }
 
@@ -120,7 +120,7 @@ fn report_under_by<
 }
 
 impl<T, D: Diagnostic, S: SourceCode> WrapErr<T, D, S> for Option<T> {
-    ghost given = { λ option. option };
+    ghost value = { λ option. option };
 
     ghost stands_behind = { λ _ below. below ≡ None };
 
@@ -170,7 +170,7 @@ impl<T, D: Diagnostic, S: SourceCode> WrapErr<T, D, S> for Option<T> {
 }
 
 impl<T, D: Diagnostic, S: SourceCode, E: Into<Report<D, S>>> WrapErr<T, D, S> for Result<T, E> {
-    ghost given = { result_ok };
+    ghost value = { result_ok };
 
     ghost stands_behind = { λ outcome below. IfErr outcome
         (λ error. (report : _) × E.converts error report × (below ≡ Some report)) };
@@ -223,25 +223,25 @@ impl<T, D: Diagnostic, S: SourceCode, E: Into<Report<D, S>>> WrapErr<T, D, S> fo
 /// A result whose error prints becomes one whose error is a report.
 pub trait IntoDiagnostic<T, D: Diagnostic, S: SourceCode>: Sized {
     /// The value, where it is there.
-    ghost given: { Self → Option T };
+    ghost value: { Self → Option T };
 
     /// What the error prints, where its type states it.
-    ghost printed: { Self → Option (List ℕ) };
+    ghost error_text: { Self → Option (List ℕ) };
 
     /// Keeps the error's printed text alone, as the message of a report. Where memory is refused, the
     /// error is the report of an `AllocError`.
     fn into_diagnostic(self, alloc: Global) -> Result<T, Report<D, S>>
     where
         Report<D, S>: UsualBoxes,
-        ensures given { IfSome (given self) (λ value. result ≡ Ok value) }
-        ensures missing { IsNone (given self) →
-            IsErrAnd result (λ r. Prints D.meaning S.source (printed self) r ⊎ IsRefused D.meaning S.source r) };
+        ensures value { IfSome (value self) (λ it. result ≡ Ok it) }
+        ensures missing { IsNone (value self) →
+            IsErrAnd result (λ r. Prints D.meaning S.source (error_text self) r ⊎ IsRefused D.meaning S.source r) };
 }
 
 impl<T, D: Diagnostic, S: SourceCode, E: Display + Drop> IntoDiagnostic<T, D, S> for Result<T, E> {
-    ghost given = { result_ok };
+    ghost value = { result_ok };
 
-    ghost printed = { λ outcome. option_and_then E.output (result_err outcome) };
+    ghost error_text = { λ outcome. option_and_then E.output (result_err outcome) };
 
     fn into_diagnostic(self, alloc: Global) -> Result<T, Report<D, S>>
     where
