@@ -41,13 +41,17 @@ fn run<R: Env + Print + AllocGlobal>(rt: &R) -> Result<()> {
     }
 }
 
-/// The reason as a message, and a label where it lies. With a line feed behind the text a label behind its last word is
-/// shown: one at the very end of a source isn't.
+/// The reason as a message, and a label where it lies.
 fn report_of(alloc: Global, text: &str, fault: Fault) -> Result<Report, AllocError> {
     let label = LabeledSpan::at(alloc, (fault.start, fault.length), "here")?;
     let diagnostic = diagnostic!(in alloc; "{}", fault.reason)?.with_label(alloc, label)?;
-    let source = OwnedSource::new(alloc, format!(in alloc; "{text}\n")?.into_bytes())?;
-    Ok(Report::new(diagnostic).with_owned_source(source))
+    Ok(Report::new(diagnostic).with_owned_source(source_of(alloc, text)?))
+}
+
+/// The text with a line feed behind it, so that a label behind its last word is shown: one at the very end of a source
+/// isn't.
+fn source_of(alloc: Global, text: &str) -> Result<OwnedSource, AllocError> {
+    OwnedSource::new(alloc, format!(in alloc; "{text}\n")?.into_bytes())
 }
 
 /// Lines in one colour.

@@ -77,13 +77,16 @@ fn bad_port(alloc: Global, text: &str, table: &Table) -> Result<Report> {
     let mut warnings = Vec::new(alloc);
     for key in table.keys() {
         if !is_known(key.as_str()) {
-            let labels = label_on(alloc, line_of(text, key.as_str()), "this key isn't known")?;
-            warnings.push(
-                miette!(in alloc; severity = Severity::Warning, labels = labels, "nothing reads `{key}`"),
-            )?;
+            warnings.push(unread_key(alloc, text, key.as_str())?)?;
         }
     }
     Ok(fault.with_related(warnings))
+}
+
+/// A warning that nothing reads this key.
+fn unread_key(alloc: Global, text: &str, key: &str) -> Result<Report> {
+    let labels = label_on(alloc, line_of(text, key), "this key isn't known")?;
+    Ok(miette!(in alloc; severity = Severity::Warning, labels = labels, "nothing reads `{key}`"))
 }
 
 /// A label on a line, where there is one.
