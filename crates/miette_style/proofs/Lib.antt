@@ -1,3 +1,4 @@
 pub mod CodeLists
 pub mod Equality
 pub mod Icons
+pub mod MadeThemes
