@@ -20,8 +20,8 @@ use miette_tree::parts::severity_title;
 use miette_tree::report::Report;
 use std::alloc::{AllocError, Global};
 
-/// Appends a report's header, and says whether there is one.
-pub fn push_header_of<D: Diagnostic, S: SourceCode>(
+// Appends a report's header, and says whether there is one.
+fn push_header_of<D: Diagnostic, S: SourceCode>(
     settings: Settings<'_>,
     report: &Report<D, S>,
     out: &mut Output,
@@ -40,8 +40,8 @@ pub fn push_header_of<D: Diagnostic, S: SourceCode>(
     )
 }
 
-/// Appends a report's message behind its icon.
-pub fn push_message_of<D: Diagnostic, S: SourceCode>(
+// Appends a report's message behind its icon.
+fn push_message_of<D: Diagnostic, S: SourceCode>(
     alloc: Global,
     settings: Settings<'_>,
     report: &Report<D, S>,
@@ -61,8 +61,23 @@ fn push_severity_title(severity: Option<Severity>, out: &mut Output) -> Result<(
     Ok(())
 }
 
-/// Appends what a sibling begins with: its severity, and its header or else the end of the row.
-pub fn push_title<D: Diagnostic, S: SourceCode>(
+/// Appends a report's header, where there is one, and its message.
+pub fn push_start<D: Diagnostic, S: SourceCode>(
+    alloc: Global,
+    settings: Settings<'_>,
+    report: &Report<D, S>,
+    out: &mut Output,
+) -> Result<(), AllocError>
+    ensures { OnOk result (out.new ≡ (out.old ++ runs.print (parts.header (settings_of settings.entry)
+        (head (tree_of D.meaning S.source report.now)))) ++ parts.message_text (settings_of settings.entry)
+        (head (tree_of D.meaning S.source report.now))) }
+{
+    push_header_of(settings, report, out)?;
+    push_message_of(alloc, settings, report, out)
+}
+
+// Appends what a sibling begins with: its severity, and its header or else the end of the row.
+fn push_title<D: Diagnostic, S: SourceCode>(
     settings: Settings<'_>,
     report: &Report<D, S>,
     out: &mut Output,
@@ -76,6 +91,21 @@ pub fn push_title<D: Diagnostic, S: SourceCode>(
         out.push('\n')?;
     }
     Ok(())
+}
+
+/// Appends what a sibling begins with, and its message.
+pub fn push_sibling_start<D: Diagnostic, S: SourceCode>(
+    alloc: Global,
+    settings: Settings<'_>,
+    report: &Report<D, S>,
+    out: &mut Output,
+) -> Result<(), AllocError>
+    ensures { OnOk result (out.new ≡ (out.old ++ parts.title_text (settings_of settings.entry)
+        (head (tree_of D.meaning S.source report.now))) ++ parts.message_text (settings_of settings.entry)
+        (head (tree_of D.meaning S.source report.now))) }
+{
+    push_title(settings, report, out)?;
+    push_message_of(alloc, settings, report, out)
 }
 
 /// Whether there is no text.

@@ -61,6 +61,20 @@ fn push_wrapped(
     out.push('\n')
 }
 
+// Appends a text of characters, wrapped, and a line feed.
+fn push_wrapped_text(
+    alloc: Global,
+    plan: Plan<'_>,
+    text: &str,
+    out: &mut Output,
+) -> Result<(), AllocError>
+    ensures { OnOk result (out.new ≡ out.old ++ (wrapped_text (printed_plan plan.entry) (chars text.now)
+        ++ parts.line_feed)) }
+{
+    let text = read_text(alloc, text)?;
+    push_wrapped(alloc, plan, &text, out)
+}
+
 // Appends a text behind an indent, and a line feed, where both stand in one row as they are; says whether.
 fn push_row(
     settings: Settings<'_>,
@@ -201,8 +215,7 @@ pub fn push_text_under_arrow(
         return Ok(());
     }
     let further = stem_indent(alloc, settings, branch)?;
-    let text = read_text(alloc, text)?;
-    push_wrapped(alloc, plan(settings, &first, &further), &text, out)
+    push_wrapped_text(alloc, plan(settings, &first, &further), text, out)
 }
 
 /// Appends a message behind its icon.
@@ -222,8 +235,7 @@ pub fn push_message(
         return Ok(());
     }
     let further = bar_indent(alloc, settings, severity)?;
-    let message = read_text(alloc, message)?;
-    push_wrapped(alloc, plan(settings, &first, &further), &message, out)
+    push_wrapped_text(alloc, plan(settings, &first, &further), message, out)
 }
 
 // `  help: `
@@ -262,8 +274,7 @@ pub fn push_help(
         return Ok(());
     }
     let further = blank_indent(alloc, &[' '; 8])?;
-    let help = read_text(alloc, help)?;
-    push_wrapped(alloc, plan(settings, &first, &further), &help, out)
+    push_wrapped_text(alloc, plan(settings, &first, &further), help, out)
 }
 
 /// Appends a blank row and the footer, where there is one.
@@ -282,6 +293,5 @@ pub fn push_footer(
     if push_row(settings, &indent, footer, out)? {
         return Ok(());
     }
-    let footer = read_text(alloc, footer)?;
-    push_wrapped(alloc, plan(settings, &indent, &indent), &footer, out)
+    push_wrapped_text(alloc, plan(settings, &indent, &indent), footer, out)
 }

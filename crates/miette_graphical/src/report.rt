@@ -17,9 +17,10 @@ ghost use Rattle.miette_tree.specs.views.Report.{tree_of};
 ghost use Rattle.miette_tree.specs.rules.Tree.{cause_of, effective, head, source_of, trees};
 ghost use Rattle.miette_tree.specs.rules.DiagnosticParts.{given_labels};
 ghost use Rattle.miette_tree.specs.rules.Reads.{always_reads};
+ghost use Rattle.miette_runs.specs.rules.Cutting.{without_leading};
 ghost use Rattle.miette_runs.specs.rules.Sequences.{spell};
 
-use crate::diagnostic::{is_nil, push_cause_texts, push_header_of, push_message_of, push_title};
+use crate::diagnostic::{is_nil, push_cause_texts, push_sibling_start, push_start};
 use crate::indents::{Branch, push_help, push_under_arrow, settings_under};
 use crate::pen::Pen;
 use crate::settings::Settings;
@@ -35,6 +36,7 @@ use miette_text::runs::output::Output;
 use miette_text::wrap::cutting::{without_leading, without_trailing};
 use miette_tree::parts::{cause_texts, labels_of, own_or};
 use miette_tree::report::{Cause, Report, SourceRef};
+use std::alloc::{AllocError, Global};
 use std::mem;
 
 /// Appends the text of the rows of a diagnostic's snippets, over its effective source.
@@ -198,6 +200,13 @@ fn push_one_cause<D: Diagnostic, S: SourceCode, H: Highlighter>(
     Ok(())
 }
 
+// The runs of a text without the line feeds in front.
+fn runs_without_leading(alloc: Global, text: Output) -> Result<Runs, AllocError>
+    ensures { IfOk result (λ r. spell r ≡ without_leading text) }
+{
+    without_leading(alloc, text.into_runs(alloc)?)
+}
+
 /// A report that stands in another one, over its effective source.
 #[cycle(report)]
 fn inner_text<D: Diagnostic, S: SourceCode, H: Highlighter>(
@@ -217,11 +226,9 @@ fn inner_text<D: Diagnostic, S: SourceCode, H: Highlighter>(
     ensures stays { leaves_plain H.is_blank pen.new.highlighter ≡ leaves_plain H.is_blank pen.old.highlighter }
 {
     let mut text = Output::for_runs(pen.alloc);
-    push_header_of(settings, report, &mut text)?;
-    push_message_of(pen.alloc, settings, report, &mut text)?;
+    push_start(pen.alloc, settings, report, &mut text)?;
     push_below(pen, settings, source, report, &mut text)?;
-    let runs = text.into_runs(pen.alloc)?;
-    Ok(without_leading(pen.alloc, runs)?)
+    Ok(runs_without_leading(pen.alloc, text)?)
 }
 
 /// Appends what stands below a report's causes, over its effective source: the rows of its snippets, its help, and
@@ -270,8 +277,7 @@ fn push_sibling<D: Diagnostic, S: SourceCode, H: Highlighter>(
         (tree_of D.meaning S.source report.now)) ≡ false }
     ensures stays { leaves_plain H.is_blank pen.new.highlighter ≡ leaves_plain H.is_blank pen.old.highlighter }
 {
-    push_title(settings, report, out)?;
-    push_message_of(pen.alloc, settings, report, out)?;
+    push_sibling_start(pen.alloc, settings, report, out)?;
     push_causes(pen, settings, report.severity(), source, report, out)?;
     push_below(pen, settings, source, report, out)?;
     Ok(())

@@ -1,5 +1,6 @@
 use Rattle.std.proofs.Common.{◌≡◌, ◌≤◌, ◌<◌, suc, sym, ◌++◌, ◌-◌, length, take, drop, get_or, ap, ◌∙◌, subst, map, option_map, false, refl, string_bytes, arith, rules, List}
 use Rattle.miette_runs.specs.rules.Cutting.{without_leading, without_trailing}
+use Rattle.miette_runs.specs.rules.Runs.{print}
 use Rattle.miette_runs.specs.rules.Sequences.{spell}
 use Rattle.miette_tree.specs.rules.Tree.{effective, head, texts, trees, cause_of, related_of, source_of}
 use Rattle.miette_tree.specs.views.Report.{tree_of}
@@ -12,7 +13,7 @@ use Rattle.miette_tree.proofs.Nesting.{texts_shown}
 use Rattle.miette_graphical.specs.rules.PrintedDiagnostics.{all_read, printed_causes, printed_related}
 use Rattle.miette_graphical.specs.rules.Snippets.{drawn_rows}
 use Rattle.miette_graphical.specs.rules.Indents.{narrow_settings}
-use Rattle.miette_graphical.specs.rules.DiagnosticText.{help_text, under_arrow}
+use Rattle.miette_graphical.specs.rules.DiagnosticText.{header, help_text, title_text, under_arrow}
 use Rattle.miette_graphical.specs.rules.Text.{are_last, ends_there}
 use Rattle.miette_graphical.specs.steps.SettingsView.{settings_of}
 use Rattle.miette_graphical.proofs.Remaining.{CausesRemain, RelatedRemain, all_remain, cause_printed, causes_appended, related_printed, related_appended, first_falls}
@@ -106,8 +107,8 @@ inner_text-returns-clause-ok g t c =
     let s = settings_of c.args.settings in
     let source = option_map (shown_source g.S.SourceCode.source) c.args.source in
     let value = tree_of g.D.Diagnostic.meaning g.S.SourceCode.source c.args.report.now in
-    inner_whole drawn_rows s blank (AreCallsOn g.H.Highlighter.may_follow c.args.pen.now.highlighter c.push_below.new.pen.highlighter) source value c.for_runs-text.result c.push_header_of.new.out c.push_message_of.new.out c.push_below.new.out (spell c.in_ok-without_leading.field-0)
-    c.for_runs-text.ensures c.in_ok-push_header_of.ensures.text c.in_ok-push_message_of.ensures c.in_ok-push_below.ensures.ok (c.in_ok-without_leading.ensures ∙ ap without_leading c.in_ok-runs.ensures)
+    inner_whole drawn_rows s blank (AreCallsOn g.H.Highlighter.may_follow c.args.pen.now.highlighter c.push_below.new.pen.highlighter) source value c.for_runs-text.result (c.for_runs-text.result ++ print (header s (head value))) c.push_start.new.out c.push_below.new.out (spell c.in_ok-runs_without_leading.field-0)
+    c.for_runs-text.ensures refl c.in_ok-push_start.ensures c.in_ok-push_below.ensures.ok c.in_ok-runs_without_leading.ensures
 
 pub push_below-returns-in_err-push_rows-clause-refused : goal.push_below-returns-in_err-push_rows-clause-refused
 push_below-returns-in_err-push_rows-clause-refused g t c = λ h.
@@ -160,15 +161,15 @@ push_sibling-returns-clause-ok g t c =
     let s = settings_of c.args.settings in
     let source = option_map (shown_source g.S.SourceCode.source) c.args.source in
     let value = tree_of g.D.Diagnostic.meaning g.S.SourceCode.source c.args.report.now in
-    let titled = c.push_title.new.out in
-    let told = c.push_message_of.new.out in
+    let titled = c.args.out.now ++ title_text s (head value) in
+    let told = c.push_sibling_start.new.out in
     let caused = c.push_causes.new.out in
     let new = c.push_below.new.out in
     let causes : AppendsOne (AreCauses drawn_rows s blank (λ calls. Leads begun calls mid) (head value).severity source (cause_of value)) told caused =
     subst (λ v. AppendsOne (AreCauses drawn_rows s blank (λ calls. Leads begun calls mid) v source (cause_of value)) told caused) c.severity.ensures c.in_ok-push_causes.ensures.ok in
     let below : AppendsOne (IsBelow drawn_rows s blank (λ calls. Leads mid calls now) source value) caused new =
     subst (λ b. AppendsOne (IsBelow drawn_rows s b (λ calls. Leads mid calls now) source value) caused new) c.push_causes.ensures.stays c.in_ok-push_below.ensures.ok in
-    sibling_behind drawn_rows s blank begun mid now source value c.args.out.now titled told caused new c.in_ok-push_title.ensures c.in_ok-push_message_of.ensures causes below
+    sibling_behind drawn_rows s blank begun mid now source value c.args.out.now titled told caused new refl c.in_ok-push_sibling_start.ensures causes below
 
 pub push_nested-returns-clause-ok : goal.push_nested-returns-clause-ok
 push_nested-returns-clause-ok g t c =
