@@ -14,11 +14,12 @@ use Rattle.unicode_width.specs.declared.state.After.TheVariants as afters
 use Rattle.unicode_width.specs.declared.state.State.{State}
 use Rattle.unicode_width.specs.Kind.{kind, is_text_presentation_base}
 use Rattle.unicode_width.specs.Width.{before, plain, of_kind, single, alone, joins, Reading, added, is_plain, past_selectors, in_context, past_emoji, step, read_before, str_width}
-use Rattle.unicode_width.proofs.KindLemmas.{kind_stepped, is_text_presentation_base_stepped}
+use Rattle.unicode_width.proofs.KindLemmas.{is_text_presentation_base_stepped}
 use Rattle.unicode_width.proofs.Computing.{unicode_width}
 use Rattle.miette_lines.specs.views.GivenLabels.{width_of}
 use Rattle.miette_lines.proofs.Numbers.{by_cases}
 use Rattle.miette_narrated.specs.steps.Trails.{is_faint}
+use Rattle.miette_narrated.proofs.KindTests.{kind_test_stepped}
 use Rattle.miette_narrated.proofs.Lone.{read_append}
 use Rattle.miette_narrated.proofs.PartedTexts.{width_high}
 
@@ -109,15 +110,15 @@ unfolding alone
 of_faint_kind c h = kind_faint c (kind c) (ap (λ n. n == 0) (faint_alone c h))
 
 abbrev unlike : (p : ℕ → Bool) → Stepped p → Bool
-unfolding unicode_width
+unfolding unicode_width kind_test_stepped
 unlike p s =
-    let both = zip_stepped (λ k b. not (is_faint_kind k && b)) kind p kind_stepped s in
+    let both = zip_stepped (λ f b. not (f && b)) (λ c. is_faint_kind (kind c)) p (kind_test_stepped is_faint_kind refl refl) s in
     always _ both && (ends_by 0x11_0000 both.steps && both.default)
 
 faint_not : (p : ℕ → Bool) (s : Stepped p) → unlike p s ≡ true → (c : ℕ) → is_faint_kind (kind c) ≡ true → p c ≡ false
-unfolding unicode_width
+unfolding unicode_width kind_test_stepped
 faint_not p s ok c h =
-    let both = zip_stepped (λ k b. not (is_faint_kind k && b)) kind p kind_stepped s in
+    let both = zip_stepped (λ f b. not (f && b)) (λ c. is_faint_kind (kind c)) p (kind_test_stepped is_faint_kind refl refl) s in
     not-true (p c) (subst (λ a. not (a && p c) ≡ true) h (Stepped-everywhere _ both ok c))
 
 -- what a selector changes, and the quotation marks
@@ -140,7 +141,7 @@ selected_stepped = zip_stepped (λ a b. a || b) is_emoji_variation_base is_prese
 
 -- one walk over the table of kinds for all of them
 not_selected : (c : ℕ) → is_faint_kind (kind c) ≡ true → is_selected c ≡ false
-unfolding unicode_width
+unfolding unicode_width kind_test_stepped
 not_selected = faint_not is_selected selected_stepped refl
 
 no_variation : (c : ℕ) → is_faint_kind (kind c) ≡ true → is_emoji_variation_base c ≡ false

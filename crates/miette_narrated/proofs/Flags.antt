@@ -21,12 +21,13 @@ use Rattle.unicode_width.specs.declared.state.State.{State}
 use Rattle.unicode_width.specs.declared.state.Change.{Change}
 use Rattle.unicode_width.specs.Kind.{kind, is_ligature_transparent, is_text_presentation_base}
 use Rattle.unicode_width.specs.Width.{before, plain, is_indicator, is_nothing, is_joined_emoji, of_kind, alone, before_alef, is_lam, joins, joined_or, Reading, if_kept, skips_marks, is_plain, past_selectors, in_context, past_emoji, step, read_before, str_width}
-use Rattle.unicode_width.proofs.KindLemmas.{kind_stepped, is_ligature_transparent_stepped, is_text_presentation_base_stepped}
+use Rattle.unicode_width.proofs.KindLemmas.{is_ligature_transparent_stepped, is_text_presentation_base_stepped}
 use Rattle.unicode_width.proofs.Computing.{unicode_width}
 use Rattle.miette_narrated.specs.declared.overlap.Overlap.{Overlap}
 use Rattle.miette_narrated.specs.declared.overlap.Overlap.TheVariants.{Nothing, One, Selected}
 use Rattle.miette_narrated.specs.steps.Parting.{may_part_flags}
 use Rattle.miette_narrated.specs.steps.Places.{overlap_text, IsHeld}
+use Rattle.miette_narrated.proofs.KindTests.{kind_test_stepped}
 use Rattle.miette_narrated.proofs.Lone.{read_append, shifted, or_false}
 
 -- ---- what an indicator is not
@@ -75,8 +76,8 @@ is_other_kind kinds.RegionalIndicator = false
 is_other_kind _ = true
 
 no_other : (c : ℕ) → is_indicator c ≡ true → is_other_kind (kind c) ≡ false
-unfolding unicode_width
-no_other = indicator_not (λ c. is_other_kind (kind c)) (map_stepped is_other_kind kind kind_stepped) refl
+unfolding unicode_width kind_test_stepped
+no_other = indicator_not (λ c. is_other_kind (kind c)) (kind_test_stepped is_other_kind refl refl) refl
 
 own_kind : (c : ℕ) (k : Kind) → is_other_kind k ≡ false → of_kind false c k ≡ (1, before afters.RegionalIndicator)
 own_kind c kinds.Zero e = absurd (true≢false e)

@@ -20,9 +20,10 @@ use Rattle.unicode_width.specs.declared.state.State.{State}
 use Rattle.unicode_width.specs.declared.state.Change.TheVariants.{Same}
 use Rattle.unicode_width.specs.Kind.{kind, is_ligature_transparent}
 use Rattle.unicode_width.specs.Width.{before, of_kind, alone, before_alef, is_lam, is_emoji, joins, step}
-use Rattle.unicode_width.proofs.KindLemmas.{kind_stepped, is_ligature_transparent_stepped}
+use Rattle.unicode_width.proofs.KindLemmas.{is_ligature_transparent_stepped}
 use Rattle.unicode_width.proofs.Computing.{unicode_width}
 use Rattle.miette_narrated.specs.steps.Parting.{is_keeping}
+use Rattle.miette_narrated.proofs.KindTests.{kind_test_stepped}
 use Rattle.miette_narrated.proofs.Lone.{or_false, or_turn}
 use Rattle.miette_narrated.proofs.Opening.{tones, tone_kinds, is_modifier, is_tone, IsOpen}
 use Rattle.miette_narrated.proofs.Overlaps.{JoinsOwn, either, IsApart, step_apart}
@@ -61,8 +62,8 @@ unfolding unicode_width
 no_mark = keeping_not (λ c. joining_type_eq (joining_type c) Transparent) (map_stepped (λ g. joining_type_eq g Transparent) joining_type joining_type_stepped) refl
 
 no_emoji : (c : ℕ) → is_keeping c ≡ true → is_emoji (kind c) ≡ false
-unfolding unicode_width
-no_emoji = keeping_not (λ c. is_emoji (kind c)) (map_stepped is_emoji kind kind_stepped) refl
+unfolding unicode_width kind_test_stepped
+no_emoji = keeping_not (λ c. is_emoji (kind c)) (kind_test_stepped is_emoji refl refl) refl
 
 no_one : (c k : ℕ) → is_keeping k ≡ false → is_keeping c ≡ true → (c == k) ≡ false
 no_one c k n h = ne_eqb c k (λ e. absurd (true≢false (sym h ∙ ap is_keeping e ∙ n)))

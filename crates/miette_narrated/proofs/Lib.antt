@@ -1,5 +1,6 @@
 pub mod Putting
 pub mod Columning
+pub mod KindTests
 pub mod Lone
 pub mod PartedTexts
 pub mod Opening

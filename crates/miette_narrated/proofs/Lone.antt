@@ -20,10 +20,11 @@ use Rattle.unicode_width.specs.declared.state.After.TheVariants as afters
 use Rattle.unicode_width.specs.declared.state.State.{State}
 use Rattle.unicode_width.specs.Kind.{kind, is_ligature_transparent, is_text_presentation_base}
 use Rattle.unicode_width.specs.Width.{before, plain, is_joined_emoji, of_kind, alone, before_alef, is_lam, is_emoji, joins, Reading, added, if_kept, skips_marks, is_plain, past_selectors, in_context, past_emoji, step, read_before, str_width}
-use Rattle.unicode_width.proofs.KindLemmas.{kind_stepped, is_ligature_transparent_stepped, is_text_presentation_base_stepped}
+use Rattle.unicode_width.proofs.KindLemmas.{is_ligature_transparent_stepped, is_text_presentation_base_stepped}
 use Rattle.unicode_width.proofs.Computing.{unicode_width}
 use Rattle.unicode_width.proofs.Rules.{is_simple, str_width-append_simple}
 use Rattle.miette_narrated.specs.steps.Parting.{is_lone}
+use Rattle.miette_narrated.proofs.KindTests.{kind_test_stepped}
 
 -- ---- what such a character is not
 
@@ -85,8 +86,8 @@ is_other_kind kinds.KhmerLetter = false
 is_other_kind _ = true
 
 no_other : (c : ℕ) → is_lone c ≡ true → is_other_kind (kind c) ≡ false
-unfolding unicode_width
-no_other = lone_not (λ c. is_other_kind (kind c)) (map_stepped is_other_kind kind kind_stepped) refl
+unfolding unicode_width kind_test_stepped
+no_other = lone_not (λ c. is_other_kind (kind c)) (kind_test_stepped is_other_kind refl refl) refl
 
 no_tifinagh : (c : ℕ) → is_lone c ≡ true → is_in_range 0x2D31 0x2D65 c ≡ false
 unfolding unicode_width

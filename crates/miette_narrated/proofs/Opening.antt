@@ -18,9 +18,9 @@ use Rattle.unicode_width.specs.declared.state.Change.{Change}
 use Rattle.unicode_width.specs.declared.state.Change.TheVariants.{Less, Same, One, Three}
 use Rattle.unicode_width.specs.Kind.{kind, is_ligature_transparent, is_text_presentation_base}
 use Rattle.unicode_width.specs.Width.{before, plain, single, is_quote, is_line_feed, is_joined_emoji, is_indicator, is_tag_letter, is_tag_digit, is_tifinagh, is_lam, is_emoji, of_kind, alone, before_alef, joins, first_of, joined_or, Reading, added, if_kept, skips_marks, with_joiner, is_plain, past_selectors, in_context, past_emoji, step}
-use Rattle.unicode_width.proofs.KindLemmas.{kind_stepped}
 use Rattle.unicode_width.proofs.Computing.{unicode_width}
 use Rattle.miette_narrated.specs.steps.Parting.{opens}
+use Rattle.miette_narrated.proofs.KindTests.{kind_test_stepped}
 use Rattle.miette_narrated.proofs.Lone.{or_false}
 
 -- ---- a state that selects and modifies nothing
@@ -63,9 +63,9 @@ is_tone _ = false
 
 -- one walk over the table of kinds: whose kind is that of a skin tone is one, and the other way round
 pub tone_kinds : (c : ℕ) → ((in_ranges tones c || not (is_tone (kind c))) && (not (in_ranges tones c) || is_tone (kind c))) ≡ true
-unfolding unicode_width
+unfolding unicode_width kind_test_stepped
 tone_kinds =
-    let both = zip_stepped (λ k b. (b || not (is_tone k)) && (not b || is_tone k)) kind (in_ranges tones) kind_stepped (of_ranges tones refl) in
+    let both = zip_stepped (λ t b. (b || not t) && (not b || t)) (λ c. is_tone (kind c)) (in_ranges tones) (kind_test_stepped is_tone refl refl) (of_ranges tones refl) in
     Stepped-everywhere _ both refl
 
 no_tone : (c : ℕ) → opens c ≡ true → is_tone (kind c) ≡ false

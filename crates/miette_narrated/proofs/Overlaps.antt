@@ -18,24 +18,24 @@ use Rattle.unicode_width.specs.declared.state.Change.{Change}
 use Rattle.unicode_width.specs.declared.state.Change.TheVariants.{Less, Same}
 use Rattle.unicode_width.specs.Kind.{kind, is_ligature_transparent}
 use Rattle.unicode_width.specs.Width.{before, plain, is_line_feed, of_kind, alone, before_alef, is_lam, is_emoji, joins, first_of, joined_or, Reading, added, skips_marks, is_plain, past_selectors, in_context, past_emoji, step}
-use Rattle.unicode_width.proofs.KindLemmas.{kind_stepped}
 use Rattle.unicode_width.proofs.Computing.{unicode_width}
 use Rattle.miette_narrated.specs.steps.Parting.{is_joining, is_closing}
+use Rattle.miette_narrated.proofs.KindTests.{kind_test_stepped}
 use Rattle.miette_narrated.proofs.Opening.{is_modifier, IsOpen}
 use Rattle.miette_narrated.proofs.PartedTexts.{is_mild_kind, mild, unlisted, no_transparent, no_indicator, no_modifier, no_tag_letter, no_tag_digit, no_joiner, no_keycap, no_tag_end, no_vowel, no_selector, own_width, unligated, low_parts}
 
 -- ---- letters that join others are no emoji
 
 abbrev unemoji : (p : ℕ → Bool) → Stepped p → Bool
-unfolding unicode_width
+unfolding unicode_width kind_test_stepped
 unemoji p s =
-    let both = zip_stepped (λ k b. not (b && is_emoji k)) kind p kind_stepped s in
+    let both = zip_stepped (λ e b. not (b && e)) (λ c. is_emoji (kind c)) p (kind_test_stepped is_emoji refl refl) s in
     always _ both && (ends_by 0x11_0000 both.steps && both.default)
 
 emoji_not : (p : ℕ → Bool) (s : Stepped p) → unemoji p s ≡ true → (c : ℕ) → p c ≡ true → is_emoji (kind c) ≡ false
-unfolding unicode_width
+unfolding unicode_width kind_test_stepped
 emoji_not p s ok c h =
-    let both = zip_stepped (λ k b. not (b && is_emoji k)) kind p kind_stepped s in
+    let both = zip_stepped (λ e b. not (b && e)) (λ c. is_emoji (kind c)) p (kind_test_stepped is_emoji refl refl) s in
     not-true (is_emoji (kind c)) (subst (λ a. not (a && is_emoji (kind c)) ≡ true) h (Stepped-everywhere _ both ok c))
 
 -- Tifinagh and Lisu letters, and those that are lams
@@ -53,7 +53,7 @@ letter_stepped =
 
 -- one walk over the table of kinds for all of them
 letter_plain : (c : ℕ) → is_letter c ≡ true → is_emoji (kind c) ≡ false
-unfolding unicode_width
+unfolding unicode_width kind_test_stepped
 letter_plain = emoji_not is_letter letter_stepped refl
 
 lam_plain : (c : ℕ) → is_lam c ≡ true → is_emoji (kind c) ≡ false

@@ -16,11 +16,12 @@ use Rattle.unicode_width.specs.declared.state.Change.{Change}
 use Rattle.unicode_width.specs.declared.state.Change.TheVariants.{Less, Same}
 use Rattle.unicode_width.specs.Kind.{kind, is_ligature_transparent, is_text_presentation_base}
 use Rattle.unicode_width.specs.Width.{before, plain, is_joined_emoji, is_line_feed, is_quote, of_kind, alone, char_width, before_alef, is_lam, is_emoji, joins, first_of, joined_or, Reading, added, if_kept, skips_marks, is_plain, past_selectors, in_context, past_emoji, step, read_before, str_width}
-use Rattle.unicode_width.proofs.KindLemmas.{kind_stepped, is_ligature_transparent_stepped}
+use Rattle.unicode_width.proofs.KindLemmas.{is_ligature_transparent_stepped}
 use Rattle.unicode_width.proofs.Computing.{unicode_width}
 use Rattle.miette_lines.specs.views.GivenLabels.{width_of}
 use Rattle.miette_lines.proofs.Numbers.{by_cases}
 use Rattle.miette_narrated.specs.steps.Parting.{is_lone, is_joining, is_closing, may_part}
+use Rattle.miette_narrated.proofs.KindTests.{kind_test_stepped}
 use Rattle.miette_narrated.proofs.Lone.{adds_up, shifted, read_append, or_false, or_turn}
 
 -- ---- after an emoji only a joiner is read otherwise than after nothing
@@ -91,9 +92,9 @@ joining_ranged c = or_false (is_joining c) ∙ simp or_turn
 
 -- such a kind has only characters that are listed
 odd_listed : (c : ℕ) → is_joining c ≡ false → is_odd_kind (kind c) ≡ false
-unfolding unicode_width
+unfolding unicode_width kind_test_stepped
 odd_listed c h =
-    let both = zip_stepped (λ k j. j || not (is_odd_kind k)) kind (in_ranges joining_ranges) kind_stepped (of_ranges joining_ranges refl) in
+    let both = zip_stepped (λ o j. j || not o) (λ c. is_odd_kind (kind c)) (in_ranges joining_ranges) (kind_test_stepped is_odd_kind refl refl) (of_ranges joining_ranges refl) in
     not-true (is_odd_kind (kind c)) (subst (λ j. (j || not (is_odd_kind (kind c))) ≡ true) (sym (joining_ranged c) ∙ h) (Stepped-everywhere _ both refl c))
 
 pub width_high : (c : ℕ) → 0xA0 < c → width_of c ≡ (alone false c).0
@@ -129,15 +130,15 @@ mild c high h =
 -- ---- what a character of such a kind is not
 
 abbrev unmild : (p : ℕ → Bool) → Stepped p → Bool
-unfolding unicode_width
+unfolding unicode_width kind_test_stepped
 unmild p s =
-    let both = zip_stepped (λ k b. not (is_mild_kind k && b)) kind p kind_stepped s in
+    let both = zip_stepped (λ m b. not (m && b)) (λ c. is_mild_kind (kind c)) p (kind_test_stepped is_mild_kind refl refl) s in
     always _ both && (ends_by 0x11_0000 both.steps && both.default)
 
 mild_not : (p : ℕ → Bool) (s : Stepped p) → unmild p s ≡ true → (c : ℕ) → is_mild_kind (kind c) ≡ true → p c ≡ false
-unfolding unicode_width
+unfolding unicode_width kind_test_stepped
 mild_not p s ok c h =
-    let both = zip_stepped (λ k b. not (is_mild_kind k && b)) kind p kind_stepped s in
+    let both = zip_stepped (λ m b. not (m && b)) (λ c. is_mild_kind (kind c)) p (kind_test_stepped is_mild_kind refl refl) s in
     not-true (p c) (subst (λ a. not (a && p c) ≡ true) h (Stepped-everywhere _ both ok c))
 
 -- ranges of indicators, of skin tones, and of the letters and digits of tags
@@ -156,7 +157,7 @@ passed_stepped = zip_stepped (λ a b. a || b) is_ligature_transparent (in_ranges
 
 -- one walk over the table of kinds for all of them
 not_passed : (c : ℕ) → is_mild_kind (kind c) ≡ true → is_passed c ≡ false
-unfolding unicode_width
+unfolding unicode_width kind_test_stepped
 not_passed = mild_not is_passed passed_stepped refl
 
 pub no_transparent : (c : ℕ) → is_mild_kind (kind c) ≡ true → is_ligature_transparent c ≡ false

@@ -74,11 +74,9 @@ fn last_number(
     ensures { IfOk result (λ n. n ≡ last_number (narrated_line it.now) label.now.start label.now.after) }
 {
     if label.start == label.after {
-        let first = first_number(alloc, it, label)?;
-        return Ok(first);
+        return first_number(alloc, it, label);
     }
-    let last = column(alloc, it.text, label.after.saturating_sub(it.line.start))?;
-    Ok(last)
+    column(alloc, it.text, label.after.saturating_sub(it.line.start))
 }
 
 /// Appends a label's text behind a colon, where there is one, and a line feed.
@@ -102,8 +100,7 @@ fn push_columns(out: &mut String, first: usize, last: usize) -> Result<(), Alloc
         return push_number(out, ", column ", first);
     }
     push_number(out, ", columns ", first)?;
-    push_number(out, " to ", last)?;
-    Ok(())
+    push_number(out, " to ", last)
 }
 
 // Places and trails in a line's text for the columns of so many labels: none where each byte is a column, and none for
@@ -149,8 +146,7 @@ impl LabelledLine<'_, '_, '_> {
         let last = last_number(alloc, self.line, label)?;
         push_number(out, "    label at line ", self.line.number)?;
         push_columns(out, first, last)?;
-        push_end(out, text_of(self.labels, label))?;
-        Ok(())
+        push_end(out, text_of(self.labels, label))
     }
 
     /// The row of one column of a label: `    label starting at line 1, column 1`, whose words are given.
@@ -166,8 +162,7 @@ impl LabelledLine<'_, '_, '_> {
     {
         push_number(out, words, self.line.number)?;
         push_number(out, ", column ", column)?;
-        push_end(out, text_of(self.labels, label))?;
-        Ok(())
+        push_end(out, text_of(self.labels, label))
     }
 
     /// `    label starting at line 1, column 1`
@@ -211,11 +206,12 @@ impl LabelledLine<'_, '_, '_> {
             ++ begun_row (narrated_line self.now.line.now) (range_of self.now.labels.now label.now)) }
     {
         if ends_before(self.line, label) {
-            self.push_whole(alloc, out, label)?;
+            self.push_whole(alloc, out, label)
         } else if begins_within(self.line, label) {
-            self.push_start(alloc, out, label)?;
+            self.push_start(alloc, out, label)
+        } else {
+            Ok(())
         }
-        Ok(())
     }
 
     /// The row of a label under the line, where it has one there; one that began before the line has one where it ends.
@@ -230,11 +226,12 @@ impl LabelledLine<'_, '_, '_> {
             ++ label_row (narrated_line self.now.line.now) (range_of self.now.labels.now label.now)) }
     {
         if begins(self.line, label) {
-            self.push_begun(alloc, out, label)?;
+            self.push_begun(alloc, out, label)
         } else if reaches(self.line, label) && ends_before(self.line, label) {
-            self.push_ending(alloc, out, label)?;
+            self.push_ending(alloc, out, label)
+        } else {
+            Ok(())
         }
-        Ok(())
     }
 
     // The rows of labels under the line, in order, where it has the places of its text.
@@ -285,8 +282,7 @@ impl LabelledLine<'_, '_, '_> {
             line: &line,
             labels: self.labels,
         };
-        marked.push_all(alloc, out, placed)?;
-        Ok(())
+        marked.push_all(alloc, out, placed)
     }
 
     /// The rows of labels that end on the line, and behind them those of labels that begin there, each in order.
@@ -312,7 +308,6 @@ impl LabelledLine<'_, '_, '_> {
             labels: self.labels,
         };
         marked.push_ended(alloc, out, ended)?;
-        marked.push_all(alloc, out, begun)?;
-        Ok(())
+        marked.push_all(alloc, out, begun)
     }
 }

@@ -28,8 +28,7 @@ fn push_line(out: &mut String, it: &NarratedLine<'_, '_>) -> Result<(), AllocErr
     push_number(out, "snippet line ", it.number)?;
     out.push_str(": ")?;
     push_decoded(out, it.text.bytes)?;
-    out.push_str("\n")?;
-    Ok(())
+    out.push_str("\n")
 }
 
 /// Where the labels begin that may have a row on a line.
@@ -68,8 +67,7 @@ fn push_shown(
         line: it,
         labels: order.labels,
     };
-    row.push_labels(alloc, out, &sweep.running)?;
-    Ok(())
+    row.push_labels(alloc, out, &sweep.running)
 }
 
 /// The rows of labels under a line that isn't the snippet's last: only labels that begin or end there are gone through.
@@ -91,8 +89,7 @@ fn push_inner(
         line: it,
         labels: order.labels,
     };
-    row.push_ended_and_begun(alloc, out, &ended, begun)?;
-    Ok(())
+    row.push_ended_and_begun(alloc, out, &ended, begun)
 }
 
 /// A line of what a snippet's read lent.

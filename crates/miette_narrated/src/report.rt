@@ -26,8 +26,7 @@ use std::alloc::{AllocError, Global};
 fn push_severity(out: &mut String, severity: Option<Severity>) -> Result<(), AllocError>
     ensures { OnOk result (string_bytes out.new ≡ string_bytes out.old ++ severity_row severity) }
 {
-    push_row(out, "    Diagnostic severity: ", severity_name(severity))?;
-    Ok(())
+    push_row(out, "    Diagnostic severity: ", severity_name(severity))
 }
 
 /// The message and the severity of the outermost report.
@@ -39,8 +38,7 @@ fn push_head<D: Diagnostic, S: SourceCode>(
         ≡ string_bytes out.old ++ head_rows (head (tree_of D.meaning S.source report.now))) }
 {
     push_row(out, "", report.message())?;
-    push_severity(out, report.severity())?;
-    Ok(())
+    push_severity(out, report.severity())
 }
 
 /// The message of a related report behind its title, its severity, and a blank row.
@@ -53,8 +51,7 @@ fn push_titled<D: Diagnostic, S: SourceCode>(
 {
     push_row(out, severity_title(report.severity()), report.message())?;
     push_severity(out, report.severity())?;
-    push_row(out, "", "")?;
-    Ok(())
+    push_row(out, "", "")
 }
 
 /// A row for each cause of a report.
@@ -98,9 +95,10 @@ fn push_url(out: &mut String, url: Option<&str>) -> Result<(), AllocError>
 {
     if let Some(url) = url {
         push_row(out, "For more details, see:", "")?;
-        push_row(out, "", url)?;
+        push_row(out, "", url)
+    } else {
+        Ok(())
     }
-    Ok(())
 }
 
 /// Help, code and url.
@@ -113,8 +111,7 @@ fn push_advice<D: Diagnostic, S: SourceCode>(
 {
     push_row_if(out, "diagnostic help: ", report.help())?;
     push_row_if(out, "diagnostic code: ", report.code())?;
-    push_url(out, report.url())?;
-    Ok(())
+    push_url(out, report.url())
 }
 
 /// The snippets of labels over a source, none without one.
@@ -147,8 +144,7 @@ fn push_blank_before<D: Diagnostic, S: SourceCode>(
     if reports.is_empty() {
         return Ok(());
     }
-    push_row(out, "", "")?;
-    Ok(())
+    push_row(out, "", "")
 }
 
 /// Appends a related report, under one with this source.
@@ -171,8 +167,7 @@ fn push_report<'a, D: Diagnostic, S: SourceCode>(
     push_causes(report, out)?;
     push_snippets_of(alloc, context, labels_of(report), source, out)?;
     push_advice(report, out)?;
-    push_related(alloc, context, report.related(), source, out)?;
-    Ok(())
+    push_related(alloc, context, report.related(), source, out)
 }
 
 /// Appends related reports, under a report with this source, behind a blank row.

@@ -54,8 +54,7 @@ fn push_begin(out: &mut String, lent: &MietteSpanContents<'_>) -> Result<(), All
     push_name(out, lent.name())?;
     push_place(out, " starting at line ", lent.line())?;
     push_place(out, ", column ", lent.column())?;
-    out.push_str("\n\n")?;
-    Ok(())
+    out.push_str("\n\n")
 }
 
 /// A snippet, from what its read lent.
@@ -77,8 +76,7 @@ fn push_snippet(
         return Err(AllocError);
     }
     push_begin(out, lent)?;
-    push_lines(alloc, out, lent, order, sweep)?;
-    Ok(())
+    push_lines(alloc, out, lent, order, sweep)
 }
 
 /// The snippets of labels that were read. Fails with `Refused` where a group of them can't be read, and with `Memory`
@@ -134,10 +132,7 @@ pub(crate) fn push_snippets<S: SourceCode>(
 {
     let order = by_offset(alloc, labels)?;
     match read_labels(alloc, source, context, labels, &order)? {
-        ReadLabels::All(reads) => {
-            push_read(alloc, out, context, source, labels, &reads)?;
-            Ok(())
-        }
+        ReadLabels::All(reads) => push_read(alloc, out, context, source, labels, &reads),
         ReadLabels::Refused(_, _) => Err(RenderError::Refused),
     }
 }

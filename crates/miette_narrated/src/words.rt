@@ -23,8 +23,7 @@ pub(crate) fn push_row(out: &mut String, words: &str, text: &str) -> Result<(), 
 {
     out.push_str(words)?;
     out.push_str(text)?;
-    out.push_str("\n")?;
-    Ok(())
+    out.push_str("\n")
 }
 
 /// The same where there is a text.

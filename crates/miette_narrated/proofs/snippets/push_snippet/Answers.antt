@@ -1,4 +1,5 @@
 use Rattle.std.proofs.Common.{◌+◌, string_bytes}
+use Rattle.std.proofs.lemmas.Result.{on_ok_weaker}
 use Rattle.miette_lines.specs.rules.Contexts.{lines_of_contents}
 use Rattle.miette_narrated.specs.rules.Lines.{rows_of_lines}
 use Rattle.miette_narrated.specs.steps.Conversions.{ranges_of}
@@ -10,5 +11,5 @@ pub returns-clause-rows : goal.returns-clause-rows
 returns-clause-rows c =
     let lent = c.args.lent.now in
     let told = ranges_of c.args.order.now.labels.now c.args.order.now.placed.now in
-    then (string_bytes c.args.out.now) (string_bytes c.push_begin.new.out) (string_bytes c.push_lines.new.out) (begin_rows lent) (rows_of_lines told lent (lent.line + 1) (lines_of_contents lent))
-    c.in_ok-push_begin.ensures c.in_ok-push_lines.ensures.rows
+    on_ok_weaker c.push_lines.result (λ h. then (string_bytes c.args.out.now) (string_bytes c.push_begin.new.out) (string_bytes c.push_lines.new.out) (begin_rows lent) (rows_of_lines told lent (lent.line + 1) (lines_of_contents lent))
+    c.in_ok-push_begin.ensures h) c.push_lines.ensures.rows
