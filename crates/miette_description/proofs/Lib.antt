@@ -4,3 +4,4 @@ pub mod Sources
 pub mod ParsedValueLaws
 pub mod NumberSteps
 pub mod FrontTexts
+pub mod ReportParts

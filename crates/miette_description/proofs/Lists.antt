@@ -1,7 +1,7 @@
 -- A list that is read item by item.
-use Rattle.std.proofs.Common.{Global, ◌≡◌, ℕ, suc, ◌+◌, ◌<◌, List, [], ◌∷◌, ◌++◌, length, get_or, map, drop, Option, Some, None, option_map, refl, sym, ap, subst, ◌∙◌, add-one, append_assoc}
+use Rattle.std.proofs.Common.{Global, ◌≡◌, ℕ, suc, ◌+◌, ◌<◌, List, [], ◌∷◌, ◌++◌, length, get_or, map, drop, Option, Some, None, option_map, refl, sym, ap, subst, ◌∙◌, ◌≤◌, add-one, append_assoc, append-nil}
 use Rattle.std.proofs.Math.Seq.{drop-cons}
-use Rattle.std.proofs.lemmas.List.{map-append}
+use Rattle.std.proofs.lemmas.List.{map-append, drop_all}
 use Rattle.serde_json.specs.Data.{Data, item}
 use Rattle.miette_description.specs.steps.ParsedValues.{value_data, list_data}
 use Rattle.json.specs.declared.value.Value.{Value}
@@ -38,3 +38,18 @@ pub one_read_as : {A B : Type 0} (reads : Data → Option B) (value : A → B) (
 one_read_as {A} {B} reads value vs old new i v x pushed h is e inv =
     let P : List B → Type 0 = λ xs. ReadSoFar reads vs xs (i + 1) in
     subst P (sym (ap (map value) pushed ∙ map-append value old (x ∷ []))) (one_read reads vs (map value old) i v (value x) h is e inv)
+
+itself : {A : Type 0} (o : Option (List A)) → o ≡ option_map (λ r. [] ++ r) o
+itself None = refl
+itself (Some xs) = refl
+
+-- before the first item
+pub none_read : {A : Type 0} (reads : Data → Option A) (vs : List (Value Global)) (old : List A) → old ≡ [] → ReadSoFar reads vs old 0
+none_read reads vs old e =
+    itself (all_of reads (list_data vs)) ∙ ap (λ xs. option_map (λ r. xs ++ r) (all_of reads (list_data vs))) (sym e)
+
+-- behind the last item
+pub all_read : {A : Type 0} (reads : Data → Option A) (vs : List (Value Global)) (old : List A) (i : ℕ)
+    → length vs ≤ i → ReadSoFar reads vs old i → all_of reads (list_data vs) ≡ Some old
+all_read reads vs old i h inv =
+    inv ∙ ap (λ l. option_map (λ r. old ++ r) (all_of reads (list_data l))) (drop_all i vs h) ∙ ap Some (append-nil old)

@@ -32,13 +32,25 @@ fn label_from(alloc: Global, value: &Value<'_>) -> Result<LabeledSpan, BuildErro
     ensures ok { IfOk result (λ l. label_of (value_data value.now) ≡ Some l) }
     ensures description { (result ≡ Err BuildError.Description) → label_of (value_data value.now) ≡ None }
 {
-    let offset = whole_at(value, "offset").ok_or(BuildError::Description)?;
-    let length = whole_at(value, "length").ok_or(BuildError::Description)?;
+    let Some(offset) = whole_at(value, "offset") else {
+        return Err(BuildError::Description);
+    };
+    let Some(length) = whole_at(value, "length") else {
+        return Err(BuildError::Description);
+    };
     let span = (offset as usize, length as usize);
-    let text = text_at(value, "label").ok_or(BuildError::Description)?;
-    let primary = truth_at(value, "primary").ok_or(BuildError::Description)?;
-    let lines = lines_at(value, "context").ok_or(BuildError::Description)?;
-    let text = copy_of(alloc, text)?;
+    let Some(text) = text_at(value, "label") else {
+        return Err(BuildError::Description);
+    };
+    let Some(primary) = truth_at(value, "primary") else {
+        return Err(BuildError::Description);
+    };
+    let Some(lines) = lines_at(value, "context") else {
+        return Err(BuildError::Description);
+    };
+    let Ok(text) = copy_of(alloc, text) else {
+        return Err(BuildError::Memory);
+    };
     let label = if primary.unwrap_or(false) {
         LabeledSpan::new_primary_with_span(text, span)
     } else {
@@ -54,7 +66,9 @@ fn labels_from(alloc: Global, value: &Value<'_>) -> Result<Vec<LabeledSpan>, Bui
     ensures ok { IfOk result (λ v. list_of label_of (value_data value.now) ≡ Some v.items) }
     ensures description { (result ≡ Err BuildError.Description) → list_of label_of (value_data value.now) ≡ None }
 {
-    let list = list_in(value).ok_or(BuildError::Description)?;
+    let Some(list) = list_in(value) else {
+        return Err(BuildError::Description);
+    };
     let mut labels = Vec::new(alloc);
     for item in list {
         let label = label_from(alloc, item)?;
@@ -85,11 +99,17 @@ fn texts_from(alloc: Global, value: &Value<'_>) -> Result<Vec<String>, BuildErro
     ensures ok { IfOk result (λ v. list_of as_str (value_data value.now) ≡ Some (map string_bytes v.items)) }
     ensures description { (result ≡ Err BuildError.Description) → list_of as_str (value_data value.now) ≡ None }
 {
-    let list = list_in(value).ok_or(BuildError::Description)?;
+    let Some(list) = list_in(value) else {
+        return Err(BuildError::Description);
+    };
     let mut texts = Vec::new(alloc);
     for item in list {
-        let text = text_in(item).ok_or(BuildError::Description)?;
-        let copy = String::from_str(alloc, text)?;
+        let Some(text) = text_in(item) else {
+            return Err(BuildError::Description);
+        };
+        let Ok(copy) = String::from_str(alloc, text) else {
+            return Err(BuildError::Memory);
+        };
         if texts.push(copy).is_err() {
             return Err(BuildError::Memory);
         }
@@ -124,7 +144,9 @@ pub(crate) fn push_texts(
     ensures memory { (result ≡ Err BuildError.Description) → ⊥ }
 {
     for text in texts {
-        let copy = String::from_str(alloc, text.as_str())?;
+        let Ok(copy) = String::from_str(alloc, text.as_str()) else {
+            return Err(BuildError::Memory);
+        };
         if list.push(copy).is_err() {
             return Err(BuildError::Memory);
         }
@@ -160,10 +182,18 @@ fn source_from(alloc: Global, value: &Value<'_>) -> Result<OwnedSource, BuildErr
     ensures ok { IfOk result (λ s. source_of (value_data value.now) ≡ Some (owned_source s)) }
     ensures description { (result ≡ Err BuildError.Description) → source_of (value_data value.now) ≡ None }
 {
-    let text = needed_text_at(value, "text").ok_or(BuildError::Description)?;
-    let name = text_at(value, "name").ok_or(BuildError::Description)?;
-    let language = text_at(value, "language").ok_or(BuildError::Description)?;
-    let bytes = Vec::from_slice(alloc, text.as_bytes())?;
+    let Some(text) = needed_text_at(value, "text") else {
+        return Err(BuildError::Description);
+    };
+    let Some(name) = text_at(value, "name") else {
+        return Err(BuildError::Description);
+    };
+    let Some(language) = text_at(value, "language") else {
+        return Err(BuildError::Description);
+    };
+    let Ok(bytes) = Vec::from_slice(alloc, text.as_bytes()) else {
+        return Err(BuildError::Memory);
+    };
     match name {
         Some(name) => Ok(OwnedSource::named(alloc, name, language, bytes)?),
         None => Ok(OwnedSource::new(alloc, bytes)?),
@@ -193,11 +223,21 @@ pub(crate) fn diagnostic_from(
     ensures ok { IfOk result (λ d. meaning_in (value_data value.now) ≡ Some (meaning_of d)) }
     ensures description { (result ≡ Err BuildError.Description) → meaning_in (value_data value.now) ≡ None }
 {
-    let message = needed_text_at(value, "message").ok_or(BuildError::Description)?;
-    let code = text_at(value, "code").ok_or(BuildError::Description)?;
-    let severity = severity_at(value, "severity").ok_or(BuildError::Description)?;
-    let help = text_at(value, "help").ok_or(BuildError::Description)?;
-    let url = text_at(value, "url").ok_or(BuildError::Description)?;
+    let Some(message) = needed_text_at(value, "message") else {
+        return Err(BuildError::Description);
+    };
+    let Some(code) = text_at(value, "code") else {
+        return Err(BuildError::Description);
+    };
+    let Some(severity) = severity_at(value, "severity") else {
+        return Err(BuildError::Description);
+    };
+    let Some(help) = text_at(value, "help") else {
+        return Err(BuildError::Description);
+    };
+    let Some(url) = text_at(value, "url") else {
+        return Err(BuildError::Description);
+    };
     let labels = labels_at(alloc, value, "labels")?;
     Ok(MietteDiagnostic {
         message: String::from_str(alloc, message)?,

@@ -33,7 +33,9 @@ pub(crate) fn read_value<'a>(
     ensures shorter { OnOk result (length reader.new < length reader.old) }
     ensures description { (result ≡ Err BuildError.Description) → value depth reader.old ≡ None }
 {
-    let token = reader.next().ok_or(BuildError::Description)?;
+    let Some(token) = reader.next() else {
+        return Err(BuildError::Description);
+    };
     match token {
         Token::String(text) => Ok(Value::String(text)),
         Token::Number(text) => Ok(Value::Number(text)),
@@ -100,6 +102,8 @@ fn read_members<'a>(
             return Err(BuildError::Memory);
         }
     }
-    let made = exact(alloc, found)?;
-    Ok(made)
+    match exact(alloc, found) {
+        Ok(made) => Ok(made),
+        Err(_) => Err(BuildError::Memory),
+    }
 }

@@ -1,15 +1,17 @@
 //! The report that a description asks for.
 
 ghost use Rattle.std.specs.Prelude.{◌≡◌, [], Option, Some, None, IfOk, OnOk, IfSome, IsSome, IsUtf8, false};
-ghost use Rattle.std.specs.Prelude.{option_and_then, option_map, unwrap_or, map, string_bytes};
+ghost use Rattle.std.specs.Prelude.{option_and_then, option_map, unwrap_or, map, string_bytes, codes};
 ghost use Rattle.json.specs.Value.{value_view};
+ghost use Rattle.serde_json.specs.Find.{as_str};
 ghost use Rattle.serde_json.specs.Read.{read, of_json};
 ghost use Rattle.serde_json.specs.Written.{has_float};
 ghost use Rattle.miette_description.specs.steps.ParsedValues.{value_data, list_data};
-ghost use Rattle.miette_tree.specs.rules.Tree.{cause_of, texts, trees, with_cause};
+ghost use Rattle.miette_tree.specs.rules.Tree.{Tree, Trees, cause_of, texts, trees, with_cause};
 ghost use Rattle.miette_tree.specs.views.Report.{tree_of};
 ghost use Rattle.miette_tree.specs.rules.Reads.{AlwaysReads};
-ghost use Rattle.miette_description.specs.rules.Members.{optional_value, at_key, all_of};
+ghost use Rattle.miette_description.specs.rules.Members.{optional_value, at_key, all_of, list_of, source_of};
+ghost use Rattle.miette_description.specs.rules.Members.{meaning_in};
 ghost use Rattle.miette_protocol.specs.views.Diagnostic.{meaning_of};
 ghost use Rattle.miette_tree.specs.views.Owned.{owned_source};
 ghost use Rattle.miette_description.specs.rules.Description.{one_cause, wrapped_in, tree_of_parts, report_in};
@@ -244,6 +246,39 @@ fn box_of<D: Diagnostic, S: SourceCode>(
     }
 }
 
+/// What a description says beside its cause and its related reports.
+struct OwnParts {
+    diagnostic: MietteDiagnostic,
+    source: Option<OwnedSource>,
+    several: Option<Vec<String>>,
+    contexts: Option<Vec<String>>,
+}
+
+/// The parts of a description beside its cause and its related reports.
+fn own_parts(alloc: Global, value: &Value<'_>) -> Result<OwnParts, BuildError>
+    ensures diagnostic { IfOk result (λ p. meaning_in (value_data value.now) ≡ Some (meaning_of p.diagnostic)) }
+    ensures source { IfOk result (λ p. optional_value source_of (at_key (codes "source") (value_data value.now))
+        ≡ Some (option_map owned_source p.source)) }
+    ensures several { IfOk result (λ p. optional_value (list_of as_str) (at_key (codes "causes") (value_data value.now))
+        ≡ Some (option_map (λ v. map string_bytes v.items) p.several)) }
+    ensures contexts { IfOk result (λ p.
+        optional_value (list_of as_str) (at_key (codes "contexts") (value_data value.now))
+        ≡ Some (option_map (λ v. map string_bytes v.items) p.contexts)) }
+    ensures description { (result ≡ Err BuildError.Description) → (one : Option Tree) (related : Option Trees) →
+        report_from (Some one) (Some related) (value_data value.now) ≡ None }
+{
+    let diagnostic = diagnostic_from(alloc, value)?;
+    let source = source_at(alloc, value, "source")?;
+    let several = texts_at(alloc, value, "causes")?;
+    let contexts = texts_at(alloc, value, "contexts")?;
+    Ok(OwnParts {
+        diagnostic,
+        source,
+        several,
+        contexts,
+    })
+}
+
 /// The report of a description whose cause and related reports are made. What it needs of the stack it gives back
 /// before the next level is read.
 #[inline(never)]
@@ -261,10 +296,13 @@ fn report_with<D: Diagnostic, S: SourceCode>(
         report_from (Some (option_map (λ b. tree_of D.meaning S.source b.value) one))
         (Some (option_map (λ v. trees (map (tree_of D.meaning S.source) v.items)) list)) (value_data value.now) ≡ None }
 {
-    let diagnostic = diagnostic_from(alloc, value)?;
-    let source = source_at(alloc, value, "source")?;
-    let several = texts_at(alloc, value, "causes")?;
-    let contexts = texts_at(alloc, value, "contexts")?;
+    let parts = own_parts(alloc, value)?;
+    let OwnParts {
+        diagnostic,
+        source,
+        several,
+        contexts,
+    } = parts;
     let causes = Causes { one, several };
     let report = report_of_parts(alloc, diagnostic, source, causes, list, contexts)?;
     box_of(alloc, report)

@@ -8,21 +8,21 @@ use Rattle.json.proofs.Grammar.{value_is, value-begin_array, value-begin_object,
 use Rattle.json.proofs.Trees.{items_before, members_before, items_before-no_items, members_before-no_members, one_more_item, one_more_member, none_before, view-Array, view-Object}
 use Rattle.miette_description.proofs.reading.+read.Goals as goal
 
-pub read_value-returns-in_err-token-clause-description : goal.read_value-returns-in_err-token-clause-description
-read_value-returns-in_err-token-clause-description t c invalid =
+pub read_value-returns-in_default-clause-description : goal.read_value-returns-in_default-clause-description
+read_value-returns-in_default-clause-description t c invalid =
     let empty : c.args.reader.now ≡ [] = grind arith in
     ap (value c.args.depth) empty ∙ value_is c.args.depth []
 
 pub read_value-returns-then-depth-eq0-clause-description : goal.read_value-returns-then-depth-eq0-clause-description
 unfolding value
 read_value-returns-then-depth-eq0-clause-description t c never =
-    let first : c.args.reader.now ≡ token_of c.in_ok-token.token ∷ c.next.new.self = grind arith in
+    let first : c.args.reader.now ≡ token_of c.in-Some.token ∷ c.next.new.self = grind arith in
     let none : c.args.depth ≡ 0 = omega arith in
     ap₂ value none (first ∙ ap (λ k. token_of k ∷ c.next.new.self) c.in-BeginArray.is)
 
 pub read_value-returns-in_err-read_items-in-BeginArray-clause-description : goal.read_value-returns-in_err-read_items-in-BeginArray-clause-description
 read_value-returns-in_err-read_items-in-BeginArray-clause-description t c invalid =
-    let first : c.args.reader.now ≡ token_of c.in_ok-token.token ∷ c.next.new.self = grind arith in
+    let first : c.args.reader.now ≡ token_of c.in-Some.token ∷ c.next.new.self = grind arith in
     let opened = ap (value c.args.depth) (first ∙ ap (λ k. token_of k ∷ c.next.new.self) c.in-BeginArray.is) ∙ value-begin_array c.args.depth c.next.new.self (omega arith) in
     let failed : items (value (c.args.depth - 1)) (length c.next.new.self) c.next.new.self ≡ None = grind arith in
     opened ∙ ap (parse_map array) failed
@@ -30,60 +30,60 @@ read_value-returns-in_err-read_items-in-BeginArray-clause-description t c invali
 pub read_value-returns-then-depth-eq0-2-clause-description : goal.read_value-returns-then-depth-eq0-2-clause-description
 unfolding value
 read_value-returns-then-depth-eq0-2-clause-description t c never =
-    let first : c.args.reader.now ≡ token_of c.in_ok-token.token ∷ c.next.new.self = grind arith in
+    let first : c.args.reader.now ≡ token_of c.in-Some.token ∷ c.next.new.self = grind arith in
     let none : c.args.depth ≡ 0 = omega arith in
     ap₂ value none (first ∙ ap (λ k. token_of k ∷ c.next.new.self) c.in-BeginObject.is)
 
 pub read_value-returns-in_err-read_members-in-BeginObject-clause-description : goal.read_value-returns-in_err-read_members-in-BeginObject-clause-description
 read_value-returns-in_err-read_members-in-BeginObject-clause-description t c invalid =
-    let first : c.args.reader.now ≡ token_of c.in_ok-token.token ∷ c.next.new.self = grind arith in
+    let first : c.args.reader.now ≡ token_of c.in-Some.token ∷ c.next.new.self = grind arith in
     let opened = ap (value c.args.depth) (first ∙ ap (λ k. token_of k ∷ c.next.new.self) c.in-BeginObject.is) ∙ value-begin_object c.args.depth c.next.new.self (omega arith) in
     let failed : members (value (c.args.depth - 1)) (length c.next.new.self) c.next.new.self ≡ None = grind arith in
     opened ∙ ap (parse_map object) failed
 
 pub read_value-returns-in-String-clause-ok : goal.read_value-returns-in-String-clause-ok
 read_value-returns-in-String-clause-ok t c =
-    let first : c.args.reader.now ≡ token_of c.in_ok-token.token ∷ c.next.new.self = grind arith in
+    let first : c.args.reader.now ≡ token_of c.in-Some.token ∷ c.next.new.self = grind arith in
     let is : c.args.reader.now ≡ Token.string c.in-String.text.now ∷ c.next.new.self = grind (arith, first) in
     let seen : value_view (String c.in-String.text) ≡ Json.string c.in-String.text.now = search (rules, the_lemmas) in
     ap (value c.args.depth) is ∙ value_is c.args.depth _ ∙ ap (λ j. Some (j, c.next.new.self)) (sym seen)
 
 pub read_value-returns-in-Number-clause-ok : goal.read_value-returns-in-Number-clause-ok
 read_value-returns-in-Number-clause-ok t c =
-    let first : c.args.reader.now ≡ token_of c.in_ok-token.token ∷ c.next.new.self = grind arith in
+    let first : c.args.reader.now ≡ token_of c.in-Some.token ∷ c.next.new.self = grind arith in
     let is : c.args.reader.now ≡ Token.number c.in-Number.text.now ∷ c.next.new.self = grind (arith, first) in
     let seen : value_view (Number c.in-Number.text) ≡ Json.number c.in-Number.text.now = search (rules, the_lemmas) in
     ap (value c.args.depth) is ∙ value_is c.args.depth _ ∙ ap (λ j. Some (j, c.next.new.self)) (sym seen)
 
 pub read_value-returns-in-Bool-clause-ok : goal.read_value-returns-in-Bool-clause-ok
 read_value-returns-in-Bool-clause-ok t c =
-    let first : c.args.reader.now ≡ token_of c.in_ok-token.token ∷ c.next.new.self = grind arith in
+    let first : c.args.reader.now ≡ token_of c.in-Some.token ∷ c.next.new.self = grind arith in
     let is : c.args.reader.now ≡ Token.boolean c.in-Bool.b ∷ c.next.new.self = grind (arith, first) in
     let seen : value_view (Bool c.in-Bool.b) ≡ Json.boolean c.in-Bool.b = search (rules, the_lemmas) in
     ap (value c.args.depth) is ∙ value_is c.args.depth _ ∙ ap (λ j. Some (j, c.next.new.self)) (sym seen)
 
 pub read_value-returns-in-Null-clause-ok : goal.read_value-returns-in-Null-clause-ok
 read_value-returns-in-Null-clause-ok t c =
-    let first : c.args.reader.now ≡ token_of c.in_ok-token.token ∷ c.next.new.self = grind arith in
+    let first : c.args.reader.now ≡ token_of c.in-Some.token ∷ c.next.new.self = grind arith in
     let is : c.args.reader.now ≡ Token.null ∷ c.next.new.self = grind (arith, first) in
     let seen : value_view (Null) ≡ Json.null = search (rules, the_lemmas) in
     ap (value c.args.depth) is ∙ value_is c.args.depth _ ∙ ap (λ j. Some (j, c.next.new.self)) (sym seen)
 
 pub read_value-returns-in-EndObject-clause-description : goal.read_value-returns-in-EndObject-clause-description
 read_value-returns-in-EndObject-clause-description t c invalid =
-    let first : c.args.reader.now ≡ token_of c.in_ok-token.token ∷ c.next.new.self = grind arith in
+    let first : c.args.reader.now ≡ token_of c.in-Some.token ∷ c.next.new.self = grind arith in
     rw (value_is c.args.depth c.args.reader.now, first) (grind arith)
 
 pub read_value-returns-in_ok-read_items-in-BeginArray-clause-ok : goal.read_value-returns-in_ok-read_items-in-BeginArray-clause-ok
 read_value-returns-in_ok-read_items-in-BeginArray-clause-ok t c =
-    let first : c.args.reader.now ≡ token_of c.in_ok-token.token ∷ c.next.new.self = grind arith in
+    let first : c.args.reader.now ≡ token_of c.in-Some.token ∷ c.next.new.self = grind arith in
     let opened = ap (value c.args.depth) (first ∙ ap (λ k. token_of k ∷ c.next.new.self) c.in-BeginArray.is) ∙ value-begin_array c.args.depth c.next.new.self (omega arith) in
     let found = c.in_ok-read_items-in-BeginArray in
     opened ∙ ap (parse_map array) found.ensures.ok ∙ ap (λ j. Some (j, c.read_items.new.reader)) (sym (view-Array found.field-0))
 
 pub read_value-returns-in_ok-read_members-in-BeginObject-clause-ok : goal.read_value-returns-in_ok-read_members-in-BeginObject-clause-ok
 read_value-returns-in_ok-read_members-in-BeginObject-clause-ok t c =
-    let first : c.args.reader.now ≡ token_of c.in_ok-token.token ∷ c.next.new.self = grind arith in
+    let first : c.args.reader.now ≡ token_of c.in-Some.token ∷ c.next.new.self = grind arith in
     let opened = ap (value c.args.depth) (first ∙ ap (λ k. token_of k ∷ c.next.new.self) c.in-BeginObject.is) ∙ value-begin_object c.args.depth c.next.new.self (omega arith) in
     let found = c.in_ok-read_members-in-BeginObject in
     opened ∙ ap (parse_map object) found.ensures.ok ∙ ap (λ j. Some (j, c.read_members.new.reader)) (sym (view-Object found.field-0))
@@ -169,11 +169,11 @@ read_members-loop-found-preserved t c =
       omega (arith, l.invariant.3),
     )
 
-pub read_members-returns-clause-ok : goal.read_members-returns-clause-ok
-read_members-returns-clause-ok t c =
+pub read_members-returns-in-Ok-clause-ok : goal.read_members-returns-in-Ok-clause-ok
+read_members-returns-in-Ok-clause-ok t c =
     let p = value c.args.depth in
     let l = c.loop-found in
     let n = l.invariant.0 in
     let r = c.next_key.new.self in
     l.invariant.2 ∙ ap (parse_map (members_before l.found.items)) (members_end p n l.reader r l.invariant.1 (grind arith))
-    ∙ ap (λ ms. Some (ms, r)) (members_before-no_members l.found.items ∙ ap members_view (sym c.in_ok-made.ensures))
+    ∙ ap (λ ms. Some (ms, r)) (members_before-no_members l.found.items ∙ ap members_view (sym c.in-Ok.ensures))

@@ -1,11 +1,11 @@
-use Rattle.std.proofs.Common.{rules, ◌≡◌, ◌<◌, ◌+◌, ◌*◌, ◌++◌, [], ◌∷◌, ap, sym, ◌∙◌, Some, option_map, arith}
+use Rattle.std.proofs.Common.{rules, ◌≡◌, ◌<◌, ◌+◌, ◌*◌, ◌++◌, [], ◌∷◌, map, ap, sym, ◌∙◌, Some, option_map, arith}
 use Rattle.std.proofs.lemmas.Result.{IfOk-weaker}
-use Rattle.miette_description.proofs.Lists.{one_fails, one_read_as}
+use Rattle.miette_description.proofs.Lists.{none_read, one_fails, one_read_as, all_read}
 use Rattle.serde_json.specs.Data.{depth, items_depth}
 use Rattle.miette_description.specs.steps.ParsedValues.{value_data, list_data}
 use Rattle.miette_tree.specs.rules.Tree.{trees}
 use Rattle.miette_tree.specs.views.Report.{tree_of}
-use Rattle.miette_description.specs.rules.Members.{at_key}
+use Rattle.miette_description.specs.rules.Members.{at_key, optional_value}
 use Rattle.miette_description.specs.rules.Description.{report_in}
 use Rattle.miette_description.proofs.Shape.{report_parts, with_nested, without_cause, without_related, at_key-depth, array-depth, item-depth, related_read}
 use Rattle.miette_description.proofs.report.+description.Goals as goal
@@ -68,3 +68,21 @@ reports_from-loop-value-preserved g t c =
     let pushed : c.push.new.self.items ≡ c.loop-value.reports.items ++ c.in_ok-report.report.value ∷ [] = search rules in
     one_read_as report_in (tree_of g.D.Diagnostic.meaning g.S.SourceCode.source) c.args.list.now c.loop-value.reports.items c.push.new.self.items c.loop-value.value-index c.value-item.result
     c.in_ok-report.report.value pushed c.loop-value-test.true c.value-item.is c.in_ok-report.ensures.ok c.loop-value.invariant
+
+pub reports_from-loop-value-init : goal.reports_from-loop-value-init
+reports_from-loop-value-init g t c =
+    let value = tree_of g.D.Diagnostic.meaning g.S.SourceCode.source in
+    none_read report_in c.args.list.now (map value c.new-reports.result.items) (ap (map value) c.new-reports.ensures.items)
+
+pub reports_from-returns-clause-ok : goal.reports_from-returns-clause-ok
+reports_from-returns-clause-ok g t c =
+    let value = tree_of g.D.Diagnostic.meaning g.S.SourceCode.source in
+    all_read report_in c.args.list.now (map value c.loop-value.reports.items) c.loop-value.value-index c.loop-value-test.false c.loop-value.invariant
+
+pub cause_at-returns-in_err-report_from-clause-description : goal.cause_at-returns-in_err-report_from-clause-description
+cause_at-returns-in_err-report_from-clause-description g t c e =
+    ap (optional_value report_in) (sym c.in-Some.ensures) ∙ ap (option_map Some) (c.in_err-report_from.ensures.description (search rules))
+
+pub cause_at-returns-clause-ok : goal.cause_at-returns-clause-ok
+cause_at-returns-clause-ok g t c =
+    ap (optional_value report_in) (sym c.in-Some.ensures) ∙ ap (option_map Some) c.in_ok-report_from.ensures.ok
