@@ -57,8 +57,7 @@ fn push_message_of<D: Diagnostic, S: SourceCode>(
 fn push_severity_title(severity: Option<Severity>, out: &mut Output) -> Result<(), AllocError>
     ensures { OnOk result (out.new ≡ out.old ++ severity_title severity) }
 {
-    out.push_str(severity_title(severity))?;
-    Ok(())
+    out.push_str(severity_title(severity))
 }
 
 /// Appends a report's header, where there is one, and its message.

@@ -254,8 +254,7 @@ pub fn push_below<D: Diagnostic, S: SourceCode, H: Highlighter>(
     push_rows(pen, settings, source, report, out)?;
     push_help(pen.alloc, settings, report.help(), out)?;
     let related = report.related();
-    push_related(pen, settings, report.severity(), source, related, out)?;
-    Ok(())
+    push_related(pen, settings, report.severity(), source, related, out)
 }
 
 /// Appends a related report as a sibling, over its effective source.
@@ -279,8 +278,7 @@ fn push_sibling<D: Diagnostic, S: SourceCode, H: Highlighter>(
 {
     push_sibling_start(pen.alloc, settings, report, out)?;
     push_causes(pen, settings, report.severity(), source, report, out)?;
-    push_below(pen, settings, source, report, out)?;
-    Ok(())
+    push_below(pen, settings, source, report, out)
 }
 
 /// Appends a related report under its arrow, over its effective source.

@@ -1,4 +1,5 @@
 use Rattle.std.proofs.Common.{◌≡◌, ◌≤◌, ◌<◌, suc, sym, ◌++◌, ◌-◌, length, take, drop, get_or, ap, ◌∙◌, subst, map, option_map, false, refl, string_bytes, arith, rules, List}
+use Rattle.std.proofs.lemmas.Result.{on_ok_weaker}
 use Rattle.miette_runs.specs.rules.Cutting.{without_leading, without_trailing}
 use Rattle.miette_runs.specs.rules.Runs.{print}
 use Rattle.miette_runs.specs.rules.Sequences.{spell}
@@ -53,7 +54,7 @@ push_causes-loop-next-preserved g t c =
     let new = c.push_one_cause.new.out in
     let remain = subst (λ x. CausesRemain drawn_rows s blank begun was outer inherited all x old now) (sym c.in-Diagnostic.ensures.value) c.loop-next.invariant.0 in
     let one = subst (λ b. AppendsOne (IsOneCause drawn_rows s b (λ calls. Leads was calls next) outer inherited cause) now new) c.loop-next.invariant.1 c.in_ok-push_one_cause.ensures.ok in
-    (cause_printed drawn_rows s blank begun was next outer inherited all cause old now new remain one, c.push_one_cause.ensures.stays ∙ c.loop-next.invariant.1)
+    (cause_printed drawn_rows s blank begun was next outer inherited all cause old now new remain one, ◌∙◌ {b = leaves_plain g.H.Highlighter.is_blank c.loop-next.pen.highlighter} c.push_one_cause.ensures.stays c.loop-next.invariant.1)
 
 pub push_causes-returns-in_err-push_one_cause-clause-refused : goal.push_causes-returns-in_err-push_one_cause-clause-refused
 push_causes-returns-in_err-push_one_cause-clause-refused g t c = λ h.
@@ -90,15 +91,15 @@ push_one_cause-returns-clause-ok g t c =
     let own = option_map (shown_source g.S.SourceCode.source) c.own_or.result in
     let inner = spell c.in_ok-inner.inner in
     let happen = AreCallsOn g.H.Highlighter.may_follow c.args.pen.now.highlighter c.inner_text.new.pen.highlighter in
-    let narrow : settings_of c.in_ok-narrow.narrow ≡ narrow_settings s outer (ends_there (cause_of value)) = c.in_ok-narrow.ensures ∙ ap (narrow_settings s outer) c.ends_there.ensures in record {
+    let narrow : settings_of c.in_ok-narrow.narrow ≡ narrow_settings s outer (ends_there (cause_of value)) = ◌∙◌ {b = narrow_settings s outer c.ends_there.result} c.in_ok-narrow.ensures (ap (narrow_settings s outer) c.ends_there.ensures) in record {
       text = under_arrow s outer (ends_there (cause_of value)) inner;
       is_given = (
         inner,
-        subst (λ o. IsInner drawn_rows (narrow_settings s outer (ends_there (cause_of value))) blank happen o value inner) c.own_or.ensures
+        subst (λ o. IsInner drawn_rows (narrow_settings s outer (ends_there (cause_of value))) blank happen o value inner) {y = effective (source_of value) (option_map (shown_source g.S.SourceCode.source) c.args.inherited)} c.own_or.ensures
             (subst (λ n. IsInner drawn_rows n blank happen own value inner) narrow c.in_ok-inner.ensures.ok),
         refl,
       );
-      appended = c.in_ok-push_under_arrow.ensures ∙ ap (λ b. c.args.out.now ++ under_arrow s outer b inner) c.ends_there.ensures;
+      appended = ◌∙◌ {b = c.args.out.now ++ under_arrow s outer c.ends_there.result inner} c.in_ok-push_under_arrow.ensures (ap (λ b. c.args.out.now ++ under_arrow s outer b inner) c.ends_there.ensures);
     }
 
 pub inner_text-returns-clause-ok : goal.inner_text-returns-clause-ok
@@ -115,11 +116,11 @@ push_below-returns-in_err-push_rows-clause-refused g t c = λ h.
     inner_rows_fail c.args.settings.nested (option_map (shown_source g.S.SourceCode.source) c.args.source) (tree_of g.D.Diagnostic.meaning g.S.SourceCode.source c.args.report.now)
     (c.in_err-push_rows.ensures.refused (search rules))
 
-pub push_below-returns-in_err-push_related-clause-refused : goal.push_below-returns-in_err-push_related-clause-refused
-push_below-returns-in_err-push_related-clause-refused g t c = λ h.
+pub push_below-returns-clause-refused : goal.push_below-returns-clause-refused
+push_below-returns-clause-refused g t c = λ h.
     let source = option_map (shown_source g.S.SourceCode.source) c.args.source in
     let value = tree_of g.D.Diagnostic.meaning g.S.SourceCode.source c.args.report.now in
-    let related : all_read (printed_related c.args.settings.nested source (trees (map (tree_of g.D.Diagnostic.meaning g.S.SourceCode.source) c.related-related.result.now))) ≡ false = c.in_err-push_related.ensures.refused (search rules) in
+    let related : all_read (printed_related c.args.settings.nested source (trees (map (tree_of g.D.Diagnostic.meaning g.S.SourceCode.source) c.related-related.result.now))) ≡ false = c.push_related.ensures.refused h in
     inner_related_fail c.args.settings.nested source value (subst (λ r. all_read (printed_related c.args.settings.nested source r) ≡ false) c.related-related.ensures related)
 
 pub push_below-returns-clause-ok : goal.push_below-returns-clause-ok
@@ -135,22 +136,23 @@ push_below-returns-clause-ok g t c =
     let helped = c.push_help.new.out in
     let new = c.push_related.new.out in
     let given = trees (map (tree_of g.D.Diagnostic.meaning g.S.SourceCode.source) c.related-related.result.now) in
-    let help : helped ≡ drawn ++ help_text s (head value).help = c.in_ok-push_help.ensures ∙ ap (λ o. drawn ++ help_text s o) c.help.ensures in
+    let help : helped ≡ drawn ++ help_text s (head value).help = ◌∙◌ {b = drawn ++ help_text s (option_map (λ t. t.now) c.help.result)} c.in_ok-push_help.ensures (ap (λ o. drawn ++ help_text s o) c.help.ensures) in
+    on_ok_weaker c.push_related.result (λ h.
     let related : AppendsOne (AreRelated drawn_rows s blank (λ calls. Leads mid calls now) (head value).severity source (related_of value)) helped new =
     subst (λ v. AppendsOne (AreRelated drawn_rows s blank (λ calls. Leads mid calls now) v source (related_of value)) helped new) c.severity.ensures
     (subst (λ r. AppendsOne (AreRelated drawn_rows s blank (λ calls. Leads mid calls now) c.severity.result source r) helped new) c.related-related.ensures
-    (subst (λ b. AppendsOne (AreRelated drawn_rows s b (λ calls. Leads mid calls now) c.severity.result source given) helped new) c.push_rows.ensures.stays c.in_ok-push_related.ensures.ok)) in
-    below_behind drawn_rows s blank begun mid now source value c.args.out.now drawn helped new c.in_ok-push_rows.ensures.ok help related
+    (subst (λ b. AppendsOne (AreRelated drawn_rows s b (λ calls. Leads mid calls now) c.severity.result source given) helped new) c.push_rows.ensures.stays h)) in
+    below_behind drawn_rows s blank begun mid now source value c.args.out.now drawn helped new c.in_ok-push_rows.ensures.ok help related) c.push_related.ensures.ok
 
 pub push_sibling-returns-in_err-push_causes-clause-refused : goal.push_sibling-returns-in_err-push_causes-clause-refused
 push_sibling-returns-in_err-push_causes-clause-refused g t c = λ h.
     sibling_causes_fail c.args.settings.nested (option_map (shown_source g.S.SourceCode.source) c.args.source) (tree_of g.D.Diagnostic.meaning g.S.SourceCode.source c.args.report.now)
     (c.in_err-push_causes.ensures.refused (search rules))
 
-pub push_sibling-returns-in_err-push_below-clause-refused : goal.push_sibling-returns-in_err-push_below-clause-refused
-push_sibling-returns-in_err-push_below-clause-refused g t c = λ h.
+pub push_sibling-returns-clause-refused : goal.push_sibling-returns-clause-refused
+push_sibling-returns-clause-refused g t c = λ h.
     sibling_below_fails c.args.settings.nested (option_map (shown_source g.S.SourceCode.source) c.args.source) (tree_of g.D.Diagnostic.meaning g.S.SourceCode.source c.args.report.now)
-    (c.in_err-push_below.ensures.refused (search rules))
+    (c.push_below.ensures.refused h)
 
 pub push_sibling-returns-clause-ok : goal.push_sibling-returns-clause-ok
 push_sibling-returns-clause-ok g t c =
@@ -167,9 +169,10 @@ push_sibling-returns-clause-ok g t c =
     let new = c.push_below.new.out in
     let causes : AppendsOne (AreCauses drawn_rows s blank (λ calls. Leads begun calls mid) (head value).severity source (cause_of value)) told caused =
     subst (λ v. AppendsOne (AreCauses drawn_rows s blank (λ calls. Leads begun calls mid) v source (cause_of value)) told caused) c.severity.ensures c.in_ok-push_causes.ensures.ok in
+    on_ok_weaker c.push_below.result (λ h.
     let below : AppendsOne (IsBelow drawn_rows s blank (λ calls. Leads mid calls now) source value) caused new =
-    subst (λ b. AppendsOne (IsBelow drawn_rows s b (λ calls. Leads mid calls now) source value) caused new) c.push_causes.ensures.stays c.in_ok-push_below.ensures.ok in
-    sibling_behind drawn_rows s blank begun mid now source value c.args.out.now titled told caused new refl c.in_ok-push_sibling_start.ensures causes below
+    subst (λ b. AppendsOne (IsBelow drawn_rows s b (λ calls. Leads mid calls now) source value) caused new) c.push_causes.ensures.stays h in
+    sibling_behind drawn_rows s blank begun mid now source value c.args.out.now titled told caused new refl c.in_ok-push_sibling_start.ensures causes below) c.push_below.ensures.ok
 
 pub push_nested-returns-clause-ok : goal.push_nested-returns-clause-ok
 push_nested-returns-clause-ok g t c =
@@ -182,8 +185,8 @@ push_nested-returns-clause-ok g t c =
     let happen = AreCallsOn g.H.Highlighter.may_follow c.args.pen.now.highlighter c.inner_text.new.pen.highlighter in
     let inner = spell c.in_ok-inner.inner in record {
       text = under_arrow s outer last (without_trailing inner);
-      is_given = (inner, subst (λ n. IsInner drawn_rows n blank happen source value inner) c.in_ok-narrow.ensures c.in_ok-inner.ensures.ok, refl);
-      appended = c.in_ok-push_under_arrow.ensures ∙ ap (λ x. c.args.out.now ++ under_arrow s outer last x) c.in_ok-cut.ensures;
+      is_given = (inner, subst (λ n. IsInner drawn_rows n blank happen source value inner) {y = narrow_settings s outer last} c.in_ok-narrow.ensures c.in_ok-inner.ensures.ok, refl);
+      appended = ◌∙◌ {b = c.args.out.now ++ under_arrow s outer last (spell c.in_ok-cut.cut)} c.in_ok-push_under_arrow.ensures (ap (λ x. c.args.out.now ++ under_arrow s outer last x) c.in_ok-cut.ensures);
     }
 
 pub push_related-loop-rest-init : goal.push_related-loop-rest-init
@@ -223,7 +226,7 @@ push_related-loop-rest-preserved g t c =
     (subst (λ r. AppendsOne (IsOneRelated drawn_rows s blank (λ calls. Leads was calls next) outer (effective (source_of (value r)) inherited) c.are_last.result (value r)) now new) c.report-item.is
     (subst (λ o. AppendsOne (IsOneRelated drawn_rows s blank (λ calls. Leads was calls next) outer o c.are_last.result (value item)) now new) c.own_or-source.ensures
     (subst (λ b. AppendsOne (IsOneRelated drawn_rows s b (λ calls. Leads was calls next) outer (option_map (shown_source g.S.SourceCode.source) c.own_or-source.result) c.are_last.result (value item)) now new) c.loop-rest.invariant.1 c.in_ok-push_one_related.ensures.ok))) in
-    (related_printed drawn_rows s blank begun was next outer inherited all (value first) (trees (map value more)) old now new remain one, c.push_one_related.ensures.stays ∙ c.loop-rest.invariant.1)
+    (related_printed drawn_rows s blank begun was next outer inherited all (value first) (trees (map value more)) old now new remain one, ◌∙◌ {b = leaves_plain g.H.Highlighter.is_blank c.loop-rest.pen.highlighter} c.push_one_related.ensures.stays c.loop-rest.invariant.1)
 
 pub push_related-returns-in_err-push_one_related-clause-refused : goal.push_related-returns-in_err-push_one_related-clause-refused
 push_related-returns-in_err-push_one_related-clause-refused g t c = λ h.
