@@ -39,8 +39,7 @@ fn push_ascii<O: Canvas>(page: &mut Page<O>, style: Style, text: &str) -> Outcom
     ensures { OnOk result (page.new ≡ page.old ⊕ styled_tokens style text.now) }
 {
     page.begin(style)?;
-    page.push_str(text)?;
-    Ok(())
+    page.push_str(text)
 }
 
 // A run of a text.
@@ -48,8 +47,7 @@ fn push_styled<O: Canvas>(page: &mut Page<O>, style: Style, text: &str) -> Outco
     ensures { OnOk result (page.new ≡ page.old ⊕ styled_tokens style (chars text.now)) }
 {
     page.begin(style)?;
-    page.push_str(text)?;
-    Ok(())
+    page.push_str(text)
 }
 
 // A run of a number.
@@ -57,8 +55,7 @@ fn push_count<O: Canvas>(page: &mut Page<O>, style: Style, number: usize) -> Out
     ensures { OnOk result (page.new ≡ page.old ⊕ styled_tokens style (decimal number)) }
 {
     page.begin(style)?;
-    page.push_number(number)?;
-    Ok(())
+    page.push_number(number)
 }
 
 // The spaces before a corner, the corner, and what follows it: `   ╭─`.
@@ -71,8 +68,7 @@ fn push_corner<O: Canvas>(page: &mut Page<O>, frame: &Frame, corner: char, many:
         return Err(AllocError);
     };
     page.push_blank(columns)?;
-    page.push_line(PLAIN, corner, frame.theme.characters.hbar, many)?;
-    Ok(())
+    page.push_line(PLAIN, corner, frame.theme.characters.hbar, many)
 }
 
 // A line's and a column's number, counted from 1 where they are given from 0: `2:3`.
@@ -83,8 +79,7 @@ fn push_place<O: Canvas>(page: &mut Page<O>, place: (usize, usize)) -> Outcome
     let column = sum(place.1, 1)?;
     page.push_number(line)?;
     page.push(':')?;
-    page.push_number(column)?;
-    Ok(())
+    page.push_number(column)
 }
 
 // What a place is called in a source with a name: `name:2:3`, or `name`.
@@ -103,8 +98,7 @@ fn push_link<O: Canvas>(
         return Ok(());
     }
     page.push(':')?;
-    push_place(page, place)?;
-    Ok(())
+    push_place(page, place)
 }
 
 // A place in a source with a name: `[name:2:3]`, or `[name]` where the place isn't asked for.
@@ -120,8 +114,7 @@ fn push_named_place<O: Canvas>(
 {
     push_ascii(page, PLAIN, "[")?;
     push_link(page, frame, name, place)?;
-    push_ascii(page, PLAIN, "]")?;
-    Ok(())
+    push_ascii(page, PLAIN, "]")
 }
 
 // A place in a source without a name: `[2:3]`, or `───` in a snippet of one line or where the place isn't asked for.
@@ -161,14 +154,8 @@ fn push_location<O: Canvas>(
         return Ok(());
     };
     match name {
-        Some(name) => {
-            push_named_place(page, frame, name, place)?;
-            Ok(())
-        }
-        None => {
-            push_bare_place(page, frame, several, place)?;
-            Ok(())
-        }
+        Some(name) => push_named_place(page, frame, name, place),
+        None => push_bare_place(page, frame, several, place),
     }
 }
 
@@ -190,8 +177,7 @@ pub(crate) fn push_top_row<O: Canvas>(
 {
     push_corner(page, frame, frame.theme.characters.ltop, 1)?;
     push_location(page, frame, name, several, place)?;
-    page.end_row()?;
-    Ok(())
+    page.end_row()
 }
 
 /// The row under a snippet's lines: `   ╰────`. `AllocError` where memory is refused, or `number_width + 2` is past
@@ -201,8 +187,7 @@ pub(crate) fn push_bottom_row<O: Canvas>(page: &mut Page<O>, frame: &Frame) -> O
         ⊕ rows_tokens (bottom_row (settings_of frame.now.theme.now frame.now.options) frame.now.number_width ∷ [])) }
 {
     push_corner(page, frame, frame.theme.characters.lbot, 4)?;
-    page.end_row()?;
-    Ok(())
+    page.end_row()
 }
 
 // A label's text, or that it has none.
@@ -210,14 +195,8 @@ fn push_label_text<O: Canvas>(page: &mut Page<O>, style: Style, label: &LabeledS
     ensures { OnOk result (page.new ≡ page.old ⊕ styled_tokens style (text_or_none label.now.text)) }
 {
     match label.label() {
-        Some(text) => {
-            push_styled(page, style, text)?;
-            Ok(())
-        }
-        None => {
-            push_ascii(page, style, "<none>")?;
-            Ok(())
-        }
+        Some(text) => push_styled(page, style, text),
+        None => push_ascii(page, style, "<none>"),
     }
 }
 
@@ -231,8 +210,7 @@ fn push_refused_text<O: Canvas>(page: &mut Page<O>, frame: &Frame, label: &Label
     push_ascii(page, styles.error, "Failed to read contents for label")?;
     push_ascii(page, PLAIN, " `")?;
     push_label_text(page, styles.link, label)?;
-    push_ascii(page, PLAIN, "` (offset: ")?;
-    Ok(())
+    push_ascii(page, PLAIN, "` (offset: ")
 }
 
 /// The row in place of snippets where a label is refused, with the refusal's name: "  [Failed to read contents for
@@ -255,6 +233,5 @@ pub fn push_refused_row<O: Canvas>(
     push_ascii(page, PLAIN, "): ")?;
     push_styled(page, styles.warning, name)?;
     push_ascii(page, PLAIN, "]")?;
-    page.end_row()?;
-    Ok(())
+    page.end_row()
 }

@@ -69,8 +69,7 @@ pub(crate) fn push_break_gutter<O: Canvas>(page: &mut Page<O>, sheet: &Sheet) ->
         return Ok(());
     }
     page.push_blank(1)?;
-    push_bars(page, sheet)?;
-    Ok(())
+    push_bars(page, sheet)
 }
 
 /// The gutter of a row that isn't the number row, in so many columns: a bar for each label that goes on,
@@ -88,19 +87,17 @@ pub(crate) fn push_other_gutter<O: Canvas>(
     let mut left = columns;
     for label in sheet.multi {
         if ends(&sheet.line, label) {
-            page.push_line(
+            return page.push_line(
                 label.style,
                 characters.lbot,
                 characters.hbar,
                 left.saturating_sub(1),
-            )?;
-            return Ok(());
+            );
         }
         page.push_line(label.style, characters.vbar, characters.vbar, 0)?;
         left = left.saturating_sub(1);
     }
-    page.push_blank(left)?;
-    Ok(())
+    page.push_blank(left)
 }
 
 /// The same with spaces in place of the corner: `│    `. `AllocError` where memory is refused.
@@ -117,14 +114,12 @@ pub(crate) fn push_open_gutter<O: Canvas>(
     let mut left = columns;
     for label in sheet.multi {
         if ends(&sheet.line, label) {
-            page.push_blank(left)?;
-            return Ok(());
+            return page.push_blank(left);
         }
         page.push_line(label.style, characters.vbar, characters.vbar, 0)?;
         left = left.saturating_sub(1);
     }
-    page.push_blank(left)?;
-    Ok(())
+    page.push_blank(left)
 }
 
 // An arrow from a corner, and a space: `╭──▶ `.
@@ -142,8 +137,7 @@ fn push_arrow<O: Canvas>(
     let characters = &sheet.theme.characters;
     page.push_line(style, corner, characters.hbar, left.saturating_sub(3))?;
     page.push(characters.rarrow)?;
-    page.push_blank(1)?;
-    Ok(())
+    page.push_blank(1)
 }
 
 /// The gutter of the number row: a bar for each label that runs through, an arrow for the first one that starts or
@@ -157,17 +151,14 @@ pub(crate) fn push_number_gutter<O: Canvas>(page: &mut Page<O>, sheet: &Sheet) -
     let mut left = sheet.gutter;
     for label in sheet.multi {
         if starts(&sheet.line, label) {
-            push_arrow(page, sheet, label.style, characters.ltop, left)?;
-            return Ok(());
+            return push_arrow(page, sheet, label.style, characters.ltop, left);
         }
         if ends(&sheet.line, label) {
             let corner = corner_at_end(sheet, label);
-            push_arrow(page, sheet, label.style, corner, left)?;
-            return Ok(());
+            return push_arrow(page, sheet, label.style, corner, left);
         }
         page.push_line(label.style, characters.vbar, characters.vbar, 0)?;
         left = left.saturating_sub(1);
     }
-    page.push_blank(left)?;
-    Ok(())
+    page.push_blank(left)
 }

@@ -11,3 +11,4 @@ mod sheet;
 pub mod snippet;
 mod strokes;
 mod texts;
+mod widths;

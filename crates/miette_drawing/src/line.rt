@@ -41,8 +41,7 @@ fn push_number_start<O: Canvas>(page: &mut Page<O>, sheet: &Sheet, number: usize
     page.begin(sheet.theme.styles.linum)?;
     page.push_right(number, sheet.number_width)?;
     page.push_line(PLAIN, ' ', sheet.theme.characters.vbar, 1)?;
-    page.push(' ')?;
-    Ok(())
+    page.push(' ')
 }
 
 // The number row: ` 12 │ ╭─▶ the line's text`.
@@ -61,8 +60,7 @@ fn push_number_row<O: Canvas>(
     push_number_start(page, sheet, shown.number)?;
     push_number_gutter(page, sheet)?;
     push_shown_text(page, text, shown.pieces, cut)?;
-    page.end_row()?;
-    Ok(())
+    page.end_row()
 }
 
 // The mark row and the rows of texts under it, where there is a mark.
@@ -78,8 +76,7 @@ fn push_marked_rows<O: Canvas>(page: &mut Page<O>, sheet: &Sheet, marks: &[Mark]
     push_before_marks(page, sheet)?;
     push_marks(page, sheet, marks)?;
     page.end_row()?;
-    push_texts(page, sheet, marks)?;
-    Ok(())
+    push_texts(page, sheet, marks)
 }
 
 // The marks of the labels that lie on a line alone, by the columns of the whole line.
@@ -111,8 +108,7 @@ fn push_break_row<O: Canvas>(page: &mut Page<O>, sheet: &Sheet) -> Outcome
     page.push_line(PLAIN, '.', '.', 2)?;
     page.push(sheet.theme.characters.vbar)?;
     push_break_gutter(page, sheet)?;
-    page.end_row()?;
-    Ok(())
+    page.end_row()
 }
 
 // The row of the break where it begins with the sheet's line, or none where the line before it is left out too.
@@ -123,8 +119,7 @@ fn push_break<O: Canvas>(page: &mut Page<O>, sheet: &Sheet, shown: &ShownLine) -
     if shown.gap {
         return Ok(());
     }
-    push_break_row(page, sheet)?;
-    Ok(())
+    push_break_row(page, sheet)
 }
 
 /// The rows of the sheet's line: the number row, the marks and texts of the labels that lie on it alone, and the texts
@@ -143,8 +138,7 @@ pub(crate) fn push_line_or_break<O: Canvas>(
         shown.now.number (shown_cells sheet.now shown.now) (map highlight_of shown.now.pieces.now))) }
 {
     if shown.left_out {
-        push_break(page, sheet, shown)?;
-        return Ok(());
+        return push_break(page, sheet, shown);
     }
     let whole = marks_alone(alloc, sheet, shown)?;
     let text = LineText {
@@ -156,6 +150,5 @@ pub(crate) fn push_line_or_break<O: Canvas>(
     push_number_row(page, sheet, shown, &text, &cut)?;
     let marks = marks_shown(alloc, &cut, whole)?;
     push_marked_rows(page, sheet, &marks)?;
-    push_closings(page, sheet)?;
-    Ok(())
+    push_closings(page, sheet)
 }
