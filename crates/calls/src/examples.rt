@@ -272,7 +272,6 @@ pub fn render<W: Write>(
     handler: &str,
     lines: usize,
 ) -> Done {
-    let asked = Asked { report, lines };
     match handler {
         "narrated" => {
             let mut telling = NarratableReportHandler::new().with_context_lines(lines);
@@ -281,19 +280,21 @@ pub fn render<W: Write>(
         "brief" => render_behind(alloc, out, &mut BriefReportHandler::new(), report),
         "json" => render_behind(alloc, out, &mut JSONReportHandler::new(), report),
         "debug" => render_behind(alloc, out, &mut DebugReportHandler::new(), report),
-        "wanting" => draw(alloc, out, Red(2), false, &asked),
-        "nested wanting" => draw(alloc, out, Red(2), true, &asked),
-        "chosen wanting" => render_by_choice(alloc, out, Red(2), false, &asked),
-        "highlighted" => draw(alloc, out, Red(usize::MAX), false, &asked),
-        "nested" => draw(alloc, out, Red(usize::MAX), true, &asked),
-        "chosen" => render_by_choice(alloc, out, Red(usize::MAX), false, &asked),
-        "chosen narrated" => render_by_choice(alloc, out, Red(usize::MAX), true, &asked),
-        _ => {
-            let theme = GraphicalTheme::unicode(alloc)?;
-            let mut drawing: GraphicalReportHandler<Red> = GraphicalReportHandler::themed(theme);
-            drawing = drawing.with_width(40).with_context_lines(lines);
-            render_behind(alloc, out, &mut drawing, report)
-        }
+        _ => render_drawn(alloc, out, handler, &Asked { report, lines }),
+    }
+}
+
+/// The same for handlers that draw, and for those that options choose.
+fn render_drawn<W: Write>(alloc: Global, out: &mut W, handler: &str, it: &Asked<'_, '_>) -> Done {
+    match handler {
+        "wanting" => draw(alloc, out, Red(2), false, it),
+        "nested wanting" => draw(alloc, out, Red(2), true, it),
+        "chosen wanting" => render_by_choice(alloc, out, Red(2), false, it),
+        "highlighted" => draw(alloc, out, Red(usize::MAX), false, it),
+        "nested" => draw(alloc, out, Red(usize::MAX), true, it),
+        "chosen" => render_by_choice(alloc, out, Red(usize::MAX), false, it),
+        "chosen narrated" => render_by_choice(alloc, out, Red(usize::MAX), true, it),
+        _ => draw_plainly(alloc, out, it),
     }
 }
 
@@ -302,6 +303,13 @@ pub fn render<W: Write>(
 struct Asked<'a, 'b> {
     report: &'a Made<'b>,
     lines: usize,
+}
+
+fn draw_plainly<W: Write>(alloc: Global, out: &mut W, it: &Asked<'_, '_>) -> Done {
+    let theme = GraphicalTheme::unicode(alloc)?;
+    let mut drawing: GraphicalReportHandler<Red> = GraphicalReportHandler::themed(theme);
+    drawing = drawing.with_width(40).with_context_lines(it.lines);
+    render_behind(alloc, out, &mut drawing, it.report)
 }
 
 fn draw<W: Write>(alloc: Global, out: &mut W, red: Red, nested: bool, it: &Asked<'_, '_>) -> Done {
