@@ -162,7 +162,7 @@ stays-on is_blank (chosen.Built (handler.Brief h)) (chosen.Built (handler.Graphi
 stays-on is_blank (chosen.Built (handler.Brief h)) (chosen.Built (handler.Narrated k)) (chosen.Built m) p q = absurd p
 
 -- what it gives then, it might have given at first
-pub given-before : {H : Type 0} (is_blank : H → Bool) (h k : JobHandler H) (t : Tree) (text : List ℕ) → Stays is_blank h k → IsGiven is_blank k t text → IsGiven is_blank h t text
+given-before : {H : Type 0} (is_blank : H → Bool) (h k : JobHandler H) (t : Tree) (text : List ℕ) → Stays is_blank h k → IsGiven is_blank k t text → IsGiven is_blank h t text
 given-before is_blank chosen.Json k t text stays given = subst (λ x. IsGiven is_blank x t text) stays given
 given-before is_blank chosen.Debug k t text stays given = subst (λ x. IsGiven is_blank x t text) stays given
 given-before is_blank (chosen.Built h) chosen.Json t text stays given = absurd stays
@@ -178,6 +178,10 @@ given-before is_blank (chosen.Built (handler.Narrated h)) (chosen.Built (handler
 given-before is_blank (chosen.Built (handler.Narrated h)) (chosen.Built (handler.Brief k)) t text stays given = absurd stays
 given-before is_blank (chosen.Built (handler.Brief h)) (chosen.Built (handler.Graphical k)) t text stays given = absurd stays
 given-before is_blank (chosen.Built (handler.Brief h)) (chosen.Built (handler.Narrated k)) t text stays given = absurd stays
+
+pub given-still : {Z E H : Type 0} (is_blank : H → Bool) (h k : JobHandler H) (t : Tree) (r : Result (String Z) E) → Stays is_blank h k → IfOk r (λ text. IsGiven is_blank k t (string_bytes text)) → IfOk r (λ text. IsGiven is_blank h t (string_bytes text))
+given-still is_blank h k t (Ok text) stays given = given-before is_blank h k t (string_bytes text) stays given
+given-still is_blank h k t (Err e) stays given = tt
 
 pub refused-before : {H : Type 0} (is_blank : H → Bool) (h k : JobHandler H) (t : Tree) → Stays is_blank h k → MayRefuse k t → MayRefuse h t
 refused-before is_blank chosen.Json k t stays refused = subst (λ x. MayRefuse x t) stays refused

@@ -6,3 +6,6 @@ pub mod JobHandlerSteps
 pub mod FindingSteps
 pub mod LintSteps
 pub mod OptionWordSteps
+pub mod WriteResults
+pub mod FirstWords
+pub mod FaultRows

@@ -93,7 +93,13 @@ fn measure<R: Read + Drop, W: Write + Drop>(
 {
     let bytes = read_whole(alloc, &mut Device::new(reader))?;
     let length = rendered_length(alloc, bytes.as_slice(), times, settings)?;
+    write_length(alloc, writer, length)
+}
+
+/// Writes the length of one rendering.
+fn write_length<W: Write + Drop>(alloc: Global, writer: W, length: usize) -> Result<(), Fault>
+    ensures others { OnErr result ((result ≡ Err Fault.Write) ⊎ (result ≡ Err Fault.Memory)) }
+{
     let text = format!(in alloc; "{length}\n")?;
-    write_whole(&mut Device::new(writer), text.as_bytes())?;
-    Ok(())
+    write_whole(&mut Device::new(writer), text.as_bytes())
 }

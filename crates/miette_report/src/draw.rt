@@ -125,8 +125,7 @@ pub fn write_picture<R: Read, W: Write>(
     let Ok(text) = picture(alloc, words, input) else {
         return Err(Fault::Memory);
     };
-    write_whole(writer, text.as_bytes())?;
-    Ok(())
+    write_whole(writer, text.as_bytes())
 }
 
 /// The program `draw`: in go the words after its name, out comes the status. The words are checked first, then all

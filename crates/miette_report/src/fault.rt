@@ -80,14 +80,15 @@ impl Program {
         ensures row { OnOk result (Appends (F.contents faults.old) (F.contents faults.new) (fault_row self fault)) }
     {
         let (name, usage) = self.name_and_usage();
-        match fault {
-            Fault::Usage => writeln!(faults, "usage: {name} {usage}"),
-            Fault::Memory => writeln!(faults, "{name}: out of memory"),
-            Fault::Read => writeln!(faults, "{name}: read fault"),
-            Fault::Write => writeln!(faults, "{name}: write fault"),
-            Fault::Description => writeln!(faults, "{name}: bad description"),
-            Fault::Refused => writeln!(faults, "{name}: report refused"),
-        }
+        let why = match fault {
+            Fault::Usage => return writeln!(faults, "usage: {name} {usage}"),
+            Fault::Memory => "out of memory",
+            Fault::Read => "read fault",
+            Fault::Write => "write fault",
+            Fault::Description => "bad description",
+            Fault::Refused => "report refused",
+        };
+        writeln!(faults, "{name}: {why}")
     }
 
     /// Prints why it fails, and gives the status. Faults of `faults` are ignored.

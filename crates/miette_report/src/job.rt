@@ -61,6 +61,5 @@ fn run_asked<R: Read + Drop, W: Write + Drop>(
     let settings = Arguments::read(alloc, words)?;
     let mut reader = Device::new(reader);
     let mut writer = Device::new(writer);
-    run(alloc, &mut reader, &mut writer, settings)?;
-    Ok(())
+    run(alloc, &mut reader, &mut writer, settings)
 }

@@ -120,7 +120,6 @@ impl<H: Highlighter> JobHandler<H> {
         for _ in 1..times {
             self.render(alloc, report)?;
         }
-        let last = self.render(alloc, report)?;
-        Ok(last)
+        self.render(alloc, report)
     }
 }

@@ -3,8 +3,8 @@
 ghost use Rattle.std.specs.Prelude.{◌≡◌, ◌<◌, length, true, false, IfSome, IsNone, map, string_bytes};
 ghost use Rattle.std.specs.Option.{option_map};
 ghost use Rattle.miette_report.specs.rules.HandlerChoice.{chosen_by, choice_in, is_alone, named_choice};
-ghost use Rattle.miette_report.specs.rules.OptionWords.{answer_ask, first_ask, name_ask, number_ask, text_ask};
-ghost use Rattle.miette_report.specs.rules.OptionWords.{value_ask, word_ask};
+ghost use Rattle.miette_report.specs.rules.OptionWords.{answer_ask, colours_ask, first_ask, name_ask, number_ask};
+ghost use Rattle.miette_report.specs.rules.OptionWords.{text_ask, value_ask, word_ask};
 ghost use Rattle.miette_report.specs.steps.AskView.{ask_of, built_ask};
 
 use crate::language::Language;
@@ -197,25 +197,41 @@ fn with_answer<'a>(word: &str, yes: bool) -> Option<BuildAsked<'a>>
 fn with_name<'a>(word: &str, name: &str) -> Option<BuildAsked<'a>>
     ensures { option_map built_ask result ≡ name_ask word.now name.now }
 {
-    let asked = match (word, name) {
-        ("--theme", "ascii") => OptionAsked::Theme(ThemeAsked::Ascii),
-        ("--theme", "unicode") => OptionAsked::Theme(ThemeAsked::Unicode),
-        ("--theme", "unicode_nocolor") => OptionAsked::Theme(ThemeAsked::UnicodeNocolor),
-        ("--theme", "none") => OptionAsked::Theme(ThemeAsked::None),
-        ("--rgb", "always") => OptionAsked::Rgb(RgbColors::Always),
-        ("--rgb", "preferred") => OptionAsked::Rgb(RgbColors::Preferred),
-        ("--rgb", "never") => OptionAsked::Rgb(RgbColors::Never),
-        ("--highlight", "toml") => OptionAsked::Highlight(Language::Toml),
-        ("--highlight", "json") => OptionAsked::Highlight(Language::Json),
-        ("--highlight", "rust") => OptionAsked::Highlight(Language::Rust),
-        ("--term-color", "none") => return Some(BuildAsked::Terminal(TerminalAsked::Color(None))),
-        ("--term-color", "ansi") => {
-            return Some(BuildAsked::Terminal(TerminalAsked::Color(Some(false))));
-        }
-        ("--term-color", "rgb") => {
-            return Some(BuildAsked::Terminal(TerminalAsked::Color(Some(true))));
-        }
+    let asked = match word {
+        "--theme" => match name {
+            "ascii" => OptionAsked::Theme(ThemeAsked::Ascii),
+            "unicode" => OptionAsked::Theme(ThemeAsked::Unicode),
+            "unicode_nocolor" => OptionAsked::Theme(ThemeAsked::UnicodeNocolor),
+            "none" => OptionAsked::Theme(ThemeAsked::None),
+            _ => return None,
+        },
+        "--rgb" => match name {
+            "always" => OptionAsked::Rgb(RgbColors::Always),
+            "preferred" => OptionAsked::Rgb(RgbColors::Preferred),
+            "never" => OptionAsked::Rgb(RgbColors::Never),
+            _ => return None,
+        },
+        "--highlight" => match name {
+            "toml" => OptionAsked::Highlight(Language::Toml),
+            "json" => OptionAsked::Highlight(Language::Json),
+            "rust" => OptionAsked::Highlight(Language::Rust),
+            _ => return None,
+        },
+        "--term-color" => return terminal_color(name),
         _ => return None,
     };
     Some(BuildAsked::Option(asked))
+}
+
+/// The colours of the terminal by their names.
+fn terminal_color<'a>(name: &str) -> Option<BuildAsked<'a>>
+    ensures { option_map built_ask result ≡ colours_ask name.now }
+{
+    let color = match name {
+        "none" => None,
+        "ansi" => Some(false),
+        "rgb" => Some(true),
+        _ => return None,
+    };
+    Some(BuildAsked::Terminal(TerminalAsked::Color(color)))
 }

@@ -7,6 +7,7 @@ ghost use Rattle.miette_report.specs.views.Device.{TakesBeginning};
 ghost use Rattle.miette_tree.specs.views.Report.{tree_of};
 ghost use Rattle.miette_tree.specs.rules.Reads.{AlwaysReads};
 ghost use Rattle.miette_description.specs.rules.Description.{tree_for};
+ghost use Rattle.miette_report.specs.steps.JobHandler.{IsAsked};
 ghost use Rattle.miette_report.specs.rules.Job.{IsDescription, IsTelling, IsRefused, Writes};
 
 use crate::arguments::Arguments;
@@ -40,6 +41,25 @@ fn report_of(alloc: Global, bytes: &[u8]) -> Result<Report, Fault>
     }
 }
 
+/// The report that the bytes describe, and the handler that the settings ask for.
+fn report_and_handler(
+    alloc: Global,
+    bytes: &[u8],
+    settings: Arguments,
+) -> Result<(Report, JobHandler<LanguageHighlighter>), Fault>
+    ensures ok { IfOk result (λ it. IsUtf8 bytes.now
+        × (tree_for bytes.now ≡ Some (tree_of ⟦<Box<dyn Diagnostic> as Diagnostic>⟧.meaning
+        ⟦<Box<dyn SourceCode> as SourceCode>⟧.source it.0))) }
+    ensures sources { IfOk result (λ it. AlwaysReads
+        (tree_of ⟦<Box<dyn Diagnostic> as Diagnostic>⟧.meaning ⟦<Box<dyn SourceCode> as SourceCode>⟧.source it.0)) }
+    ensures asked { IfOk result (λ it. IsAsked settings.choice settings.options settings.terminal it.1) }
+    ensures description { (result ≡ Err Fault.Description) → IsUtf8 bytes.now → tree_for bytes.now ≡ None }
+    ensures others { OnErr result ((result ≡ Err Fault.Description) ⊎ (result ≡ Err Fault.Memory)) }
+{
+    let report = report_of(alloc, bytes)?;
+    Ok((report, JobHandler::new(alloc, settings)?))
+}
+
 /// The text for a description.
 fn text_of(alloc: Global, bytes: &[u8], settings: Arguments) -> Result<String, Fault>
     ensures ok { IfOk result (λ text. Writes ⟦<LanguageHighlighter as Highlighter>⟧.is_blank settings.choice
@@ -50,8 +70,7 @@ fn text_of(alloc: Global, bytes: &[u8], settings: Arguments) -> Result<String, F
     ensures others { OnErr result ((result ≡ Err Fault.Description) ⊎ (result ≡ Err Fault.Refused)
         ⊎ (result ≡ Err Fault.Memory)) }
 {
-    let report = report_of(alloc, bytes)?;
-    let mut handler = JobHandler::new(alloc, settings)?;
+    let (report, mut handler) = report_and_handler(alloc, bytes, settings)?;
     handler.render(alloc, &report)
 }
 
@@ -72,8 +91,7 @@ pub(crate) fn rendered_length(
     ensures refused { (result ≡ Err Fault.Refused) →
         IsTelling settings.choice settings.options settings.terminal × IsRefused bytes.now }
 {
-    let report = report_of(alloc, bytes)?;
-    let mut handler = JobHandler::new(alloc, settings)?;
+    let (report, mut handler) = report_and_handler(alloc, bytes, settings)?;
     if times == 0 {
         return Ok(0);
     }
@@ -118,6 +136,5 @@ pub fn run<R: Read, W: Write>(
 {
     let bytes = read_whole(alloc, reader)?;
     let text = text_of(alloc, bytes.as_slice(), settings)?;
-    write_whole(writer, text.as_bytes())?;
-    Ok(())
+    write_whole(writer, text.as_bytes())
 }

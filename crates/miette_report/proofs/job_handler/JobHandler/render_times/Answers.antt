@@ -1,5 +1,5 @@
 use Rattle.std.proofs.Common.{rules}
-use Rattle.miette_report.proofs.JobHandlerSteps.{given-before, refused-before, stays-itself, stays-on}
+use Rattle.miette_report.proofs.JobHandlerSteps.{given-still, refused-before, stays-itself, stays-on}
 use Rattle.miette_report.proofs.job_handler.JobHandler.render_times.Goals as goal
 
 pub loop-init : goal.loop-init
@@ -11,8 +11,8 @@ loop-preserved g c = stays-on g.H.Highlighter.is_blank _ _ _ c.loop.invariant c.
 pub returns-in_err-render-clause-refused : goal.returns-in_err-render-clause-refused
 returns-in_err-render-clause-refused g c = λ refused. refused-before g.H.Highlighter.is_blank _ _ _ c.loop.invariant (c.in_err-render.ensures.refused (search rules))
 
-pub returns-in_err-last-clause-refused : goal.returns-in_err-last-clause-refused
-returns-in_err-last-clause-refused g c = λ refused. refused-before g.H.Highlighter.is_blank _ _ _ c.loop.invariant (c.in_err-last.ensures.refused (search rules))
+pub returns-clause-refused : goal.returns-clause-refused
+returns-clause-refused g c = λ refused. refused-before g.H.Highlighter.is_blank _ _ _ c.loop.invariant (c.render-2.ensures.refused refused)
 
 pub returns-clause-ok : goal.returns-clause-ok
-returns-clause-ok g c = given-before g.H.Highlighter.is_blank _ _ _ _ c.loop.invariant c.in_ok-last.ensures.ok
+returns-clause-ok g c = given-still g.H.Highlighter.is_blank _ _ _ c.render-2.result c.loop.invariant c.render-2.ensures.ok
