@@ -17,7 +17,7 @@ use Rattle.miette_brief.specs.rules.Report.{BriefSettings, Answers, RelatedAnswe
 use Rattle.miette_brief.specs.rules.PossibleAnswers.{HasAccepted, AreCauseAnswers, AreCausedAnswers, AreAnswers, AllAnswers, IsBrief}
 use Rattle.miette_brief.specs.steps.Reads.{IsDiagnosticPlace}
 use Rattle.miette_brief.proofs.Putting.{rows_joined}
-use Rattle.miette_brief.specs.steps.AppendedParts.{AppendsCauses, AppendsOwn, AppendsReport, AppendsRelated}
+use Rattle.miette_brief.specs.steps.AppendedParts.{AppendsCauses, AppendsBelow, AppendsOwn, AppendsReport, AppendsRelated}
 
 -- ---- causes that aren't told
 
@@ -45,25 +45,25 @@ rows_of_four : (row : ReportRow) (notes causes help : List ReportRow) → rows_t
 rows_of_four row notes causes help =
     rows_joined (row ∷ []) (notes ++ (causes ++ help)) ∙ ap (λ l. rows_text (row ∷ []) ++ l) (rows_joined notes (causes ++ help) ∙ ap (λ l. rows_text notes ++ l) (rows_joined causes help))
 
-pub own_told : (chain : Bool) (source : Option Source) (t : Tree) (labels order : List Label) (at : Place) (help : Option (List ℕ)) (old a b p new : List ℕ)
-    → labels ≡ given_labels (head t).labels → order ≡ in_order labels → help ≡ (head t).help → IsDiagnosticPlace source order at
+pub own_told : (chain : Bool) (source : Option Source) (t : Tree) (labels order : List Label) (at : Place) (old a b new : List ℕ)
+    → labels ≡ given_labels (head t).labels → order ≡ in_order labels → IsDiagnosticPlace source order at
     → a ≡ old ++ rows_text (finding_row at (head t) ∷ []) → b ≡ a ++ rows_text (note_rows source order) → HasAccepted source order
-    → AppendsCauses chain at source (cause_of t) b p → new ≡ p ++ rows_text (help_rows at help) → AppendsOwn chain source (head t) (cause_of t) old new
-own_told chain source t labels order at help old a b p new el eo eh placed e f accepted causes g =
+    → AppendsBelow chain at source (cause_of t) (head t).help b new → AppendsOwn chain source (head t) (cause_of t) old new
+own_told chain source t labels order at old a b new el eo placed e f accepted below =
     let m = head t in
     let c = cause_of t in
     let ls : List Label = in_order (given_labels m.labels) in
     let same : order ≡ ls = eo ∙ ap in_order el in
     let here : IsDiagnosticPlace source ls at = subst (λ (l : List Label). IsDiagnosticPlace source l at) same placed in
     let notes : b ≡ a ++ rows_text (note_rows source ls) = f ∙ ap (λ l. a ++ rows_text (note_rows source l)) same in
-    let helped : new ≡ p ++ rows_text (help_rows at m.help) = g ∙ ap (λ h. p ++ rows_text (help_rows at h)) eh in
+    let causes = below.causes in
     let answers : Answers = listed here.fault causes.answers no_more in
     record {
       answers = answers;
       accepted = subst (λ (l : List Label). HasAccepted source l) same accepted;
       possible = here.possible;
       causes = causes.possible;
-      appended = four old a b p new (rows_text (finding_row at m ∷ [])) (rows_text (note_rows source ls)) (rows_text (cause_rows_if chain at source causes.answers c)) (rows_text (help_rows at m.help)) e notes causes.appended helped
+      appended = four old a b below.caused new (rows_text (finding_row at m ∷ [])) (rows_text (note_rows source ls)) (rows_text (cause_rows_if chain at source causes.answers c)) (rows_text (help_rows at m.help)) e notes causes.appended below.appended
           ∙ ap (λ l. old ++ l) (sym (rows_of_four (finding_row at m) (note_rows source ls) (cause_rows_if chain at source causes.answers c) (help_rows at m.help)))
           ∙ ap (λ q. old ++ rows_text (rows_at chain q source answers m c)) here.is;
     }

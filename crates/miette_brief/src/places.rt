@@ -164,6 +164,17 @@ pub(crate) fn diagnostic_place<'a, S: SourceCode>(
     }
 }
 
+/// Of labels the span of the primary one, by their order.
+fn primary_of_labels(
+    alloc: Global,
+    labels: &[LabeledSpan],
+) -> Result<Option<SourceSpan>, AllocError>
+    ensures { IfOk result (λ span. span ≡ primary_of (in_order labels.now)) }
+{
+    let order = by_offset(alloc, labels)?;
+    Ok(primary_span(labels, &order))
+}
+
 /// Where a cause with these labels lies: at its primary one where that can be read, else at this place.
 pub(crate) fn cause_place<'a, S: SourceCode>(
     alloc: Global,
@@ -177,8 +188,7 @@ pub(crate) fn cause_place<'a, S: SourceCode>(
     let Some(source) = source else {
         return Ok(at);
     };
-    let order = by_offset(alloc, labels)?;
-    let Some(span) = primary_span(labels, &order) else {
+    let Some(span) = primary_of_labels(alloc, labels)? else {
         return Ok(at);
     };
     match read_begin(source, &span)? {

@@ -39,8 +39,7 @@ fn push_position(out: &mut String, at: Position) -> Result<(), AllocError>
 {
     push_number(out, at.line)?;
     out.push_str(":")?;
-    push_number(out, at.column)?;
-    Ok(())
+    push_number(out, at.column)
 }
 
 /// `:2:3`
@@ -51,8 +50,7 @@ fn push_behind_colon(out: &mut String, position: Option<Position>) -> Result<(),
         return Ok(());
     };
     out.push_str(":")?;
-    push_position(out, at)?;
-    Ok(())
+    push_position(out, at)
 }
 
 /// `bad_file.rs:2:3: `
@@ -61,8 +59,7 @@ fn push_named(out: &mut String, name: &str, position: Option<Position>) -> Resul
 {
     push_one_row(out, name)?;
     push_behind_colon(out, position)?;
-    out.push_str(": ")?;
-    Ok(())
+    out.push_str(": ")
 }
 
 /// `2:3: `
@@ -73,8 +70,7 @@ fn push_nameless(out: &mut String, position: Option<Position>) -> Result<(), All
         return Ok(());
     };
     push_position(out, at)?;
-    out.push_str(": ")?;
-    Ok(())
+    out.push_str(": ")
 }
 
 /// A place with what parts it has.
@@ -97,8 +93,7 @@ fn push_code(out: &mut String, code: Option<&str>) -> Result<(), AllocError>
     };
     out.push_str("[")?;
     push_one_row(out, code)?;
-    out.push_str("]")?;
-    Ok(())
+    out.push_str("]")
 }
 
 /// `error[oops::my::bad]: `
@@ -112,8 +107,7 @@ fn push_finding(
 {
     out.push_str(severity_name(severity))?;
     push_code(out, code)?;
-    out.push_str(": ")?;
-    Ok(())
+    out.push_str(": ")
 }
 
 /// The words that say what a row tells.
@@ -141,6 +135,5 @@ pub(crate) fn push_row(
     push_place(out, place)?;
     push_kind(out, kind)?;
     push_one_row(out, text)?;
-    out.push_str("\n")?;
-    Ok(())
+    out.push_str("\n")
 }

@@ -13,8 +13,7 @@ fn push_gap(out: &mut String, goes_on: bool) -> Result<(), AllocError>
     if goes_on {
         return Ok(());
     }
-    out.push(' ')?;
-    Ok(())
+    out.push(' ')
 }
 
 /// Appends what stands for a character, behind a control character or not.
@@ -24,8 +23,7 @@ fn push_character(out: &mut String, goes_on: bool, c: char) -> Result<(), AllocE
     if c.is_control() {
         return push_gap(out, goes_on);
     }
-    out.push(c)?;
-    Ok(())
+    out.push(c)
 }
 
 /// Appends a text as it stands in a row: each stretch of control characters is one space.
@@ -45,6 +43,5 @@ pub(crate) fn push_number(out: &mut String, number: usize) -> Result<(), AllocEr
     ensures { OnOk result (string_bytes out.new ≡ string_bytes out.old ++ decimal number) }
 {
     let mut digits = Buffer::new();
-    out.push_str(digits.format(number))?;
-    Ok(())
+    out.push_str(digits.format(number))
 }

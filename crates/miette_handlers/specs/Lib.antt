@@ -1,4 +1,5 @@
 pub mod rules
+pub mod steps
 pub use Rattle.miette_graphical.specs.views.Handling
 pub use Rattle.miette_graphical.specs.rules.Settings
 pub use Rattle.miette_graphical.specs.views.Modes

@@ -7,6 +7,7 @@ ghost use Rattle.miette_tree.specs.views.Handler.{AppendsOne};
 ghost use Rattle.miette_tree.specs.views.Report.{tree_of};
 ghost use Rattle.miette_handlers.specs.rules.DebugText.{IsDebugText, IsField, IsLabelsField, IsQuoted};
 ghost use Rattle.miette_handlers.specs.rules.DebugText.{nearest, severity_variant};
+ghost use Rattle.miette_handlers.specs.steps.DebugParts.{AreFields};
 
 use miette_protocol::error::RenderError;
 use miette_protocol::protocol::{Diagnostic, LabeledSpan, Severity};
@@ -77,17 +78,51 @@ fn fields_of<D: Diagnostic, S: SourceCode>(
 ) -> Result<String, AllocError>
     ensures { IfOk result (λ text. IsDebugText (tree_of D.meaning S.source report.now) (string_bytes text)) }
 {
-    let mut text = String::from_str(alloc, "Diagnostic { message: ")?;
-    push_quoted(alloc, &mut text, report.message())?;
-    push_field(alloc, &mut text, "code", report.code())?;
-    let severity = severity_variant(report.severity());
-    push_field(alloc, &mut text, "severity", severity)?;
-    push_field(alloc, &mut text, "url", report.url())?;
-    push_field(alloc, &mut text, "help", report.help())?;
-    push_labels(alloc, &mut text, labels_of(report))?;
-    push_field(alloc, &mut text, "caused by", cause_name(report))?;
-    text.push_str(" }\n")?;
+    let mut text = String::new(alloc);
+    push_fields(alloc, &mut text, report)?;
     Ok(text)
+}
+
+/// The same, behind a text.
+fn push_fields<D: Diagnostic, S: SourceCode>(
+    alloc: Global,
+    out: &mut String,
+    report: &Report<D, S>,
+) -> Result<(), AllocError>
+    ensures { OnOk result (AppendsOne (IsDebugText (tree_of D.meaning S.source report.now)) (string_bytes out.old)
+        (string_bytes out.new)) }
+{
+    out.push_str("Diagnostic { message: ")?;
+    push_quoted(alloc, out, report.message())?;
+    push_members(
+        alloc,
+        out,
+        report.code(),
+        report.severity(),
+        report.url(),
+        report.help(),
+    )?;
+    push_labels(alloc, out, labels_of(report))?;
+    push_field(alloc, out, "caused by", cause_name(report))?;
+    out.push_str(" }\n")
+}
+
+/// `, code: "c", severity: "Warning", url: "u", help: "h"`
+fn push_members(
+    alloc: Global,
+    out: &mut String,
+    code: Option<&str>,
+    severity: Option<Severity>,
+    url: Option<&str>,
+    help: Option<&str>,
+) -> Result<(), AllocError>
+    ensures { OnOk result (AppendsOne (AreFields (option_copied code.entry) severity (option_copied url.entry)
+        (option_copied help.entry)) (string_bytes out.old) (string_bytes out.new)) }
+{
+    push_field(alloc, out, "code", code)?;
+    push_field(alloc, out, "severity", severity_variant(severity))?;
+    push_field(alloc, out, "url", url)?;
+    push_field(alloc, out, "help", help)
 }
 
 /// A text in quotes, with its escapes.
@@ -114,8 +149,7 @@ fn push_field(
     out.push_str(", ")?;
     out.push_str(name)?;
     out.push_str(": ")?;
-    push_quoted(alloc, out, text)?;
-    Ok(())
+    push_quoted(alloc, out, text)
 }
 
 /// `, labels: "[..]"`, where there are any.
@@ -126,8 +160,7 @@ fn push_labels(alloc: Global, out: &mut String, labels: &[LabeledSpan]) -> Resul
         return Ok(());
     }
     let shown = format!(in alloc; "{labels:?}")?;
-    push_field(alloc, out, "labels", Some(shown.as_str()))?;
-    Ok(())
+    push_field(alloc, out, "labels", Some(shown.as_str()))
 }
 
 /// The name of a severity's variant, where one is set.

@@ -15,7 +15,7 @@ use Rattle.miette_tree.proofs.Readings.{fault_free}
 use Rattle.miette_tree.specs.rules.Reads.{MayMeet, always_reads, holds_of, holds_of_all}
 use Rattle.miette_json.specs.rules.JsonText.{IsJsonOf}
 use Rattle.miette_json.proofs.JsonJoined.{last_piece, report_parts}
-use Rattle.miette_json.specs.steps.JsonParts.{rest_text, AppendsReport, AppendsRelated, AppendsPlaces, head_text, reasons_text, key_text}
+use Rattle.miette_json.specs.steps.JsonParts.{rest_text, AppendsReport, AppendsRelated, AppendsPlaces, head_text, reasons_text, places_text, key_text, list_key_text}
 
 -- Some related reports are written, and these are left: whatever answers these have, the whole has some.
 pub record RelatedSoFar (inherited : Option Source) (all left : Trees) (first : Bool) (old now : List ℕ) : Type 0 where
@@ -45,23 +45,23 @@ pub at_the_end : {R : Type 0} (value : R → Tree) (inherited : Option Source) (
 at_the_end value inherited rs all i first old now h r = subst (λ l. RelatedSoFar inherited all (trees (map value l)) first old now) (drop_all i rs h) r
 
 -- what the parts of a report's object add
-joined : (old a b p k q r new h re pl key x : List ℕ) → a ≡ old ++ h → b ≡ a ++ re → p ≡ b ++ pl → k ≡ p ++ key → q ≡ k ++ 91 ∷ [] → r ≡ q ++ x → new ≡ r ++ 125 ∷ []
+joined : (old b p q r new h re pl key x : List ℕ) → b ≡ (old ++ h) ++ re → p ≡ b ++ pl → q ≡ p ++ (key ++ 91 ∷ []) → r ≡ q ++ x → new ≡ r ++ 125 ∷ []
     → new ≡ old ++ (h ++ (re ++ (pl ++ (key ++ (91 ∷ (x ++ 125 ∷ []))))))
-joined old a b p k q r new h re pl key x e f g i j l m =
-    m ∙ ap (λ y. y ++ 125 ∷ []) (l ∙ ap (λ y. y ++ x) (j ∙ ap (λ y. y ++ 91 ∷ []) (i ∙ ap (λ y. y ++ key) (g ∙ ap (λ y. y ++ pl) (f ∙ ap (λ y. y ++ re) e))))) ∙ simp append_assoc
+joined old b p q r new h re pl key x f g j l m =
+    m ∙ ap (λ y. y ++ 125 ∷ []) (l ∙ ap (λ y. y ++ x) (j ∙ ap (λ y. y ++ (key ++ 91 ∷ [])) (g ∙ ap (λ y. y ++ pl) f))) ∙ simp append_assoc
 
-pub report_written : (inherited : Option Source) (t : Tree) (source : Option Source) (labels : List Label) (related : Trees) (old a b p k q r new : List ℕ)
+pub report_written : (inherited : Option Source) (t : Tree) (source : Option Source) (labels : List Label) (related : Trees) (old b p q r new : List ℕ)
     → source ≡ effective (source_of t) inherited → labels ≡ given_labels (head t).labels → related ≡ related_of t
-    → a ≡ old ++ head_text (head t) → b ≡ a ++ reasons_text (causes_of (cause_of t)) (head t) → AppendsPlaces source labels b p
-    → k ≡ p ++ key_text (codes "related") → q ≡ k ++ 91 ∷ [] → AppendsRelated source related q r → new ≡ r ++ 125 ∷ [] → AppendsReport inherited t old new
-report_written inherited (tree m s c rs) source labels related old a b p k q r new es el er e f places g h others i =
+    → b ≡ (old ++ head_text (head t)) ++ reasons_text (causes_of (cause_of t)) (head t) → AppendsPlaces source labels b p
+    → q ≡ p ++ list_key_text (codes "related") → AppendsRelated source related q r → new ≡ r ++ 125 ∷ [] → AppendsReport inherited t old new
+report_written inherited (tree m s c rs) source labels related old b p q r new es el er f places g others i =
     let own = effective s inherited in
     let here : AppendsPlaces own (given_labels m.labels) b p = subst (λ l. AppendsPlaces own l b p) el (subst (λ o. AppendsPlaces o labels b p) es places) in
     let there : AppendsRelated own rs q r = subst (λ ts. AppendsRelated own ts q r) er (subst (λ o. AppendsRelated o related q r) es others) in
     let answers : NameAnswers = listed here.fault unlisted there.answers in record {
       answers = answers;
       possible = (here.possible, there.possible);
-      appended = joined _ _ _ _ _ _ _ _ _ _ _ _ _ e f here.appended g h there.appended i ∙ ap (λ l. old ++ l) (sym (report_parts inherited answers (tree m s c rs)));
+      appended = joined old b p q r new (head_text m) (reasons_text (causes_of c) m) (places_text here.fault own (given_labels m.labels)) (key_text (codes "related")) (items_text (reports_json own there.answers rs)) f here.appended g there.appended i ∙ ap (λ l. old ++ l) (sym (report_parts inherited answers (tree m s c rs)));
     }
 
 -- ---- sources that always read

@@ -1,13 +1,13 @@
 -- The parts that are written make up the text of the value.
-use Rattle.std.proofs.Common.{◌≡◌, ℕ, List, [], ◌∷◌, ◌++◌, Option, Some, None, refl, sym, ap, ◌∙◌, append_assoc, append-nil, Bool, true, false, codes, option_map}
-use Rattle.std.specs.Prelude.{if◌then◌else◌}
+use Rattle.std.proofs.Common.{◌≡◌, ℕ, List, [], ◌∷◌, ◌++◌, Option, Some, None, refl, sym, ap, ◌∙◌, append_assoc, append-nil, Bool, true, false, codes, option_map, Result, Ok, Err}
+use Rattle.std.specs.Prelude.{if◌then◌else◌, cond, is_ok, OnOk}
 use Rattle.miette_json.specs.rules.Json.{Json, string, array, object, Items, item, Members, no_members, member, quoted_text, json_text, items_text, more_members_text}
 use Rattle.miette_protocol.specs.rules.Reading.{Source}
 use Rattle.miette_tree.specs.rules.Tree.{Tree, tree, head, source_of, cause_of, causes_of, related_of, effective}
 use Rattle.miette_json.specs.rules.JsonReport.{NameAnswers, related_answers, maybe, strings, labels_json, file_name, report_json, reports_json}
 use Rattle.miette_tree.specs.rules.DiagnosticParts.{severity_text, given_labels}
 use Rattle.miette_tree.specs.rules.Answers.{own_fault}
-use Rattle.miette_json.specs.steps.JsonParts.{key_text, maybe_text, rest_text, start_text, head_text, reasons_text, places_text}
+use Rattle.miette_json.specs.steps.JsonParts.{name_text, member_before, key_text, maybe_text, rest_text, start_text, head_text, reasons_text, places_text}
 
 -- what is left to write grows shorter
 pub step : (out new piece rest goal : List ℕ) → out ++ (piece ++ rest) ≡ goal → new ≡ out ++ piece → new ++ rest ≡ goal
@@ -16,10 +16,43 @@ step out new piece rest goal e f = ap (λ l. l ++ rest) f ∙ (append_assoc out 
 pub last_step : (out new piece goal : List ℕ) → out ++ piece ≡ goal → new ≡ out ++ piece → new ≡ goal
 last_step out new piece goal e f = f ∙ e
 
--- what four writes add
-pub append_parts : (out a b c new w x z : List ℕ) → a ≡ out ++ w → b ≡ a ++ x → c ≡ b ++ 91 ∷ [] → new ≡ c ++ z → new ≡ out ++ (w ++ (x ++ (91 ∷ z)))
-append_parts out a b c new w x z e f g h =
-    h ∙ ap (λ l. l ++ z) (g ∙ ap (λ l. l ++ 91 ∷ []) (f ∙ ap (λ l. l ++ x) e)) ∙ simp append_assoc
+-- what three writes add
+pub append_parts : (out a b new w x z : List ℕ) → a ≡ out ++ w → b ≡ a ++ (x ++ 91 ∷ []) → new ≡ b ++ z → new ≡ out ++ (w ++ (x ++ (91 ∷ z)))
+append_parts out a b new w x z e f g =
+    g ∙ ap (λ l. l ++ z) (f ∙ ap (λ l. l ++ (x ++ 91 ∷ [])) e) ∙ simp append_assoc
+
+-- the parts of a head, of a span, of what a label begins with, and of reasons
+pub head_parts : (out a b c new key message code severity : List ℕ) → a ≡ out ++ 123 ∷ (key ++ (58 ∷ 32 ∷ [])) → b ≡ a ++ message → c ≡ b ++ code → new ≡ c ++ severity
+    → new ≡ out ++ 123 ∷ (key ++ (58 ∷ 32 ∷ (message ++ (code ++ severity))))
+head_parts out a b c new key message code severity e f g h =
+    h ∙ ap (λ l. l ++ severity) (g ∙ ap (λ l. l ++ code) (f ∙ ap (λ l. l ++ message) e)) ∙ simp append_assoc
+
+pub span_parts : (out a b c d new first offset second len : List ℕ) → a ≡ out ++ 123 ∷ (first ++ (58 ∷ 32 ∷ [])) → b ≡ a ++ offset → c ≡ b ++ 44 ∷ (second ++ (58 ∷ 32 ∷ []))
+    → d ≡ c ++ len → new ≡ d ++ 125 ∷ [] → new ≡ out ++ 123 ∷ (first ++ (58 ∷ 32 ∷ (offset ++ (44 ∷ (second ++ (58 ∷ 32 ∷ (len ++ 125 ∷ [])))))))
+span_parts out a b c d new first offset second len e f g h i =
+    i ∙ ap (λ l. l ++ 125 ∷ []) (h ∙ ap (λ l. l ++ len) (g ∙ ap (λ l. l ++ 44 ∷ (second ++ (58 ∷ 32 ∷ []))) (f ∙ ap (λ l. l ++ offset) e))) ∙ simp append_assoc
+
+start_some : (out a b new first text second : List ℕ) → a ≡ out ++ 123 ∷ [] → b ≡ a ++ ((first ++ (58 ∷ 32 ∷ [])) ++ (text ++ 44 ∷ [])) → new ≡ b ++ second
+    → new ≡ out ++ 123 ∷ (first ++ (58 ∷ 32 ∷ (text ++ 44 ∷ second)))
+start_some out a b new first text second e f g =
+    g ∙ ap (λ l. l ++ second) (f ∙ ap (λ l. l ++ ((first ++ (58 ∷ 32 ∷ [])) ++ (text ++ 44 ∷ []))) e) ∙ simp append_assoc
+
+start_none : (out a b new second : List ℕ) → a ≡ out ++ 123 ∷ [] → b ≡ a ++ [] → new ≡ b ++ second → new ≡ out ++ 123 ∷ second
+start_none out a b new second e f g = g ∙ ap (λ l. l ++ second) (f ∙ append-nil a ∙ e) ∙ append_assoc out (123 ∷ []) second
+
+pub start_parts : (out a b new first second : List ℕ) (o : Option (List ℕ)) → a ≡ out ++ 123 ∷ [] → b ≡ a ++ member_before first o → new ≡ b ++ name_text second → new ≡ out ++ start_text first second o
+start_parts out a b new first second None e f g = start_none out a b new (name_text second) e f g
+start_parts out a b new first second (Some s) e f g = start_some out a b new (quoted_text first) (quoted_text s) (name_text second) e f g
+
+pub reasons_parts : (out a b c new key causes url help : List ℕ) → a ≡ out ++ (key ++ 91 ∷ []) → b ≡ a ++ causes → c ≡ b ++ url → new ≡ c ++ help
+    → new ≡ out ++ (key ++ (91 ∷ (causes ++ (url ++ help))))
+reasons_parts out a b c new key causes url help e f g h =
+    h ∙ ap (λ l. l ++ help) (g ∙ ap (λ l. l ++ url) (f ∙ ap (λ l. l ++ causes) e)) ∙ simp append_assoc
+
+-- what a text is where it was written
+pub where_written : {T E : Type 0} (r : Result T E) (new written old : List ℕ) → new ≡ cond (is_ok r) written old → OnOk r (new ≡ written)
+where_written (Ok x) new written old is = is
+where_written (Err e) new written old is = tt
 
 pub maybe_member : (key : List ℕ) (o : Option (List ℕ)) (more : Members) → more_members_text (maybe key o more) ≡ maybe_text key o ++ more_members_text more
 maybe_member key None more = refl

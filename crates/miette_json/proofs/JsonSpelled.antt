@@ -12,7 +12,7 @@ use Rattle.std.proofs.lemmas.Bool.Decides.{eqb_tells, nat_tests}
 use Rattle.std.proofs.lemmas.Str.{encode_ascii, digit_value-digit_char}
 use Rattle.miette_json.specs.rules.Json.{Json, number, string, array, object, Items, no_items, item, Members, no_members, member, digits_within, numeral, escaped_text, quoted_text, json_text, items_text, more_items_text, members_text, more_members_text}
 use Rattle.miette_json.specs.rules.Denotes.{Token, structural, text, whole, tokens_then, items_then, more_items_then, members_then, more_members_then, StringPart, plain, short, unit, short_for, IsStringPart, hex, part_text, part_value, AreStringParts, all_written, all_meant, IsDigit, AreDigits, value_after, NoLeadingZero, NoDigitNext, IsStructural, IsString, IsNumber, Begins, Next, AreTokens, HasTokensOf}
-use Rattle.miette_json.specs.steps.EscapedBytes.{is_escaped}
+use Rattle.miette_json.specs.steps.EscapedBytes.{is_escaped, control_text}
 use Rattle.json.specs.Print.{escape_letter, escape_byte}
 
 -- ---- numbers
@@ -228,13 +228,12 @@ no_such x y e h i = let same : escape_letter x ≡ escape_letter y = ap escape_l
 -- ---- what several writes add
 
 -- \u00 and two digits in base 16 are written
-pub control_written : (out front mid new : List ℕ) (x h l : ℕ) → escape_byte x ≡ 92 ∷ 117 ∷ 48 ∷ 48 ∷ digit_char (x / 16) ∷ digit_char (x % 16) ∷ []
-    → front ≡ out ++ 92 ∷ 117 ∷ 48 ∷ 48 ∷ [] → h ≡ digit_char (x / 16) → h < 128 → mid ≡ front ++ encode_utf8 h → l ≡ digit_char (x % 16) → l < 128
-    → new ≡ mid ++ encode_utf8 l → new ≡ out ++ escape_byte x
-control_written out front mid new x h l is e i k f j m g =
+pub control_written : (out front mid new : List ℕ) (x h l : ℕ) → front ≡ out ++ 92 ∷ 117 ∷ 48 ∷ 48 ∷ [] → h ≡ digit_char (x / 16) → h < 128 → mid ≡ front ++ encode_utf8 h → l ≡ digit_char (x % 16) → l < 128
+    → new ≡ mid ++ encode_utf8 l → new ≡ out ++ control_text x
+control_written out front mid new x h l e i k f j m g =
     let high : encode_utf8 h ≡ h ∷ [] = encode_ascii h k in
     let low : encode_utf8 l ≡ l ∷ [] = encode_ascii l m in
-    let whole : escape_byte x ≡ 92 ∷ 117 ∷ 48 ∷ 48 ∷ h ∷ l ∷ [] = is ∙ (ap (λ y. 92 ∷ 117 ∷ 48 ∷ 48 ∷ y ∷ digit_char (x % 16) ∷ []) (sym i) ∙ ap (λ y. 92 ∷ 117 ∷ 48 ∷ 48 ∷ h ∷ y ∷ []) (sym j)) in
+    let whole : control_text x ≡ 92 ∷ 117 ∷ 48 ∷ 48 ∷ h ∷ l ∷ [] = (ap (λ y. 92 ∷ 117 ∷ 48 ∷ 48 ∷ y ∷ digit_char (x % 16) ∷ []) (sym i) ∙ ap (λ y. 92 ∷ 117 ∷ 48 ∷ 48 ∷ h ∷ y ∷ []) (sym j)) in
     let seam : mid ≡ out ++ 92 ∷ 117 ∷ 48 ∷ 48 ∷ h ∷ [] = f ∙ (ap (λ y. y ++ encode_utf8 h) e ∙ (append_assoc out (92 ∷ 117 ∷ 48 ∷ 48 ∷ []) (encode_utf8 h) ∙ ap (λ y. out ++ 92 ∷ 117 ∷ 48 ∷ 48 ∷ y) high)) in
     g ∙ (ap (λ y. y ++ encode_utf8 l) seam ∙ (append_assoc out (92 ∷ 117 ∷ 48 ∷ 48 ∷ h ∷ []) (encode_utf8 l) ∙ ap (λ y. out ++ y) (ap (λ y. 92 ∷ 117 ∷ 48 ∷ 48 ∷ h ∷ y) low ∙ sym whole)))
 

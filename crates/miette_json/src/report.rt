@@ -5,10 +5,11 @@ ghost use Rattle.std.specs.Option.{option_map, option_copied};
 ghost use Rattle.miette_tree.specs.rules.Tree.{head, cause_of, causes_of, trees};
 ghost use Rattle.miette_tree.specs.views.Report.{tree_of};
 ghost use Rattle.miette_tree.specs.views.Owned.{shown_source};
-ghost use Rattle.miette_json.specs.rules.Json.{json_text, items_text};
+ghost use Rattle.miette_json.specs.rules.Json.{json_text, items_text, quoted_text};
 ghost use Rattle.miette_json.specs.rules.JsonReport.{strings, span_json, label_json, labels_json};
-ghost use Rattle.miette_json.specs.steps.JsonParts.{first_key_text, key_text, maybe_text, rest_text, head_text};
-ghost use Rattle.miette_json.specs.steps.JsonParts.{reasons_text, label_start, NamesFile, AppendsPlaces};
+ghost use Rattle.miette_json.specs.steps.JsonParts.{name_text, first_key_text, key_text, list_key_text, maybe_text};
+ghost use Rattle.miette_json.specs.steps.JsonParts.{rest_text, head_text, reasons_text, label_start, member_before};
+ghost use Rattle.miette_json.specs.steps.JsonParts.{NamesFile, AppendsPlaces};
 ghost use Rattle.miette_json.specs.steps.JsonParts.{AppendsReport, AppendsRelated};
 
 use crate::text::{push_number, push_quoted};
@@ -29,14 +30,11 @@ pub(crate) fn push_report<'a, D: Diagnostic, S: SourceCode>(
         (tree_of D.meaning S.source report.now) (string_bytes out.old) (string_bytes out.new)) }
 {
     let source = own_or(report, inherited);
-    push_head(report, out)?;
-    push_reasons(report, out)?;
+    push_start(report, out)?;
     push_places(labels_of(report), source, out)?;
-    push_key(out, "related")?;
-    out.push_str("[")?;
+    push_list_key(out, "related")?;
     push_related(report.related(), source, out)?;
-    out.push_str("}")?;
-    Ok(())
+    out.push_str("}")
 }
 
 /// Appends the objects of related reports, and the end of their list.
@@ -55,8 +53,21 @@ fn push_related<'a, D: Diagnostic, S: SourceCode>(
         push_report(report, source, out)?;
         first = false;
     }
-    out.push_str("]")?;
-    Ok(())
+    out.push_str("]")
+}
+
+/// The head of a report and its reasons.
+fn push_start<D: Diagnostic, S: SourceCode>(
+    report: &Report<D, S>,
+    out: &mut String,
+) -> Result<(), AllocError>
+    ensures { OnOk result (string_bytes out.new ≡ (string_bytes out.old
+        ++ head_text (head (tree_of D.meaning S.source report.now)))
+        ++ reasons_text (causes_of (cause_of (tree_of D.meaning S.source report.now)))
+        (head (tree_of D.meaning S.source report.now))) }
+{
+    push_head(report, out)?;
+    push_reasons(report, out)
 }
 
 /// `{"message": "m","code": "c","severity": "error"`
@@ -70,9 +81,7 @@ fn push_head<D: Diagnostic, S: SourceCode>(
     push_first_key(out, "message")?;
     push_quoted(out, report.message())?;
     push_maybe(out, "code", report.code())?;
-    push_key(out, "severity")?;
-    push_quoted(out, severity_name(report.severity()))?;
-    Ok(())
+    push_member(out, "severity", severity_name(report.severity()))
 }
 
 /// `,"causes": ["a","b"],"url": "u","help": "h"`
@@ -84,8 +93,7 @@ fn push_reasons<D: Diagnostic, S: SourceCode>(
         ++ reasons_text (causes_of (cause_of (tree_of D.meaning S.source report.now)))
         (head (tree_of D.meaning S.source report.now))) }
 {
-    push_key(out, "causes")?;
-    out.push_str("[")?;
+    push_list_key(out, "causes")?;
     push_causes(report, out)?;
     push_maybe(out, "url", report.url())?;
     push_maybe(out, "help", report.help())
@@ -133,10 +141,8 @@ fn push_places<S: SourceCode>(
         (string_bytes out.old) (string_bytes out.new)) }
 {
     push_maybe(out, "filename", file_name_for(labels, source))?;
-    push_key(out, "labels")?;
-    out.push_str("[")?;
-    push_labels(labels, out)?;
-    Ok(())
+    push_list_key(out, "labels")?;
+    push_labels(labels, out)
 }
 
 /// The file name, where there is a source.
@@ -185,8 +191,7 @@ fn push_label(label: &LabeledSpan, out: &mut String) -> Result<(), AllocError>
 {
     push_label_start(label, out)?;
     push_span(label, out)?;
-    out.push_str("}")?;
-    Ok(())
+    out.push_str("}")
 }
 
 /// `{"label": "x","span": `
@@ -194,14 +199,21 @@ fn push_label_start(label: &LabeledSpan, out: &mut String) -> Result<(), AllocEr
     ensures { OnOk result (string_bytes out.new ≡ string_bytes out.old ++ label_start label.now.text) }
 {
     out.push_str("{")?;
-    if let Some(text) = label.label() {
-        push_quoted(out, "label")?;
-        out.push_str(": ")?;
-        push_quoted(out, text)?;
-        out.push_str(",")?;
-    }
-    push_quoted(out, "span")?;
-    out.push_str(": ")
+    push_before(out, "label", label.label())?;
+    push_name(out, "span")
+}
+
+/// A member with a text before another, where there is a text.
+fn push_before(out: &mut String, key: &str, text: Option<&str>) -> Result<(), AllocError>
+    ensures { OnOk result (string_bytes out.new
+        ≡ string_bytes out.old ++ member_before key.now (option_copied text.entry)) }
+{
+    let Some(text) = text else {
+        return Ok(());
+    };
+    push_name(out, key)?;
+    push_quoted(out, text)?;
+    out.push_str(",")
 }
 
 /// `{"offset": 9,"length": 1}`
@@ -212,8 +224,15 @@ fn push_span(label: &LabeledSpan, out: &mut String) -> Result<(), AllocError>
     push_number(out, label.offset())?;
     push_key(out, "length")?;
     push_number(out, label.len())?;
-    out.push_str("}")?;
-    Ok(())
+    out.push_str("}")
+}
+
+/// A key, and what stands between a key and its value.
+fn push_name(out: &mut String, key: &str) -> Result<(), AllocError>
+    ensures { OnOk result (string_bytes out.new ≡ string_bytes out.old ++ name_text key.now) }
+{
+    push_quoted(out, key)?;
+    out.push_str(": ")
 }
 
 /// What begins an object: a brace, its first key, and what stands between a key and its value.
@@ -222,8 +241,7 @@ fn push_first_key(out: &mut String, key: &str) -> Result<(), AllocError>
         ≡ string_bytes out.old ++ first_key_text key.now) }
 {
     out.push_str("{")?;
-    push_quoted(out, key)?;
-    out.push_str(": ")
+    push_name(out, key)
 }
 
 /// A comma, the key, and what stands between a key and its value.
@@ -231,28 +249,42 @@ fn push_key(out: &mut String, key: &str) -> Result<(), AllocError>
     ensures { OnOk result (string_bytes out.new ≡ string_bytes out.old ++ key_text key.now) }
 {
     out.push_str(",")?;
-    push_quoted(out, key)?;
-    out.push_str(": ")
+    push_name(out, key)
 }
 
-/// A member with a text after another, where there is a text.
+/// The same for a list, and its bracket.
+fn push_list_key(out: &mut String, key: &str) -> Result<(), AllocError>
+    ensures { OnOk result (string_bytes out.new ≡ string_bytes out.old ++ list_key_text key.now) }
+{
+    push_key(out, key)?;
+    out.push_str("[")
+}
+
+/// A member with a text after another.
+fn push_member(out: &mut String, key: &str, text: &str) -> Result<(), AllocError>
+    ensures { OnOk result (string_bytes out.new ≡ string_bytes out.old ++ (key_text key.now ++ quoted_text text.now)) }
+{
+    push_key(out, key)?;
+    push_quoted(out, text)
+}
+
+/// The same where there is a text.
 fn push_maybe(out: &mut String, key: &str, text: Option<&str>) -> Result<(), AllocError>
     ensures { OnOk result (string_bytes out.new
         ≡ string_bytes out.old ++ maybe_text key.now (option_copied text.entry)) }
 {
-    if let Some(text) = text {
-        push_key(out, key)?;
-        push_quoted(out, text)?;
+    match text {
+        Some(text) => push_member(out, key, text),
+        None => Ok(()),
     }
-    Ok(())
 }
 
 /// A comma, but not before the first item of a list.
 fn push_comma(out: &mut String, first: bool) -> Result<(), AllocError>
     ensures { OnOk result (string_bytes out.new ≡ string_bytes out.old ++ (if first then [] else 44 ∷ [])) }
 {
-    if !first {
-        out.push_str(",")?;
+    if first {
+        return Ok(());
     }
-    Ok(())
+    out.push_str(",")
 }

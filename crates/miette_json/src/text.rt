@@ -3,7 +3,7 @@
 ghost use Rattle.std.specs.Prelude.{◌≡◌, ◌<◌, ◌++◌, true, OnOk, position, string_bytes};
 ghost use Rattle.std.specs.Char.{digit_char};
 ghost use Rattle.miette_json.specs.rules.Json.{numeral, escaped_text, quoted_text};
-ghost use Rattle.miette_json.specs.steps.EscapedBytes.{is_escaped};
+ghost use Rattle.miette_json.specs.steps.EscapedBytes.{is_escaped, control_text};
 ghost use Rattle.json.specs.Print.{escape_byte};
 
 use std::alloc::AllocError;
@@ -65,13 +65,17 @@ fn push_escape(out: &mut String, byte: u8) -> Result<(), AllocError>
         b'\t' => out.push_str("\\t"),
         0x08 => out.push_str("\\b"),
         0x0c => out.push_str("\\f"),
-        _ => {
-            out.push_str("\\u00")?;
-            out.push(hex_digit(byte / 16))?;
-            out.push(hex_digit(byte % 16))?;
-            Ok(())
-        }
+        _ => push_control(out, byte),
     }
+}
+
+/// `\u001b`
+fn push_control(out: &mut String, byte: u8) -> Result<(), AllocError>
+    ensures { OnOk result (string_bytes out.new ≡ string_bytes out.old ++ control_text byte) }
+{
+    out.push_str("\\u00")?;
+    out.push(hex_digit(byte / 16))?;
+    out.push(hex_digit(byte % 16))
 }
 
 /// The digit in base 16, in lower case.

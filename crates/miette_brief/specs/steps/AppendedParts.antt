@@ -8,7 +8,7 @@ use Rattle.miette_tree.specs.rules.Answers.{own_fault}
 use Rattle.miette_tree.specs.rules.Reads.{MayMeet}
 use Rattle.miette_lines.specs.rules.Groups.{in_order}
 use Rattle.miette_brief.specs.rules.Rows.{Place, rows_text}
-use Rattle.miette_brief.specs.rules.Report.{Answers, RelatedAnswers, cause_answers, cause_rows_if, own_rows}
+use Rattle.miette_brief.specs.rules.Report.{Answers, RelatedAnswers, cause_answers, cause_rows_if, help_rows, own_rows}
 use Rattle.miette_brief.specs.rules.Report.{report_rows, related_rows}
 use Rattle.miette_brief.specs.rules.PossibleAnswers.{HasAccepted, AreCauseAnswers, AreAnswers, AllAnswers}
 
@@ -18,6 +18,13 @@ pub record AppendsCauses (chain : Bool) (at : Place) (inherited : Option Source)
     pub answers : Answers
     pub possible : AreCauseAnswers inherited answers c
     pub appended : new ≡ old ++ rows_text (cause_rows_if chain at inherited answers c)
+
+-- new is old and then the rows of a cause where causes are told, for some answers, and the row of help
+pub record AppendsBelow (chain : Bool) (at : Place) (inherited : Option Source) (c : Cause) (help : Option (List ℕ))
+    (old new : List ℕ) : Type 0 where
+  pub caused : List ℕ
+  pub causes : AppendsCauses chain at inherited c old caused
+  pub appended : new ≡ caused ++ rows_text (help_rows at help)
 
 -- new is old and then the rows of a diagnostic with its cause, for some answers
 pub record AppendsOwn (chain : Bool) (source : Option Source) (m : Meaning) (c : Cause) (old new : List ℕ) : Type 0

@@ -27,6 +27,10 @@ pub record NamesFile (source : Option Source) (labels : List Label) (name : Opti
   pub possible : MayMeet source fault
   pub is : name ≡ option_map (file_name fault labels) source
 
+-- a key and what stands between a key and its value
+abbrev pub name_text : List ℕ → List ℕ
+name_text key = quoted_text key ++ (58 ∷ 32 ∷ [])
+
 -- a brace and the key of an object's first member
 abbrev pub first_key_text : List ℕ → List ℕ
 first_key_text key = 123 ∷ (quoted_text key ++ (58 ∷ 32 ∷ []))
@@ -34,6 +38,10 @@ first_key_text key = 123 ∷ (quoted_text key ++ (58 ∷ 32 ∷ []))
 -- a key after a member
 abbrev pub key_text : List ℕ → List ℕ
 key_text key = 44 ∷ (quoted_text key ++ (58 ∷ 32 ∷ []))
+
+-- the key of a list after a member, and its bracket
+abbrev pub list_key_text : List ℕ → List ℕ
+list_key_text key = key_text key ++ 91 ∷ []
 
 -- a member after another, where there is a text
 abbrev pub maybe_text : List ℕ → Option (List ℕ) → List ℕ
@@ -71,6 +79,11 @@ pub record AppendsPlaces (source : Option Source) (labels : List Label) (old new
 abbrev pub start_text : List ℕ → List ℕ → Option (List ℕ) → List ℕ
 start_text first second None = 123 ∷ (quoted_text second ++ (58 ∷ 32 ∷ []))
 start_text first second (Some s) = 123 ∷ (quoted_text first ++ (58 ∷ 32 ∷ (quoted_text s ++ key_text second)))
+
+-- a member with a text before another, where there is a text
+abbrev pub member_before : List ℕ → Option (List ℕ) → List ℕ
+member_before key None = []
+member_before key (Some s) = name_text key ++ (quoted_text s ++ 44 ∷ [])
 
 -- the beginning of a label, up to its span
 abbrev pub label_start : Option (List ℕ) → List ℕ

@@ -1,5 +1,6 @@
 use Rattle.std.proofs.Common.{rules, arith, subst, ◌<◌, ◌≡◌, false, sym, string_bytes, map}
 use Rattle.std.specs.Option.{option_map}
+use Rattle.std.proofs.lemmas.Result.{on_ok_weaker}
 use Rattle.miette_tree.specs.rules.Tree.{trees, head}
 use Rattle.miette_tree.specs.rules.DiagnosticParts.{given_labels}
 use Rattle.miette_tree.specs.views.Owned.{shown_source}
@@ -49,7 +50,7 @@ pub push_report-returns-clause-text : goal.push_report-returns-clause-text
 push_report-returns-clause-text g t c =
     let value = tree_of g.D.Diagnostic.meaning g.S.SourceCode.source c.args.report.now in
     let inherited = option_map (shown_source g.S.SourceCode.source) c.args.inherited in
-    report_told c.args.chain inherited value _ _ _ _ _ c.own_or-source.ensures c.related.ensures c.in_ok-push_own.ensures.text c.in_ok-push_related.ensures.text
+    on_ok_weaker c.push_related.result (λ h. report_told c.args.chain inherited value _ _ _ _ _ c.own_or-source.ensures c.related.ensures c.in_ok-push_own.ensures.text h) c.push_related.ensures.text
 
 pub push_report-returns-in_err-push_own-clause-refused : goal.push_report-returns-in_err-push_own-clause-refused
 push_report-returns-in_err-push_own-clause-refused g t c = λ h.
@@ -59,11 +60,11 @@ push_report-returns-in_err-push_own-clause-refused g t c = λ h.
     let here : accepts source (in_order (given_labels (head value).labels)) ≡ false = c.in_err-push_own.ensures.refused (search rules) in
     refused_here value inherited source c.own_or-source.ensures here
 
-pub push_report-returns-in_err-push_related-clause-refused : goal.push_report-returns-in_err-push_related-clause-refused
-push_report-returns-in_err-push_related-clause-refused g t c = λ h.
+pub push_report-returns-clause-refused : goal.push_report-returns-clause-refused
+push_report-returns-clause-refused g t c = λ h.
     let value = tree_of g.D.Diagnostic.meaning g.S.SourceCode.source in
     let inherited = option_map (shown_source g.S.SourceCode.source) c.args.inherited in
     let source = option_map (shown_source g.S.SourceCode.source) c.own_or-source.result in
     let related = trees (map value c.related.result.now) in
-    let below : holds_of_all accepts source related ≡ false = c.in_err-push_related.ensures.refused (search rules) in
+    let below : holds_of_all accepts source related ≡ false = c.push_related.ensures.refused h in
     refused_below (value c.args.report.now) inherited source related c.own_or-source.ensures c.related.ensures below

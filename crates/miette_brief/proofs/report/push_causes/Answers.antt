@@ -1,5 +1,6 @@
 use Rattle.std.proofs.Common.{ap, sym, ◌∙◌, string_bytes, map}
 use Rattle.std.specs.Option.{option_map}
+use Rattle.std.proofs.lemmas.Result.{on_ok_weaker}
 use Rattle.miette_tree.specs.rules.Tree.{cause_of, texts}
 use Rattle.miette_tree.specs.views.Report.{tree_of}
 use Rattle.miette_tree.specs.views.Owned.{shown_source}
@@ -24,7 +25,7 @@ returns g c =
     let value = tree_of g.D.Diagnostic.meaning g.S.SourceCode.source in
     let source = option_map (shown_source g.S.SourceCode.source) in
     let left = cause_of (value c.loop-next.above.now) in
-    all_told (place_of c.args.at) (source c.args.source) (cause_of (value c.args.report.now)) left (map string_bytes c.cause_texts.result.now)
+    on_ok_weaker c.push_cause_texts.result (λ h. all_told (place_of c.args.at) (source c.args.source) (cause_of (value c.args.report.now)) left (map string_bytes c.cause_texts.result.now)
     (string_bytes c.args.out.now) (string_bytes c.loop-next.out) (string_bytes c.push_cause_texts.new.out) c.loop-next.invariant
     (sym (ap texts c.cause_texts.ensures ∙ texts_shown g.D.Diagnostic.meaning g.S.SourceCode.source c.cause.result left c.cause.ensures.value c.in_default.not-Diagnostic))
-    c.in_ok-push_cause_texts.ensures
+    h) c.push_cause_texts.ensures

@@ -1,8 +1,10 @@
 use Rattle.std.proofs.Common.{rules, arith, subst, ◌<◌, sym, string_bytes, map}
 use Rattle.std.specs.Option.{option_map}
+use Rattle.std.proofs.lemmas.Result.{on_ok_weaker}
 use Rattle.miette_tree.specs.rules.Tree.{trees}
 use Rattle.miette_tree.specs.views.Owned.{shown_source}
 use Rattle.miette_tree.specs.views.Report.{tree_of}
+use Rattle.miette_json.proofs.JsonJoined.{where_written}
 use Rattle.miette_json.proofs.JsonAnswers.{none_so_far, one_more, all_written, at_the_end, report_written, RelatedSoFar}
 use Rattle.miette_tree.proofs.TreeSizes.{tree_size, trees_size, one_falls}
 use Rattle.miette_tree.proofs.Nesting.{next_of}
@@ -32,11 +34,11 @@ push_related-returns g t c =
     let l = c.loop-report in
     let value = tree_of g.D.Diagnostic.meaning g.S.SourceCode.source in
     let inherited = option_map (shown_source g.S.SourceCode.source) c.args.source in
-    all_written inherited (trees (map value c.args.reports.now)) l.first _ _ _ (at_the_end value inherited c.args.reports.now _ l.report-index l.first _ _ (omega arith) l.invariant) c.in_ok-push_str.ensures.bytes
+    on_ok_weaker c.push_str.result (all_written inherited (trees (map value c.args.reports.now)) l.first _ _ _ (at_the_end value inherited c.args.reports.now _ l.report-index l.first _ _ (omega arith) l.invariant)) (where_written c.push_str.result _ _ _ c.push_str.ensures.bytes)
 
 pub push_report-returns : goal.push_report-returns
 push_report-returns g t c =
     let value = tree_of g.D.Diagnostic.meaning g.S.SourceCode.source c.args.report.now in
     let inherited = option_map (shown_source g.S.SourceCode.source) c.args.inherited in
-    report_written inherited value _ _ _ _ _ _ _ _ _ _ _ c.own_or-source.ensures c.labels_of.ensures c.related.ensures c.in_ok-push_head.ensures c.in_ok-push_reasons.ensures c.in_ok-push_places.ensures
-    c.in_ok-push_key.ensures c.in_ok-push_str.ensures.bytes c.in_ok-push_related.ensures c.in_ok-push_str-2.ensures.bytes
+    on_ok_weaker c.push_str.result (report_written inherited value _ _ _ _ _ _ _ _ _ c.own_or-source.ensures c.labels_of.ensures c.related.ensures c.in_ok-push_start.ensures c.in_ok-push_places.ensures
+    c.in_ok-push_list_key.ensures c.in_ok-push_related.ensures) (where_written c.push_str.result _ _ _ c.push_str.ensures.bytes)

@@ -2,7 +2,8 @@ use Rattle.std.proofs.Common.{[], ◌∷◌, codes, ap, sym, ◌++◌, string_by
 use Rattle.miette_json.specs.rules.Json.{json_text}
 use Rattle.miette_json.specs.rules.JsonReport.{span_json}
 use Rattle.miette_json.specs.steps.JsonParts.{label_start}
-use Rattle.miette_json.proofs.JsonJoined.{step, last_step, label_parts}
+use Rattle.std.proofs.lemmas.Result.{on_ok_weaker}
+use Rattle.miette_json.proofs.JsonJoined.{step, last_step, where_written, label_parts}
 use Rattle.miette_json.proofs.report.push_label.Goals as goal
 
 pub returns : goal.returns
@@ -11,4 +12,4 @@ returns c =
     let parts = ap (λ l. string_bytes c.args.out.now ++ l) (sym (label_parts (codes "label") (codes "span") label.text (span_json label.span))) in
     let a = step _ _ (label_start label.text) (json_text (span_json label.span) ++ 125 ∷ []) _ parts c.in_ok-push_label_start.ensures in
     let b = step _ _ (json_text (span_json label.span)) (125 ∷ []) _ a c.in_ok-push_span.ensures in
-    last_step _ _ (125 ∷ []) _ b c.in_ok-push_str.ensures.bytes
+    on_ok_weaker c.push_str.result (last_step _ _ (125 ∷ []) _ b) (where_written c.push_str.result _ _ _ c.push_str.ensures.bytes)

@@ -1,7 +1,10 @@
 use Rattle.std.proofs.Common.{codes, ap, ◌∙◌, ◌++◌, string_bytes}
 use Rattle.std.specs.Option.{option_map}
+use Rattle.std.proofs.lemmas.Result.{on_ok_weaker}
 use Rattle.miette_tree.specs.views.Owned.{shown_source}
-use Rattle.miette_json.specs.steps.JsonParts.{maybe_text}
+use Rattle.miette_json.specs.rules.Json.{items_text}
+use Rattle.miette_json.specs.rules.JsonReport.{file_name, labels_json}
+use Rattle.miette_json.specs.steps.JsonParts.{key_text, maybe_text}
 use Rattle.miette_json.proofs.JsonJoined.{append_parts}
 use Rattle.miette_json.proofs.report.push_places.Goals as goal
 
@@ -9,8 +12,10 @@ pub returns : goal.returns
 returns g c =
     let source = option_map (shown_source g.S.SourceCode.source) c.args.source in
     let labels = c.args.labels.now in
-    let named = c.file_name_for.ensures in record {
+    let named = c.file_name_for.ensures in
+    on_ok_weaker c.push_labels.result (λ h. record {
       fault = named.fault;
       possible = named.possible;
-      appended = append_parts _ _ _ _ _ _ _ _ (c.in_ok-push_maybe.ensures ∙ ap (λ o. string_bytes c.args.out.now ++ maybe_text (codes "filename") o) named.is) c.in_ok-push_key.ensures c.in_ok-push_str.ensures.bytes c.in_ok-push_labels.ensures;
-    }
+      appended = append_parts (string_bytes c.args.out.now) (string_bytes c.push_maybe.new.out) (string_bytes c.push_list_key.new.out) (string_bytes c.push_labels.new.out)
+          (maybe_text (codes "filename") (option_map (file_name named.fault labels) source)) (key_text (codes "labels")) (items_text (labels_json labels)) (c.in_ok-push_maybe.ensures ∙ ap (λ o. string_bytes c.args.out.now ++ maybe_text (codes "filename") o) named.is) c.in_ok-push_list_key.ensures h;
+    }) c.push_labels.ensures

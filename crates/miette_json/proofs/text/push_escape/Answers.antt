@@ -1,12 +1,11 @@
-use Rattle.std.proofs.Common.{◌≡◌, [], ◌∷◌, ◌/◌, ◌%◌, rules}
-use Rattle.std.specs.Char.{digit_char}
-use Rattle.miette_json.proofs.JsonSpelled.{byte_control, control_written}
+use Rattle.std.proofs.Common.{◌≡◌, ◌∙◌, ◌++◌, ap, sym, string_bytes, rules}
+use Rattle.std.proofs.lemmas.Result.{on_ok_weaker}
+use Rattle.miette_json.specs.steps.EscapedBytes.{control_text}
+use Rattle.miette_json.proofs.JsonSpelled.{byte_control}
 use Rattle.miette_json.proofs.text.push_escape.Goals as goal
 use Rattle.json.specs.Print.{escape_byte}
 
-pub returns-in_ok-push-in_default-2 : goal.returns-in_ok-push-in_default-2
-returns-in_ok-push-in_default-2 c =
-    let x = c.args.byte in
-    let control : escape_byte x ≡ 92 ∷ 117 ∷ 48 ∷ 48 ∷ digit_char (x / 16) ∷ digit_char (x % 16) ∷ [] = search (rules, byte_control) in
-    control_written _ _ _ _ x _ _ control c.in_ok-push_str-in_default.ensures.bytes c.hex_digit.ensures.digit c.hex_digit.ensures.low c.in_ok-push-in_default.ensures.bytes
-    c.hex_digit-in_default.ensures.digit c.hex_digit-in_default.ensures.low c.in_ok-push-in_default-2.ensures.bytes
+pub returns-in_default : goal.returns-in_default
+returns-in_default c =
+    let control : escape_byte c.args.byte ≡ control_text c.args.byte = search (rules, byte_control) in
+    on_ok_weaker c.push_control.result (λ h. h ∙ ap (λ l. string_bytes c.args.out.now ++ l) (sym control)) c.push_control.ensures

@@ -1,0 +1,2 @@
+-- What is appended for parts of a report.
+pub mod DebugParts
