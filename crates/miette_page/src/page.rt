@@ -131,8 +131,7 @@ impl<O: Canvas> Page<O> {
     {
         start_run(&mut self.out, self.style, self.begun)?;
         self.begun = true;
-        self.out.push(character)?;
-        Ok(())
+        self.out.push(character)
     }
 
     /// Puts a text behind the run's text. `AllocError` where memory is refused.
@@ -144,8 +143,7 @@ impl<O: Canvas> Page<O> {
         }
         start_run(&mut self.out, self.style, self.begun)?;
         self.begun = true;
-        self.out.push_str(text)?;
-        Ok(())
+        self.out.push_str(text)
     }
 
     /// Puts copies of a character behind the run's text. `AllocError` where memory is refused.
@@ -157,8 +155,7 @@ impl<O: Canvas> Page<O> {
         }
         start_run(&mut self.out, self.style, self.begun)?;
         self.begun = true;
-        push_each(&mut self.out, character, many)?;
-        Ok(())
+        push_each(&mut self.out, character, many)
     }
 
     /// A run of spaces: `····`. `AllocError` where memory is refused.
@@ -166,8 +163,7 @@ impl<O: Canvas> Page<O> {
         ensures { OnOk result (self.new ≡ self.old ⊕ styled_tokens PLAIN (replicate many 32)) }
     {
         self.begin(PLAIN)?;
-        self.push_copies(' ', many)?;
-        Ok(())
+        self.push_copies(' ', many)
     }
 
     /// A run of a character and copies of another: `╰────`. `AllocError` where memory is refused.
@@ -182,8 +178,7 @@ impl<O: Canvas> Page<O> {
     {
         self.begin(style)?;
         self.push(first)?;
-        self.push_copies(bar, many)?;
-        Ok(())
+        self.push_copies(bar, many)
     }
 
     /// Puts characters behind the run's text. `AllocError` where memory is refused.
@@ -195,8 +190,7 @@ impl<O: Canvas> Page<O> {
         }
         start_run(&mut self.out, self.style, self.begun)?;
         self.begun = true;
-        self.out.push_chars(characters)?;
-        Ok(())
+        self.out.push_chars(characters)
     }
 
     /// Puts a number behind the run's text, its digits behind the spaces that fill so many columns: `  12`.
@@ -208,8 +202,7 @@ impl<O: Canvas> Page<O> {
         let mut buffer = Buffer::new();
         let digits = buffer.format(number);
         self.push_copies(' ', columns.saturating_sub(digits.len()))?;
-        self.push_str(digits)?;
-        Ok(())
+        self.push_str(digits)
     }
 
     /// Puts a number behind the run's text, in decimal digits. `AllocError` where memory is refused.
@@ -217,7 +210,6 @@ impl<O: Canvas> Page<O> {
         ensures { OnOk result (self.new ≡ self.old ⊕ text_tokens (decimal number)) }
     {
         let mut digits = Buffer::new();
-        self.push_str(digits.format(number))?;
-        Ok(())
+        self.push_str(digits.format(number))
     }
 }

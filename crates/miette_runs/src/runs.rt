@@ -73,8 +73,7 @@ impl Runs {
     pub(crate) fn reserve(&mut self, many: usize) -> Result<(), AllocError>
         ensures { OnOk result (self.new ≡ self.old) }
     {
-        self.codes.reserve(many)?;
-        Ok(())
+        self.codes.reserve(many)
     }
 
     /// Appends a character.
@@ -97,8 +96,7 @@ impl Runs {
         ensures tokens { OnOk result (self.new ≡ self.old ++ map Character codes.now) }
         ensures text { OnOk result (spell self.new ≡ spell self.old ++ codes.now) }
     {
-        self.codes.extend_from_slice(codes)?;
-        Ok(())
+        self.codes.extend_from_slice(codes)
     }
 
     /// Appends the characters of a text.
@@ -189,13 +187,11 @@ impl Runs {
         ensures text { OnOk result (spell self.new ≡ spell self.old ++ printed_run style (chars text.now)) }
     {
         if text.is_empty() || style.is_plain() {
-            self.push_str(text)?;
-            return Ok(());
+            return self.push_str(text);
         }
         self.begin(style)?;
         self.push_str(text)?;
-        self.end()?;
-        Ok(())
+        self.end()
     }
 
     /// Appends characters in a style.
@@ -242,8 +238,7 @@ impl Runs {
     pub fn push_link_end(&mut self) -> Result<(), AllocError>
         ensures text { OnOk result (spell self.new ≡ spell self.old ++ link_start []) }
     {
-        self.push_link("")?;
-        Ok(())
+        self.push_link("")
     }
 
     /// Appends other runs.
@@ -263,8 +258,7 @@ impl Runs {
             self.push_sign(&tag.sign)?;
             start += gap;
         }
-        self.push_chars(&parts.codes[start..])?;
-        Ok(())
+        self.push_chars(&parts.codes[start..])
     }
 
     /// The characters, and the signs between them.

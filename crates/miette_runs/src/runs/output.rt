@@ -52,13 +52,11 @@ fn print_run(out: &mut String, style: Style, text: &str) -> Result<(), AllocErro
         ≡ string_bytes out.old ++ encode_utf8_all (printed_run style (chars text.now))) }
 {
     if text.is_empty() || style.is_plain() {
-        out.push_str(text)?;
-        return Ok(());
+        return out.push_str(text);
     }
     push_style(out, style)?;
     out.push_str(text)?;
-    out.push_str(STYLE_END)?;
-    Ok(())
+    out.push_str(STYLE_END)
 }
 
 // Appends what begins a link.
@@ -68,8 +66,7 @@ fn print_link(out: &mut String, url: &str) -> Result<(), AllocError>
 {
     out.push_str("\u{1B}]8;;")?;
     out.push_str(url)?;
-    out.push_str("\u{1B}\\")?;
-    Ok(())
+    out.push_str("\u{1B}\\")
 }
 
 impl Output {
@@ -99,10 +96,9 @@ impl Output {
         ensures { OnOk result (self.new ≡ self.old ++ c ∷ []) }
     {
         match &mut self.target {
-            Target::Printed(text) => text.push(c)?,
-            Target::Collected(runs) => runs.push(c)?,
+            Target::Printed(text) => text.push(c),
+            Target::Collected(runs) => runs.push(c),
         }
-        Ok(())
     }
 
     /// Takes room for so many copies of a character at once. What was appended stays.
@@ -116,10 +112,9 @@ impl Output {
             return Err(AllocError);
         };
         match &mut self.target {
-            Target::Printed(text) => text.reserve(room)?,
-            Target::Collected(runs) => runs.reserve(many)?,
+            Target::Printed(text) => text.reserve(room),
+            Target::Collected(runs) => runs.reserve(many),
         }
-        Ok(())
     }
 
     /// Appends characters.
@@ -130,10 +125,9 @@ impl Output {
         ensures { OnOk result (self.new ≡ self.old ++ codes.now) }
     {
         match &mut self.target {
-            Target::Printed(text) => text.push_codes(codes)?,
-            Target::Collected(runs) => runs.push_chars(codes)?,
+            Target::Printed(text) => text.push_codes(codes),
+            Target::Collected(runs) => runs.push_chars(codes),
         }
-        Ok(())
     }
 
     /// Appends the characters of a text.
@@ -144,10 +138,9 @@ impl Output {
         ensures { OnOk result (self.new ≡ self.old ++ chars text.now) }
     {
         match &mut self.target {
-            Target::Printed(out) => out.push_str(text)?,
-            Target::Collected(runs) => runs.push_str(text)?,
+            Target::Printed(out) => out.push_str(text),
+            Target::Collected(runs) => runs.push_str(text),
         }
-        Ok(())
     }
 
     /// Begins a style, in which what is appended next is printed.
@@ -158,10 +151,9 @@ impl Output {
         ensures { OnOk result (self.new ≡ self.old ++ colour_start style) }
     {
         match &mut self.target {
-            Target::Printed(text) => push_style(text, style)?,
-            Target::Collected(runs) => runs.begin(style)?,
+            Target::Printed(text) => push_style(text, style),
+            Target::Collected(runs) => runs.begin(style),
         }
-        Ok(())
     }
 
     /// Ends the style.
@@ -172,10 +164,9 @@ impl Output {
         ensures { OnOk result (self.new ≡ self.old ++ colour_stop) }
     {
         match &mut self.target {
-            Target::Printed(text) => text.push_str(STYLE_END)?,
-            Target::Collected(runs) => runs.end()?,
+            Target::Printed(text) => text.push_str(STYLE_END),
+            Target::Collected(runs) => runs.end(),
         }
-        Ok(())
     }
 
     /// Appends a text in a style.
@@ -186,10 +177,9 @@ impl Output {
         ensures { OnOk result (self.new ≡ self.old ++ printed_run style (chars text.now)) }
     {
         match &mut self.target {
-            Target::Printed(out) => print_run(out, style, text)?,
-            Target::Collected(runs) => runs.push_run(style, text)?,
+            Target::Printed(out) => print_run(out, style, text),
+            Target::Collected(runs) => runs.push_run(style, text),
         }
-        Ok(())
     }
 
     /// Begins a link to a URL.
@@ -200,10 +190,9 @@ impl Output {
         ensures { OnOk result (self.new ≡ self.old ++ link_start (chars url.now)) }
     {
         match &mut self.target {
-            Target::Printed(text) => print_link(text, url)?,
-            Target::Collected(runs) => runs.push_link(url)?,
+            Target::Printed(text) => print_link(text, url),
+            Target::Collected(runs) => runs.push_link(url),
         }
-        Ok(())
     }
 
     /// Ends the link.
@@ -213,8 +202,7 @@ impl Output {
     pub fn push_link_end(&mut self) -> Result<(), AllocError>
         ensures { OnOk result (self.new ≡ self.old ++ link_start []) }
     {
-        self.push_link("")?;
-        Ok(())
+        self.push_link("")
     }
 
     /// What was appended, as a text.
@@ -261,10 +249,9 @@ impl Sink for Output {
 
     fn push_sign(&mut self, sign: &Rc<Sign>) -> Result<(), AllocError> {
         match &mut self.target {
-            Target::Printed(text) => text.push_sign(sign)?,
-            Target::Collected(runs) => runs.push_sign(sign)?,
+            Target::Printed(text) => text.push_sign(sign),
+            Target::Collected(runs) => runs.push_sign(sign),
         }
-        Ok(())
     }
 }
 

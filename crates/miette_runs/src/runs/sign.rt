@@ -50,8 +50,7 @@ pub(crate) fn shared_sign(alloc: Global, tags: &[Tag], sign: Sign) -> Result<Rc<
 {
     for tag in &tags[tags.len().saturating_sub(RECENT)..] {
         if are_alike(&tag.sign, &sign) {
-            let copy = tag.sign.clone()?;
-            return Ok(copy);
+            return tag.sign.clone();
         }
     }
     let own = Rc::new(alloc, sign)?;
