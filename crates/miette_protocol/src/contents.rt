@@ -5,11 +5,12 @@ ghost use Rattle.std.specs.Option.{option_copied};
 ghost use Rattle.miette_protocol.specs.rules.Reading.{Contents};
 
 use crate::protocol::SourceSpan;
+use std::alloc::AllocError;
 use std::marker::Model;
 
 /// What a read lends and says: the bytes, where they stand in the source, and whose they are. Nothing in
 /// it is a copy. It stands for the trait `SpanContents` of the original crate too.
-#[derive(Clone, Debug, Drop)]
+#[derive(Debug, Drop)]
 pub struct MietteSpanContents<'a> {
     bytes: &'a [u8],
     span: SourceSpan,
@@ -35,6 +36,27 @@ impl<'a> Model for MietteSpanContents<'a> {
       name = option_map (λ t. t.now) it.name;
       language = option_map (λ t. t.now) it.language;
     } };
+}
+
+/// A clone lends and says the same. Takes no memory.
+impl<'a> Clone for MietteSpanContents<'a> {
+    ghost use Rattle.std.specs.Prelude.{◌≡◌};
+
+    ghost is_clone = { λ it made. made ≡ it };
+
+    ghost is_infallible = { λ _. Unit {0} };
+
+    fn clone(&self) -> Result<MietteSpanContents<'a>, AllocError> {
+        Ok(MietteSpanContents {
+            bytes: self.bytes,
+            span: self.span,
+            line: self.line,
+            column: self.column,
+            line_count: self.line_count,
+            name: self.name,
+            language: self.language,
+        })
+    }
 }
 
 /// A clone of contents keeps all that they lend and say.

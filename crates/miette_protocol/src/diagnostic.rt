@@ -105,11 +105,11 @@ impl MietteDiagnostic {
     ///
     /// # Errors
     /// `AllocError` where memory for the copy is refused; the value is dropped.
-    pub fn with_code(self, alloc: Global, code: &str) -> Result<Self, AllocError>
+    pub fn with_code(mut self, alloc: Global, code: &str) -> Result<Self, AllocError>
         ensures { IfOk result (λ it. meaning_of it ≡ record (meaning_of self) { code = Some code.now }) }
     {
-        let code = Some(String::from_str(alloc, code)?);
-        Ok(MietteDiagnostic { code, ..self })
+        self.code = Some(String::from_str(alloc, code)?);
+        Ok(self)
     }
 
     /// With a severity in place of the one that was there. Takes no memory.
@@ -126,22 +126,22 @@ impl MietteDiagnostic {
     ///
     /// # Errors
     /// `AllocError` where memory for the copy is refused; the value is dropped.
-    pub fn with_help(self, alloc: Global, help: &str) -> Result<Self, AllocError>
+    pub fn with_help(mut self, alloc: Global, help: &str) -> Result<Self, AllocError>
         ensures { IfOk result (λ it. meaning_of it ≡ record (meaning_of self) { help = Some help.now }) }
     {
-        let help = Some(String::from_str(alloc, help)?);
-        Ok(MietteDiagnostic { help, ..self })
+        self.help = Some(String::from_str(alloc, help)?);
+        Ok(self)
     }
 
     /// With a copy of a url in place of the one that was there.
     ///
     /// # Errors
     /// `AllocError` where memory for the copy is refused; the value is dropped.
-    pub fn with_url(self, alloc: Global, url: &str) -> Result<Self, AllocError>
+    pub fn with_url(mut self, alloc: Global, url: &str) -> Result<Self, AllocError>
         ensures { IfOk result (λ it. meaning_of it ≡ record (meaning_of self) { url = Some url.now }) }
     {
-        let url = Some(String::from_str(alloc, url)?);
-        Ok(MietteDiagnostic { url, ..self })
+        self.url = Some(String::from_str(alloc, url)?);
+        Ok(self)
     }
 
     /// With one label in place of all that were there.
@@ -227,14 +227,7 @@ impl Clone for MietteDiagnostic {
     ghost is_clone = { λ it made. meaning_of made ≡ meaning_of it };
 
     fn clone(&self) -> Result<MietteDiagnostic, AllocError> {
-        Ok(MietteDiagnostic {
-            message: self.message.clone()?,
-            code: self.code.clone()?,
-            severity: self.severity,
-            help: self.help.clone()?,
-            url: self.url.clone()?,
-            labels: self.labels.clone()?,
-        })
+        MietteDiagnostic::copied(*self.message.allocator(), self)
     }
 }
 

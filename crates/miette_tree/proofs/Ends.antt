@@ -1,9 +1,10 @@
 -- The last of what is left of a chain.
-use Rattle.std.proofs.Common.{◌≡◌, ℕ, ◌<◌, ◌≤◌, ◌+◌, ◌-◌, List, [], ◌∷◌, ◌++◌, length, take, drop, get_or, Option, Some, None, refl, sym, ap, ◌∙◌, arith, append-nil, subst}
+use Rattle.std.proofs.Common.{◌≡◌, ℕ, suc, map, String, string_bytes, ◌<◌, ◌≤◌, ◌+◌, ◌-◌, List, [], ◌∷◌, ◌++◌, length, take, drop, get_or, Option, Some, None, refl, sym, ap, ◌∙◌, arith, append-nil, subst}
 use Rattle.std.specs.List.{last_or}
 use Rattle.std.proofs.Math.Seq.{take-append-add}
-use Rattle.std.proofs.lemmas.List.{take_more, take-append-le, take_all, drop_more, length-drop}
+use Rattle.std.proofs.lemmas.List.{take_more, take-append-le, take_all, drop_more, length-drop, length-append, length-map}
 use Rattle.miette_tree.specs.rules.Tree.{Tree, tree, Cause, diagnostic, texts, chain_of, causes_of, cause_of, head}
+use Rattle.std.specs.declared.alloc.Global.{Global}
 use Rattle.std.specs.Borrow.{Bor}
 use Rattle.miette_protocol.specs.views.Meaning.{Meaning}
 use Rattle.miette_protocol.specs.rules.Reading.{Source}
@@ -77,6 +78,31 @@ pub no_diagnostic : {D S : Type 0} (means : D → Meaning) (is : S → Source) (
 no_diagnostic means is seen.None c e f = subst (λ k. (length (spine_below k) ≡ 0) × (texts_below k ≡ tail_below k)) e (refl, refl)
 no_diagnostic means is (seen.Diagnostic x) c e f = absurd (f x refl)
 no_diagnostic means is (seen.Texts ts) c e f = subst (λ k. (length (spine_below k) ≡ 0) × (texts_below k ≡ tail_below k)) e (refl, refl)
+
+-- ---- what is left of one
+
+-- its first message, before those of the reports below
+pub first_left : (t : Tree) (below ts : List (List ℕ)) (n k : ℕ) (m : List ℕ) → n ≡ suc k → below ≡ spine_below (cause_of t) → m ≡ (head t).message → take n (spine t) ++ ts ≡ m ∷ (take k below ++ ts)
+first_left t below ts n k m one rest first =
+    ap (λ i. take i (spine t) ++ ts) one ∙ (ap (λ l. take (suc k) l ++ ts) (spine_parts t)
+    ∙ (ap (λ x. x ∷ (take k (spine_below (cause_of t)) ++ ts)) (sym first) ∙ ap (λ l. m ∷ (take k l ++ ts)) (sym rest)))
+
+-- its last message, where no text stands behind it
+pub last_left : (xs : List (List ℕ)) (ts : List (String Global)) (n k : ℕ) (m : List ℕ) → length ts ≡ 0 → take n xs ≡ take k xs ++ m ∷ [] → take n xs ++ map string_bytes ts ≡ (take k xs ++ map string_bytes ts) ++ m ∷ []
+last_left xs [] n k m none last = append-nil (take n xs) ∙ (last ∙ ap (λ l. l ++ m ∷ []) (sym (append-nil (take k xs))))
+last_left xs (t ∷ ts) n k m none last = absurd (omega arith)
+
+-- how many messages and texts
+pub counted_left : (xs : List (List ℕ)) (ts : List (String Global)) (n k : ℕ) → k ≡ length (take n xs) → k + length ts ≡ length (take n xs ++ map string_bytes ts)
+counted_left xs ts n k count =
+    ap (λ i. i + length ts) count ∙ (ap (λ i. length (take n xs) + i) (sym (length-map ts string_bytes)) ∙ sym (length-append (take n xs) (map string_bytes ts)))
+
+-- one message fewer
+pub fewer_behind : (xs ys : List (List ℕ)) (m : List ℕ) → xs ≡ m ∷ ys → length ys < length xs
+fewer_behind xs ys m e = omega (arith, ap length e)
+
+pub fewer_before : (xs ys : List (List ℕ)) (m : List ℕ) → xs ≡ ys ++ m ∷ [] → length ys < length xs
+fewer_before xs ys m e = omega (arith, ap length e, length-append ys (m ∷ []))
 
 -- ---- the last of a chain
 

@@ -52,7 +52,8 @@ where
         ensures kind { IfOk result (λ r. (copy : MietteDiagnostic) × (meaning_of copy ≡ E.meaning error.now)
             × (kind_of r ≡ built copy)) }
     {
-        Ok(Report::built(MietteDiagnostic::copied(alloc, error)?))
+        let copy = MietteDiagnostic::copied(alloc, error)?;
+        Ok(Report::built(copy))
     }
 
     /// The report of a message alone. `AllocError` where memory for the copy is refused.

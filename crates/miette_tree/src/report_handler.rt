@@ -94,8 +94,7 @@ fn push_behind_colon(text: &str, out: &mut String) -> Result<(), AllocError>
     ensures { OnOk result (string_bytes out.new ≡ string_bytes out.old ++ behind_colons (text.now ∷ [])) }
 {
     out.push_str(": ")?;
-    out.push_str(text)?;
-    Ok(())
+    out.push_str(text)
 }
 
 /// Appends texts, each with `: ` in front.
@@ -122,8 +121,7 @@ fn push_behind_colons<D: Diagnostic, S: SourceCode>(
         push_behind_colon(next.message(), out)?;
         at = next;
     }
-    push_each_behind_colon(cause_texts(at), out)?;
-    Ok(())
+    push_each_behind_colon(cause_texts(at), out)
 }
 
 /// Appends a whole text; after an error, which is want of memory, `out` is as before.
