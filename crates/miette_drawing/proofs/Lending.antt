@@ -212,10 +212,10 @@ told_parts p0 p1 p2 p3 top bottom body a b c =
 -- the loop over a snippet's lines
 
 -- the text of a line of the bytes ends before they do
-pub text_fits : (start : ℕ) (bytes : List ℕ) (line : LineOfText) → start ≤ line.start → line.start ≤ line.text_end → line.text_end ≤ start + length bytes → start + length bytes < 2 ^ 64 →
+pub text_fits : (start : ℕ) (bytes : List ℕ) (line : LineOfText) → start ≤ line.start → line.start ≤ line.text_end → line.text_end ≤ line.end → line.end ≤ start + length bytes → start + length bytes < 2 ^ 64 →
     line.start + length (take (line.text_end - start - (line.start - start)) (drop (line.start - start) bytes)) < 2 ^ 64
-text_fits start bytes line from text to small =
-    omega (arith, from, text, to, small, length-take (line.text_end - start - (line.start - start)) (drop (line.start - start) bytes))
+text_fits start bytes line from text ending to small =
+    omega (arith, from, text, ending, to, small, length-take (line.text_end - start - (line.start - start)) (drop (line.start - start) bytes))
 
 -- the lines before some are drawn, and whether the last of them is left out: whatever pieces the others have, there are
 -- pieces for all, and calls that bring a highlighter from its first state over the state now

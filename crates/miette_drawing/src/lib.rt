@@ -11,4 +11,3 @@ mod sheet;
 pub mod snippet;
 mod strokes;
 mod texts;
-mod widths;

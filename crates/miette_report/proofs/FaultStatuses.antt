@@ -78,7 +78,3 @@ refused-status r Read n e s four = let k : n ≡ 1 = s in absurd (omega (arith, 
 refused-status r Write n e s four = let k : n ≡ 1 = s in absurd (omega (arith, k, four))
 refused-status r Description n e s four = let k : n ≡ 3 = s in absurd (omega (arith, k, four))
 refused-status r Refused n e s four = e
-
--- where all went well, the words were a call
-pub well-called : {T : Type 0} (P : Type 0) (x : T) → ((Ok x ≡ Err Usage) ↔ P) → P → ⊥
-well-called P x h p = let k : Ok x ≡ Err Usage = h.1 p in cc

@@ -7,5 +7,4 @@ pub mod FindingSteps
 pub mod LintSteps
 pub mod OptionWordSteps
 pub mod WriteResults
-pub mod FirstWords
 pub mod FaultRows

@@ -62,9 +62,3 @@ call_clean words brief name width (Err e) all P are h = tt
 
 pub usage_called : (Q : Type 0) (words : List (List ℕ)) (brief : Bool) (name : List ℕ) (width : ℕ) → AreLintWords words brief name width → (Q → ⊥) → Q ↔ IsNoLintCall words
 usage_called Q words brief name width are called = (λ q. absurd (called q), λ none. absurd (none brief name width are))
-
--- what was clean of a device's bytes is of these
-pub kept_clean : {D : Type 0} (remaining : D → Option (List ℕ)) (old new : D) (words : List (List ℕ)) (got clean : Bool) → old ≡ new → got ≡ clean
-    → IfSome (remaining old) (λ bs. CallIsClean words bs got) → IfSome (remaining new) (λ bs. CallIsClean words bs clean)
-kept_clean remaining old new words got clean same is h =
-    subst (λ d. IfSome (remaining d) (λ bs. CallIsClean words bs clean)) same (subst (λ b. IfSome (remaining old) (λ bs. CallIsClean words bs b)) is h)

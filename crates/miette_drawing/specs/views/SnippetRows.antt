@@ -4,7 +4,7 @@ use Rattle.std.specs.Prelude.{slice_range, Option, false, drop}
 use Rattle.std.specs.Option.{option_map}
 use Rattle.miette_newlines.specs.rules.Lines.{Line}
 use Rattle.miette_protocol.specs.rules.Reading.{Contents}
-use Rattle.miette_highlight.specs.rules.HighlighterCalls.{Call, asked}
+use Rattle.miette_highlight.specs.rules.HighlighterCalls.{Call}
 use Rattle.miette_page.specs.rules.Rows.{Row}
 use Rattle.miette_lines.specs.rules.Answers.{Highlight, first_of}
 use Rattle.miette_lines.specs.rules.Cells.{Cell, characters, cells_from}
@@ -16,7 +16,7 @@ use Rattle.miette_lines.specs.views.GivenLabels.{drawn_of}
 use Rattle.miette_snippets.specs.rules.Folds.{Spread}
 use Rattle.miette_snippets.specs.rules.Frames.{SnippetSettings, Place, top_row, bottom_row, number_width}
 use Rattle.miette_snippets.specs.rules.Gutters.{gutter_columns}
-use Rattle.miette_snippets.specs.rules.Highlighting.{decoded_text, ArePieces, EachHasPieces, line_calls, piece_of}
+use Rattle.miette_snippets.specs.rules.Highlighting.{decoded_text, EachHasPieces, line_calls}
 use Rattle.miette_lines.specs.rules.Labels.{DrawnLabel}
 use Rattle.miette_snippets.specs.rules.SnippetLayout.{line_or_break, left_out}
 use Rattle.miette_page.specs.views.Printouts.{Printout, ◌⊕◌}
@@ -56,14 +56,6 @@ lent_snippet s spreads drawn lent place pieces =
 -- a line and a column as a place
 abbrev pub place_at : ℕ × ℕ → Place
 place_at p = record { line = p.0; column = p.1 }
-
--- A page has got the rows of a line with some pieces, which a highlighter answered for its text by a call that happens.
-pub record PutsLine (blank : Bool) (happen : List Call → Type 0) (text : List ℕ)
-    (rows : List Highlight → List Row) (before after : Printout) : Type 0 where
-  pub pieces : List Highlight
-  pub are : ArePieces blank text pieces
-  pub call : happen (asked text (map piece_of pieces) ∷ [])
-  pub is : after ≡ before ⊕ rows_tokens (rows pieces)
 
 -- A page has got rows with some pieces, which a highlighter answered for these texts by calls that happen.
 pub record PutsRows (blank : Bool) (happen : List Call → Type 0) (texts : List (List ℕ))

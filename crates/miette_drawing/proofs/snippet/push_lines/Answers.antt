@@ -3,7 +3,7 @@ use Rattle.miette_lines.specs.declared.sweep.PlacedLabel.{PlacedLabel}
 use Rattle.miette_snippets.specs.views.ThemeSettings.{settings_of}
 use Rattle.miette_lines.specs.views.GivenLabels.{drawn_of}
 use Rattle.miette_snippets.specs.rules.Folds.{leaves_out}
-use Rattle.miette_snippets.specs.rules.Highlighting.{leaves_plain, decoded_text, ArePieces, follows}
+use Rattle.miette_snippets.specs.rules.Highlighting.{leaves_plain, decoded_text, ArePieces, follows, highlight_of}
 use Rattle.miette_snippets.specs.rules.SnippetLayout.{left_out}
 use Rattle.miette_newlines.specs.rules.Lines.{Line, lines_from}
 use Rattle.miette_folds.specs.declared.folds.LineStart.{LineStart}
@@ -14,11 +14,12 @@ use Rattle.miette_newlines.specs.views.Walking.{line_of_text}
 use Rattle.miette_lines.specs.views.Sweeping.{IsAt}
 use Rattle.miette_lines.proofs.Swept.{left_at}
 use Rattle.miette_highlight.specs.rules.HighlighterCalls.{Call}
+use Rattle.miette_drawing.proofs.Styling.{call_for}
 use Rattle.miette_folds.proofs.Starts.{Begins, begins_first, begins_next, begins_few}
 use Rattle.miette_folds.proofs.Passing.{IsBetween, next_begins, next_further, next_outs}
 use Rattle.miette_drawing.proofs.Skipping.{lines_run}
 use Rattle.miette_folds.proofs.Extending.{not_jumped}
-use Rattle.miette_drawing.proofs.Lending.{AreLined, lines_first, lines_more, lines_all}
+use Rattle.miette_drawing.proofs.Lending.{AreLined, lines_first, lines_more, lines_all, text_fits}
 use Rattle.miette_drawing.proofs.snippet.push_lines.Goals as goal
 
 pub loop-at-init : goal.loop-at-init
@@ -39,13 +40,10 @@ pub enter_line-requires-clause-at : goal.enter_line-requires-clause-at
 enter_line-requires-clause-at g c =
     subst (λ (n : ℕ). IsAt c.args.drawing.now.placed.now n c.loop-at.sweep.next c.loop-at.sweep.running.items) (sym c.line_at-line.ensures.from) c.loop-at.invariant.state
 
-pub push_line-requires-clause-from : goal.push_line-requires-clause-from
-push_line-requires-clause-from g c =
+pub push_line_or_break-requires : goal.push_line_or_break-requires
+push_line_or_break-requires g c =
     let from : c.line_at-line.result.start ≡ c.args.body.now.start + c.loop-at.at = c.line_at-line.ensures.from in
-    omega (arith, from)
-
-pub push_line-requires-clause-to : goal.push_line-requires-clause-to
-push_line-requires-clause-to g c = omega (arith, c.line_at-line.ensures.ending, c.line_at-line.ensures.to)
+    text_fits c.args.body.now.start c.args.body.now.bytes.now c.line_at-line.result (omega (arith, from)) c.line_at-line.ensures.text c.line_at-line.ensures.ending c.line_at-line.ensures.to c.requires.small
 
 pub next_start-next-requires : goal.next_start-next-requires
 next_start-next-requires g c =
@@ -85,48 +83,53 @@ loop-at-preserved g c =
     let spreads = c.args.drawing.now.spreads.now in
     let folds = c.args.body.now.folds.now in
     let placed : List PlacedLabel = c.args.drawing.now.placed.now in
-    let settings = settings_of body.frame.theme.now body.frame.options in
     let l : Line = line_of_text c.line_at-line.result in
     let place : ℕ = c.loop-at.place in
-    let number : ℕ = body.before + place + 1 in
     let jumps : Bool = c.may_pass.result in
     let near : LineStart = next_line c.loop-at.place (line_of_text c.line_at-line.result) in
     let far : LineStart = c.next_start-next.result in
     let blank : Bool = leaves_plain g.H.Highlighter.is_blank c.args.highlighter.now in
     let begun : List Call → Type 0 = follows g.H.Highlighter.may_follow c.args.highlighter.now in
     let was : List Call → Type 0 = follows g.H.Highlighter.may_follow c.loop-at.highlighter in
-    let now : List Call → Type 0 = follows g.H.Highlighter.may_follow c.push_line.new.highlighter in
+    let now : List Call → Type 0 = follows g.H.Highlighter.may_follow c.pieces_of.new.highlighter in
     let text = decoded_text (text_in c.args.body.now.start c.args.body.now.bytes.now (line_of_text c.line_at-line.result)) in
-    let rows = c.in_ok-left_out.ensures.rows in
-    let own : ArePieces blank text rows.pieces = subst (λ b. ArePieces b text rows.pieces) c.loop-at.invariant.stays rows.are in
+    let answered : ArePieces blank text (map highlight_of c.in_ok-pieces.pieces.items) =
+    subst (λ b. ArePieces b text (map highlight_of c.in_ok-pieces.pieces.items)) c.loop-at.invariant.stays c.in_ok-pieces.ensures.pieces in
+    let own : ArePieces blank text (map highlight_of c.deref-in-loop-at-2.result.now) =
+    subst (λ ps. ArePieces blank text (map highlight_of ps)) (sym c.deref-in-loop-at-2.ensures.value) answered in
     let from : c.line_at-line.result.start ≡ c.args.body.now.start + c.loop-at.at = c.line_at-line.ensures.from in
     let some : c.line_at-line.result.start < c.line_at-line.result.end = c.line_at-line.ensures.some in
     let to : c.line_at-line.result.end ≤ c.args.body.now.start + length c.args.body.now.bytes.now = c.line_at-line.ensures.to in
     let low : c.args.body.now.start ≤ c.line_at-line.result.end = omega (arith, from, some) in
-    let counted : place ≡ number - (body.before + 1) = omega arith in
-    let is : c.in_ok-left_out.left_out ≡ leaves_out body.frame.options.label_lines (lines_from start bytes) (map spread_of spreads) place l = c.in_ok-left_out.ensures.left in
-    let leaves : c.in_ok-left_out.left_out ≡ left_out settings body.before (lines_from start bytes) (map spread_of spreads) number l =
-    is ∙ ap (λ n. leaves_out body.frame.options.label_lines (lines_from start bytes) (map spread_of spreads) n l) counted in
-    let drawn = lines_more (left_out settings body.before (lines_from start bytes) (map spread_of spreads)) c.loop-at.gap c.in_ok-left_out.left_out settings body.frame.number_width body.gutter c.args.drawing.now.labels.now placed start bytes (body.before + 1) blank begun was now c.loop-at.at number c.line_at-line.result
-    c.deref.result.now c.deref-in-loop-at.result.now rows.pieces
-    c.args.page.now c.loop-at.page c.push_line.new.page c.loop-at.invariant.lined leaves c.line_at-line.ensures.parted low
-    (c.deref.ensures.value ∙ c.in_ok-enter_line.ensures.one) (c.deref-in-loop-at.ensures.value ∙ c.in_ok-enter_line.ensures.on.multi) own rows.call rows.is in
-    let sums : number + 1 ≡ body.before + (place + 1) + 1 = omega arith in
-    let behind = subst (λ (n : ℕ). AreLined (left_out settings body.before (lines_from start bytes) (map spread_of spreads)) c.in_ok-left_out.left_out settings body.frame.number_width body.gutter (map (drawn_of c.args.drawing.now.labels.now) placed) start bytes (body.before + 1) blank begun now (c.line_at-line.result.end - start) n c.args.page.now c.push_line.new.page) sums drawn in
-    let a : Begins start bytes c.line_at-line.result.end (place + 1) = begins_next start bytes c.loop-at.at place c.line_at-line.result c.loop-at.invariant.begun c.line_at-line.ensures.parted low to in
+    let lined = subst (λ (n : ℕ). AreLined (left_out (settings_of body.frame.theme.now body.frame.options) body.before (lines_from body.start body.bytes.now) (map spread_of c.args.drawing.now.spreads.now)) c.loop-at.gap (settings_of body.frame.theme.now body.frame.options) body.frame.number_width body.gutter (map (drawn_of c.args.drawing.now.labels.now) placed) body.start body.bytes.now (body.before + 1) blank begun was c.loop-at.at n c.args.page.now c.loop-at.page)
+    (sym c.in_ok-number.ensures) c.loop-at.invariant.lined in
+    let counted : c.loop-at.place ≡ c.in_ok-number.number - (c.args.body.now.before + 1) = omega (arith, c.in_ok-number.ensures) in
+    let is : c.leaves_out-left_out.result ≡ leaves_out c.args.body.now.frame.options.label_lines (lines_from start bytes) (map spread_of c.args.drawing.now.spreads.now) c.loop-at.place (line_of_text c.line_at-line.result) =
+    c.leaves_out-left_out.ensures start bytes c.args.drawing.now.spreads.now c.requires.folds in
+    let leaves : c.leaves_out-left_out.result ≡ left_out (settings_of body.frame.theme.now body.frame.options) body.before (lines_from body.start body.bytes.now) (map spread_of c.args.drawing.now.spreads.now) c.in_ok-number.number (line_of_text c.line_at-line.result) =
+    is ∙ ap (λ n. leaves_out c.args.body.now.frame.options.label_lines (lines_from start bytes) (map spread_of c.args.drawing.now.spreads.now) n (line_of_text c.line_at-line.result)) counted in
+    let drawn = lines_more (left_out (settings_of body.frame.theme.now body.frame.options) body.before (lines_from body.start body.bytes.now) (map spread_of c.args.drawing.now.spreads.now)) c.loop-at.gap c.leaves_out-left_out.result (settings_of body.frame.theme.now body.frame.options) body.frame.number_width body.gutter c.args.drawing.now.labels.now placed body.start body.bytes.now (body.before + 1) blank begun was now c.loop-at.at c.in_ok-number.number c.line_at-line.result
+    c.deref-in-loop-at.result.now c.deref.result.now (map highlight_of c.deref-in-loop-at-2.result.now)
+    c.args.page.now c.loop-at.page c.push_line_or_break.new.page lined leaves c.line_at-line.ensures.parted low
+    (c.deref-in-loop-at.ensures.value ∙ c.in_ok-enter_line.ensures.one) (c.deref.ensures.value ∙ c.in_ok-enter_line.ensures.on.multi) own
+    (call_for was now text c.deref-in-loop-at-2.result.now c.in_ok-pieces.pieces.items c.deref-in-loop-at-2.ensures.value c.in_ok-pieces.ensures.calls)
+    c.in_ok-push_line_or_break.ensures in
+    let sums : c.in_ok-number.number + 1 ≡ c.args.body.now.before + (c.loop-at.place + 1) + 1 = omega (arith, c.in_ok-number.ensures) in
+    let behind = subst (λ (n : ℕ). AreLined (left_out (settings_of body.frame.theme.now body.frame.options) body.before (lines_from body.start body.bytes.now) (map spread_of c.args.drawing.now.spreads.now)) c.leaves_out-left_out.result (settings_of body.frame.theme.now body.frame.options) body.frame.number_width body.gutter (map (drawn_of c.args.drawing.now.labels.now) placed) body.start body.bytes.now (body.before + 1) blank begun now (c.line_at-line.result.end - c.args.body.now.start) n c.args.page.now c.push_line_or_break.new.page) sums drawn in
+    let a : Begins start bytes c.line_at-line.result.end (c.loop-at.place + 1) = begins_next start bytes c.loop-at.at c.loop-at.place c.line_at-line.result c.loop-at.invariant.begun c.line_at-line.ensures.parted low to in
     let b : Begins start bytes c.next_start-next.result.offset c.next_start-next.result.place =
     subst (λ (x : LineStart). Begins start bytes x.offset x.place) (sym c.next_start-next.ensures) (next_begins start bytes spreads folds place l jumps c.requires.folds a) in
     let le : c.line_at-line.result.end ≤ c.next_start-next.result.offset = subst (λ (x : LineStart). c.line_at-line.result.end ≤ x.offset) (sym c.next_start-next.ensures) (next_further folds place l jumps) in
-    let there : c.next_start-next.result.offset ≡ start + (c.next_start-next.result.offset - start) = omega (arith, b.low) in
+    let there : c.next_start-next.result.offset ≡ c.args.body.now.start + (c.next_start-next.result.offset - c.args.body.now.start) = omega (arith, b.low) in
     record {
-      lined = lines_run settings (map spread_of spreads) c.in_ok-left_out.left_out jumps body.frame.number_width body.gutter (map (drawn_of c.args.drawing.now.labels.now) placed) start bytes body.before (body.before + 1) blank begun now near far c.args.page.now c.push_line.new.page
+      lined = lines_run (settings_of body.frame.theme.now body.frame.options) (map spread_of c.args.drawing.now.spreads.now) c.leaves_out-left_out.result jumps body.frame.number_width body.gutter (map (drawn_of c.args.drawing.now.labels.now) placed) start bytes body.before (body.before + 1) blank begun now near far c.args.page.now c.push_line_or_break.new.page
           c.may_pass.ensures.out c.may_pass.ensures.free (λ f. c.next_start-next.ensures ∙ not_jumped folds place l jumps f) a b le
-          (λ k other h. next_outs start bytes spreads folds body.frame.options.label_lines place l jumps c.requires.folds low (omega (arith, some)) (λ t. sym is ∙ c.may_pass.ensures.out t) k other
+          (λ k other h. next_outs start bytes spreads folds c.args.body.now.frame.options.label_lines place l jumps c.requires.folds low (omega (arith, some)) (λ t. sym is ∙ c.may_pass.ensures.out t) k other
           (subst (λ (x : LineStart). IsBetween near x k other) c.next_start-next.ensures h))
           behind;
       begun = subst (λ (n : ℕ). Begins start bytes n c.next_start-next.result.place) there b;
       state = subst (λ (n : ℕ). IsAt placed n c.pass_over.new.sweep.next c.pass_over.new.sweep.running.items) there c.in_ok-pass_over.ensures;
-      stays = c.push_line.ensures.stays ∙ c.loop-at.invariant.stays;
+      stays = c.pieces_of.ensures.stays ∙ c.loop-at.invariant.stays;
     }
 
 pub returns-clause-rows : goal.returns-clause-rows
@@ -141,12 +144,3 @@ returns-clause-at g c =
     let over : length c.args.body.now.bytes.now ≤ c.loop-at.at = c.loop-at-test.false in
     let e : c.args.body.now.start + c.loop-at.at ≡ c.args.body.now.start + length c.args.body.now.bytes.now = omega (arith, inside, over) in
     subst (λ (n : ℕ). IsAt c.args.drawing.now.placed.now n c.loop-at.sweep.next c.loop-at.sweep.running.items) e c.loop-at.invariant.state
-
-pub returns-clause-stays : goal.returns-clause-stays
-returns-clause-stays g c = c.loop-at.invariant.stays
-
-pub returns-in_err-left_out-clause-stays : goal.returns-in_err-left_out-clause-stays
-returns-in_err-left_out-clause-stays g c = c.push_line.ensures.stays ∙ c.loop-at.invariant.stays
-
-pub returns-in_err-pass_over-clause-stays : goal.returns-in_err-pass_over-clause-stays
-returns-in_err-pass_over-clause-stays g c = c.push_line.ensures.stays ∙ c.loop-at.invariant.stays

@@ -31,9 +31,3 @@ returns-clause-at g c =
     let e : c.args.lent.now.span.offset + length c.args.lent.now.bytes ≡ c.in-Some.end =
     sym (c.in-Some.ensures.1 ∙ ap (λ n. n + length c.data.result.now) (c.offset-start.ensures ∙ ap (λ s. s.offset) c.span.ensures) ∙ ap (λ b. c.args.lent.now.span.offset + length b) c.data.ensures) in
     subst (λ (n : ℕ). IsAt c.args.drawing.now.placed.now n c.push_framed.new.sweep.next c.push_framed.new.sweep.running.items) e c.in_ok-push_framed.ensures.at
-
-pub returns-clause-stays : goal.returns-clause-stays
-returns-clause-stays g c = c.push_framed.ensures.stays ∙ c.restart.ensures.stays
-
-pub returns-in_err-push_framed-clause-stays : goal.returns-in_err-push_framed-clause-stays
-returns-in_err-push_framed-clause-stays g c = c.push_framed.ensures.stays ∙ c.restart.ensures.stays
