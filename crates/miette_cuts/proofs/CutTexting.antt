@@ -85,12 +85,10 @@ pieces_end pieces i before bytes cells p q r whole le hq hr inv =
 pub stretch_shown : (b : Bool) (runs : List Run) (p q : Printout) → b ≡ true → q ≡ p ⊕ row_tokens runs → q ≡ p ⊕ row_tokens (cond b runs (dots ∷ []))
 stretch_shown b runs p q e h = h ∙ ap (λ c. p ⊕ row_tokens (cond c runs (dots ∷ []))) (sym e)
 
-pub dots_put : (p q r : Printout) → q ≡ p ⊕ begins plain ∷ [] → r ≡ q ⊕ text_tokens (replicate 3 46) → r ≡ p ⊕ row_tokens (dots ∷ [])
-dots_put p q r hq hr =
+pub stretch_dots : (b : Bool) (runs : List Run) (p q r : Printout) → b ≡ false → q ≡ p ⊕ begins plain ∷ [] → r ≡ q ⊕ text_tokens (replicate 3 46) → r ≡ p ⊕ row_tokens (cond b runs (dots ∷ []))
+stretch_dots b runs p q r e hq hr =
     then p (begins plain ∷ []) (text_tokens (replicate 3 46)) hq hr ∙ ap (λ x. p ⊕ x) (sym (append-nil (begins plain ∷ text_tokens (replicate 3 46))))
-
-pub stretch_dots : (b : Bool) (runs : List Run) (p q : Printout) → b ≡ false → q ≡ p ⊕ row_tokens (dots ∷ []) → q ≡ p ⊕ row_tokens (cond b runs (dots ∷ []))
-stretch_dots b runs p q e h = h ∙ ap (λ c. p ⊕ row_tokens (cond c runs (dots ∷ []))) (sym e)
+    ∙ ap (λ c. p ⊕ row_tokens (cond c runs (dots ∷ []))) (sym e)
 
 -- ---- all stretches
 

@@ -17,10 +17,11 @@ pub(crate) fn push_cell<O: Canvas>(page: &mut Page<O>, cell: &Cell) -> Result<()
     ensures { OnOk result (page.new ≡ page.old ⊕ text_tokens (map (λ p. p.code) (printed_glyphs (cell_of cell.now)))) }
 {
     if cell.code == '\t' {
-        page.push_copies(' ', cell.until.saturating_sub(cell.from))
+        page.push_copies(' ', cell.until.saturating_sub(cell.from))?;
     } else {
-        page.push(cell.code)
+        page.push(cell.code)?;
     }
+    Ok(())
 }
 
 /// The characters that fill so many bytes. `AllocError` where memory is refused, or a column is past the largest

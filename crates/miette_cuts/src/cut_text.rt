@@ -73,16 +73,6 @@ fn skip(walk: &mut Walk, many: usize) -> Result<(), AllocError>
     Ok(())
 }
 
-// Dots for so many cells, and goes past them.
-fn push_dots<O: Canvas>(page: &mut Page<O>, walk: &mut Walk, many: usize) -> Result<(), AllocError>
-    ensures told { OnOk result (page.new ≡ page.old ⊕ row_tokens (dots ∷ [])) }
-    ensures later { OnOk result (walk.new ≡ drop many walk.old) }
-{
-    page.begin(PLAIN)?;
-    page.push_copies('.', 3)?;
-    skip(walk, many)
-}
-
 // A stretch in what a highlighter's pieces say of it, where so many bytes of the line stand before it; or its dots.
 fn push_stretch<O: Canvas>(
     page: &mut Page<O>,
@@ -97,7 +87,10 @@ fn push_stretch<O: Canvas>(
     ensures later { OnOk result (walk.new ≡ drop stretch.now.cells walk.old) }
 {
     if !is_shown(stretch) {
-        return push_dots(page, walk, stretch.cells);
+        page.begin(PLAIN)?;
+        page.push_copies('.', 3)?;
+        skip(walk, stretch.cells)?;
+        return Ok(());
     }
     let mut before = before;
     let mut bytes = stretch.bytes;
@@ -110,7 +103,8 @@ fn push_stretch<O: Canvas>(
         bytes = bytes.saturating_sub(behind);
     }
     page.begin(PLAIN)?;
-    push_all(page, walk, many)
+    push_all(page, walk, many)?;
+    Ok(())
 }
 
 /// The cells of a line, of which these are the stretches, in a highlighter's pieces, each a length in bytes and a

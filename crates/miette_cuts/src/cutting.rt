@@ -103,7 +103,8 @@ fn stretches_of(
         return Ok(Vec::new(alloc));
     };
     let first = lone_stretch(limit, ends, false, &cell);
-    stretches_behind(alloc, walk, limit, ends, first)
+    let made = stretches_behind(alloc, walk, limit, ends, first)?;
+    Ok(made)
 }
 
 // The columns of a stretch in the row: its own, or those of its dots.
@@ -211,7 +212,8 @@ fn cut_at(alloc: Global, text: &LineText, marks: &[Mark], limit: usize) -> Resul
         ≡ option_map (map measure) (cut_line (Some limit) (map (mark_of labels) marks.now) (text_cells text.now))) }
 {
     if all_printable(text.bytes) {
-        return plain_cut_at(alloc, text.bytes, marks, limit);
+        let plain = plain_cut_at(alloc, text.bytes, marks, limit)?;
+        return Ok(plain);
     }
     let walk = Walk::new(text.bytes, text.start, text.tab);
     let width = columns_of_line(walk.copy())?;
@@ -249,7 +251,10 @@ pub fn marks_shown(alloc: Global, cut: &Cut, marks: Vec<Mark>) -> Result<Vec<Mar
         map (mark_of labels) moved.items ≡ shown_marks ruled (map (mark_of labels) marks.items)) }
 {
     match cut {
-        Some(cut) => row_marks(alloc, cut, &marks),
+        Some(cut) => {
+            let moved = row_marks(alloc, cut, &marks)?;
+            Ok(moved)
+        }
         None => Ok(marks),
     }
 }

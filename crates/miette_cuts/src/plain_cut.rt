@@ -111,9 +111,11 @@ fn push_plain_stretch<O: Canvas>(
 {
     page.begin(PLAIN)?;
     if is_shown(stretch) {
-        return push_ascii(page, own);
+        push_ascii(page, own)?;
+        return Ok(());
     }
-    page.push_copies('.', 3)
+    page.push_copies('.', 3)?;
+    Ok(())
 }
 
 /// The cells of a text of printable ASCII, of which these are the stretches. `AllocError` where memory is refused.

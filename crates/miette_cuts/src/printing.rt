@@ -35,7 +35,8 @@ fn push_line_text<O: Canvas>(
         push_cells_within(page, walk, piece.0)?;
     }
     page.begin(PLAIN)?;
-    push_cells(page, walk)
+    push_cells(page, walk)?;
+    Ok(())
 }
 
 // A text: in no highlighter's pieces as it is where it's UTF-8 without tabs, and between its tabs where it's printable
@@ -52,15 +53,18 @@ fn push_text<O: Canvas>(
     if pieces.is_empty() {
         if let Some(untabbed) = text_without_tabs(text.bytes) {
             page.begin(PLAIN)?;
-            return page.push_str(untabbed);
+            page.push_str(untabbed)?;
+            return Ok(());
         }
         if all_tabbed(text.bytes) {
             page.begin(PLAIN)?;
-            return push_tabbed(page, text.bytes, text.tab);
+            push_tabbed(page, text.bytes, text.tab)?;
+            return Ok(());
         }
     }
     let mut walk = Walk::new(text.bytes, text.start, text.tab);
-    push_line_text(page, &mut walk, pieces)
+    push_line_text(page, &mut walk, pieces)?;
+    Ok(())
 }
 
 /// What is shown of a line's text: its stretches, or all of it where it isn't cut, in a highlighter's pieces, each a
@@ -79,7 +83,8 @@ pub fn push_shown_text<O: Canvas>(
     match cut {
         Some(cut) => {
             if pieces.is_empty() && all_printable(text.bytes) {
-                return push_plain_cut(page, text.bytes, cut);
+                push_plain_cut(page, text.bytes, cut)?;
+                return Ok(());
             }
             let mut walk = Walk::new(text.bytes, text.start, text.tab);
             push_cut(page, &mut walk, pieces, cut)

@@ -56,7 +56,8 @@ pub(crate) fn push_ascii<O: Canvas>(page: &mut Page<O>, bytes: &[u8]) -> Result<
     let Ok(text) = str::from_utf8(bytes) else {
         unreachable!();
     };
-    page.push_str(text)
+    page.push_str(text)?;
+    Ok(())
 }
 
 /// Prints ASCII from the first column on: what lies between tabs as it is, a tab as spaces up to the next multiple of
@@ -84,5 +85,6 @@ pub(crate) fn push_tabbed<O: Canvas>(
         column = next;
         rest = &rest[size + 1..];
     }
-    push_ascii(page, rest)
+    push_ascii(page, rest)?;
+    Ok(())
 }

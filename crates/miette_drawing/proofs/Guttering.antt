@@ -1,7 +1,7 @@
 -- What gutters tell.
-use Rattle.miette_page.proofs.Paging.{put_append, put_nil}
+use Rattle.miette_page.proofs.Paging.{put_append}
 use Rattle.miette_page.specs.views.Printouts.{Printout, ◌⊕◌}
-use Rattle.std.proofs.Common.{ℕ, ◌+◌, ◌-◌, ◌<◌, ◌≤◌, ◌≡◌, Bool, true, false, cond, List, [], ◌∷◌, ◌++◌, map, length, drop, get_or, replicate, refl, sym, ap, ◌∙◌, arith}
+use Rattle.std.proofs.Common.{ℕ, ◌+◌, ◌-◌, ◌<◌, ◌≤◌, ◌≡◌, Bool, true, false, cond, List, [], ◌∷◌, ◌++◌, map, length, drop, get_or, replicate, refl, sym, ap, ◌∙◌}
 use Rattle.std.specs.Prelude.{chars, ◌==◌, Option, Some}
 use Rattle.std.proofs.lemmas.List.{at_drop_more, at_drop_all}
 use Rattle.miette_newlines.specs.rules.Lines.{Line}
@@ -12,14 +12,13 @@ use Rattle.miette_page.specs.rules.Rows.{Row, styled_run}
 use Rattle.miette_style.specs.rules.Styles.{plain}
 use Rattle.miette_lines.specs.rules.Labels.{DrawnLabel, starts_on, ends_on, parts_of, cut_at_lf}
 use Rattle.miette_snippets.specs.rules.Drawing.{blank}
-use Rattle.miette_snippets.specs.rules.Gutters.{bar, number_gutter, break_gutter, other_gutter, open_gutter, ending_corner, arrow}
+use Rattle.miette_snippets.specs.rules.Gutters.{number_gutter, other_gutter, open_gutter, ending_corner, arrow}
 use Rattle.miette_lines.specs.views.GivenLabels.{drawn_of}
 use Rattle.miette_lines.specs.views.Sweeping.{nothing}
 use Rattle.miette_page.specs.views.Tokens.{Token, row_tokens, styled_tokens, text_tokens}
 use Rattle.miette_lines.proofs.Numbers.{by_cases}
 use Rattle.miette_snippets.proofs.Telling.{styled_told, styled_row, blank_row, then, run_one}
 use Rattle.miette_style.specs.rules.Themes.{Characters}
-use Rattle.miette_drawing.proofs.Texting.{parts_then}
 use Rattle.miette_style.specs.rules.Lists.{onto}
 
 -- A gutter whose labels from some index on are left: none is left, or the one at the index adds runs.
@@ -95,13 +94,3 @@ arrow_put t style corner left less p q r n z e f g =
     ∙ put_append p (styled_tokens style bars ++ text_tokens (t.rarrow ∷ [])) space
     ∙ ap (λ x. p ⊕ (x ++ space)) (run_one style bars t.rarrow)
     ∙ ap (λ k. p ⊕ (styled_tokens style (corner ∷ replicate k t.hbar ++ t.rarrow ∷ []) ++ space)) z
-
--- the gutter of a break
-pub break_none : (w : ℕ → ℕ) (t : Characters) (f : PlacedLabel → DrawnLabel) (placed : List PlacedLabel) (p : Printout) → length placed ≡ 0 → p ≡ p ⊕ row_tokens (break_gutter w t (map f placed))
-break_none w t f [] p e = sym (put_nil p)
-break_none w t f (l ∷ ls) p e = absurd (omega (arith, e))
-
-pub break_some : (w : ℕ → ℕ) (t : Characters) (f : PlacedLabel → DrawnLabel) (placed : List PlacedLabel) (p b n : Printout) → 0 < length placed → b ≡ p ⊕ styled_tokens plain (replicate 1 32) → n ≡ b ⊕ row_tokens (map (bar w t) (map f placed)) →
-    n ≡ p ⊕ row_tokens (break_gutter w t (map f placed))
-break_some w t f [] p b n some hb hn = absurd (omega (arith, some))
-break_some w t f (l ∷ ls) p b n some hb hn = parts_then (blank w 1 ∷ []) (map (bar w t) (map f (l ∷ ls))) p b n (hb ∙ ap (λ r. p ⊕ r) (sym (blank_row w 1))) hn

@@ -45,7 +45,8 @@ fn push_closed_row<O: Canvas>(
 {
     push_other_start(page, sheet)?;
     push_other_gutter(page, sheet, columns)?;
-    push_part(page, label.style, bar, part)
+    push_part(page, label.style, bar, part)?;
+    Ok(())
 }
 
 // A row of a text behind the gutter's bars: `   · │   │ a label's text`.
@@ -61,7 +62,8 @@ fn push_open_row<O: Canvas>(
 {
     push_other_start(page, sheet)?;
     push_open_gutter(page, sheet, columns)?;
-    push_part(page, label.style, sheet.theme.characters.vbar, part)
+    push_part(page, label.style, sheet.theme.characters.vbar, part)?;
+    Ok(())
 }
 
 // The rows of a text's parts after the first.
@@ -104,7 +106,8 @@ fn push_closing<O: Canvas>(page: &mut Page<O>, sheet: &Sheet, label: &PlacedLabe
     };
     let columns = sheet.gutter.saturating_sub(1);
     push_closed_row(page, sheet, columns, label, characters.rcross, first)?;
-    push_open_rows(page, sheet, columns, label, rest)
+    push_open_rows(page, sheet, columns, label, rest)?;
+    Ok(())
 }
 
 /// The rows of the texts of the labels of several lines that end on the sheet's line, in order. `AllocError` where

@@ -39,7 +39,8 @@ fn push_ascii<O: Canvas>(page: &mut Page<O>, style: Style, text: &str) -> Outcom
     ensures { OnOk result (page.new ≡ page.old ⊕ styled_tokens style text.now) }
 {
     page.begin(style)?;
-    page.push_str(text)
+    page.push_str(text)?;
+    Ok(())
 }
 
 // A run of a text.
@@ -47,7 +48,8 @@ fn push_styled<O: Canvas>(page: &mut Page<O>, style: Style, text: &str) -> Outco
     ensures { OnOk result (page.new ≡ page.old ⊕ styled_tokens style (chars text.now)) }
 {
     page.begin(style)?;
-    page.push_str(text)
+    page.push_str(text)?;
+    Ok(())
 }
 
 // A run of a number.
@@ -55,7 +57,8 @@ fn push_count<O: Canvas>(page: &mut Page<O>, style: Style, number: usize) -> Out
     ensures { OnOk result (page.new ≡ page.old ⊕ styled_tokens style (decimal number)) }
 {
     page.begin(style)?;
-    page.push_number(number)
+    page.push_number(number)?;
+    Ok(())
 }
 
 // The spaces before a corner, the corner, and what follows it: `   ╭─`.
@@ -68,7 +71,8 @@ fn push_corner<O: Canvas>(page: &mut Page<O>, frame: &Frame, corner: char, many:
         return Err(AllocError);
     };
     page.push_blank(columns)?;
-    page.push_line(PLAIN, corner, frame.theme.characters.hbar, many)
+    page.push_line(PLAIN, corner, frame.theme.characters.hbar, many)?;
+    Ok(())
 }
 
 // A line's and a column's number, counted from 1 where they are given from 0: `2:3`.
@@ -79,7 +83,8 @@ fn push_place<O: Canvas>(page: &mut Page<O>, place: (usize, usize)) -> Outcome
     let column = sum(place.1, 1)?;
     page.push_number(line)?;
     page.push(':')?;
-    page.push_number(column)
+    page.push_number(column)?;
+    Ok(())
 }
 
 // What a place is called in a source with a name: `name:2:3`, or `name`.
@@ -98,7 +103,8 @@ fn push_link<O: Canvas>(
         return Ok(());
     }
     page.push(':')?;
-    push_place(page, place)
+    push_place(page, place)?;
+    Ok(())
 }
 
 // A place in a source with a name: `[name:2:3]`, or `[name]` where the place isn't asked for.
@@ -114,7 +120,8 @@ fn push_named_place<O: Canvas>(
 {
     push_ascii(page, PLAIN, "[")?;
     push_link(page, frame, name, place)?;
-    push_ascii(page, PLAIN, "]")
+    push_ascii(page, PLAIN, "]")?;
+    Ok(())
 }
 
 // A place in a source without a name: `[2:3]`, or `───` in a snippet of one line or where the place isn't asked for.
@@ -154,8 +161,14 @@ fn push_location<O: Canvas>(
         return Ok(());
     };
     match name {
-        Some(name) => push_named_place(page, frame, name, place),
-        None => push_bare_place(page, frame, several, place),
+        Some(name) => {
+            push_named_place(page, frame, name, place)?;
+            Ok(())
+        }
+        None => {
+            push_bare_place(page, frame, several, place)?;
+            Ok(())
+        }
     }
 }
 
@@ -177,7 +190,8 @@ pub(crate) fn push_top_row<O: Canvas>(
 {
     push_corner(page, frame, frame.theme.characters.ltop, 1)?;
     push_location(page, frame, name, several, place)?;
-    page.end_row()
+    page.end_row()?;
+    Ok(())
 }
 
 /// The row under a snippet's lines: `   ╰────`. `AllocError` where memory is refused, or `number_width + 2` is past
@@ -187,7 +201,8 @@ pub(crate) fn push_bottom_row<O: Canvas>(page: &mut Page<O>, frame: &Frame) -> O
         ⊕ rows_tokens (bottom_row (settings_of frame.now.theme.now frame.now.options) frame.now.number_width ∷ [])) }
 {
     push_corner(page, frame, frame.theme.characters.lbot, 4)?;
-    page.end_row()
+    page.end_row()?;
+    Ok(())
 }
 
 // A label's text, or that it has none.
@@ -195,8 +210,14 @@ fn push_label_text<O: Canvas>(page: &mut Page<O>, style: Style, label: &LabeledS
     ensures { OnOk result (page.new ≡ page.old ⊕ styled_tokens style (text_or_none label.now.text)) }
 {
     match label.label() {
-        Some(text) => push_styled(page, style, text),
-        None => push_ascii(page, style, "<none>"),
+        Some(text) => {
+            push_styled(page, style, text)?;
+            Ok(())
+        }
+        None => {
+            push_ascii(page, style, "<none>")?;
+            Ok(())
+        }
     }
 }
 
@@ -210,7 +231,8 @@ fn push_refused_text<O: Canvas>(page: &mut Page<O>, frame: &Frame, label: &Label
     push_ascii(page, styles.error, "Failed to read contents for label")?;
     push_ascii(page, PLAIN, " `")?;
     push_label_text(page, styles.link, label)?;
-    push_ascii(page, PLAIN, "` (offset: ")
+    push_ascii(page, PLAIN, "` (offset: ")?;
+    Ok(())
 }
 
 /// The row in place of snippets where a label is refused, with the refusal's name: "  [Failed to read contents for
@@ -233,5 +255,6 @@ pub fn push_refused_row<O: Canvas>(
     push_ascii(page, PLAIN, "): ")?;
     push_styled(page, styles.warning, name)?;
     push_ascii(page, PLAIN, "]")?;
-    page.end_row()
+    page.end_row()?;
+    Ok(())
 }

@@ -69,7 +69,8 @@ pub(crate) fn push_break_gutter<O: Canvas>(page: &mut Page<O>, sheet: &Sheet) ->
         return Ok(());
     }
     page.push_blank(1)?;
-    push_bars(page, sheet)
+    push_bars(page, sheet)?;
+    Ok(())
 }
 
 /// The gutter of a row that isn't the number row, in so many columns: a bar for each label that goes on,
@@ -87,17 +88,19 @@ pub(crate) fn push_other_gutter<O: Canvas>(
     let mut left = columns;
     for label in sheet.multi {
         if ends(&sheet.line, label) {
-            return page.push_line(
+            page.push_line(
                 label.style,
                 characters.lbot,
                 characters.hbar,
                 left.saturating_sub(1),
-            );
+            )?;
+            return Ok(());
         }
         page.push_line(label.style, characters.vbar, characters.vbar, 0)?;
         left = left.saturating_sub(1);
     }
-    page.push_blank(left)
+    page.push_blank(left)?;
+    Ok(())
 }
 
 /// The same with spaces in place of the corner: `│    `. `AllocError` where memory is refused.
@@ -114,12 +117,14 @@ pub(crate) fn push_open_gutter<O: Canvas>(
     let mut left = columns;
     for label in sheet.multi {
         if ends(&sheet.line, label) {
-            return page.push_blank(left);
+            page.push_blank(left)?;
+            return Ok(());
         }
         page.push_line(label.style, characters.vbar, characters.vbar, 0)?;
         left = left.saturating_sub(1);
     }
-    page.push_blank(left)
+    page.push_blank(left)?;
+    Ok(())
 }
 
 // An arrow from a corner, and a space: `╭──▶ `.
@@ -137,7 +142,8 @@ fn push_arrow<O: Canvas>(
     let characters = &sheet.theme.characters;
     page.push_line(style, corner, characters.hbar, left.saturating_sub(3))?;
     page.push(characters.rarrow)?;
-    page.push_blank(1)
+    page.push_blank(1)?;
+    Ok(())
 }
 
 /// The gutter of the number row: a bar for each label that runs through, an arrow for the first one that starts or
@@ -151,14 +157,17 @@ pub(crate) fn push_number_gutter<O: Canvas>(page: &mut Page<O>, sheet: &Sheet) -
     let mut left = sheet.gutter;
     for label in sheet.multi {
         if starts(&sheet.line, label) {
-            return push_arrow(page, sheet, label.style, characters.ltop, left);
+            push_arrow(page, sheet, label.style, characters.ltop, left)?;
+            return Ok(());
         }
         if ends(&sheet.line, label) {
             let corner = corner_at_end(sheet, label);
-            return push_arrow(page, sheet, label.style, corner, left);
+            push_arrow(page, sheet, label.style, corner, left)?;
+            return Ok(());
         }
         page.push_line(label.style, characters.vbar, characters.vbar, 0)?;
         left = left.saturating_sub(1);
     }
-    page.push_blank(left)
+    page.push_blank(left)?;
+    Ok(())
 }

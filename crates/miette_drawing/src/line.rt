@@ -41,7 +41,8 @@ fn push_number_start<O: Canvas>(page: &mut Page<O>, sheet: &Sheet, number: usize
     page.begin(sheet.theme.styles.linum)?;
     page.push_right(number, sheet.number_width)?;
     page.push_line(PLAIN, ' ', sheet.theme.characters.vbar, 1)?;
-    page.push(' ')
+    page.push(' ')?;
+    Ok(())
 }
 
 // The number row: ` 12 │ ╭─▶ the line's text`.
@@ -60,7 +61,8 @@ fn push_number_row<O: Canvas>(
     push_number_start(page, sheet, shown.number)?;
     push_number_gutter(page, sheet)?;
     push_shown_text(page, text, shown.pieces, cut)?;
-    page.end_row()
+    page.end_row()?;
+    Ok(())
 }
 
 // The mark row and the rows of texts under it, where there is a mark.
@@ -76,7 +78,8 @@ fn push_marked_rows<O: Canvas>(page: &mut Page<O>, sheet: &Sheet, marks: &[Mark]
     push_before_marks(page, sheet)?;
     push_marks(page, sheet, marks)?;
     page.end_row()?;
-    push_texts(page, sheet, marks)
+    push_texts(page, sheet, marks)?;
+    Ok(())
 }
 
 // The marks of the labels that lie on a line alone, by the columns of the whole line.
@@ -108,7 +111,8 @@ fn push_break_row<O: Canvas>(page: &mut Page<O>, sheet: &Sheet) -> Outcome
     page.push_line(PLAIN, '.', '.', 2)?;
     page.push(sheet.theme.characters.vbar)?;
     push_break_gutter(page, sheet)?;
-    page.end_row()
+    page.end_row()?;
+    Ok(())
 }
 
 // The row of the break where it begins with the sheet's line, or none where the line before it is left out too.
@@ -119,7 +123,8 @@ fn push_break<O: Canvas>(page: &mut Page<O>, sheet: &Sheet, shown: &ShownLine) -
     if shown.gap {
         return Ok(());
     }
-    push_break_row(page, sheet)
+    push_break_row(page, sheet)?;
+    Ok(())
 }
 
 /// The rows of the sheet's line: the number row, the marks and texts of the labels that lie on it alone, and the texts
@@ -138,7 +143,8 @@ pub(crate) fn push_line_or_break<O: Canvas>(
         shown.now.number (shown_cells sheet.now shown.now) (map highlight_of shown.now.pieces.now))) }
 {
     if shown.left_out {
-        return push_break(page, sheet, shown);
+        push_break(page, sheet, shown)?;
+        return Ok(());
     }
     let whole = marks_alone(alloc, sheet, shown)?;
     let text = LineText {
@@ -150,5 +156,6 @@ pub(crate) fn push_line_or_break<O: Canvas>(
     push_number_row(page, sheet, shown, &text, &cut)?;
     let marks = marks_shown(alloc, &cut, whole)?;
     push_marked_rows(page, sheet, &marks)?;
-    push_closings(page, sheet)
+    push_closings(page, sheet)?;
+    Ok(())
 }

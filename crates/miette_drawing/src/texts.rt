@@ -30,7 +30,8 @@ pub(crate) fn push_other_start<O: Canvas>(page: &mut Page<O>, sheet: &Sheet) -> 
         return Err(AllocError);
     };
     page.push_blank(columns)?;
-    page.push_line(PLAIN, sheet.theme.characters.vbar_break, ' ', 1)
+    page.push_line(PLAIN, sheet.theme.characters.vbar_break, ' ', 1)?;
+    Ok(())
 }
 
 /// What stands before the marks and the texts under a line: `   · │╰──`. It fails as `push_other_start` does.
@@ -38,7 +39,8 @@ pub(crate) fn push_before_marks<O: Canvas>(page: &mut Page<O>, sheet: &Sheet) ->
     ensures { OnOk result (page.new ≡ page.old ⊕ row_tokens (before_marks sheet.now)) }
 {
     push_other_start(page, sheet)?;
-    push_other_gutter(page, sheet, sheet.gutter)
+    push_other_gutter(page, sheet, sheet.gutter)?;
+    Ok(())
 }
 
 // The column behind the one from which a mark's text hangs.
@@ -69,7 +71,8 @@ fn push_leads<O: Canvas>(
         page.push_line(mark.label.style, bar, bar, 0)?;
         reached = behind_anchor(mark);
     }
-    page.push_blank(column.saturating_sub(reached))
+    page.push_blank(column.saturating_sub(reached))?;
+    Ok(())
 }
 
 // The first three characters before a part of a text; the fourth is a space.
@@ -97,7 +100,8 @@ fn push_text_row<O: Canvas>(
     page.push(front.2)?;
     page.push(' ')?;
     page.push_str(part)?;
-    page.end_row()
+    page.end_row()?;
+    Ok(())
 }
 
 // The rows of a text's parts after the first: `   ·   │   │ a label's text`.
@@ -147,7 +151,8 @@ fn push_text<O: Canvas>(page: &mut Page<O>, sheet: &Sheet, earlier: &[Mark], mar
     };
     let front = Front(characters.lbot, characters.hbar, characters.rcross);
     push_text_row(page, sheet, earlier, mark, front, first)?;
-    push_more_parts(page, sheet, earlier, mark, rest)
+    push_more_parts(page, sheet, earlier, mark, rest)?;
+    Ok(())
 }
 
 /// The rows of the texts of all marks, the last one's first. It fails as `push_other_start` does.

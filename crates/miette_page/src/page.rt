@@ -131,7 +131,8 @@ impl<O: Canvas> Page<O> {
     {
         start_run(&mut self.out, self.style, self.begun)?;
         self.begun = true;
-        self.out.push(character)
+        self.out.push(character)?;
+        Ok(())
     }
 
     /// Puts a text behind the run's text. `AllocError` where memory is refused.
@@ -143,7 +144,8 @@ impl<O: Canvas> Page<O> {
         }
         start_run(&mut self.out, self.style, self.begun)?;
         self.begun = true;
-        self.out.push_str(text)
+        self.out.push_str(text)?;
+        Ok(())
     }
 
     /// Puts copies of a character behind the run's text. `AllocError` where memory is refused.
@@ -155,7 +157,8 @@ impl<O: Canvas> Page<O> {
         }
         start_run(&mut self.out, self.style, self.begun)?;
         self.begun = true;
-        push_each(&mut self.out, character, many)
+        push_each(&mut self.out, character, many)?;
+        Ok(())
     }
 
     /// A run of spaces: `····`. `AllocError` where memory is refused.
@@ -163,7 +166,8 @@ impl<O: Canvas> Page<O> {
         ensures { OnOk result (self.new ≡ self.old ⊕ styled_tokens PLAIN (replicate many 32)) }
     {
         self.begin(PLAIN)?;
-        self.push_copies(' ', many)
+        self.push_copies(' ', many)?;
+        Ok(())
     }
 
     /// A run of a character and copies of another: `╰────`. `AllocError` where memory is refused.
@@ -178,7 +182,8 @@ impl<O: Canvas> Page<O> {
     {
         self.begin(style)?;
         self.push(first)?;
-        self.push_copies(bar, many)
+        self.push_copies(bar, many)?;
+        Ok(())
     }
 
     /// Puts characters behind the run's text. `AllocError` where memory is refused.
@@ -190,7 +195,8 @@ impl<O: Canvas> Page<O> {
         }
         start_run(&mut self.out, self.style, self.begun)?;
         self.begun = true;
-        self.out.push_chars(characters)
+        self.out.push_chars(characters)?;
+        Ok(())
     }
 
     /// Puts a number behind the run's text, its digits behind the spaces that fill so many columns: `  12`.
@@ -202,7 +208,8 @@ impl<O: Canvas> Page<O> {
         let mut buffer = Buffer::new();
         let digits = buffer.format(number);
         self.push_copies(' ', columns.saturating_sub(digits.len()))?;
-        self.push_str(digits)
+        self.push_str(digits)?;
+        Ok(())
     }
 
     /// Puts a number behind the run's text, in decimal digits. `AllocError` where memory is refused.
@@ -210,6 +217,7 @@ impl<O: Canvas> Page<O> {
         ensures { OnOk result (self.new ≡ self.old ⊕ text_tokens (decimal number)) }
     {
         let mut digits = Buffer::new();
-        self.push_str(digits.format(number))
+        self.push_str(digits.format(number))?;
+        Ok(())
     }
 }

@@ -73,7 +73,8 @@ impl Runs {
     pub(crate) fn reserve(&mut self, many: usize) -> Result<(), AllocError>
         ensures { OnOk result (self.new ≡ self.old) }
     {
-        self.codes.reserve(many)
+        self.codes.reserve(many)?;
+        Ok(())
     }
 
     /// Appends a character.
@@ -96,7 +97,8 @@ impl Runs {
         ensures tokens { OnOk result (self.new ≡ self.old ++ map Character codes.now) }
         ensures text { OnOk result (spell self.new ≡ spell self.old ++ codes.now) }
     {
-        self.codes.extend_from_slice(codes)
+        self.codes.extend_from_slice(codes)?;
+        Ok(())
     }
 
     /// Appends the characters of a text.
@@ -187,11 +189,13 @@ impl Runs {
         ensures text { OnOk result (spell self.new ≡ spell self.old ++ printed_run style (chars text.now)) }
     {
         if text.is_empty() || style.is_plain() {
-            return self.push_str(text);
+            self.push_str(text)?;
+            return Ok(());
         }
         self.begin(style)?;
         self.push_str(text)?;
-        self.end()
+        self.end()?;
+        Ok(())
     }
 
     /// Appends characters in a style.
@@ -238,7 +242,8 @@ impl Runs {
     pub fn push_link_end(&mut self) -> Result<(), AllocError>
         ensures text { OnOk result (spell self.new ≡ spell self.old ++ link_start []) }
     {
-        self.push_link("")
+        self.push_link("")?;
+        Ok(())
     }
 
     /// Appends other runs.
@@ -258,7 +263,8 @@ impl Runs {
             self.push_sign(&tag.sign)?;
             start += gap;
         }
-        self.push_chars(&parts.codes[start..])
+        self.push_chars(&parts.codes[start..])?;
+        Ok(())
     }
 
     /// The characters, and the signs between them.

@@ -52,11 +52,13 @@ fn print_run(out: &mut String, style: Style, text: &str) -> Result<(), AllocErro
         ≡ string_bytes out.old ++ encode_utf8_all (printed_run style (chars text.now))) }
 {
     if text.is_empty() || style.is_plain() {
-        return out.push_str(text);
+        out.push_str(text)?;
+        return Ok(());
     }
     push_style(out, style)?;
     out.push_str(text)?;
-    out.push_str(STYLE_END)
+    out.push_str(STYLE_END)?;
+    Ok(())
 }
 
 // Appends what begins a link.
@@ -66,7 +68,8 @@ fn print_link(out: &mut String, url: &str) -> Result<(), AllocError>
 {
     out.push_str("\u{1B}]8;;")?;
     out.push_str(url)?;
-    out.push_str("\u{1B}\\")
+    out.push_str("\u{1B}\\")?;
+    Ok(())
 }
 
 impl Output {
@@ -96,9 +99,10 @@ impl Output {
         ensures { OnOk result (self.new ≡ self.old ++ c ∷ []) }
     {
         match &mut self.target {
-            Target::Printed(text) => text.push(c),
-            Target::Collected(runs) => runs.push(c),
+            Target::Printed(text) => text.push(c)?,
+            Target::Collected(runs) => runs.push(c)?,
         }
+        Ok(())
     }
 
     /// Takes room for so many copies of a character at once. What was appended stays.
@@ -112,9 +116,10 @@ impl Output {
             return Err(AllocError);
         };
         match &mut self.target {
-            Target::Printed(text) => text.reserve(room),
-            Target::Collected(runs) => runs.reserve(many),
+            Target::Printed(text) => text.reserve(room)?,
+            Target::Collected(runs) => runs.reserve(many)?,
         }
+        Ok(())
     }
 
     /// Appends characters.
@@ -125,9 +130,10 @@ impl Output {
         ensures { OnOk result (self.new ≡ self.old ++ codes.now) }
     {
         match &mut self.target {
-            Target::Printed(text) => text.push_codes(codes),
-            Target::Collected(runs) => runs.push_chars(codes),
+            Target::Printed(text) => text.push_codes(codes)?,
+            Target::Collected(runs) => runs.push_chars(codes)?,
         }
+        Ok(())
     }
 
     /// Appends the characters of a text.
@@ -138,9 +144,10 @@ impl Output {
         ensures { OnOk result (self.new ≡ self.old ++ chars text.now) }
     {
         match &mut self.target {
-            Target::Printed(out) => out.push_str(text),
-            Target::Collected(runs) => runs.push_str(text),
+            Target::Printed(out) => out.push_str(text)?,
+            Target::Collected(runs) => runs.push_str(text)?,
         }
+        Ok(())
     }
 
     /// Begins a style, in which what is appended next is printed.
@@ -151,9 +158,10 @@ impl Output {
         ensures { OnOk result (self.new ≡ self.old ++ colour_start style) }
     {
         match &mut self.target {
-            Target::Printed(text) => push_style(text, style),
-            Target::Collected(runs) => runs.begin(style),
+            Target::Printed(text) => push_style(text, style)?,
+            Target::Collected(runs) => runs.begin(style)?,
         }
+        Ok(())
     }
 
     /// Ends the style.
@@ -164,9 +172,10 @@ impl Output {
         ensures { OnOk result (self.new ≡ self.old ++ colour_stop) }
     {
         match &mut self.target {
-            Target::Printed(text) => text.push_str(STYLE_END),
-            Target::Collected(runs) => runs.end(),
+            Target::Printed(text) => text.push_str(STYLE_END)?,
+            Target::Collected(runs) => runs.end()?,
         }
+        Ok(())
     }
 
     /// Appends a text in a style.
@@ -177,9 +186,10 @@ impl Output {
         ensures { OnOk result (self.new ≡ self.old ++ printed_run style (chars text.now)) }
     {
         match &mut self.target {
-            Target::Printed(out) => print_run(out, style, text),
-            Target::Collected(runs) => runs.push_run(style, text),
+            Target::Printed(out) => print_run(out, style, text)?,
+            Target::Collected(runs) => runs.push_run(style, text)?,
         }
+        Ok(())
     }
 
     /// Begins a link to a URL.
@@ -190,9 +200,10 @@ impl Output {
         ensures { OnOk result (self.new ≡ self.old ++ link_start (chars url.now)) }
     {
         match &mut self.target {
-            Target::Printed(text) => print_link(text, url),
-            Target::Collected(runs) => runs.push_link(url),
+            Target::Printed(text) => print_link(text, url)?,
+            Target::Collected(runs) => runs.push_link(url)?,
         }
+        Ok(())
     }
 
     /// Ends the link.
@@ -202,7 +213,8 @@ impl Output {
     pub fn push_link_end(&mut self) -> Result<(), AllocError>
         ensures { OnOk result (self.new ≡ self.old ++ link_start []) }
     {
-        self.push_link("")
+        self.push_link("")?;
+        Ok(())
     }
 
     /// What was appended, as a text.
@@ -249,9 +261,10 @@ impl Sink for Output {
 
     fn push_sign(&mut self, sign: &Rc<Sign>) -> Result<(), AllocError> {
         match &mut self.target {
-            Target::Printed(text) => text.push_sign(sign),
-            Target::Collected(runs) => runs.push_sign(sign),
+            Target::Printed(text) => text.push_sign(sign)?,
+            Target::Collected(runs) => runs.push_sign(sign)?,
         }
+        Ok(())
     }
 }
 

@@ -30,7 +30,8 @@ fn codes_of(alloc: Global, text: &str) -> Result<Vec<char>, AllocError>
     ensures { IfOk result (λ v. v.items ≡ chars text.now) }
 {
     if text.is_ascii() {
-        return byte_codes(alloc, text.as_bytes());
+        let codes = byte_codes(alloc, text.as_bytes())?;
+        return Ok(codes);
     }
     text.chars().collect(alloc)
 }
@@ -78,7 +79,8 @@ pub fn read(alloc: Global, codes: Vec<char>) -> Result<Runs, AllocError>
     if has_no_escape(&codes) {
         return Ok(Runs::of_characters(alloc, codes));
     }
-    cut(alloc, &codes)
+    let found = cut(alloc, &codes)?;
+    Ok(found)
 }
 
 /// The runs that a text spells.
@@ -132,7 +134,8 @@ pub fn reread(alloc: Global, runs: &Runs) -> Result<Runs, AllocError>
     ensures { IfOk result (λ r. r ≡ tokens (spell runs.now)) }
 {
     let text = print(alloc, runs)?;
-    read_text(alloc, text.as_str())
+    let found = read_text(alloc, text.as_str())?;
+    Ok(found)
 }
 
 /// What runs print.
@@ -157,8 +160,10 @@ pub fn columns_of(alloc: Global, runs: &Runs) -> Result<usize, AllocError>
 {
     let parts = runs.parts();
     if is_settled(parts) {
-        return token_columns(parts);
+        let columns = token_columns(parts)?;
+        return Ok(columns);
     }
     let again = reread(alloc, runs)?;
-    token_columns(again.parts())
+    let columns = token_columns(again.parts())?;
+    Ok(columns)
 }

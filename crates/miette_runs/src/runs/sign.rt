@@ -50,7 +50,8 @@ pub(crate) fn shared_sign(alloc: Global, tags: &[Tag], sign: Sign) -> Result<Rc<
 {
     for tag in &tags[tags.len().saturating_sub(RECENT)..] {
         if are_alike(&tag.sign, &sign) {
-            return tag.sign.clone();
+            let copy = tag.sign.clone()?;
+            return Ok(copy);
         }
     }
     let own = Rc::new(alloc, sign)?;

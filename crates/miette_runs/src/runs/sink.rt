@@ -52,7 +52,10 @@ impl Sink for String {
 
     fn push_sign(&mut self, sign: &Rc<Sign>) -> Result<(), AllocError> {
         match sign.as_ref() {
-            Sign::Begin(style) => push_style(self, *style),
+            Sign::Begin(style) => {
+                push_style(self, *style)?;
+                Ok(())
+            }
             Sign::End => self.push_str("\u{1B}[0m"),
             Sign::Sequence(codes) => self.push_codes(codes),
         }

@@ -1,8 +1,5 @@
-use Rattle.std.proofs.Common.{◌≡◌, ◌∙◌, List, ℕ, Some, false, ap, map, option_map, sym}
-use Rattle.std.proofs.lemmas.Result.{IfOk-weaker}
+use Rattle.std.proofs.Common.{◌∙◌, List, ℕ, Some, false, ap, map, option_map, sym}
 use Rattle.miette_lines.specs.rules.Cells.{Cell}
-use Rattle.miette_lines.specs.views.Printable.{plain_cells}
-use Rattle.miette_protocol.specs.views.Meaning.{Label}
 use Rattle.miette_snippets.specs.rules.CutLines.{cut_line, ends, is_near, stretches}
 use Rattle.miette_snippets.specs.rules.Marks.{Mark}
 use Rattle.miette_snippets.specs.rules.PrintedCells.{cells_width}
@@ -30,8 +27,6 @@ pub plain_cut_at-requires : goal.plain_cut_at-requires
 plain_cut_at-requires c = sym c.all_printable.ensures ∙ c.if-all_printable.true
 
 pub returns-then-all_printable : goal.returns-then-all_printable
-returns-then-all_printable c =
-    IfOk-weaker c.plain_cut_at.result
-    (λ plain. (labels : List Label) (start : ℕ) → option_map (λ made. made.items) plain ≡ option_map (map measure) (cut_line (Some c.args.limit) (map (mark_of labels) c.args.marks.now) (plain_cells start 0 c.args.text.now.bytes.now))) _
-    (λ _ h labels. h labels c.args.text.now.start
-    ∙ ap (λ cells. option_map (map measure) (cut_line (Some c.args.limit) (map (mark_of labels) c.args.marks.now) cells)) (sym (printable_cells c.args.text.now.tab c.args.text.now.start 0 c.args.text.now.bytes.now (sym c.all_printable.ensures ∙ c.if-all_printable.true)))) c.plain_cut_at.ensures
+returns-then-all_printable c = λ labels.
+    c.in_ok-plain.ensures labels c.args.text.now.start
+    ∙ ap (λ cells. option_map (map measure) (cut_line (Some c.args.limit) (map (mark_of labels) c.args.marks.now) cells)) (sym (printable_cells c.args.text.now.tab c.args.text.now.start 0 c.args.text.now.bytes.now (sym c.all_printable.ensures ∙ c.if-all_printable.true)))

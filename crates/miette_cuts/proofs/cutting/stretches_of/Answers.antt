@@ -1,5 +1,4 @@
 use Rattle.std.proofs.Common.{◌≡◌, ◌∷◌, ◌∙◌, false, rules}
-use Rattle.std.proofs.lemmas.Result.{IfOk-weaker}
 use Rattle.miette_lines.specs.views.Walking.{cell_of}
 use Rattle.miette_snippets.specs.rules.CutLines.{is_near}
 use Rattle.miette_cuts.proofs.CutStretches.{first_stretch}
@@ -8,4 +7,4 @@ use Rattle.miette_cuts.proofs.cutting.stretches_of.Goals as goal
 pub returns : goal.returns
 returns c =
     let step : c.args.walk ≡ cell_of c.in-Some.cell ∷ c.next.new.self = search rules in
-    IfOk-weaker c.stretches_behind.result _ _ (λ _ h. h ∙ first_stretch (is_near c.args.limit c.args.ends.now) false (cell_of c.in-Some.cell) c.args.walk c.next.new.self c.lone_stretch-first.result step c.lone_stretch-first.ensures) c.stretches_behind.ensures
+    c.in_ok-made.ensures ∙ first_stretch (is_near c.args.limit c.args.ends.now) false (cell_of c.in-Some.cell) c.args.walk c.next.new.self c.lone_stretch-first.result step c.lone_stretch-first.ensures

@@ -5,13 +5,11 @@ use Rattle.miette_lines.specs.views.GivenLabels.{drawn_of, width_of}
 use Rattle.miette_drawing.specs.steps.Sheets.{settings, multi_labels}
 use Rattle.miette_newlines.specs.views.Walking.{line_of_text}
 use Rattle.miette_drawing.proofs.Closing.{closed_put}
-use Rattle.std.proofs.lemmas.Result.{on_ok_weaker}
 use Rattle.miette_drawing.proofs.closings.push_open_row.Goals as goal
 use Rattle.miette_style.specs.rules.Themes.{characters_of}
 
 pub returns : goal.returns
 returns g c =
-    on_ok_weaker c.push_part.result (λ done. closed_put width_of (other_start (settings c.args.sheet.now) c.args.sheet.now.number_width) (open_gutter width_of (characters_of c.args.sheet.now.theme.now.characters) (line_of_text c.args.sheet.now.line) c.args.columns (multi_labels c.args.sheet.now))
+    closed_put width_of (other_start (settings c.args.sheet.now) c.args.sheet.now.number_width) (open_gutter width_of (characters_of c.args.sheet.now.theme.now.characters) (line_of_text c.args.sheet.now.line) c.args.columns (multi_labels c.args.sheet.now))
     (drawn_of c.args.sheet.now.labels.now c.args.label.now) c.args.sheet.now.theme.now.characters.vbar (chars c.args.part.now)
-    c.args.page.now c.push_other_start.new.page c.push_open_gutter.new.page c.push_part.new.page c.in_ok-push_other_start.ensures c.in_ok-push_open_gutter.ensures done)
-    c.push_part.ensures
+    c.args.page.now c.push_other_start.new.page c.push_open_gutter.new.page c.push_part.new.page c.in_ok-push_other_start.ensures c.in_ok-push_open_gutter.ensures c.in_ok-push_part.ensures

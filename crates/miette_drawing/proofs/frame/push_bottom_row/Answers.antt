@@ -1,11 +1,9 @@
 use Rattle.miette_drawing.specs.steps.FrameParts.{corner_row}
 use Rattle.miette_snippets.specs.views.ThemeSettings.{settings_of}
 use Rattle.miette_drawing.proofs.Texting.{row_done}
-use Rattle.std.proofs.lemmas.Result.{on_ok_weaker}
 use Rattle.miette_drawing.proofs.frame.push_bottom_row.Goals as goal
 
 pub returns : goal.returns
 returns g c =
-    on_ok_weaker c.end_row.result (λ done. row_done (corner_row (settings_of c.args.frame.now.theme.now c.args.frame.now.options) c.args.frame.now.number_width c.args.frame.now.theme.now.characters.lbot 4)
-    c.args.page.now c.push_corner.new.page c.end_row.new.self c.in_ok-push_corner.ensures done)
-    c.end_row.ensures
+    row_done (corner_row (settings_of c.args.frame.now.theme.now c.args.frame.now.options) c.args.frame.now.number_width c.args.frame.now.theme.now.characters.lbot 4)
+    c.args.page.now c.push_corner.new.page c.end_row.new.self c.in_ok-push_corner.ensures c.in_ok-end_row.ensures

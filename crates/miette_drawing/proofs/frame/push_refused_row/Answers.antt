@@ -9,7 +9,6 @@ use Rattle.miette_lines.specs.views.GivenLabels.{width_of}
 use Rattle.miette_page.specs.views.Tokens.{styled_tokens}
 use Rattle.miette_drawing.proofs.Texting.{row_done, parts_then}
 use Rattle.miette_drawing.proofs.Framing.{run_then, run_last}
-use Rattle.std.proofs.lemmas.Result.{on_ok_weaker}
 use Rattle.miette_drawing.proofs.frame.push_refused_row.Goals as goal
 
 pub returns : goal.returns
@@ -21,7 +20,7 @@ returns g c =
     let many : Row = styled_run width_of link (decimal c.args.label.now.span.len) ∷ close in
     let length : Row = styled_run width_of plain (codes ", length: ") ∷ many in
     let offset : Row = styled_run width_of link (decimal c.args.label.now.span.offset) ∷ length in
-    on_ok_weaker c.end_row.result (λ done. row_done (refused_front (settings_of c.args.frame.now.theme.now c.args.frame.now.options) c.args.label.now ++ offset) c.args.page.now c.push_ascii-3.new.page c.end_row.new.self
+    row_done (refused_front (settings_of c.args.frame.now.theme.now c.args.frame.now.options) c.args.label.now ++ offset) c.args.page.now c.push_ascii-3.new.page c.end_row.new.self
     (parts_then (refused_front (settings_of c.args.frame.now.theme.now c.args.frame.now.options) c.args.label.now) offset c.args.page.now c.push_refused_text.new.page c.push_ascii-3.new.page c.in_ok-push_refused_text.ensures
     (run_then width_of link (decimal c.args.label.now.span.offset) length c.push_refused_text.new.page c.push_count.new.page c.push_ascii-3.new.page
     (c.in_ok-push_count.ensures ∙ ap (λ n. c.push_refused_text.new.page ⊕ styled_tokens link (decimal n)) c.offset.ensures)
@@ -31,5 +30,4 @@ returns g c =
     (run_then width_of plain (codes "): ") name c.push_count-2.new.page c.push_ascii-2.new.page c.push_ascii-3.new.page c.in_ok-push_ascii-2.ensures
     (run_then width_of c.args.frame.now.theme.now.styles.warning (chars c.args.name.now) last c.push_ascii-2.new.page c.push_styled.new.page c.push_ascii-3.new.page c.in_ok-push_styled.ensures
     (run_last width_of plain (codes "]") c.push_styled.new.page c.push_ascii-3.new.page c.in_ok-push_ascii-3.ensures)))))))
-    done)
-    c.end_row.ensures
+    c.in_ok-end_row.ensures

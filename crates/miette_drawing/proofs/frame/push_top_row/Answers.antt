@@ -5,7 +5,6 @@ use Rattle.miette_drawing.specs.steps.FrameParts.{corner_row}
 use Rattle.miette_drawing.specs.views.SnippetRows.{place_at}
 use Rattle.miette_snippets.specs.views.ThemeSettings.{settings_of}
 use Rattle.miette_drawing.proofs.Texting.{parts_then, row_done}
-use Rattle.std.proofs.lemmas.Result.{on_ok_weaker}
 use Rattle.miette_drawing.proofs.frame.push_top_row.Goals as goal
 
 pub returns : goal.returns
@@ -13,7 +12,6 @@ returns g c =
     let s = settings_of c.args.frame.now.theme.now c.args.frame.now.options in
     let corner = corner_row s c.args.frame.now.number_width c.args.frame.now.theme.now.characters.ltop 1 in
     let location = location_of s (option_copied c.args.name) c.args.several (option_map place_at c.args.place) in
-    on_ok_weaker c.end_row.result (λ done. row_done (corner ++ location) c.args.page.now c.push_location.new.page c.end_row.new.self
+    row_done (corner ++ location) c.args.page.now c.push_location.new.page c.end_row.new.self
     (parts_then corner location c.args.page.now c.push_corner.new.page c.push_location.new.page c.in_ok-push_corner.ensures c.in_ok-push_location.ensures)
-    done)
-    c.end_row.ensures
+    c.in_ok-end_row.ensures

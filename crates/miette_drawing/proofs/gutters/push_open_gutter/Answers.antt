@@ -5,17 +5,13 @@ use Rattle.miette_newlines.specs.views.Walking.{line_of_text}
 use Rattle.miette_snippets.specs.rules.Gutters.{open_gutter}
 use Rattle.miette_snippets.proofs.Telling.{blank_row}
 use Rattle.miette_drawing.proofs.Guttering.{at_end, at_last, open_last}
-use Rattle.std.proofs.lemmas.Result.{on_ok_weaker}
 use Rattle.miette_drawing.proofs.gutters.push_open_gutter.Goals as goal
 use Rattle.miette_style.specs.rules.Themes.{characters_of}
 
 pub returns-then-ends : goal.returns-then-ends
 returns-then-ends g c =
-    on_ok_weaker c.push_blank.result (λ done. at_last (open_gutter width_of (characters_of c.args.sheet.now.theme.now.characters) (line_of_text c.args.sheet.now.line) c.loop-label.left) c.args.sheet.now.labels.now c.args.sheet.now.multi.now c.loop-label.label-index _ _ _ _ c.loop-label-test.true
-    (open_last width_of (characters_of c.args.sheet.now.theme.now.characters) (line_of_text c.args.sheet.now.line) c.loop-label.left (drawn_of c.args.sheet.now.labels.now (get_or c.args.sheet.now.multi.now c.loop-label.label-index nothing)) (map (drawn_of c.args.sheet.now.labels.now) (drop (c.loop-label.label-index + 1) c.args.sheet.now.multi.now)) (sym c.ends.ensures ∙ c.if-ends.true)) done c.loop-label.invariant)
-    c.push_blank.ensures
+    at_last (open_gutter width_of (characters_of c.args.sheet.now.theme.now.characters) (line_of_text c.args.sheet.now.line) c.loop-label.left) c.args.sheet.now.labels.now c.args.sheet.now.multi.now c.loop-label.label-index _ _ _ _ c.loop-label-test.true
+    (open_last width_of (characters_of c.args.sheet.now.theme.now.characters) (line_of_text c.args.sheet.now.line) c.loop-label.left (drawn_of c.args.sheet.now.labels.now (get_or c.args.sheet.now.multi.now c.loop-label.label-index nothing)) (map (drawn_of c.args.sheet.now.labels.now) (drop (c.loop-label.label-index + 1) c.args.sheet.now.multi.now)) (sym c.ends.ensures ∙ c.if-ends.true)) c.in_ok-push_blank.ensures c.loop-label.invariant
 
 pub returns : goal.returns
-returns g c =
-    on_ok_weaker c.push_blank-2.result (λ done. at_end (open_gutter width_of (characters_of c.args.sheet.now.theme.now.characters) (line_of_text c.args.sheet.now.line) c.loop-label.left) c.args.sheet.now.labels.now c.args.sheet.now.multi.now c.loop-label.label-index _ _ _ _ c.loop-label-test.false (blank_row width_of c.loop-label.left) done c.loop-label.invariant)
-    c.push_blank-2.ensures
+returns g c = at_end (open_gutter width_of (characters_of c.args.sheet.now.theme.now.characters) (line_of_text c.args.sheet.now.line) c.loop-label.left) c.args.sheet.now.labels.now c.args.sheet.now.multi.now c.loop-label.label-index _ _ _ _ c.loop-label-test.false (blank_row width_of c.loop-label.left) c.in_ok-push_blank-2.ensures c.loop-label.invariant

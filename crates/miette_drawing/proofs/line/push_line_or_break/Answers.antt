@@ -21,7 +21,6 @@ use Rattle.miette_newlines.specs.views.Walking.{line_of_text}
 use Rattle.miette_cuts.proofs.CutStretches.{shown_made_anchored}
 use Rattle.miette_cuts.proofs.CutTexting.{shown_made}
 use Rattle.miette_drawing.proofs.Lining.{line_put}
-use Rattle.std.proofs.lemmas.Result.{on_ok_weaker}
 use Rattle.miette_drawing.proofs.line.push_line_or_break.Goals as goal
 use Rattle.miette_style.specs.rules.Themes.{characters_of}
 
@@ -57,11 +56,10 @@ returns g c =
     let text : made_runs (option_map (λ v. v.items) c.in_ok-cut.cut) pieces cells ≡ shown_runs o pieces cells =
     ap (λ x. made_runs x pieces cells) made ∙ shown_made sheet.options.line_columns own cells pieces in
     let moved : map (mark_of ls) c.in_ok-marks.marks.items ≡ shown_marks o own = c.in_ok-marks.ensures ls o made ∙ ap (shown_marks o) c.in_ok-whole.ensures.marks in
-    on_ok_weaker c.push_closings.result (λ done. line_put (number_row sheet shown (shown_runs o pieces cells)) (drawn (shown_marks o own))
+    line_put (number_row sheet shown (shown_runs o pieces cells)) (drawn (shown_marks o own))
     (before_each (other_start (settings sheet) sheet.number_width) (closing_rows width_of (characters_of sheet.theme.now.characters) (line_of_text sheet.line) sheet.gutter (multi_labels sheet) (closing_labels (line_of_text sheet.line) (multi_labels sheet))))
     c.args.page.now c.push_number_row.new.page c.push_marked_rows.new.page c.push_closings.new.page
     (c.in_ok-push_number_row.ensures ∙ ap (λ runs. c.args.page.now ⊕ rows_tokens (number_row sheet shown runs ∷ [])) text)
     (c.in_ok-push_marked_rows.ensures ∙ ap (λ ms. c.push_number_row.new.page ⊕ rows_tokens (drawn (map (mark_of ls) ms))) c.deref-2.ensures.value ∙ ap (λ ms. c.push_number_row.new.page ⊕ rows_tokens (drawn ms)) moved)
-    done
-    ∙ ap (λ out. c.args.page.now ⊕ rows_tokens (line_or_break_of shown.gap out (settings sheet) sheet.number_width sheet.gutter (labels_alone sheet shown) (multi_labels sheet) (line_of_text sheet.line) shown.number cells pieces)) (sym kept))
-    c.push_closings.ensures
+    c.in_ok-push_closings.ensures
+    ∙ ap (λ out. c.args.page.now ⊕ rows_tokens (line_or_break_of shown.gap out (settings sheet) sheet.number_width sheet.gutter (labels_alone sheet shown) (multi_labels sheet) (line_of_text sheet.line) shown.number cells pieces)) (sym kept)

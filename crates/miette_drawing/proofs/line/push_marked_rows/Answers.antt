@@ -7,16 +7,14 @@ use Rattle.miette_lines.specs.views.GivenLabels.{width_of}
 use Rattle.miette_cuts.specs.views.Marks.{mark_of}
 use Rattle.miette_drawing.specs.steps.Sheets.{before_marks}
 use Rattle.miette_drawing.proofs.Lining.{marked_put, marked_some}
-use Rattle.std.proofs.lemmas.Result.{on_ok_weaker}
 use Rattle.miette_drawing.proofs.line.push_marked_rows.Goals as goal
 use Rattle.miette_style.specs.rules.Themes.{characters_of}
 
 pub returns : goal.returns
 returns g c =
     let some : 0 < length c.args.marks.now = search rules in
-    on_ok_weaker c.push_texts.result (λ done. marked_put (before_marks c.args.sheet.now) (mark_runs width_of (characters_of c.args.sheet.now.theme.now.characters) 0 (map (mark_of c.args.sheet.now.labels.now) c.args.marks.now))
+    marked_put (before_marks c.args.sheet.now) (mark_runs width_of (characters_of c.args.sheet.now.theme.now.characters) 0 (map (mark_of c.args.sheet.now.labels.now) c.args.marks.now))
     (rows_below width_of (characters_of c.args.sheet.now.theme.now.characters) [] (map (mark_of c.args.sheet.now.labels.now) c.args.marks.now))
     c.args.page.now c.push_before_marks.new.page c.push_marks.new.page c.end_row.new.self c.push_texts.new.page
-    c.in_ok-push_before_marks.ensures c.in_ok-push_marks.ensures c.in_ok-end_row.ensures done
-    ∙ ap (λ rows. c.args.page.now ⊕ rows_tokens (before_each (before_marks c.args.sheet.now) rows)) (marked_some width_of (characters_of c.args.sheet.now.theme.now.characters) (mark_of c.args.sheet.now.labels.now) c.args.marks.now some))
-    c.push_texts.ensures
+    c.in_ok-push_before_marks.ensures c.in_ok-push_marks.ensures c.in_ok-end_row.ensures c.in_ok-push_texts.ensures
+    ∙ ap (λ rows. c.args.page.now ⊕ rows_tokens (before_each (before_marks c.args.sheet.now) rows)) (marked_some width_of (characters_of c.args.sheet.now.theme.now.characters) (mark_of c.args.sheet.now.labels.now) c.args.marks.now some)

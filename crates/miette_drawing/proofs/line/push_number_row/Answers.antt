@@ -9,16 +9,14 @@ use Rattle.miette_cuts.specs.views.LineTexts.{text_cells}
 use Rattle.miette_drawing.specs.steps.Sheets.{settings, multi_labels}
 use Rattle.miette_newlines.specs.views.Walking.{line_of_text}
 use Rattle.miette_drawing.proofs.Lining.{number_row_put}
-use Rattle.std.proofs.lemmas.Result.{on_ok_weaker}
 use Rattle.miette_drawing.proofs.line.push_number_row.Goals as goal
 use Rattle.miette_style.specs.rules.Themes.{characters_of}
 
 pub returns : goal.returns
 returns g c =
     let sheet = c.args.sheet.now in
-    on_ok_weaker c.end_row.result (λ done. number_row_put (number_start (settings sheet) sheet.number_width c.args.shown.now.number)
+    number_row_put (number_start (settings sheet) sheet.number_width c.args.shown.now.number)
     (number_gutter width_of (characters_of sheet.theme.now.characters) (line_of_text sheet.line) sheet.gutter (multi_labels sheet))
     (made_runs (option_map (λ made. made.items) c.args.cut.now) (map highlight_of c.args.shown.now.pieces.now) (text_cells c.args.text.now))
     c.args.page.now c.push_number_start.new.page c.push_number_gutter.new.page c.push_shown_text.new.page c.end_row.new.self
-    c.in_ok-push_number_start.ensures c.in_ok-push_number_gutter.ensures c.in_ok-push_shown_text.ensures done)
-    c.end_row.ensures
+    c.in_ok-push_number_start.ensures c.in_ok-push_number_gutter.ensures c.in_ok-push_shown_text.ensures c.in_ok-end_row.ensures

@@ -2,14 +2,12 @@ use Rattle.std.proofs.Common.{rules, refl, ◌-◌}
 use Rattle.miette_lines.specs.views.GivenLabels.{width_of}
 use Rattle.miette_cuts.specs.views.Marks.{mark_of}
 use Rattle.miette_drawing.proofs.Stroking.{mark_put}
-use Rattle.std.proofs.lemmas.Result.{on_ok_weaker}
 use Rattle.miette_drawing.proofs.strokes.push_mark.Goals as goal
 use Rattle.miette_style.specs.rules.Themes.{characters_of}
 
 pub returns : goal.returns
 returns g c =
-    on_ok_weaker c.push_copies-2.result (λ done. mark_put width_of (characters_of c.args.sheet.now.theme.now.characters) (mark_of c.args.sheet.now.labels.now c.args.mark.now) c.args.mark.now.anchor (c.args.mark.now.anchor - c.args.mark.now.from) (c.args.mark.now.until - c.args.mark.now.anchor - 1) c.middle_of.result
+    mark_put width_of (characters_of c.args.sheet.now.theme.now.characters) (mark_of c.args.sheet.now.labels.now c.args.mark.now) c.args.mark.now.anchor (c.args.mark.now.anchor - c.args.mark.now.from) (c.args.mark.now.until - c.args.mark.now.anchor - 1) c.middle_of.result
     c.args.page.now c.begin.new.self c.push_copies.new.self c.push.new.self c.push_copies-2.new.self
     refl c.requires.0 c.requires.1 (search rules) (search rules) c.middle_of.ensures
-    c.in_ok-begin.ensures c.in_ok-push_copies.ensures c.in_ok-push.ensures done)
-    c.push_copies-2.ensures
+    c.in_ok-begin.ensures c.in_ok-push_copies.ensures c.in_ok-push.ensures c.in_ok-push_copies-2.ensures

@@ -1,11 +1,9 @@
 use Rattle.miette_snippets.specs.rules.Frames.{other_start}
 use Rattle.miette_drawing.specs.steps.Sheets.{settings, gutter_below}
 use Rattle.miette_drawing.proofs.Texting.{parts_then}
-use Rattle.std.proofs.lemmas.Result.{on_ok_weaker}
 use Rattle.miette_drawing.proofs.texts.push_before_marks.Goals as goal
 
 pub returns : goal.returns
 returns g c =
-    on_ok_weaker c.push_other_gutter.result (λ done. parts_then (other_start (settings c.args.sheet.now) c.args.sheet.now.number_width) (gutter_below c.args.sheet.now)
-    c.args.page.now c.push_other_start.new.page c.push_other_gutter.new.page c.in_ok-push_other_start.ensures done)
-    c.push_other_gutter.ensures
+    parts_then (other_start (settings c.args.sheet.now) c.args.sheet.now.number_width) (gutter_below c.args.sheet.now)
+    c.args.page.now c.push_other_start.new.page c.push_other_gutter.new.page c.in_ok-push_other_start.ensures c.in_ok-push_other_gutter.ensures

@@ -6,7 +6,6 @@ use Rattle.miette_cuts.specs.views.Marks.{mark_of}
 use Rattle.miette_lines.specs.views.GivenLabels.{width_of}
 use Rattle.miette_cuts.proofs.Placing.{no_mark}
 use Rattle.miette_drawing.proofs.Texting.{lead_more, lead_end}
-use Rattle.std.proofs.lemmas.Result.{on_ok_weaker}
 use Rattle.miette_drawing.proofs.texts.push_leads.Goals as goal
 use Rattle.miette_style.specs.rules.Themes.{characters_of}
 
@@ -18,6 +17,5 @@ loop-mark-preserved g c =
 
 pub returns : goal.returns
 returns g c =
-    on_ok_weaker c.push_blank-2.result (λ done. lead_end width_of (characters_of c.args.sheet.now.theme.now.characters) c.args.sheet.now.labels.now c.args.earlier.now c.loop-mark.mark-index c.loop-mark.reached c.saturating_sub-2.result c.args.column
-    c.loop-mark.page c.push_blank-2.new.self _ c.loop-mark-test.false c.saturating_sub-2.ensures done c.loop-mark.invariant)
-    c.push_blank-2.ensures
+    lead_end width_of (characters_of c.args.sheet.now.theme.now.characters) c.args.sheet.now.labels.now c.args.earlier.now c.loop-mark.mark-index c.loop-mark.reached c.saturating_sub-2.result c.args.column
+    c.loop-mark.page c.push_blank-2.new.self _ c.loop-mark-test.false c.saturating_sub-2.ensures c.in_ok-push_blank-2.ensures c.loop-mark.invariant

@@ -1,12 +1,10 @@
 use Rattle.std.proofs.Common.{rules, ◌+◌}
 use Rattle.miette_lines.specs.views.GivenLabels.{width_of}
 use Rattle.miette_drawing.proofs.Texting.{start_put}
-use Rattle.std.proofs.lemmas.Result.{on_ok_weaker}
 use Rattle.miette_drawing.proofs.texts.push_other_start.Goals as goal
 use Rattle.miette_style.specs.rules.Themes.{characters_of}
 
 pub returns : goal.returns
 returns g c =
-    on_ok_weaker c.push_line.result (λ done. start_put width_of (characters_of c.args.sheet.now.theme.now.characters) c.in-Some.columns (c.args.sheet.now.number_width + 2) c.args.page.now c.push_blank.new.self c.push_line.new.self
-    (search rules) c.in_ok-push_blank.ensures done)
-    c.push_line.ensures
+    start_put width_of (characters_of c.args.sheet.now.theme.now.characters) c.in-Some.columns (c.args.sheet.now.number_width + 2) c.args.page.now c.push_blank.new.self c.push_line.new.self
+    (search rules) c.in_ok-push_blank.ensures c.in_ok-push_line.ensures

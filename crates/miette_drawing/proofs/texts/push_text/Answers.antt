@@ -5,14 +5,12 @@ use Rattle.miette_lines.specs.views.GivenLabels.{width_of}
 use Rattle.miette_cuts.specs.views.Marks.{mark_of}
 use Rattle.miette_drawing.specs.steps.Sheets.{before_marks}
 use Rattle.miette_drawing.proofs.Texting.{several_parts}
-use Rattle.std.proofs.lemmas.Result.{on_ok_weaker}
 use Rattle.miette_drawing.proofs.texts.push_text.Goals as goal
 use Rattle.miette_style.specs.rules.Themes.{characters_of}
 
 pub returns : goal.returns
 returns g c =
-    on_ok_weaker c.push_more_parts.result (λ done. several_parts width_of (characters_of c.args.sheet.now.theme.now.characters) (before_marks c.args.sheet.now) (map (mark_of c.args.sheet.now.labels.now) c.args.earlier.now) (mark_of c.args.sheet.now.labels.now c.args.mark.now)
+    several_parts width_of (characters_of c.args.sheet.now.theme.now.characters) (before_marks c.args.sheet.now) (map (mark_of c.args.sheet.now.labels.now) c.args.earlier.now) (mark_of c.args.sheet.now.labels.now c.args.mark.now)
     _ (chars c.first_part.result.0.now) (chars c.in-Some-rest.rest.now) c.args.page.now c.push_text_row-2.new.page c.push_more_parts.new.page
     (ap parts_of (sym c.in-Some.ensures) ∙ c.first_part.ensures.cut ∙ ap (λ o. chars c.first_part.result.0.now ∷ parts_of (option_copied o)) c.in-Some-rest.is)
-    c.in_ok-push_text_row-2.ensures done)
-    c.push_more_parts.ensures
+    c.in_ok-push_text_row-2.ensures c.in_ok-push_more_parts.ensures

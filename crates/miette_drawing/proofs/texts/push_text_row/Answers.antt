@@ -4,14 +4,12 @@ use Rattle.miette_lines.specs.views.GivenLabels.{width_of}
 use Rattle.miette_cuts.specs.views.Marks.{mark_of}
 use Rattle.miette_drawing.specs.steps.Sheets.{before_marks}
 use Rattle.miette_drawing.proofs.Texting.{text_put}
-use Rattle.std.proofs.lemmas.Result.{on_ok_weaker}
 use Rattle.miette_drawing.proofs.texts.push_text_row.Goals as goal
 use Rattle.miette_style.specs.rules.Themes.{characters_of}
 
 pub returns : goal.returns
 returns g c =
-    on_ok_weaker c.end_row.result (λ done. text_put width_of (characters_of c.args.sheet.now.theme.now.characters) (before_marks c.args.sheet.now) (map (mark_of c.args.sheet.now.labels.now) c.args.earlier.now) (mark_of c.args.sheet.now.labels.now c.args.mark.now)
+    text_put width_of (characters_of c.args.sheet.now.theme.now.characters) (before_marks c.args.sheet.now) (map (mark_of c.args.sheet.now.labels.now) c.args.earlier.now) (mark_of c.args.sheet.now.labels.now c.args.mark.now)
     c.args.mark.now.anchor c.args.front.0 c.args.front.1 c.args.front.2 (chars c.args.part.now)
     c.args.page.now c.push_before_marks.new.page c.push_leads.new.page c.push_line.new.self c.push.new.self c.push-2.new.self c.push_str.new.self c.end_row.new.self
-    refl c.in_ok-push_before_marks.ensures c.in_ok-push_leads.ensures c.in_ok-push_line.ensures c.in_ok-push.ensures c.in_ok-push-2.ensures c.in_ok-push_str.ensures done)
-    c.end_row.ensures
+    refl c.in_ok-push_before_marks.ensures c.in_ok-push_leads.ensures c.in_ok-push_line.ensures c.in_ok-push.ensures c.in_ok-push-2.ensures c.in_ok-push_str.ensures c.in_ok-end_row.ensures

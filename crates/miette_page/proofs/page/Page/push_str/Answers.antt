@@ -1,5 +1,4 @@
 use Rattle.std.proofs.Common.{◌∙◌, ap, sym, chars, length, eqb-true}
-use Rattle.std.proofs.lemmas.Result.{on_ok_weaker}
 use Rattle.miette_page.specs.views.Printouts.{◌⊕◌}
 use Rattle.miette_page.specs.views.Tokens.{text_tokens}
 use Rattle.miette_page.proofs.Paging.{none_bytes, nonzero, page_put, some-chars}
@@ -10,7 +9,7 @@ returns-then-is_empty g c = none_bytes c.args.self.now c.args.text.now (eqb-true
 
 pub returns : goal.returns
 returns g c =
-    on_ok_weaker c.push_str.result (λ h. page_put _ (g.O.Canvas.written c.start_run.new.out) (g.O.Canvas.written c.push_str.new.self) (chars c.args.text.now)
+    page_put _ (g.O.Canvas.written c.start_run.new.out) (g.O.Canvas.written c.push_str.new.self) (chars c.args.text.now)
     (some-chars c.args.text.now c.utf8.text (nonzero (length c.args.text.now) (sym c.is_empty.ensures ∙ c.if-is_empty.false)))
-    c.in_ok-start_run.ensures h
-    ∙ ap (λ p. p ⊕ text_tokens (chars c.args.text.now)) c.self.view_is) c.push_str.ensures
+    c.in_ok-start_run.ensures c.in_ok-push_str.ensures
+    ∙ ap (λ p. p ⊕ text_tokens (chars c.args.text.now)) c.self.view_is

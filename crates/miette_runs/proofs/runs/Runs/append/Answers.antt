@@ -1,6 +1,5 @@
 use Rattle.std.proofs.Common.{◌≡◌, ◌∙◌, ◌+◌, ◌-◌, ◌++◌, [], ap, arith, drop, length, length-drop, map, min, sym, take}
 use Rattle.std.proofs.lemmas.List.{take_rest, drop_all}
-use Rattle.std.proofs.lemmas.Result.{on_ok_weaker}
 use Rattle.miette_runs.specs.rules.Sequences.{Character}
 use Rattle.miette_runs.specs.views.Interleaving.{tag_token, interleaving}
 use Rattle.miette_runs.proofs.Growing.{appended-next, spell-appended}
@@ -34,10 +33,10 @@ returns-clause-tokens c =
     let i = c.loop-tag.tag-index in
     let o = c.loop-tag.self in
     let none : drop i ms ≡ [] = drop_all i ms (omega arith) in
-    on_ok_weaker c.push_chars-2.result (λ h. h
+    c.in_ok-push_chars-2.ensures.tokens
     ∙ ap (λ ts. o ++ ts) (ap (map Character) (take_rest cs s) ∙ sym (woven-none s (drop s cs)) ∙ ap (λ vs. interleaving s (drop s cs) vs) (sym none))
     ∙ c.loop-tag.invariant.woven
-    ∙ ap (λ ts. c.args.self.now ++ ts) c.parts-parts.ensures) c.push_chars-2.ensures.tokens
+    ∙ ap (λ ts. c.args.self.now ++ ts) c.parts-parts.ensures
 
 pub returns-clause-text : goal.returns-clause-text
-returns-clause-text c = on_ok_weaker c.push_chars-2.result (λ h. spell-appended c.args.self.now _ c.args.more.now h) (returns-clause-tokens c)
+returns-clause-text c = spell-appended c.args.self.now _ c.args.more.now (returns-clause-tokens c)

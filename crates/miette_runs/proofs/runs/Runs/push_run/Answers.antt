@@ -1,5 +1,4 @@
 use Rattle.std.proofs.Common.{◌≡◌, ◌∙◌, ◌++◌, ap, chars, length, ◌<◌, sym, eqb-true}
-use Rattle.std.proofs.lemmas.Result.{on_ok_weaker}
 use Rattle.miette_runs.specs.rules.Runs.{printed_run}
 use Rattle.miette_runs.specs.rules.Sequences.{spell}
 use Rattle.miette_runs.proofs.Painting.{run-empty, run-plain, run-pushed}
@@ -15,7 +14,7 @@ returns-then-is_empty c =
       | then-is_empty-via-then-is_empty w ↦ run-empty s bs (eqb-true _ _ (sym c.is_empty.ensures ∙ w.if-is_empty.true))
       | then-is_empty-via-else-is_empty+then-is_plain w ↦ run-plain s (chars bs) (sym w.is_plain.ensures ∙ w.if-is_plain.true)
     ] in
-    record { text = on_ok_weaker c.push_str.result (λ h. h ∙ ap (λ x. spell c.args.self.now ++ x) (sym same)) c.push_str.ensures.text }
+    record { text = c.in_ok-push_str.ensures.text ∙ ap (λ x. spell c.args.self.now ++ x) (sym same) }
 
 pub returns : goal.returns
 returns c =
@@ -23,6 +22,6 @@ returns c =
     let some : 0 < length bs = nonzero (length bs) (sym c.is_empty.ensures ∙ c.if-is_empty.false) in
     record {
       text =
-          on_ok_weaker c.end.result (λ h. run-pushed c.args.style (chars bs) (spell c.args.self.now) (spell c.begin.new.self) (spell c.push_str-2.new.self) (spell c.end.new.self) (some-chars bs c.utf8.text some) (sym c.is_plain.ensures ∙ c.if-is_plain.false)
-          c.in_ok-begin.ensures.text c.in_ok-push_str.ensures.text h) c.end.ensures.text;
+          run-pushed c.args.style (chars bs) (spell c.args.self.now) (spell c.begin.new.self) (spell c.push_str-2.new.self) (spell c.end.new.self) (some-chars bs c.utf8.text some) (sym c.is_plain.ensures ∙ c.if-is_plain.false)
+          c.in_ok-begin.ensures.text c.in_ok-push_str-2.ensures.text c.in_ok-end.ensures.text;
     }

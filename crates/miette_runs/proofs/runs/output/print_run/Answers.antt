@@ -1,7 +1,5 @@
 use Rattle.std.proofs.Common.{◌≡◌, ◌∙◌, ◌++◌, ap, chars, encode_utf8_all, length, ◌<◌, string_bytes, sym, eqb-true}
-use Rattle.std.proofs.lemmas.Result.{on_ok_weaker}
 use Rattle.miette_runs.specs.rules.Runs.{printed_run}
-use Rattle.miette_runs.proofs.Appending.{where_written}
 use Rattle.miette_runs.proofs.Outputs.{run-behind, text-behind}
 use Rattle.miette_runs.proofs.Painting.{run-empty, run-plain}
 use Rattle.miette_page.proofs.Paging.{some-chars, nonzero}
@@ -16,11 +14,11 @@ returns-then-is_empty c =
       | then-is_empty-via-then-is_empty w ↦ run-empty s bs (eqb-true _ _ (sym c.is_empty.ensures ∙ w.if-is_empty.true))
       | then-is_empty-via-else-is_empty+then-is_plain w ↦ run-plain s (chars bs) (sym w.is_plain.ensures ∙ w.if-is_plain.true)
     ] in
-    on_ok_weaker c.push_str.result (λ h. text-behind _ _ bs c.utf8.text h ∙ ap (λ x. string_bytes c.args.out.now ++ encode_utf8_all x) (sym same)) (where_written c.push_str.result _ _ _ c.push_str.ensures.bytes)
+    text-behind _ _ bs c.utf8.text c.in_ok-push_str.ensures.bytes ∙ ap (λ x. string_bytes c.args.out.now ++ encode_utf8_all x) (sym same)
 
 pub returns : goal.returns
 returns c =
     let bs = c.args.text.now in
     let some : 0 < length bs = nonzero (length bs) (sym c.is_empty.ensures ∙ c.if-is_empty.false) in
-    on_ok_weaker c.push_str-3.result (λ h. run-behind c.args.style bs (string_bytes c.args.out.now) (string_bytes c.push_style.new.out) (string_bytes c.push_str-2.new.self) (string_bytes c.push_str-3.new.self) c.utf8.text (some-chars bs c.utf8.text some) (sym c.is_plain.ensures ∙ c.if-is_plain.false)
-    c.in_ok-push_style.ensures c.in_ok-push_str.ensures.bytes h) (where_written c.push_str-3.result _ _ _ c.push_str-3.ensures.bytes)
+    run-behind c.args.style bs (string_bytes c.args.out.now) (string_bytes c.push_style.new.out) (string_bytes c.push_str-2.new.self) (string_bytes c.push_str-3.new.self) c.utf8.text (some-chars bs c.utf8.text some) (sym c.is_plain.ensures ∙ c.if-is_plain.false)
+    c.in_ok-push_style.ensures c.in_ok-push_str-2.ensures.bytes c.in_ok-push_str-3.ensures.bytes

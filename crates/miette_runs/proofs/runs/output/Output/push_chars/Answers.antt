@@ -1,18 +1,16 @@
-use Rattle.std.proofs.Common.{OnOk, ap, subst, sym, ◌++◌, ◌∙◌}
-use Rattle.std.proofs.lemmas.Result.{on_ok_weaker}
+use Rattle.std.proofs.Common.{ap, sym, ◌++◌, ◌∙◌}
 use Rattle.miette_runs.specs.views.Outputs.{target_text}
 use Rattle.miette_runs.proofs.Outputs.{text-grows}
 use Rattle.miette_runs.proofs.runs.output.Output.push_chars.Goals as goal
-use Rattle.miette_runs.proofs.runs.output.Output.push_chars.Goals.{in-Printed, in-Collected}
+use Rattle.miette_runs.proofs.runs.output.Output.push_chars.Goals.{in-Printed+in_ok-push_codes-in-Printed, in-Collected+in_ok-push_chars-in-Collected}
 
 pub returns : goal.returns
 returns c = elim c.match-self.branch [
-  | in-Printed w ↦
-      subst (λ r. OnOk r _) (sym w.result-is)
-      (on_ok_weaker w.push_codes.result (λ h. ap (λ o. target_text o.target) w.self-inside-is
-      ∙ text-grows w.in-Printed.text w.push_codes.new.self c.args.self.now c.args.codes.now (sym (ap target_text w.in-Printed.is) ∙ c.self.view_is) h) w.push_codes.ensures)
-  | in-Collected w ↦
-      subst (λ r. OnOk r _) (sym w.result-is)
-      (on_ok_weaker w.push_chars.result (λ h. ap (λ o. target_text o.target) w.self-inside-is ∙ h
-      ∙ ap (λ x. x ++ c.args.codes.now) (sym (ap target_text w.in-Collected.is) ∙ c.self.view_is)) w.push_chars.ensures.text)
+  | in-Printed+in_ok-push_codes-in-Printed w ↦
+      ap (λ o. target_text o.target) w.self-inside-is
+      ∙ text-grows w.in-Printed.text w.push_codes.new.self c.args.self.now (c.args.codes.now) (sym (ap target_text w.in-Printed.is) ∙ c.self.view_is) (w.in_ok-push_codes-in-Printed.ensures)
+  | in-Collected+in_ok-push_chars-in-Collected w ↦
+      ap (λ o. target_text o.target) w.self-inside-is
+      ∙ w.in_ok-push_chars-in-Collected.ensures.text
+      ∙ ap (λ x. x ++ (c.args.codes.now)) (sym (ap target_text w.in-Collected.is) ∙ c.self.view_is)
 ]

@@ -1,19 +1,16 @@
-use Rattle.std.proofs.Common.{OnOk, ap, chars, subst, sym, ◌++◌, ◌∙◌}
-use Rattle.std.proofs.lemmas.Result.{on_ok_weaker}
+use Rattle.std.proofs.Common.{ap, chars, sym, ◌++◌, ◌∙◌}
 use Rattle.miette_runs.specs.views.Outputs.{target_text}
-use Rattle.miette_runs.proofs.Appending.{where_written}
-use Rattle.miette_runs.proofs.Outputs.{text-behind, text-grows}
+use Rattle.miette_runs.proofs.Outputs.{text-grows, text-behind}
 use Rattle.miette_runs.proofs.runs.output.Output.push_str.Goals as goal
-use Rattle.miette_runs.proofs.runs.output.Output.push_str.Goals.{in-Printed, in-Collected}
+use Rattle.miette_runs.proofs.runs.output.Output.push_str.Goals.{in-Printed+in_ok-push_str-in-Printed, in-Collected+in_ok-push_str-in-Collected}
 
 pub returns : goal.returns
 returns c = elim c.match-self.branch [
-  | in-Printed w ↦
-      subst (λ r. OnOk r _) (sym w.result-is)
-      (on_ok_weaker w.push_str.result (λ h. ap (λ o. target_text o.target) w.self-inside-is
-      ∙ text-grows w.in-Printed.out w.push_str.new.self c.args.self.now (chars c.args.text.now) (sym (ap target_text w.in-Printed.is) ∙ c.self.view_is) (text-behind _ _ c.args.text.now c.utf8.text h)) (where_written w.push_str.result _ _ _ w.push_str.ensures.bytes))
-  | in-Collected w ↦
-      subst (λ r. OnOk r _) (sym w.result-is)
-      (on_ok_weaker w.push_str-in-Collected.result (λ h. ap (λ o. target_text o.target) w.self-inside-is ∙ h
-      ∙ ap (λ x. x ++ (chars c.args.text.now)) (sym (ap target_text w.in-Collected.is) ∙ c.self.view_is)) w.push_str-in-Collected.ensures.text)
+  | in-Printed+in_ok-push_str-in-Printed w ↦
+      ap (λ o. target_text o.target) w.self-inside-is
+      ∙ text-grows w.in-Printed.out w.push_str.new.self c.args.self.now (chars c.args.text.now) (sym (ap target_text w.in-Printed.is) ∙ c.self.view_is) (text-behind _ _ c.args.text.now c.utf8.text w.in_ok-push_str-in-Printed.ensures.bytes)
+  | in-Collected+in_ok-push_str-in-Collected w ↦
+      ap (λ o. target_text o.target) w.self-inside-is
+      ∙ w.in_ok-push_str-in-Collected.ensures.text
+      ∙ ap (λ x. x ++ (chars c.args.text.now)) (sym (ap target_text w.in-Collected.is) ∙ c.self.view_is)
 ]
