@@ -1,2 +1,2 @@
--- What is appended for parts of a report.
+-- The code's own steps, which no rule names.
 pub mod DebugParts

@@ -107,7 +107,7 @@ fn push_fields<D: Diagnostic, S: SourceCode>(
     out.push_str(" }\n")
 }
 
-/// `, code: "c", severity: "Warning", url: "u", help: "h"`
+/// `, code: "c", severity: "Warning", url: "u", help: "h"`, with those that are there.
 fn push_members(
     alloc: Global,
     out: &mut String,

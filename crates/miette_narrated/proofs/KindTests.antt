@@ -1,4 +1,4 @@
--- Tests of a character's kind that tell no narrow one from a wide or an ambiguous one: a walk over them needs no tables of widths.
+-- Tests of a character's kind that tell no narrow one from a wide or an ambiguous one: a walk over them needs no tables of wide and of ambiguous ones.
 use Rattle.std.proofs.Common.{ℕ, ◌≡◌, Bool, true, false, cond, Option, Some, None, unwrap_or, refl, ap, ◌∙◌}
 use Rattle.ucd_table.proofs.Stepped.{Stepped, zip_stepped}
 use Rattle.ucd_props.specs.Binary.{is_regional_indicator}

@@ -96,7 +96,7 @@ fn measure<R: Read + Drop, W: Write + Drop>(
     write_length(alloc, writer, length)
 }
 
-/// Writes the length of one rendering.
+/// Writes the length of one rendering. What the writer holds afterwards isn't said.
 fn write_length<W: Write + Drop>(alloc: Global, writer: W, length: usize) -> Result<(), Fault>
     ensures others { OnErr result ((result ≡ Err Fault.Write) ⊎ (result ≡ Err Fault.Memory)) }
 {

@@ -40,7 +40,7 @@ fn run<R: Env + Files + Print + AllocGlobal + Streams>(rt: &R) -> Result<ExitCod
 }
 
 /// Says where the log that was found isn't the expected one.
-fn compare<R: Env + Files + Print + AllocGlobal + Streams>(
+fn compare<R: Env + Print + AllocGlobal + Streams>(
     rt: &R,
     words: &Words,
     wanted: &str,
