@@ -16,7 +16,6 @@ pub mod Encoding
 pub mod FilledColours
 pub mod Ending
 pub mod Parting
-pub mod FirstPart
 pub mod FirstRow
 pub mod LineWise
 pub mod InterleavedCells

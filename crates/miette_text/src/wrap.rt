@@ -22,7 +22,7 @@
 ghost use Rattle.std.specs.Prelude.{◌≡◌, ◌++◌, IfOk, OnErr, OnOk, chars, encode_utf8_all, string_bytes, true};
 ghost use Rattle.miette_runs.specs.rules.Sequences.{erase, spell, tokens};
 ghost use Rattle.miette_text.specs.rules.ColouredTexts.{AppendsErasing, AreColoured, colourless};
-ghost use Rattle.miette_text.specs.rules.Wrapping.{filled_text, map_indents, wrapped_text, wrapped_tokens};
+ghost use Rattle.miette_text.specs.rules.Wrapping.{filled_text, wrapped_text, wrapped_tokens};
 ghost use Rattle.miette_text.specs.views.Plans.{cuts_hyphens, options_plan, printed_plan, runs_plan};
 
 mod ends;
@@ -117,7 +117,8 @@ fn push_filled_under<S: Sink>(out: &mut S, plan: Plan<'_>, text: &Runs) -> Resul
         further_room,
     };
     push_all(out, first)?;
-    push_filled(out, cuts, under, text.parts())
+    push_filled(out, cuts, under, text.parts())?;
+    Ok(())
 }
 
 // Runs, wrapped, each sign as it is.
@@ -126,9 +127,11 @@ fn push_wrapped<S: Sink>(out: &mut S, plan: Plan<'_>, text: &Runs) -> Result<(),
         ++ S.spells (spell (wrapped_tokens (runs_plan plan.entry) text.now))) }
 {
     if plan.wraps {
-        push_filled_under(out, plan, text)
+        push_filled_under(out, plan, text)?;
+        Ok(())
     } else {
-        push_whole(out, plan.first.parts(), plan.further.parts(), text.parts())
+        push_whole(out, plan.first.parts(), plan.further.parts(), text.parts())?;
+        Ok(())
     }
 }
 
@@ -141,26 +144,6 @@ fn are_settled(plan: Plan<'_>, text: &Runs) -> bool
     is_settled(plan.first.parts()) && is_settled(plan.further.parts()) && is_settled(text.parts())
 }
 
-// Appends runs, wrapped under what their indents print, read anew.
-fn push_under_printed_indents(
-    alloc: Global,
-    out: &mut Output,
-    plan: Plan<'_>,
-    text: &Runs,
-) -> Result<(), AllocError>
-    ensures { OnOk result (out.new ≡ out.old
-        ++ spell (wrapped_tokens (map_indents tokens (printed_plan plan.entry)) text.now)) }
-{
-    let first = reread(alloc, plan.first)?;
-    let further = reread(alloc, plan.further)?;
-    let read = Plan {
-        first: &first,
-        further: &further,
-        ..plan
-    };
-    push_wrapped(out, read, text)
-}
-
 // What runs print, read anew, and wrapped.
 fn push_reread(
     alloc: Global,
@@ -170,8 +153,16 @@ fn push_reread(
 ) -> Result<(), AllocError>
     ensures { OnOk result (out.new ≡ out.old ++ wrapped_text (printed_plan plan.entry) (spell text.now)) }
 {
+    let first = reread(alloc, plan.first)?;
+    let further = reread(alloc, plan.further)?;
     let text = reread(alloc, text)?;
-    push_under_printed_indents(alloc, out, plan, &text)
+    let read = Plan {
+        first: &first,
+        further: &further,
+        ..plan
+    };
+    push_wrapped(out, read, &text)?;
+    Ok(())
 }
 
 /// Appends the runs, wrapped, as the text that they print is.
@@ -183,7 +174,8 @@ pub fn wrap(alloc: Global, plan: Plan<'_>, text: &Runs, out: &mut Output) -> Res
     ensures { OnOk result (out.new ≡ out.old ++ wrapped_text (printed_plan plan.entry) (spell text.now)) }
 {
     if are_settled(plan, text) {
-        return push_wrapped(out, plan, text);
+        push_wrapped(out, plan, text)?;
+        return Ok(());
     }
     push_reread(alloc, out, plan, text)
 }
@@ -198,18 +190,13 @@ pub fn cuts_hyphens(splitter: WordSplitter) -> bool
     }
 }
 
-// Appends runs, wrapped under the indents of these options.
-fn push_under_indents(
-    alloc: Global,
-    out: &mut String,
-    options: &WrapOptions<'_>,
-    text: &Runs,
-) -> Result<(), AllocError>
-    ensures { OnOk result (string_bytes out.new ≡ string_bytes out.old ++ encode_utf8_all (spell (wrapped_tokens
-        (map_indents tokens (options_plan options.now)) text.now))) }
+fn wrapped_text(alloc: Global, options: &WrapOptions<'_>, text: &str) -> Result<String, AllocError>
+    ensures { IfOk result (λ s. string_bytes s
+        ≡ encode_utf8_all (wrapped_text (options_plan options.now) (chars text.now))) }
 {
     let first = read_text(alloc, options.first_indent)?;
     let further = read_text(alloc, options.further_indent)?;
+    let read = read_text(alloc, text)?;
     let hyphens = cuts_hyphens(options.splitter);
     let plan = Plan {
         wraps: options.wrap_lines,
@@ -219,16 +206,8 @@ fn push_under_indents(
         first: &first,
         further: &further,
     };
-    push_wrapped(out, plan, text)
-}
-
-fn wrapped_text(alloc: Global, options: &WrapOptions<'_>, text: &str) -> Result<String, AllocError>
-    ensures { IfOk result (λ s. string_bytes s
-        ≡ encode_utf8_all (wrapped_text (options_plan options.now) (chars text.now))) }
-{
-    let read = read_text(alloc, text)?;
     let mut out = String::with_capacity(alloc, text.len())?;
-    push_under_indents(alloc, &mut out, options, &read)?;
+    push_wrapped(&mut out, plan, &read)?;
     Ok(out)
 }
 

@@ -45,7 +45,8 @@ fn push_break<S: Sink>(out: &mut S, further: RunsSlice<'_>) -> Result<(), AllocE
         ++ S.spells (10 ∷ spell (interleaving 0 further.entry.codes.now further.entry.tags.now))) }
 {
     out.push_codes(&['\n'])?;
-    push_all(out, further)
+    push_all(out, further)?;
+    Ok(())
 }
 
 // A row, from a place in the text up to the end of what is given, without its last spaces. How many tags are used.
@@ -145,7 +146,8 @@ pub(crate) fn push_filled<S: Sink>(
         let inside = push_rows(out, cuts, place, start, line)?;
         used += inside;
         if end == text.codes.len() {
-            return push_tags(out, &text.tags[used..]);
+            push_tags(out, &text.tags[used..])?;
+            return Ok(());
         }
         let behind = push_signs(out, end, &['\n'], &text.tags[used..])?;
         used += behind;

@@ -85,7 +85,8 @@ pub(crate) fn push_whole<S: Sink>(
         let used = push_cells(out, start, line, tags)?;
         let (_, left) = tags.split_at(used);
         if last {
-            return push_tags(out, left);
+            push_tags(out, left)?;
+            return Ok(());
         }
         let (before, behind) = left.split_at(upto_len(end, left));
         push_tags(out, before)?;

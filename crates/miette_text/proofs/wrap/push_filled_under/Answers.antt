@@ -1,5 +1,4 @@
 use Rattle.std.proofs.Common.{◌≡◌, ◌∙◌, [], ◌-◌, ◌++◌, ap, min}
-use Rattle.std.proofs.lemmas.Result.{on_ok_weaker}
 use Rattle.miette_runs.specs.rules.Sequences.{spell}
 use Rattle.miette_text.specs.rules.Wrapping.{joined_rows, text_lines, text_rows}
 use Rattle.miette_runs.specs.rules.Cells.{columns_of}
@@ -21,7 +20,8 @@ returns g c =
     let m : c.min-narrow.result ≡ min c.saturating_sub-room.result c.saturating_sub-further_room.result = c.min-narrow.ensures in
     let rows = spell (joined_rows [] further (text_rows (record { hyphens = p.hyphens; breaks = p.breaks; narrow = c.min-narrow.result }) c.saturating_sub-room.result c.saturating_sub-further_room.result (text_lines text))) in
     let e : g.S.Sink.holds c.push_all.new.out ≡ old ++ g.S.Sink.spells (spell first) = c.in_ok-push_all.ensures in
-    on_ok_weaker c.push_filled.result (λ (f : g.S.Sink.holds c.push_filled.new.out ≡ g.S.Sink.holds c.push_all.new.out ++ g.S.Sink.spells rows). f
+    let f : g.S.Sink.holds c.push_filled.new.out ≡ g.S.Sink.holds c.push_all.new.out ++ g.S.Sink.spells rows = c.in_ok-push_filled.ensures in
+    f
     ∙ ap (λ us. us ++ g.S.Sink.spells rows) e
     ∙ appended g.S.Sink.spells g.met.S.Sink.joins old (spell first) rows
-    ∙ ap (λ us. old ++ g.S.Sink.spells us) (filled-text p c.args.text.now c.min-narrow.result c.saturating_sub-room.result c.saturating_sub-further_room.result first further text c.parts-first.ensures c.parts-further.ensures c.parts.ensures r1 r2 m)) c.push_filled.ensures
+    ∙ ap (λ us. old ++ g.S.Sink.spells us) (filled-text p c.args.text.now c.min-narrow.result c.saturating_sub-room.result c.saturating_sub-further_room.result first further text c.parts-first.ensures c.parts-further.ensures c.parts.ensures r1 r2 m)

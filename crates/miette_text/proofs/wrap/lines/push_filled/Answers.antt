@@ -1,6 +1,5 @@
 use Rattle.std.proofs.Common.{◌≡◌, ◌∙◌, ◌+◌, ◌-◌, ◌<◌, ◌≤◌, ◌++◌, ◌∷◌, [], ap, ap₂, arith, drop, drop-drop, length, length-drop, map, sym, take}
 use Rattle.std.proofs.lemmas.List.{drop-take, take_rest}
-use Rattle.std.proofs.lemmas.Result.{on_ok_weaker}
 use Rattle.std.specs.List.{concat}
 use Rattle.miette_text.specs.steps.Ends.{line_len}
 use Rattle.miette_runs.specs.rules.Cells.{tags_text}
@@ -37,12 +36,13 @@ returns-then-end-text g c =
     let rest = take (length all - (k + m)) (drop (k + m) all) in
     let left : rest ≡ left_at s (drop s cs) (drop k all) =
     take_rest all (k + m) ∙ sym (drop-drop m k all) ∙ ap (drop m) (sym mq) ∙ said ∙ ap₂ (left_at s) whole mq in
-    on_ok_weaker c.push_tags.result (λ (f : g.S.Sink.holds c.push_tags.new.out ≡ g.S.Sink.holds c.push_rows.new.out ++ g.S.Sink.spells (tags_spelled rest)). f
+    let f : g.S.Sink.holds c.push_tags.new.out ≡ g.S.Sink.holds c.push_rows.new.out ++ g.S.Sink.spells (tags_spelled rest) = c.in_ok-push_tags.ensures in
+    f
     ∙ ap₂ (λ us vs. us ++ g.S.Sink.spells (tags_spelled vs)) (e ∙ ap₂ (λ us vs. o ++ g.S.Sink.spells (line_text u further c.rest.room room s us vs)) whole mq) left
     ∙ appended g.S.Sink.spells g.met.S.Sink.joins o text (tags_spelled (left_at s (drop s cs) (drop k all)))
     ∙ ap (λ us. o ++ g.S.Sink.spells us) (sym (last-line u further c.rest.room room n s (drop s cs) (drop k all) q (omega (arith, length-drop s cs))))
     ∙ c.rest.invariant.printed
-    ∙ ap (λ us. g.S.Sink.holds c.args.out.now ++ g.S.Sink.spells us) (sym (text-printed u under.room room (interleaving 0 under.further.codes.now under.further.tags.now) (text_lines (interleaving 0 cs all))))) c.push_tags.ensures
+    ∙ ap (λ us. g.S.Sink.holds c.args.out.now ++ g.S.Sink.spells us) (sym (text-printed u under.room room (interleaving 0 under.further.codes.now under.further.tags.now) (text_lines (interleaving 0 cs all))))
 
 pub rest-preserved : goal.rest-preserved
 rest-preserved g c =

@@ -1,7 +1,6 @@
 use Rattle.std.proofs.Common.{◌≡◌, ◌∙◌, ◌+◌, ◌-◌, ◌<◌, ◌≤◌, ◌++◌, ◌∷◌, [], true, false, ap, ap₂, arith, drop, length, length-drop, nat_eq, take}
 use Rattle.std.proofs.lemmas.Bool.Decides.{nat_tests}
 use Rattle.std.proofs.lemmas.List.{take_rest}
-use Rattle.std.proofs.lemmas.Result.{on_ok_weaker}
 use Rattle.miette_text.specs.steps.Ends.{line_len}
 use Rattle.miette_runs.specs.steps.Cells.{plain_cells}
 use Rattle.miette_runs.specs.rules.Cells.{piece_text}
@@ -31,12 +30,13 @@ returns-then-last g c =
     let b : nat_eq (s + n) (length cs) ≡ true = (let e = c.if-last.true in grind (arith, nat_tests)) in
     let p1 : g.S.Sink.holds c.push_indent.new.out ≡ o ++ g.S.Sink.spells (indent_text (nat_eq (s + n) (length cs)) (spell indent) (spell short) (plain_cells line)) = c.in_ok-push_indent.ensures in
     let p2 : g.S.Sink.holds c.push_cells.new.out ≡ g.S.Sink.holds c.push_indent.new.out ++ g.S.Sink.spells (piece_text (cells_at s line ms)) = c.in_ok-used.ensures.text in
+    let p3 : g.S.Sink.holds c.push_tags.new.out ≡ g.S.Sink.holds c.push_cells.new.out ++ g.S.Sink.spells (tags_spelled left) = c.in_ok-push_tags.ensures in
     let is_left : left ≡ left_at s line ms = c.split_at.ensures.back ∙ c.in_ok-used.ensures.left in
-    on_ok_weaker c.push_tags.result (λ (p3 : g.S.Sink.holds c.push_tags.new.out ≡ g.S.Sink.holds c.push_cells.new.out ++ g.S.Sink.spells (tags_spelled left)). three-pushed g.S.Sink.spells g.met.S.Sink.joins o (g.S.Sink.holds c.push_indent.new.out) (g.S.Sink.holds c.push_cells.new.out) (g.S.Sink.holds c.push_tags.new.out)
+    three-pushed g.S.Sink.spells g.met.S.Sink.joins o (g.S.Sink.holds c.push_indent.new.out) (g.S.Sink.holds c.push_cells.new.out) (g.S.Sink.holds c.push_tags.new.out)
     (indent_text true (spell indent) (spell (trimmed_row indent)) (plain_cells line)) (piece_text (cells_at s line ms)) (tags_spelled left)
     (p1 ∙ ap₂ (λ last us. o ++ g.S.Sink.spells (indent_text last (spell indent) us (plain_cells line))) b (ap spell c.rest.invariant.short)) p2 p3
     ∙ ap (λ us. o ++ g.S.Sink.spells us) (end-at indent further s n cs line ms left q all (ap (λ k. take k (drop s cs)) (omega arith)) is_left)
-    ∙ c.rest.invariant.printed) c.push_tags.ensures
+    ∙ c.rest.invariant.printed
 
 pub rest-preserved : goal.rest-preserved
 rest-preserved g c =
@@ -59,7 +59,7 @@ rest-preserved g c =
     let b : nat_eq (s + n) (length cs) ≡ false = (let e = c.if-last.false in grind (arith, nat_tests)) in
     let p1 : g.S.Sink.holds c.push_indent.new.out ≡ o ++ g.S.Sink.spells (indent_text (nat_eq (s + n) (length cs)) (spell indent) (spell short) (plain_cells line)) = c.in_ok-push_indent.ensures in
     let p2 : g.S.Sink.holds c.push_cells.new.out ≡ g.S.Sink.holds c.push_indent.new.out ++ g.S.Sink.spells (piece_text (cells_at s line ms)) = c.in_ok-used.ensures.text in
-    let p3 : g.S.Sink.holds c.push_tags-in-rest.new.out ≡ g.S.Sink.holds c.push_cells.new.out ++ g.S.Sink.spells (tags_spelled before) = c.in_ok-push_tags.ensures in
+    let p3 : g.S.Sink.holds c.push_tags-in-rest.new.out ≡ g.S.Sink.holds c.push_cells.new.out ++ g.S.Sink.spells (tags_spelled before) = c.in_ok-push_tags-2.ensures in
     let p4 : g.S.Sink.holds c.push_codes.new.self ≡ g.S.Sink.holds c.push_tags-in-rest.new.out ++ g.S.Sink.spells (10 ∷ []) = c.in_ok-push_codes.ensures in
     let is_left : left ≡ left_at s line ms = c.split_at.ensures.back ∙ c.in_ok-used.ensures.left in
     let is_before : before ≡ upto (s + n) left = c.split_at-in-rest.ensures.front ∙ c.upto_len.ensures.before in
