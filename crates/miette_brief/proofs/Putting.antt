@@ -1,13 +1,7 @@
 -- Parts of rows, and rows, put one behind the other.
-use Rattle.std.proofs.Common.{ℕ, suc, ◌+◌, ◌≡◌, ◌<◌, List, [], ◌∷◌, ◌++◌, length, get_or, drop, add-one, refl, sym, ap, ◌∙◌, append_assoc, Result, Ok, Err}
-use Rattle.std.specs.Prelude.{cond, is_ok, OnOk}
+use Rattle.std.proofs.Common.{ℕ, suc, ◌+◌, ◌≡◌, ◌<◌, List, [], ◌∷◌, ◌++◌, length, get_or, drop, add-one, refl, sym, ap, ◌∙◌, append_assoc}
 use Rattle.std.proofs.Math.Seq.{drop-cons}
 use Rattle.miette_brief.specs.rules.Rows.{ReportRow, row_text, rows_text}
-
--- what a text is where it was written
-pub where_written : {T E : Type 0} (r : Result T E) (new written old : List ℕ) → new ≡ cond (is_ok r) written old → OnOk r (new ≡ written)
-where_written (Ok x) new written old is = is
-where_written (Err e) new written old is = tt
 
 -- a row of a place, a kind, and a text
 pub row_put : (out a b c new place kind text : List ℕ) → a ≡ out ++ place → b ≡ a ++ kind → c ≡ b ++ text → new ≡ c ++ 10 ∷ []

@@ -1,12 +1,12 @@
 -- The lines of a part of some bytes, by their numbers among the lines of all of these.
 use Rattle.std.proofs.Common.{ℕ, zero, suc, ◌+◌, ◌-◌, ◌<◌, ◌≤◌, ◌≡◌, min, max, Bool, true, false, cond, not, ◌&&◌, ◌||◌, List, [], ◌∷◌, length, take, drop, refl, sym, ap, ap₂, ◌∙◌, inl, inr, arith}
 use Rattle.std.specs.Prelude.{◌==◌, nat_le, count_by, slice_index, slice_range}
-use Rattle.std.proofs.lemmas.Bool.{cases_lt, eqb-true, le-leb, lt-leb}
+use Rattle.std.proofs.lemmas.Bool.{cases_lt, eqb-true}
 use Rattle.std.proofs.lemmas.List.{drop-drop, drop-take, get_or-drop, get_or_past, length-drop, length-take-le, take_rest}
 use Rattle.std.proofs.lemmas.List.Sums.{sum_by-cons}
 use Rattle.miette_newlines.specs.rules.Lines.{Line, LF, CR, ends_line, is_terminated, lines_from, line_of, line_end}
 use Rattle.miette_newlines.proofs.Scans.{ends_before, ends_by, ends_count, ends_count-lines_from}
-use Rattle.miette_newlines.proofs.Places.{line_of-is, line_of_no, line_of_end, line_end_past, line_start_next, line_start_le, ends_by_none, ends_by_one}
+use Rattle.miette_newlines.proofs.Places.{line_of-is, line_of_no, line_of_end, line_end_past, line_start_next, line_start_le, ends_by-le}
 use Rattle.miette_snippets.specs.rules.Folds.{place_among}
 
 -- ---- terminators of a part
@@ -126,18 +126,8 @@ rest_line bs from to o at rest low high within w here is =
 
 -- ---- the place of an offset among the lines of a part
 
-ends_by_place : (o at : ℕ) (bs : List ℕ) (j : ℕ) → j ≡ o - at → ends_by (λ e. nat_le e o) at bs ≡ ends_before j bs
-ends_by_place o at [] zero e = refl
-ends_by_place o at [] (suc j) e = refl
-ends_by_place o at (b ∷ bs) zero e =
-    ends_by_none (ends_line b (slice_index bs 0)) (nat_le (at + 1) o) (ends_by (λ e. nat_le e o) (at + 1) bs)
-    (lt-leb (at + 1) o (omega (arith, e))) (ends_by_place o (at + 1) bs zero (omega (arith, e)))
-ends_by_place o at (b ∷ bs) (suc j) e =
-    ends_by_one (ends_line b (slice_index bs 0)) (nat_le (at + 1) o) (ends_by (λ e. nat_le e o) (at + 1) bs) (ends_before j bs)
-    (le-leb (at + 1) o (omega (arith, e))) (ends_by_place o (at + 1) bs j (omega (arith, e)))
-
 place_is : (at : ℕ) (bs : List ℕ) (o : ℕ) → place_among (lines_from at bs) o ≡ ends_before (o - at) bs
-place_is at bs o = ends_count-lines_from (λ e. nat_le e o) at bs ∙ ends_by_place o at bs (o - at) refl
+place_is at bs o = ends_count-lines_from (λ e. nat_le e o) at bs ∙ ends_by-le o at bs (o - at) refl
 
 pub part_place : (bs : List ℕ) (from to o : ℕ) → from ≤ to → IsWhole bs to →
     place_among (lines_from from (slice_range bs from to)) o + line_of bs from ≡ line_of bs (max from (min o to))

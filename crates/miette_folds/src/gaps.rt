@@ -1,6 +1,6 @@
 //! Gaps inside folded labels, whose lines are left out: where one ends, and how a sweep over labels passes it.
 
-ghost use Rattle.std.specs.Prelude.{◌≡◌, ◌+◌, ◌<◌, ◌≤◌, ◌^◌, None, length, OnOk};
+ghost use Rattle.std.specs.Prelude.{◌≡◌, ◌+◌, ◌<◌, ◌≤◌, ◌^◌, None, OnOk};
 ghost use Rattle.std.specs.List.{list_any, filter};
 ghost use Rattle.miette_newlines.specs.views.Walking.{line_of_text};
 ghost use Rattle.miette_lines.specs.views.Sweeping.{IsAt, IsOn, AreSorted, is_one, line_of_bounds};

@@ -1,6 +1,5 @@
 -- The fields of a report, put one behind the other.
-use Rattle.std.proofs.Common.{◌≡◌, ℕ, List, [], ◌∷◌, ◌++◌, Option, refl, ap, subst, ◌∙◌, append_assoc, codes, cond, Result, Ok, Err}
-use Rattle.std.specs.Prelude.{is_ok, OnOk}
+use Rattle.std.proofs.Common.{◌≡◌, ℕ, List, [], ◌∷◌, ◌++◌, Option, refl, ap, subst, ◌∙◌, append_assoc, codes}
 use Rattle.miette_protocol.specs.views.Meaning.{Label}
 use Rattle.miette_protocol.specs.declared.protocol.Severity.{Severity}
 use Rattle.miette_tree.specs.rules.Tree.{Tree, head, cause_of, causes_of}
@@ -8,11 +7,6 @@ use Rattle.miette_tree.specs.rules.DiagnosticParts.{given_labels}
 use Rattle.miette_tree.specs.views.Handler.{AppendsOne}
 use Rattle.miette_handlers.specs.rules.DebugText.{IsDebugText, IsField, IsLabelsField, IsQuoted, nearest, severity_variant}
 use Rattle.miette_handlers.specs.steps.DebugParts.{AreFields}
-
--- what a text is where it was written
-pub where_written : {T E : Type 0} (r : Result T E) (new written old : List ℕ) → new ≡ cond (is_ok r) written old → OnOk r (new ≡ written)
-where_written (Ok x) new written old is = is
-where_written (Err e) new written old is = tt
 
 four : (old a b c new code severity url help : List ℕ) → a ≡ old ++ code → b ≡ a ++ severity → c ≡ b ++ url → new ≡ c ++ help
     → new ≡ old ++ (code ++ (severity ++ (url ++ help)))

@@ -1,6 +1,6 @@
 -- The parts that are written make up the text of the value.
-use Rattle.std.proofs.Common.{◌≡◌, ℕ, List, [], ◌∷◌, ◌++◌, Option, Some, None, refl, sym, ap, ◌∙◌, append_assoc, append-nil, Bool, true, false, codes, option_map, Result, Ok, Err}
-use Rattle.std.specs.Prelude.{if◌then◌else◌, cond, is_ok, OnOk}
+use Rattle.std.proofs.Common.{◌≡◌, ℕ, List, [], ◌∷◌, ◌++◌, Option, Some, None, refl, sym, ap, ◌∙◌, append_assoc, append-nil, Bool, true, false, codes, option_map}
+use Rattle.std.specs.Prelude.{if◌then◌else◌}
 use Rattle.miette_json.specs.rules.Json.{Json, string, array, object, Items, item, Members, no_members, member, quoted_text, json_text, items_text, more_members_text}
 use Rattle.miette_protocol.specs.rules.Reading.{Source}
 use Rattle.miette_tree.specs.rules.Tree.{Tree, tree, head, source_of, cause_of, causes_of, related_of, effective}
@@ -48,11 +48,6 @@ pub reasons_parts : (out a b c new key causes url help : List ℕ) → a ≡ out
     → new ≡ out ++ (key ++ (91 ∷ (causes ++ (url ++ help))))
 reasons_parts out a b c new key causes url help e f g h =
     h ∙ ap (λ l. l ++ help) (g ∙ ap (λ l. l ++ url) (f ∙ ap (λ l. l ++ causes) e)) ∙ simp append_assoc
-
--- what a text is where it was written
-pub where_written : {T E : Type 0} (r : Result T E) (new written old : List ℕ) → new ≡ cond (is_ok r) written old → OnOk r (new ≡ written)
-where_written (Ok x) new written old is = is
-where_written (Err e) new written old is = tt
 
 pub maybe_member : (key : List ℕ) (o : Option (List ℕ)) (more : Members) → more_members_text (maybe key o more) ≡ maybe_text key o ++ more_members_text more
 maybe_member key None more = refl

@@ -1,6 +1,5 @@
 -- Parts of rows, put one behind the other.
-use Rattle.std.proofs.Common.{ℕ, suc, ◌+◌, ◌≡◌, ◌<◌, List, [], ◌∷◌, ◌++◌, length, get_or, drop, add-one, sym, ap, ◌∙◌, append_assoc, Result, Ok, Err}
-use Rattle.std.specs.Prelude.{cond, is_ok, OnOk}
+use Rattle.std.proofs.Common.{ℕ, suc, ◌+◌, ◌≡◌, ◌<◌, List, [], ◌∷◌, ◌++◌, length, get_or, drop, add-one, sym, ap, ◌∙◌, append_assoc}
 use Rattle.std.proofs.Math.Seq.{drop-cons}
 use Rattle.miette_narrated.specs.rules.Labels.{row}
 
@@ -9,11 +8,6 @@ then old q r a b e f = f ∙ ap (λ x. x ++ b) e ∙ append_assoc old a b
 
 pub three : (old q r s a b c : List ℕ) → q ≡ old ++ a → r ≡ q ++ b → s ≡ r ++ c → s ≡ old ++ (a ++ (b ++ c))
 three old q r s a b c e f g = g ∙ ap (λ x. x ++ c) (f ∙ ap (λ x. x ++ b) e) ∙ simp append_assoc
-
--- what a text is where it was written
-pub where_written : {T E : Type 0} (r : Result T E) (new written old : List ℕ) → new ≡ cond (is_ok r) written old → OnOk r (new ≡ written)
-where_written (Ok x) new written old is = is
-where_written (Err e) new written old is = tt
 
 -- a row of words and a text
 pub row_put : (old q r s a t : List ℕ) → q ≡ old ++ a → r ≡ q ++ t → s ≡ r ++ 10 ∷ [] → s ≡ old ++ row (a ++ t)

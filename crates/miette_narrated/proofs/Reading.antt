@@ -22,7 +22,7 @@ use Rattle.miette_lines.specs.views.Placing.{placed_one, placed_from}
 use Rattle.miette_lines.specs.views.Reads.{IsRead, AreRead, IsLent, AreGroups, AreGrouped, IsUnread}
 use Rattle.miette_lines.proofs.Numbers.{by_cases}
 use Rattle.miette_lines.proofs.Owning.{order_all}
-use Rattle.miette_lines.proofs.Refusing.{read_of}
+use Rattle.miette_lines.proofs.Refusing.{all_accepted, read_of}
 use Rattle.miette_narrated.specs.rules.Labels.{LabelRange, label_range}
 use Rattle.miette_narrated.specs.steps.Conversions.{range_of, ranges_of}
 use Rattle.miette_narrated.specs.rules.Snippets.{snippet, snippets_of}
@@ -101,14 +101,6 @@ placed_ordered context source labels rs ps h order e =
     subst (λ (xs : List PlacedLabel). AreOrdered xs) (sym e)
     (ordered_reads context source labels 0 0 rs h (subst (λ (ls : List Label). Rises 0 ls) (sym order) (order_rises labels))).0
 
--- ---- acceptance
-
-accepted_reads : (context : ℕ) (source : Source) (labels : List Label) (rs : List ReadLabel) → All (IsRead context source labels) rs → AreAccepted source.bytes (map (read_of labels) rs)
-accepted_reads context source labels [] h = tt
-accepted_reads context source labels (r ∷ rs) h =
-    let own = All-head (IsRead context source labels) r rs h in
-    (subst (λ (s : Span). IsAccepted source.bytes s) own.span own.accepted, accepted_reads context source labels rs (All-tail (IsRead context source labels) r rs h))
-
 -- ---- groups, one after the other
 
 pub groups_more : (handlers : ℕ) (source : Source) (labels : List LabelRange) (ls : List Label) (gs : List Group) (i : ℕ) (d : Group) (out new goal : List ℕ) → AreGroups handlers source ls gs → i < length gs → d ≡ get_or gs i d →
@@ -136,7 +128,7 @@ snippets_told context source labels rs ps gs old new law h order e are text =
     let fails = are.fails in
     record {
       fails = fails;
-      possible = record { accepted = subst (λ (ls : List Label). AreAccepted source.bytes ls) order (accepted_reads context source labels rs h); always = are.always };
+      possible = record { accepted = subst (λ (ls : List Label). AreAccepted source.bytes ls) order (all_accepted context source labels rs h); always = are.always };
       appended = text ∙ ap₂ (λ ts ss. old ++ snippets_of (group_context context (in_order labels)) source ts ss) (told_in_order context source labels rs ps law h order e) are.are;
     }
 

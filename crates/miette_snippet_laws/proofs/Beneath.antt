@@ -23,7 +23,7 @@ use Rattle.miette_snippet_laws.proofs.Columns.{columns_of-append, code_at-append
 use Rattle.miette_snippet_laws.proofs.UnstyledRows.{mark_row, plain_below}
 use Rattle.miette_snippet_laws.proofs.Hanging.{mark_row-at, plain_hang, all_beside, all_more}
 use Rattle.miette_snippet_laws.proofs.Numerals.{AreDigits, are_digits}
-use Rattle.miette_snippet_laws.proofs.Flat.{glyphs_of-append, flat_marks, flat_below}
+use Rattle.miette_snippet_laws.proofs.Flat.{glyphs_of-append, before_pieces, flat_marks, flat_below}
 use Rattle.miette_style.specs.rules.Themes.{Characters}
 
 -- the gutter has room for the labels of several lines that lie on a line
@@ -66,12 +66,6 @@ other-columns s w columns labels line n room =
     ap columns_of (glyphs_of-append (other_start s w) gutter) ∙ columns_of-append (glyphs_of (other_start s w)) (glyphs_of gutter)
     ∙ omega (arith, other_start-columns s w n, other_gutter-columns s.width s.characters n line columns (multi_line line labels) room)
 
--- rows behind one prefix
-behind : (prefix : Row) (rows : List Row) → map glyphs_of (before_each prefix rows) ≡ map (λ row. glyphs_of prefix ++ row) (map glyphs_of rows)
-behind prefix [] = refl
-behind prefix (row ∷ rows) =
-    ap (λ r. r ∷ map glyphs_of (before_each prefix rows)) (glyphs_of-append prefix row) ∙ ap (λ r. (glyphs_of prefix ++ glyphs_of row) ∷ r) (behind prefix rows)
-
 -- marks and texts behind a prefix, with more rows below
 marked : (s : SnippetSettings) (n : IsNarrow s.width s.characters) (prefix : Row) (more : List Row) (ms : List Mark) → AreApart 0 ms →
     AreMarked s (columns_of (glyphs_of prefix)) ms ((prefix ++ mark_runs s.width s.characters 0 ms) ∷ (before_each prefix (rows_below s.width s.characters [] ms) ++ more))
@@ -84,7 +78,7 @@ marked s n prefix more ms apart =
     let below : List (List Glyph) = map (λ row. glyphs_of prefix ++ row) (plain_below width t [] ms) in
     let under : map glyphs_of (before_each prefix (rows_below width t [] ms) ++ more) ≡ below ++ map glyphs_of more =
     map-append glyphs_of (before_each prefix (rows_below width t [] ms)) more
-    ∙ ap (λ r. r ++ map glyphs_of more) (behind prefix (rows_below width t [] ms) ∙ ap (map (λ row. glyphs_of prefix ++ row)) (flat_below width t [] ms apart)) in (
+    ∙ ap (λ r. r ++ map glyphs_of more) (before_pieces prefix (rows_below width t [] ms) ∙ ap (map (λ row. glyphs_of prefix ++ row)) (flat_below width t [] ms apart)) in (
       λ column lt. ap (λ r. code_at r (start + column)) (glyphs_of-append prefix (mark_runs width t 0 ms))
           ∙ code_at-append (glyphs_of prefix) (glyphs_of (mark_runs width t 0 ms)) column ∙ ap (λ r. code_at r column) flat ∙ mark_row-at width t n ms column lt,
       subst (λ (rows : List (List Glyph)). AllByRecursion (Hangs width t rows start) ms) (sym under)

@@ -7,7 +7,7 @@ use Rattle.std.proofs.lemmas.Bool.{and_parts, not-true}
 use Rattle.std.proofs.lemmas.Bool.Decides.{nat_tests}
 use Rattle.std.proofs.lemmas.List.{map-append}
 use Rattle.std.proofs.lemmas.Str.{encode_ascii}
-use Rattle.bstr.specs.Utf8.{Decoded, decoded, or_replacement, pieces, pieces_from}
+use Rattle.bstr.specs.Utf8.{decoded, or_replacement, pieces, pieces_from}
 use Rattle.bstr.proofs.lemmas.SoundLemmas.{SpellsChar-decoded}
 use Rattle.miette_style.specs.rules.Escapes.{is_escape}
 use Rattle.miette_style.specs.rules.Escapes.{no_escape}

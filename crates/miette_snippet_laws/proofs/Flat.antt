@@ -1,11 +1,12 @@
 -- Rows of runs are rows by columns.
-use Rattle.std.proofs.Common.{ℕ, zero, suc, ◌+◌, ◌-◌, ◌<◌, ◌≤◌, ◌≡◌, true, false, ltb, leb, eqb, List, [], ◌∷◌, ◌++◌, map, replicate, refl, sym, ap, subst, ◌∙◌, ◌&&◌, append_assoc, append-nil, arith}
+use Rattle.std.proofs.Common.{ℕ, zero, suc, ◌+◌, ◌-◌, ◌<◌, ◌≤◌, ◌≡◌, true, false, ltb, leb, eqb, List, [], ◌∷◌, ◌++◌, map, replicate, refl, sym, ap, ap₂, subst, ◌∙◌, ◌&&◌, append_assoc, append-nil, arith}
 use Rattle.std.proofs.lemmas.Bool.{lt-ltb, le-ltb, le-leb, lt-leb, and_right, ne_eqb, eq-eqb}
 use Rattle.std.proofs.lemmas.List.{map-append}
 use Rattle.std.specs.List.{range_with_len}
 use Rattle.miette_page.specs.rules.Rows.{Glyph, Row, glyphs_of, glyph_of, styled_run}
 use Rattle.miette_snippets.specs.rules.Marks.{Mark, AreApart}
 use Rattle.miette_snippets.specs.rules.Drawing.{mark_code, mark_runs, lead_runs, text_row, corner, corner_of_several, beside, rows_of_parts, rows_below}
+use Rattle.miette_snippets.specs.rules.SnippetLayout.{before_each}
 use Rattle.miette_snippet_laws.specs.laws.Pictures.{mark_at, marks_end}
 use Rattle.miette_snippets.proofs.Numbers.{range_with_len-append}
 use Rattle.miette_snippet_laws.proofs.UnstyledRows.{lead_at, lead, corner_pieces, beside_pieces, plain_parts, plain_below}
@@ -14,6 +15,11 @@ use Rattle.miette_style.specs.rules.Themes.{Characters}
 pub glyphs_of-append : (a b : Row) → glyphs_of (a ++ b) ≡ glyphs_of a ++ glyphs_of b
 glyphs_of-append [] b = refl
 glyphs_of-append (run ∷ a) b = ap (λ r. run.glyphs ++ r) (glyphs_of-append a b) ∙ sym (append_assoc run.glyphs (glyphs_of a) (glyphs_of b))
+
+-- rows behind one row
+pub before_pieces : (front : Row) (rows : List Row) → map glyphs_of (before_each front rows) ≡ map (λ r. glyphs_of front ++ r) (map glyphs_of rows)
+before_pieces front [] = refl
+before_pieces front (row ∷ rows) = ap₂ (λ a b. a ∷ b) (glyphs_of-append front row) (before_pieces front rows)
 
 map-same : (f g : ℕ → Glyph) (from many : ℕ) → ((k : ℕ) → from ≤ k → k < from + many → f k ≡ g k) → map f (range_with_len from many) ≡ map g (range_with_len from many)
 map-same f g from zero h = refl

@@ -25,15 +25,11 @@ use Rattle.miette_snippet_laws.proofs.Bleaching.{filter_bleached, all_filter, ma
 use Rattle.miette_snippet_laws.proofs.CleanTexts.{AreCleanCells, clean_cons, clean_append, clean_replicate, clean_if, clean_range, clean_decimal, clean_characters, clean_cells}
 use Rattle.miette_snippet_laws.proofs.Paling.{bleached, HasCleanParts, PaleRow, PaleRows, pale_nil, pale_cons, pale_append, pale_if, rows_nil, rows_cons, rows_append, pale_styled, pale_blank, pale_number_gutter, pale_other_gutter, pale_break_gutter, pale_closing_rows, pale_marked, all_append, bleached_mark}
 use Rattle.miette_snippet_laws.proofs.CutFading.{cut_bleached, cut_clean, pale_shown, shown_bleached, shown_clean}
-use Rattle.miette_snippet_laws.proofs.Flat.{glyphs_of-append}
+use Rattle.miette_snippet_laws.proofs.Flat.{before_pieces}
 
 before_all : (Q : Run → Type 0) (front : Row) (rows : List Row) → AllByRecursion Q front → AllByRecursion (AllByRecursion Q) rows → AllByRecursion (AllByRecursion Q) (before_each front rows)
 before_all Q front [] h k = tt
 before_all Q front (row ∷ rows) h k = (all_append Q front row h k.0, before_all Q front rows h k.1)
-
-before_pieces : (front : Row) (rows : List Row) → map glyphs_of (before_each front rows) ≡ map (λ r. glyphs_of front ++ r) (map glyphs_of rows)
-before_pieces front [] = refl
-before_pieces front (row ∷ rows) = ap₂ (λ a b. a ∷ b) (glyphs_of-append front row) (before_pieces front rows)
 
 record IsCleanRefusal (refused : Refusal) : Type 0 where
   pub label : IsCleanLabel refused.label

@@ -4,3 +4,4 @@ pub mod Nesting
 pub mod ChainLaws
 pub mod TreeSizes
 pub mod Readings
+pub mod Written

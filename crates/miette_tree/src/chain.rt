@@ -183,7 +183,7 @@ impl<D: Diagnostic, S: SourceCode> Report<D, S> {
         Chain {
             at: Some(self),
             count,
-            texts: first_texts(texts_of(at), usize::MAX - count),
+            texts: first_texts(cause_texts(at), usize::MAX - count),
         }
     }
 }
@@ -198,14 +198,15 @@ impl<D: Diagnostic, S: SourceCode> Report<D, S> {
         while let Cause::Diagnostic(next) = at.cause() {
             at = next;
         }
-        match texts_of(at).split_last() {
+        match cause_texts(at).split_last() {
             Some((last, _)) => last.as_str(),
             None => at.message(),
         }
     }
 }
 
-fn texts_of<D: Diagnostic, S: SourceCode>(report: &Report<D, S>) -> &[String]
+/// The causes of a report that are texts, none where its cause is a diagnostic.
+pub fn cause_texts<D: Diagnostic, S: SourceCode>(report: &Report<D, S>) -> &[String]
     ensures { map string_bytes result.now ≡ texts_below (cause_of (tree_of D.meaning S.source report.now)) }
 {
     match report.cause() {

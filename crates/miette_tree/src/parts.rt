@@ -1,14 +1,14 @@
 //! Parts of a report, as handlers ask for them.
 
-ghost use Rattle.std.specs.Prelude.{◌≡◌, map, string_bytes};
+ghost use Rattle.std.specs.Prelude.{◌≡◌};
 ghost use Rattle.std.specs.Option.{option_map};
-ghost use Rattle.miette_tree.specs.rules.Chain.{texts_below};
 ghost use Rattle.miette_tree.specs.views.Owned.{shown_source};
 ghost use Rattle.miette_tree.specs.rules.DiagnosticParts.{given_labels, severity_text, severity_title};
 ghost use Rattle.miette_tree.specs.views.Report.{tree_of};
-ghost use Rattle.miette_tree.specs.rules.Tree.{cause_of, effective, head, source_of};
+ghost use Rattle.miette_tree.specs.rules.Tree.{effective, head, source_of};
 
-use crate::report::{Cause, Report, SourceRef};
+pub use crate::chain::cause_texts;
+use crate::report::{Report, SourceRef};
 use miette_protocol::protocol::{Diagnostic, LabeledSpan, Severity};
 use miette_protocol::source::SourceCode;
 
@@ -32,16 +32,6 @@ pub fn labels_of<D: Diagnostic, S: SourceCode>(report: &Report<D, S>) -> &[Label
     ensures { result.now ≡ given_labels (head (tree_of D.meaning S.source report.now)).labels }
 {
     report.labels().unwrap_or(&[])
-}
-
-/// The causes of a report that are texts, none where its cause is a diagnostic.
-pub fn cause_texts<D: Diagnostic, S: SourceCode>(report: &Report<D, S>) -> &[String]
-    ensures { map string_bytes result.now ≡ texts_below (cause_of (tree_of D.meaning S.source report.now)) }
-{
-    match report.cause() {
-        Cause::Texts(texts) => texts,
-        _ => &[],
-    }
 }
 
 /// The name of a severity, `error` where there is none.

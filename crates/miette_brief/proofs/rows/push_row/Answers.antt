@@ -3,7 +3,8 @@ use Rattle.std.specs.Prelude.{option_copied}
 use Rattle.std.proofs.lemmas.Result.{on_ok_weaker}
 use Rattle.miette_brief.specs.rules.Rows.{place_text, kind_text, one_row}
 use Rattle.miette_brief.specs.steps.Conversions.{kind_of}
-use Rattle.miette_brief.proofs.Putting.{row_put, where_written}
+use Rattle.miette_tree.proofs.Written.{where_written}
+use Rattle.miette_brief.proofs.Putting.{row_put}
 use Rattle.miette_brief.proofs.rows.push_row.Goals as goal
 
 pub returns : goal.returns

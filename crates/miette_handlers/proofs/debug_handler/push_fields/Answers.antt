@@ -1,6 +1,7 @@
 use Rattle.std.proofs.lemmas.Result.{on_ok_weaker}
 use Rattle.miette_tree.specs.views.Report.{tree_of}
-use Rattle.miette_handlers.proofs.Fields.{fields_put, where_written}
+use Rattle.miette_tree.proofs.Written.{where_written}
+use Rattle.miette_handlers.proofs.Fields.{fields_put}
 use Rattle.miette_handlers.proofs.debug_handler.push_fields.Goals as goal
 
 pub returns : goal.returns

@@ -4,7 +4,7 @@ use Rattle.std.proofs.lemmas.Result.{on_ok_weaker}
 use Rattle.miette_tree.specs.rules.Tree.{trees}
 use Rattle.miette_tree.specs.views.Owned.{shown_source}
 use Rattle.miette_tree.specs.views.Report.{tree_of}
-use Rattle.miette_json.proofs.JsonJoined.{where_written}
+use Rattle.miette_tree.proofs.Written.{where_written}
 use Rattle.miette_json.proofs.JsonAnswers.{none_so_far, one_more, all_written, at_the_end, report_written, RelatedSoFar}
 use Rattle.miette_tree.proofs.TreeSizes.{tree_size, trees_size, one_falls}
 use Rattle.miette_tree.proofs.Nesting.{next_of}

@@ -3,7 +3,8 @@ use Rattle.miette_json.specs.rules.Json.{json_text}
 use Rattle.miette_json.specs.rules.JsonReport.{span_json}
 use Rattle.miette_json.specs.steps.JsonParts.{label_start}
 use Rattle.std.proofs.lemmas.Result.{on_ok_weaker}
-use Rattle.miette_json.proofs.JsonJoined.{step, last_step, where_written, label_parts}
+use Rattle.miette_tree.proofs.Written.{where_written}
+use Rattle.miette_json.proofs.JsonJoined.{step, last_step, label_parts}
 use Rattle.miette_json.proofs.report.push_label.Goals as goal
 
 pub returns : goal.returns

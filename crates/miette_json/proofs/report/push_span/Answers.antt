@@ -1,7 +1,8 @@
 use Rattle.std.proofs.Common.{ap, ◌∙◌, ◌++◌, string_bytes, codes}
 use Rattle.std.proofs.lemmas.Result.{on_ok_weaker}
 use Rattle.miette_json.specs.rules.Json.{numeral, quoted_text}
-use Rattle.miette_json.proofs.JsonJoined.{span_parts, where_written}
+use Rattle.miette_tree.proofs.Written.{where_written}
+use Rattle.miette_json.proofs.JsonJoined.{span_parts}
 use Rattle.miette_json.proofs.report.push_span.Goals as goal
 
 pub returns : goal.returns

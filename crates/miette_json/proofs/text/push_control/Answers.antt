@@ -1,5 +1,5 @@
 use Rattle.std.proofs.lemmas.Result.{on_ok_weaker}
-use Rattle.miette_json.proofs.JsonJoined.{where_written}
+use Rattle.miette_tree.proofs.Written.{where_written}
 use Rattle.miette_json.proofs.JsonSpelled.{control_written}
 use Rattle.miette_json.proofs.text.push_control.Goals as goal
 

@@ -3,7 +3,8 @@ use Rattle.std.specs.Prelude.{decimal}
 use Rattle.std.proofs.lemmas.Result.{on_ok_weaker}
 use Rattle.miette_narrated.specs.rules.Lines.{decoded_text}
 use Rattle.miette_narrated.specs.steps.Conversions.{narrated_line}
-use Rattle.miette_narrated.proofs.Putting.{line_put, where_written}
+use Rattle.miette_tree.proofs.Written.{where_written}
+use Rattle.miette_narrated.proofs.Putting.{line_put}
 use Rattle.miette_narrated.proofs.lines.push_line.Goals as goal
 
 pub returns : goal.returns

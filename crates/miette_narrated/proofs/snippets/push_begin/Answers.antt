@@ -2,7 +2,8 @@ use Rattle.std.proofs.Common.{ap, ◌∙◌, ◌++◌, ◌+◌, string_bytes, co
 use Rattle.std.specs.Prelude.{decimal}
 use Rattle.std.proofs.lemmas.Result.{on_ok_weaker}
 use Rattle.miette_narrated.specs.rules.Snippets.{name_text}
-use Rattle.miette_narrated.proofs.Putting.{begin_put, where_written}
+use Rattle.miette_tree.proofs.Written.{where_written}
+use Rattle.miette_narrated.proofs.Putting.{begin_put}
 use Rattle.miette_narrated.proofs.snippets.push_begin.Goals as goal
 
 pub returns : goal.returns

@@ -1,6 +1,7 @@
 use Rattle.std.proofs.Common.{string_bytes}
 use Rattle.std.proofs.lemmas.Result.{on_ok_weaker}
-use Rattle.miette_narrated.proofs.Putting.{row_put, where_written}
+use Rattle.miette_tree.proofs.Written.{where_written}
+use Rattle.miette_narrated.proofs.Putting.{row_put}
 use Rattle.miette_narrated.proofs.words.push_row.Goals as goal
 
 pub returns : goal.returns
