@@ -1,6 +1,6 @@
 //! The outermost report, from its header to its footer.
 
-ghost use Rattle.std.specs.Prelude.{◌≡◌, [], IfOk, OnOk, false};
+ghost use Rattle.std.specs.Prelude.{◌≡◌, IfOk, OnOk, false};
 ghost use Rattle.miette_graphical.specs.rules.PossibleAnswers.{IsAskedReport};
 ghost use Rattle.miette_tree.specs.views.Handler.{AppendsOne};
 ghost use Rattle.miette_graphical.specs.rules.PrintedDiagnostics.{all_read, diagnostics_of};
@@ -49,28 +49,6 @@ fn push_root_causes<D: Diagnostic, S: SourceCode, H: Highlighter>(
     push_causes(pen, settings, report.severity(), source, report, out)
 }
 
-// Appends the parts of the outermost report, from its header to its footer, to a text that has none yet.
-fn push_parts<D: Diagnostic, S: SourceCode, H: Highlighter>(
-    pen: &mut Pen<H>,
-    settings: Settings<'_>,
-    report: &Report<D, S>,
-    out: &mut Output,
-) -> Result<(), RenderError>
-    requires empty { out.old ≡ [] }
-    ensures ok { OnOk result (IsAskedReport drawn_rows (settings_of settings.entry)
-        (leaves_plain H.is_blank pen.old.highlighter)
-        (AreCallsOn H.may_follow pen.old.highlighter pen.new.highlighter) (tree_of D.meaning S.source report.now)
-        out.new) }
-    ensures refused { (result ≡ Err RenderError.Refused) →
-        all_read (diagnostics_of (settings_of settings.entry) (tree_of D.meaning S.source report.now)) ≡ false }
-    ensures stays { leaves_plain H.is_blank pen.new.highlighter ≡ leaves_plain H.is_blank pen.old.highlighter }
-{
-    push_start(pen.alloc, settings, report, out)?;
-    push_root_causes(pen, settings, report, out)?;
-    push_below(pen, settings, report.source_code(), report, out)?;
-    Ok(push_footer(pen.alloc, settings, out)?)
-}
-
 /// The outermost report, from its header to its footer.
 pub fn report_output<D: Diagnostic, S: SourceCode, H: Highlighter>(
     pen: &mut Pen<H>,
@@ -86,6 +64,9 @@ pub fn report_output<D: Diagnostic, S: SourceCode, H: Highlighter>(
 {
     let mut text = Output::for_text(pen.alloc);
     text.reserve(' ', SMALL)?;
-    push_parts(pen, settings, report, &mut text)?;
+    push_start(pen.alloc, settings, report, &mut text)?;
+    push_root_causes(pen, settings, report, &mut text)?;
+    push_below(pen, settings, report.source_code(), report, &mut text)?;
+    push_footer(pen.alloc, settings, &mut text)?;
     Ok(text)
 }

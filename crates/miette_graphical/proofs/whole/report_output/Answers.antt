@@ -1,4 +1,4 @@
-use Rattle.std.proofs.Common.{◌≡◌, ◌++◌, refl, subst, option_map, false, rules, List}
+use Rattle.std.proofs.Common.{◌≡◌, ◌∙◌, ◌++◌, refl, subst, option_map, false, rules, List}
 use Rattle.miette_runs.specs.rules.Runs.{print}
 use Rattle.miette_tree.specs.rules.Tree.{head, source_of}
 use Rattle.miette_graphical.specs.rules.DiagnosticText.{header}
@@ -12,7 +12,7 @@ use Rattle.miette_graphical.specs.rules.PrintedDiagnostics.{all_read}
 use Rattle.miette_graphical.specs.rules.Snippets.{drawn_rows}
 use Rattle.miette_graphical.specs.steps.SettingsView.{settings_of}
 use Rattle.miette_graphical.proofs.Steps.{report_whole, root_causes_fail, root_below_fails}
-use Rattle.miette_graphical.proofs.whole.push_parts.Goals as goal
+use Rattle.miette_graphical.proofs.whole.report_output.Goals as goal
 use Rattle.miette_graphical.specs.steps.PrintedParts.{printed_inner}
 
 pub returns-in_err-push_root_causes-clause-refused : goal.returns-in_err-push_root_causes-clause-refused
@@ -39,5 +39,5 @@ returns-clause-ok g c =
     let below : AppendsOne (IsBelow drawn_rows s blank (λ calls. Leads mid calls now) (source_of value) value) caused drawn =
     subst (λ o. AppendsOne (IsBelow drawn_rows s blank (λ calls. Leads mid calls now) o value) caused drawn) c.source_code.ensures
     (subst (λ b. AppendsOne (IsBelow drawn_rows s b (λ calls. Leads mid calls now) source value) caused drawn) c.push_root_causes.ensures.stays c.in_ok-push_below.ensures.ok) in
-    report_whole drawn_rows s blank begun mid now value c.args.out.now (c.args.out.now ++ print (header s (head value))) c.push_start.new.out caused drawn c.push_footer.new.out
-    c.requires.empty refl c.in_ok-push_start.ensures c.in_ok-push_root_causes.ensures.ok below c.in_ok-push_footer.ensures
+    report_whole drawn_rows s blank begun mid now value c.reserve.new.self (c.reserve.new.self ++ print (header s (head value))) c.push_start.new.out caused drawn c.push_footer.new.out
+    (c.in_ok-reserve.ensures ∙ c.for_text-text.ensures) refl c.in_ok-push_start.ensures c.in_ok-push_root_causes.ensures.ok below c.in_ok-push_footer.ensures
