@@ -5,6 +5,8 @@ use Rattle.miette.specs.rules.Choice.{is_graphical}
 use Rattle.miette.specs.rules.Options.{Options}
 use Rattle.miette.specs.declared.options.handler.MietteHandler.TheVariants as handler
 use Rattle.miette_style.specs.declared.theme.Terminal.{Terminal}
+use Rattle.miette_protocol.specs.declared.error.RenderError.{RenderError}
+use Rattle.miette_protocol.specs.declared.error.RenderError.TheVariants as errors
 use Rattle.miette_tree.specs.rules.Tree.{Tree}
 use Rattle.miette_brief.specs.rules.PossibleAnswers as briefly
 use Rattle.miette_brief.specs.rules.Report as brief
@@ -96,6 +98,16 @@ brief-refuses {H} h s t is refused =
     let here : MayRefuse {H = H} (chosen.Built (handler.Brief s)) t = refused in
     subst (λ (k : JobHandler H). MayRefuse k t) (sym is) here
 
+pub narrated-refuses : {H : Type 0} (h : JobHandler H) (s : narrated.NarrationSettings) (t : Tree) → h ≡ chosen.Built (handler.Narrated s) → report_accepted t ≡ false → MayRefuse h t
+narrated-refuses {H} h s t is refused =
+    let here : MayRefuse {H = H} (chosen.Built (handler.Narrated s)) t = refused in
+    subst (λ (k : JobHandler H). MayRefuse k t) (sym is) here
+
+-- one that fails only for want of memory refuses none
+pub never-refuses : {A X : Type 0} (r : Result A RenderError) → OnErr r (r ≡ Err errors.Memory) → r ≡ Err errors.Refused → X
+never-refuses (Ok x) memory refused = cc
+never-refuses (Err e) memory refused = let same = sym memory ∙ refused in cc
+
 -- the text where it was appended to none
 pub text-given : {A E F Z : Type 0} (rendered : Result A E) (result : Result (String Z) F) (text : String Z) (old : List ℕ) (P : List ℕ → Type 0) → OnOk rendered (AppendsOne P old (string_bytes text))
     → IfOk result (λ it. (it ≡ text) × OnErr rendered ⊥) → old ≡ [] → IfOk result (λ it. P (string_bytes it))
@@ -103,6 +115,12 @@ text-given (Ok x) (Ok it) text old P one is none = subst (λ s. P (string_bytes 
 text-given (Err e) (Ok it) text old P one is none = absurd is.1
 text-given (Ok x) (Err f) text old P one is none = tt
 text-given (Err e) (Err f) text old P one is none = tt
+
+-- the text where the handler's answer and its text go on under other names
+pub handed-on : {A E F Z : Type 0} (given rendered : Result A E) (result : Result (String Z) F) (out text : String Z) (old : List ℕ) (P : List ℕ → Type 0) → OnOk given (AppendsOne P old (string_bytes out)) → rendered ≡ given → text ≡ out
+    → IfOk result (λ it. (it ≡ text) × OnErr rendered ⊥) → old ≡ [] → IfOk result (λ it. P (string_bytes it))
+handed-on given rendered result out text old P one is_given is_out ended none =
+    text-given rendered result text old P (subst (λ r. OnOk r (AppendsOne P old (string_bytes text))) (sym is_given) (subst (λ s. OnOk given (AppendsOne P old (string_bytes s))) (sym is_out) one)) ended none
 
 -- ---- what was asked for
 

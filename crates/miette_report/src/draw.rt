@@ -11,6 +11,8 @@ ghost use Rattle.miette_report.specs.rules.Words.{AreDrawWords, IsNoDrawCall};
 ghost use Rattle.miette_report.specs.steps.DrawCalls.{CallPictures};
 
 use crate::device::Device;
+/// An earlier name of `Fault`.
+pub use crate::fault::Fault as DrawError;
 use crate::fault::{Fault, Program};
 use crate::picture::picture_over;
 use crate::whole::{read_whole, write_whole};

@@ -7,6 +7,8 @@ ghost use Rattle.miette_report.specs.rules.Job.{IsDescription, IsRefused};
 ghost use Rattle.miette_report.specs.rules.Faults.{status_of};
 
 pub use crate::arguments::Arguments;
+/// An earlier name of `Arguments`.
+pub use crate::arguments::Arguments as Settings;
 use crate::device::Device;
 use crate::fault::Program;
 pub use crate::fault::{Fault, Fault as JobError, Fault as WordsFault};

@@ -1,7 +1,6 @@
 //! The handler that a job is asked for.
 
-ghost use Rattle.std.specs.Prelude.{◌≡◌, ◌⊎◌, IfOk, OnErr, OnOk, string_bytes};
-ghost use Rattle.miette_tree.specs.views.Handler.{AppendsOne};
+ghost use Rattle.std.specs.Prelude.{◌≡◌, ◌⊎◌, IfOk, OnErr, string_bytes};
 ghost use Rattle.miette_tree.specs.views.Report.{tree_of};
 ghost use Rattle.miette_tree.specs.rules.Reads.{AlwaysReads};
 ghost use Rattle.miette_report.specs.steps.JobHandler.{IsAsked, IsGiven, MayRefuse, Stays};
@@ -59,29 +58,6 @@ fn text_or_fault(rendered: Result<(), RenderError>, text: String) -> Result<Stri
 }
 
 impl<H: Highlighter> JobHandler<H> {
-    /// Appends the text of a report whose sources always read.
-    fn push_rendered(&mut self, report: &Report, out: &mut String) -> Result<(), RenderError>
-        requires reads { AlwaysReads (tree_of ⟦<Box<dyn Diagnostic> as Diagnostic>⟧.meaning
-            ⟦<Box<dyn SourceCode> as SourceCode>⟧.source report.now) }
-        ensures ok { OnOk result (AppendsOne (IsGiven H.is_blank self.old
-            (tree_of ⟦<Box<dyn Diagnostic> as Diagnostic>⟧.meaning ⟦<Box<dyn SourceCode> as SourceCode>⟧.source
-            report.now)) (string_bytes out.old) (string_bytes out.new)) }
-        ensures refused { (result ≡ Err RenderError.Refused) →
-            MayRefuse self.old (tree_of ⟦<Box<dyn Diagnostic> as Diagnostic>⟧.meaning
-            ⟦<Box<dyn SourceCode> as SourceCode>⟧.source report.now) }
-        ensures stays { Stays H.is_blank self.old self.new }
-    {
-        match self {
-            JobHandler::Json => JSONReportHandler::new().render_report(report, out),
-            JobHandler::Debug => DebugReportHandler::new().render_report(report, out),
-            JobHandler::Built(MietteHandler::Graphical(handler)) => handler.debug(report, out),
-            JobHandler::Built(MietteHandler::Narrated(handler)) => handler.render_report(
-                report, out,
-            ),
-            JobHandler::Built(MietteHandler::Brief(handler)) => handler.render_report(report, out),
-        }
-    }
-
     /// The text of a report whose sources always read.
     pub(crate) fn render(&mut self, alloc: Global, report: &Report) -> Result<String, Fault>
         requires reads { AlwaysReads (tree_of ⟦<Box<dyn Diagnostic> as Diagnostic>⟧.meaning
@@ -96,7 +72,19 @@ impl<H: Highlighter> JobHandler<H> {
         ensures stays { Stays H.is_blank self.old self.new }
     {
         let mut text = String::new(alloc);
-        let rendered = self.push_rendered(report, &mut text);
+        let rendered = match self {
+            JobHandler::Json => JSONReportHandler::new().render_report(report, &mut text),
+            JobHandler::Debug => DebugReportHandler::new().render_report(report, &mut text),
+            JobHandler::Built(MietteHandler::Graphical(handler)) => {
+                handler.debug(report, &mut text)
+            }
+            JobHandler::Built(MietteHandler::Narrated(handler)) => {
+                handler.render_report(report, &mut text)
+            }
+            JobHandler::Built(MietteHandler::Brief(handler)) => {
+                handler.render_report(report, &mut text)
+            }
+        };
         text_or_fault(rendered, text)
     }
 

@@ -6,6 +6,10 @@ ghost use Rattle.miette_report.specs.views.Device.{TakesBeginning};
 
 use crate::device::Device;
 use crate::fault::Fault;
+/// An earlier name of `Fault`.
+pub use crate::fault::Fault as ReadError;
+/// An earlier name of `Fault`.
+pub use crate::fault::Fault as WriteError;
 use std::alloc::Global;
 use std::io::{Read, Write};
 
