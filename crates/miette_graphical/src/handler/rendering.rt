@@ -165,7 +165,7 @@ impl<H: Highlighter> GraphicalReportHandler<H> {
         ensures marks { let tree = tree_of ⟦<Box<dyn Diagnostic> as Diagnostic>⟧.meaning
             ⟦<Box<dyn SourceCode> as SourceCode>⟧.source report.now in
             OnOk result (AllByRecursion (MarksAreApart self.old.settings) (diagnostics_of self.old.settings tree)) }
-        // each line that is cut shows what is near its marks, and is no wider than that needs,
+        // each line that is cut shows what is near its marks, in a bounded number of columns,
         ensures cuts { let tree = tree_of ⟦<Box<dyn Diagnostic> as Diagnostic>⟧.meaning
             ⟦<Box<dyn SourceCode> as SourceCode>⟧.source report.now in
             OnOk result (AllByRecursion (CutsAreExact self.old.settings) (diagnostics_of self.old.settings tree)) }
