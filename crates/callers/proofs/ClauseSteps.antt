@@ -4,7 +4,7 @@ use Rattle.std.specs.List.{AllByRecursion}
 use Rattle.std.specs.Str.{chars}
 use Rattle.bstr.specs.Utf8.{pieces_from}
 use Rattle.unicode_width.specs.Width.{char_width}
-use Rattle.miette_newlines.specs.rules.Lines.{ends_line, line_of}
+use Rattle.miette_source_lines.specs.rules.Lines.{ends_line, line_of}
 use Rattle.miette_tree.specs.rules.Tree.{Tree}
 use Rattle.miette_style.specs.rules.Themes.{characters_of, styles_of, theme_of, ansi_styles, no_styles, unicode_characters}
 use Rattle.miette_style.specs.declared.theme.GraphicalTheme.{GraphicalTheme}
@@ -20,7 +20,7 @@ use Rattle.miette_graphical.specs.views.Handling.{Handling, draws_plain, without
 use Rattle.miette_runs.specs.rules.Sequences.{erase}
 use Rattle.miette_text.specs.rules.ColouredTexts.{AppendsErasing}
 use Rattle.callers.specs.Known.{HasOwnMark, ShowsBothLines, TextHangs, in_colours, plain, warning_tree}
-use Rattle.miette_lines.specs.views.GivenLabels.{width_of}
+use Rattle.miette_labels.specs.views.GivenLabels.{width_of}
 
 -- ---- how the handlers are set
 

@@ -5,8 +5,8 @@ use Rattle.miette_protocol.specs.views.Meaning.{Label}
 use Rattle.miette_protocol.specs.rules.Reading.{Source, named_source, plain_source}
 use Rattle.miette_tree.specs.rules.Tree.{Tree, alone, with_source}
 use Rattle.miette_style.specs.rules.Themes.{ansi_styles, no_styles, unicode_characters}
-use Rattle.miette_snippets.specs.rules.Marks.{Mark}
-use Rattle.miette_snippets.specs.rules.Numbers.{ranges}
+use Rattle.miette_snippet_rules.specs.rules.Marks.{Mark}
+use Rattle.miette_snippet_rules.specs.rules.Numbers.{ranges}
 use Rattle.miette_graphical.specs.rules.Settings.{Settings, default_settings}
 use Rattle.miette_graphical.specs.laws.Headline.{AreOwnMarks, ShowsRanges, SnippetHangs, groups_of, marks_under}
 use Rattle.miette_graphical.specs.laws.Headline.{shown_lines}

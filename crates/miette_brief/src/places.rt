@@ -2,7 +2,7 @@
 
 ghost use Rattle.std.specs.Prelude.{◌≡◌, ◌<◌, ◌+◌, false, Some, None, IfOk, OnOk, map, length, option_map};
 ghost use Rattle.miette_tree.specs.views.Owned.{shown_source};
-ghost use Rattle.miette_lines.specs.rules.Groups.{in_order};
+ghost use Rattle.miette_labels.specs.rules.Groups.{in_order};
 ghost use Rattle.miette_brief.specs.rules.Rows.{nowhere};
 ghost use Rattle.miette_brief.specs.rules.Places.{label_place as place_of_label};
 ghost use Rattle.std.specs.List.{All};
@@ -11,11 +11,11 @@ ghost use Rattle.miette_brief.specs.steps.Reads.{IsUnread, IsReadAt, IsBegin, Is
 ghost use Rattle.miette_brief.specs.steps.Reads.{IsCausePlace};
 ghost use Rattle.miette_brief.specs.rules.Places.{span_place as begin_of_span, primary_span as primary_of};
 ghost use Rattle.miette_protocol.specs.rules.Reading.{IsAccepted};
-ghost use Rattle.miette_lines.specs.views.GivenLabels.{label_at};
+ghost use Rattle.miette_labels.specs.views.GivenLabels.{label_at};
 ghost use Rattle.miette_brief.specs.steps.Conversions.{place_of};
 
 use crate::rows::{Place, Position};
-use miette_lines::order::{Turn, by_offset};
+use miette_labels::order::{Turn, by_offset};
 use miette_protocol::error::RenderError;
 use miette_protocol::protocol::{LabeledSpan, SourceOffset, SourceSpan};
 use miette_protocol::source::{MietteSpanContents, SourceCode};

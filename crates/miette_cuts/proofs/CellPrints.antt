@@ -5,16 +5,16 @@ use Rattle.std.proofs.lemmas.Bool.Decides.{nat_tests}
 use Rattle.std.proofs.lemmas.List.{at_drop_more, at_drop_all, map-append}
 use Rattle.std.proofs.lemmas.Bool.{eq-eqb}
 use Rattle.miette_style.specs.declared.style.Style.{Style}
-use Rattle.miette_lines.specs.rules.Answers.{Highlight}
+use Rattle.miette_labels.specs.rules.Answers.{Highlight}
 use Rattle.miette_page.specs.rules.Rows.{Glyph}
 use Rattle.miette_style.specs.rules.Styles.{plain}
-use Rattle.miette_snippets.specs.rules.PrintedCells.{printed_glyphs, printed_cells, cells_within, cells_beyond, text_bytes, line_runs}
-use Rattle.miette_lines.specs.rules.Cells.{Cell}
+use Rattle.miette_snippet_rules.specs.rules.PrintedCells.{printed_glyphs, printed_cells, cells_within, cells_beyond, text_bytes, line_runs}
+use Rattle.miette_labels.specs.rules.Cells.{Cell}
 use Rattle.miette_page.specs.views.Tokens.{Token, begins, row_tokens, text_tokens}
 use Rattle.miette_cuts.specs.steps.CellTokens.{cells_tokens}
-use Rattle.miette_snippets.specs.rules.Highlighting.{highlight_of}
+use Rattle.miette_snippet_rules.specs.rules.Highlighting.{highlight_of}
 use Rattle.miette_page.proofs.Paging.{told_append, put_append, put_nil}
-use Rattle.miette_snippets.proofs.Telling.{then}
+use Rattle.miette_snippet_rules.proofs.Telling.{then}
 
 -- a cell
 pub codes_of_tab : (n : ℕ) → replicate n 32 ≡ map (λ (p : Glyph). p.code) (replicate n (record { code = 32; columns = 1 }))

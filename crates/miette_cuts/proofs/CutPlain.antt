@@ -11,21 +11,21 @@ use Rattle.miette_style.specs.rules.Styles.{plain}
 use Rattle.miette_page.specs.rules.Rows.{Glyph, Run}
 use Rattle.miette_page.specs.views.Tokens.{begins, row_tokens, styled_tokens, text_tokens}
 use Rattle.miette_page.proofs.Paging.{put_append, put_nil}
-use Rattle.miette_lines.specs.rules.Cells.{Cell, cells_from, characters}
-use Rattle.miette_lines.specs.views.GivenLabels.{width_of}
-use Rattle.miette_lines.specs.views.Printable.{is_printable, plain_cells}
-use Rattle.miette_lines.proofs.Numbers.{by_cases}
-use Rattle.miette_lines.proofs.Plaining.{plain_byte, printable_taken}
-use Rattle.miette_snippets.specs.rules.PrintedCells.{line_runs, printed_glyphs, printed_cells, text_bytes}
-use Rattle.miette_snippets.specs.rules.CutLines.{agree, cut_line, dots, ends, is_near, is_near_after, is_within, stretches}
-use Rattle.miette_snippets.proofs.Telling.{then, told-append}
+use Rattle.miette_labels.specs.rules.Cells.{Cell, cells_from, characters}
+use Rattle.miette_labels.specs.views.GivenLabels.{width_of}
+use Rattle.miette_labels.specs.views.Printable.{is_printable, plain_cells}
+use Rattle.miette_labels.proofs.Numbers.{by_cases}
+use Rattle.miette_labels.proofs.Plaining.{plain_byte, printable_taken}
+use Rattle.miette_snippet_rules.specs.rules.PrintedCells.{line_runs, printed_glyphs, printed_cells, text_bytes}
+use Rattle.miette_snippet_rules.specs.rules.CutLines.{agree, cut_line, dots, ends, is_near, is_near_after, is_within, stretches}
+use Rattle.miette_snippet_rules.proofs.Telling.{then, told-append}
 use Rattle.miette_cuts.specs.declared.stretch.Stretch.{Stretch as MadeStretch}
 use Rattle.miette_cuts.specs.views.Cuts.{measure, is_kept, cut_cells}
 use Rattle.miette_cuts.specs.steps.Cut.{lone, onto_made, even, cell_at, plain_run, plain_told}
 use Rattle.miette_cuts.proofs.CutStretches.{cut_is, cut_none, first_stretch, near_found, near_later, near_nowhere, onto-same}
 use Rattle.miette_cuts.proofs.Plaining.{plain_columns, printable_cells}
-use Rattle.miette_snippets.specs.rules.Highlighting.{highlight_of}
-use Rattle.miette_snippets.specs.rules.Marks.{Mark}
+use Rattle.miette_snippet_rules.specs.rules.Highlighting.{highlight_of}
+use Rattle.miette_snippet_rules.specs.rules.Marks.{Mark}
 use Rattle.miette_style.specs.declared.style.Style.{Style}
 use Rattle.miette_cuts.proofs.Untabbing.{printed_code}
 

@@ -7,14 +7,14 @@ use Rattle.miette_style.specs.rules.Styles.{plain}
 use Rattle.miette_page.specs.rules.Rows.{Run}
 use Rattle.miette_page.specs.views.Tokens.{begins, row_tokens, text_tokens}
 use Rattle.miette_page.proofs.Paging.{put_append, put_nil}
-use Rattle.miette_lines.specs.rules.Answers.{Highlight}
-use Rattle.miette_lines.specs.rules.Cells.{Cell}
-use Rattle.miette_lines.proofs.Numbers.{by_cases}
-use Rattle.miette_snippets.specs.rules.Highlighting.{highlight_of}
-use Rattle.miette_snippets.specs.rules.Marks.{Mark}
-use Rattle.miette_snippets.specs.rules.PrintedCells.{cells_width, cells_within, cells_beyond, line_runs}
-use Rattle.miette_snippets.specs.rules.CutLines.{Stretch, agree, bytes_in, cut_line, cut_runs, dots, ends, is_near, is_near_after, onto_stretches, pieces_within, shown_runs, stretches}
-use Rattle.miette_snippets.proofs.Telling.{then, told-append}
+use Rattle.miette_labels.specs.rules.Answers.{Highlight}
+use Rattle.miette_labels.specs.rules.Cells.{Cell}
+use Rattle.miette_labels.proofs.Numbers.{by_cases}
+use Rattle.miette_snippet_rules.specs.rules.Highlighting.{highlight_of}
+use Rattle.miette_snippet_rules.specs.rules.Marks.{Mark}
+use Rattle.miette_snippet_rules.specs.rules.PrintedCells.{cells_width, cells_within, cells_beyond, line_runs}
+use Rattle.miette_snippet_rules.specs.rules.CutLines.{Stretch, agree, bytes_in, cut_line, cut_runs, dots, ends, is_near, is_near_after, onto_stretches, pieces_within, shown_runs, stretches}
+use Rattle.miette_snippet_rules.proofs.Telling.{then, told-append}
 use Rattle.miette_cuts.specs.declared.stretch.Stretch.{Stretch as MadeStretch}
 use Rattle.miette_cuts.specs.views.Cuts.{measure, is_kept, cut_cells, made_runs}
 use Rattle.miette_cuts.specs.steps.CellTokens.{cells_tokens}

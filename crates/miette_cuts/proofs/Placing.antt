@@ -2,12 +2,12 @@
 use Rattle.std.proofs.Common.{ℕ, ◌+◌, ◌<◌, ◌≤◌, ◌≡◌, List, [], ◌∷◌, ◌++◌, map, length, drop, get_or, append_assoc, append-nil, sym, ap, ◌∙◌}
 use Rattle.std.proofs.lemmas.List.{at_drop_more, at_drop_all, map-append}
 use Rattle.miette_protocol.specs.views.Meaning.{Label}
-use Rattle.miette_lines.specs.declared.sweep.PlacedLabel.{PlacedLabel}
+use Rattle.miette_labels.specs.declared.sweep.PlacedLabel.{PlacedLabel}
 use Rattle.miette_cuts.specs.declared.marks.Mark.{Mark as MadeMark}
-use Rattle.miette_lines.specs.rules.Labels.{DrawnLabel}
-use Rattle.miette_snippets.specs.rules.Marks.{Text, Mark, mark_from, mark_until, mark_anchor, marks_from}
-use Rattle.miette_lines.specs.views.Sweeping.{label_of, nothing}
-use Rattle.miette_lines.specs.views.GivenLabels.{drawn_of}
+use Rattle.miette_labels.specs.rules.Labels.{DrawnLabel}
+use Rattle.miette_snippet_rules.specs.rules.Marks.{Text, Mark, mark_from, mark_until, mark_anchor, marks_from}
+use Rattle.miette_labels.specs.views.Sweeping.{label_of, nothing}
+use Rattle.miette_labels.specs.views.GivenLabels.{drawn_of}
 use Rattle.miette_cuts.specs.views.Marks.{mark_of}
 
 abbrev pub no_mark : MadeMark

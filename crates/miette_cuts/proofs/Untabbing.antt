@@ -15,13 +15,13 @@ use Rattle.miette_style.specs.declared.style.Style.{Style}
 use Rattle.miette_style.specs.rules.Styles.{plain}
 use Rattle.miette_page.specs.rules.Rows.{Glyph}
 use Rattle.miette_page.specs.views.Tokens.{begins, row_tokens, text_tokens}
-use Rattle.miette_lines.specs.rules.Cells.{Character, Cell, cells_from, characters, width_at, hides_next}
-use Rattle.miette_lines.specs.views.GivenLabels.{width_of}
-use Rattle.miette_lines.proofs.Stepping.{made}
-use Rattle.miette_lines.proofs.Numbers.{by_cases}
-use Rattle.miette_snippets.specs.rules.PrintedCells.{printed_glyphs, printed_cells, line_runs}
-use Rattle.miette_snippets.specs.rules.Highlighting.{highlight_of}
-use Rattle.miette_snippets.proofs.Telling.{then}
+use Rattle.miette_labels.specs.rules.Cells.{Character, Cell, cells_from, characters, width_at, hides_next}
+use Rattle.miette_labels.specs.views.GivenLabels.{width_of}
+use Rattle.miette_labels.proofs.Stepping.{made}
+use Rattle.miette_labels.proofs.Numbers.{by_cases}
+use Rattle.miette_snippet_rules.specs.rules.PrintedCells.{printed_glyphs, printed_cells, line_runs}
+use Rattle.miette_snippet_rules.specs.rules.Highlighting.{highlight_of}
+use Rattle.miette_snippet_rules.proofs.Telling.{then}
 use Rattle.miette_cuts.specs.steps.CellTokens.{cells_tokens}
 use Rattle.miette_cuts.specs.steps.Tabs.{is_untabbed}
 

@@ -1,13 +1,13 @@
 //! Characters as they print.
 
 ghost use Rattle.std.specs.Prelude.{◌≡◌, map, OnOk};
-ghost use Rattle.miette_snippets.specs.rules.PrintedCells.{printed_glyphs, cells_within, cells_beyond};
+ghost use Rattle.miette_snippet_rules.specs.rules.PrintedCells.{printed_glyphs, cells_within, cells_beyond};
 ghost use Rattle.miette_page.specs.views.Printouts.{◌⊕◌};
 ghost use Rattle.miette_page.specs.views.Tokens.{text_tokens};
 ghost use Rattle.miette_cuts.specs.steps.CellTokens.{cells_tokens};
-ghost use Rattle.miette_lines.specs.views.Walking.{cell_of};
+ghost use Rattle.miette_labels.specs.views.Walking.{cell_of};
 
-use miette_lines::cells::{Cell, Walk};
+use miette_labels::cells::{Cell, Walk};
 use miette_page::canvas::Canvas;
 use miette_page::page::Page;
 use std::alloc::AllocError;

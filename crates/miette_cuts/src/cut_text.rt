@@ -3,15 +3,15 @@
 ghost use Rattle.std.specs.Prelude.{◌≡◌, ◌∷◌, [], map, take, drop, if◌then◌else◌, IfOk, OnOk};
 ghost use Rattle.miette_page.specs.views.Printouts.{◌⊕◌};
 ghost use Rattle.miette_page.specs.views.Tokens.{row_tokens};
-ghost use Rattle.miette_snippets.specs.rules.CutLines.{dots, pieces_within};
-ghost use Rattle.miette_snippets.specs.rules.Highlighting.{highlight_of};
-ghost use Rattle.miette_snippets.specs.rules.PrintedCells.{cells_within, cells_beyond, line_runs};
+ghost use Rattle.miette_snippet_rules.specs.rules.CutLines.{dots, pieces_within};
+ghost use Rattle.miette_snippet_rules.specs.rules.Highlighting.{highlight_of};
+ghost use Rattle.miette_snippet_rules.specs.rules.PrintedCells.{cells_within, cells_beyond, line_runs};
 ghost use Rattle.miette_cuts.specs.views.Cuts.{cut_cells, is_kept};
 ghost use Rattle.miette_cuts.specs.steps.CellTokens.{cells_tokens};
 
 use crate::cells::push_cell;
 use crate::stretch::{Stretch, is_shown};
-use miette_lines::cells::Walk;
+use miette_labels::cells::Walk;
 use miette_page::canvas::Canvas;
 use miette_page::page::{PLAIN, Page};
 use miette_style::style::Style;

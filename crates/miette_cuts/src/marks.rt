@@ -3,20 +3,20 @@
 ghost use Rattle.std.specs.Prelude.{◌≡◌, ◌+◌, ◌^◌, ◌<◌, [], ℕ, List, map, length, false, IfOk, MatchOption};
 ghost use Rattle.std.specs.List.{All};
 ghost use Rattle.miette_protocol.specs.views.Meaning.{Label};
-ghost use Rattle.miette_snippets.specs.rules.PrintedCells.{cells_width, first_column as first_of_cells};
-ghost use Rattle.miette_snippets.specs.rules.PrintedCells.{last_column as last_of_cells};
-ghost use Rattle.miette_lines.specs.rules.Cells.{cells_from, characters};
-ghost use Rattle.miette_snippets.specs.rules.Marks.{label_from, mark_from, mark_until, mark_anchor, marks};
-ghost use Rattle.miette_snippets.specs.rules.SnippetLayout.{text_of_cells};
-ghost use Rattle.miette_lines.specs.views.Sweeping.{label_of};
-ghost use Rattle.miette_lines.specs.views.GivenLabels.{drawn_of, width_of};
+ghost use Rattle.miette_snippet_rules.specs.rules.PrintedCells.{cells_width, first_column as first_of_cells};
+ghost use Rattle.miette_snippet_rules.specs.rules.PrintedCells.{last_column as last_of_cells};
+ghost use Rattle.miette_labels.specs.rules.Cells.{cells_from, characters};
+ghost use Rattle.miette_snippet_rules.specs.rules.Marks.{label_from, mark_from, mark_until, mark_anchor, marks};
+ghost use Rattle.miette_snippet_rules.specs.rules.SnippetLayout.{text_of_cells};
+ghost use Rattle.miette_labels.specs.views.Sweeping.{label_of};
+ghost use Rattle.miette_labels.specs.views.GivenLabels.{drawn_of, width_of};
 ghost use Rattle.miette_cuts.specs.views.Marks.{mark_of, IsAnchored};
 ghost use Rattle.miette_cuts.specs.steps.Stops.{ComeFrom, IsStop};
 
-use miette_lines::cells::Walk;
-use miette_lines::plain::all_printable;
-use miette_lines::sweep::PlacedLabel;
-use miette_newlines::lines::LineOfText;
+use miette_labels::cells::Walk;
+use miette_labels::plain::all_printable;
+use miette_labels::sweep::PlacedLabel;
+use miette_source_lines::lines::LineOfText;
 use miette_style::sums::sum;
 use std::alloc::{AllocError, Global};
 use std::marker::Model;
@@ -46,9 +46,9 @@ pub(crate) struct Columns<'a> {
 impl<'a> Model for Columns<'a> {
     ghost use Rattle.std.specs.Prelude.{◌++◌};
     ghost use Rattle.std.specs.List.{All};
-    ghost use Rattle.miette_snippets.specs.rules.Marks.{Text};
+    ghost use Rattle.miette_snippet_rules.specs.rules.Marks.{Text};
     ghost use Rattle.miette_cuts.specs.steps.Stops.{IsStop};
-    ghost use Rattle.miette_lines.specs.views.Printable.{plain_cells};
+    ghost use Rattle.miette_labels.specs.views.Printable.{plain_cells};
 
     ghost Value = { Text };
 

@@ -4,8 +4,8 @@ ghost use Rattle.std.specs.Prelude.{◌≡◌, ◌+◌, ◌^◌, ◌<◌, map, l
 ghost use Rattle.std.specs.Option.{option_map};
 ghost use Rattle.miette_page.specs.views.Printouts.{◌⊕◌};
 ghost use Rattle.miette_page.specs.views.Tokens.{row_tokens};
-ghost use Rattle.miette_snippets.specs.rules.Highlighting.{highlight_of};
-ghost use Rattle.miette_snippets.specs.rules.PrintedCells.{line_runs};
+ghost use Rattle.miette_snippet_rules.specs.rules.Highlighting.{highlight_of};
+ghost use Rattle.miette_snippet_rules.specs.rules.PrintedCells.{line_runs};
 ghost use Rattle.miette_cuts.specs.views.Cuts.{made_runs};
 ghost use Rattle.miette_cuts.specs.views.LineTexts.{text_cells};
 
@@ -15,8 +15,8 @@ use crate::line_text::LineText;
 use crate::plain_cut::push_plain_cut;
 use crate::stretch::Cut;
 use crate::tabs::{all_tabbed, push_tabbed, text_without_tabs};
-use miette_lines::cells::Walk;
-use miette_lines::plain::all_printable;
+use miette_labels::cells::Walk;
+use miette_labels::plain::all_printable;
 use miette_page::canvas::Canvas;
 use miette_page::page::{PLAIN, Page};
 use miette_style::style::Style;

@@ -4,17 +4,17 @@ use Rattle.miette_page.specs.views.Printouts.{Printout, ◌⊕◌}
 use Rattle.std.proofs.Common.{ℕ, ◌+◌, ◌-◌, ◌<◌, ◌≡◌, Bool, true, false, cond, List, [], ◌∷◌, ◌++◌, map, length, drop, get_or, refl, sym, ap, ◌∙◌}
 use Rattle.std.specs.Prelude.{not, ◌&&◌}
 use Rattle.std.proofs.lemmas.List.{at_drop_more, map-append}
-use Rattle.miette_newlines.specs.rules.Lines.{Line}
+use Rattle.miette_source_lines.specs.rules.Lines.{Line}
 use Rattle.miette_protocol.specs.views.Meaning.{Label}
-use Rattle.miette_lines.specs.declared.sweep.PlacedLabel.{PlacedLabel}
+use Rattle.miette_labels.specs.declared.sweep.PlacedLabel.{PlacedLabel}
 use Rattle.miette_page.specs.rules.Rows.{Row}
-use Rattle.miette_lines.specs.rules.Labels.{DrawnLabel, starts_on, ends_on, cut_at_lf, closing_labels}
-use Rattle.miette_snippets.specs.rules.Gutters.{other_gutter, open_gutter, part_run, closing_parts, closing_rows}
-use Rattle.miette_snippets.specs.rules.SnippetLayout.{before_each}
-use Rattle.miette_lines.specs.views.GivenLabels.{drawn_of}
-use Rattle.miette_lines.specs.views.Sweeping.{nothing}
+use Rattle.miette_labels.specs.rules.Labels.{DrawnLabel, starts_on, ends_on, cut_at_lf, closing_labels}
+use Rattle.miette_snippet_rules.specs.rules.Gutters.{other_gutter, open_gutter, part_run, closing_parts, closing_rows}
+use Rattle.miette_snippet_rules.specs.rules.SnippetLayout.{before_each}
+use Rattle.miette_labels.specs.views.GivenLabels.{drawn_of}
+use Rattle.miette_labels.specs.views.Sweeping.{nothing}
 use Rattle.miette_page.specs.views.Tokens.{Token, row_end, row_tokens, rows_tokens, styled_tokens, text_tokens}
-use Rattle.miette_snippets.proofs.Telling.{then, told_as, run_more, styled_row}
+use Rattle.miette_snippet_rules.proofs.Telling.{then, told_as, run_more, styled_row}
 use Rattle.miette_drawing.proofs.Texting.{before_mapped, row_done, rows_then, parts_then}
 use Rattle.miette_drawing.proofs.Parting.{cut_some}
 use Rattle.miette_style.specs.rules.Themes.{Characters}

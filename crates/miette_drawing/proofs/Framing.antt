@@ -7,12 +7,12 @@ use Rattle.std.proofs.lemmas.Bool.Decides.{nat_tests}
 use Rattle.miette_style.specs.declared.style.Style.{Style}
 use Rattle.miette_page.specs.rules.Rows.{Row, styled_run}
 use Rattle.miette_style.specs.rules.Styles.{plain}
-use Rattle.miette_snippets.specs.rules.Drawing.{blank}
-use Rattle.miette_snippets.specs.rules.Frames.{SnippetSettings, Place, place_text}
+use Rattle.miette_snippet_rules.specs.rules.Drawing.{blank}
+use Rattle.miette_snippet_rules.specs.rules.Frames.{SnippetSettings, Place, place_text}
 use Rattle.miette_drawing.specs.steps.FrameParts.{corner_row}
 use Rattle.miette_page.specs.views.Tokens.{begins, row_tokens, styled_tokens, text_tokens}
 use Rattle.miette_page.proofs.Paging.{told_append}
-use Rattle.miette_snippets.proofs.Telling.{ascii_chars, then, told_as, run_one, run_more, blank_row, styled_told, styled_row}
+use Rattle.miette_snippet_rules.proofs.Telling.{ascii_chars, then, told_as, run_one, run_more, blank_row, styled_told, styled_row}
 use Rattle.miette_drawing.proofs.Texting.{parts_then}
 
 -- bytes below 128 are their own characters

@@ -4,20 +4,20 @@ use Rattle.miette_page.specs.views.Printouts.{Printout, ◌⊕◌}
 use Rattle.std.proofs.Common.{ℕ, ◌+◌, ◌-◌, ◌<◌, ◌≤◌, ◌≡◌, Bool, true, false, cond, List, [], ◌∷◌, ◌++◌, map, length, drop, get_or, replicate, refl, sym, ap, ◌∙◌}
 use Rattle.std.specs.Prelude.{chars, ◌==◌, Option, Some}
 use Rattle.std.proofs.lemmas.List.{at_drop_more, at_drop_all}
-use Rattle.miette_newlines.specs.rules.Lines.{Line}
+use Rattle.miette_source_lines.specs.rules.Lines.{Line}
 use Rattle.miette_protocol.specs.views.Meaning.{Label}
 use Rattle.miette_style.specs.declared.style.Style.{Style}
-use Rattle.miette_lines.specs.declared.sweep.PlacedLabel.{PlacedLabel}
+use Rattle.miette_labels.specs.declared.sweep.PlacedLabel.{PlacedLabel}
 use Rattle.miette_page.specs.rules.Rows.{Row, styled_run}
 use Rattle.miette_style.specs.rules.Styles.{plain}
-use Rattle.miette_lines.specs.rules.Labels.{DrawnLabel, starts_on, ends_on, parts_of, cut_at_lf}
-use Rattle.miette_snippets.specs.rules.Drawing.{blank}
-use Rattle.miette_snippets.specs.rules.Gutters.{number_gutter, other_gutter, open_gutter, ending_corner, arrow}
-use Rattle.miette_lines.specs.views.GivenLabels.{drawn_of}
-use Rattle.miette_lines.specs.views.Sweeping.{nothing}
+use Rattle.miette_labels.specs.rules.Labels.{DrawnLabel, starts_on, ends_on, parts_of, cut_at_lf}
+use Rattle.miette_snippet_rules.specs.rules.Drawing.{blank}
+use Rattle.miette_snippet_rules.specs.rules.Gutters.{number_gutter, other_gutter, open_gutter, ending_corner, arrow}
+use Rattle.miette_labels.specs.views.GivenLabels.{drawn_of}
+use Rattle.miette_labels.specs.views.Sweeping.{nothing}
 use Rattle.miette_page.specs.views.Tokens.{Token, row_tokens, styled_tokens, text_tokens}
-use Rattle.miette_lines.proofs.Numbers.{by_cases}
-use Rattle.miette_snippets.proofs.Telling.{styled_told, styled_row, blank_row, then, run_one}
+use Rattle.miette_labels.proofs.Numbers.{by_cases}
+use Rattle.miette_snippet_rules.proofs.Telling.{styled_told, styled_row, blank_row, then, run_one}
 use Rattle.miette_style.specs.rules.Themes.{Characters}
 use Rattle.miette_style.specs.rules.Lists.{onto}
 

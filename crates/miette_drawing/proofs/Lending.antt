@@ -8,46 +8,46 @@ use Rattle.std.proofs.lemmas.List.{drop-take, length-take, length-map, drop_all}
 use Rattle.std.proofs.Math.Seq.{take-take}
 use Rattle.std.proofs.lemmas.Bool.{ne_eqb, eqb-true, eqb-false}
 use Rattle.std.proofs.lemmas.List.Elements.{All-tail}
-use Rattle.miette_newlines.specs.rules.Lines as P
-use Rattle.miette_newlines.specs.rules.Lines.{Line}
+use Rattle.miette_source_lines.specs.rules.Lines as P
+use Rattle.miette_source_lines.specs.rules.Lines.{Line}
 use Rattle.miette_protocol.specs.views.Meaning.{Label}
 use Rattle.miette_protocol.specs.rules.Reading.{Span, Source, Contents, data_start, data_end}
 use Rattle.miette_style.specs.declared.style.Style.{Style}
 use Rattle.miette_highlight.specs.rules.HighlighterCalls.{Call, Leads, asked, restarted}
-use Rattle.miette_lines.specs.declared.reading.ReadLabel.{ReadLabel}
-use Rattle.miette_newlines.specs.declared.lines.LineOfText.{LineOfText}
-use Rattle.miette_lines.specs.declared.sweep.PlacedLabel.{PlacedLabel}
-use Rattle.miette_lines.specs.rules.Answers.{Highlight, first_of}
+use Rattle.miette_labels.specs.declared.reading.ReadLabel.{ReadLabel}
+use Rattle.miette_source_lines.specs.declared.lines.LineOfText.{LineOfText}
+use Rattle.miette_labels.specs.declared.sweep.PlacedLabel.{PlacedLabel}
+use Rattle.miette_labels.specs.rules.Answers.{Highlight, first_of}
 use Rattle.miette_page.specs.rules.Rows.{Row}
-use Rattle.miette_lines.specs.rules.Cells.{Cell, characters, cells_from}
-use Rattle.miette_lines.specs.rules.Contexts.{contents, lines_of_contents}
-use Rattle.miette_snippets.specs.rules.Folds.{Spread}
-use Rattle.miette_snippets.specs.rules.Frames.{SnippetSettings, Place, top_row, top_row_of, bottom_row, number_width, width_of_lines}
-use Rattle.miette_lines.specs.views.GivenLabels.{drawn_of, label_at}
-use Rattle.miette_lines.specs.rules.Groups.{in_order, spans_of}
-use Rattle.miette_snippets.specs.rules.Gutters.{gutter_columns, most_labels}
-use Rattle.miette_lines.specs.rules.Labels.{DrawnLabel, is_one_line, is_multi_line, one_line, multi_line}
-use Rattle.miette_snippets.specs.rules.SnippetLayout.{cells_of, line_or_break, line_or_break_of, rows_of_lines, left_out, body_rows}
-use Rattle.miette_snippets.specs.rules.Highlighting.{EachHasPieces, ArePieces, decoded_text, texts_of, line_calls, piece_of}
+use Rattle.miette_labels.specs.rules.Cells.{Cell, characters, cells_from}
+use Rattle.miette_labels.specs.rules.Contexts.{contents, lines_of_contents}
+use Rattle.miette_snippet_rules.specs.rules.Folds.{Spread}
+use Rattle.miette_snippet_rules.specs.rules.Frames.{SnippetSettings, Place, top_row, top_row_of, bottom_row, number_width, width_of_lines}
+use Rattle.miette_labels.specs.views.GivenLabels.{drawn_of, label_at}
+use Rattle.miette_labels.specs.rules.Groups.{in_order, spans_of}
+use Rattle.miette_snippet_rules.specs.rules.Gutters.{gutter_columns, most_labels}
+use Rattle.miette_labels.specs.rules.Labels.{DrawnLabel, is_one_line, is_multi_line, one_line, multi_line}
+use Rattle.miette_snippet_rules.specs.rules.SnippetLayout.{cells_of, line_or_break, line_or_break_of, rows_of_lines, left_out, body_rows}
+use Rattle.miette_snippet_rules.specs.rules.Highlighting.{EachHasPieces, ArePieces, decoded_text, texts_of, line_calls, piece_of}
 use Rattle.miette_drawing.specs.views.SnippetRows.{cells_in, text_in, texts_in, lent_rows, lent_snippet, PutsRows}
 use Rattle.miette_drawing.specs.steps.Widths.{width_of_count, gutter_of}
-use Rattle.miette_lines.specs.views.Placing.{end_drawn, is_told, placed_from}
-use Rattle.miette_lines.specs.views.Reads.{IsRead}
-use Rattle.miette_newlines.specs.views.Walking.{line_of_text}
-use Rattle.miette_lines.specs.views.Sweeping.{is_one, is_multi, nothing, start_at, AreSorted}
-use Rattle.miette_lines.specs.views.LabelCounts.{most_multi}
+use Rattle.miette_labels.specs.views.Placing.{end_drawn, is_told, placed_from}
+use Rattle.miette_labels.specs.views.Reads.{IsRead}
+use Rattle.miette_source_lines.specs.views.Walking.{line_of_text}
+use Rattle.miette_labels.specs.views.Sweeping.{is_one, is_multi, nothing, start_at, AreSorted}
+use Rattle.miette_labels.specs.views.LabelCounts.{most_multi}
 use Rattle.miette_page.specs.views.Tokens.{rows_tokens}
-use Rattle.miette_lines.proofs.Numbers.{by_cases}
-use Rattle.miette_lines.proofs.Sources.{IsCut, lines_from}
-use Rattle.miette_lines.proofs.Lines.{cut_lines, cut-le}
-use Rattle.miette_lines.proofs.Segments.{drop_drop}
-use Rattle.miette_lines.proofs.Bridge.{lines_same}
-use Rattle.miette_snippets.proofs.Bodies.{order_same}
-use Rattle.miette_snippets.proofs.Ends.{end_told}
-use Rattle.miette_snippets.proofs.Merging.{sorted}
-use Rattle.miette_lines.proofs.Merging.{IsAscending}
-use Rattle.miette_lines.proofs.Refusing.{read_of}
-use Rattle.miette_snippets.proofs.Telling.{told_rows-append}
+use Rattle.miette_labels.proofs.Numbers.{by_cases}
+use Rattle.miette_labels.proofs.Sources.{IsCut, lines_from}
+use Rattle.miette_labels.proofs.Lines.{cut_lines, cut-le}
+use Rattle.miette_labels.proofs.Segments.{drop_drop}
+use Rattle.miette_labels.proofs.Bridge.{lines_same}
+use Rattle.miette_snippet_rules.proofs.Bodies.{order_same}
+use Rattle.miette_snippet_rules.proofs.Ends.{end_told}
+use Rattle.miette_snippet_rules.proofs.Merging.{sorted}
+use Rattle.miette_labels.proofs.Merging.{IsAscending}
+use Rattle.miette_labels.proofs.Refusing.{read_of}
+use Rattle.miette_snippet_rules.proofs.Telling.{told_rows-append}
 
 -- a part of a part
 pub slices : (bytes : List ℕ) (from to a b : ℕ) → from ≤ a → a ≤ b → b ≤ from + (to - from) → slice_range (slice_range bytes from to) (a - from) (b - from) ≡ slice_range bytes a b

@@ -1,17 +1,17 @@
 -- Lines that are left out behind one that is left out have no rows, and none is asked for without a highlighter.
 use Rattle.miette_page.specs.views.Printouts.{Printout, ◌⊕◌}
 use Rattle.std.proofs.Common.{ℕ, ◌+◌, ◌-◌, ◌≤◌, ◌≡◌, Bool, true, false, List, [], ◌∷◌, ◌++◌, length, drop, refl, sym, ap, ◌∙◌, subst, arith}
-use Rattle.miette_newlines.specs.rules.Lines as P
-use Rattle.miette_newlines.specs.rules.Lines.{Line}
+use Rattle.miette_source_lines.specs.rules.Lines as P
+use Rattle.miette_source_lines.specs.rules.Lines.{Line}
 use Rattle.miette_highlight.specs.rules.HighlighterCalls.{Call}
 use Rattle.miette_page.specs.views.Tokens.{rows_tokens}
-use Rattle.miette_lines.specs.rules.Labels.{DrawnLabel}
-use Rattle.miette_lines.proofs.Sources.{IsCut}
-use Rattle.miette_lines.proofs.Lines.{cut-le}
-use Rattle.miette_snippets.specs.rules.Folds.{Spread, leaves_out}
-use Rattle.miette_snippets.specs.rules.Frames.{SnippetSettings}
-use Rattle.miette_snippets.specs.rules.Highlighting.{ArePieces, decoded_text, line_calls}
-use Rattle.miette_snippets.specs.rules.SnippetLayout.{line_or_break, left_out}
+use Rattle.miette_labels.specs.rules.Labels.{DrawnLabel}
+use Rattle.miette_labels.proofs.Sources.{IsCut}
+use Rattle.miette_labels.proofs.Lines.{cut-le}
+use Rattle.miette_snippet_rules.specs.rules.Folds.{Spread, leaves_out}
+use Rattle.miette_snippet_rules.specs.rules.Frames.{SnippetSettings}
+use Rattle.miette_snippet_rules.specs.rules.Highlighting.{ArePieces, decoded_text, line_calls}
+use Rattle.miette_snippet_rules.specs.rules.SnippetLayout.{line_or_break, left_out}
 use Rattle.miette_folds.specs.declared.folds.LineStart.{LineStart}
 use Rattle.miette_drawing.specs.views.SnippetRows.{cells_in, text_in, texts_in, lent_rows}
 use Rattle.miette_drawing.proofs.Lending.{AreLinedBefore, AreLined}

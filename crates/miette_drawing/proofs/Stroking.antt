@@ -11,14 +11,14 @@ use Rattle.miette_style.specs.declared.style.Style.{Style}
 use Rattle.miette_cuts.specs.declared.marks.Mark.{Mark as MadeMark}
 use Rattle.miette_page.specs.rules.Rows.{glyph_of}
 use Rattle.miette_style.specs.rules.Styles.{plain}
-use Rattle.miette_lines.specs.rules.Labels.{parts_of, cut_at_lf, is_empty}
-use Rattle.miette_snippets.specs.rules.Marks.{Mark}
-use Rattle.miette_snippets.specs.rules.Drawing.{mark_code, mark_run, mark_runs, code_with_parts}
+use Rattle.miette_labels.specs.rules.Labels.{parts_of, cut_at_lf, is_empty}
+use Rattle.miette_snippet_rules.specs.rules.Marks.{Mark}
+use Rattle.miette_snippet_rules.specs.rules.Drawing.{mark_code, mark_run, mark_runs, code_with_parts}
 use Rattle.miette_cuts.specs.views.Marks.{mark_of}
 use Rattle.miette_page.specs.views.Tokens.{Token, begins, row_tokens, run_tokens, styled_tokens, text_tokens}
-use Rattle.miette_snippets.proofs.Numbers.{range_with_len-append}
-use Rattle.miette_lines.proofs.Numbers.{by_cases}
-use Rattle.miette_snippets.proofs.Telling.{then, told_as, run_one, run_more, blank_told}
+use Rattle.miette_snippet_rules.proofs.Numbers.{range_with_len-append}
+use Rattle.miette_labels.proofs.Numbers.{by_cases}
+use Rattle.miette_snippet_rules.proofs.Telling.{then, told_as, run_one, run_more, blank_told}
 use Rattle.miette_style.specs.rules.Themes.{Characters}
 use Rattle.miette_style.specs.rules.Lists.{onto}
 

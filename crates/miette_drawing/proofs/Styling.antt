@@ -1,18 +1,18 @@
 -- Pieces of a highlighter, and rows of lines that are left plain.
 use Rattle.std.proofs.Common.{ℕ, ◌+◌, ◌≡◌, ◌∙◌, ◌++◌, length, Bool, true, false, List, [], ◌∷◌, map, refl, sym, ap, ap₂, subst, drop}
-use Rattle.miette_newlines.specs.rules.Lines.{Line}
+use Rattle.miette_source_lines.specs.rules.Lines.{Line}
 use Rattle.miette_protocol.specs.views.Meaning.{Label}
 use Rattle.miette_protocol.specs.rules.Reading.{Span, Source, Contents}
 use Rattle.miette_highlight.specs.rules.Pieces.{CutsLine, Piece}
 use Rattle.miette_highlight.specs.rules.HighlighterCalls.{Call, asked, restarted, Leads}
-use Rattle.miette_lines.specs.rules.Answers.{Highlight, first_of}
-use Rattle.miette_lines.specs.rules.Contexts.{contents, lines_of_contents}
-use Rattle.miette_snippets.specs.rules.Folds.{Spread}
-use Rattle.miette_snippets.specs.rules.Frames.{SnippetSettings, top_row, bottom_row, number_width}
-use Rattle.miette_snippets.specs.rules.Gutters.{gutter_columns}
-use Rattle.miette_snippets.specs.rules.Highlighting.{ArePieces, EachHasPieces, SnippetsHavePieces, highlight_of, piece_of, texts_of, line_calls, group_calls}
-use Rattle.miette_lines.specs.rules.Labels.{DrawnLabel}
-use Rattle.miette_snippets.specs.rules.SnippetLayout.{line_or_break, rows_of_lines, left_out, cells_of, drawn_labels, all_snippets, place_of}
+use Rattle.miette_labels.specs.rules.Answers.{Highlight, first_of}
+use Rattle.miette_labels.specs.rules.Contexts.{contents, lines_of_contents}
+use Rattle.miette_snippet_rules.specs.rules.Folds.{Spread}
+use Rattle.miette_snippet_rules.specs.rules.Frames.{SnippetSettings, top_row, bottom_row, number_width}
+use Rattle.miette_snippet_rules.specs.rules.Gutters.{gutter_columns}
+use Rattle.miette_snippet_rules.specs.rules.Highlighting.{ArePieces, EachHasPieces, SnippetsHavePieces, highlight_of, piece_of, texts_of, line_calls, group_calls}
+use Rattle.miette_labels.specs.rules.Labels.{DrawnLabel}
+use Rattle.miette_snippet_rules.specs.rules.SnippetLayout.{line_or_break, rows_of_lines, left_out, cells_of, drawn_labels, all_snippets, place_of}
 
 pub same_pieces : (ps : List Piece) → map piece_of (map highlight_of ps) ≡ ps
 same_pieces [] = refl

@@ -8,13 +8,13 @@ use Rattle.miette_style.specs.declared.style.Style.{Style}
 use Rattle.miette_cuts.specs.declared.marks.Mark.{Mark as MadeMark}
 use Rattle.miette_page.specs.rules.Rows.{Row, styled_run}
 use Rattle.miette_style.specs.rules.Styles.{plain}
-use Rattle.miette_lines.specs.rules.Labels.{cut_at_lf}
-use Rattle.miette_snippets.specs.rules.Marks.{Mark}
-use Rattle.miette_snippets.specs.rules.Drawing.{blank, lead_runs, text_row, beside, corner_of_several, rows_of_parts, rows_below}
-use Rattle.miette_snippets.specs.rules.SnippetLayout.{before_each}
+use Rattle.miette_labels.specs.rules.Labels.{cut_at_lf}
+use Rattle.miette_snippet_rules.specs.rules.Marks.{Mark}
+use Rattle.miette_snippet_rules.specs.rules.Drawing.{blank, lead_runs, text_row, beside, corner_of_several, rows_of_parts, rows_below}
+use Rattle.miette_snippet_rules.specs.rules.SnippetLayout.{before_each}
 use Rattle.miette_cuts.specs.views.Marks.{mark_of}
 use Rattle.miette_page.specs.views.Tokens.{Token, row_end, row_tokens, run_tokens, rows_tokens, styled_tokens, text_tokens}
-use Rattle.miette_snippets.proofs.Telling.{then, told_as, run_one, run_more, blank_told, blank_row, styled_told, styled_row, told-append, told_rows-append}
+use Rattle.miette_snippet_rules.proofs.Telling.{then, told_as, run_one, run_more, blank_told, blank_row, styled_told, styled_row, told-append, told_rows-append}
 use Rattle.miette_drawing.proofs.Parting.{cut_some}
 use Rattle.miette_style.specs.rules.Themes.{Characters}
 

@@ -3,22 +3,22 @@
 ghost use Rattle.std.specs.Prelude.{◌≡◌, ◌∷◌, [], not, ◌&&◌, chars, map, OnOk};
 ghost use Rattle.miette_page.specs.views.Printouts.{◌⊕◌};
 ghost use Rattle.miette_page.specs.views.Tokens.{rows_tokens};
-ghost use Rattle.miette_lines.specs.rules.Labels.{starts_on, ends_on, cut_at_lf, closing_labels};
-ghost use Rattle.miette_snippets.specs.rules.Gutters.{closing_parts, closing_rows};
-ghost use Rattle.miette_snippets.specs.rules.Frames.{other_start};
-ghost use Rattle.miette_snippets.specs.rules.SnippetLayout.{before_each};
-ghost use Rattle.miette_lines.specs.views.Sweeping.{label_of};
-ghost use Rattle.miette_lines.specs.views.GivenLabels.{drawn_of};
+ghost use Rattle.miette_labels.specs.rules.Labels.{starts_on, ends_on, cut_at_lf, closing_labels};
+ghost use Rattle.miette_snippet_rules.specs.rules.Gutters.{closing_parts, closing_rows};
+ghost use Rattle.miette_snippet_rules.specs.rules.Frames.{other_start};
+ghost use Rattle.miette_snippet_rules.specs.rules.SnippetLayout.{before_each};
+ghost use Rattle.miette_labels.specs.views.Sweeping.{label_of};
+ghost use Rattle.miette_labels.specs.views.GivenLabels.{drawn_of};
 ghost use Rattle.miette_drawing.specs.steps.Sheets.{settings, multi_labels, closed_line, open_line};
-ghost use Rattle.miette_newlines.specs.views.Walking.{line_of_text};
+ghost use Rattle.miette_source_lines.specs.views.Walking.{line_of_text};
 
 use crate::gutters::{ends, push_open_gutter, push_other_gutter, starts};
 use crate::label_text::{first_part, push_part};
 use crate::sheet::{Outcome, Sheet};
 use crate::texts::push_other_start;
-use miette_lines::drawn_labels::text_of;
-use miette_lines::sweep::PlacedLabel;
-use miette_newlines::lines::LineOfText;
+use miette_labels::drawn_labels::text_of;
+use miette_labels::sweep::PlacedLabel;
+use miette_source_lines::lines::LineOfText;
 use miette_page::canvas::Canvas;
 use miette_page::page::Page;
 

@@ -3,18 +3,18 @@
 ghost use Rattle.std.specs.Prelude.{◌≡◌, ◌++◌, ◌-◌, ◌∷◌, [], replicate, map, OnOk};
 ghost use Rattle.miette_page.specs.views.Printouts.{◌⊕◌};
 ghost use Rattle.miette_page.specs.views.Tokens.{row_tokens, styled_tokens};
-ghost use Rattle.miette_lines.specs.rules.Labels.{starts_on, ends_on};
-ghost use Rattle.miette_lines.specs.views.Sweeping.{label_of};
-ghost use Rattle.miette_snippets.specs.rules.Gutters.{bar, number_gutter, break_gutter, other_gutter};
-ghost use Rattle.miette_snippets.specs.rules.Gutters.{open_gutter, ending_corner};
-ghost use Rattle.miette_lines.specs.views.GivenLabels.{drawn_of};
+ghost use Rattle.miette_labels.specs.rules.Labels.{starts_on, ends_on};
+ghost use Rattle.miette_labels.specs.views.Sweeping.{label_of};
+ghost use Rattle.miette_snippet_rules.specs.rules.Gutters.{bar, number_gutter, break_gutter, other_gutter};
+ghost use Rattle.miette_snippet_rules.specs.rules.Gutters.{open_gutter, ending_corner};
+ghost use Rattle.miette_labels.specs.views.GivenLabels.{drawn_of};
 ghost use Rattle.miette_drawing.specs.steps.Sheets.{settings, multi_labels};
-ghost use Rattle.miette_newlines.specs.views.Walking.{line_of_text};
+ghost use Rattle.miette_source_lines.specs.views.Walking.{line_of_text};
 
 use crate::sheet::{Outcome, Sheet};
-use miette_lines::drawn_labels::text_of;
-use miette_lines::sweep::PlacedLabel;
-use miette_newlines::lines::LineOfText;
+use miette_labels::drawn_labels::text_of;
+use miette_labels::sweep::PlacedLabel;
+use miette_source_lines::lines::LineOfText;
 use miette_page::canvas::Canvas;
 use miette_page::page::{PLAIN, Page};
 use miette_style::style::Style;

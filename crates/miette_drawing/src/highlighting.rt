@@ -1,8 +1,8 @@
 //! What a highlighter answers for the lines of a snippet.
 
 ghost use Rattle.std.specs.Prelude.{◌≡◌, ℕ, List, [], ◌∷◌, true, map, IfOk, if◌then◌else◌};
-ghost use Rattle.miette_snippets.specs.rules.Highlighting.{AreCallsOn, ArePieces, decoded_text};
-ghost use Rattle.miette_snippets.specs.rules.Highlighting.{highlight_of, leaves_plain, follows};
+ghost use Rattle.miette_snippet_rules.specs.rules.Highlighting.{AreCallsOn, ArePieces, decoded_text};
+ghost use Rattle.miette_snippet_rules.specs.rules.Highlighting.{highlight_of, leaves_plain, follows};
 ghost use Rattle.miette_highlight.specs.rules.HighlighterCalls.{Call, Leads, asked, listed_pieces, restarted};
 ghost use Rattle.miette_highlight.specs.rules.Pieces.{CutsLine, plain_pieces};
 

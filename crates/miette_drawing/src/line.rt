@@ -2,21 +2,21 @@
 
 ghost use Rattle.std.specs.Prelude.{◌≡◌, ◌+◌, ◌^◌, ◌<◌, ◌∷◌, [], map, length, IfOk, OnOk, if◌then◌else◌};
 ghost use Rattle.std.specs.List.{All};
-ghost use Rattle.miette_snippets.specs.rules.Marks.{marks};
-ghost use Rattle.miette_snippets.specs.rules.Drawing.{marked_rows};
-ghost use Rattle.miette_snippets.specs.rules.Frames.{number_start};
-ghost use Rattle.miette_snippets.specs.rules.SnippetLayout.{before_each, text_of_cells};
-ghost use Rattle.miette_snippets.specs.rules.SnippetLayout.{break_row, line_or_break_of};
+ghost use Rattle.miette_snippet_rules.specs.rules.Marks.{marks};
+ghost use Rattle.miette_snippet_rules.specs.rules.Drawing.{marked_rows};
+ghost use Rattle.miette_snippet_rules.specs.rules.Frames.{number_start};
+ghost use Rattle.miette_snippet_rules.specs.rules.SnippetLayout.{before_each, text_of_cells};
+ghost use Rattle.miette_snippet_rules.specs.rules.SnippetLayout.{break_row, line_or_break_of};
 ghost use Rattle.miette_page.specs.views.Printouts.{◌⊕◌};
 ghost use Rattle.miette_page.specs.views.Tokens.{row_tokens, rows_tokens};
-ghost use Rattle.miette_snippets.specs.rules.Highlighting.{highlight_of};
+ghost use Rattle.miette_snippet_rules.specs.rules.Highlighting.{highlight_of};
 ghost use Rattle.std.specs.Option.{option_map};
 ghost use Rattle.miette_cuts.specs.views.Cuts.{made_runs};
 ghost use Rattle.miette_cuts.specs.views.LineTexts.{text_cells};
 ghost use Rattle.miette_cuts.specs.views.Marks.{mark_of, IsAnchored};
 ghost use Rattle.miette_drawing.specs.steps.Sheets.{settings, multi_labels, before_marks, number_row, shown_cells};
 ghost use Rattle.miette_drawing.specs.steps.Sheets.{labels_alone};
-ghost use Rattle.miette_newlines.specs.views.Walking.{line_of_text};
+ghost use Rattle.miette_source_lines.specs.views.Walking.{line_of_text};
 
 use crate::closings::push_closings;
 use crate::gutters::{push_break_gutter, push_number_gutter};

@@ -4,15 +4,15 @@ ghost use Rattle.std.specs.Prelude.{◌≡◌, if◌then◌else◌, map, OnOk};
 ghost use Rattle.std.specs.List.{All};
 ghost use Rattle.miette_page.specs.views.Printouts.{◌⊕◌};
 ghost use Rattle.miette_page.specs.views.Tokens.{row_tokens, run_tokens};
-ghost use Rattle.miette_lines.specs.rules.Labels.{is_empty};
-ghost use Rattle.miette_lines.specs.views.GivenLabels.{drawn_of};
-ghost use Rattle.miette_snippets.specs.rules.Drawing.{code_with_parts, mark_run, mark_runs};
+ghost use Rattle.miette_labels.specs.rules.Labels.{is_empty};
+ghost use Rattle.miette_labels.specs.views.GivenLabels.{drawn_of};
+ghost use Rattle.miette_snippet_rules.specs.rules.Drawing.{code_with_parts, mark_run, mark_runs};
 ghost use Rattle.miette_cuts.specs.views.Marks.{mark_of, IsAnchored};
 ghost use Rattle.miette_drawing.specs.steps.Sheets.{settings};
 
 use crate::sheet::{Outcome, Sheet};
 use miette_cuts::marks::Mark;
-use miette_lines::drawn_labels::text_of;
+use miette_labels::drawn_labels::text_of;
 use miette_page::canvas::Canvas;
 use miette_page::page::Page;
 

@@ -4,11 +4,11 @@ ghost use Rattle.std.specs.Prelude.{◌≡◌, ◌+◌, ◌∷◌, [], chars, ma
 ghost use Rattle.std.specs.List.{All};
 ghost use Rattle.miette_page.specs.views.Printouts.{◌⊕◌};
 ghost use Rattle.miette_page.specs.views.Tokens.{row_tokens, rows_tokens};
-ghost use Rattle.miette_lines.specs.rules.Labels.{cut_at_lf};
-ghost use Rattle.miette_snippets.specs.rules.Drawing.{lead_runs, beside, rows_of_parts, rows_below};
-ghost use Rattle.miette_snippets.specs.rules.Frames.{other_start};
-ghost use Rattle.miette_snippets.specs.rules.SnippetLayout.{before_each};
-ghost use Rattle.miette_lines.specs.views.GivenLabels.{drawn_of};
+ghost use Rattle.miette_labels.specs.rules.Labels.{cut_at_lf};
+ghost use Rattle.miette_snippet_rules.specs.rules.Drawing.{lead_runs, beside, rows_of_parts, rows_below};
+ghost use Rattle.miette_snippet_rules.specs.rules.Frames.{other_start};
+ghost use Rattle.miette_snippet_rules.specs.rules.SnippetLayout.{before_each};
+ghost use Rattle.miette_labels.specs.views.GivenLabels.{drawn_of};
 ghost use Rattle.miette_cuts.specs.views.Marks.{mark_of, IsAnchored};
 ghost use Rattle.miette_drawing.specs.steps.Sheets.{settings, before_marks, text_line};
 
@@ -16,7 +16,7 @@ use crate::gutters::push_other_gutter;
 use crate::label_text::first_part;
 use crate::sheet::{Outcome, Sheet};
 use miette_cuts::marks::Mark;
-use miette_lines::drawn_labels::text_of;
+use miette_labels::drawn_labels::text_of;
 use miette_page::canvas::Canvas;
 use miette_page::page::{PLAIN, Page};
 use std::alloc::AllocError;

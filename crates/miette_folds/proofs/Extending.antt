@@ -3,18 +3,18 @@ use Rattle.std.proofs.Common.{ℕ, suc, ◌+◌, ◌-◌, ◌<◌, ◌≤◌, �
 use Rattle.std.specs.List.{AllByRecursion, filter}
 use Rattle.std.proofs.lemmas.Bool.{cases_lt, lt-ltb, ltb-true, ltb-false}
 use Rattle.std.proofs.lemmas.List.{drop_all, length-drop}
-use Rattle.miette_newlines.specs.rules.Lines as P
-use Rattle.miette_newlines.specs.rules.Lines.{Line}
-use Rattle.miette_newlines.specs.declared.lines.LineOfText.{LineOfText}
-use Rattle.miette_newlines.specs.views.Walking.{line_of_text}
-use Rattle.miette_lines.specs.declared.sweep.Bounds.{Bounds}
-use Rattle.miette_lines.specs.declared.sweep.PlacedLabel.{PlacedLabel}
-use Rattle.miette_lines.specs.rules.Labels.{reach}
-use Rattle.miette_lines.specs.views.LabelCounts.{most_multi}
-use Rattle.miette_lines.specs.views.Sweeping.{label_of, line_of_bounds, passes, is_multi, nothing, start_at, AreSorted, IsAt, IsOn}
-use Rattle.miette_lines.proofs.Lines.{cut-le}
-use Rattle.miette_lines.proofs.Sources.{IsCut}
-use Rattle.miette_lines.proofs.Swept.{earlier_multi, inside_past, later_none}
+use Rattle.miette_source_lines.specs.rules.Lines as P
+use Rattle.miette_source_lines.specs.rules.Lines.{Line}
+use Rattle.miette_source_lines.specs.declared.lines.LineOfText.{LineOfText}
+use Rattle.miette_source_lines.specs.views.Walking.{line_of_text}
+use Rattle.miette_labels.specs.declared.sweep.Bounds.{Bounds}
+use Rattle.miette_labels.specs.declared.sweep.PlacedLabel.{PlacedLabel}
+use Rattle.miette_labels.specs.rules.Labels.{reach}
+use Rattle.miette_labels.specs.views.LabelCounts.{most_multi}
+use Rattle.miette_labels.specs.views.Sweeping.{label_of, line_of_bounds, passes, is_multi, nothing, start_at, AreSorted, IsAt, IsOn}
+use Rattle.miette_labels.proofs.Lines.{cut-le}
+use Rattle.miette_labels.proofs.Sources.{IsCut}
+use Rattle.miette_labels.proofs.Swept.{earlier_multi, inside_past, later_none}
 use Rattle.miette_folds.specs.declared.folds.Fold.{Fold}
 use Rattle.miette_folds.specs.declared.folds.LineStart.{LineStart}
 use Rattle.miette_folds.specs.views.Folding.{AreFoldsIn}

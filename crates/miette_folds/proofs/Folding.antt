@@ -1,10 +1,10 @@
 -- Which lines a program leaves out.
 use Rattle.std.proofs.Common.{ℕ, ◌-◌, ◌≡◌, min, Bool, true, false, not, ◌&&◌, ◌||◌, List, [], ◌∷◌, length, map, Some, refl, sym, ap, ◌∙◌}
 use Rattle.std.specs.List.{list_any}
-use Rattle.miette_newlines.specs.rules.Lines as P
-use Rattle.miette_newlines.specs.rules.Lines.{Line, line_of, line_start}
-use Rattle.miette_newlines.proofs.Places.{line_of_cut}
-use Rattle.miette_snippets.specs.rules.Folds.{place_among, is_around, is_near, leaves_out}
+use Rattle.miette_source_lines.specs.rules.Lines as P
+use Rattle.miette_source_lines.specs.rules.Lines.{Line, line_of, line_start}
+use Rattle.miette_source_lines.proofs.Places.{line_of_cut}
+use Rattle.miette_snippet_rules.specs.rules.Folds.{place_among, is_around, is_near, leaves_out}
 use Rattle.miette_folds.specs.declared.folds.Fold.{Fold}
 use Rattle.miette_folds.specs.declared.folds.Spread.{Spread as MadeSpread}
 use Rattle.miette_folds.specs.views.Spreads.{spread_of}

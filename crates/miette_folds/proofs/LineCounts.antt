@@ -1,10 +1,10 @@
 -- How many lines there are: one more than the terminators that end before the last byte.
 use Rattle.std.proofs.Common.{ℕ, suc, ◌+◌, ◌-◌, ◌<◌, ◌≤◌, ◌≡◌, Bool, true, false, cond, List, [], ◌∷◌, length, refl, ap, ◌∙◌, arith}
 use Rattle.std.specs.Prelude.{slice_index}
-use Rattle.miette_newlines.specs.rules.Lines as P
-use Rattle.miette_newlines.specs.rules.Lines.{Line, ends_line, with_byte, line_of}
-use Rattle.miette_newlines.proofs.Places.{line_of-is, line_of_le, line_of_zero}
-use Rattle.miette_newlines.proofs.Scans.{ends_before}
+use Rattle.miette_source_lines.specs.rules.Lines as P
+use Rattle.miette_source_lines.specs.rules.Lines.{Line, ends_line, with_byte, line_of}
+use Rattle.miette_source_lines.proofs.Places.{line_of-is, line_of_le, line_of_zero}
+use Rattle.miette_source_lines.proofs.Scans.{ends_before}
 
 with_byte_length : (b at n : ℕ) (ls : List Line) → length ls ≡ suc n → length (with_byte b at ls) ≡ suc n
 with_byte_length b at n [] h = absurd (cc)

@@ -4,10 +4,10 @@ use Rattle.std.specs.Prelude.{◌==◌, nat_le, count_by, slice_index, slice_ran
 use Rattle.std.proofs.lemmas.Bool.{cases_lt, eqb-true}
 use Rattle.std.proofs.lemmas.List.{drop-drop, drop-take, get_or-drop, get_or_past, length-drop, length-take-le, take_rest}
 use Rattle.std.proofs.lemmas.List.Sums.{sum_by-cons}
-use Rattle.miette_newlines.specs.rules.Lines.{Line, LF, CR, ends_line, is_terminated, lines_from, line_of, line_end}
-use Rattle.miette_newlines.proofs.Scans.{ends_before, ends_by, ends_count, ends_count-lines_from}
-use Rattle.miette_newlines.proofs.Places.{line_of-is, line_of_no, line_of_end, line_end_past, line_start_next, line_start_le, ends_by-le}
-use Rattle.miette_snippets.specs.rules.Folds.{place_among}
+use Rattle.miette_source_lines.specs.rules.Lines.{Line, LF, CR, ends_line, is_terminated, lines_from, line_of, line_end}
+use Rattle.miette_source_lines.proofs.Scans.{ends_before, ends_by, ends_count, ends_count-lines_from}
+use Rattle.miette_source_lines.proofs.Places.{line_of-is, line_of_no, line_of_end, line_end_past, line_start_next, line_start_le, ends_by-le}
+use Rattle.miette_snippet_rules.specs.rules.Folds.{place_among}
 
 -- ---- terminators of a part
 

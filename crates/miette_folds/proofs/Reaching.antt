@@ -2,19 +2,19 @@
 use Rattle.std.proofs.Common.{ℕ, zero, suc, ◌+◌, ◌-◌, ◌≤◌, ◌≡◌, min, max, Bool, true, false, cond, ◌&&◌, List, length, take, drop, get_or, refl, sym, ap, ap₂, ◌∙◌, inl, inr, subst, arith, All}
 use Rattle.std.specs.Prelude.{◌==◌, count_by, slice_index, slice_range}
 use Rattle.std.proofs.lemmas.Bool.{cases_lt, eqb-true}
-use Rattle.miette_newlines.specs.rules.Lines.{LF, CR, is_terminated, lines_from, line_of, line_start, line_end}
-use Rattle.miette_newlines.proofs.Places.{line_of_mono, line_of_start_before, line_start_le, line_end_le, line_end_after, terminators_in-line_of}
+use Rattle.miette_source_lines.specs.rules.Lines.{LF, CR, is_terminated, lines_from, line_of, line_start, line_end}
+use Rattle.miette_source_lines.proofs.Places.{line_of_mono, line_of_start_before, line_start_le, line_end_le, line_end_after, terminators_in-line_of}
 use Rattle.miette_protocol.specs.views.Meaning.{Label}
 use Rattle.miette_protocol.specs.rules.Reading.{Span, Source, Contents, IsAccepted, span_end, splits_crlf, reading_end, data_start, data_end}
 use Rattle.miette_protocol.proofs.Wholes.{offset-le-reading, before_le, after_ge}
-use Rattle.miette_lines.specs.declared.reading.ReadLabel.{ReadLabel}
-use Rattle.miette_lines.specs.rules.Around.{lines_around}
-use Rattle.miette_lines.specs.rules.Contexts.{end_of_span, contents, lines_of_contents}
-use Rattle.miette_lines.specs.views.GivenLabels.{label_at}
-use Rattle.miette_lines.specs.views.Placing.{end_drawn}
-use Rattle.miette_lines.specs.views.Reads.{IsRead, IsLent}
-use Rattle.miette_lines.proofs.Bridge.{some-context}
-use Rattle.miette_snippets.specs.rules.Folds.{place_among}
+use Rattle.miette_labels.specs.declared.reading.ReadLabel.{ReadLabel}
+use Rattle.miette_labels.specs.rules.Around.{lines_around}
+use Rattle.miette_labels.specs.rules.Contexts.{end_of_span, contents, lines_of_contents}
+use Rattle.miette_labels.specs.views.GivenLabels.{label_at}
+use Rattle.miette_labels.specs.views.Placing.{end_drawn}
+use Rattle.miette_labels.specs.views.Reads.{IsRead, IsLent}
+use Rattle.miette_labels.proofs.Bridge.{some-context}
+use Rattle.miette_snippet_rules.specs.rules.Folds.{place_among}
 use Rattle.miette_folds.specs.declared.folds.Spread.{Spread as MadeSpread}
 use Rattle.miette_folds.specs.views.Spreads.{IsNumbered, AreNumbered}
 use Rattle.miette_folds.specs.steps.LineNumbers.{IsLineIn}

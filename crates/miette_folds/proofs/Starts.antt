@@ -5,16 +5,16 @@ use Rattle.std.proofs.lemmas.Bool.{cases_lt}
 use Rattle.std.proofs.lemmas.List.{drop-drop, drop_all, length-drop, length-take-le, take-append-drop}
 use Rattle.std.proofs.lemmas.List.Sums.{count_by-le-length}
 use Rattle.std.proofs.Math.Seq.{drop-nil}
-use Rattle.miette_newlines.specs.rules.Lines as P
-use Rattle.miette_newlines.specs.rules.Lines.{Line, ends_line, with_byte, line_of, line_start}
-use Rattle.miette_newlines.specs.declared.lines.LineOfText.{LineOfText}
-use Rattle.miette_newlines.specs.views.Walking.{line_of_text}
-use Rattle.miette_newlines.proofs.Scans.{after, ends_count-lines_from}
-use Rattle.miette_newlines.proofs.Places.{ends_by-le, line_of-is, line_start-is, line_start_first, line_start_after, line_start_le, line_end_le}
-use Rattle.miette_lines.proofs.Sources.{IsCut}
-use Rattle.miette_lines.proofs.Lines.{cut_lines, cut-le}
-use Rattle.miette_lines.proofs.Bridge.{lines_same}
-use Rattle.miette_snippets.specs.rules.Folds.{place_among}
+use Rattle.miette_source_lines.specs.rules.Lines as P
+use Rattle.miette_source_lines.specs.rules.Lines.{Line, ends_line, with_byte, line_of, line_start}
+use Rattle.miette_source_lines.specs.declared.lines.LineOfText.{LineOfText}
+use Rattle.miette_source_lines.specs.views.Walking.{line_of_text}
+use Rattle.miette_source_lines.proofs.Scans.{after, ends_count-lines_from}
+use Rattle.miette_source_lines.proofs.Places.{ends_by-le, line_of-is, line_start-is, line_start_first, line_start_after, line_start_le, line_end_le}
+use Rattle.miette_labels.proofs.Sources.{IsCut}
+use Rattle.miette_labels.proofs.Lines.{cut_lines, cut-le}
+use Rattle.miette_labels.proofs.Bridge.{lines_same}
+use Rattle.miette_snippet_rules.specs.rules.Folds.{place_among}
 use Rattle.miette_folds.specs.declared.folds.LineStart.{LineStart}
 use Rattle.miette_folds.specs.views.Folding.{start_in}
 use Rattle.miette_folds.specs.views.Gaps.{nearer, further}

@@ -1,20 +1,20 @@
 //! How many lines a snippet has, and how many of its labels lie on one.
 
 ghost use Rattle.std.specs.Prelude.{◌≡◌, ◌+◌, ◌-◌, ◌<◌, ◌≤◌, ◌^◌, ℕ, true, false, drop, length, IfOk};
-ghost use Rattle.miette_lines.specs.views.Sweeping.{IsAt, AreSorted};
-ghost use Rattle.miette_newlines.specs.rules.Lines.{lines_from};
+ghost use Rattle.miette_labels.specs.views.Sweeping.{IsAt, AreSorted};
+ghost use Rattle.miette_source_lines.specs.rules.Lines.{lines_from};
 ghost use Rattle.miette_folds.specs.steps.Counting.{begins_before, next_counted};
-ghost use Rattle.miette_newlines.specs.views.Walking.{line_of_text};
-ghost use Rattle.miette_lines.specs.views.LabelCounts.{most_multi};
+ghost use Rattle.miette_source_lines.specs.views.Walking.{line_of_text};
+ghost use Rattle.miette_labels.specs.views.LabelCounts.{most_multi};
 ghost use Rattle.miette_folds.specs.views.Folding.{AreFoldsIn};
 
 use crate::folds::{Fold, LineStart};
 use crate::gaps::{enter_line, next_start, pass_over};
-use miette_lines::line_sweep::line_at;
-use miette_lines::sweep::{PlacedLabel, Sweep};
-use miette_newlines::find::FindLines;
-use miette_newlines::lines::LineOfText;
-use miette_newlines::scan::Scan;
+use miette_labels::line_sweep::line_at;
+use miette_labels::sweep::{PlacedLabel, Sweep};
+use miette_source_lines::find::FindLines;
+use miette_source_lines::lines::LineOfText;
+use miette_source_lines::scan::Scan;
 use std::alloc::AllocError;
 
 // So many bytes are looked at line by line, which costs less than to count their lines at once.

@@ -2,15 +2,15 @@
 
 ghost use Rattle.std.specs.Prelude.{◌≡◌, ◌+◌, ◌-◌, ◌<◌, ◌^◌, ◌&&◌, ℕ, List, Some, map, length, IfOk};
 ghost use Rattle.std.specs.List.{list_any};
-ghost use Rattle.miette_newlines.specs.rules.Lines.{lines_from};
-ghost use Rattle.miette_newlines.specs.views.Walking.{line_of_text};
-ghost use Rattle.miette_snippets.specs.rules.Folds.{place_among, hides, leaves_out};
+ghost use Rattle.miette_source_lines.specs.rules.Lines.{lines_from};
+ghost use Rattle.miette_source_lines.specs.views.Walking.{line_of_text};
+ghost use Rattle.miette_snippet_rules.specs.rules.Folds.{place_among, hides, leaves_out};
 ghost use Rattle.miette_folds.specs.views.Spreads.{spread_of, place_in, IsNumbered, AreNumbered};
 ghost use Rattle.miette_folds.specs.views.Folding.{start_in, fold_in, is_around_fold};
 ghost use Rattle.miette_folds.specs.steps.Nearness.{is_near_fold};
 
-use miette_newlines::lines::LineOfText;
-use miette_newlines::scan::start_before;
+use miette_source_lines::lines::LineOfText;
+use miette_source_lines::scan::start_before;
 use miette_protocol::source::MietteSpanContents;
 use std::alloc::{AllocError, Global};
 

@@ -2,14 +2,14 @@
 
 ghost use Rattle.std.specs.Prelude.{◌≡◌, ◌+◌, ◌<◌, ◌≤◌, ◌^◌, None, OnOk};
 ghost use Rattle.std.specs.List.{list_any, filter};
-ghost use Rattle.miette_newlines.specs.views.Walking.{line_of_text};
-ghost use Rattle.miette_lines.specs.views.Sweeping.{IsAt, IsOn, AreSorted, is_one, line_of_bounds};
+ghost use Rattle.miette_source_lines.specs.views.Walking.{line_of_text};
+ghost use Rattle.miette_labels.specs.views.Sweeping.{IsAt, IsOn, AreSorted, is_one, line_of_bounds};
 ghost use Rattle.miette_folds.specs.views.Gaps.{nearest, further, nearer_stop, nearest_stop, goes_on, gap_end};
 ghost use Rattle.miette_folds.specs.views.Gaps.{next_start};
 
 use crate::folds::{Fold, LineStart, is_around};
-use miette_lines::sweep::{Bounds, PlacedLabel, Sweep};
-use miette_newlines::lines::LineOfText;
+use miette_labels::sweep::{Bounds, PlacedLabel, Sweep};
+use miette_source_lines::lines::LineOfText;
 use std::alloc::AllocError;
 
 // The nearest beginning of a line so far, if there is one, or this one where it's nearer.

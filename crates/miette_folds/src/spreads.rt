@@ -3,24 +3,24 @@
 ghost use Rattle.std.specs.Prelude.{◌≡◌, ◌≤◌, ◌+◌, ◌-◌, length, map, max, min, unwrap_or, IfOk, if◌then◌else◌};
 ghost use Rattle.miette_folds.specs.views.ReadSpreads.{read_spread, read_spreads, HasLines};
 ghost use Rattle.miette_protocol.specs.rules.Reading.{Source};
-ghost use Rattle.miette_newlines.specs.rules.Lines.{line_of};
-ghost use Rattle.miette_lines.specs.views.Placing.{end_drawn};
-ghost use Rattle.miette_lines.specs.views.GivenLabels.{label_at};
-ghost use Rattle.miette_lines.specs.views.Reads.{IsRead};
-ghost use Rattle.miette_lines.specs.rules.Contexts.{end_of_span};
+ghost use Rattle.miette_source_lines.specs.rules.Lines.{line_of};
+ghost use Rattle.miette_labels.specs.views.Placing.{end_drawn};
+ghost use Rattle.miette_labels.specs.views.GivenLabels.{label_at};
+ghost use Rattle.miette_labels.specs.views.Reads.{IsRead};
+ghost use Rattle.miette_labels.specs.rules.Contexts.{end_of_span};
 ghost use Rattle.std.specs.List.{All};
 ghost use Rattle.miette_folds.specs.views.Spreads.{spread_of};
-ghost use Rattle.miette_lines.specs.rules.Around.{has_own};
+ghost use Rattle.miette_labels.specs.rules.Around.{has_own};
 ghost use Rattle.miette_folds.specs.steps.LineNumbers.{IsLineIn};
 
 use crate::folds::Spread;
-use miette_lines::grouping::end_of;
-use miette_lines::reading::{ReadLabel, lines_around, some_own, usual_lines};
-use miette_newlines::find::FindLines;
-use miette_newlines::scan::Scan;
+use miette_labels::grouping::end_of;
+use miette_labels::reading::{ReadLabel, lines_around, some_own, usual_lines};
+use miette_source_lines::find::FindLines;
+use miette_source_lines::scan::Scan;
 use miette_protocol::protocol::{LabeledSpan, SourceSpan};
 use miette_protocol::source::MietteSpanContents;
-use miette_snippets::options::Look;
+use miette_snippet_rules::options::Look;
 use std::alloc::{AllocError, Global};
 
 // The lines around the label at an index.

@@ -3,17 +3,17 @@ use Rattle.std.proofs.Common.{◌≡◌, ◌≢◌, ℕ, Bool, true, false, ◌|
 use Rattle.std.proofs.lemmas.Bool.{cases_Bool}
 use Rattle.miette_protocol.specs.views.Meaning.{Label, Meaning}
 use Rattle.miette_protocol.specs.rules.Reading.{Source, is_accepted}
-use Rattle.miette_lines.specs.rules.Answers.{Highlight, NoneFails, AlwaysReads}
+use Rattle.miette_labels.specs.rules.Answers.{Highlight, NoneFails, AlwaysReads}
 use Rattle.miette_highlight.specs.rules.HighlighterCalls.{Call, Leads}
 use Rattle.miette_layout.specs.views.Outcomes.{MayGive}
-use Rattle.miette_snippets.specs.rules.Folds.{spreads_of}
-use Rattle.miette_snippets.specs.rules.Frames as frames
-use Rattle.miette_snippets.specs.rules.Frames.{refused_row}
-use Rattle.miette_lines.specs.rules.Around.{group_context}
-use Rattle.miette_lines.specs.rules.Groups.{refusal, groups_of, in_order}
-use Rattle.miette_snippets.specs.rules.Highlighting.{SnippetsHavePieces, group_calls, snippet_calls}
-use Rattle.miette_snippets.specs.rules.SnippetLayout.{snippet_rows, rows_unless, rows_of_groups, settings_around, all_snippets}
-use Rattle.miette_snippets.proofs.NoPieces.{none_have}
+use Rattle.miette_snippet_rules.specs.rules.Folds.{spreads_of}
+use Rattle.miette_snippet_rules.specs.rules.Frames as frames
+use Rattle.miette_snippet_rules.specs.rules.Frames.{refused_row}
+use Rattle.miette_labels.specs.rules.Around.{group_context}
+use Rattle.miette_labels.specs.rules.Groups.{refusal, groups_of, in_order}
+use Rattle.miette_snippet_rules.specs.rules.Highlighting.{SnippetsHavePieces, group_calls, snippet_calls}
+use Rattle.miette_snippet_rules.specs.rules.SnippetLayout.{snippet_rows, rows_unless, rows_of_groups, settings_around, all_snippets}
+use Rattle.miette_snippet_rules.proofs.NoPieces.{none_have}
 use Rattle.miette_page.specs.rules.Rows.{Row}
 use Rattle.miette_page.specs.views.Tokens.{rows_tokens}
 use Rattle.miette_page.specs.views.Printouts.{Printout, printout_of, ended_text, ◌⊕◌}
@@ -27,8 +27,8 @@ use Rattle.miette_graphical.specs.rules.Settings.{Settings}
 use Rattle.miette_graphical.specs.rules.Snippets.{snippet_settings, shown_rows, drawn_rows}
 use Rattle.miette_graphical.proofs.PrintedRows.{rows_printed}
 use Rattle.miette_graphical.specs.steps.PartTexts.{AreDrawn, IsDrawn}
-use Rattle.miette_lines.proofs.Bodies.{next_none, later_none, some_none}
-use Rattle.miette_lines.proofs.NoFailures.{none_unread, grouped_none}
+use Rattle.miette_labels.proofs.Bodies.{next_none, later_none, some_none}
+use Rattle.miette_labels.proofs.NoFailures.{none_unread, grouped_none}
 
 refusal_none : (bytes : List ℕ) (fails : List Bool) (labels : List Label) → NoneFails fails → refusal bytes fails labels ≡ refusal bytes [] labels
 refusal_none bytes fails [] h = refl

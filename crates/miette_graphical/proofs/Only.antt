@@ -6,7 +6,7 @@ use Rattle.miette_protocol.specs.views.Meaning.{Meaning, Label}
 use Rattle.miette_protocol.specs.rules.Reading.{Source}
 use Rattle.miette_protocol.specs.declared.protocol.Severity.{Severity}
 use Rattle.miette_tree.specs.rules.Tree.{Tree, tree, Cause, diagnostic, texts, Trees, no_trees, more_trees, effective}
-use Rattle.miette_snippets.specs.rules.Frames as frames
+use Rattle.miette_snippet_rules.specs.rules.Frames as frames
 use Rattle.miette_graphical.specs.rules.Settings.{Settings}
 use Rattle.miette_graphical.specs.rules.Answers.{Answer, pieces_listed, Answers, unlisted, RelatedAnswers, no_more, nothing_listed, cause_answers, related_answers, first_answers, later_answers}
 use Rattle.miette_graphical.specs.rules.Indents.{narrow_settings}

@@ -11,12 +11,12 @@ use Rattle.miette_protocol.specs.rules.Reading.{Source}
 use Rattle.miette_runs.specs.rules.Runs.{HaveNoEscape, print, printed_run, plain_run}
 use Rattle.miette_style.specs.rules.Styles.{plain}
 use Rattle.miette_style.specs.rules.Escapes.{no_escape}
-use Rattle.miette_lines.specs.rules.Answers as snippet_answers
+use Rattle.miette_labels.specs.rules.Answers as snippet_answers
 use Rattle.miette_snippet_laws.specs.laws.Clean.{IsCleanLabel, IsCleanRow, IsCleanSource, AreCleanDrawings}
 use Rattle.miette_snippet_laws.specs.laws.Fading as fading
 use Rattle.miette_snippet_laws.specs.laws.Fading.{IsPlainRow, unhighlighted_answer}
-use Rattle.miette_snippets.specs.rules.Frames as frames
-use Rattle.miette_snippets.specs.rules.SnippetLayout.{snippet_rows}
+use Rattle.miette_snippet_rules.specs.rules.Frames as frames
+use Rattle.miette_snippet_rules.specs.rules.SnippetLayout.{snippet_rows}
 use Rattle.miette_page.specs.rules.Rows.{Glyph, Row, Run, glyphs_of}
 use Rattle.miette_graphical.specs.rules.Answers.{Answer}
 use Rattle.miette_graphical.specs.laws.Clean.{AreCleanSettings, HaveNoEscapes}

@@ -1,24 +1,24 @@
 -- A highlighter without a state answers each line by itself. So where every source always reads, the text is the one under the answers by line.
 use Rattle.std.proofs.Common.{◌≡◌, ℕ, ◌+◌, Bool, true, false, List, [], ◌∷◌, ◌++◌, map, length, refl, sym, ap, ap₂, subst, ◌∙◌, Option, Some, None, is_some, option_map, append-nil, if◌then◌else◌, Result, Ok, Err, OnOk, encode_utf8_all, drop}
 use Rattle.std.proofs.lemmas.Bool.{and_parts}
-use Rattle.miette_newlines.specs.rules.Lines.{Line}
+use Rattle.miette_source_lines.specs.rules.Lines.{Line}
 use Rattle.miette_runs.specs.rules.Cutting.{without_trailing}
 use Rattle.miette_protocol.specs.views.Meaning.{Meaning, Label}
 use Rattle.miette_protocol.specs.rules.Reading.{Source, Span, Contents}
 use Rattle.miette_protocol.specs.declared.protocol.Severity.{Severity}
 use Rattle.miette_highlight.specs.rules.HighlighterCalls.{Call, Leads, AnsweredBy, asked, restarted, listed_pieces as counted}
 use Rattle.miette_highlight.specs.rules.Pieces.{Piece}
-use Rattle.miette_lines.specs.rules.Answers.{Highlight, first_of}
-use Rattle.miette_lines.specs.rules.Around.{group_context}
-use Rattle.miette_lines.specs.rules.Contexts.{contents, lines_of_contents}
-use Rattle.miette_lines.specs.rules.Groups.{Refusal, refusal, groups_of, in_order}
-use Rattle.miette_lines.specs.rules.Labels.{DrawnLabel}
-use Rattle.miette_snippets.specs.rules.Folds.{Spread, spreads_of}
-use Rattle.miette_snippets.specs.rules.Frames as frames
-use Rattle.miette_snippets.specs.rules.Frames.{refused_row, top_row, bottom_row, number_width}
-use Rattle.miette_snippets.specs.rules.Gutters.{gutter_columns}
-use Rattle.miette_snippets.specs.rules.Highlighting.{group_calls, highlight_of, line_calls, piece_of, pieces_by, texts_of}
-use Rattle.miette_snippets.specs.rules.SnippetLayout.{all_snippets, cells_of, drawn_labels, left_out, line_or_break, place_of, rows_of_lines, rows_unless, settings_around}
+use Rattle.miette_labels.specs.rules.Answers.{Highlight, first_of}
+use Rattle.miette_labels.specs.rules.Around.{group_context}
+use Rattle.miette_labels.specs.rules.Contexts.{contents, lines_of_contents}
+use Rattle.miette_labels.specs.rules.Groups.{Refusal, refusal, groups_of, in_order}
+use Rattle.miette_labels.specs.rules.Labels.{DrawnLabel}
+use Rattle.miette_snippet_rules.specs.rules.Folds.{Spread, spreads_of}
+use Rattle.miette_snippet_rules.specs.rules.Frames as frames
+use Rattle.miette_snippet_rules.specs.rules.Frames.{refused_row, top_row, bottom_row, number_width}
+use Rattle.miette_snippet_rules.specs.rules.Gutters.{gutter_columns}
+use Rattle.miette_snippet_rules.specs.rules.Highlighting.{group_calls, highlight_of, line_calls, piece_of, pieces_by, texts_of}
+use Rattle.miette_snippet_rules.specs.rules.SnippetLayout.{all_snippets, cells_of, drawn_labels, left_out, line_or_break, place_of, rows_of_lines, rows_unless, settings_around}
 use Rattle.miette_tree.specs.rules.DiagnosticParts.{given_labels}
 use Rattle.miette_tree.specs.rules.Tree.{Tree, tree, Cause, diagnostic, texts, Trees, no_trees, more_trees, effective}
 use Rattle.miette_tree.specs.rules.Reads.{always_reads}

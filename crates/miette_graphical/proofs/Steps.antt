@@ -14,7 +14,7 @@ use Rattle.miette_graphical.specs.rules.DiagnosticText.{SnippetRows, rows_text, 
 use Rattle.miette_tree.specs.rules.DiagnosticParts.{given_labels}
 use Rattle.miette_graphical.specs.rules.Text.{cause_texts, ends_there, are_last, body, body_over, inner_over, inner_text, causes_text, related_text, only_if}
 use Rattle.miette_tree.specs.rules.Tree.{effective}
-use Rattle.miette_snippets.specs.rules.Frames as frames
+use Rattle.miette_snippet_rules.specs.rules.Frames as frames
 use Rattle.miette_graphical.specs.rules.PrintedDiagnostics.{all_read, over, diagnostics_of, printed_causes, printed_related}
 use Rattle.miette_graphical.specs.rules.Snippets.{snippet_settings}
 use Rattle.miette_graphical.proofs.DrawnRows.{unlisted_is}

@@ -8,7 +8,7 @@ ghost use Rattle.miette_tree.specs.views.Handler.{AppendsOne};
 ghost use Rattle.miette_graphical.specs.rules.PrintedDiagnostics.{all_read, printed_causes};
 ghost use Rattle.miette_graphical.specs.steps.PrintedParts.{printed_inner, printed_one, printed_sibling};
 ghost use Rattle.miette_graphical.specs.rules.PrintedDiagnostics.{printed_related};
-ghost use Rattle.miette_snippets.specs.rules.Highlighting.{AreCallsOn, leaves_plain};
+ghost use Rattle.miette_snippet_rules.specs.rules.Highlighting.{AreCallsOn, leaves_plain};
 ghost use Rattle.miette_tree.specs.views.Owned.{shown_source};
 ghost use Rattle.miette_graphical.specs.rules.Snippets.{drawn_rows};
 ghost use Rattle.miette_graphical.specs.rules.Text as texts;

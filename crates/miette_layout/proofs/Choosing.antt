@@ -5,18 +5,18 @@ use Rattle.std.specs.List.{filter}
 use Rattle.std.specs.Option.{option_map}
 use Rattle.miette_protocol.specs.views.Meaning.{Label}
 use Rattle.miette_protocol.specs.rules.Reading.{Span, Source, IsAccepted}
-use Rattle.miette_lines.specs.declared.primary.Place.{Place as Found}
-use Rattle.miette_lines.specs.declared.primary.Place.TheVariants as places
-use Rattle.miette_lines.specs.declared.reading.ReadLabel.{ReadLabel}
-use Rattle.miette_lines.specs.rules.Around.{has_own}
-use Rattle.miette_lines.specs.rules.Contexts.{contents}
-use Rattle.miette_snippets.specs.rules.Frames.{Place}
-use Rattle.miette_lines.specs.views.GivenLabels.{label_at}
-use Rattle.miette_snippets.specs.rules.SnippetLayout.{is_within, first_marked, primary_of, begins_at, place_of}
-use Rattle.miette_lines.specs.views.Primary.{lies_within, chosen_label, PointsTo, begins_of, is_unread}
-use Rattle.miette_lines.specs.views.Reads.{IsRead}
-use Rattle.miette_lines.proofs.Numbers.{by_cases}
-use Rattle.miette_lines.proofs.Refusing.{read_of}
+use Rattle.miette_labels.specs.declared.primary.Place.{Place as Found}
+use Rattle.miette_labels.specs.declared.primary.Place.TheVariants as places
+use Rattle.miette_labels.specs.declared.reading.ReadLabel.{ReadLabel}
+use Rattle.miette_labels.specs.rules.Around.{has_own}
+use Rattle.miette_labels.specs.rules.Contexts.{contents}
+use Rattle.miette_snippet_rules.specs.rules.Frames.{Place}
+use Rattle.miette_labels.specs.views.GivenLabels.{label_at}
+use Rattle.miette_snippet_rules.specs.rules.SnippetLayout.{is_within, first_marked, primary_of, begins_at, place_of}
+use Rattle.miette_labels.specs.views.Primary.{lies_within, chosen_label, PointsTo, begins_of, is_unread}
+use Rattle.miette_labels.specs.views.Reads.{IsRead}
+use Rattle.miette_labels.proofs.Numbers.{by_cases}
+use Rattle.miette_labels.proofs.Refusing.{read_of}
 
 -- the span of the first label that is marked, else of the first one that was found
 abbrev marked : Option Span → List Label → Option Span

@@ -3,14 +3,14 @@ use Rattle.std.proofs.Common.{ℕ, ◌≡◌, List, map, sym, ap, ◌∙◌, sub
 use Rattle.std.specs.List.Sorted.{IsNonDecreasingBy}
 use Rattle.miette_protocol.specs.views.Meaning.{Label}
 use Rattle.miette_protocol.specs.rules.Reading.{Span, Source}
-use Rattle.miette_lines.specs.declared.reading.ReadLabel.{ReadLabel}
-use Rattle.miette_lines.specs.rules.Groups.{in_order, spans_of}
-use Rattle.miette_lines.specs.views.Reads.{IsRead}
-use Rattle.miette_snippets.proofs.Bodies.{order_same}
-use Rattle.miette_snippets.proofs.Merging.{sorted}
-use Rattle.miette_lines.proofs.Merging.{IsAscending}
-use Rattle.miette_lines.proofs.Refusing.{read_of}
-use Rattle.miette_lines.proofs.Nearing.{rise}
+use Rattle.miette_labels.specs.declared.reading.ReadLabel.{ReadLabel}
+use Rattle.miette_labels.specs.rules.Groups.{in_order, spans_of}
+use Rattle.miette_labels.specs.views.Reads.{IsRead}
+use Rattle.miette_snippet_rules.proofs.Bodies.{order_same}
+use Rattle.miette_snippet_rules.proofs.Merging.{sorted}
+use Rattle.miette_labels.proofs.Merging.{IsAscending}
+use Rattle.miette_labels.proofs.Refusing.{read_of}
+use Rattle.miette_labels.proofs.Nearing.{rise}
 
 pub reads_rise : (context : ℕ) (source : Source) (labels : List Label) (reads : List ReadLabel) → map (read_of labels) reads ≡ in_order labels → All (IsRead context source labels) reads →
     IsNonDecreasingBy (λ r. r.span.offset) reads

@@ -6,49 +6,49 @@ use Rattle.std.specs.Option.{option_map}
 use Rattle.std.specs.Prelude.{is_some, if◌then◌else◌}
 use Rattle.std.specs.Str.{chars}
 use Rattle.std.proofs.lemmas.List.{drop_all, length-map, drop_more}
-use Rattle.miette_newlines.specs.rules.Lines.{Line}
+use Rattle.miette_source_lines.specs.rules.Lines.{Line}
 use Rattle.miette_protocol.specs.views.Meaning.{Label}
 use Rattle.miette_protocol.specs.rules.Reading.{Span, Source, Contents}
 use Rattle.miette_highlight.specs.rules.HighlighterCalls.{Call, Leads, restarted}
-use Rattle.miette_lines.specs.declared.grouping.Group.{Group}
-use Rattle.miette_lines.specs.declared.primary.Place.{Place as Found}
-use Rattle.miette_lines.specs.declared.reading.ReadLabel.{ReadLabel}
-use Rattle.miette_lines.specs.declared.reading.ReadLabels.{ReadLabels}
-use Rattle.miette_lines.specs.declared.reading.ReadLabels.TheVariants as reads
-use Rattle.miette_lines.specs.declared.reading.RefusalReason.{RefusalReason}
-use Rattle.miette_lines.specs.declared.reading.RefusalReason.TheVariants as reasons
-use Rattle.miette_lines.specs.declared.sweep.PlacedLabel.{PlacedLabel}
+use Rattle.miette_labels.specs.declared.grouping.Group.{Group}
+use Rattle.miette_labels.specs.declared.primary.Place.{Place as Found}
+use Rattle.miette_labels.specs.declared.reading.ReadLabel.{ReadLabel}
+use Rattle.miette_labels.specs.declared.reading.ReadLabels.{ReadLabels}
+use Rattle.miette_labels.specs.declared.reading.ReadLabels.TheVariants as reads
+use Rattle.miette_labels.specs.declared.reading.RefusalReason.{RefusalReason}
+use Rattle.miette_labels.specs.declared.reading.RefusalReason.TheVariants as reasons
+use Rattle.miette_labels.specs.declared.sweep.PlacedLabel.{PlacedLabel}
 use Rattle.miette_page.specs.rules.Rows.{Row}
-use Rattle.miette_lines.specs.rules.Answers.{Answers, Highlight, first_of}
-use Rattle.miette_lines.specs.rules.Around.{has_own, group_context}
-use Rattle.miette_lines.specs.rules.Contexts.{contents, lines_of_contents}
+use Rattle.miette_labels.specs.rules.Answers.{Answers, Highlight, first_of}
+use Rattle.miette_labels.specs.rules.Around.{has_own, group_context}
+use Rattle.miette_labels.specs.rules.Contexts.{contents, lines_of_contents}
 use Rattle.miette_layout.specs.views.Outcomes.{MayGive}
-use Rattle.miette_snippets.specs.rules.Folds.{Spread, spreads_of}
-use Rattle.miette_snippets.specs.rules.Frames.{SnippetSettings, Place, refused_row, top_row, bottom_row, number_width}
-use Rattle.miette_lines.specs.views.GivenLabels.{drawn_of, label_at}
-use Rattle.miette_snippets.specs.rules.Gutters.{gutter_columns}
-use Rattle.miette_lines.specs.rules.Groups.{in_order, refusal, groups_of, some_fails, AreAccepted}
-use Rattle.miette_snippets.specs.rules.Highlighting.{EachHasPieces, SnippetsHavePieces, texts_of, line_calls, group_calls}
-use Rattle.miette_lines.specs.rules.Labels.{DrawnLabel, drawn_from, some_shows_end}
-use Rattle.miette_snippets.specs.rules.SnippetLayout.{snippet, all_snippets, drawn_labels, line_or_break, left_out, settings_around, rows_unless, place_of, body_rows}
+use Rattle.miette_snippet_rules.specs.rules.Folds.{Spread, spreads_of}
+use Rattle.miette_snippet_rules.specs.rules.Frames.{SnippetSettings, Place, refused_row, top_row, bottom_row, number_width}
+use Rattle.miette_labels.specs.views.GivenLabels.{drawn_of, label_at}
+use Rattle.miette_snippet_rules.specs.rules.Gutters.{gutter_columns}
+use Rattle.miette_labels.specs.rules.Groups.{in_order, refusal, groups_of, some_fails, AreAccepted}
+use Rattle.miette_snippet_rules.specs.rules.Highlighting.{EachHasPieces, SnippetsHavePieces, texts_of, line_calls, group_calls}
+use Rattle.miette_labels.specs.rules.Labels.{DrawnLabel, drawn_from, some_shows_end}
+use Rattle.miette_snippet_rules.specs.rules.SnippetLayout.{snippet, all_snippets, drawn_labels, line_or_break, left_out, settings_around, rows_unless, place_of, body_rows}
 use Rattle.miette_drawing.specs.views.SnippetRows.{cells_in, lent_rows, lent_snippet, PutsRows}
-use Rattle.miette_lines.specs.views.Placing.{told_end, placed_from}
-use Rattle.miette_lines.specs.views.Primary.{chosen_label, PointsTo, is_unread}
-use Rattle.miette_lines.specs.views.Reads.{IsRead, IsLent, AreGroups, AreGrouped, IsUnread, AreRead, name_of}
+use Rattle.miette_labels.specs.views.Placing.{told_end, placed_from}
+use Rattle.miette_labels.specs.views.Primary.{chosen_label, PointsTo, is_unread}
+use Rattle.miette_labels.specs.views.Reads.{IsRead, IsLent, AreGroups, AreGrouped, IsUnread, AreRead, name_of}
 use Rattle.miette_page.specs.views.Tokens.{rows_tokens}
-use Rattle.miette_snippets.proofs.Bodies.{none_refused}
-use Rattle.miette_lines.proofs.Bodies.{some_none}
+use Rattle.miette_snippet_rules.proofs.Bodies.{none_refused}
+use Rattle.miette_labels.proofs.Bodies.{some_none}
 use Rattle.miette_layout.proofs.Choosing.{framed_place, place_is, unread_fails}
-use Rattle.miette_snippets.proofs.Ends.{placed_drawn}
-use Rattle.miette_snippets.proofs.Endings.{told_is, drawn_around}
+use Rattle.miette_snippet_rules.proofs.Ends.{placed_drawn}
+use Rattle.miette_snippet_rules.proofs.Endings.{told_is, drawn_around}
 use Rattle.miette_drawing.proofs.Styling.{snippets_plain, calls_plain}
-use Rattle.miette_lines.specs.views.Sweeping.{AreSorted}
+use Rattle.miette_labels.specs.views.Sweeping.{AreSorted}
 use Rattle.miette_drawing.proofs.Lending.{placed_sorted, lent_body, lent_texts, lent_texts_are}
-use Rattle.miette_snippets.proofs.Telling.{told_rows-append}
-use Rattle.miette_snippets.proofs.NoPieces.{none_have}
-use Rattle.miette_lines.proofs.Owning.{own_ordered}
-use Rattle.miette_lines.proofs.Refusing.{read_of, all_accepted}
-use Rattle.miette_lines.proofs.Sorting.{label_got}
+use Rattle.miette_snippet_rules.proofs.Telling.{told_rows-append}
+use Rattle.miette_snippet_rules.proofs.NoPieces.{none_have}
+use Rattle.miette_labels.proofs.Owning.{own_ordered}
+use Rattle.miette_labels.proofs.Refusing.{read_of, all_accepted}
+use Rattle.miette_labels.proofs.Sorting.{label_got}
 
 -- a group's span
 abbrev pub spans_grouped : List Group → List Span

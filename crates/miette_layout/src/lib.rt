@@ -5,4 +5,4 @@ pub mod snippets;
 
 pub use miette_page::page;
 pub use miette_snippet_laws::laws;
-pub use miette_snippets::options;
+pub use miette_snippet_rules::options;

@@ -3,29 +3,29 @@
 ghost use Rattle.std.specs.Prelude.{◌≡◌, Some, None, map, IfOk, MatchResult, if◌then◌else◌};
 ghost use Rattle.std.specs.List.{All};
 ghost use Rattle.miette_layout.specs.views.Outcomes.{MayGive, RefusesWith};
-ghost use Rattle.miette_snippets.specs.views.ThemeSettings.{settings_of};
-ghost use Rattle.miette_lines.specs.views.GivenLabels.{label_at};
-ghost use Rattle.miette_lines.specs.rules.Groups.{in_order};
-ghost use Rattle.miette_snippets.specs.rules.Highlighting.{AreCallsOn, leaves_plain};
-ghost use Rattle.miette_lines.specs.views.Placing.{told_end};
-ghost use Rattle.miette_lines.specs.views.Reads.{IsRead, name_of as name_of_reason};
+ghost use Rattle.miette_snippet_rules.specs.views.ThemeSettings.{settings_of};
+ghost use Rattle.miette_labels.specs.views.GivenLabels.{label_at};
+ghost use Rattle.miette_labels.specs.rules.Groups.{in_order};
+ghost use Rattle.miette_snippet_rules.specs.rules.Highlighting.{AreCallsOn, leaves_plain};
+ghost use Rattle.miette_labels.specs.views.Placing.{told_end};
+ghost use Rattle.miette_labels.specs.views.Reads.{IsRead, name_of as name_of_reason};
 
 use miette_drawing::frame::{Frame, push_refused_row};
 use miette_drawing::snippet::{Drawing, Passage, push_snippet};
 use miette_folds::spreads::spreads;
 use miette_highlight::highlight::Highlighter;
-use miette_lines::drawn_labels::{placed_labels, told_end};
-use miette_lines::grouping::groups;
-use miette_lines::order::by_offset;
-use miette_lines::primary::{near, place_of};
-use miette_lines::reading::{ReadLabel, ReadLabels, RefusalReason, read_labels, some_own};
-use miette_lines::sweep::Sweep;
+use miette_labels::drawn_labels::{placed_labels, told_end};
+use miette_labels::grouping::groups;
+use miette_labels::order::by_offset;
+use miette_labels::primary::{near, place_of};
+use miette_labels::reading::{ReadLabel, ReadLabels, RefusalReason, read_labels, some_own};
+use miette_labels::sweep::Sweep;
 use miette_page::canvas::Canvas;
 use miette_page::page::Page;
 use miette_protocol::error::RenderError;
 use miette_protocol::protocol::LabeledSpan;
 use miette_protocol::source::SourceCode;
-use miette_snippets::options::Look;
+use miette_snippet_rules::options::Look;
 use std::alloc::AllocError;
 
 // The bare name of a reason.

@@ -3,12 +3,12 @@ use Rattle.std.proofs.Common.{ℕ, ◌+◌, ◌-◌, ◌≤◌, ◌≡◌, Bool,
 use Rattle.std.specs.Prelude.{slice_index}
 use Rattle.std.proofs.lemmas.Bool.{ne_eqb, eq-eqb, eqb-true, eqb-false}
 use Rattle.std.proofs.lemmas.List.{length-drop}
-use Rattle.miette_newlines.specs.rules.Lines.{Line, lines_from, ends_line, with_byte}
-use Rattle.miette_newlines.specs.declared.lines.LineOfText.{LineOfText}
-use Rattle.miette_newlines.specs.views.Walking.{Rest, IsFirst, behind, line_of_text, lines_left}
+use Rattle.miette_source_lines.specs.rules.Lines.{Line, lines_from, ends_line, with_byte}
+use Rattle.miette_source_lines.specs.declared.lines.LineOfText.{LineOfText}
+use Rattle.miette_source_lines.specs.views.Walking.{Rest, IsFirst, behind, line_of_text, lines_left}
 use Rattle.miette_protocol.specs.rules.Reading.{Contents}
-use Rattle.miette_lines.specs.rules.Contexts.{lines_of_contents}
-use Rattle.miette_lines.proofs.Numbers.{by_cases}
+use Rattle.miette_labels.specs.rules.Contexts.{lines_of_contents}
+use Rattle.miette_labels.proofs.Numbers.{by_cases}
 use Rattle.miette_narrated.specs.rules.Labels.{LabelRange, SnippetLine}
 use Rattle.miette_narrated.specs.rules.Lines.{snippet_line, rows_of_line, rows_of_lines}
 use Rattle.miette_style.specs.rules.Lists.{is_nil}

@@ -6,12 +6,12 @@ use Rattle.std.proofs.lemmas.Bool.{and_parts}
 use Rattle.std.proofs.lemmas.List.{length-take}
 use Rattle.unicode_width.specs.Width.{str_width}
 use Rattle.unicode_width.proofs.Rules.{str_width-printable}
-use Rattle.miette_lines.specs.rules.Cells.{characters}
-use Rattle.miette_lines.specs.views.GivenLabels.{width_of}
-use Rattle.miette_lines.specs.views.Printable.{is_printable}
-use Rattle.miette_lines.proofs.Plaining.{one_column, printable_character, printable_in_range, printable_taken}
-use Rattle.miette_lines.proofs.Stepping.{characters_end}
-use Rattle.miette_lines.proofs.Numbers.{by_cases}
+use Rattle.miette_labels.specs.rules.Cells.{characters}
+use Rattle.miette_labels.specs.views.GivenLabels.{width_of}
+use Rattle.miette_labels.specs.views.Printable.{is_printable}
+use Rattle.miette_labels.proofs.Plaining.{one_column, printable_character, printable_in_range, printable_taken}
+use Rattle.miette_labels.proofs.Stepping.{characters_end}
+use Rattle.miette_labels.proofs.Numbers.{by_cases}
 use Rattle.miette_narrated.specs.rules.Columns.{begun_text, is_boundary, widths, column}
 use Rattle.miette_narrated.proofs.Columning.{begun_more, begun_zero, at_boundary, off_boundary}
 

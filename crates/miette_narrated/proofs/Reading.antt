@@ -7,22 +7,22 @@ use Rattle.std.proofs.Math.Seq.{drop-cons}
 use Rattle.std.proofs.lemmas.Bool.{leb-true, leb-false, and_parts}
 use Rattle.miette_protocol.specs.views.Meaning.{Label}
 use Rattle.miette_protocol.specs.rules.Reading.{Span, Source, IsAccepted, contents_of, is_accepted}
-use Rattle.miette_lines.specs.declared.sweep.PlacedLabel.{PlacedLabel}
-use Rattle.miette_lines.specs.declared.grouping.Group.{Group}
-use Rattle.miette_lines.specs.declared.reading.ReadLabel.{ReadLabel}
-use Rattle.miette_lines.specs.declared.reading.RefusalReason.{RefusalReason}
-use Rattle.miette_lines.specs.declared.reading.ReadLabels.{ReadLabels}
-use Rattle.miette_lines.specs.declared.reading.ReadLabels.TheVariants as reads
-use Rattle.miette_lines.specs.rules.Answers.{NoneFails}
-use Rattle.miette_lines.specs.rules.Contexts.{contents, end_of_span}
-use Rattle.miette_lines.specs.rules.Around.{has_own, lines_around, group_context}
-use Rattle.miette_lines.specs.rules.Groups.{put_label, in_order, refusal, AreAccepted, groups_of, some_fails}
-use Rattle.miette_lines.specs.rules.Groups as groups
-use Rattle.miette_lines.specs.views.Placing.{placed_one, placed_from}
-use Rattle.miette_lines.specs.views.Reads.{IsRead, AreRead, IsLent, AreGroups, AreGrouped, IsUnread}
-use Rattle.miette_lines.proofs.Numbers.{by_cases}
-use Rattle.miette_lines.proofs.Owning.{order_all}
-use Rattle.miette_lines.proofs.Refusing.{all_accepted, read_of}
+use Rattle.miette_labels.specs.declared.sweep.PlacedLabel.{PlacedLabel}
+use Rattle.miette_labels.specs.declared.grouping.Group.{Group}
+use Rattle.miette_labels.specs.declared.reading.ReadLabel.{ReadLabel}
+use Rattle.miette_labels.specs.declared.reading.RefusalReason.{RefusalReason}
+use Rattle.miette_labels.specs.declared.reading.ReadLabels.{ReadLabels}
+use Rattle.miette_labels.specs.declared.reading.ReadLabels.TheVariants as reads
+use Rattle.miette_labels.specs.rules.Answers.{NoneFails}
+use Rattle.miette_labels.specs.rules.Contexts.{contents, end_of_span}
+use Rattle.miette_labels.specs.rules.Around.{has_own, lines_around, group_context}
+use Rattle.miette_labels.specs.rules.Groups.{put_label, in_order, refusal, AreAccepted, groups_of, some_fails}
+use Rattle.miette_labels.specs.rules.Groups as groups
+use Rattle.miette_labels.specs.views.Placing.{placed_one, placed_from}
+use Rattle.miette_labels.specs.views.Reads.{IsRead, AreRead, IsLent, AreGroups, AreGrouped, IsUnread}
+use Rattle.miette_labels.proofs.Numbers.{by_cases}
+use Rattle.miette_labels.proofs.Owning.{order_all}
+use Rattle.miette_labels.proofs.Refusing.{all_accepted, read_of}
 use Rattle.miette_narrated.specs.rules.Labels.{LabelRange, label_range}
 use Rattle.miette_narrated.specs.steps.Conversions.{range_of, ranges_of}
 use Rattle.miette_narrated.specs.rules.Snippets.{snippet, snippets_of}

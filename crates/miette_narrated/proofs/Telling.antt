@@ -4,9 +4,9 @@ use Rattle.std.proofs.lemmas.Bool.{and_parts}
 use Rattle.miette_protocol.specs.rules.Reading.{Source}
 use Rattle.miette_protocol.specs.views.Meaning.{Label}
 use Rattle.miette_tree.specs.rules.Tree.{Tree, tree, Trees, no_trees, more_trees, trees, effective, head, source_of, cause_of, causes_of, related_of}
-use Rattle.miette_lines.specs.rules.Around.{group_context}
-use Rattle.miette_lines.specs.rules.Groups.{in_order}
-use Rattle.miette_lines.proofs.NoFailures.{grouped_none}
+use Rattle.miette_labels.specs.rules.Around.{group_context}
+use Rattle.miette_labels.specs.rules.Groups.{in_order}
+use Rattle.miette_labels.proofs.NoFailures.{grouped_none}
 use Rattle.miette_narrated.specs.rules.Labels.{label_range}
 use Rattle.miette_narrated.specs.rules.Snippets.{snippets_of}
 use Rattle.miette_narrated.specs.rules.Report.{NarrationSettings, Answers, unlisted, listed, RelatedAnswers, no_more, and_more, own_answer, related_answers, first_answers, later_answers, head_rows, titled_rows, cause_rows, causes_if, advice_rows, row_if, snippet_rows, blank_before, related_report, related_reports, narration}

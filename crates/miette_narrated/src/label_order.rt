@@ -3,13 +3,13 @@
 ghost use Rattle.std.specs.Prelude.{◌≡◌, nat_lt, IfOk};
 ghost use Rattle.std.specs.List.{filter};
 ghost use Rattle.std.specs.List.Sorted.{IsNonDecreasingBy};
-ghost use Rattle.miette_newlines.specs.views.Walking.{line_of_text};
+ghost use Rattle.miette_source_lines.specs.views.Walking.{line_of_text};
 ghost use Rattle.miette_narrated.specs.steps.Ends.{is_begun, is_ended, ends_within, without_ranks, ranked_labels};
 ghost use Rattle.miette_narrated.specs.steps.Ends.{AreEnds, IsOrder};
 ghost use Rattle.miette_narrated.specs.steps.Sweeping.{AreOrdered};
 
-use miette_lines::sweep::PlacedLabel;
-use miette_newlines::lines::LineOfText;
+use miette_labels::sweep::PlacedLabel;
+use miette_source_lines::lines::LineOfText;
 use miette_protocol::protocol::LabeledSpan;
 use std::alloc::{AllocError, Global};
 

@@ -1,8 +1,8 @@
 //! The rows of a snippet's lines.
 
 ghost use Rattle.std.specs.Prelude.{◌≡◌, false, ◌++◌, ◌+◌, ◌<◌, ◌≤◌, ◌^◌, length, OnOk, string_bytes};
-ghost use Rattle.miette_lines.specs.rules.Contexts.{lines_of_contents};
-ghost use Rattle.miette_newlines.specs.views.Walking.{line_of_text};
+ghost use Rattle.miette_labels.specs.rules.Contexts.{lines_of_contents};
+ghost use Rattle.miette_source_lines.specs.views.Walking.{line_of_text};
 ghost use Rattle.miette_narrated.specs.steps.Conversions.{ranges_of, narrated_line};
 ghost use Rattle.miette_narrated.specs.rules.Lines.{snippet_line, line_row, rows_of_line, rows_of_lines};
 ghost use Rattle.miette_narrated.specs.steps.Ends.{IsOrder};
@@ -16,7 +16,7 @@ use crate::narrated_line::NarratedLine;
 use crate::narrated_text::NarratedText;
 use crate::sweeping::{ReachSweep, come_to};
 use crate::words::push_number;
-use miette_newlines::lines::{LineOfText, Lines};
+use miette_source_lines::lines::{LineOfText, Lines};
 use miette_protocol::source::MietteSpanContents;
 use miette_style::sums::sum;
 use std::alloc::{AllocError, Global};

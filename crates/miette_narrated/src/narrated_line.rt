@@ -9,7 +9,7 @@ ghost use Rattle.miette_narrated.specs.steps.Trails.{IsTrail};
 use crate::narrated_text::NarratedText;
 use crate::places::PartingPlace;
 use crate::trails::Trail;
-use miette_newlines::lines::LineOfText;
+use miette_source_lines::lines::LineOfText;
 
 /// A line of a snippet: where it lies, its number, whether it is the snippet's last, where the snippet's data end,
 /// and its text.

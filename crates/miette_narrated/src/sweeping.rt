@@ -4,7 +4,7 @@ ghost use Rattle.std.specs.Prelude.{◌≡◌, OnOk, drop, suc};
 ghost use Rattle.std.specs.List.{filter};
 ghost use Rattle.miette_narrated.specs.steps.Sweeping.{reaches, IsAt, BeginsFrom};
 
-use miette_lines::sweep::PlacedLabel;
+use miette_labels::sweep::PlacedLabel;
 use std::alloc::{AllocError, Global};
 
 /// A sweep that has come to a place: how many labels have come, and those of them that reach the place.

@@ -3,12 +3,12 @@ use Rattle.std.proofs.Common.{◌≡◌, ◌↔◌, ℕ, suc, zero, ◌+◌, ◌
 use Rattle.std.specs.Prelude.{◌==◌, slice_get, slice_range}
 use Rattle.std.specs.Option.{option_map_or}
 use Rattle.std.proofs.lemmas.Bool.{cases_lt, ne_eqb, eqb-true}
-use Rattle.miette_newlines.specs.rules.Lines.{Line, lines_from, lines_of, line_of, line_start, line_end, terminators_in, IsCut}
+use Rattle.miette_source_lines.specs.rules.Lines.{Line, lines_from, lines_of, line_of, line_start, line_end, terminators_in, IsCut}
 use Rattle.miette_protocol.specs.rules.Reading.{Span, Source, IsAccepted, span_end, splits_crlf, reading_end, data_start, data_end, contents_of}
 use Rattle.miette_protocol.specs.rules.Context.{first_line, last_line}
-use Rattle.miette_newlines.proofs.Places.{line_of_mono, line_of_past, line_of_all, line_of_start_before, line_of_end, line_end_past, line_end_le, line_end_after, line_start_next, line_start_mono, line_start_le, terminators_in-is}
-use Rattle.miette_newlines.proofs.Cuts.{lines_cut}
-use Rattle.miette_newlines.proofs.Only.{lines_between}
+use Rattle.miette_source_lines.proofs.Places.{line_of_mono, line_of_past, line_of_all, line_of_start_before, line_of_end, line_end_past, line_end_le, line_end_after, line_start_next, line_start_mono, line_start_le, terminators_in-is}
+use Rattle.miette_source_lines.proofs.Cuts.{lines_cut}
+use Rattle.miette_source_lines.proofs.Only.{lines_between}
 
 -- where a span's read ends
 

@@ -4,5 +4,5 @@ pub mod Context
 pub mod Outcome
 pub mod Texts
 pub mod Location
-pub use Rattle.miette_newlines.specs.rules.Lines
-pub use Rattle.miette_newlines.specs.rules.Cutting
+pub use Rattle.miette_source_lines.specs.rules.Lines
+pub use Rattle.miette_source_lines.specs.rules.Cutting

@@ -2,4 +2,4 @@
 pub mod Named
 pub mod Meaning
 pub mod Diagnostic
-pub use Rattle.miette_newlines.specs.views.Walking
+pub use Rattle.miette_source_lines.specs.views.Walking

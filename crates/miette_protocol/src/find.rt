@@ -1,14 +1,14 @@
 //! Reading a span of bytes whose lines can be found.
 
 ghost use Rattle.std.specs.Prelude.{◌≡◌, ◌≤◌, ◌+◌, ◌-◌, ◌==◌, if◌then◌else◌, MatchBool, min, length};
-ghost use Rattle.miette_newlines.specs.rules.Lines.{line_of, column_of};
+ghost use Rattle.miette_source_lines.specs.rules.Lines.{line_of, column_of};
 ghost use Rattle.miette_protocol.specs.rules.Reading.{IsAccepted, reading_end, data_start, data_end, plain_source};
 ghost use Rattle.miette_protocol.specs.rules.Outcome.{Answers};
 
 use crate::contents::MietteSpanContents;
 use crate::error::MietteError;
 use crate::protocol::{SourceOffset, SourceSpan};
-use miette_newlines::find::{FindLines, column_from};
+use miette_source_lines::find::{FindLines, column_from};
 
 /// Where the data of a read begin: an offset with its line and column, and the number of the line of the span.
 #[derive(Clone, Copy)]

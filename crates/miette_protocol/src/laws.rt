@@ -2,13 +2,13 @@
 
 ghost use Rattle.std.specs.Prelude.{◌≡◌, ◌↔◌, ℕ, ◌+◌, ◌<◌, ◌≤◌, min, length, slice_range};
 ghost use Rattle.miette_protocol.specs.rules.Context.{first_line, last_line};
-ghost use Rattle.miette_newlines.specs.rules.Lines.{lines_of, lines_from, line_of, line_start, line_end};
+ghost use Rattle.miette_source_lines.specs.rules.Lines.{lines_of, lines_from, line_of, line_start, line_end};
 ghost use Rattle.miette_protocol.specs.rules.Reading.{Span, Source, Contents, IsAccepted, contents_of};
 
 use crate::error::RenderError;
 use crate::protocol::{LengthOverflow, Severity, SourceOffset, SourceSpan};
 use crate::source::MietteSpanContents;
-pub use miette_newlines::laws::lines_cut_the_source;
+pub use miette_source_lines::laws::lines_cut_the_source;
 
 /// With at least one line of context before and after, the data of a read are whole lines: cut alone, they
 /// are the lines of the source from the first to the last of the context. So many terminators stand before

@@ -8,8 +8,8 @@ use crate::contents::MietteSpanContents;
 use crate::error::MietteError;
 use crate::find;
 use crate::protocol::SourceSpan;
-use miette_newlines::indexed::IndexedSource;
-use miette_newlines::scan::Scan;
+use miette_source_lines::indexed::IndexedSource;
+use miette_source_lines::scan::Scan;
 
 /// A source of bytes. Its meaning is its bytes, its name and language, and whether it always reads.
 pub trait SourceCode: Drop {

@@ -5,7 +5,7 @@ use Rattle.std.specs.List.{list_all}
 use Rattle.std.specs.Prelude.{if◌then◌else◌}
 use Rattle.miette_protocol.specs.views.Meaning.{Label}
 use Rattle.miette_protocol.specs.rules.Reading.{Source, is_accepted}
-use Rattle.miette_lines.specs.rules.Groups.{in_order, AreAccepted}
+use Rattle.miette_labels.specs.rules.Groups.{in_order, AreAccepted}
 use Rattle.miette_style.specs.rules.Lists.{is_nil}
 use Rattle.miette_tree.specs.rules.Tree.{Tree, tree, Cause, diagnostic, texts, Trees, no_trees, more_trees, effective}
 use Rattle.miette_tree.specs.rules.DiagnosticParts.{given_labels}
@@ -18,8 +18,8 @@ use Rattle.miette_brief.specs.rules.PossibleAnswers as briefly
 use Rattle.miette_brief.specs.rules.Report as brief
 use Rattle.miette_narrated.specs.rules.PossibleAnswers as told
 use Rattle.miette_narrated.specs.rules.Report.{Answers, RelatedAnswers, related_answers, first_answers, later_answers}
-use Rattle.miette_lines.proofs.Bodies.{accepted_is}
-use Rattle.miette_lines.proofs.Owning.{order_all}
+use Rattle.miette_labels.proofs.Bodies.{accepted_is}
+use Rattle.miette_labels.proofs.Owning.{order_all}
 
 -- ---- a graphical report
 

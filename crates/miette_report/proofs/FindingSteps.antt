@@ -6,11 +6,11 @@ use Rattle.std.specs.Option.{option_and_then, option_map, option_map_or}
 use Rattle.std.proofs.lemmas.Bool.Decides.{nat_tests}
 use Rattle.std.proofs.lemmas.List.{length-drop, take_rest}
 use Rattle.std.proofs.lemmas.List.Folds.{length-prefix_len}
-use Rattle.miette_newlines.specs.rules.Lines.{Line, lines_from}
-use Rattle.miette_newlines.specs.declared.lines.LineOfText.{LineOfText}
-use Rattle.miette_newlines.specs.views.Walking.{Rest, IsFirst, behind, line_of_text, lines_left}
+use Rattle.miette_source_lines.specs.rules.Lines.{Line, lines_from}
+use Rattle.miette_source_lines.specs.declared.lines.LineOfText.{LineOfText}
+use Rattle.miette_source_lines.specs.views.Walking.{Rest, IsFirst, behind, line_of_text, lines_left}
 use Rattle.miette_protocol.specs.views.Meaning.{Label}
-use Rattle.miette_lines.specs.rules.Cells.{Cell}
+use Rattle.miette_labels.specs.rules.Cells.{Cell}
 use Rattle.miette_report.specs.rules.Findings.{ending_blanks, finding, is_blank, misplaced_tab, overlong, tab_after_space, tab_behind, too_wide, trailing_space}
 
 -- The lines that are left of so many bytes have what is left to be found.

@@ -2,24 +2,24 @@
 use Rattle.std.proofs.Common.{ℕ, zero, suc, ◌+◌, ◌-◌, ◌<◌, ◌≤◌, ◌≡◌, ◌⊎◌, inl, inr, Bool, true, false, cond, leb, ltb, List, [], ◌∷◌, ◌&&◌, ◌||◌, length, map, refl, sym, ap, ◌∙◌, arith}
 use Rattle.std.proofs.lemmas.Bool.{le-leb, lt-leb, leb-true, leb-false, and_parts, and_from, and_right, or_right}
 use Rattle.std.specs.List.{filter, list_any, AllByRecursion}
-use Rattle.miette_newlines.specs.rules.Lines as P
-use Rattle.miette_newlines.specs.rules.Lines.{Line}
+use Rattle.miette_source_lines.specs.rules.Lines as P
+use Rattle.miette_source_lines.specs.rules.Lines.{Line}
 use Rattle.miette_protocol.specs.views.Meaning.{Label}
 use Rattle.miette_protocol.specs.rules.Reading as R
 use Rattle.miette_protocol.specs.rules.Reading.{Span, Source, IsAccepted}
-use Rattle.miette_lines.specs.rules.Around.{lines_around}
+use Rattle.miette_labels.specs.rules.Around.{lines_around}
 use Rattle.miette_snippet_laws.specs.laws.Belonging.{holds, HasOneGroup}
-use Rattle.miette_lines.specs.rules.Contexts.{contents, end_of_span}
-use Rattle.miette_lines.specs.rules.Groups.{AreAccepted, joined_span, stretch, put_span, by_begin, stretches_from, joined_stretches}
-use Rattle.miette_lines.proofs.Sources.{IsCut, lines, line_of, start_of}
-use Rattle.miette_lines.proofs.Numbers.{by_cases}
-use Rattle.miette_lines.proofs.Merging.{swap_or}
-use Rattle.miette_snippets.proofs.Lines.{line-zero}
-use Rattle.miette_snippets.proofs.Data.{first-lt}
-use Rattle.miette_lines.proofs.Data.{cut}
-use Rattle.miette_snippets.proofs.Bridge.{line_of_same, start_same, none_or_some}
-use Rattle.miette_lines.proofs.Bridge.{some-context}
-use Rattle.miette_snippets.proofs.Ends.{cut_is, empty-start}
+use Rattle.miette_labels.specs.rules.Contexts.{contents, end_of_span}
+use Rattle.miette_labels.specs.rules.Groups.{AreAccepted, joined_span, stretch, put_span, by_begin, stretches_from, joined_stretches}
+use Rattle.miette_labels.proofs.Sources.{IsCut, lines, line_of, start_of}
+use Rattle.miette_labels.proofs.Numbers.{by_cases}
+use Rattle.miette_labels.proofs.Merging.{swap_or}
+use Rattle.miette_snippet_rules.proofs.Lines.{line-zero}
+use Rattle.miette_snippet_rules.proofs.Data.{first-lt}
+use Rattle.miette_labels.proofs.Data.{cut}
+use Rattle.miette_snippet_rules.proofs.Bridge.{line_of_same, start_same, none_or_some}
+use Rattle.miette_labels.proofs.Bridge.{some-context}
+use Rattle.miette_snippet_rules.proofs.Ends.{cut_is, empty-start}
 
 -- whether a place lies in a group's bytes or at their end
 abbrev at_place : ℕ → Span → Bool

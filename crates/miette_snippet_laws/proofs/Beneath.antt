@@ -6,19 +6,19 @@ use Rattle.std.proofs.lemmas.List.{map-append}
 use Rattle.std.specs.List.{AllByRecursion, range_with_len}
 use Rattle.miette_page.specs.rules.Rows.{Glyph, Run, Row, glyphs_of, columns_of, code_at, glyph_of, styled_run}
 use Rattle.miette_style.specs.rules.Styles.{plain}
-use Rattle.miette_newlines.specs.rules.Lines.{Line}
-use Rattle.miette_lines.specs.rules.Cells.{Cell}
-use Rattle.miette_lines.specs.rules.Answers.{Highlight}
-use Rattle.miette_lines.specs.rules.Labels.{DrawnLabel, starts_on, ends_on, one_line, multi_line, closing_labels}
-use Rattle.miette_snippets.specs.rules.Marks.{Mark, AreApart}
-use Rattle.miette_snippets.specs.rules.Drawing.{IsNarrow, blank, mark_runs, rows_below, marked_rows}
-use Rattle.miette_snippets.specs.rules.Gutters.{most_labels, gutter_columns, number_gutter, other_gutter, closing_rows, ending_corner, arrow}
-use Rattle.miette_snippets.specs.rules.Frames.{SnippetSettings, other_start, number_start}
-use Rattle.miette_snippets.specs.rules.SnippetLayout.{line_rows, before_each, line_marks, text_of_cells}
+use Rattle.miette_source_lines.specs.rules.Lines.{Line}
+use Rattle.miette_labels.specs.rules.Cells.{Cell}
+use Rattle.miette_labels.specs.rules.Answers.{Highlight}
+use Rattle.miette_labels.specs.rules.Labels.{DrawnLabel, starts_on, ends_on, one_line, multi_line, closing_labels}
+use Rattle.miette_snippet_rules.specs.rules.Marks.{Mark, AreApart}
+use Rattle.miette_snippet_rules.specs.rules.Drawing.{IsNarrow, blank, mark_runs, rows_below, marked_rows}
+use Rattle.miette_snippet_rules.specs.rules.Gutters.{most_labels, gutter_columns, number_gutter, other_gutter, closing_rows, ending_corner, arrow}
+use Rattle.miette_snippet_rules.specs.rules.Frames.{SnippetSettings, other_start, number_start}
+use Rattle.miette_snippet_rules.specs.rules.SnippetLayout.{line_rows, before_each, line_marks, text_of_cells}
 use Rattle.miette_snippet_laws.specs.laws.Pictures.{mark_at, marks_end, Hangs, AreMarked, ShowMarks, marks_of_line, text_of_line, text_start, HasText}
-use Rattle.miette_lines.proofs.Numbers.{by_cases}
+use Rattle.miette_labels.proofs.Numbers.{by_cases}
 use Rattle.miette_snippet_laws.proofs.Apart.{marks_apart}
-use Rattle.miette_snippets.proofs.CutColumns.{AreColumns, shown_apart}
+use Rattle.miette_snippet_rules.proofs.CutColumns.{AreColumns, shown_apart}
 use Rattle.miette_snippet_laws.proofs.Columns.{columns_of-append, code_at-append}
 use Rattle.miette_snippet_laws.proofs.UnstyledRows.{mark_row, plain_below}
 use Rattle.miette_snippet_laws.proofs.Hanging.{mark_row-at, plain_hang, all_beside, all_more}

@@ -1,17 +1,17 @@
 -- Labels in plain: which lie on a line, where their marks are, and how wide a gutter is, doesn't change.
 use Rattle.std.proofs.Common.{◌≡◌, ℕ, suc, ◌+◌, Bool, true, false, if◌then◌else◌, ◌==◌, List, [], ◌∷◌, map, length, max, refl, ap, ap₂, ◌∙◌, chars, Option, Some, None, IfSome}
 use Rattle.std.specs.List.{AllByRecursion, filter}
-use Rattle.miette_newlines.specs.rules.Lines.{Line}
+use Rattle.miette_source_lines.specs.rules.Lines.{Line}
 use Rattle.miette_protocol.specs.views.Meaning.{Label}
 use Rattle.miette_style.specs.declared.style.Style.{Style}
 use Rattle.std.specs.Prelude.{nat_le}
 use Rattle.miette_snippet_laws.specs.laws.Clean.{IsClean, IsCleanText, IsCleanLabel}
-use Rattle.miette_snippets.specs.rules.Gutters.{most_labels, gutter_columns}
-use Rattle.miette_lines.specs.rules.Labels.{DrawnLabel, parts_of, drawn_label, drawn_from, multi_line, is_multi_line}
-use Rattle.miette_snippets.specs.rules.Marks.{Text, Mark, marks_from, marks, mark_from, mark_until, mark_anchor}
-use Rattle.miette_lines.specs.rules.Groups.{put_label, in_order}
+use Rattle.miette_snippet_rules.specs.rules.Gutters.{most_labels, gutter_columns}
+use Rattle.miette_labels.specs.rules.Labels.{DrawnLabel, parts_of, drawn_label, drawn_from, multi_line, is_multi_line}
+use Rattle.miette_snippet_rules.specs.rules.Marks.{Text, Mark, marks_from, marks, mark_from, mark_until, mark_anchor}
+use Rattle.miette_labels.specs.rules.Groups.{put_label, in_order}
 use Rattle.miette_snippet_laws.proofs.CleanTexts.{clean_parts}
-use Rattle.miette_lines.proofs.Numbers.{by_cases}
+use Rattle.miette_labels.proofs.Numbers.{by_cases}
 use Rattle.miette_snippet_laws.proofs.Paling.{bleached, bleached_mark, HasCleanParts, IsCleanMark}
 
 -- a filter that styles don't matter to

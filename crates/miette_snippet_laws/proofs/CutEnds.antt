@@ -2,18 +2,18 @@
 use Rattle.std.proofs.Common.{◌≡◌, ℕ, ◌+◌, ◌-◌, ◌≤◌, Bool, true, false, ltb, List, [], ◌∷◌, map, refl, ap, ◌∙◌, Option, Some, None, arith}
 use Rattle.std.proofs.lemmas.Bool.{le-ltb}
 use Rattle.std.specs.List.{AllByRecursion}
-use Rattle.miette_newlines.specs.rules.Lines.{Line}
-use Rattle.miette_lines.specs.rules.Answers.{Highlight}
-use Rattle.miette_lines.specs.rules.Cells.{Cell}
-use Rattle.miette_lines.specs.rules.Labels.{DrawnLabel, one_line}
-use Rattle.miette_lines.proofs.Numbers.{by_cases}
+use Rattle.miette_source_lines.specs.rules.Lines.{Line}
+use Rattle.miette_labels.specs.rules.Answers.{Highlight}
+use Rattle.miette_labels.specs.rules.Cells.{Cell}
+use Rattle.miette_labels.specs.rules.Labels.{DrawnLabel, one_line}
+use Rattle.miette_labels.proofs.Numbers.{by_cases}
 use Rattle.miette_page.specs.rules.Rows.{columns_of, glyphs_of}
-use Rattle.miette_snippets.specs.rules.CutLines.{Stretch, agree, columns_in, cut_line, ends, is_near, is_near_after, onto_stretches, row_column, row_mark, shown_marks, shown_runs, stretches}
-use Rattle.miette_snippets.specs.rules.Marks.{Mark}
-use Rattle.miette_snippets.specs.rules.Frames.{SnippetSettings}
-use Rattle.miette_snippets.specs.rules.PrintedCells.{cells_width}
-use Rattle.miette_snippets.specs.rules.SnippetLayout.{cells_of, line_marks, text_of_cells}
-use Rattle.miette_snippets.proofs.CutColumns.{AreColumns, columns_in-append}
+use Rattle.miette_snippet_rules.specs.rules.CutLines.{Stretch, agree, columns_in, cut_line, ends, is_near, is_near_after, onto_stretches, row_column, row_mark, shown_marks, shown_runs, stretches}
+use Rattle.miette_snippet_rules.specs.rules.Marks.{Mark}
+use Rattle.miette_snippet_rules.specs.rules.Frames.{SnippetSettings}
+use Rattle.miette_snippet_rules.specs.rules.PrintedCells.{cells_width}
+use Rattle.miette_snippet_rules.specs.rules.SnippetLayout.{cells_of, line_marks, text_of_cells}
+use Rattle.miette_snippet_rules.proofs.CutColumns.{AreColumns, columns_in-append}
 use Rattle.miette_snippet_laws.specs.laws.Ends.{AreBehindShown}
 use Rattle.miette_snippet_laws.proofs.CleanTexts.{line_same}
 use Rattle.miette_snippet_laws.proofs.CutShowing.{cut_pieces}

@@ -2,12 +2,12 @@
 use Rattle.std.proofs.Common.{◌≡◌, ℕ, ◌+◌, ◌-◌, Bool, false, ltb, List, [], ◌∷◌, ◌++◌, map, Option, Some, None, IfSome, if◌then◌else◌, refl, sym, ap, ◌∙◌, subst, append-nil}
 use Rattle.std.specs.List.{AllByRecursion}
 use Rattle.std.proofs.lemmas.List.{map-append}
-use Rattle.miette_lines.specs.rules.Answers.{Highlight}
-use Rattle.miette_lines.specs.rules.Cells.{Cell}
-use Rattle.miette_lines.proofs.Numbers.{by_cases}
-use Rattle.miette_snippets.specs.rules.CutLines.{Stretch, agree, bytes_in, cut_line, cut_runs, dots, ends, is_kept, is_near, is_near_after, onto_stretches, pieces_within, row_mark, shown_marks, shown_runs, stretches}
-use Rattle.miette_snippets.specs.rules.Marks.{Mark}
-use Rattle.miette_snippets.specs.rules.PrintedCells.{cells_width, line_runs, printed_cells}
+use Rattle.miette_labels.specs.rules.Answers.{Highlight}
+use Rattle.miette_labels.specs.rules.Cells.{Cell}
+use Rattle.miette_labels.proofs.Numbers.{by_cases}
+use Rattle.miette_snippet_rules.specs.rules.CutLines.{Stretch, agree, bytes_in, cut_line, cut_runs, dots, ends, is_kept, is_near, is_near_after, onto_stretches, pieces_within, row_mark, shown_marks, shown_runs, stretches}
+use Rattle.miette_snippet_rules.specs.rules.Marks.{Mark}
+use Rattle.miette_snippet_rules.specs.rules.PrintedCells.{cells_width, line_runs, printed_cells}
 use Rattle.miette_snippet_laws.specs.laws.Clean.{IsClean}
 use Rattle.miette_snippet_laws.proofs.CleanTexts.{AreCleanCells, clean_append, clean_first, clean_rest, clean_cons, clean_line, line_same}
 use Rattle.miette_snippet_laws.proofs.Paling.{bleached_mark, IsCleanMark, PaleRow, PaleRun, pale_nil, pale_cons, pale_append, pale_if}

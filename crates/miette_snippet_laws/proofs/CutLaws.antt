@@ -2,22 +2,22 @@
 use Rattle.std.proofs.Common.{◌≡◌, ℕ, suc, ◌+◌, ◌≤◌, Bool, false, cond, List, [], ◌∷◌, ◌++◌, length, refl, sym, ap, ap₂, subst, Option, Some, None, drop}
 use Rattle.std.proofs.lemmas.Bool.{le-ltb}
 use Rattle.std.specs.List.{AllByRecursion}
-use Rattle.miette_newlines.specs.rules.Lines.{Line}
+use Rattle.miette_source_lines.specs.rules.Lines.{Line}
 use Rattle.miette_protocol.specs.rules.Reading.{Contents}
-use Rattle.miette_lines.specs.rules.Answers.{Highlight, first_of}
-use Rattle.miette_lines.specs.rules.Cells.{Cell}
-use Rattle.miette_lines.specs.rules.Contexts.{lines_of_contents}
-use Rattle.miette_lines.specs.rules.Labels.{DrawnLabel, one_line, multi_line}
+use Rattle.miette_labels.specs.rules.Answers.{Highlight, first_of}
+use Rattle.miette_labels.specs.rules.Cells.{Cell}
+use Rattle.miette_labels.specs.rules.Contexts.{lines_of_contents}
+use Rattle.miette_labels.specs.rules.Labels.{DrawnLabel, one_line, multi_line}
 use Rattle.miette_page.specs.rules.Rows.{columns_of, glyphs_of}
-use Rattle.miette_snippets.specs.rules.CutLines.{cut_line, shown_marks, shown_runs}
-use Rattle.miette_snippets.specs.rules.Drawing.{marked_rows}
-use Rattle.miette_snippets.specs.rules.Folds.{Spread}
-use Rattle.miette_snippets.specs.rules.Frames.{SnippetSettings, number_start, other_start, number_width}
-use Rattle.miette_snippets.specs.rules.Gutters.{closing_rows, gutter_columns, number_gutter, other_gutter}
-use Rattle.miette_snippets.specs.rules.Marks.{Mark, Text, mark_until, marks_from}
-use Rattle.miette_snippets.specs.rules.PrintedCells.{cells_width}
-use Rattle.miette_snippets.specs.rules.SnippetLayout.{before_each, body_rows, break_row, cells_of, left_out, line_marks, line_or_break, line_rows, rows_of_lines, text_of_cells}
-use Rattle.miette_lines.specs.rules.Labels.{closing_labels}
+use Rattle.miette_snippet_rules.specs.rules.CutLines.{cut_line, shown_marks, shown_runs}
+use Rattle.miette_snippet_rules.specs.rules.Drawing.{marked_rows}
+use Rattle.miette_snippet_rules.specs.rules.Folds.{Spread}
+use Rattle.miette_snippet_rules.specs.rules.Frames.{SnippetSettings, number_start, other_start, number_width}
+use Rattle.miette_snippet_rules.specs.rules.Gutters.{closing_rows, gutter_columns, number_gutter, other_gutter}
+use Rattle.miette_snippet_rules.specs.rules.Marks.{Mark, Text, mark_until, marks_from}
+use Rattle.miette_snippet_rules.specs.rules.PrintedCells.{cells_width}
+use Rattle.miette_snippet_rules.specs.rules.SnippetLayout.{before_each, body_rows, break_row, cells_of, left_out, line_marks, line_or_break, line_rows, rows_of_lines, text_of_cells}
+use Rattle.miette_labels.specs.rules.Labels.{closing_labels}
 use Rattle.miette_snippet_laws.specs.laws.Cuts.{AreAsWide, Fits, most_columns}
 use Rattle.miette_snippet_laws.specs.laws.Pictures.{text_of_line}
 use Rattle.miette_snippet_laws.proofs.CutWidth.{row_bound}

@@ -2,12 +2,12 @@
 use Rattle.std.proofs.Common.{◌≡◌, ◌≢◌, ℕ, ◌+◌, ◌-◌, ◌<◌, ◌≤◌, Bool, true, false, cond, ltb, leb, max, min, List, [], ◌∷◌, ◌++◌, map, refl, sym, ap, ap₂, ◌∙◌, append_assoc, append-nil, arith}
 use Rattle.std.proofs.lemmas.Bool.{lt-ltb, le-leb, ltb-true, leb-true, and_from, and_parts}
 use Rattle.std.proofs.lemmas.List.{map-append}
-use Rattle.miette_lines.specs.rules.Answers.{Highlight}
-use Rattle.miette_lines.specs.rules.Cells.{Cell}
-use Rattle.miette_lines.proofs.Numbers.{by_cases}
+use Rattle.miette_labels.specs.rules.Answers.{Highlight}
+use Rattle.miette_labels.specs.rules.Cells.{Cell}
+use Rattle.miette_labels.proofs.Numbers.{by_cases}
 use Rattle.miette_page.specs.rules.Rows.{glyphs_of}
-use Rattle.miette_snippets.specs.rules.CutLines.{Stretch, agree, bytes_in, cut_runs, dots, is_kept, is_near_after, is_within, onto_stretches, pieces_within, stretches}
-use Rattle.miette_snippets.specs.rules.PrintedCells.{line_runs, printed_cells}
+use Rattle.miette_snippet_rules.specs.rules.CutLines.{Stretch, agree, bytes_in, cut_runs, dots, is_kept, is_near_after, is_within, onto_stretches, pieces_within, stretches}
+use Rattle.miette_snippet_rules.specs.rules.PrintedCells.{line_runs, printed_cells}
 use Rattle.miette_snippet_laws.specs.laws.Cuts.{AreStretches, IsWithin, by_nearness, by_stretch, pieces_shown}
 use Rattle.miette_snippet_laws.proofs.CleanTexts.{line_same}
 use Rattle.miette_snippet_laws.proofs.Flat.{glyphs_of-append}

@@ -4,14 +4,14 @@ use Rattle.std.proofs.lemmas.Bool.{ltb-true, ltb-false, leb-true, eqb-true, and_
 use Rattle.std.proofs.lemmas.Bool.Decides.{nat_tests}
 use Rattle.std.proofs.Math.Nat.{suc-mul}
 use Rattle.std.specs.List.{list_any}
-use Rattle.miette_lines.specs.rules.Answers.{Highlight}
-use Rattle.miette_lines.specs.rules.Cells.{Cell}
-use Rattle.miette_lines.proofs.Numbers.{by_cases}
+use Rattle.miette_labels.specs.rules.Answers.{Highlight}
+use Rattle.miette_labels.specs.rules.Cells.{Cell}
+use Rattle.miette_labels.proofs.Numbers.{by_cases}
 use Rattle.miette_page.specs.rules.Rows.{glyphs_of, columns_of}
-use Rattle.miette_snippets.specs.rules.CutLines.{Stretch, columns_in, cut_line, dots, ends, is_kept, is_near, is_near_after, is_within, kept_columns, onto_stretches, shown_runs, stretches}
-use Rattle.miette_snippets.specs.rules.Marks.{Mark}
-use Rattle.miette_snippets.specs.rules.PrintedCells.{cells_width, printed_glyphs, printed_cells}
-use Rattle.miette_snippets.proofs.CutColumns.{AreColumns}
+use Rattle.miette_snippet_rules.specs.rules.CutLines.{Stretch, columns_in, cut_line, dots, ends, is_kept, is_near, is_near_after, is_within, kept_columns, onto_stretches, shown_runs, stretches}
+use Rattle.miette_snippet_rules.specs.rules.Marks.{Mark}
+use Rattle.miette_snippet_rules.specs.rules.PrintedCells.{cells_width, printed_glyphs, printed_cells}
+use Rattle.miette_snippet_rules.proofs.CutColumns.{AreColumns}
 use Rattle.miette_snippet_laws.specs.laws.Cuts.{AreAsWide, most_columns, pieces_shown}
 use Rattle.miette_snippet_laws.proofs.CleanTexts.{line_same}
 use Rattle.miette_snippet_laws.proofs.Columns.{columns_of-append}

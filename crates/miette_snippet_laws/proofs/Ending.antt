@@ -3,29 +3,29 @@ use Rattle.std.proofs.Common.{ℕ, ◌+◌, ◌-◌, ◌<◌, ◌≤◌, ◌≡�
 use Rattle.std.specs.Prelude.{unwrap_or, option_map}
 use Rattle.std.specs.List.{AllByRecursion, list_any}
 use Rattle.std.proofs.lemmas.Bool.{eq-eqb, lt-ltb, le-leb, ltb-true, and_left, and_right, and_from}
-use Rattle.miette_newlines.specs.rules.Lines.{Line, lines_of}
+use Rattle.miette_source_lines.specs.rules.Lines.{Line, lines_of}
 use Rattle.miette_protocol.specs.views.Meaning.{Label}
 use Rattle.miette_protocol.specs.rules.Reading.{Span, Source, Contents}
 use Rattle.miette_style.specs.declared.style.Style.{Style}
-use Rattle.miette_lines.specs.rules.Answers.{Answers, Highlight, first_of}
-use Rattle.miette_lines.specs.rules.Around.{lines_around}
-use Rattle.miette_lines.specs.rules.Contexts.{contents, lines_of_contents}
-use Rattle.miette_lines.specs.rules.Groups.{Refusal, in_order, refusal, groups_of, groups_fail, some_fails}
-use Rattle.miette_lines.specs.rules.Labels.{DrawnLabel, drawn_label, drawn_from, style_at, parts_of, is_at_end, shows_end, some_shows_end}
-use Rattle.miette_snippets.specs.rules.Folds.{Spread, spreads_of}
-use Rattle.miette_snippets.specs.rules.Frames.{SnippetSettings, refused_row, number_width, top_row, bottom_row}
-use Rattle.miette_snippets.specs.rules.Gutters.{gutter_columns}
-use Rattle.miette_snippets.specs.rules.Marks.{Text, marks_from, mark_from, mark_until}
-use Rattle.miette_snippets.specs.rules.SnippetLayout.{cells_of, line_or_break, rows_of_lines, left_out, body_rows, drawn_labels, all_snippets, settings_around, place_of, rows_unless, snippet_rows}
+use Rattle.miette_labels.specs.rules.Answers.{Answers, Highlight, first_of}
+use Rattle.miette_labels.specs.rules.Around.{lines_around}
+use Rattle.miette_labels.specs.rules.Contexts.{contents, lines_of_contents}
+use Rattle.miette_labels.specs.rules.Groups.{Refusal, in_order, refusal, groups_of, groups_fail, some_fails}
+use Rattle.miette_labels.specs.rules.Labels.{DrawnLabel, drawn_label, drawn_from, style_at, parts_of, is_at_end, shows_end, some_shows_end}
+use Rattle.miette_snippet_rules.specs.rules.Folds.{Spread, spreads_of}
+use Rattle.miette_snippet_rules.specs.rules.Frames.{SnippetSettings, refused_row, number_width, top_row, bottom_row}
+use Rattle.miette_snippet_rules.specs.rules.Gutters.{gutter_columns}
+use Rattle.miette_snippet_rules.specs.rules.Marks.{Text, marks_from, mark_from, mark_until}
+use Rattle.miette_snippet_rules.specs.rules.SnippetLayout.{cells_of, line_or_break, rows_of_lines, left_out, body_rows, drawn_labels, all_snippets, settings_around, place_of, rows_unless, snippet_rows}
 use Rattle.miette_page.specs.rules.Rows.{Row}
 use Rattle.miette_snippet_laws.specs.laws.Ends.{last_line, stands_behind, EndsStandBehind, AreBehindText, with_ends}
-use Rattle.miette_lines.proofs.Bridge.{lines_same}
-use Rattle.miette_lines.proofs.Data.{cut}
-use Rattle.miette_lines.proofs.Lines.{cut-le}
-use Rattle.miette_lines.proofs.Numbers.{by_cases}
-use Rattle.miette_lines.proofs.Owning.{own_ordered, order_any}
-use Rattle.miette_lines.proofs.Sources.{IsCut, lines}
-use Rattle.miette_snippets.proofs.Endings.{shows_around}
+use Rattle.miette_labels.proofs.Bridge.{lines_same}
+use Rattle.miette_labels.proofs.Data.{cut}
+use Rattle.miette_labels.proofs.Lines.{cut-le}
+use Rattle.miette_labels.proofs.Numbers.{by_cases}
+use Rattle.miette_labels.proofs.Owning.{own_ordered, order_any}
+use Rattle.miette_labels.proofs.Sources.{IsCut, lines}
+use Rattle.miette_snippet_rules.proofs.Endings.{shows_around}
 
 -- ---- the last line
 

@@ -4,11 +4,11 @@ use Rattle.std.proofs.lemmas.Bool.{lt-ltb, le-ltb, le-leb, lt-leb, and_right, ne
 use Rattle.std.proofs.lemmas.List.{map-append}
 use Rattle.std.specs.List.{range_with_len}
 use Rattle.miette_page.specs.rules.Rows.{Glyph, Row, glyphs_of, glyph_of, styled_run}
-use Rattle.miette_snippets.specs.rules.Marks.{Mark, AreApart}
-use Rattle.miette_snippets.specs.rules.Drawing.{mark_code, mark_runs, lead_runs, text_row, corner, corner_of_several, beside, rows_of_parts, rows_below}
-use Rattle.miette_snippets.specs.rules.SnippetLayout.{before_each}
+use Rattle.miette_snippet_rules.specs.rules.Marks.{Mark, AreApart}
+use Rattle.miette_snippet_rules.specs.rules.Drawing.{mark_code, mark_runs, lead_runs, text_row, corner, corner_of_several, beside, rows_of_parts, rows_below}
+use Rattle.miette_snippet_rules.specs.rules.SnippetLayout.{before_each}
 use Rattle.miette_snippet_laws.specs.laws.Pictures.{mark_at, marks_end}
-use Rattle.miette_snippets.proofs.Numbers.{range_with_len-append}
+use Rattle.miette_snippet_rules.proofs.Numbers.{range_with_len-append}
 use Rattle.miette_snippet_laws.proofs.UnstyledRows.{lead_at, lead, corner_pieces, beside_pieces, plain_parts, plain_below}
 use Rattle.miette_style.specs.rules.Themes.{Characters}
 

@@ -4,35 +4,35 @@ use Rattle.std.specs.Prelude.{unwrap_or}
 use Rattle.std.specs.List.{range_with_len, filter, list_any, AllByRecursion}
 use Rattle.std.proofs.lemmas.Bool.{lt-ltb, le-ltb, le-leb, lt-leb, ltb-true, ltb-false, leb-true, leb-false, cases_lt, and_parts, and_from}
 use Rattle.std.proofs.Math.Bool.{and_comm}
-use Rattle.miette_newlines.specs.rules.Lines as P
-use Rattle.miette_newlines.specs.rules.Lines.{Line, lines_of, is_terminated}
+use Rattle.miette_source_lines.specs.rules.Lines as P
+use Rattle.miette_source_lines.specs.rules.Lines.{Line, lines_of, is_terminated}
 use Rattle.miette_protocol.specs.views.Meaning.{Label}
 use Rattle.miette_protocol.specs.rules.Reading.{Span, Source}
-use Rattle.miette_lines.specs.rules.Around.{lines_around}
-use Rattle.miette_lines.specs.rules.Contexts as C
-use Rattle.miette_lines.specs.rules.Contexts.{contents, end_of_span}
-use Rattle.miette_lines.specs.rules.Groups.{in_order}
-use Rattle.miette_snippets.specs.rules.Folds.{Spread, spread, spreads_of, last_byte, hides, place_among, is_around, is_near, leaves_out}
-use Rattle.miette_snippets.specs.rules.Frames.{SnippetSettings}
-use Rattle.miette_snippets.specs.rules.SnippetLayout.{left_out}
-use Rattle.miette_snippets.specs.rules.Numbers.{ranges}
-use Rattle.miette_snippets.specs.rules.ShownLines.{line_at}
-use Rattle.miette_snippets.specs.rules.Snippets as N
-use Rattle.miette_lines.proofs.Sources.{IsCut, lines, line_of, start_of, end_of, first_line, last_line, reading_end}
-use Rattle.miette_lines.proofs.Numbers.{by_cases}
-use Rattle.miette_lines.proofs.Lines.{cut-le}
-use Rattle.miette_lines.proofs.Data.{cut}
-use Rattle.miette_lines.proofs.Bridge.{lines_same}
-use Rattle.miette_lines.proofs.Owning.{own_ordered, order_any}
-use Rattle.miette_snippets.proofs.Lines.{line-zero, line-mono, line-le-length, end-mono, start-next}
-use Rattle.miette_snippets.proofs.Data.{first-lt, first-le-last, end-le-reading}
-use Rattle.miette_snippets.proofs.Bridge.{counted, line_of_same, begin_same}
-use Rattle.miette_snippets.proofs.Bodies.{KeepsAlike, LeaveAlike, context_same, end-of-data}
+use Rattle.miette_labels.specs.rules.Around.{lines_around}
+use Rattle.miette_labels.specs.rules.Contexts as C
+use Rattle.miette_labels.specs.rules.Contexts.{contents, end_of_span}
+use Rattle.miette_labels.specs.rules.Groups.{in_order}
+use Rattle.miette_snippet_rules.specs.rules.Folds.{Spread, spread, spreads_of, last_byte, hides, place_among, is_around, is_near, leaves_out}
+use Rattle.miette_snippet_rules.specs.rules.Frames.{SnippetSettings}
+use Rattle.miette_snippet_rules.specs.rules.SnippetLayout.{left_out}
+use Rattle.miette_snippet_rules.specs.rules.Numbers.{ranges}
+use Rattle.miette_snippet_rules.specs.rules.ShownLines.{line_at}
+use Rattle.miette_snippet_rules.specs.rules.Snippets as N
+use Rattle.miette_labels.proofs.Sources.{IsCut, lines, line_of, start_of, end_of, first_line, last_line, reading_end}
+use Rattle.miette_labels.proofs.Numbers.{by_cases}
+use Rattle.miette_labels.proofs.Lines.{cut-le}
+use Rattle.miette_labels.proofs.Data.{cut}
+use Rattle.miette_labels.proofs.Bridge.{lines_same}
+use Rattle.miette_labels.proofs.Owning.{own_ordered, order_any}
+use Rattle.miette_snippet_rules.proofs.Lines.{line-zero, line-mono, line-le-length, end-mono, start-next}
+use Rattle.miette_snippet_rules.proofs.Data.{first-lt, first-le-last, end-le-reading}
+use Rattle.miette_snippet_rules.proofs.Bridge.{counted, line_of_same, begin_same}
+use Rattle.miette_snippet_rules.proofs.Bodies.{KeepsAlike, LeaveAlike, context_same, end-of-data}
 use Rattle.miette_snippet_laws.specs.laws.Folding.{FitsIn, EndsPass}
 use Rattle.miette_snippet_laws.proofs.Stretches.{IsMaximal, OfRun, range_same, each_run, each_numbers}
 use Rattle.miette_snippet_laws.proofs.Owning.{Around}
-use Rattle.miette_snippets.proofs.Lines.{last_one}
-use Rattle.miette_snippets.proofs.Bodies.{last_of-range}
+use Rattle.miette_snippet_rules.proofs.Lines.{last_one}
+use Rattle.miette_snippet_rules.proofs.Bodies.{last_of-range}
 
 -- ---- the places of offsets among the lines of a frame
 

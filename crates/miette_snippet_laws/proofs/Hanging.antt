@@ -3,12 +3,12 @@ use Rattle.std.proofs.Common.{ℕ, ◌+◌, ◌<◌, ◌≡◌, Bool, true, ltb,
 use Rattle.std.proofs.lemmas.Bool.{eq-eqb, or_right}
 use Rattle.std.specs.List.{AllByRecursion, list_any}
 use Rattle.miette_page.specs.rules.Rows.{Glyph, glyph_of, code_at, columns_of, Begins}
-use Rattle.miette_lines.specs.rules.Labels.{is_empty}
-use Rattle.miette_snippets.specs.rules.Marks.{Mark, AreApart}
-use Rattle.miette_snippets.specs.rules.Drawing.{IsNarrow, code_with_parts, mark_code}
+use Rattle.miette_labels.specs.rules.Labels.{is_empty}
+use Rattle.miette_snippet_rules.specs.rules.Marks.{Mark, AreApart}
+use Rattle.miette_snippet_rules.specs.rules.Drawing.{IsNarrow, code_with_parts, mark_code}
 use Rattle.miette_snippet_laws.specs.laws.Pictures.{mark_at, marks_end, HangsFrom, PartHangs, Hangs}
 use Rattle.miette_snippet_laws.proofs.UnstyledRows.{mark_row, lead_at, lead, corner_pieces, beside_pieces, plain_parts, plain_below}
-use Rattle.miette_lines.proofs.Numbers.{by_cases}
+use Rattle.miette_labels.proofs.Numbers.{by_cases}
 use Rattle.miette_snippet_laws.proofs.Columns.{code_at-here, code_at-front, code_at-behind, columns_of-map, columns_of-append, code_at-append}
 use Rattle.miette_style.specs.rules.Themes.{Characters}
 

@@ -2,26 +2,26 @@
 use Rattle.std.proofs.Common.{ℕ, ◌+◌, ◌-◌, ◌<◌, ◌≤◌, ◌≡◌, min, max, Bool, true, false, cond, eqb, ltb, leb, not, ◌&&◌, List, [], ◌∷◌, length, Some, refl, sym, ap, ap₂, ◌∙◌, arith}
 use Rattle.std.specs.List.{list_any, AllByRecursion}
 use Rattle.std.proofs.lemmas.Bool.{eq-eqb, eqb-true, eqb-false, le-leb, ltb-true, lt-ltb, leb-true, leb-false, and_parts, and_from, or_parts}
-use Rattle.miette_newlines.specs.rules.Lines as P
-use Rattle.miette_newlines.specs.rules.Lines.{Line, lines_of}
+use Rattle.miette_source_lines.specs.rules.Lines as P
+use Rattle.miette_source_lines.specs.rules.Lines.{Line, lines_of}
 use Rattle.miette_protocol.specs.views.Meaning.{Label}
 use Rattle.miette_protocol.specs.rules.Reading.{Span}
 use Rattle.miette_style.specs.declared.style.Style.{Style}
-use Rattle.miette_lines.specs.rules.Around.{lines_around}
-use Rattle.miette_lines.specs.rules.Contexts as C
-use Rattle.miette_lines.specs.rules.Labels.{DrawnLabel, drawn_label, drawn_from, reach, starts_on, ends_on, runs_through, is_multi_line, multi_line}
-use Rattle.miette_snippets.specs.rules.Folds.{last_byte, hides}
-use Rattle.miette_snippets.specs.rules.ShownLines.{line_at}
-use Rattle.miette_snippets.specs.rules.Snippets as N
-use Rattle.miette_lines.specs.rules.Contexts.{end_of_span}
-use Rattle.miette_lines.proofs.Sources.{lines, line_of, start_of, end_of, first_line, last_line, reading_end}
-use Rattle.miette_lines.proofs.Numbers.{by_cases}
-use Rattle.miette_lines.proofs.Data.{cut}
-use Rattle.miette_lines.proofs.Bridge.{lines_same}
-use Rattle.miette_snippets.proofs.Lines.{line-mono, line-start, line-end, start-lt, start-le-end, start-next}
-use Rattle.miette_snippets.proofs.Data.{end-le-reading}
-use Rattle.miette_snippets.proofs.Bridge.{line_of_same}
-use Rattle.miette_snippets.proofs.Bodies.{context_same}
+use Rattle.miette_labels.specs.rules.Around.{lines_around}
+use Rattle.miette_labels.specs.rules.Contexts as C
+use Rattle.miette_labels.specs.rules.Labels.{DrawnLabel, drawn_label, drawn_from, reach, starts_on, ends_on, runs_through, is_multi_line, multi_line}
+use Rattle.miette_snippet_rules.specs.rules.Folds.{last_byte, hides}
+use Rattle.miette_snippet_rules.specs.rules.ShownLines.{line_at}
+use Rattle.miette_snippet_rules.specs.rules.Snippets as N
+use Rattle.miette_labels.specs.rules.Contexts.{end_of_span}
+use Rattle.miette_labels.proofs.Sources.{lines, line_of, start_of, end_of, first_line, last_line, reading_end}
+use Rattle.miette_labels.proofs.Numbers.{by_cases}
+use Rattle.miette_labels.proofs.Data.{cut}
+use Rattle.miette_labels.proofs.Bridge.{lines_same}
+use Rattle.miette_snippet_rules.proofs.Lines.{line-mono, line-start, line-end, start-lt, start-le-end, start-next}
+use Rattle.miette_snippet_rules.proofs.Data.{end-le-reading}
+use Rattle.miette_snippet_rules.proofs.Bridge.{line_of_same}
+use Rattle.miette_snippet_rules.proofs.Bodies.{context_same}
 use Rattle.miette_snippet_laws.specs.laws.Folding.{IsInside}
 use Rattle.miette_snippet_laws.proofs.Folding.{start_at, end_at, none_first, none_last}
 use Rattle.miette_snippet_laws.proofs.Owning.{Around}

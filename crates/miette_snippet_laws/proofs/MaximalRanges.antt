@@ -5,33 +5,33 @@ use Rattle.std.specs.Option.{option_map}
 use Rattle.std.specs.List.{range_with_len, list_any, AllByRecursion}
 use Rattle.std.proofs.lemmas.List.Elements.{filter_agree}
 use Rattle.std.proofs.lemmas.Bool.{or_parts}
-use Rattle.miette_newlines.specs.rules.Lines.{lines_of}
+use Rattle.miette_source_lines.specs.rules.Lines.{lines_of}
 use Rattle.miette_protocol.specs.views.Meaning.{Label}
 use Rattle.miette_protocol.specs.rules.Reading.{Span, Source}
-use Rattle.miette_lines.specs.rules.Answers.{Answers, Highlight, first_of, NoneFails, AlwaysReads}
-use Rattle.miette_lines.specs.rules.Around.{has_own, lines_around, HaveContext, group_context}
-use Rattle.miette_lines.specs.rules.Contexts.{contents}
-use Rattle.miette_snippets.specs.rules.Folds.{Spread, spreads_of}
-use Rattle.miette_snippets.specs.rules.Frames.{SnippetSettings, refused_row}
-use Rattle.miette_lines.specs.rules.Groups as G
-use Rattle.miette_lines.specs.rules.Groups.{in_order, spans_of, groups_answered, own_groups, groups_of, AreAccepted}
-use Rattle.miette_lines.specs.rules.Labels.{DrawnLabel}
-use Rattle.miette_snippets.specs.rules.SnippetLayout.{body_rows, all_snippets, drawn_labels, settings_around, rows_unless, snippet_rows}
-use Rattle.miette_snippets.specs.rules.Numbers.{ranges}
-use Rattle.miette_snippets.specs.rules.ShownLines.{rows_of_ranges, bodies, framed_rows, framed_ranges}
-use Rattle.miette_snippets.specs.rules.Snippets as N
-use Rattle.miette_lines.proofs.Sources.{lines}
-use Rattle.miette_snippets.proofs.Joining as J
-use Rattle.miette_snippets.proofs.Numbers.{filter-none}
-use Rattle.miette_lines.proofs.Numbers.{by_cases}
-use Rattle.miette_snippets.proofs.Bridge.{none_or_some}
-use Rattle.miette_snippets.proofs.Bodies.{KeepsAlike, joined_runs, joined_bodies, all_framed, none_refused, ordered_accepted}
-use Rattle.miette_lines.proofs.Bodies.{some_none}
+use Rattle.miette_labels.specs.rules.Answers.{Answers, Highlight, first_of, NoneFails, AlwaysReads}
+use Rattle.miette_labels.specs.rules.Around.{has_own, lines_around, HaveContext, group_context}
+use Rattle.miette_labels.specs.rules.Contexts.{contents}
+use Rattle.miette_snippet_rules.specs.rules.Folds.{Spread, spreads_of}
+use Rattle.miette_snippet_rules.specs.rules.Frames.{SnippetSettings, refused_row}
+use Rattle.miette_labels.specs.rules.Groups as G
+use Rattle.miette_labels.specs.rules.Groups.{in_order, spans_of, groups_answered, own_groups, groups_of, AreAccepted}
+use Rattle.miette_labels.specs.rules.Labels.{DrawnLabel}
+use Rattle.miette_snippet_rules.specs.rules.SnippetLayout.{body_rows, all_snippets, drawn_labels, settings_around, rows_unless, snippet_rows}
+use Rattle.miette_snippet_rules.specs.rules.Numbers.{ranges}
+use Rattle.miette_snippet_rules.specs.rules.ShownLines.{rows_of_ranges, bodies, framed_rows, framed_ranges}
+use Rattle.miette_snippet_rules.specs.rules.Snippets as N
+use Rattle.miette_labels.proofs.Sources.{lines}
+use Rattle.miette_snippet_rules.proofs.Joining as J
+use Rattle.miette_snippet_rules.proofs.Numbers.{filter-none}
+use Rattle.miette_labels.proofs.Numbers.{by_cases}
+use Rattle.miette_snippet_rules.proofs.Bridge.{none_or_some}
+use Rattle.miette_snippet_rules.proofs.Bodies.{KeepsAlike, joined_runs, joined_bodies, all_framed, none_refused, ordered_accepted}
+use Rattle.miette_labels.proofs.Bodies.{some_none}
 use Rattle.miette_snippet_laws.proofs.Owning.{Around, order_each, snippets_same, group_blocks, groups_are, groups_there, block_runs, lines_are, block_bodies, nowhere, groups_nowhere, lines_nowhere, snippets_nowhere, body_nowhere}
 use Rattle.miette_snippet_laws.proofs.Folding.{runs_alike, none_alike}
-use Rattle.miette_lines.proofs.Owning.{none_around, own_ordered, order_any}
+use Rattle.miette_labels.proofs.Owning.{none_around, own_ordered, order_any}
 use Rattle.miette_snippet_laws.proofs.Spreading.{numbers_of}
-use Rattle.miette_lines.proofs.NoFailures.{none_unread}
+use Rattle.miette_labels.proofs.NoFailures.{none_unread}
 
 -- ---- the order of labels changes nothing that is shown
 

@@ -4,36 +4,36 @@ use Rattle.std.specs.Prelude.{is_some}
 use Rattle.std.proofs.lemmas.List.Elements.{filter_agree}
 use Rattle.std.proofs.lemmas.Bool.{or_parts}
 use Rattle.std.specs.List.{range_with_len, filter, list_any, AllByRecursion}
-use Rattle.miette_newlines.specs.rules.Lines as P
-use Rattle.miette_newlines.specs.rules.Lines.{Line}
+use Rattle.miette_source_lines.specs.rules.Lines as P
+use Rattle.miette_source_lines.specs.rules.Lines.{Line}
 use Rattle.miette_protocol.specs.views.Meaning.{Label}
 use Rattle.miette_protocol.specs.rules.Reading as R
 use Rattle.miette_protocol.specs.rules.Reading.{Span, Source, Contents}
-use Rattle.miette_lines.specs.rules.Answers.{Highlight, first_of}
-use Rattle.miette_lines.specs.rules.Around.{has_own, lines_around}
-use Rattle.miette_lines.specs.rules.Contexts as C
-use Rattle.miette_lines.specs.rules.Contexts.{contents, lines_of_contents}
-use Rattle.miette_snippets.specs.rules.Folds.{Spread}
-use Rattle.miette_snippets.specs.rules.Frames.{SnippetSettings, width_of_lines}
-use Rattle.miette_lines.specs.rules.Groups as G
-use Rattle.miette_lines.specs.rules.Groups.{in_order, put_label, stretch, put_span, by_begin, stretches_from, joined_stretches, own_groups}
-use Rattle.miette_snippets.specs.rules.Gutters.{gutter_columns}
-use Rattle.miette_lines.specs.rules.Labels.{DrawnLabel}
-use Rattle.miette_snippets.specs.rules.SnippetLayout.{rows_of_lines, left_out, body_rows}
-use Rattle.miette_snippets.specs.rules.Numbers.{ranges}
-use Rattle.miette_snippets.specs.rules.ShownLines.{range_rows, rows_of_ranges, bodies}
-use Rattle.miette_snippets.specs.rules.Snippets as N
-use Rattle.miette_lines.proofs.Sources.{lines, first_line, last_line}
-use Rattle.miette_snippets.proofs.Joining as J
-use Rattle.miette_lines.proofs.Numbers.{by_cases}
-use Rattle.miette_snippets.proofs.Data.{first-lt, first-le-last}
-use Rattle.miette_snippets.proofs.Bridge.{begin_same, end_data_same}
-use Rattle.miette_lines.proofs.Bridge.{lines_same, some-context}
-use Rattle.miette_snippets.proofs.Bodies.{KeepsAlike, no_lines, no-part, body_from, context_same}
-use Rattle.miette_snippets.proofs.Ends.{empty-end, empty-start}
+use Rattle.miette_labels.specs.rules.Answers.{Highlight, first_of}
+use Rattle.miette_labels.specs.rules.Around.{has_own, lines_around}
+use Rattle.miette_labels.specs.rules.Contexts as C
+use Rattle.miette_labels.specs.rules.Contexts.{contents, lines_of_contents}
+use Rattle.miette_snippet_rules.specs.rules.Folds.{Spread}
+use Rattle.miette_snippet_rules.specs.rules.Frames.{SnippetSettings, width_of_lines}
+use Rattle.miette_labels.specs.rules.Groups as G
+use Rattle.miette_labels.specs.rules.Groups.{in_order, put_label, stretch, put_span, by_begin, stretches_from, joined_stretches, own_groups}
+use Rattle.miette_snippet_rules.specs.rules.Gutters.{gutter_columns}
+use Rattle.miette_labels.specs.rules.Labels.{DrawnLabel}
+use Rattle.miette_snippet_rules.specs.rules.SnippetLayout.{rows_of_lines, left_out, body_rows}
+use Rattle.miette_snippet_rules.specs.rules.Numbers.{ranges}
+use Rattle.miette_snippet_rules.specs.rules.ShownLines.{range_rows, rows_of_ranges, bodies}
+use Rattle.miette_snippet_rules.specs.rules.Snippets as N
+use Rattle.miette_labels.proofs.Sources.{lines, first_line, last_line}
+use Rattle.miette_snippet_rules.proofs.Joining as J
+use Rattle.miette_labels.proofs.Numbers.{by_cases}
+use Rattle.miette_snippet_rules.proofs.Data.{first-lt, first-le-last}
+use Rattle.miette_snippet_rules.proofs.Bridge.{begin_same, end_data_same}
+use Rattle.miette_labels.proofs.Bridge.{lines_same, some-context}
+use Rattle.miette_snippet_rules.proofs.Bodies.{KeepsAlike, no_lines, no-part, body_from, context_same}
+use Rattle.miette_snippet_rules.proofs.Ends.{empty-end, empty-start}
 use Rattle.miette_snippet_laws.proofs.Reread.{block_line, block_lines, block_numbers}
 use Rattle.miette_snippet_laws.proofs.Spreading.{Block, IsBlock, AreBlocks, span_of, order_same, joined_same, blocks_by_begin, joined_blocks, ordered_there, joined_there, blocks_are_runs, numbers_of, in_blocks}
-use Rattle.miette_lines.proofs.Owning.{none_around}
+use Rattle.miette_labels.proofs.Owning.{none_around}
 
 put_each : (P : Label → Type 0) (label : Label) (labels : List Label) → P label → AllByRecursion P labels → AllByRecursion P (put_label label labels)
 put_each P label [] own h = (own, tt)

@@ -2,23 +2,23 @@
 use Rattle.std.proofs.Common.{◌≡◌, ℕ, ◌+◌, ◌-◌, Bool, true, false, ◌&&◌, ◌||◌, not, if◌then◌else◌, List, [], ◌∷◌, ◌++◌, map, length, replicate, decimal, codes, chars, Option, Some, None, IfSome, option_map, refl, sym, ap, ap₂, ◌∙◌, subst, drop}
 use Rattle.std.specs.Prelude.{nat_lt, slice_range}
 use Rattle.std.specs.List.{AllByRecursion}
-use Rattle.miette_newlines.specs.rules.Lines.{Line}
+use Rattle.miette_source_lines.specs.rules.Lines.{Line}
 use Rattle.miette_protocol.specs.views.Meaning.{Label}
 use Rattle.miette_protocol.specs.rules.Reading.{Span, Source, Contents, is_accepted}
-use Rattle.miette_lines.specs.rules.Answers.{Answers, Highlight, next_answer, first_of}
-use Rattle.miette_snippets.specs.rules.CutLines.{cut_line, shown_marks, shown_runs}
-use Rattle.miette_lines.specs.rules.Cells.{Cell, characters}
+use Rattle.miette_labels.specs.rules.Answers.{Answers, Highlight, next_answer, first_of}
+use Rattle.miette_snippet_rules.specs.rules.CutLines.{cut_line, shown_marks, shown_runs}
+use Rattle.miette_labels.specs.rules.Cells.{Cell, characters}
 use Rattle.miette_snippet_laws.specs.laws.Clean.{IsClean, IsCleanText, IsCleanRow, IsCleanLabel, IsCleanSource, AreCleanDrawings}
-use Rattle.miette_lines.specs.rules.Contexts.{contents, lines_of_contents}
-use Rattle.miette_snippets.specs.rules.Drawing.{marked_rows}
+use Rattle.miette_labels.specs.rules.Contexts.{contents, lines_of_contents}
+use Rattle.miette_snippet_rules.specs.rules.Drawing.{marked_rows}
 use Rattle.miette_snippet_laws.specs.laws.Fading.{colourless, unhighlighted_answer, IsPlainRow}
-use Rattle.miette_snippets.specs.rules.Folds.{Spread, spreads_of}
-use Rattle.miette_snippets.specs.rules.Frames.{SnippetSettings, Place, text_or_none, refused_row, number_start, other_start, break_start, place_text, location, location_of, top_row_of, bottom_row, number_width}
-use Rattle.miette_lines.specs.rules.Groups.{Refusal, refusal, in_order, groups_of, some_fails, groups_fail}
-use Rattle.miette_snippets.specs.rules.Gutters.{number_gutter, other_gutter, break_gutter, closing_rows, gutter_columns}
-use Rattle.miette_lines.specs.rules.Labels.{DrawnLabel, some_shows_end, one_line, multi_line, closing_labels, is_one_line, is_multi_line, ends_on, starts_on}
-use Rattle.miette_snippets.specs.rules.SnippetLayout.{text_of_cells, cells_of, before_each, line_rows_of, line_rows, break_row, line_or_break, rows_of_lines, left_out, body_rows, place_of, drawn_labels, snippet, all_snippets, settings_around, rows_unless, snippet_rows, line_cut}
-use Rattle.miette_snippets.specs.rules.Marks.{marks}
+use Rattle.miette_snippet_rules.specs.rules.Folds.{Spread, spreads_of}
+use Rattle.miette_snippet_rules.specs.rules.Frames.{SnippetSettings, Place, text_or_none, refused_row, number_start, other_start, break_start, place_text, location, location_of, top_row_of, bottom_row, number_width}
+use Rattle.miette_labels.specs.rules.Groups.{Refusal, refusal, in_order, groups_of, some_fails, groups_fail}
+use Rattle.miette_snippet_rules.specs.rules.Gutters.{number_gutter, other_gutter, break_gutter, closing_rows, gutter_columns}
+use Rattle.miette_labels.specs.rules.Labels.{DrawnLabel, some_shows_end, one_line, multi_line, closing_labels, is_one_line, is_multi_line, ends_on, starts_on}
+use Rattle.miette_snippet_rules.specs.rules.SnippetLayout.{text_of_cells, cells_of, before_each, line_rows_of, line_rows, break_row, line_or_break, rows_of_lines, left_out, body_rows, place_of, drawn_labels, snippet, all_snippets, settings_around, rows_unless, snippet_rows, line_cut}
+use Rattle.miette_snippet_rules.specs.rules.Marks.{marks}
 use Rattle.miette_page.specs.rules.Rows.{Run, Row, glyphs_of, plain_run}
 use Rattle.miette_style.specs.rules.Styles.{plain}
 use Rattle.miette_snippet_laws.proofs.Bleaching.{filter_bleached, all_filter, marks_bleached, marks_clean, gutter_bleached, drawn_bleached, drawn_clean, ordered_clean}

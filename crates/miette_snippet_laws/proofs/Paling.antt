@@ -3,13 +3,13 @@ use Rattle.std.proofs.Common.{◌≡◌, ℕ, ◌+◌, ◌-◌, Bool, true, fals
 use Rattle.std.specs.List.{AllByRecursion, range_with_len}
 use Rattle.std.proofs.lemmas.List.{map-append}
 use Rattle.miette_style.specs.declared.style.Style.{Style}
-use Rattle.miette_newlines.specs.rules.Lines.{Line}
+use Rattle.miette_source_lines.specs.rules.Lines.{Line}
 use Rattle.miette_snippet_laws.specs.laws.Clean.{IsCleanCode, IsClean, IsCleanRow, AreCleanDrawings}
-use Rattle.miette_snippets.specs.rules.Drawing.{blank, code_with_parts, mark_code, mark_run, mark_runs, lead_runs, text_row, corner, corner_of_several, beside, rows_of_parts, rows_below, marked_rows}
+use Rattle.miette_snippet_rules.specs.rules.Drawing.{blank, code_with_parts, mark_code, mark_run, mark_runs, lead_runs, text_row, corner, corner_of_several, beside, rows_of_parts, rows_below, marked_rows}
 use Rattle.miette_snippet_laws.specs.laws.Fading.{IsPlainRow}
-use Rattle.miette_snippets.specs.rules.Gutters.{ending_corner, arrow, bar, number_gutter, break_gutter, other_gutter, open_gutter, part_run, closing_parts, closing_rows}
-use Rattle.miette_lines.specs.rules.Labels.{DrawnLabel, is_empty, starts_on, ends_on}
-use Rattle.miette_snippets.specs.rules.Marks.{Mark}
+use Rattle.miette_snippet_rules.specs.rules.Gutters.{ending_corner, arrow, bar, number_gutter, break_gutter, other_gutter, open_gutter, part_run, closing_parts, closing_rows}
+use Rattle.miette_labels.specs.rules.Labels.{DrawnLabel, is_empty, starts_on, ends_on}
+use Rattle.miette_snippet_rules.specs.rules.Marks.{Mark}
 use Rattle.miette_page.specs.rules.Rows.{Run, Row, glyphs_of, styled_run}
 use Rattle.miette_style.specs.rules.Styles.{plain}
 use Rattle.miette_snippet_laws.proofs.CleanTexts.{AreCleanPieces, clean_cons, clean_append, clean_replicate, clean_code_if, clean_copies, clean_drawn, clean_each}

@@ -3,24 +3,24 @@ use Rattle.std.proofs.Common.{ℕ, zero, suc, ◌+◌, ◌-◌, ◌<◌, ◌≤�
 use Rattle.std.specs.Prelude.{slice_index, slice_range}
 use Rattle.std.specs.List.{range_with_len, filter}
 use Rattle.std.proofs.lemmas.Bool.{cases_lt, and_right, ne_eqb, eqb-true}
-use Rattle.miette_newlines.specs.rules.Lines as P
-use Rattle.miette_newlines.specs.rules.Lines.{Line, lines_of}
+use Rattle.miette_source_lines.specs.rules.Lines as P
+use Rattle.miette_source_lines.specs.rules.Lines.{Line, lines_of}
 use Rattle.miette_protocol.specs.rules.Reading as R
 use Rattle.miette_protocol.specs.rules.Reading.{Source}
-use Rattle.miette_lines.specs.rules.Contexts as C
-use Rattle.miette_lines.specs.rules.Contexts.{contents, lines_of_contents}
-use Rattle.miette_snippets.specs.rules.ShownLines.{line_at}
-use Rattle.miette_snippets.proofs.Numbers.{filter-same}
-use Rattle.miette_lines.proofs.Numbers.{by_cases}
-use Rattle.miette_lines.proofs.Sources.{begins_with_lf, with_text, with_cr, lines_from, lines, IsCut, start_of, end_of, past_lf, reading_end}
-use Rattle.miette_snippets.proofs.Lines.{end-ge, cut-some, start-lt, start-le-end, end-mono, line-start}
-use Rattle.miette_lines.proofs.Lines.{cut_lines, end-in}
-use Rattle.miette_snippets.proofs.Data.{range-lines, end-some}
-use Rattle.miette_lines.proofs.Data.{cut}
-use Rattle.miette_snippets.proofs.Segments.{part_lines}
-use Rattle.miette_snippets.proofs.Bridge.{line_of_same, reading_same}
-use Rattle.miette_lines.proofs.Bridge.{lines_same, next_lf}
-use Rattle.miette_snippets.proofs.Bodies.{in_same}
+use Rattle.miette_labels.specs.rules.Contexts as C
+use Rattle.miette_labels.specs.rules.Contexts.{contents, lines_of_contents}
+use Rattle.miette_snippet_rules.specs.rules.ShownLines.{line_at}
+use Rattle.miette_snippet_rules.proofs.Numbers.{filter-same}
+use Rattle.miette_labels.proofs.Numbers.{by_cases}
+use Rattle.miette_labels.proofs.Sources.{begins_with_lf, with_text, with_cr, lines_from, lines, IsCut, start_of, end_of, past_lf, reading_end}
+use Rattle.miette_snippet_rules.proofs.Lines.{end-ge, cut-some, start-lt, start-le-end, end-mono, line-start}
+use Rattle.miette_labels.proofs.Lines.{cut_lines, end-in}
+use Rattle.miette_snippet_rules.proofs.Data.{range-lines, end-some}
+use Rattle.miette_labels.proofs.Data.{cut}
+use Rattle.miette_snippet_rules.proofs.Segments.{part_lines}
+use Rattle.miette_snippet_rules.proofs.Bridge.{line_of_same, reading_same}
+use Rattle.miette_labels.proofs.Bridge.{lines_same, next_lf}
+use Rattle.miette_snippet_rules.proofs.Bodies.{in_same}
 use Rattle.miette_snippet_laws.proofs.Spreading.{Block, IsBlock, span_of, block_end, numbers_of}
 
 -- ---- no line ends between a CR and its LF

@@ -4,19 +4,19 @@ use Rattle.std.specs.Prelude.{if◌then◌else◌}
 use Rattle.std.proofs.lemmas.Bool.{le-leb, lt-leb, leb-true, leb-false, cases_lt}
 use Rattle.std.proofs.lemmas.List.Elements.{filter_agree}
 use Rattle.std.specs.List.{range_with_len, filter, list_any, AllByRecursion}
-use Rattle.miette_newlines.specs.rules.Lines.{Line}
+use Rattle.miette_source_lines.specs.rules.Lines.{Line}
 use Rattle.miette_protocol.specs.rules.Reading.{Span}
-use Rattle.miette_lines.specs.rules.Groups.{joined_span, put_span, by_begin, stretches_from, joined_stretches}
-use Rattle.miette_snippets.specs.rules.Numbers.{ranges}
-use Rattle.miette_lines.specs.rules.Contexts.{end_of_span}
-use Rattle.miette_lines.proofs.Sources.{lines, start_of, end_of}
-use Rattle.miette_snippets.proofs.Numbers.{filter-none}
-use Rattle.miette_lines.proofs.Numbers.{by_cases}
-use Rattle.miette_snippets.proofs.Lines.{line-mono, line-start, start-next, start-le-end, end-mono}
-use Rattle.miette_snippets.proofs.Data.{starts}
-use Rattle.miette_lines.proofs.Data.{cut}
-use Rattle.miette_snippets.proofs.Merging.{within, or_assoc, span_run}
-use Rattle.miette_lines.proofs.Merging.{swap_or}
+use Rattle.miette_labels.specs.rules.Groups.{joined_span, put_span, by_begin, stretches_from, joined_stretches}
+use Rattle.miette_snippet_rules.specs.rules.Numbers.{ranges}
+use Rattle.miette_labels.specs.rules.Contexts.{end_of_span}
+use Rattle.miette_labels.proofs.Sources.{lines, start_of, end_of}
+use Rattle.miette_snippet_rules.proofs.Numbers.{filter-none}
+use Rattle.miette_labels.proofs.Numbers.{by_cases}
+use Rattle.miette_snippet_rules.proofs.Lines.{line-mono, line-start, start-next, start-le-end, end-mono}
+use Rattle.miette_snippet_rules.proofs.Data.{starts}
+use Rattle.miette_labels.proofs.Data.{cut}
+use Rattle.miette_snippet_rules.proofs.Merging.{within, or_assoc, span_run}
+use Rattle.miette_labels.proofs.Merging.{swap_or}
 
 -- the numbers of the first and the last of some lines; the last need not be there
 pub record Block : Type 0 where

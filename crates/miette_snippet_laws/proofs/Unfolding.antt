@@ -1,20 +1,20 @@
 -- Where no label has more lines than it is folded to, the rows of snippets are those without folding.
 use Rattle.std.proofs.Common.{ℕ, ◌+◌, ◌≡◌, Bool, false, not, List, [], ◌∷◌, ◌++◌, length, map, Option, Some, None, refl, sym, ap, ap₂, ◌∙◌, drop}
 use Rattle.std.specs.List.{AllByRecursion}
-use Rattle.miette_newlines.specs.rules.Lines.{Line, lines_of}
+use Rattle.miette_source_lines.specs.rules.Lines.{Line, lines_of}
 use Rattle.miette_protocol.specs.views.Meaning.{Label}
 use Rattle.miette_protocol.specs.rules.Reading.{Span, Source}
 use Rattle.miette_page.specs.rules.Rows.{Row}
-use Rattle.miette_lines.specs.rules.Answers.{Answers, Highlight, first_of, AlwaysReads}
-use Rattle.miette_lines.specs.rules.Around.{HaveContext}
-use Rattle.miette_lines.specs.rules.Contexts.{contents}
-use Rattle.miette_lines.specs.rules.Groups.{in_order, groups_of, AreAccepted}
-use Rattle.miette_lines.specs.rules.Labels.{DrawnLabel}
-use Rattle.miette_snippets.specs.rules.Frames.{SnippetSettings, top_row, bottom_row, number_width}
-use Rattle.miette_snippets.specs.rules.Gutters.{gutter_columns}
-use Rattle.miette_snippets.specs.rules.ShownLines.{line_at, numbered_rows, range_width, rows_of_ranges, framed_rows}
-use Rattle.miette_snippets.specs.rules.SnippetLayout.{line_or_break, cells_of, place_of, drawn_labels, settings_around, snippet_rows}
-use Rattle.miette_snippets.specs.rules.Snippets as N
+use Rattle.miette_labels.specs.rules.Answers.{Answers, Highlight, first_of, AlwaysReads}
+use Rattle.miette_labels.specs.rules.Around.{HaveContext}
+use Rattle.miette_labels.specs.rules.Contexts.{contents}
+use Rattle.miette_labels.specs.rules.Groups.{in_order, groups_of, AreAccepted}
+use Rattle.miette_labels.specs.rules.Labels.{DrawnLabel}
+use Rattle.miette_snippet_rules.specs.rules.Frames.{SnippetSettings, top_row, bottom_row, number_width}
+use Rattle.miette_snippet_rules.specs.rules.Gutters.{gutter_columns}
+use Rattle.miette_snippet_rules.specs.rules.ShownLines.{line_at, numbered_rows, range_width, rows_of_ranges, framed_rows}
+use Rattle.miette_snippet_rules.specs.rules.SnippetLayout.{line_or_break, cells_of, place_of, drawn_labels, settings_around, snippet_rows}
+use Rattle.miette_snippet_rules.specs.rules.Snippets as N
 use Rattle.miette_snippet_laws.specs.laws.Folding.{FitsIn}
 use Rattle.miette_snippet_laws.proofs.MaximalRanges.{snippets_are_runs}
 use Rattle.miette_snippet_laws.proofs.Folding.{all_kept}

@@ -2,20 +2,20 @@
 use Rattle.std.proofs.Common.{ℕ, ◌+◌, ◌≤◌, ◌≡◌, false, List, [], ◌∷◌, length, arith, drop}
 use Rattle.std.specs.Prelude.{decimal, slice_range}
 use Rattle.std.specs.List.{AllByRecursion}
-use Rattle.miette_newlines.specs.rules.Lines.{Line}
+use Rattle.miette_source_lines.specs.rules.Lines.{Line}
 use Rattle.miette_protocol.specs.rules.Reading.{Contents}
-use Rattle.miette_lines.specs.rules.Answers.{Highlight, first_of}
-use Rattle.miette_lines.specs.rules.Contexts.{lines_of_contents}
-use Rattle.miette_lines.specs.rules.Labels.{DrawnLabel, one_line}
-use Rattle.miette_snippets.specs.rules.Drawing.{IsNarrow}
-use Rattle.miette_snippets.specs.rules.Gutters.{gutter_columns}
-use Rattle.miette_snippets.specs.rules.Frames.{SnippetSettings, width_of_lines}
-use Rattle.miette_snippets.specs.rules.SnippetLayout.{cells_of, line_marks, text_of_cells}
+use Rattle.miette_labels.specs.rules.Answers.{Highlight, first_of}
+use Rattle.miette_labels.specs.rules.Contexts.{lines_of_contents}
+use Rattle.miette_labels.specs.rules.Labels.{DrawnLabel, one_line}
+use Rattle.miette_snippet_rules.specs.rules.Drawing.{IsNarrow}
+use Rattle.miette_snippet_rules.specs.rules.Gutters.{gutter_columns}
+use Rattle.miette_snippet_rules.specs.rules.Frames.{SnippetSettings, width_of_lines}
+use Rattle.miette_snippet_rules.specs.rules.SnippetLayout.{cells_of, line_marks, text_of_cells}
 use Rattle.miette_snippet_laws.specs.laws.Pictures.{LinesShow, BodyShows, marks_of_line}
-use Rattle.miette_snippets.specs.rules.Marks.{AreApart}
+use Rattle.miette_snippet_rules.specs.rules.Marks.{AreApart}
 use Rattle.miette_snippet_laws.proofs.Apart.{marks_apart}
-use Rattle.miette_lines.specs.rules.Cells.{characters}
-use Rattle.miette_snippets.proofs.CutColumns.{AreColumns, columns_from, shown_apart}
+use Rattle.miette_labels.specs.rules.Cells.{characters}
+use Rattle.miette_snippet_rules.proofs.CutColumns.{AreColumns, columns_from, shown_apart}
 use Rattle.miette_snippet_laws.proofs.Numerals.{decimal-mono}
 use Rattle.miette_snippet_laws.proofs.Beneath.{HasRoom, line_shows, line_begins, all_room}
 

@@ -4,8 +4,8 @@ ghost use Rattle.std.specs.Prelude.{◌≡◌, ◌≤◌, ℕ, List, ◌∷◌, 
 ghost use Rattle.std.specs.Prelude.{IfSome, ◌<◌, ◌+◌};
 ghost use Rattle.std.specs.Option.{option_map};
 ghost use Rattle.std.specs.List.{AllByRecursion, concat};
-ghost use Rattle.miette_snippets.specs.rules.Numbers.{ranges, IsRange, AreParted};
-ghost use Rattle.miette_newlines.specs.rules.Lines.{lines_of};
+ghost use Rattle.miette_snippet_rules.specs.rules.Numbers.{ranges, IsRange, AreParted};
+ghost use Rattle.miette_source_lines.specs.rules.Lines.{lines_of};
 ghost use Rattle.miette_style.specs.declared.style.Style.{Style};
 ghost use Rattle.miette_protocol.specs.views.Meaning.{Label};
 ghost use Rattle.miette_protocol.specs.rules.Reading.{Source, Contents};
@@ -17,22 +17,22 @@ ghost use Rattle.miette_snippet_laws.specs.laws.Cuts.{AreAsWide, AreStretches, F
 ghost use Rattle.miette_snippet_laws.specs.laws.Cuts.{most_columns, pieces_shown};
 ghost use Rattle.miette_snippet_laws.specs.laws.Fading.{IsPlainRow, colourless, unhighlighted_answer};
 ghost use Rattle.miette_page.specs.rules.Rows.{columns_of, glyphs_of};
-ghost use Rattle.miette_lines.specs.rules.Answers.{Answers, AlwaysReads, Highlight, NoneFails};
-ghost use Rattle.miette_lines.specs.rules.Around.{HaveContext, group_context};
-ghost use Rattle.miette_lines.specs.rules.Groups.{AreAccepted, in_order, groups_of, lines_of_groups};
-ghost use Rattle.miette_snippets.specs.rules.Snippets.{snippets, shown_numbers, is_kept};
-ghost use Rattle.miette_lines.specs.rules.Labels.{DrawnLabel, drawn_from, multi_line, some_shows_end, one_line};
-ghost use Rattle.miette_snippets.specs.rules.Marks.{Text, marks, marks_at, AreApart};
-ghost use Rattle.miette_newlines.specs.rules.Lines.{Line};
-ghost use Rattle.miette_lines.specs.rules.Cells.{Cell};
-ghost use Rattle.miette_lines.specs.rules.Contexts.{lines_of_contents};
-ghost use Rattle.miette_snippets.specs.rules.CutLines.{Stretch, cut_runs, is_within, stretches};
-ghost use Rattle.miette_snippets.specs.rules.Drawing.{IsNarrow};
-ghost use Rattle.miette_snippets.specs.rules.Folds.{Spread};
-ghost use Rattle.miette_snippets.specs.rules.Frames.{SnippetSettings};
-ghost use Rattle.miette_snippets.specs.rules.SnippetLayout.{snippet_rows, body_rows, cells_of};
+ghost use Rattle.miette_labels.specs.rules.Answers.{Answers, AlwaysReads, Highlight, NoneFails};
+ghost use Rattle.miette_labels.specs.rules.Around.{HaveContext, group_context};
+ghost use Rattle.miette_labels.specs.rules.Groups.{AreAccepted, in_order, groups_of, lines_of_groups};
+ghost use Rattle.miette_snippet_rules.specs.rules.Snippets.{snippets, shown_numbers, is_kept};
+ghost use Rattle.miette_labels.specs.rules.Labels.{DrawnLabel, drawn_from, multi_line, some_shows_end, one_line};
+ghost use Rattle.miette_snippet_rules.specs.rules.Marks.{Text, marks, marks_at, AreApart};
+ghost use Rattle.miette_source_lines.specs.rules.Lines.{Line};
+ghost use Rattle.miette_labels.specs.rules.Cells.{Cell};
+ghost use Rattle.miette_labels.specs.rules.Contexts.{lines_of_contents};
+ghost use Rattle.miette_snippet_rules.specs.rules.CutLines.{Stretch, cut_runs, is_within, stretches};
+ghost use Rattle.miette_snippet_rules.specs.rules.Drawing.{IsNarrow};
+ghost use Rattle.miette_snippet_rules.specs.rules.Folds.{Spread};
+ghost use Rattle.miette_snippet_rules.specs.rules.Frames.{SnippetSettings};
+ghost use Rattle.miette_snippet_rules.specs.rules.SnippetLayout.{snippet_rows, body_rows, cells_of};
 ghost use Rattle.miette_snippet_laws.specs.laws.Pictures.{BodyShows, marks_of_line, text_of_line};
-ghost use Rattle.miette_snippets.specs.rules.ShownLines.{framed_ranges, line_at};
+ghost use Rattle.miette_snippet_rules.specs.rules.ShownLines.{framed_ranges, line_at};
 
 /// Where no read fails, and there is at least one line of context for each label, the lines that the groups of labels
 /// show are the maximal ranges of all lines that lie in the context of a label.

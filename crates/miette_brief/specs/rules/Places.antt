@@ -2,7 +2,7 @@
 use Rattle.std.specs.Prelude.{◌+◌, List, [], ◌∷◌, Option, Some, None, Bool, not, ◌&&◌, if◌then◌else◌}
 use Rattle.miette_protocol.specs.views.Meaning.{Label}
 use Rattle.miette_protocol.specs.rules.Reading.{Span, Source, is_accepted}
-use Rattle.miette_lines.specs.rules.Contexts.{contents}
+use Rattle.miette_labels.specs.rules.Contexts.{contents}
 use Rattle.miette_brief.specs.rules.Rows.{Place, nowhere}
 
 -- the span of the first label that is marked as primary, else the first argument

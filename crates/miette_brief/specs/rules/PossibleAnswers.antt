@@ -7,7 +7,7 @@ use Rattle.miette_tree.specs.rules.Tree.{Tree, tree, Cause, diagnostic, texts, T
 use Rattle.miette_tree.specs.rules.DiagnosticParts.{given_labels}
 use Rattle.miette_tree.specs.rules.Reads.{MayMeet}
 use Rattle.miette_tree.specs.rules.Answers.{own_fault}
-use Rattle.miette_lines.specs.rules.Groups.{in_order, AreAccepted}
+use Rattle.miette_labels.specs.rules.Groups.{in_order, AreAccepted}
 use Rattle.miette_brief.specs.rules.Report.{BriefSettings, Answers, RelatedAnswers, cause_answers}
 use Rattle.miette_brief.specs.rules.Report.{related_answers, first_answers, later_answers}
 use Rattle.miette_brief.specs.rules.Report.{brief}

@@ -7,7 +7,7 @@ use Rattle.miette_tree.specs.rules.Answers.{AnswerTree, AnswerTrees, own_fault}
 pub use Rattle.miette_tree.specs.rules.Answers.{unlisted, listed, no_more, and_more, cause_answers, related_answers}
 pub use Rattle.miette_tree.specs.rules.Answers.{first_answers, later_answers}
 use Rattle.miette_tree.specs.rules.DiagnosticParts.{given_labels}
-use Rattle.miette_lines.specs.rules.Groups.{in_order}
+use Rattle.miette_labels.specs.rules.Groups.{in_order}
 use Rattle.miette_brief.specs.rules.Rows.{Place, ReportRow, Kind, finding, note, cause, help, rows_text}
 use Rattle.miette_brief.specs.rules.Places.{label_place, diagnostic_place, cause_place}
 

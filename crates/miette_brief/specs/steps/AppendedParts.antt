@@ -6,7 +6,7 @@ use Rattle.miette_tree.specs.rules.Tree.{Tree, Cause, Trees}
 use Rattle.miette_tree.specs.rules.DiagnosticParts.{given_labels}
 use Rattle.miette_tree.specs.rules.Answers.{own_fault}
 use Rattle.miette_tree.specs.rules.Reads.{MayMeet}
-use Rattle.miette_lines.specs.rules.Groups.{in_order}
+use Rattle.miette_labels.specs.rules.Groups.{in_order}
 use Rattle.miette_brief.specs.rules.Rows.{Place, rows_text}
 use Rattle.miette_brief.specs.rules.Report.{Answers, RelatedAnswers, cause_answers, cause_rows_if, help_rows, own_rows}
 use Rattle.miette_brief.specs.rules.Report.{report_rows, related_rows}

@@ -1,8 +1,8 @@
 -- What the cells of a line tell.
 use Rattle.std.specs.Prelude.{List, map}
 use Rattle.miette_page.specs.views.Tokens.{Token, text_tokens}
-use Rattle.miette_snippets.specs.rules.PrintedCells.{printed_cells}
-use Rattle.miette_lines.specs.rules.Cells.{Cell}
+use Rattle.miette_snippet_rules.specs.rules.PrintedCells.{printed_cells}
+use Rattle.miette_labels.specs.rules.Cells.{Cell}
 
 -- what cells print
 abbrev pub cells_tokens : List Cell → List Token

@@ -1,7 +1,7 @@
 -- The stops of a line's text, from which the columns of its characters are found.
 use Rattle.std.specs.Prelude.{ℕ, ◌≡◌, ◌<◌, ◌≤◌, List, [], ◌∷◌}
-use Rattle.miette_lines.specs.rules.Cells.{Cell}
-use Rattle.miette_snippets.specs.rules.PrintedCells.{first_column, last_column}
+use Rattle.miette_labels.specs.rules.Cells.{Cell}
+use Rattle.miette_snippet_rules.specs.rules.PrintedCells.{first_column, last_column}
 use Rattle.miette_cuts.specs.declared.marks.Stop.{Stop}
 
 -- each cell has a byte, and begins where the one before it ends or later

@@ -1,8 +1,8 @@
 -- Marks, as a program makes them.
 use Rattle.std.specs.Prelude.{List, []}
 use Rattle.miette_protocol.specs.views.Meaning.{Label}
-use Rattle.miette_lines.specs.views.GivenLabels.{drawn_of}
-use Rattle.miette_snippets.specs.rules.Marks.{Mark, HasAnchor}
+use Rattle.miette_labels.specs.views.GivenLabels.{drawn_of}
+use Rattle.miette_snippet_rules.specs.rules.Marks.{Mark, HasAnchor}
 use Rattle.miette_cuts.specs.declared.marks.Mark.{Mark as MadeMark}
 
 -- a mark, with its label as it is drawn

@@ -1,8 +1,8 @@
 -- The parts of a frame's rows.
 use Rattle.std.specs.Prelude.{ℕ, ◌+◌, [], ◌∷◌, replicate}
 use Rattle.miette_page.specs.rules.Rows.{Row, plain_run}
-use Rattle.miette_snippets.specs.rules.Drawing.{blank}
-use Rattle.miette_snippets.specs.rules.Frames.{SnippetSettings}
+use Rattle.miette_snippet_rules.specs.rules.Drawing.{blank}
+use Rattle.miette_snippet_rules.specs.rules.Frames.{SnippetSettings}
 
 -- a corner behind the columns of line numbers, and so many bars
 abbrev pub corner_row : SnippetSettings → ℕ → ℕ → ℕ → Row

@@ -3,15 +3,15 @@ use Rattle.std.specs.Prelude.{ℕ, List, [], ◌∷◌, ◌++◌, map, false}
 use Rattle.miette_drawing.specs.declared.sheet.Sheet.{Sheet}
 use Rattle.miette_drawing.specs.declared.sheet.ShownLine.{ShownLine}
 use Rattle.miette_page.specs.rules.Rows.{Row}
-use Rattle.miette_snippets.specs.rules.Marks.{Mark}
-use Rattle.miette_snippets.specs.rules.Drawing.{text_row}
-use Rattle.miette_lines.specs.rules.Labels.{DrawnLabel}
-use Rattle.miette_snippets.specs.views.ThemeSettings.{settings_of}
-use Rattle.miette_lines.specs.views.GivenLabels.{drawn_of, width_of}
-use Rattle.miette_snippets.specs.rules.Gutters.{number_gutter, other_gutter, open_gutter, part_run}
-use Rattle.miette_snippets.specs.rules.Frames.{SnippetSettings, number_start, other_start}
-use Rattle.miette_lines.specs.rules.Cells.{Cell, cells_from, characters}
-use Rattle.miette_newlines.specs.views.Walking.{line_of_text}
+use Rattle.miette_snippet_rules.specs.rules.Marks.{Mark}
+use Rattle.miette_snippet_rules.specs.rules.Drawing.{text_row}
+use Rattle.miette_labels.specs.rules.Labels.{DrawnLabel}
+use Rattle.miette_snippet_rules.specs.views.ThemeSettings.{settings_of}
+use Rattle.miette_labels.specs.views.GivenLabels.{drawn_of, width_of}
+use Rattle.miette_snippet_rules.specs.rules.Gutters.{number_gutter, other_gutter, open_gutter, part_run}
+use Rattle.miette_snippet_rules.specs.rules.Frames.{SnippetSettings, number_start, other_start}
+use Rattle.miette_labels.specs.rules.Cells.{Cell, cells_from, characters}
+use Rattle.miette_source_lines.specs.views.Walking.{line_of_text}
 
 abbrev pub settings : Sheet → SnippetSettings
 settings sheet = settings_of sheet.theme.now sheet.options

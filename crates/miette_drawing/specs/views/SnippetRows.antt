@@ -2,23 +2,23 @@
 use Rattle.std.specs.Prelude.{ℕ, ◌+◌, ◌-◌, ◌≡◌, Bool, List, [], ◌∷◌, ◌++◌, map}
 use Rattle.std.specs.Prelude.{slice_range, Option, false, drop}
 use Rattle.std.specs.Option.{option_map}
-use Rattle.miette_newlines.specs.rules.Lines.{Line}
+use Rattle.miette_source_lines.specs.rules.Lines.{Line}
 use Rattle.miette_protocol.specs.rules.Reading.{Contents}
 use Rattle.miette_highlight.specs.rules.HighlighterCalls.{Call}
 use Rattle.miette_page.specs.rules.Rows.{Row}
-use Rattle.miette_lines.specs.rules.Answers.{Highlight, first_of}
-use Rattle.miette_lines.specs.rules.Cells.{Cell, characters, cells_from}
-use Rattle.miette_lines.specs.rules.Contexts.{lines_of_contents}
+use Rattle.miette_labels.specs.rules.Answers.{Highlight, first_of}
+use Rattle.miette_labels.specs.rules.Cells.{Cell, characters, cells_from}
+use Rattle.miette_labels.specs.rules.Contexts.{lines_of_contents}
 use Rattle.miette_drawing.specs.declared.snippet.Drawing.{Drawing}
 use Rattle.miette_folds.specs.views.Spreads.{spread_of}
-use Rattle.miette_snippets.specs.views.ThemeSettings.{settings_of}
-use Rattle.miette_lines.specs.views.GivenLabels.{drawn_of}
-use Rattle.miette_snippets.specs.rules.Folds.{Spread}
-use Rattle.miette_snippets.specs.rules.Frames.{SnippetSettings, Place, top_row, bottom_row, number_width}
-use Rattle.miette_snippets.specs.rules.Gutters.{gutter_columns}
-use Rattle.miette_snippets.specs.rules.Highlighting.{decoded_text, EachHasPieces, line_calls}
-use Rattle.miette_lines.specs.rules.Labels.{DrawnLabel}
-use Rattle.miette_snippets.specs.rules.SnippetLayout.{line_or_break, left_out}
+use Rattle.miette_snippet_rules.specs.views.ThemeSettings.{settings_of}
+use Rattle.miette_labels.specs.views.GivenLabels.{drawn_of}
+use Rattle.miette_snippet_rules.specs.rules.Folds.{Spread}
+use Rattle.miette_snippet_rules.specs.rules.Frames.{SnippetSettings, Place, top_row, bottom_row, number_width}
+use Rattle.miette_snippet_rules.specs.rules.Gutters.{gutter_columns}
+use Rattle.miette_snippet_rules.specs.rules.Highlighting.{decoded_text, EachHasPieces, line_calls}
+use Rattle.miette_labels.specs.rules.Labels.{DrawnLabel}
+use Rattle.miette_snippet_rules.specs.rules.SnippetLayout.{line_or_break, left_out}
 use Rattle.miette_page.specs.views.Printouts.{Printout, ◌⊕◌}
 use Rattle.miette_page.specs.views.Tokens.{rows_tokens}
 

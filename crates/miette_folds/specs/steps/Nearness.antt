@@ -1,7 +1,7 @@
 -- Whether a line lies in a label's context as it is folded to so many lines.
 use Rattle.std.specs.Prelude.{ℕ, Bool, not, ◌&&◌}
-use Rattle.miette_newlines.specs.rules.Lines.{Line}
-use Rattle.miette_snippets.specs.rules.Folds.{hides}
+use Rattle.miette_source_lines.specs.rules.Lines.{Line}
+use Rattle.miette_snippet_rules.specs.rules.Folds.{hides}
 use Rattle.miette_folds.specs.declared.folds.Fold.{Fold}
 use Rattle.miette_folds.specs.views.Folding.{is_around_fold}
 

@@ -1,11 +1,11 @@
 -- Labels as a program folds them.
 use Rattle.std.specs.Prelude.{ℕ, ◌+◌, ◌-◌, ◌≡◌, List, map, Bool}
-use Rattle.miette_newlines.specs.rules.Lines.{Line, lines_from, line_start}
+use Rattle.miette_source_lines.specs.rules.Lines.{Line, lines_from, line_start}
 use Rattle.miette_folds.specs.declared.folds.Fold.{Fold}
 use Rattle.miette_folds.specs.declared.folds.LineStart.{LineStart}
 use Rattle.miette_folds.specs.declared.folds.Spread.{Spread as MadeSpread}
 use Rattle.miette_folds.specs.views.Spreads.{spread_of}
-use Rattle.miette_snippets.specs.rules.Folds.{place_among, is_around}
+use Rattle.miette_snippet_rules.specs.rules.Folds.{place_among, is_around}
 
 -- where the line with this place begins, of some bytes that begin at an offset
 abbrev pub start_in : ℕ → List ℕ → ℕ → LineStart

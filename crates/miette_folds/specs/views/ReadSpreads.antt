@@ -1,15 +1,15 @@
 -- Labels as they may be folded, from what their reads gave.
 use Rattle.std.specs.Prelude.{ℕ, ◌+◌, ◌-◌, ◌≡◌, max, List, [], map, Option, Some, None, Bool, unwrap_or}
 use Rattle.std.specs.Prelude.{if◌then◌else◌}
-use Rattle.miette_newlines.specs.rules.Lines.{line_of}
+use Rattle.miette_source_lines.specs.rules.Lines.{line_of}
 use Rattle.miette_protocol.specs.views.Meaning.{Label}
-use Rattle.miette_lines.specs.declared.reading.ReadLabel.{ReadLabel}
-use Rattle.miette_lines.specs.rules.Around.{has_own}
-use Rattle.miette_lines.specs.rules.Contexts.{end_of_span}
-use Rattle.miette_lines.specs.views.GivenLabels.{label_at}
-use Rattle.miette_lines.specs.views.Placing.{end_drawn}
+use Rattle.miette_labels.specs.declared.reading.ReadLabel.{ReadLabel}
+use Rattle.miette_labels.specs.rules.Around.{has_own}
+use Rattle.miette_labels.specs.rules.Contexts.{end_of_span}
+use Rattle.miette_labels.specs.views.GivenLabels.{label_at}
+use Rattle.miette_labels.specs.views.Placing.{end_drawn}
 use Rattle.miette_folds.specs.declared.folds.Spread.{Spread as MadeSpread}
-use Rattle.miette_snippets.specs.rules.Folds.{Spread}
+use Rattle.miette_snippet_rules.specs.rules.Folds.{Spread}
 
 abbrev pub read_spread : ℕ → Bool → List Label → ReadLabel → Spread
 read_spread context own labels read = record {

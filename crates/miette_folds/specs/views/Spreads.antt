@@ -1,11 +1,11 @@
 -- Labels as they may be folded, as a program has them.
 use Rattle.std.specs.Prelude.{ℕ, ◌-◌, ◌≡◌, min, List, count_by}
 use Rattle.std.specs.List.{All}
-use Rattle.miette_newlines.specs.rules.Lines.{is_terminated}
+use Rattle.miette_source_lines.specs.rules.Lines.{is_terminated}
 use Rattle.miette_protocol.specs.rules.Reading.{Contents}
-use Rattle.miette_lines.specs.rules.Contexts.{lines_of_contents}
+use Rattle.miette_labels.specs.rules.Contexts.{lines_of_contents}
 use Rattle.miette_folds.specs.declared.folds.Spread.{Spread as MadeSpread}
-use Rattle.miette_snippets.specs.rules.Folds.{Spread, place_among}
+use Rattle.miette_snippet_rules.specs.rules.Folds.{Spread, place_among}
 
 abbrev pub spread_of : MadeSpread → Spread
 spread_of label = record {

@@ -1,32 +1,32 @@
 -- What holds of the snippets of each printed diagnostic, over its effective source and by its labels.
 use Rattle.std.specs.Prelude.{◌≡◌, ◌<◌, ◌+◌, ℕ, Bool, true, false, List, [], ◌∷◌, length, Some, None, IfSome, ◌≤◌}
 use Rattle.std.specs.List.{AllByRecursion, concat}
-use Rattle.miette_newlines.specs.rules.Lines.{Line, lines_of}
+use Rattle.miette_source_lines.specs.rules.Lines.{Line, lines_of}
 use Rattle.miette_protocol.specs.views.Meaning.{Label}
 use Rattle.miette_protocol.specs.rules.Reading.{Source, Span}
-use Rattle.miette_lines.specs.rules.Answers.{Highlight}
-use Rattle.miette_lines.specs.rules.Around.{HaveContext}
-use Rattle.miette_lines.specs.rules.Contexts.{contents, lines_of_contents}
-use Rattle.miette_snippets.specs.rules.Folds.{Spread}
-use Rattle.miette_snippets.specs.rules.Frames as frames
-use Rattle.miette_lines.specs.rules.Groups as grouping
-use Rattle.miette_lines.specs.rules.Groups.{AreAccepted, in_order, lines_of_groups}
-use Rattle.miette_lines.specs.rules.Labels.{DrawnLabel, multi_line, one_line, some_shows_end}
-use Rattle.miette_snippets.specs.rules.SnippetLayout as snippet_layout
-use Rattle.miette_snippets.specs.rules.SnippetLayout.{body_rows, cells_of, line_cut, line_marks, settings_around}
+use Rattle.miette_labels.specs.rules.Answers.{Highlight}
+use Rattle.miette_labels.specs.rules.Around.{HaveContext}
+use Rattle.miette_labels.specs.rules.Contexts.{contents, lines_of_contents}
+use Rattle.miette_snippet_rules.specs.rules.Folds.{Spread}
+use Rattle.miette_snippet_rules.specs.rules.Frames as frames
+use Rattle.miette_labels.specs.rules.Groups as grouping
+use Rattle.miette_labels.specs.rules.Groups.{AreAccepted, in_order, lines_of_groups}
+use Rattle.miette_labels.specs.rules.Labels.{DrawnLabel, multi_line, one_line, some_shows_end}
+use Rattle.miette_snippet_rules.specs.rules.SnippetLayout as snippet_layout
+use Rattle.miette_snippet_rules.specs.rules.SnippetLayout.{body_rows, cells_of, line_cut, line_marks, settings_around}
 use Rattle.miette_page.specs.rules.Rows.{Row, columns_of, glyphs_of}
-use Rattle.miette_lines.specs.rules.Cells.{Cell}
-use Rattle.miette_lines.specs.views.GivenLabels.{width_of}
-use Rattle.miette_snippets.specs.rules.CutLines.{Stretch, ends, is_near}
+use Rattle.miette_labels.specs.rules.Cells.{Cell}
+use Rattle.miette_labels.specs.views.GivenLabels.{width_of}
+use Rattle.miette_snippet_rules.specs.rules.CutLines.{Stretch, ends, is_near}
 use Rattle.miette_snippet_laws.specs.laws.Cuts.{AreAsWide, AreStretches, Fits, by_nearness, by_stretch}
 use Rattle.miette_snippet_laws.specs.laws.Cuts.{most_columns, pieces_shown}
-use Rattle.miette_snippets.specs.rules.Marks.{Mark, marks_at, AreApart}
-use Rattle.miette_snippets.specs.rules.Numbers.{ranges, IsRange, AreParted}
+use Rattle.miette_snippet_rules.specs.rules.Marks.{Mark, marks_at, AreApart}
+use Rattle.miette_snippet_rules.specs.rules.Numbers.{ranges, IsRange, AreParted}
 use Rattle.miette_snippet_laws.specs.laws.Ends.{EndsStandBehind, AreBehindShown}
 use Rattle.miette_snippet_laws.specs.laws.Folding.{EndsPass, FitsIn, IsInside}
 use Rattle.miette_snippet_laws.specs.laws.Pictures.{BodyShows, marks_of_line, text_of_line}
-use Rattle.miette_snippets.specs.rules.ShownLines.{framed_ranges, line_at}
-use Rattle.miette_snippets.specs.rules.Snippets.{shown_numbers, snippets, is_kept}
+use Rattle.miette_snippet_rules.specs.rules.ShownLines.{framed_ranges, line_at}
+use Rattle.miette_snippet_rules.specs.rules.Snippets.{shown_numbers, snippets, is_kept}
 use Rattle.miette_graphical.specs.rules.Answers.{pieces_listed}
 use Rattle.miette_tree.specs.rules.DiagnosticParts.{given_labels}
 use Rattle.miette_graphical.specs.rules.PrintedDiagnostics.{PrintedDiagnostic}

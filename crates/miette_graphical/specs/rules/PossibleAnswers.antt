@@ -10,12 +10,12 @@ use Rattle.miette_graphical.specs.rules.Answers.{Answer, Answers, RelatedAnswers
 use Rattle.miette_graphical.specs.rules.Answers.{cause_answers, related_answers, first_answers, later_answers}
 use Rattle.miette_graphical.specs.rules.DiagnosticText.{SnippetRows}
 use Rattle.miette_tree.specs.rules.DiagnosticParts.{given_labels}
-use Rattle.miette_snippets.specs.rules.Frames as frames
-use Rattle.miette_lines.specs.rules.Around.{group_context}
-use Rattle.miette_lines.specs.rules.Groups.{in_order, groups_of}
+use Rattle.miette_snippet_rules.specs.rules.Frames as frames
+use Rattle.miette_labels.specs.rules.Around.{group_context}
+use Rattle.miette_labels.specs.rules.Groups.{in_order, groups_of}
 use Rattle.miette_highlight.specs.rules.HighlighterCalls.{Call}
-use Rattle.miette_snippets.specs.rules.Highlighting.{SnippetsHavePieces}
-use Rattle.miette_snippets.specs.rules.SnippetLayout.{snippet_rows}
+use Rattle.miette_snippet_rules.specs.rules.Highlighting.{SnippetsHavePieces}
+use Rattle.miette_snippet_rules.specs.rules.SnippetLayout.{snippet_rows}
 use Rattle.miette_tree.specs.views.Handler.{AppendsOne}
 use Rattle.miette_tree.specs.rules.Reads.{always_reads}
 use Rattle.miette_graphical.specs.rules.Snippets.{snippet_settings}

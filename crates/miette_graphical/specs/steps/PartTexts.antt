@@ -11,7 +11,7 @@ use Rattle.miette_graphical.specs.rules.Indents.{narrow_settings}
 use Rattle.miette_graphical.specs.rules.DiagnosticText.{SnippetRows, rows_text, title_text, help_text, under_arrow}
 use Rattle.miette_tree.specs.rules.DiagnosticParts.{given_labels}
 use Rattle.miette_highlight.specs.rules.HighlighterCalls.{Call}
-use Rattle.miette_snippets.specs.rules.Highlighting.{snippet_calls}
+use Rattle.miette_snippet_rules.specs.rules.Highlighting.{snippet_calls}
 use Rattle.miette_graphical.specs.rules.Snippets.{drawn_rows, snippet_settings}
 use Rattle.miette_graphical.specs.rules.Calls.{own_calls, cause_calls, related_calls}
 use Rattle.miette_graphical.specs.rules.Text.{ends_there, body, inner_text, causes_text, related_text}

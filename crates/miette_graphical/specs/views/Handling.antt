@@ -1,7 +1,7 @@
 -- A graphical handler.
 use Rattle.std.specs.Prelude.{Bool, List, Option, None}
 use Rattle.miette_highlight.specs.rules.HighlighterCalls.{Call}
-use Rattle.miette_snippets.specs.rules.Highlighting.{AreCallsOn, follows, leaves_plain}
+use Rattle.miette_snippet_rules.specs.rules.Highlighting.{AreCallsOn, follows, leaves_plain}
 use Rattle.miette_graphical.specs.rules.Settings.{Settings}
 
 -- how it prints, and what styles the lines of sources, if anything does

@@ -6,12 +6,12 @@ use Rattle.miette_protocol.specs.rules.Reading.{Source}
 use Rattle.miette_highlight.specs.rules.HighlighterCalls.{Call}
 use Rattle.miette_protocol.specs.declared.error.RenderError.{RenderError}
 use Rattle.miette_protocol.specs.declared.error.RenderError.TheVariants as errors
-use Rattle.miette_lines.specs.rules.Answers.{Answers, AlwaysReads}
-use Rattle.miette_lines.specs.rules.Around.{group_context}
-use Rattle.miette_snippets.specs.rules.Frames.{SnippetSettings}
-use Rattle.miette_lines.specs.rules.Groups.{in_order, groups_of}
-use Rattle.miette_snippets.specs.rules.Highlighting.{SnippetsHavePieces, snippet_calls}
-use Rattle.miette_snippets.specs.rules.SnippetLayout.{snippet_rows}
+use Rattle.miette_labels.specs.rules.Answers.{Answers, AlwaysReads}
+use Rattle.miette_labels.specs.rules.Around.{group_context}
+use Rattle.miette_snippet_rules.specs.rules.Frames.{SnippetSettings}
+use Rattle.miette_labels.specs.rules.Groups.{in_order, groups_of}
+use Rattle.miette_snippet_rules.specs.rules.Highlighting.{SnippetsHavePieces, snippet_calls}
+use Rattle.miette_snippet_rules.specs.rules.SnippetLayout.{snippet_rows}
 use Rattle.miette_page.specs.views.Printouts.{Printout, ◌⊕◌}
 use Rattle.miette_page.specs.views.Tokens.{rows_tokens}
 

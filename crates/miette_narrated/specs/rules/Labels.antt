@@ -1,10 +1,10 @@
 -- The rows of labels under a line.
 use Rattle.std.specs.Prelude.{ℕ, ◌+◌, ◌-◌, ◌==◌, min, max, List, [], ◌∷◌, ◌++◌, Option, Some, None, Bool, ◌&&◌, ◌||◌}
 use Rattle.std.specs.Prelude.{if◌then◌else◌, nat_le, decimal, codes}
-use Rattle.miette_newlines.specs.rules.Lines.{Line}
+use Rattle.miette_source_lines.specs.rules.Lines.{Line}
 use Rattle.miette_protocol.specs.views.Meaning.{Label}
-use Rattle.miette_lines.specs.rules.Cells.{Character}
-use Rattle.miette_lines.specs.rules.Contexts.{end_of_span}
+use Rattle.miette_labels.specs.rules.Cells.{Character}
+use Rattle.miette_labels.specs.rules.Contexts.{end_of_span}
 use Rattle.miette_narrated.specs.rules.Columns.{column}
 
 -- a row is a text and a line feed

@@ -3,8 +3,8 @@ use Rattle.std.specs.Prelude.{◌≡◌, ℕ, Bool, true, List, Option, Some, No
 use Rattle.miette_protocol.specs.views.Meaning.{Label}
 use Rattle.miette_protocol.specs.rules.Reading.{Source}
 use Rattle.miette_tree.specs.rules.Tree.{Tree, tree, Trees, no_trees, more_trees, effective}
-use Rattle.miette_lines.specs.rules.Answers.{NoneFails}
-use Rattle.miette_lines.specs.rules.Groups.{in_order, AreAccepted}
+use Rattle.miette_labels.specs.rules.Answers.{NoneFails}
+use Rattle.miette_labels.specs.rules.Groups.{in_order, AreAccepted}
 use Rattle.miette_narrated.specs.rules.Report.{NarrationSettings, Answers, RelatedAnswers, own_answer, related_answers}
 use Rattle.miette_narrated.specs.rules.Report.{first_answers, later_answers}
 use Rattle.miette_narrated.specs.rules.Report.{narration}

@@ -1,10 +1,10 @@
 -- What a program gives, in the words of the definitions.
 use Rattle.std.specs.Prelude.{List, map}
 use Rattle.miette_protocol.specs.views.Meaning.{Label}
-use Rattle.miette_lines.specs.declared.sweep.PlacedLabel.{PlacedLabel}
-use Rattle.miette_lines.specs.rules.Cells.{characters}
-use Rattle.miette_lines.specs.views.GivenLabels.{text_at}
-use Rattle.miette_newlines.specs.views.Walking.{line_of_text}
+use Rattle.miette_labels.specs.declared.sweep.PlacedLabel.{PlacedLabel}
+use Rattle.miette_labels.specs.rules.Cells.{characters}
+use Rattle.miette_labels.specs.views.GivenLabels.{text_at}
+use Rattle.miette_source_lines.specs.views.Walking.{line_of_text}
 use Rattle.miette_narrated.specs.declared.narrated_line.NarratedLine.{NarratedLine}
 use Rattle.miette_narrated.specs.rules.Labels.{LabelRange, SnippetLine}
 

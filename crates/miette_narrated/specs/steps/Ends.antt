@@ -2,8 +2,8 @@
 use Rattle.std.specs.Prelude.{ℕ, ◌+◌, ◌≡◌, ◌==◌, map, List, [], ◌∷◌, Bool, ◌&&◌, nat_le, nat_lt}
 use Rattle.std.specs.List.{filter}
 use Rattle.std.specs.List.Sorted.{IsNonDecreasingBy}
-use Rattle.miette_newlines.specs.rules.Lines.{Line}
-use Rattle.miette_lines.specs.declared.sweep.PlacedLabel.{PlacedLabel}
+use Rattle.miette_source_lines.specs.rules.Lines.{Line}
+use Rattle.miette_labels.specs.declared.sweep.PlacedLabel.{PlacedLabel}
 use Rattle.miette_narrated.specs.declared.label_order.LabelOrder.{LabelOrder}
 use Rattle.miette_narrated.specs.declared.label_order.RankedLabel.{RankedLabel}
 use Rattle.miette_narrated.specs.steps.Sweeping.{AreOrdered}

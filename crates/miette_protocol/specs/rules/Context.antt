@@ -1,6 +1,6 @@
 -- The lines of a span with lines of context before and after it.
 use Rattle.std.specs.Prelude.{ℕ, ◌+◌, ◌-◌, List}
-use Rattle.miette_newlines.specs.rules.Lines.{line_of}
+use Rattle.miette_source_lines.specs.rules.Lines.{line_of}
 use Rattle.miette_protocol.specs.rules.Reading.{Span, reading_end}
 
 -- the number of the first line

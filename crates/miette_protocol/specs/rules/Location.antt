@@ -3,7 +3,7 @@
 use Rattle.std.specs.Prelude.{◌≡◌, ℕ, ◌+◌, ◌<◌, ◌≤◌, not, ◌==◌, List, length, take, count_by, encode_utf8_all}
 use Rattle.std.specs.List.{suffix_len}
 use Rattle.std.specs.Str.{chars}
-use Rattle.miette_newlines.specs.rules.Lines.{LF}
+use Rattle.miette_source_lines.specs.rules.Lines.{LF}
 
 -- the line of the character that follows these
 abbrev pub line_after : List ℕ → ℕ

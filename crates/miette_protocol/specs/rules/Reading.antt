@@ -1,7 +1,7 @@
 -- What reading a span of a source gives.
 use Rattle.std.specs.Prelude.{ℕ, ◌+◌, ◌-◌, ◌≤◌, Bool, ◌&&◌, ◌==◌, if◌then◌else◌, min, List, length, slice_index, nat_le}
 use Rattle.std.specs.Prelude.{slice_range, Option, Some, None, is_some, true}
-use Rattle.miette_newlines.specs.rules.Lines.{LF, CR, line_of, line_start, line_end, column_of, terminators_in}
+use Rattle.miette_source_lines.specs.rules.Lines.{LF, CR, line_of, line_start, line_end, column_of, terminators_in}
 
 -- an offset, and a length
 pub record Span : Type 0 where

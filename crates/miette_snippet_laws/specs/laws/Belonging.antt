@@ -3,9 +3,9 @@ use Rattle.std.specs.Prelude.{ℕ, ◌≡◌, List, length, Bool, ◌&&◌, nat_
 use Rattle.std.specs.List.{filter}
 use Rattle.miette_protocol.specs.views.Meaning.{Label}
 use Rattle.miette_protocol.specs.rules.Reading.{Span, Source}
-use Rattle.miette_lines.specs.rules.Contexts.{end_of_span}
-use Rattle.miette_lines.specs.rules.Groups.{own_groups, stretch}
-use Rattle.miette_snippets.specs.rules.SnippetLayout.{is_within}
+use Rattle.miette_labels.specs.rules.Contexts.{end_of_span}
+use Rattle.miette_labels.specs.rules.Groups.{own_groups, stretch}
+use Rattle.miette_snippet_rules.specs.rules.SnippetLayout.{is_within}
 
 -- whether a group's bytes hold some data
 abbrev pub holds : Span → Span → Bool

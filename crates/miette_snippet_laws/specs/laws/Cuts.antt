@@ -1,10 +1,10 @@
 -- What holds of lines that are cut: which cells are shown and where dots stand, and how wide a row can be.
 use Rattle.std.specs.Prelude.{ℕ, ◌+◌, ◌*◌, ◌/◌, ◌<◌, ◌≤◌, ◌≢◌, List, [], ◌∷◌, ◌++◌, map, Bool, if◌then◌else◌}
 use Rattle.std.specs.Prelude.{Option, Some, None, ◌-◌}
-use Rattle.miette_lines.specs.rules.Cells.{Cell}
+use Rattle.miette_labels.specs.rules.Cells.{Cell}
 use Rattle.miette_page.specs.rules.Rows.{Glyph}
-use Rattle.miette_snippets.specs.rules.CutLines.{Stretch, dots, is_kept, is_near_after}
-use Rattle.miette_snippets.specs.rules.PrintedCells.{printed_cells, cells_width}
+use Rattle.miette_snippet_rules.specs.rules.CutLines.{Stretch, dots, is_kept, is_near_after}
+use Rattle.miette_snippet_rules.specs.rules.PrintedCells.{printed_cells, cells_width}
 
 -- cells, each with whether it is near, where it is told whether the cell before them is
 abbrev pub by_nearness : (Cell → Bool) → Bool → List Cell → List (Cell × Bool)

@@ -1,15 +1,15 @@
 -- Labels that begin where a source ends, as they are drawn.
 use Rattle.std.specs.Prelude.{ℕ, ◌≡◌, ◌≤◌, true, List, [], ◌∷◌, map, length, Bool, ◌&&◌}
 use Rattle.std.specs.List.{AllByRecursion}
-use Rattle.miette_newlines.specs.rules.Lines.{Line, lines_of}
+use Rattle.miette_source_lines.specs.rules.Lines.{Line, lines_of}
 use Rattle.miette_page.specs.rules.Rows.{columns_of, glyphs_of}
 use Rattle.miette_protocol.specs.views.Meaning.{Label}
-use Rattle.miette_lines.specs.rules.Answers.{Highlight}
-use Rattle.miette_lines.specs.rules.Cells.{Cell}
-use Rattle.miette_lines.specs.rules.Labels.{DrawnLabel, is_at_end, is_empty, is_one_line}
-use Rattle.miette_snippets.specs.rules.Frames.{SnippetSettings}
-use Rattle.miette_snippets.specs.rules.Marks.{Text, marks}
-use Rattle.miette_snippets.specs.rules.SnippetLayout.{drawn_labels}
+use Rattle.miette_labels.specs.rules.Answers.{Highlight}
+use Rattle.miette_labels.specs.rules.Cells.{Cell}
+use Rattle.miette_labels.specs.rules.Labels.{DrawnLabel, is_at_end, is_empty, is_one_line}
+use Rattle.miette_snippet_rules.specs.rules.Frames.{SnippetSettings}
+use Rattle.miette_snippet_rules.specs.rules.Marks.{Text, marks}
+use Rattle.miette_snippet_rules.specs.rules.SnippetLayout.{drawn_labels}
 use Rattle.miette_snippet_laws.specs.laws.Pictures.{marks_of_line, text_of_line}
 
 -- the last of some lines

@@ -1,8 +1,8 @@
 -- The settings of snippets and answers without colours, and rows that are plain.
 use Rattle.std.specs.Prelude.{◌≡◌, []}
 use Rattle.std.specs.List.{AllByRecursion}
-use Rattle.miette_lines.specs.rules.Answers.{Answers}
-use Rattle.miette_snippets.specs.rules.Frames.{SnippetSettings}
+use Rattle.miette_labels.specs.rules.Answers.{Answers}
+use Rattle.miette_snippet_rules.specs.rules.Frames.{SnippetSettings}
 use Rattle.miette_page.specs.rules.Rows.{Row}
 use Rattle.miette_style.specs.rules.Styles.{plain}
 use Rattle.miette_style.specs.rules.Themes.{Styles}

@@ -1,11 +1,11 @@
 -- What holds of folded labels.
 use Rattle.std.specs.Prelude.{ℕ, ◌+◌, ◌-◌, ◌≤◌, ◌≡◌, true, false, Bool, List, [], ◌∷◌}
-use Rattle.miette_newlines.specs.rules.Lines.{Line, line_of}
+use Rattle.miette_source_lines.specs.rules.Lines.{Line, line_of}
 use Rattle.miette_protocol.specs.views.Meaning.{Label}
 use Rattle.miette_protocol.specs.rules.Reading.{Span}
-use Rattle.miette_lines.specs.rules.Labels.{DrawnLabel, starts_on, ends_on}
-use Rattle.miette_snippets.specs.rules.Folds.{last_byte}
-use Rattle.miette_snippets.specs.rules.Numbers.{last_of}
+use Rattle.miette_labels.specs.rules.Labels.{DrawnLabel, starts_on, ends_on}
+use Rattle.miette_snippet_rules.specs.rules.Folds.{last_byte}
+use Rattle.miette_snippet_rules.specs.rules.Numbers.{last_of}
 
 -- over how many lines a label is drawn
 abbrev pub lines_drawn : List ℕ → Span → ℕ

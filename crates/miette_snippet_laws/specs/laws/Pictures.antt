@@ -3,18 +3,18 @@ use Rattle.std.specs.Prelude.{ℕ, ◌+◌, ◌<◌, ◌≡◌, ◌⊎◌, List,
 use Rattle.std.specs.Prelude.{drop}
 use Rattle.std.specs.List.{AllByRecursion}
 use Rattle.miette_page.specs.rules.Rows.{Glyph, Row, glyphs_of, glyph_of, code_at, Begins}
-use Rattle.miette_newlines.specs.rules.Lines.{Line}
-use Rattle.miette_lines.specs.rules.Cells.{Cell}
-use Rattle.miette_lines.specs.rules.Labels.{DrawnLabel, one_line}
-use Rattle.miette_snippets.specs.rules.CutLines.{shown_runs, shown_marks}
-use Rattle.miette_snippets.specs.rules.Marks.{Mark}
-use Rattle.miette_snippets.specs.rules.Drawing.{mark_code}
-use Rattle.miette_snippets.specs.rules.Frames.{SnippetSettings, number_width}
+use Rattle.miette_source_lines.specs.rules.Lines.{Line}
+use Rattle.miette_labels.specs.rules.Cells.{Cell}
+use Rattle.miette_labels.specs.rules.Labels.{DrawnLabel, one_line}
+use Rattle.miette_snippet_rules.specs.rules.CutLines.{shown_runs, shown_marks}
+use Rattle.miette_snippet_rules.specs.rules.Marks.{Mark}
+use Rattle.miette_snippet_rules.specs.rules.Drawing.{mark_code}
+use Rattle.miette_snippet_rules.specs.rules.Frames.{SnippetSettings, number_width}
 use Rattle.miette_protocol.specs.rules.Reading.{Contents}
-use Rattle.miette_lines.specs.rules.Answers.{Highlight, first_of}
-use Rattle.miette_lines.specs.rules.Contexts.{lines_of_contents}
-use Rattle.miette_snippets.specs.rules.Gutters.{gutter_columns}
-use Rattle.miette_snippets.specs.rules.SnippetLayout.{line_rows, line_marks, line_cut, cells_of}
+use Rattle.miette_labels.specs.rules.Answers.{Highlight, first_of}
+use Rattle.miette_labels.specs.rules.Contexts.{lines_of_contents}
+use Rattle.miette_snippet_rules.specs.rules.Gutters.{gutter_columns}
+use Rattle.miette_snippet_rules.specs.rules.SnippetLayout.{line_rows, line_marks, line_cut, cells_of}
 use Rattle.miette_style.specs.rules.Themes.{Characters}
 
 -- what stands at a column of the mark row

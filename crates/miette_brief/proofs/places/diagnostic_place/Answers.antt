@@ -1,7 +1,7 @@
 use Rattle.std.proofs.Common.{ap, ◌∙◌, map}
 use Rattle.std.specs.Option.{option_map}
 use Rattle.miette_tree.specs.views.Owned.{shown_source}
-use Rattle.miette_lines.specs.views.GivenLabels.{label_at}
+use Rattle.miette_labels.specs.views.GivenLabels.{label_at}
 use Rattle.miette_tree.specs.rules.Reads.{accepts}
 use Rattle.miette_brief.proofs.Choosing.{primary_refused}
 use Rattle.miette_brief.proofs.places.diagnostic_place.Goals as goal

@@ -1,7 +1,7 @@
 use Rattle.std.proofs.Common.{sym, ◌∙◌, length, map}
 use Rattle.std.proofs.lemmas.Bool.{eqb-true, eqb-false}
-use Rattle.miette_lines.specs.views.GivenLabels.{label_at}
-use Rattle.miette_lines.specs.declared.order.Turn.{Turn}
+use Rattle.miette_labels.specs.views.GivenLabels.{label_at}
+use Rattle.miette_labels.specs.declared.order.Turn.{Turn}
 use Rattle.miette_brief.specs.rules.Places.{marked_span}
 use Rattle.miette_brief.proofs.Choosing.{marked_here, marked_later, marked_none, primary_is, primary_nil}
 use Rattle.miette_brief.proofs.places.primary_span.Goals as goal

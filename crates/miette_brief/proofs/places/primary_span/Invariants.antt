@@ -1,5 +1,5 @@
 use Rattle.std.proofs.Common.{◌≡◌, map, drop}
-use Rattle.miette_lines.specs.views.GivenLabels.{label_at}
+use Rattle.miette_labels.specs.views.GivenLabels.{label_at}
 use Rattle.miette_brief.specs.rules.Places.{marked_span}
 use Rattle.miette_brief.proofs.places.primary_span.Given as goal
 

@@ -9,7 +9,7 @@ use Rattle.miette_tree.proofs.TreeSizes.{tree_size, trees_size, one_falls}
 use Rattle.miette_tree.proofs.Nesting.{next_of}
 use Rattle.miette_tree.specs.rules.Reads.{holds_of, holds_of_all, accepts}
 use Rattle.miette_tree.proofs.Readings.{refused_below, one_refused}
-use Rattle.miette_lines.specs.rules.Groups.{in_order}
+use Rattle.miette_labels.specs.rules.Groups.{in_order}
 use Rattle.miette_brief.proofs.Telling.{none_so_far, one_more, all_told, at_the_end, report_told, RelatedSoFar, refused_here}
 use Rattle.miette_brief.proofs.report.+report.Goals as goal
 

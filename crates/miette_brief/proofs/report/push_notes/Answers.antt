@@ -1,8 +1,8 @@
 use Rattle.std.proofs.Common.{rules, map, string_bytes}
 use Rattle.std.specs.Option.{option_map}
 use Rattle.miette_tree.specs.views.Owned.{shown_source}
-use Rattle.miette_lines.specs.views.GivenLabels.{label_at}
-use Rattle.miette_lines.specs.declared.order.Turn.{Turn}
+use Rattle.miette_labels.specs.views.GivenLabels.{label_at}
+use Rattle.miette_labels.specs.declared.order.Turn.{Turn}
 use Rattle.miette_brief.specs.steps.Reads.{IsUnread}
 use Rattle.miette_brief.proofs.Noting.{some_refused, accepted_more, accepted_end, notes_more}
 use Rattle.miette_brief.proofs.report.push_notes.Goals as goal

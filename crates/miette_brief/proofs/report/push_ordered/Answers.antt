@@ -5,8 +5,8 @@ use Rattle.miette_protocol.specs.views.Meaning.{Label}
 use Rattle.miette_tree.specs.views.Owned.{shown_source}
 use Rattle.miette_tree.specs.views.Report.{tree_of}
 use Rattle.miette_tree.specs.rules.Reads.{accepts}
-use Rattle.miette_lines.specs.rules.Groups.{in_order}
-use Rattle.miette_lines.specs.views.GivenLabels.{label_at}
+use Rattle.miette_labels.specs.rules.Groups.{in_order}
+use Rattle.miette_labels.specs.views.GivenLabels.{label_at}
 use Rattle.miette_brief.proofs.Telling.{own_told}
 use Rattle.miette_brief.proofs.report.push_ordered.Goals as goal
 

@@ -4,9 +4,9 @@ use Rattle.miette_protocol.specs.views.Meaning.{Label}
 use Rattle.miette_tree.specs.rules.Tree.{head}
 use Rattle.miette_tree.specs.rules.DiagnosticParts.{given_labels}
 use Rattle.miette_tree.specs.views.Report.{tree_of}
-use Rattle.miette_lines.specs.rules.Groups.{in_order}
-use Rattle.miette_lines.specs.views.GivenLabels.{label_at}
-use Rattle.miette_lines.specs.declared.order.Turn.{Turn}
+use Rattle.miette_labels.specs.rules.Groups.{in_order}
+use Rattle.miette_labels.specs.views.GivenLabels.{label_at}
+use Rattle.miette_labels.specs.declared.order.Turn.{Turn}
 use Rattle.miette_brief.proofs.report.push_own.Goals as goal
 
 pub push_ordered-requires-clause-inside : goal.push_ordered-requires-clause-inside

@@ -1,6 +1,6 @@
 use Rattle.miette_page.specs.views.Printouts.{◌⊕◌}
 use Rattle.std.proofs.Common.{◌≡◌}
-use Rattle.miette_snippets.specs.rules.PrintedCells.{cells_within, cells_beyond}
+use Rattle.miette_snippet_rules.specs.rules.PrintedCells.{cells_within, cells_beyond}
 use Rattle.miette_cuts.specs.steps.CellTokens.{cells_tokens}
 use Rattle.miette_cuts.proofs.cells.push_cells_within.Given as goal
 

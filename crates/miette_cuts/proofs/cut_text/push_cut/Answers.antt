@@ -1,5 +1,5 @@
 use Rattle.std.proofs.Common.{map}
-use Rattle.miette_snippets.specs.rules.Highlighting.{highlight_of}
+use Rattle.miette_snippet_rules.specs.rules.Highlighting.{highlight_of}
 use Rattle.miette_cuts.proofs.CutTexting.{cut_end, cut_more}
 use Rattle.miette_cuts.proofs.cut_text.push_cut.Goals as goal
 

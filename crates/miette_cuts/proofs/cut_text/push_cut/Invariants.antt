@@ -1,7 +1,7 @@
 use Rattle.miette_page.specs.views.Printouts.{◌⊕◌}
 use Rattle.std.proofs.Common.{◌≡◌, map, drop}
 use Rattle.miette_page.specs.views.Tokens.{row_tokens}
-use Rattle.miette_snippets.specs.rules.Highlighting.{highlight_of}
+use Rattle.miette_snippet_rules.specs.rules.Highlighting.{highlight_of}
 use Rattle.miette_cuts.specs.views.Cuts.{cut_cells}
 use Rattle.miette_cuts.proofs.cut_text.push_cut.Given as goal
 

@@ -1,6 +1,6 @@
 use Rattle.std.proofs.Common.{◌≡◌, ◌∷◌, [], ◌∙◌, ap, sym, rules}
-use Rattle.miette_lines.specs.views.Walking.{cell_of}
-use Rattle.miette_snippets.specs.rules.PrintedCells.{cells_width}
+use Rattle.miette_labels.specs.views.Walking.{cell_of}
+use Rattle.miette_snippet_rules.specs.rules.PrintedCells.{cells_width}
 use Rattle.miette_cuts.proofs.Stopping.{width_passed}
 use Rattle.miette_cuts.proofs.cutting.columns_of_line.Goals as goal
 

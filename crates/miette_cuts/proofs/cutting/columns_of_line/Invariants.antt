@@ -1,5 +1,5 @@
 use Rattle.std.proofs.Common.{◌≡◌, length}
-use Rattle.miette_snippets.specs.rules.PrintedCells.{cells_width}
+use Rattle.miette_snippet_rules.specs.rules.PrintedCells.{cells_width}
 use Rattle.miette_cuts.proofs.cutting.columns_of_line.Given as goal
 
 abbrev pub invariant-loop-cell : goal.invariant-loop-cell

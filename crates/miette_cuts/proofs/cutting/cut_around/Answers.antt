@@ -1,6 +1,6 @@
 use Rattle.std.proofs.Common.{◌≡◌, ℕ, List, Option, map, option_map, sym, ap, subst, IfOk}
 use Rattle.miette_protocol.specs.views.Meaning.{Label}
-use Rattle.miette_snippets.specs.rules.CutLines.{cut_line}
+use Rattle.miette_snippet_rules.specs.rules.CutLines.{cut_line}
 use Rattle.miette_cuts.specs.views.Cuts.{measure}
 use Rattle.miette_cuts.specs.views.Marks.{mark_of}
 use Rattle.miette_cuts.specs.views.LineTexts.{text_cells}

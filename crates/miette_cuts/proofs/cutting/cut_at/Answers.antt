@@ -1,8 +1,8 @@
 use Rattle.std.proofs.Common.{◌∙◌, List, ℕ, Some, false, ap, map, option_map, sym}
-use Rattle.miette_lines.specs.rules.Cells.{Cell}
-use Rattle.miette_snippets.specs.rules.CutLines.{cut_line, ends, is_near, stretches}
-use Rattle.miette_snippets.specs.rules.Marks.{Mark}
-use Rattle.miette_snippets.specs.rules.PrintedCells.{cells_width}
+use Rattle.miette_labels.specs.rules.Cells.{Cell}
+use Rattle.miette_snippet_rules.specs.rules.CutLines.{cut_line, ends, is_near, stretches}
+use Rattle.miette_snippet_rules.specs.rules.Marks.{Mark}
+use Rattle.miette_snippet_rules.specs.rules.PrintedCells.{cells_width}
 use Rattle.miette_cuts.specs.views.Cuts.{measure}
 use Rattle.miette_cuts.specs.views.Marks.{mark_of}
 use Rattle.miette_cuts.specs.views.LineTexts.{text_cells}

@@ -1,6 +1,6 @@
 use Rattle.std.proofs.Common.{◌≡◌, ◌++◌, List, map, drop}
 use Rattle.miette_protocol.specs.views.Meaning.{Label}
-use Rattle.miette_snippets.specs.rules.CutLines.{ends}
+use Rattle.miette_snippet_rules.specs.rules.CutLines.{ends}
 use Rattle.miette_cuts.specs.views.Marks.{mark_of}
 use Rattle.miette_cuts.proofs.cutting.ends_of.Given as goal
 

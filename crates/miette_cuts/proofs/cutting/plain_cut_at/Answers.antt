@@ -1,7 +1,7 @@
 use Rattle.std.proofs.Common.{◌∙◌, List, false, ap, map}
-use Rattle.miette_lines.specs.views.Printable.{plain_cells}
-use Rattle.miette_snippets.specs.rules.CutLines.{is_near, stretches}
-use Rattle.miette_snippets.specs.rules.Marks.{Mark}
+use Rattle.miette_labels.specs.views.Printable.{plain_cells}
+use Rattle.miette_snippet_rules.specs.rules.CutLines.{is_near, stretches}
+use Rattle.miette_snippet_rules.specs.rules.Marks.{Mark}
 use Rattle.miette_cuts.specs.views.Cuts.{measure}
 use Rattle.miette_cuts.specs.views.Marks.{mark_of}
 use Rattle.miette_cuts.proofs.CutPlain.{plain_cut_is, plain_cut_none}

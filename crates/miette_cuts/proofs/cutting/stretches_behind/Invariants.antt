@@ -1,5 +1,5 @@
 use Rattle.std.proofs.Common.{◌≡◌, ◌++◌, map, length}
-use Rattle.miette_snippets.specs.rules.CutLines.{is_near, stretches}
+use Rattle.miette_snippet_rules.specs.rules.CutLines.{is_near, stretches}
 use Rattle.miette_cuts.specs.views.Cuts.{measure}
 use Rattle.miette_cuts.specs.steps.Cut.{onto_made}
 use Rattle.miette_cuts.proofs.cutting.stretches_behind.Given as goal

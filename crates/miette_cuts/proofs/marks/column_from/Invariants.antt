@@ -1,5 +1,5 @@
 use Rattle.std.proofs.Common.{◌≡◌, ℕ, length}
-use Rattle.miette_snippets.specs.rules.PrintedCells.{last_column}
+use Rattle.miette_snippet_rules.specs.rules.PrintedCells.{last_column}
 use Rattle.miette_cuts.proofs.marks.column_from.Given as goal
 
 abbrev pub invariant-loop-cell : goal.invariant-loop-cell

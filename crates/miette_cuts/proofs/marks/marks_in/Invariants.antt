@@ -1,9 +1,9 @@
 use Rattle.std.proofs.Common.{◌≡◌, ◌++◌, List, map, drop}
 use Rattle.std.specs.List.{All}
 use Rattle.miette_protocol.specs.views.Meaning.{Label}
-use Rattle.miette_snippets.specs.rules.Marks.{marks, marks_from}
+use Rattle.miette_snippet_rules.specs.rules.Marks.{marks, marks_from}
 use Rattle.miette_cuts.specs.views.Marks.{mark_of, IsAnchored}
-use Rattle.miette_lines.specs.views.GivenLabels.{drawn_of}
+use Rattle.miette_labels.specs.views.GivenLabels.{drawn_of}
 use Rattle.miette_cuts.proofs.marks.marks_in.Given as goal
 
 abbrev pub invariant-loop-label : goal.invariant-loop-label

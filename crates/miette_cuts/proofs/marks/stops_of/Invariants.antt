@@ -1,6 +1,6 @@
 use Rattle.std.proofs.Common.{◌≡◌, ◌<◌, ◌≤◌, ℕ, length}
 use Rattle.std.specs.List.{All}
-use Rattle.miette_snippets.specs.rules.PrintedCells.{first_column, last_column, cells_width}
+use Rattle.miette_snippet_rules.specs.rules.PrintedCells.{first_column, last_column, cells_width}
 use Rattle.miette_cuts.specs.steps.Stops.{ComeFrom, IsStop}
 use Rattle.miette_cuts.proofs.marks.stops_of.Given as goal
 

@@ -1,6 +1,6 @@
 use Rattle.std.proofs.Common.{◌≡◌, ◌≤◌, ◌+◌, ◌-◌, ◌++◌, ℕ, false, map, length, drop}
-use Rattle.miette_lines.specs.views.Printable.{plain_cells}
-use Rattle.miette_snippets.specs.rules.CutLines.{is_near, stretches}
+use Rattle.miette_labels.specs.views.Printable.{plain_cells}
+use Rattle.miette_snippet_rules.specs.rules.CutLines.{is_near, stretches}
 use Rattle.miette_cuts.specs.views.Cuts.{measure}
 use Rattle.miette_cuts.specs.steps.Cut.{onto_made}
 use Rattle.miette_cuts.proofs.plain_cut.plain_stretches.Given as goal

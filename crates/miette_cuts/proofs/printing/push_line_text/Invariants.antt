@@ -1,8 +1,8 @@
 use Rattle.miette_page.specs.views.Printouts.{◌⊕◌}
 use Rattle.std.proofs.Common.{◌≡◌, map, drop}
 use Rattle.miette_page.specs.views.Tokens.{row_tokens}
-use Rattle.miette_snippets.specs.rules.PrintedCells.{line_runs}
-use Rattle.miette_snippets.specs.rules.Highlighting.{highlight_of}
+use Rattle.miette_snippet_rules.specs.rules.PrintedCells.{line_runs}
+use Rattle.miette_snippet_rules.specs.rules.Highlighting.{highlight_of}
 use Rattle.miette_cuts.proofs.printing.push_line_text.Given as goal
 
 abbrev pub invariant-loop-piece : goal.invariant-loop-piece

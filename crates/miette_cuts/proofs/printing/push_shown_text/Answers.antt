@@ -1,7 +1,7 @@
 use Rattle.std.proofs.Common.{◌∙◌, ap, eqb-true, map, option_map, sym}
 use Rattle.miette_page.specs.views.Printouts.{◌⊕◌}
 use Rattle.miette_page.specs.views.Tokens.{row_tokens}
-use Rattle.miette_snippets.specs.rules.Highlighting.{highlight_of}
+use Rattle.miette_snippet_rules.specs.rules.Highlighting.{highlight_of}
 use Rattle.miette_cuts.specs.views.Cuts.{made_runs}
 use Rattle.miette_cuts.specs.steps.Cut.{plain_told}
 use Rattle.miette_cuts.specs.views.LineTexts.{text_cells}

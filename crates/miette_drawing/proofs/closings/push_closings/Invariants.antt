@@ -1,9 +1,9 @@
 use Rattle.miette_page.specs.views.Printouts.{◌⊕◌}
 use Rattle.std.proofs.Common.{◌≡◌, map, drop}
-use Rattle.miette_lines.specs.views.GivenLabels.{drawn_of}
-use Rattle.miette_snippets.specs.rules.Frames.{other_start}
+use Rattle.miette_labels.specs.views.GivenLabels.{drawn_of}
+use Rattle.miette_snippet_rules.specs.rules.Frames.{other_start}
 use Rattle.miette_drawing.specs.steps.Sheets.{settings, multi_labels}
-use Rattle.miette_newlines.specs.views.Walking.{line_of_text}
+use Rattle.miette_source_lines.specs.views.Walking.{line_of_text}
 use Rattle.miette_drawing.proofs.Closing.{rest_of}
 use Rattle.miette_drawing.proofs.closings.push_closings.Given as goal
 

@@ -1,8 +1,8 @@
 use Rattle.std.proofs.Common.{◌∙◌, ap}
 use Rattle.std.specs.Prelude.{chars}
 use Rattle.std.specs.Option.{option_copied}
-use Rattle.miette_lines.specs.rules.Labels.{parts_of}
-use Rattle.miette_lines.specs.views.GivenLabels.{drawn_of}
+use Rattle.miette_labels.specs.rules.Labels.{parts_of}
+use Rattle.miette_labels.specs.views.GivenLabels.{drawn_of}
 use Rattle.miette_drawing.specs.steps.Sheets.{open_line}
 use Rattle.miette_drawing.proofs.Texting.{part_more}
 use Rattle.miette_drawing.proofs.closings.push_open_rows.Goals as goal

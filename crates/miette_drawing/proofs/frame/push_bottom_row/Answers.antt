@@ -1,5 +1,5 @@
 use Rattle.miette_drawing.specs.steps.FrameParts.{corner_row}
-use Rattle.miette_snippets.specs.views.ThemeSettings.{settings_of}
+use Rattle.miette_snippet_rules.specs.views.ThemeSettings.{settings_of}
 use Rattle.miette_drawing.proofs.Texting.{row_done}
 use Rattle.miette_drawing.proofs.frame.push_bottom_row.Goals as goal
 

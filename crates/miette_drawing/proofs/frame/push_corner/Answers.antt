@@ -1,5 +1,5 @@
 use Rattle.std.proofs.Common.{rules}
-use Rattle.miette_snippets.specs.views.ThemeSettings.{settings_of}
+use Rattle.miette_snippet_rules.specs.views.ThemeSettings.{settings_of}
 use Rattle.miette_drawing.proofs.Framing.{corner_put}
 use Rattle.miette_drawing.proofs.frame.push_corner.Goals as goal
 

@@ -1,7 +1,7 @@
 use Rattle.miette_page.specs.views.Printouts.{◌⊕◌}
 use Rattle.std.proofs.Common.{◌++◌, ◌≡◌, ◌∙◌, cond, true, ap, sym, rules}
 use Rattle.std.specs.Prelude.{chars, codes}
-use Rattle.miette_snippets.specs.rules.Frames.{place_text}
+use Rattle.miette_snippet_rules.specs.rules.Frames.{place_text}
 use Rattle.miette_drawing.specs.views.SnippetRows.{place_at}
 use Rattle.miette_page.specs.views.Tokens.{styled_tokens}
 use Rattle.miette_drawing.proofs.Framing.{link_put}

@@ -1,9 +1,9 @@
 use Rattle.std.proofs.Common.{◌++◌}
 use Rattle.std.specs.Option.{option_copied, option_map}
-use Rattle.miette_snippets.specs.rules.Frames.{location_of}
+use Rattle.miette_snippet_rules.specs.rules.Frames.{location_of}
 use Rattle.miette_drawing.specs.steps.FrameParts.{corner_row}
 use Rattle.miette_drawing.specs.views.SnippetRows.{place_at}
-use Rattle.miette_snippets.specs.views.ThemeSettings.{settings_of}
+use Rattle.miette_snippet_rules.specs.views.ThemeSettings.{settings_of}
 use Rattle.miette_drawing.proofs.Texting.{parts_then, row_done}
 use Rattle.miette_drawing.proofs.frame.push_top_row.Goals as goal
 

@@ -1,9 +1,9 @@
 use Rattle.std.proofs.Common.{◌∙◌, map, drop, get_or, ◌+◌, sym}
-use Rattle.miette_lines.specs.views.Sweeping.{nothing}
-use Rattle.miette_lines.specs.views.GivenLabels.{drawn_of, width_of}
-use Rattle.miette_newlines.specs.views.Walking.{line_of_text}
-use Rattle.miette_snippets.specs.rules.Gutters.{number_gutter}
-use Rattle.miette_snippets.proofs.Telling.{blank_row}
+use Rattle.miette_labels.specs.views.Sweeping.{nothing}
+use Rattle.miette_labels.specs.views.GivenLabels.{drawn_of, width_of}
+use Rattle.miette_source_lines.specs.views.Walking.{line_of_text}
+use Rattle.miette_snippet_rules.specs.rules.Gutters.{number_gutter}
+use Rattle.miette_snippet_rules.proofs.Telling.{blank_row}
 use Rattle.miette_drawing.proofs.Guttering.{at_end, at_last, number_starts, number_ends}
 use Rattle.miette_drawing.proofs.gutters.push_number_gutter.Goals as goal
 use Rattle.miette_style.specs.rules.Themes.{characters_of}

@@ -1,10 +1,10 @@
 use Rattle.miette_page.specs.views.Printouts.{◌⊕◌}
 use Rattle.std.proofs.Common.{◌≡◌, map, drop}
 use Rattle.miette_page.specs.views.Tokens.{row_tokens}
-use Rattle.miette_lines.specs.views.GivenLabels.{drawn_of}
+use Rattle.miette_labels.specs.views.GivenLabels.{drawn_of}
 use Rattle.miette_drawing.specs.steps.Sheets.{settings, multi_labels}
-use Rattle.miette_newlines.specs.views.Walking.{line_of_text}
-use Rattle.miette_snippets.specs.rules.Gutters.{other_gutter}
+use Rattle.miette_source_lines.specs.views.Walking.{line_of_text}
+use Rattle.miette_snippet_rules.specs.rules.Gutters.{other_gutter}
 use Rattle.miette_drawing.proofs.gutters.push_other_gutter.Given as goal
 
 abbrev pub invariant-loop-label : goal.invariant-loop-label

@@ -1,5 +1,5 @@
 use Rattle.std.proofs.Common.{rules, ◌≡◌, true, ◌∙◌}
-use Rattle.miette_snippets.specs.rules.Highlighting.{decoded_text, leaves_plain}
+use Rattle.miette_snippet_rules.specs.rules.Highlighting.{decoded_text, leaves_plain}
 use Rattle.miette_drawing.proofs.Styling.{cut_pieces}
 use Rattle.miette_drawing.proofs.highlighting.pieces_of.Goals as goal
 

@@ -1,4 +1,4 @@
-use Rattle.miette_snippets.specs.rules.Gutters.{break_gutter}
+use Rattle.miette_snippet_rules.specs.rules.Gutters.{break_gutter}
 use Rattle.miette_drawing.specs.steps.Sheets.{settings, multi_labels}
 use Rattle.miette_drawing.proofs.Lining.{break_put}
 use Rattle.miette_drawing.proofs.line.push_break_row.Goals as goal

@@ -2,22 +2,22 @@ use Rattle.miette_page.specs.views.Printouts.{◌⊕◌}
 use Rattle.std.proofs.Common.{◌≡◌, List, Option, [], ◌∷◌, ◌∙◌, false, map, ap, sym, option_map, rules}
 use Rattle.miette_page.specs.rules.Rows.{Row}
 use Rattle.miette_page.specs.views.Tokens.{rows_tokens}
-use Rattle.miette_lines.specs.rules.Answers.{Highlight}
-use Rattle.miette_lines.specs.rules.Cells.{Cell, characters}
-use Rattle.miette_lines.specs.rules.Labels.{closing_labels}
-use Rattle.miette_lines.specs.views.GivenLabels.{width_of}
-use Rattle.miette_snippets.specs.rules.CutLines.{Stretch, cut_line, shown_marks, shown_runs}
-use Rattle.miette_snippets.specs.rules.Marks.{Mark, marks}
-use Rattle.miette_snippets.specs.rules.Drawing.{marked_rows}
-use Rattle.miette_snippets.specs.rules.Gutters.{closing_rows}
-use Rattle.miette_snippets.specs.rules.Frames.{other_start}
-use Rattle.miette_snippets.specs.rules.Highlighting.{highlight_of}
-use Rattle.miette_snippets.specs.rules.SnippetLayout.{before_each, line_or_break_of, text_of_cells}
-use Rattle.miette_snippets.proofs.CutColumns.{columns_from}
+use Rattle.miette_labels.specs.rules.Answers.{Highlight}
+use Rattle.miette_labels.specs.rules.Cells.{Cell, characters}
+use Rattle.miette_labels.specs.rules.Labels.{closing_labels}
+use Rattle.miette_labels.specs.views.GivenLabels.{width_of}
+use Rattle.miette_snippet_rules.specs.rules.CutLines.{Stretch, cut_line, shown_marks, shown_runs}
+use Rattle.miette_snippet_rules.specs.rules.Marks.{Mark, marks}
+use Rattle.miette_snippet_rules.specs.rules.Drawing.{marked_rows}
+use Rattle.miette_snippet_rules.specs.rules.Gutters.{closing_rows}
+use Rattle.miette_snippet_rules.specs.rules.Frames.{other_start}
+use Rattle.miette_snippet_rules.specs.rules.Highlighting.{highlight_of}
+use Rattle.miette_snippet_rules.specs.rules.SnippetLayout.{before_each, line_or_break_of, text_of_cells}
+use Rattle.miette_snippet_rules.proofs.CutColumns.{columns_from}
 use Rattle.miette_cuts.specs.views.Cuts.{made_runs, measure}
 use Rattle.miette_cuts.specs.views.Marks.{mark_of}
 use Rattle.miette_drawing.specs.steps.Sheets.{settings, multi_labels, before_marks, number_row, shown_cells, labels_alone}
-use Rattle.miette_newlines.specs.views.Walking.{line_of_text}
+use Rattle.miette_source_lines.specs.views.Walking.{line_of_text}
 use Rattle.miette_cuts.proofs.CutStretches.{shown_made_anchored}
 use Rattle.miette_cuts.proofs.CutTexting.{shown_made}
 use Rattle.miette_drawing.proofs.Lining.{line_put}

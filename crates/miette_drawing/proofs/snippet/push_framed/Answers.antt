@@ -3,9 +3,9 @@ use Rattle.std.specs.Option.{option_map}
 use Rattle.miette_folds.specs.views.Spreads.{spread_of}
 use Rattle.miette_drawing.specs.views.SnippetRows.{place_at}
 use Rattle.miette_folds.specs.views.Folding.{fold_in}
-use Rattle.miette_lines.specs.views.Sweeping.{IsAt}
-use Rattle.miette_snippets.specs.views.ThemeSettings.{settings_of}
-use Rattle.miette_snippets.specs.rules.Highlighting.{leaves_plain, follows}
+use Rattle.miette_labels.specs.views.Sweeping.{IsAt}
+use Rattle.miette_snippet_rules.specs.views.ThemeSettings.{settings_of}
+use Rattle.miette_snippet_rules.specs.rules.Highlighting.{leaves_plain, follows}
 use Rattle.miette_highlight.specs.rules.HighlighterCalls.{Leads}
 use Rattle.miette_drawing.proofs.Lending.{told_lent}
 use Rattle.miette_drawing.proofs.snippet.push_framed.Goals as goal

@@ -1,18 +1,18 @@
 use Rattle.std.proofs.Common.{ℕ, ◌≡◌, ◌+◌, ◌-◌, ◌≤◌, ◌<◌, false, arith, length, map, refl, sym, ap, subst, ◌∙◌, Bool, List}
-use Rattle.miette_lines.specs.declared.sweep.PlacedLabel.{PlacedLabel}
-use Rattle.miette_snippets.specs.views.ThemeSettings.{settings_of}
-use Rattle.miette_lines.specs.views.GivenLabels.{drawn_of}
-use Rattle.miette_snippets.specs.rules.Folds.{leaves_out}
-use Rattle.miette_snippets.specs.rules.Highlighting.{leaves_plain, decoded_text, ArePieces, follows, highlight_of}
-use Rattle.miette_snippets.specs.rules.SnippetLayout.{left_out}
-use Rattle.miette_newlines.specs.rules.Lines.{Line, lines_from}
+use Rattle.miette_labels.specs.declared.sweep.PlacedLabel.{PlacedLabel}
+use Rattle.miette_snippet_rules.specs.views.ThemeSettings.{settings_of}
+use Rattle.miette_labels.specs.views.GivenLabels.{drawn_of}
+use Rattle.miette_snippet_rules.specs.rules.Folds.{leaves_out}
+use Rattle.miette_snippet_rules.specs.rules.Highlighting.{leaves_plain, decoded_text, ArePieces, follows, highlight_of}
+use Rattle.miette_snippet_rules.specs.rules.SnippetLayout.{left_out}
+use Rattle.miette_source_lines.specs.rules.Lines.{Line, lines_from}
 use Rattle.miette_folds.specs.declared.folds.LineStart.{LineStart}
 use Rattle.miette_folds.specs.views.Spreads.{spread_of}
 use Rattle.miette_drawing.specs.views.SnippetRows.{text_in}
 use Rattle.miette_folds.specs.views.Gaps.{next_line}
-use Rattle.miette_newlines.specs.views.Walking.{line_of_text}
-use Rattle.miette_lines.specs.views.Sweeping.{IsAt}
-use Rattle.miette_lines.proofs.Swept.{left_at}
+use Rattle.miette_source_lines.specs.views.Walking.{line_of_text}
+use Rattle.miette_labels.specs.views.Sweeping.{IsAt}
+use Rattle.miette_labels.proofs.Swept.{left_at}
 use Rattle.miette_highlight.specs.rules.HighlighterCalls.{Call}
 use Rattle.miette_drawing.proofs.Styling.{call_for}
 use Rattle.miette_folds.proofs.Starts.{Begins, begins_first, begins_next, begins_few}

@@ -1,11 +1,11 @@
 use Rattle.std.proofs.Common.{◌≡◌, ◌+◌, ◌-◌, length, map}
-use Rattle.miette_snippets.specs.views.ThemeSettings.{settings_of}
-use Rattle.miette_newlines.specs.rules.Lines.{lines_from}
-use Rattle.miette_lines.specs.views.GivenLabels.{drawn_of}
-use Rattle.miette_snippets.specs.rules.SnippetLayout.{left_out}
+use Rattle.miette_snippet_rules.specs.views.ThemeSettings.{settings_of}
+use Rattle.miette_source_lines.specs.rules.Lines.{lines_from}
+use Rattle.miette_labels.specs.views.GivenLabels.{drawn_of}
+use Rattle.miette_snippet_rules.specs.rules.SnippetLayout.{left_out}
 use Rattle.miette_folds.specs.views.Spreads.{spread_of}
-use Rattle.miette_snippets.specs.rules.Highlighting.{leaves_plain, follows}
-use Rattle.miette_lines.specs.views.Sweeping.{IsAt}
+use Rattle.miette_snippet_rules.specs.rules.Highlighting.{leaves_plain, follows}
+use Rattle.miette_labels.specs.views.Sweeping.{IsAt}
 use Rattle.miette_drawing.proofs.Lending.{AreLined}
 use Rattle.miette_folds.proofs.Starts.{Begins}
 use Rattle.miette_drawing.proofs.snippet.push_lines.Given as goal

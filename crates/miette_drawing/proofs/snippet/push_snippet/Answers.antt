@@ -2,12 +2,12 @@ use Rattle.std.proofs.Common.{ℕ, ◌≡◌, ◌+◌, List, ◌∷◌, ap, ◌�
 use Rattle.std.specs.Option.{option_map}
 use Rattle.miette_folds.specs.views.Spreads.{spread_of}
 use Rattle.miette_drawing.specs.views.SnippetRows.{place_at}
-use Rattle.miette_snippets.specs.views.ThemeSettings.{settings_of}
-use Rattle.miette_lines.specs.views.GivenLabels.{drawn_of}
+use Rattle.miette_snippet_rules.specs.views.ThemeSettings.{settings_of}
+use Rattle.miette_labels.specs.views.GivenLabels.{drawn_of}
 use Rattle.miette_drawing.specs.views.SnippetRows.{PutsRows, lent_snippet}
-use Rattle.miette_lines.specs.views.Sweeping.{IsAt}
+use Rattle.miette_labels.specs.views.Sweeping.{IsAt}
 use Rattle.miette_highlight.specs.rules.HighlighterCalls.{Call, Leads, restarted}
-use Rattle.miette_snippets.specs.rules.Highlighting.{follows, leaves_plain}
+use Rattle.miette_snippet_rules.specs.rules.Highlighting.{follows, leaves_plain}
 use Rattle.miette_drawing.proofs.Lending.{lent_texts, restarted_first}
 use Rattle.miette_drawing.proofs.snippet.push_snippet.Goals as goal
 

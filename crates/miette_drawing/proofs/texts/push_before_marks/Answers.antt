@@ -1,4 +1,4 @@
-use Rattle.miette_snippets.specs.rules.Frames.{other_start}
+use Rattle.miette_snippet_rules.specs.rules.Frames.{other_start}
 use Rattle.miette_drawing.specs.steps.Sheets.{settings, gutter_below}
 use Rattle.miette_drawing.proofs.Texting.{parts_then}
 use Rattle.miette_drawing.proofs.texts.push_before_marks.Goals as goal

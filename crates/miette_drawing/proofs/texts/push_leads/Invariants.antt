@@ -1,7 +1,7 @@
 use Rattle.miette_page.specs.views.Printouts.{◌⊕◌}
 use Rattle.std.proofs.Common.{◌≡◌, map, drop}
 use Rattle.miette_page.specs.views.Tokens.{row_tokens}
-use Rattle.miette_snippets.specs.rules.Drawing.{lead_runs}
+use Rattle.miette_snippet_rules.specs.rules.Drawing.{lead_runs}
 use Rattle.miette_cuts.specs.views.Marks.{mark_of}
 use Rattle.miette_drawing.specs.steps.Sheets.{settings}
 use Rattle.miette_drawing.proofs.texts.push_leads.Given as goal

@@ -1,8 +1,8 @@
 use Rattle.std.proofs.Common.{◌∙◌, ap, map}
 use Rattle.std.specs.Prelude.{chars}
 use Rattle.std.specs.Option.{option_copied}
-use Rattle.miette_lines.specs.rules.Labels.{parts_of}
-use Rattle.miette_snippets.specs.rules.Drawing.{beside}
+use Rattle.miette_labels.specs.rules.Labels.{parts_of}
+use Rattle.miette_snippet_rules.specs.rules.Drawing.{beside}
 use Rattle.miette_cuts.specs.views.Marks.{mark_of}
 use Rattle.miette_drawing.specs.steps.Sheets.{settings, text_line}
 use Rattle.miette_drawing.proofs.Texting.{part_more}

@@ -3,8 +3,8 @@ use Rattle.std.proofs.Common.{◌≡◌, ◌+◌, map, length}
 use Rattle.std.specs.Prelude.{chars}
 use Rattle.std.specs.Option.{option_map_or, option_copied}
 use Rattle.miette_page.specs.views.Tokens.{rows_tokens}
-use Rattle.miette_lines.specs.rules.Labels.{cut_at_lf, parts_of}
-use Rattle.miette_snippets.specs.rules.Drawing.{beside}
+use Rattle.miette_labels.specs.rules.Labels.{cut_at_lf, parts_of}
+use Rattle.miette_snippet_rules.specs.rules.Drawing.{beside}
 use Rattle.miette_cuts.specs.views.Marks.{mark_of}
 use Rattle.miette_drawing.specs.steps.Sheets.{settings, text_line}
 use Rattle.miette_drawing.proofs.texts.push_more_parts.Given as goal

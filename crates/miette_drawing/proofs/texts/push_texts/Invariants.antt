@@ -1,8 +1,8 @@
 use Rattle.miette_page.specs.views.Printouts.{◌⊕◌}
 use Rattle.std.proofs.Common.{◌≡◌, ◌≤◌, map, take, drop, length}
 use Rattle.miette_page.specs.views.Tokens.{rows_tokens}
-use Rattle.miette_snippets.specs.rules.Drawing.{rows_below}
-use Rattle.miette_snippets.specs.rules.SnippetLayout.{before_each}
+use Rattle.miette_snippet_rules.specs.rules.Drawing.{rows_below}
+use Rattle.miette_snippet_rules.specs.rules.SnippetLayout.{before_each}
 use Rattle.miette_cuts.specs.views.Marks.{mark_of}
 use Rattle.miette_drawing.specs.steps.Sheets.{settings, before_marks}
 use Rattle.miette_drawing.proofs.texts.push_texts.Given as goal

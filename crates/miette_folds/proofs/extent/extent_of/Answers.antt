@@ -1,7 +1,7 @@
 use Rattle.std.proofs.Common.{◌≡◌, ◌+◌, ◌≤◌, ◌<◌, ◌∙◌, ℕ, length, arith, not, refl, sym, ap, subst, rules}
-use Rattle.miette_newlines.specs.views.Walking.{line_of_text}
-use Rattle.miette_lines.specs.views.Sweeping.{IsAt}
-use Rattle.miette_lines.proofs.Swept.{left_at}
+use Rattle.miette_source_lines.specs.views.Walking.{line_of_text}
+use Rattle.miette_labels.specs.views.Sweeping.{IsAt}
+use Rattle.miette_labels.proofs.Swept.{left_at}
 use Rattle.miette_folds.specs.declared.folds.LineStart.{LineStart}
 use Rattle.miette_folds.specs.steps.Counting.{begins_before, next_counted}
 use Rattle.miette_folds.proofs.Starts.{begins_few}

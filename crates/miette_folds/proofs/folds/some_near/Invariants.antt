@@ -1,6 +1,6 @@
 use Rattle.std.proofs.Common.{◌≡◌, false, take}
 use Rattle.std.specs.List.{list_any}
-use Rattle.miette_newlines.specs.views.Walking.{line_of_text}
+use Rattle.miette_source_lines.specs.views.Walking.{line_of_text}
 use Rattle.miette_folds.specs.steps.Nearness.{is_near_fold}
 use Rattle.miette_folds.proofs.folds.some_near.Given as goal
 

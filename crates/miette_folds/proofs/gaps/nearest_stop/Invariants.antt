@@ -1,5 +1,5 @@
 use Rattle.std.proofs.Common.{◌≡◌, None, drop}
-use Rattle.miette_newlines.specs.views.Walking.{line_of_text}
+use Rattle.miette_source_lines.specs.views.Walking.{line_of_text}
 use Rattle.miette_folds.specs.views.Gaps.{nearest_stop}
 use Rattle.miette_folds.proofs.gaps.nearest_stop.Given as goal
 

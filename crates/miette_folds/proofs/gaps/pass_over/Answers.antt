@@ -1,4 +1,4 @@
-use Rattle.miette_lines.proofs.Swept.{left_at}
+use Rattle.miette_labels.proofs.Swept.{left_at}
 use Rattle.miette_folds.proofs.gaps.pass_over.Goals as goal
 
 pub returns : goal.returns

@@ -1,6 +1,6 @@
 use Rattle.std.proofs.Common.{◌≡◌, false, take}
 use Rattle.std.specs.List.{list_any}
-use Rattle.miette_newlines.specs.views.Walking.{line_of_text}
+use Rattle.miette_source_lines.specs.views.Walking.{line_of_text}
 use Rattle.miette_folds.specs.views.Gaps.{goes_on}
 use Rattle.miette_folds.proofs.gaps.some_goes_on.Given as goal
 

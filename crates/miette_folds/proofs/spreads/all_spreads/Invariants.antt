@@ -1,6 +1,6 @@
 use Rattle.std.proofs.Common.{◌≡◌, take, map, All}
 use Rattle.miette_protocol.specs.rules.Reading.{Source}
-use Rattle.miette_lines.specs.views.Reads.{IsRead}
+use Rattle.miette_labels.specs.views.Reads.{IsRead}
 use Rattle.miette_folds.specs.views.Spreads.{spread_of}
 use Rattle.miette_folds.specs.views.ReadSpreads.{read_spread, HasLines}
 use Rattle.miette_folds.proofs.spreads.all_spreads.Given as goal

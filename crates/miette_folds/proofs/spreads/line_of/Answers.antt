@@ -1,4 +1,4 @@
-use Rattle.miette_newlines.proofs.Places.{line_of_zero}
+use Rattle.miette_source_lines.proofs.Places.{line_of_zero}
 use Rattle.miette_folds.proofs.spreads.line_of.Goals as goal
 
 pub line_from-requires-clause-line : goal.line_from-requires-clause-line

@@ -2,15 +2,15 @@ use Rattle.std.proofs.Common.{ℕ, ◌≡◌, List, [], ◌∷◌, Option, Some,
 use Rattle.std.specs.List.{AllByRecursion}
 use Rattle.miette_protocol.specs.views.Meaning.{Label}
 use Rattle.miette_protocol.specs.rules.Reading.{Source}
-use Rattle.miette_lines.specs.rules.Contexts.{contents}
-use Rattle.miette_lines.specs.rules.Groups.{in_order}
-use Rattle.miette_lines.specs.rules.Cells.{Cell}
-use Rattle.miette_lines.proofs.Numbers.{by_cases}
+use Rattle.miette_labels.specs.rules.Contexts.{contents}
+use Rattle.miette_labels.specs.rules.Groups.{in_order}
+use Rattle.miette_labels.specs.rules.Cells.{Cell}
+use Rattle.miette_labels.proofs.Numbers.{by_cases}
 use Rattle.miette_page.specs.rules.Rows.{glyphs_of}
-use Rattle.miette_snippets.specs.rules.CutLines.{Stretch, cut_line, ends, is_near, shown_runs, stretches}
-use Rattle.miette_snippets.specs.rules.Marks.{Mark}
-use Rattle.miette_snippets.specs.rules.PrintedCells.{cells_width}
-use Rattle.miette_snippets.specs.rules.SnippetLayout.{line_marks}
+use Rattle.miette_snippet_rules.specs.rules.CutLines.{Stretch, cut_line, ends, is_near, shown_runs, stretches}
+use Rattle.miette_snippet_rules.specs.rules.Marks.{Mark}
+use Rattle.miette_snippet_rules.specs.rules.PrintedCells.{cells_width}
+use Rattle.miette_snippet_rules.specs.rules.SnippetLayout.{line_marks}
 use Rattle.miette_snippet_laws.specs.laws.Cuts.{AreStretches, by_stretch}
 use Rattle.miette_graphical.specs.rules.Answers.{pieces_listed}
 use Rattle.miette_graphical.specs.rules.Settings.{Settings}
@@ -18,8 +18,8 @@ use Rattle.miette_graphical.specs.laws.Headline.{EndsAreDrawn, LabelsAreFolded, 
 use Rattle.miette_tree.specs.rules.DiagnosticParts.{given_labels}
 use Rattle.miette_graphical.specs.rules.PrintedDiagnostics.{diagnostics_of}
 use Rattle.miette_graphical.specs.rules.Snippets.{drawn_rows, snippet_settings, shown_rows}
-use Rattle.miette_lines.specs.rules.Answers.{Answers}
-use Rattle.miette_snippets.specs.rules.SnippetLayout.{snippet_rows}
+use Rattle.miette_labels.specs.rules.Answers.{Answers}
+use Rattle.miette_snippet_rules.specs.rules.SnippetLayout.{snippet_rows}
 use Rattle.miette_graphical.proofs.DrawnRows.{none_listed}
 use Rattle.miette_graphical.proofs.Themes.{is_narrow}
 use Rattle.miette_graphical.proofs.laws.snippets_law.Goals as goal

@@ -6,7 +6,7 @@ use Rattle.miette_runs.specs.rules.Sequences.{spell}
 use Rattle.miette_tree.specs.rules.Tree.{effective, head, texts, trees, cause_of, related_of, source_of}
 use Rattle.miette_tree.specs.views.Report.{tree_of}
 use Rattle.miette_highlight.specs.rules.HighlighterCalls.{Call, Leads}
-use Rattle.miette_snippets.specs.rules.Highlighting.{AreCallsOn, follows, leaves_plain}
+use Rattle.miette_snippet_rules.specs.rules.Highlighting.{AreCallsOn, follows, leaves_plain}
 use Rattle.miette_tree.specs.views.Owned.{shown_source}
 use Rattle.miette_graphical.specs.steps.PartTexts.{IsBelow, AreCauses, AreRelated, IsInner, IsOneCause, IsOneRelated}
 use Rattle.miette_tree.specs.views.Handler.{AppendsOne}

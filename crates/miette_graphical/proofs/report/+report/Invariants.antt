@@ -1,5 +1,5 @@
 use Rattle.std.proofs.Common.{◌≡◌, length, map, option_map, suc}
-use Rattle.miette_snippets.specs.rules.Highlighting.{follows, leaves_plain}
+use Rattle.miette_snippet_rules.specs.rules.Highlighting.{follows, leaves_plain}
 use Rattle.miette_tree.specs.views.Owned.{shown_source}
 use Rattle.miette_tree.specs.rules.Tree.{trees, cause_of, related_of}
 use Rattle.miette_tree.specs.views.Report.{tree_of}

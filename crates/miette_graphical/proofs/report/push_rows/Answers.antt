@@ -1,6 +1,6 @@
 use Rattle.std.proofs.Common.{[], List, refl, sym, subst, option_map}
 use Rattle.miette_highlight.specs.rules.HighlighterCalls.{Call, Leads}
-use Rattle.miette_snippets.specs.rules.Highlighting.{follows, leaves_plain}
+use Rattle.miette_snippet_rules.specs.rules.Highlighting.{follows, leaves_plain}
 use Rattle.miette_tree.specs.views.Owned.{shown_source}
 use Rattle.miette_tree.specs.views.Report.{tree_of}
 use Rattle.miette_tree.specs.rules.Tree.{head}

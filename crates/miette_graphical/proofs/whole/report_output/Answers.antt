@@ -4,7 +4,7 @@ use Rattle.miette_tree.specs.rules.Tree.{head, source_of}
 use Rattle.miette_graphical.specs.rules.DiagnosticText.{header}
 use Rattle.miette_tree.specs.views.Report.{tree_of}
 use Rattle.miette_highlight.specs.rules.HighlighterCalls.{Call, Leads}
-use Rattle.miette_snippets.specs.rules.Highlighting.{follows, leaves_plain}
+use Rattle.miette_snippet_rules.specs.rules.Highlighting.{follows, leaves_plain}
 use Rattle.miette_tree.specs.views.Owned.{shown_source}
 use Rattle.miette_graphical.specs.steps.PartTexts.{IsBelow}
 use Rattle.miette_tree.specs.views.Handler.{AppendsOne}

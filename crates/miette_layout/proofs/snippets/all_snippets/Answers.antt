@@ -1,7 +1,7 @@
 use Rattle.std.proofs.Common.{ap, map, ◌∙◌}
-use Rattle.miette_snippets.specs.views.ThemeSettings.{settings_of}
-use Rattle.miette_lines.specs.views.GivenLabels.{label_at}
-use Rattle.miette_snippets.specs.rules.Highlighting.{leaves_plain, follows}
+use Rattle.miette_snippet_rules.specs.views.ThemeSettings.{settings_of}
+use Rattle.miette_labels.specs.views.GivenLabels.{label_at}
+use Rattle.miette_snippet_rules.specs.rules.Highlighting.{leaves_plain, follows}
 use Rattle.miette_highlight.specs.rules.HighlighterCalls.{Leads}
 use Rattle.miette_layout.proofs.Progressing.{gives_refused}
 use Rattle.miette_layout.proofs.snippets.all_snippets.Goals as goal

@@ -2,22 +2,22 @@ use Rattle.std.proofs.Common.{◌≡◌, rules, refl, ap, sym, ◌∙◌, ◌∷
 use Rattle.std.specs.Option.{option_map}
 use Rattle.miette_protocol.specs.rules.Reading.{Span}
 use Rattle.miette_drawing.specs.views.SnippetRows.{place_at}
-use Rattle.miette_lines.specs.rules.Around.{group_context}
-use Rattle.miette_lines.specs.rules.Groups.{in_order}
-use Rattle.miette_snippets.specs.rules.Folds.{spreads_of}
+use Rattle.miette_labels.specs.rules.Around.{group_context}
+use Rattle.miette_labels.specs.rules.Groups.{in_order}
+use Rattle.miette_snippet_rules.specs.rules.Folds.{spreads_of}
 use Rattle.miette_folds.specs.declared.folds.Spread.{Spread as MadeSpread}
 use Rattle.miette_folds.specs.views.Spreads.{spread_of}
 use Rattle.miette_folds.specs.views.ReadSpreads.{HasLines}
 use Rattle.miette_folds.proofs.Spreading.{spreads_are}
-use Rattle.miette_snippets.specs.rules.SnippetLayout.{settings_around}
-use Rattle.miette_snippets.specs.views.ThemeSettings.{settings_of}
-use Rattle.miette_lines.specs.views.GivenLabels.{drawn_of}
-use Rattle.miette_snippets.specs.rules.Highlighting.{leaves_plain, follows}
+use Rattle.miette_snippet_rules.specs.rules.SnippetLayout.{settings_around}
+use Rattle.miette_snippet_rules.specs.views.ThemeSettings.{settings_of}
+use Rattle.miette_labels.specs.views.GivenLabels.{drawn_of}
+use Rattle.miette_snippet_rules.specs.rules.Highlighting.{leaves_plain, follows}
 use Rattle.miette_drawing.specs.views.SnippetRows.{PutsRows, lent_snippet}
-use Rattle.miette_lines.specs.views.Placing.{placed_from}
-use Rattle.miette_lines.specs.views.Primary.{PointsTo}
-use Rattle.miette_lines.specs.views.Reads.{AreGroups}
-use Rattle.miette_lines.proofs.Collecting.{are_grouped}
+use Rattle.miette_labels.specs.views.Placing.{placed_from}
+use Rattle.miette_labels.specs.views.Primary.{PointsTo}
+use Rattle.miette_labels.specs.views.Reads.{AreGroups}
+use Rattle.miette_labels.proofs.Collecting.{are_grouped}
 use Rattle.miette_drawing.proofs.Lending.{lent_texts}
 use Rattle.miette_highlight.specs.rules.HighlighterCalls.{Call, Leads, restarted}
 use Rattle.miette_layout.proofs.Nearing.{reads_rise}

@@ -1,10 +1,10 @@
-use Rattle.miette_lines.specs.rules.Groups.{in_order}
-use Rattle.miette_snippets.specs.rules.Folds.{spreads_of}
-use Rattle.miette_snippets.specs.rules.SnippetLayout.{settings_around}
-use Rattle.miette_snippets.specs.views.ThemeSettings.{settings_of}
+use Rattle.miette_labels.specs.rules.Groups.{in_order}
+use Rattle.miette_snippet_rules.specs.rules.Folds.{spreads_of}
+use Rattle.miette_snippet_rules.specs.rules.SnippetLayout.{settings_around}
+use Rattle.miette_snippet_rules.specs.views.ThemeSettings.{settings_of}
 use Rattle.std.proofs.Common.{◌≡◌}
-use Rattle.miette_snippets.specs.rules.Highlighting.{leaves_plain, follows}
-use Rattle.miette_lines.specs.views.Sweeping.{IsAt}
+use Rattle.miette_snippet_rules.specs.rules.Highlighting.{leaves_plain, follows}
+use Rattle.miette_labels.specs.views.Sweeping.{IsAt}
 use Rattle.miette_layout.proofs.Progressing.{AreDrawn}
 use Rattle.miette_layout.proofs.snippets.read_snippets.Given as goal
 

@@ -1,6 +1,6 @@
 use Rattle.std.proofs.Common.{Option, subst, string_bytes, rules, arith}
-use Rattle.miette_newlines.specs.declared.lines.LineOfText.{LineOfText}
-use Rattle.miette_newlines.specs.views.Walking.{GivesLine}
+use Rattle.miette_source_lines.specs.declared.lines.LineOfText.{LineOfText}
+use Rattle.miette_source_lines.specs.views.Walking.{GivesLine}
 use Rattle.miette_narrated.specs.steps.Conversions.{ranges_of, narrated_line}
 use Rattle.miette_narrated.proofs.Lining.{left_first, left_more, left_none}
 use Rattle.miette_narrated.proofs.lines.push_lines.Goals as goal

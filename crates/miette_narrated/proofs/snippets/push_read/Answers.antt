@@ -1,10 +1,10 @@
 use Rattle.std.proofs.Common.{ap, ◌∙◌, List, string_bytes, subst, sym}
 use Rattle.std.specs.Option.{option_map}
-use Rattle.miette_lines.specs.rules.Around.{group_context}
-use Rattle.miette_lines.specs.rules.Groups.{in_order}
-use Rattle.miette_lines.specs.declared.sweep.PlacedLabel.{PlacedLabel}
-use Rattle.miette_lines.specs.views.Reads.{AreGroups}
-use Rattle.miette_lines.proofs.Collecting.{are_grouped}
+use Rattle.miette_labels.specs.rules.Around.{group_context}
+use Rattle.miette_labels.specs.rules.Groups.{in_order}
+use Rattle.miette_labels.specs.declared.sweep.PlacedLabel.{PlacedLabel}
+use Rattle.miette_labels.specs.views.Reads.{AreGroups}
+use Rattle.miette_labels.proofs.Collecting.{are_grouped}
 use Rattle.miette_narrated.specs.steps.Ends.{AreEnds}
 use Rattle.miette_narrated.specs.declared.label_order.RankedLabel.{RankedLabel}
 use Rattle.miette_narrated.specs.steps.Conversions.{ranges_of}

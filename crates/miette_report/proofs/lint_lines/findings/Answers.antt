@@ -1,6 +1,6 @@
 use Rattle.std.proofs.Common.{Option, length, arith, subst, rules}
-use Rattle.miette_newlines.specs.declared.lines.LineOfText.{LineOfText}
-use Rattle.miette_newlines.specs.views.Walking.{GivesLine}
+use Rattle.miette_source_lines.specs.declared.lines.LineOfText.{LineOfText}
+use Rattle.miette_source_lines.specs.views.Walking.{GivesLine}
 use Rattle.miette_report.specs.rules.Findings.{line_findings}
 use Rattle.miette_report.proofs.FindingSteps.{left_first, left_more, left_none}
 use Rattle.miette_report.proofs.lint_lines.findings.Goals as goal

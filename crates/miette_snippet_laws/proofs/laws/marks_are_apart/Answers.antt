@@ -1,7 +1,7 @@
 use Rattle.miette_snippet_laws.proofs.Apart.{marks_apart, own_anchor, own_anchors}
 use Rattle.miette_snippet_laws.proofs.Whole.{row_apart}
 use Rattle.miette_snippet_laws.specs.laws.Pictures.{marks_of_line}
-use Rattle.miette_snippets.specs.rules.SnippetLayout.{cells_of}
+use Rattle.miette_snippet_rules.specs.rules.SnippetLayout.{cells_of}
 use Rattle.miette_snippet_laws.proofs.laws.marks_are_apart.Goals as goal
 
 pub returns-clause-apart : goal.returns-clause-apart

@@ -1,10 +1,10 @@
 use Rattle.std.proofs.Common.{List, length, ◌≡◌, ◌++◌, [], ◌∙◌, false, refl, sym, ap, subst}
-use Rattle.miette_lines.specs.rules.Cells.{Cell}
-use Rattle.miette_snippets.specs.rules.Marks.{Text}
-use Rattle.miette_lines.specs.views.Printable.{plain_cells}
-use Rattle.miette_lines.specs.views.GivenLabels.{width_of}
+use Rattle.miette_labels.specs.rules.Cells.{Cell}
+use Rattle.miette_snippet_rules.specs.rules.Marks.{Text}
+use Rattle.miette_labels.specs.views.Printable.{plain_cells}
+use Rattle.miette_labels.specs.views.GivenLabels.{width_of}
 use Rattle.miette_cuts.specs.steps.Stops.{ComeFrom}
-use Rattle.miette_lines.proofs.Stepping.{cells_end}
+use Rattle.miette_labels.proofs.Stepping.{cells_end}
 use Rattle.miette_cuts.proofs.Stopping.{cells_come}
 use Rattle.miette_cuts.proofs.Plaining.{plain_text}
 use Rattle.miette_cuts.proofs.marks.Columns.new.Goals as goal

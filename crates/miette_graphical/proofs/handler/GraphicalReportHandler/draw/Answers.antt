@@ -1,5 +1,5 @@
 use Rattle.std.proofs.Common.{◌≡◌, ◌∙◌, ap, refl, subst, encode_utf8_all}
-use Rattle.miette_snippets.specs.rules.Highlighting.{AreCallsOn, leaves_plain}
+use Rattle.miette_snippet_rules.specs.rules.Highlighting.{AreCallsOn, leaves_plain}
 use Rattle.miette_tree.specs.views.Report.{tree_of}
 use Rattle.miette_graphical.specs.rules.PossibleAnswers.{IsAskedReport}
 use Rattle.miette_graphical.specs.rules.Snippets.{drawn_rows}

@@ -1,0 +1,53 @@
+-- Texts of printable ASCII characters.
+use Rattle.std.proofs.Common.{ℕ, ◌<◌, ◌≤◌, ◌≡◌, true, false, leb, ltb, eqb, List, ◌∷◌, length, refl, sym, ap, arith, zero, suc, [], take}
+use Rattle.std.specs.Prelude.{slice_index}
+use Rattle.std.specs.List.{list_all}
+use Rattle.std.specs.Int.{is_in_range}
+use Rattle.std.proofs.lemmas.Bool.{and_parts, leb-true, ltb-true, ne_eqb}
+use Rattle.std.proofs.lemmas.Bool.Decides.{nat_tests}
+use Rattle.unicode_width.specs.Width.{char_width}
+use Rattle.bstr.specs.Utf8.{decoded, good, or_replacement}
+use Rattle.bstr.proofs.lemmas.PieceLemmas.{value-1}
+use Rattle.miette_labels.specs.rules.Cells.{characters}
+use Rattle.miette_labels.specs.views.GivenLabels.{width_of}
+use Rattle.miette_labels.specs.views.Printable.{is_printable}
+use Rattle.miette_labels.proofs.Stepping.{made, characters_step}
+
+-- what a printable character is not
+pub record IsPlain (b : ℕ) : Type 0 where
+  pub low : 32 ≤ b
+  pub high : b < 127
+  pub escape : eqb b 27 ≡ false
+  pub tab : eqb b 9 ≡ false
+
+pub plain_byte : (b : ℕ) → is_printable b ≡ true → IsPlain b
+plain_byte b h =
+    let parts = and_parts (leb 32 b) (ltb b 127) h in
+    let low : 32 ≤ b = leb-true 32 b parts.0 in
+    let high : b < 127 = ltb-true b 127 parts.1 in
+    record { low = low; high = high; escape = ne_eqb b 27 (omega arith); tab = ne_eqb b 9 (omega arith) }
+
+-- each has one column
+pub one_column : (b : ℕ) → is_printable b ≡ true → width_of b ≡ 1
+unfolding char_width
+one_column b h =
+    let parts = and_parts (leb 32 b) (ltb b 127) h in
+    rw (parts.1, parts.0) refl
+
+pub ascii_decoded : (b : ℕ) (bs : List ℕ) → b < 128 → decoded (b ∷ bs) ≡ good b 1
+ascii_decoded b bs h = value-1 (length (b ∷ bs)) b (slice_index (b ∷ bs) 1) (slice_index (b ∷ bs) 2) (slice_index (b ∷ bs) 3) (omega arith, h)
+
+-- each is a character of one byte
+pub printable_character : (b : ℕ) (bs : List ℕ) → is_printable b ≡ true → characters (b ∷ bs) ≡ made b 1 ∷ characters bs
+printable_character b bs h =
+    let p = plain_byte b h in
+    let is = ascii_decoded b bs (omega (arith, p.high)) in
+    characters_step (b ∷ bs) bs b 1 (record { some = omega arith; left_is = refl; code_is = sym (ap (λ d. or_replacement d.char) is); size_is = sym (ap (λ d. d.size) is) })
+
+pub printable_in_range : (b : ℕ) → is_printable b ≡ true → is_in_range 0x20 0x7E b ≡ true
+printable_in_range b h = grind (arith, nat_tests)
+
+pub printable_taken : (n : ℕ) (bs : List ℕ) → list_all is_printable bs ≡ true → list_all is_printable (take n bs) ≡ true
+printable_taken zero bs h = refl
+printable_taken (suc n) [] h = refl
+printable_taken (suc n) (b ∷ bs) h = let parts = and_parts (is_printable b) (list_all is_printable bs) h in rw (parts.0) (printable_taken n bs parts.1)

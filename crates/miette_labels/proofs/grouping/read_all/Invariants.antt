@@ -1,0 +1,5 @@
+use Rattle.miette_labels.proofs.Collecting.{AreReadTo}
+use Rattle.miette_labels.proofs.grouping.read_all.Given as goal
+
+abbrev pub invariant-loop-span : goal.invariant-loop-span
+invariant-loop-span g l = AreReadTo (g.S.SourceCode.source l.source) l.spans l.span-index l.groups.items

@@ -1,0 +1,30 @@
+-- Labels as a program gives them, and the columns of characters.
+use Rattle.std.specs.Prelude.{ℕ, false, List, Option, None, slice_get, unwrap_or}
+use Rattle.std.specs.Option.{option_map_or}
+use Rattle.unicode_width.specs.Width.{char_width}
+use Rattle.miette_protocol.specs.views.Meaning.{Label}
+use Rattle.miette_labels.specs.declared.sweep.PlacedLabel.{PlacedLabel}
+use Rattle.miette_labels.specs.rules.Labels.{DrawnLabel, parts_of}
+
+-- the columns of a character; 0 where it has none
+abbrev pub width_of : ℕ → ℕ
+width_of code = unwrap_or (char_width false code) 0
+
+-- the text of the i-th label
+abbrev pub text_at : List Label → ℕ → Option (List ℕ)
+text_at labels i = option_map_or (λ label. label.text) (slice_get labels i) None
+
+-- a label that a program has placed, with the text that it has among these labels
+abbrev pub drawn_of : List Label → PlacedLabel → DrawnLabel
+drawn_of labels p = record {
+  start = p.start;
+  after = p.after;
+  style = p.style;
+  parts = parts_of (text_at labels p.index);
+  behind = p.behind;
+}
+
+-- the i-th label
+abbrev pub label_at : List Label → ℕ → Label
+label_at labels i = unwrap_or (slice_get labels i)
+    (record { text = None; span = record { offset = 0; len = 0 }; primary = false; context = None })

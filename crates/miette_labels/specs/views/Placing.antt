@@ -1,0 +1,41 @@
+-- Labels that were read, as they are drawn.
+use Rattle.std.specs.Prelude.{ℕ, ◌+◌, ◌-◌, min, max, List, [], ◌∷◌, Option, Some, None, Bool, false, ◌&&◌, ◌==◌, nat_lt}
+use Rattle.std.specs.Prelude.{if◌then◌else◌}
+use Rattle.miette_style.specs.declared.style.Style.{Style}
+use Rattle.miette_labels.specs.declared.reading.ReadLabel.{ReadLabel}
+use Rattle.miette_labels.specs.declared.sweep.PlacedLabel.{PlacedLabel}
+use Rattle.miette_labels.specs.rules.Contexts.{end_of_span}
+use Rattle.miette_labels.specs.rules.Labels.{style_at}
+
+-- the smaller of a label's end and the end of what its read lent, and at least its start
+abbrev pub end_drawn : ReadLabel → ℕ
+end_drawn read = max read.span.offset (min (end_of_span read.span) (end_of_span read.contents.span))
+
+-- whether a read lent bytes before its label and none from there on
+abbrev pub lends_before : ReadLabel → Bool
+lends_before read = nat_lt read.contents.span.offset read.span.offset
+    && end_of_span read.contents.span == read.span.offset
+
+-- where the source ends, as the first such read tells
+abbrev pub told_end : List ReadLabel → Option ℕ
+told_end [] = None
+told_end (read ∷ reads) = if lends_before read then Some read.span.offset else told_end reads
+
+-- whether that is a label's offset
+abbrev pub is_told : Option ℕ → ℕ → Bool
+is_told None offset = false
+is_told (Some end) offset = offset == end
+
+-- a label at the told end stands behind the text of the last line, at the byte before
+abbrev pub placed_one : Option ℕ → List Style → ℕ → ReadLabel → PlacedLabel
+placed_one end styles i read = record {
+  start = if is_told end read.span.offset then read.span.offset - 1 else read.span.offset;
+  after = if is_told end read.span.offset then read.span.offset - 1 else end_drawn read;
+  style = style_at styles i;
+  index = read.index;
+  behind = is_told end read.span.offset;
+}
+
+abbrev pub placed_from : Option ℕ → List Style → ℕ → List ReadLabel → List PlacedLabel
+placed_from end styles i [] = []
+placed_from end styles i (read ∷ reads) = placed_one end styles i read ∷ placed_from end styles (i + 1) reads

@@ -1,0 +1,53 @@
+-- What a sweep over labels by offset knows at a place between two lines.
+use Rattle.std.specs.Prelude.{ℕ, ◌<◌, ◌≤◌, ◌≡◌, List, [], length, take, Bool, false, nat_lt}
+use Rattle.std.specs.Prelude.{slice_index_or}
+use Rattle.std.specs.List.{filter}
+use Rattle.miette_labels.specs.declared.sweep.PlacedLabel.{PlacedLabel}
+use Rattle.miette_labels.specs.declared.sweep.Bounds.{Bounds}
+use Rattle.miette_style.specs.rules.Styles.{plain}
+use Rattle.miette_source_lines.specs.rules.Lines.{Line}
+use Rattle.miette_labels.specs.rules.Labels.{DrawnLabel, reach, is_one_line, is_multi_line}
+
+-- a label of this place; its text decides nothing
+abbrev pub label_of : PlacedLabel → DrawnLabel
+label_of p = record { start = p.start; after = p.after; style = p.style; parts = []; behind = p.behind }
+
+-- a line from here to there; where its text ends decides nothing
+abbrev pub line_of_bounds : Bounds → Line
+line_of_bounds b = record { start = b.start; text_end = b.after; end = b.after }
+
+-- whether a label goes on past a place
+abbrev pub passes : ℕ → PlacedLabel → Bool
+passes place p = nat_lt place (reach (label_of p))
+
+abbrev pub is_one : Line → PlacedLabel → Bool
+is_one line p = is_one_line line (label_of p)
+
+abbrev pub is_multi : Line → PlacedLabel → Bool
+is_multi line p = is_multi_line line (label_of p)
+
+abbrev pub nothing : PlacedLabel
+nothing = record { start = 0; after = 0; style = plain; index = 0; behind = false }
+
+-- the k-th label's start
+abbrev pub start_at : List PlacedLabel → ℕ → ℕ
+start_at labels k = (slice_index_or labels k nothing).start
+
+-- labels by offset, none of which ends before it starts
+pub record AreSorted (labels : List PlacedLabel) : Type 0 where
+  pub order : (j k : ℕ) → j ≤ k → k < length labels → start_at labels j ≤ start_at labels k
+  pub drawn : (k : ℕ) → k < length labels → start_at labels k ≤ (slice_index_or labels k nothing).after
+
+-- so many labels began before a place, no other did, and these of them go on past it
+pub record IsAt (labels : List PlacedLabel) (place next : ℕ) (running : List PlacedLabel) : Type 0 where
+  pub count : next ≤ length labels
+  pub before : (k : ℕ) → k < next → start_at labels k < place
+  pub later : (k : ℕ) → next ≤ k → k < length labels → place ≤ start_at labels k
+  pub carried : running ≡ filter (passes place) (take next labels)
+
+-- so many labels begin before a line's end, no other does, and these of several lines lie on it
+pub record IsOn (labels : List PlacedLabel) (line : Line) (next : ℕ) (running : List PlacedLabel) : Type 0 where
+  pub count : next ≤ length labels
+  pub before : (k : ℕ) → k < next → start_at labels k < line.end
+  pub later : (k : ℕ) → next ≤ k → k < length labels → line.end ≤ start_at labels k
+  pub multi : running ≡ filter (is_multi line) labels

@@ -1,0 +1,149 @@
+//! The characters of a line's text, with their bytes and their columns.
+
+ghost use Rattle.std.specs.Prelude.{◌≡◌, ◌<◌, ◌≤◌, ◌+◌, ◌-◌, ◌%◌, ◌^◌, List, [], ◌∷◌, length, false, IfOk};
+ghost use Rattle.std.specs.Prelude.{MatchOption};
+ghost use Rattle.bstr.specs.Utf8.{decoded, or_replacement};
+ghost use Rattle.miette_labels.specs.views.Walking.{cell_of};
+ghost use Rattle.miette_labels.specs.views.GivenLabels.{width_of};
+ghost use Rattle.miette_labels.specs.rules.Cells.{width_at};
+ghost use Rattle.miette_labels.specs.rules.Cells.{Cell as TextCell, cells_from, characters, is_hidden, hides_next};
+
+use std::alloc::AllocError;
+use std::marker::Model;
+use unicode_width::UnicodeWidthChar;
+
+/// A character of a line's text: its bytes from one offset of the source up to another, its columns from one up to
+/// another.
+/// The columns are counted from where the text begins. A tab is a cell that prints as spaces.
+#[derive(Clone, Copy, Debug, PartialEq, Eq, Drop)]
+pub struct Cell {
+    /// The character; U+FFFD for bytes that are none.
+    pub code: char,
+    /// The offset of its first byte in the source.
+    pub start: usize,
+    /// The offset behind its last byte.
+    pub after: usize,
+    /// Its first column, counted from 0.
+    pub from: usize,
+    /// The column behind its last one; `from` where it has none.
+    pub until: usize,
+}
+
+/// A walk over the cells of a line's text; it holds those that are left.
+#[derive(Drop)]
+pub struct Walk<'a> {
+    rest: &'a [u8],
+    tab: usize,
+    hidden: bool,
+    offset: usize,
+    column: usize,
+}
+
+impl<'a> Model for Walk<'a> {
+    ghost Value = { List TextCell };
+
+    ghost view = { λ w. cells_from width_of w.tab w.hidden w.offset w.column (characters w.rest.now) };
+
+    ghost invariant = { λ w. w.offset + length w.rest.now < 2 ^ 64 };
+}
+
+/// The columns of a character by itself, 0 where it has none.
+pub fn columns_of(character: char) -> usize
+    ensures { result ≡ width_of character }
+{
+    character.width().unwrap_or(0)
+}
+
+// Whether a character has no width for the sake of an ESC before it or its own.
+fn hides(hidden: bool, character: char) -> bool
+    ensures { result ≡ is_hidden hidden character }
+{
+    hidden || character == '\u{1b}'
+}
+
+// Whether the character after this one has no width.
+fn hides_later(hidden: bool, character: char) -> bool
+    ensures { result ≡ hides_next hidden character }
+{
+    hides(hidden, character) && character != 'm'
+}
+
+// The columns of a character that stands at a column.
+fn width_there(tab: usize, hidden: bool, column: usize, character: char) -> usize
+    ensures { result ≡ width_at width_of tab hidden column character }
+{
+    if hides(hidden, character) {
+        0
+    } else if character == '\t' {
+        if tab == 0 { 0 } else { tab - column % tab }
+    } else {
+        columns_of(character)
+    }
+}
+
+/// The first character of some bytes, U+FFFD where they begin with none, and how many bytes it takes.
+pub fn first_character(bytes: &[u8]) -> (char, usize)
+    requires { 0 < length bytes.now }
+    ensures code { result.0 ≡ or_replacement (decoded bytes.now).char }
+    ensures size { result.1 ≡ (decoded bytes.now).size }
+    ensures some { 0 < result.1 }
+    ensures within { result.1 ≤ length bytes.now }
+{
+    bstr::decode_lossy(bytes)
+}
+
+impl<'a> Walk<'a> {
+    /// The cells of a text that begins at an offset of the source, with tabs of so many columns.
+    pub fn new(text: &'a [u8], offset: usize, tab: usize) -> Self
+        requires { offset + length text.now < 2 ^ 64 }
+        ensures { result ≡ cells_from width_of tab false offset 0 (characters text.now) }
+    {
+        Walk {
+            rest: text,
+            tab,
+            hidden: false,
+            offset,
+            column: 0,
+        }
+    }
+
+    /// A walk over the same cells.
+    pub fn copy(&self) -> Self
+        ensures { result ≡ self.now }
+    {
+        Walk {
+            rest: self.rest,
+            tab: self.tab,
+            hidden: self.hidden,
+            offset: self.offset,
+            column: self.column,
+        }
+    }
+
+    /// The next cell, if there is one. Columns past the largest `usize` are refused as want of memory.
+    pub fn next(&mut self) -> Result<Option<Cell>, AllocError>
+        ensures { IfOk result (λ next. MatchOption next ((self.old ≡ []) × (self.new ≡ []))
+            (λ cell. self.old ≡ cell_of cell ∷ self.new)) }
+    {
+        if self.rest.is_empty() {
+            return Ok(None);
+        }
+        let (code, size) = first_character(self.rest);
+        let width = width_there(self.tab, self.hidden, self.column, code);
+        let Some(until) = self.column.checked_add(width) else {
+            return Err(AllocError);
+        };
+        let cell = Cell {
+            code,
+            start: self.offset,
+            after: self.offset + size,
+            from: self.column,
+            until,
+        };
+        self.rest = &self.rest[size..];
+        self.hidden = hides_later(self.hidden, code);
+        self.offset += size;
+        self.column = until;
+        Ok(Some(cell))
+    }
+}

@@ -1,0 +1,122 @@
+//! Labels as they are drawn.
+
+ghost use Rattle.std.specs.Prelude.{option_copied, ◌≡◌, IfOk};
+ghost use Rattle.miette_labels.specs.rules.Labels.{style_at};
+ghost use Rattle.miette_labels.specs.views.GivenLabels.{text_at};
+ghost use Rattle.miette_labels.specs.views.Placing.{placed_from, placed_one, end_drawn, is_told, lends_before, told_end};
+
+use crate::reading::ReadLabel;
+use crate::spans::end_of;
+use crate::sweep::PlacedLabel;
+use miette_protocol::protocol::LabeledSpan;
+use miette_style::style::Style;
+use std::alloc::{AllocError, Global};
+
+// The style of the i-th label by offset; plain where there are no styles.
+fn style_of(styles: &[Style], i: usize) -> Style
+    ensures { result ≡ style_at styles.now i }
+{
+    if styles.is_empty() {
+        Style::new()
+    } else {
+        styles[i % styles.len()]
+    }
+}
+
+// Where a label's drawn end lies: its own end, cut to the end of what its read lent. No read tells where the source
+// ends, but what a label's read lent ends there, or where the label does or later.
+fn drawn_end(read: &ReadLabel<'_>) -> Result<usize, AllocError>
+    ensures { IfOk result (λ end. end ≡ end_drawn read.now) }
+{
+    let end = end_of(&read.span)?.min(end_of(read.contents.span())?);
+    Ok(end.max(read.span.offset()))
+}
+
+// Whether a read lent bytes before its label and none from there on.
+fn lends_before(read: &ReadLabel<'_>) -> Result<bool, AllocError>
+    ensures { IfOk result (λ before. before ≡ lends_before read.now) }
+{
+    let lent = read.contents.span();
+    let offset = read.span.offset();
+    let end = end_of(lent)?;
+    Ok(lent.offset() < offset && end == offset)
+}
+
+/// Where the source ends, if the reads tell: the read of a label with a line of context lends bytes before the label
+/// and none from there on only where the label begins at the end of the source. `AllocError` where the span of a read
+/// ends past the largest `usize`.
+pub fn told_end(reads: &[ReadLabel<'_>]) -> Result<Option<usize>, AllocError>
+    ensures { IfOk result (λ end. end ≡ told_end reads.now) }
+{
+    for read in reads {
+        if lends_before(read)? {
+            return Ok(Some(read.span.offset()));
+        }
+    }
+    Ok(None)
+}
+
+// Whether a label begins where the source is told to end.
+fn is_told(end: Option<usize>, offset: usize) -> bool
+    ensures { result ≡ is_told end offset }
+{
+    match end {
+        Some(end) => offset == end,
+        None => false,
+    }
+}
+
+// A label as it is drawn, in the style of the i-th one.
+fn placed_one(
+    end: Option<usize>,
+    styles: &[Style],
+    i: usize,
+    read: &ReadLabel<'_>,
+) -> Result<PlacedLabel, AllocError>
+    ensures { IfOk result (λ placed. placed ≡ placed_one end styles.now i read.now) }
+{
+    let offset = read.span.offset();
+    let behind = is_told(end, offset);
+    let before = offset.saturating_sub(1);
+    let drawn = drawn_end(read)?;
+    let (start, after) = if behind {
+        (before, before)
+    } else {
+        (offset, drawn)
+    };
+    Ok(PlacedLabel {
+        start,
+        after,
+        style: style_of(styles, i),
+        index: read.index,
+        behind,
+    })
+}
+
+/// The labels that were read, in the same order, as they are drawn: each with its style by its place in that order.
+/// Those that begin where the source is told to end stand behind the text of its last line, as empty ones at its last
+/// byte. `AllocError` where memory is refused, or the span of a label or of its read ends past the largest `usize`.
+pub fn placed_labels(
+    alloc: Global,
+    styles: &[Style],
+    end: Option<usize>,
+    reads: &[ReadLabel<'_>],
+) -> Result<Vec<PlacedLabel>, AllocError>
+    ensures { IfOk result (λ placed. placed.items ≡ placed_from end styles.now 0 reads.now) }
+{
+    let mut placed = Vec::with_capacity(alloc, reads.len())?;
+    for (i, read) in reads.iter().enumerate() {
+        placed.push(placed_one(end, styles, i, read)?)?;
+    }
+    Ok(placed)
+}
+
+/// The text of a placed label.
+pub fn text_of<'a>(labels: &'a [LabeledSpan], placed: &PlacedLabel) -> Option<&'a str>
+    ensures { option_copied result ≡ text_at labels.now placed.now.index }
+{
+    match labels.get(placed.index) {
+        Some(label) => label.label(),
+        None => None,
+    }
+}

@@ -1,5 +1,0 @@
-use Rattle.miette_lines.proofs.Sorting.{AreTurns}
-use Rattle.miette_lines.proofs.order.turns.Given as goal
-
-abbrev pub invariant-loop-index : goal.invariant-loop-index
-invariant-loop-index l = AreTurns l.labels l.index l.turns.items

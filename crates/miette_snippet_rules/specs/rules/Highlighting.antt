@@ -1,0 +1,92 @@
+-- What a highlighter may have answered for the lines of snippets.
+use Rattle.std.specs.Prelude.{ℕ, ◌≡◌, ◌≢◌, true, List, [], ◌∷◌, ◌++◌, map, slice_range, encode_utf8_all, Option, Bool}
+use Rattle.std.specs.Prelude.{Some, None, is_some, if◌then◌else◌, drop}
+use Rattle.std.specs.Option.{option_map_or}
+use Rattle.bstr.specs.Utf8.{lossy_chars}
+use Rattle.miette_source_lines.specs.rules.Lines.{Line}
+use Rattle.miette_protocol.specs.views.Meaning.{Label}
+use Rattle.miette_protocol.specs.rules.Reading.{Span, Source}
+use Rattle.miette_highlight.specs.rules.HighlighterCalls.{Call, Leads, asked, listed_pieces, restarted}
+use Rattle.miette_highlight.specs.rules.Pieces.{CutsLine, Piece}
+use Rattle.miette_labels.specs.rules.Answers.{Answers, Highlight, first_of}
+use Rattle.miette_labels.specs.rules.Around.{group_context}
+use Rattle.miette_labels.specs.rules.Contexts.{contents, lines_of_contents}
+use Rattle.miette_labels.specs.rules.Groups.{in_order, refusal, groups_of}
+
+-- whether lines are left plain: there is no highlighter, or a blank one
+abbrev pub leaves_plain : {H : Type 0} → (H → Bool) → Option H → Bool
+leaves_plain is_blank highlighter = option_map_or is_blank highlighter true
+
+-- a line's text as a highlighter is given it: U+FFFD stands for what is no character
+abbrev pub decoded_text : List ℕ → List ℕ
+decoded_text bytes = encode_utf8_all (lossy_chars bytes)
+
+-- a piece: a length in bytes, and a style
+abbrev pub piece_of : Highlight → Piece
+piece_of h = (h.bytes, h.style)
+
+abbrev pub highlight_of : Piece → Highlight
+highlight_of piece = record { bytes = piece.0; style = piece.1 }
+
+-- Pieces for a line's text make it up, where there are any; one plain piece counts as none. There are none where
+-- lines are left plain.
+pub record ArePieces (blank : Bool) (text : List ℕ) (pieces : List Highlight) : Type 0 where
+  pub cut : pieces ≢ [] → CutsLine text (map piece_of pieces)
+  pub none : blank ≡ true → pieces ≡ []
+
+-- for each of some texts
+abbrev pub EachHasPieces : Bool → List (List ℕ) → List (List Highlight) → Type 0
+EachHasPieces blank [] pieces = Unit {0}
+EachHasPieces blank (text ∷ texts) pieces = ArePieces blank text (first_of pieces)
+    × EachHasPieces blank texts (drop 1 pieces)
+
+-- the texts of a source's lines
+abbrev pub texts_of : List ℕ → List Line → List (List ℕ)
+texts_of source lines = map (λ line. decoded_text (slice_range source line.start line.text_end)) lines
+
+-- for each line of each snippet, with so many lines of context
+abbrev pub SnippetsHavePieces : ℕ → Bool → Source → List Span → List (List (List Highlight)) → Type 0
+SnippetsHavePieces context blank source [] pieces = Unit {0}
+SnippetsHavePieces context blank source (group ∷ groups) pieces =
+    EachHasPieces blank (texts_of source.bytes (lines_of_contents (contents context source group))) (first_of pieces)
+    × SnippetsHavePieces context blank source groups (drop 1 pieces)
+
+-- ---- The calls on a highlighter.
+
+-- what may follow for a highlighter; where there is none, nothing is ruled out
+abbrev pub follows : {H : Type 0} → (H → List Call → Type 0) → Option H → List Call → Type 0
+follows may_follow None calls = Unit {0}
+follows may_follow (Some highlighter) calls = may_follow highlighter calls
+
+-- calls that bring it from one state to another, each told by what may follow
+abbrev pub AreCallsOn : {H : Type 0} → (H → List Call → Type 0) → Option H → Option H → List Call → Type 0
+AreCallsOn may_follow old new = λ calls. Leads (follows may_follow old) calls (follows may_follow new)
+
+-- it is asked for each of some texts, once and in order, and these are the pieces
+abbrev pub line_calls : List (List ℕ) → List (List Highlight) → List Call
+line_calls [] pieces = []
+line_calls (text ∷ texts) pieces = asked text (map piece_of (first_of pieces)) ∷ line_calls texts (drop 1 pieces)
+
+-- for each snippet, with so many lines of context, it is restarted once with the snippet's read, and is then asked
+-- for the snippet's lines
+abbrev pub group_calls : ℕ → Source → List Span → List (List (List Highlight)) → List Call
+group_calls context source [] pieces = []
+group_calls context source (group ∷ groups) pieces =
+    restarted (contents context source group)
+    ∷ line_calls (texts_of source.bytes (lines_of_contents (contents context source group))) (first_of pieces)
+    ++ group_calls context source groups (drop 1 pieces)
+
+-- the calls for the snippets of some labels; none where a label is refused
+abbrev pub snippet_calls : ℕ → Source → List Label → Answers → List Call
+snippet_calls context source labels answers =
+    if is_some (refusal source.bytes answers.label_fails (in_order labels)) then []
+    else group_calls (group_context context (in_order labels)) source
+    (groups_of context source answers.join_fails (in_order labels)) answers.pieces
+
+-- ---- A highlighter without a state.
+
+-- what is listed for each line of each snippet, where a line's pieces are a function of its text
+abbrev pub pieces_by : (List ℕ → List Piece) → ℕ → Source → List Span → List (List (List Highlight))
+pieces_by answer context source groups = map (λ group.
+    map (λ text. map highlight_of (listed_pieces (answer text)))
+    (texts_of source.bytes (lines_of_contents (contents context source group)))) groups

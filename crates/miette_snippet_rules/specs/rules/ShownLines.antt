@@ -1,0 +1,79 @@
+-- The rows of shown lines, by their numbers in the source.
+use Rattle.std.specs.Prelude.{ℕ, zero, suc, ◌+◌, List, [], ◌∷◌, ◌++◌, map, length, decimal, Bool, false, not, drop}
+use Rattle.miette_source_lines.specs.rules.Lines.{Line, lines_of}
+use Rattle.miette_protocol.specs.views.Meaning.{Label}
+use Rattle.miette_protocol.specs.rules.Reading.{Span, Source}
+use Rattle.miette_snippet_rules.specs.rules.Numbers.{last_of}
+use Rattle.miette_page.specs.rules.Rows.{Row}
+use Rattle.miette_snippet_rules.specs.rules.Snippets.{snippets, is_kept}
+use Rattle.miette_labels.specs.rules.Answers.{Answers, Highlight, first_of}
+use Rattle.miette_labels.specs.rules.Contexts.{contents}
+use Rattle.miette_labels.specs.rules.Groups.{in_order, groups_of}
+use Rattle.miette_labels.specs.rules.Labels.{DrawnLabel}
+use Rattle.miette_snippet_rules.specs.rules.Gutters.{gutter_columns}
+use Rattle.miette_snippet_rules.specs.rules.Folds.{Spread}
+use Rattle.miette_snippet_rules.specs.rules.Frames.{SnippetSettings, top_row, bottom_row, number_width}
+use Rattle.miette_snippet_rules.specs.rules.SnippetLayout.{cells_of, line_or_break, body_rows, place_of, settings_around}
+use Rattle.miette_snippet_rules.specs.rules.SnippetLayout.{drawn_labels}
+
+-- line k
+abbrev pub line_at : List Line → ℕ → Line
+line_at [] k = record { start = 0; text_end = 0; end = 0 }
+line_at (l ∷ ls) zero = l
+line_at (l ∷ ls) (suc k) = line_at ls k
+
+-- The rows of the lines with these numbers, counted from 0, each with its number plus one and its own cells, and a
+-- break where lines are left out; whether the line before them is left out, and whether a line is kept.
+abbrev pub numbered_rows : (ℕ → Bool) → Bool → SnippetSettings → ℕ → ℕ → List DrawnLabel → List ℕ → List (List
+    Highlight) → List ℕ → List Row
+numbered_rows kept gap s w columns labels source pieces [] = []
+numbered_rows kept gap s w columns labels source pieces (k ∷ ks) =
+    line_or_break gap (not (kept k)) s w columns labels (line_at (lines_of source) k) (k + 1)
+    (cells_of s source (line_at (lines_of source) k)) (first_of pieces)
+    ++ numbered_rows kept (not (kept k)) s w columns labels source (drop 1 pieces) ks
+
+abbrev pub range_width : List ℕ → ℕ
+range_width [] = 1
+range_width (k ∷ ks) = length (decimal (last_of k ks + 1))
+
+-- the rows of a run of lines
+abbrev pub range_rows : (ℕ → Bool) → SnippetSettings → List DrawnLabel → List ℕ → List (List Highlight) →
+    List ℕ → List Row
+range_rows kept s labels source pieces ks =
+    numbered_rows kept false s (range_width ks) (gutter_columns labels (map (line_at (lines_of source)) ks))
+    labels source pieces ks
+
+abbrev pub rows_of_ranges : (ℕ → Bool) → SnippetSettings → List DrawnLabel → List ℕ →
+    List (List (List Highlight)) → List (List ℕ) → List (List Row)
+rows_of_ranges kept s labels source pieces [] = []
+rows_of_ranges kept s labels source pieces (range ∷ ranges) =
+    range_rows kept s labels source (first_of pieces) range
+    ∷ rows_of_ranges kept s labels source (drop 1 pieces) ranges
+
+-- the rows of each group between its frame's rows
+abbrev pub bodies : SnippetSettings → List Spread → List DrawnLabel → Source → List (List (List Highlight)) → List
+    Span → List (List Row)
+bodies s spreads labels source pieces [] = []
+bodies s spreads labels source pieces (group ∷ groups) =
+    body_rows s spreads labels source.bytes (contents s.context source group) (first_of pieces)
+    ∷ bodies s spreads labels source (drop 1 pieces) groups
+
+-- each body between the rows of its group's frame
+abbrev pub framed_rows : SnippetSettings → Source → List Label → List Span → List (List Row) → List Row
+framed_rows s source labels [] bodies = []
+framed_rows s source labels (group ∷ groups) [] = []
+framed_rows s source labels (group ∷ groups) (body ∷ more) =
+    (top_row s (contents s.context source group) (place_of source group labels)
+    ∷ body ++ bottom_row s (number_width (contents s.context source group)) ∷ [])
+    ++ framed_rows s source labels groups more
+
+-- The rows of snippets, by the shown lines: each maximal run of them in the frame of its group, with a break where
+-- lines are left out inside a folded label.
+abbrev pub framed_ranges : SnippetSettings → Source → List Label → Answers → List Row
+framed_ranges s source labels answers =
+    framed_rows (settings_around s (in_order labels)) source (in_order labels)
+    (groups_of s.context source answers.join_fails (in_order labels))
+    (rows_of_ranges (is_kept s.label_lines s.context source.bytes labels) (settings_around s (in_order labels))
+    (drawn_labels (settings_around s (in_order labels)) (length source.bytes) (in_order labels)) source.bytes
+    answers.pieces
+    (snippets s.context source.bytes labels))

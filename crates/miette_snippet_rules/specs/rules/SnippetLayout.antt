@@ -1,0 +1,167 @@
+-- The rows of a diagnostic's snippets.
+use Rattle.std.specs.Prelude.{ℕ, ◌+◌, ◌-◌, List, [], ◌∷◌, ◌++◌, map, length, slice_range, Option, Some, None, Bool}
+use Rattle.std.specs.Prelude.{false, ◌&&◌, ◌||◌, if◌then◌else◌, nat_le, drop}
+use Rattle.std.specs.List.{filter}
+use Rattle.std.specs.Option.{option_map}
+use Rattle.miette_source_lines.specs.rules.Lines.{Line}
+use Rattle.miette_protocol.specs.views.Meaning.{Label}
+use Rattle.miette_protocol.specs.rules.Reading.{Span, Source, Contents}
+use Rattle.miette_page.specs.rules.Rows.{Row}
+use Rattle.miette_labels.specs.rules.Answers.{Answers, Highlight, first_of}
+use Rattle.miette_labels.specs.rules.Around.{has_own, group_context}
+use Rattle.miette_labels.specs.rules.Contexts.{end_of_span, contents, lines_of_contents}
+use Rattle.miette_labels.specs.rules.Groups.{in_order, refusal, groups_of, some_fails, groups_fail}
+use Rattle.miette_snippet_rules.specs.rules.PrintedCells.{cells_width}
+use Rattle.miette_labels.specs.rules.Cells.{Cell, characters, cells_from}
+use Rattle.miette_labels.specs.rules.Labels.{DrawnLabel, drawn_from, some_shows_end, one_line, multi_line}
+use Rattle.miette_labels.specs.rules.Labels.{closing_labels}
+use Rattle.miette_snippet_rules.specs.rules.Marks.{Text, Mark, marks}
+use Rattle.miette_snippet_rules.specs.rules.CutLines.{Stretch, cut_line, shown_runs, shown_marks}
+use Rattle.miette_snippet_rules.specs.rules.Drawing.{marked_rows}
+use Rattle.miette_snippet_rules.specs.rules.Gutters.{gutter_columns, number_gutter, other_gutter, break_gutter, closing_rows}
+use Rattle.miette_snippet_rules.specs.rules.Folds.{Spread, spreads_of, leaves_out}
+use Rattle.miette_snippet_rules.specs.rules.Frames.{SnippetSettings, Place, refused_row, top_row, bottom_row, number_width}
+use Rattle.miette_snippet_rules.specs.rules.Frames.{number_start, other_start, break_start}
+
+-- a line's cells, where its text ends, and its columns
+abbrev pub text_of_cells : List Cell → ℕ → Text
+text_of_cells cells text_end = record { cells = cells; text_end = text_end; width = cells_width 0 cells }
+
+-- a line's cells
+abbrev pub cells_of : SnippetSettings → List ℕ → Line → List Cell
+cells_of s source line = cells_from s.width s.tab false line.start 0
+    (characters (slice_range source line.start line.text_end))
+
+abbrev pub before_each : Row → List Row → List Row
+before_each prefix rows = map (λ row. prefix ++ row) rows
+
+-- the marks of the labels that lie on a line alone, by the columns of the whole line
+abbrev pub line_marks : Line → List Cell → List DrawnLabel → List Mark
+line_marks line cells one = marks (text_of_cells cells line.text_end) one
+
+-- how a line is cut around them, if it is
+abbrev pub line_cut : SnippetSettings → Line → List Cell → List DrawnLabel → Option (List Stretch)
+line_cut s line cells one = cut_line s.line_columns (line_marks line cells one) cells
+
+-- The rows of a line with this number: the number row, the marks and texts of the labels that lie on it alone, and
+-- the texts of those of several lines that end there.
+abbrev pub line_rows_of : SnippetSettings → ℕ → ℕ → List DrawnLabel → List DrawnLabel → Line → ℕ → List Cell → List
+    Highlight →
+    List Row
+line_rows_of s w columns one multi line number cells pieces =
+    (number_start s w number ++ number_gutter s.width s.characters line columns multi
+    ++ shown_runs (line_cut s line cells one) pieces cells)
+    ∷ before_each (other_start s w ++ other_gutter s.width s.characters line columns multi)
+    (marked_rows s.width s.characters (shown_marks (line_cut s line cells one) (line_marks line cells one)))
+    ++ before_each (other_start s w) (closing_rows s.width s.characters line columns multi (closing_labels line multi))
+
+abbrev pub line_rows : SnippetSettings → ℕ → ℕ → List DrawnLabel → Line → ℕ → List Cell → List Highlight → List Row
+line_rows s w columns labels line number cells pieces =
+    line_rows_of s w columns (one_line line labels) (multi_line line labels) line number cells pieces
+
+-- the row that stands for lines that are left out, which these labels run through
+abbrev pub break_row : SnippetSettings → ℕ → List DrawnLabel → Row
+break_row s w labels = break_start s w ++ break_gutter s.width s.characters labels
+
+-- The rows of a line; or where it is left out, the row of the break that begins there, or none where the line before it
+-- is left out too.
+abbrev pub line_or_break_of : Bool → Bool → SnippetSettings → ℕ → ℕ → List DrawnLabel → List DrawnLabel → Line → ℕ →
+    List Cell → List Highlight → List Row
+line_or_break_of gap out s w columns one multi line number cells pieces =
+    if out then (if gap then [] else break_row s w multi ∷ [])
+    else line_rows_of s w columns one multi line number cells pieces
+
+abbrev pub line_or_break : Bool → Bool → SnippetSettings → ℕ → ℕ → List DrawnLabel → Line → ℕ → List Cell → List
+    Highlight → List Row
+line_or_break gap out s w columns labels line number cells pieces =
+    line_or_break_of gap out s w columns (one_line line labels) (multi_line line labels) line number cells pieces
+
+-- The rows of lines with numbers from this one on, with the highlighter's pieces for each; whether the line before them
+-- is left out, and whether a line with its number is.
+abbrev pub rows_of_lines : (ℕ → Line → Bool) → Bool → SnippetSettings → ℕ → ℕ → List DrawnLabel → List ℕ → ℕ → List
+    (List Highlight) → List Line → List Row
+rows_of_lines out gap s w columns labels source number pieces [] = []
+rows_of_lines out gap s w columns labels source number pieces (line ∷ lines) =
+    line_or_break gap (out number line) s w columns labels line number (cells_of s source line) (first_of pieces)
+    ++ rows_of_lines out (out number line) s w columns labels source (number + 1) (drop 1 pieces) lines
+
+-- whether a line of a snippet with this number is left out, where so many lines stand before the snippet's
+abbrev pub left_out : SnippetSettings → ℕ → List Line → List Spread → ℕ → Line → Bool
+left_out s before lines spreads number line = leaves_out s.label_lines lines spreads (number - (before + 1)) line
+
+-- the rows of a snippet between its frame's rows
+abbrev pub body_rows : SnippetSettings → List Spread → List DrawnLabel → List ℕ → Contents → List (List Highlight) →
+    List Row
+body_rows s spreads labels source read pieces =
+    rows_of_lines (left_out s read.line (lines_of_contents read) spreads) false s (number_width read)
+    (gutter_columns labels (lines_of_contents read)) labels source (read.line + 1) pieces (lines_of_contents read)
+
+-- Whether a label belongs to a group: its span lies within the group's; or, where labels have their own numbers of
+-- context lines, it begins in the group's bytes or at their end.
+abbrev pub is_within : Bool → Span → Label → Bool
+is_within own group label = nat_le group.offset label.span.offset
+    && nat_le (if own then label.span.offset else end_of_span label.span) (end_of_span group)
+
+-- the primary label of a group: the first one marked so that belongs to it, else the first that does
+
+abbrev pub first_marked : Label → List Label → Label
+first_marked first [] = first
+first_marked first (label ∷ labels) = if label.primary then label else first_marked first labels
+
+abbrev pub primary_of : List Label → Option Label
+primary_of [] = None
+primary_of (label ∷ labels) = Some (first_marked label (label ∷ labels))
+
+-- where a label begins, by a read without context
+abbrev pub begins_at : Source → Label → Place
+begins_at source label = record {
+  line = (contents 0 source label.span).line;
+  column = (contents 0 source label.span).column;
+}
+
+-- where a snippet's frame points to
+abbrev pub place_of : Source → Span → List Label → Option Place
+place_of source group labels = option_map (begins_at source)
+    (primary_of (filter (is_within (has_own labels) group) labels))
+
+-- The labels of a source of so many bytes, by offset, as they are drawn. Those at the end are drawn behind the text of
+-- the last line where the settings say so and one of them shows that line.
+abbrev pub drawn_labels : SnippetSettings → ℕ → List Label → List DrawnLabel
+drawn_labels s n labels = drawn_from (s.end_labels && some_shows_end s.context n labels) s.styles.highlights n 0 labels
+
+abbrev pub snippet : SnippetSettings → List Spread → Source → List Label → Span → List (List Highlight) → List Row
+snippet s spreads source labels group pieces =
+    top_row s (contents s.context source group) (place_of source group labels)
+    ∷ body_rows s spreads (drawn_labels s (length source.bytes) labels) source.bytes (contents s.context source group)
+    pieces
+    ++ bottom_row s (number_width (contents s.context source group)) ∷ []
+
+abbrev pub all_snippets : SnippetSettings → List Spread → Source → List Label → List (List (List Highlight)) → List
+    Span → List Row
+all_snippets s spreads source labels pieces [] = []
+all_snippets s spreads source labels pieces (group ∷ groups) =
+    snippet s spreads source labels group (first_of pieces)
+    ++ all_snippets s spreads source labels (drop 1 pieces) groups
+
+-- the settings with the lines of context with which the groups of these labels are read
+abbrev pub settings_around : SnippetSettings → List Label → SnippetSettings
+settings_around s labels = record s { context = group_context s.context labels }
+
+-- none where the read of a group fails, or that of a snippet's place
+abbrev pub rows_of_groups : SnippetSettings → Source → List Label → Answers → List Span → Option (List Row)
+rows_of_groups s source labels answers groups =
+    if groups_fail s.context source answers.join_fails labels || some_fails answers.place_fails groups then None
+    else Some (all_snippets (settings_around s labels) (spreads_of s.label_lines s.context source labels) source labels
+    answers.pieces groups)
+
+abbrev pub rows_unless : SnippetSettings → Source → List Label → Answers → Option Row → Option (List Row)
+rows_unless s source labels answers (Some row) = Some (row ∷ [])
+rows_unless s source labels answers None = rows_of_groups s source labels answers
+    (groups_of s.context source answers.join_fails labels)
+
+-- The rows of a diagnostic's snippets, or none where a group or the place of one can't be read: labels by offset, and
+-- one row if one of them is refused.
+abbrev pub snippet_rows : SnippetSettings → Source → List Label → Answers → Option (List Row)
+snippet_rows s source labels answers =
+    rows_unless s source (in_order labels) answers
+    (option_map (refused_row s) (refusal source.bytes answers.label_fails (in_order labels)))

@@ -1,0 +1,39 @@
+-- The shown lines of a source, as a set, and the snippets as its maximal ranges. Nothing here knows an order of labels.
+use Rattle.std.specs.Prelude.{ℕ, List, [], ◌∷◌, length, Bool, not, ◌&&◌, nat_le, Option, Some, None}
+use Rattle.std.specs.List.{range_with_len, filter, list_any}
+use Rattle.miette_source_lines.specs.rules.Lines.{lines_of, line_of}
+use Rattle.miette_protocol.specs.views.Meaning.{Label}
+use Rattle.miette_protocol.specs.rules.Reading.{Span}
+use Rattle.miette_labels.specs.rules.Around.{lines_around}
+use Rattle.miette_snippet_rules.specs.rules.Folds.{last_byte, hides}
+use Rattle.miette_snippet_rules.specs.rules.Numbers.{ranges}
+use Rattle.miette_protocol.specs.rules.Context.{first_line, last_line}
+
+-- whether line k is in the context of a span
+abbrev pub is_in_context : ℕ → List ℕ → ℕ → Span → Bool
+is_in_context context bytes k span = nat_le (first_line bytes span context) k && nat_le k (last_line bytes span context)
+
+-- whether line k is in the context of some label, of which each has the lines around it
+abbrev pub is_shown : ℕ → List ℕ → List Label → ℕ → Bool
+is_shown context bytes labels k = list_any (λ label.
+    is_in_context (lines_around context labels label) bytes k label.span) labels
+
+-- whether line k is in the context of a label that is folded to so many lines
+abbrev pub is_in_folded_context : ℕ → ℕ → List ℕ → ℕ → Span → Bool
+is_in_folded_context limit context bytes k span = is_in_context context bytes k span
+    && not (hides limit (line_of bytes span.offset) (line_of bytes (last_byte bytes span)) context k)
+
+-- whether line k is in the context of some label as it is folded, where labels are folded
+abbrev pub is_kept : Option ℕ → ℕ → List ℕ → List Label → ℕ → Bool
+is_kept None context bytes labels k = is_shown context bytes labels k
+is_kept (Some limit) context bytes labels k = list_any (λ label.
+    is_in_folded_context limit (lines_around context labels label) bytes k label.span) labels
+
+abbrev pub shown_numbers : ℕ → List ℕ → List Label → List ℕ
+shown_numbers context bytes labels = filter (is_shown context bytes labels) (range_with_len 0 (length (lines_of bytes)))
+
+-- an empty source with a label has one snippet without lines
+abbrev pub snippets : ℕ → List ℕ → List Label → List (List ℕ)
+snippets context [] [] = []
+snippets context [] (label ∷ labels) = [] ∷ []
+snippets context (byte ∷ bytes) labels = ranges (shown_numbers context (byte ∷ bytes) labels)

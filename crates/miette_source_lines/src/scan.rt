@@ -1,0 +1,164 @@
+//! Lines of bytes, found by scans.
+
+ghost use Rattle.std.specs.Prelude.{◌≡◌, ◌+◌, ◌-◌, ◌<◌, ◌≤◌, IsNone, IfSome, length, slice_index};
+ghost use Rattle.miette_source_lines.specs.rules.Lines.{ends_line, line_of, line_start, line_end};
+
+use crate::find::FindLines;
+use memchr::{memchr2, memrchr2};
+
+/// Bytes, whose lines are found by scans.
+#[derive(Drop)]
+pub struct Scan<'a>(pub &'a [u8]);
+
+/// Is a byte the last of a terminator, before the next byte?
+#[inline(always)]
+#[tactic(auto, unfolding(crate::specs::rules::Lines::ends_line))]
+fn is_end(byte: u8, next: u8) -> bool
+    ensures { result ≡ ends_line byte next }
+{
+    byte == b'\n' || (byte == b'\r' && next != b'\n')
+}
+
+/// Is the byte there the last of a terminator?
+pub(crate) fn ends_line(bytes: &[u8], at: usize) -> bool
+    requires { at < length bytes.now }
+    ensures { result ≡ ends_line (slice_index bytes.now at) (slice_index bytes.now (at + 1)) }
+{
+    let next = if at + 1 < bytes.len() {
+        bytes[at + 1]
+    } else {
+        0
+    };
+    is_end(bytes[at], next)
+}
+
+/// How many bytes are counted together: so many that their count fits a byte, which lets the compiler
+/// compare many bytes by one instruction.
+const BLOCK: usize = 224;
+
+/// How many terminators end in a block of bytes, which is not the last of the bytes.
+#[tactic(auto, using(crate::proofs::Places::scan_steps))]
+fn ends_in_block(bytes: &[u8], from: usize) -> u8
+    requires { from + 224 < length bytes.now }
+    ensures count { line_of bytes.now from + result ≡ line_of bytes.now (from + 224) }
+    ensures few { result ≤ 224 }
+{
+    let mut ends = 0u8;
+    for at in from..from + BLOCK {
+        if is_end(bytes[at], bytes[at + 1]) {
+            ends += 1;
+        }
+    }
+    ends
+}
+
+/// The number of an offset's line, from the number of the line of an offset before it.
+#[tactic(auto, using(crate::proofs::Places::scan_steps))]
+fn line_from(bytes: &[u8], from: usize, line: usize, offset: usize) -> usize
+    requires order { from ≤ offset }
+    requires within { offset ≤ length bytes.now }
+    requires line { line ≡ line_of bytes.now from }
+    ensures { result ≡ line_of bytes.now offset }
+{
+    let mut line = line;
+    let mut from = from;
+    while offset - from > BLOCK {
+        line += usize::from(ends_in_block(bytes, from));
+        from += BLOCK;
+    }
+    for at in from..offset {
+        if ends_line(bytes, at) {
+            line += 1;
+        }
+    }
+    line
+}
+
+/// Where the first LF or CR at or after an offset stands. No terminator ends between the offset and it.
+pub(crate) fn next_newline(bytes: &[u8], offset: usize) -> Option<usize>
+    requires { offset ≤ length bytes.now }
+    ensures none { IsNone result → line_of bytes.now offset ≡ line_of bytes.now (length bytes.now) }
+    ensures after { IfSome result (λ at. offset ≤ at) }
+    ensures within { IfSome result (λ at. at < length bytes.now) }
+    ensures same { IfSome result (λ at. line_of bytes.now at ≡ line_of bytes.now offset) }
+{
+    match memchr2(b'\n', b'\r', &bytes[offset..]) {
+        Some(away) => Some(offset + away),
+        None => None,
+    }
+}
+
+/// Where the last LF or CR before an offset stands. No terminator ends between it and the offset.
+fn last_newline(bytes: &[u8], offset: usize) -> Option<usize>
+    requires { offset ≤ length bytes.now }
+    ensures none { IsNone result → line_of bytes.now offset ≡ 0 }
+    ensures before { IfSome result (λ at. at < offset) }
+    ensures same { IfSome result (λ at. line_of bytes.now (at + 1) ≡ line_of bytes.now offset) }
+{
+    memrchr2(b'\n', b'\r', &bytes[..offset])
+}
+
+/// Where the line begins that stands so many before an offset's line, found from the offset back, and how many
+/// terminators end between that start and the offset.
+#[tactic(auto, using(crate::proofs::Places::scan_steps))]
+pub fn start_before(bytes: &[u8], offset: usize, lines: usize) -> (usize, usize)
+    requires { offset ≤ length bytes.now }
+    ensures start { result.0 ≡ line_start bytes.now (line_of bytes.now offset - lines) }
+    ensures passed { line_of bytes.now result.0 + result.1 ≡ line_of bytes.now offset }
+    ensures order { result.0 ≤ offset }
+{
+    let mut passed = 0;
+    let mut end = offset;
+    while let Some(at) = last_newline(bytes, end) {
+        if ends_line(bytes, at) {
+            if passed == lines {
+                return (at + 1, passed);
+            }
+            passed += 1;
+        }
+        end = at;
+    }
+    (0, passed)
+}
+
+/// Where the line ends that stands so many after an offset's line, and the number of that end's line.
+#[tactic(auto, using(crate::proofs::Places::scan_steps))]
+fn end_after(bytes: &[u8], offset: usize, line: usize, lines: usize) -> (usize, usize)
+    requires within { offset ≤ length bytes.now }
+    requires line { line ≡ line_of bytes.now offset }
+    ensures end { result.0 ≡ line_end bytes.now (line + lines) }
+    ensures line { result.1 ≡ line_of bytes.now result.0 }
+{
+    let mut line = line;
+    let mut left = lines;
+    let mut from = offset;
+    while let Some(at) = next_newline(bytes, from) {
+        if ends_line(bytes, at) {
+            line += 1;
+            if left == 0 {
+                return (at + 1, line);
+            }
+            left -= 1;
+        }
+        from = at + 1;
+    }
+    (bytes.len(), line)
+}
+
+impl FindLines for Scan<'_> {
+    ghost text = { λ it. it.0.now };
+
+    fn line_from(&self, from: usize, line: usize, offset: usize) -> usize {
+        line_from(self.0, from, line, offset)
+    }
+
+    #[tactic(auto, using(crate::proofs::Places::scan_steps))]
+    fn start_before(&self, offset: usize, lines: usize) -> (usize, usize) {
+        let (start, passed) = start_before(self.0, offset, lines);
+        (start, line_from(self.0, 0, 0, start) + passed)
+    }
+
+    fn end_after(&self, offset: usize, line: usize, lines: usize) -> (usize, usize) {
+        end_after(self.0, offset, line, lines)
+    }
+}
