@@ -20,7 +20,7 @@ use Rattle.miette_graphical.specs.views.Handling.{Handling, draws_plain, without
 use Rattle.miette_runs.specs.rules.Sequences.{erase}
 use Rattle.miette_text.specs.rules.ColouredTexts.{AppendsErasing}
 use Rattle.callers.specs.Known.{HasOwnMark, ShowsBothLines, TextHangs, in_colours, plain, warning_tree}
-use Rattle.miette_labels.specs.views.GivenLabels.{width_of}
+use Rattle.miette_cells.specs.rules.Widths.{width_of}
 
 -- ---- how the handlers are set
 

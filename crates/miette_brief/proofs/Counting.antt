@@ -18,7 +18,7 @@ use Rattle.miette_tree.specs.rules.Tree.{Tree, tree, Cause, diagnostic, texts, c
 use Rattle.miette_tree.specs.rules.DiagnosticParts.{given_labels, severity_text}
 use Rattle.miette_tree.specs.rules.Answers.{own_fault}
 use Rattle.miette_labels.specs.rules.Groups.{in_order, put_label}
-use Rattle.miette_labels.proofs.Numbers.{by_cases}
+use Rattle.miette_basics.proofs.Cases.{by_cases}
 use Rattle.miette_brief.specs.declared.rows.Position.{Position}
 use Rattle.miette_brief.specs.rules.Rows.{Place, Kind, finding, note, cause, help, ReportRow, gap, shown_for, spaced_text, one_row, position_text, behind_colon, place_text, code_text, kind_text, row_text, rows_text}
 use Rattle.miette_brief.specs.rules.Places.{label_place, diagnostic_place}

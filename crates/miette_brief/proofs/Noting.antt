@@ -14,7 +14,7 @@ use Rattle.miette_brief.specs.rules.Report.{note_rows_of, note_rows}
 use Rattle.miette_brief.proofs.Putting.{rows_more}
 use Rattle.miette_brief.specs.rules.PossibleAnswers.{HasAccepted}
 use Rattle.miette_brief.specs.steps.Reads.{IsUnread, IsReadAt}
-use Rattle.miette_style.specs.rules.Lists.{is_nil}
+use Rattle.miette_basics.specs.rules.Lists.{is_nil}
 use Rattle.miette_tree.specs.rules.Reads.{accepts}
 
 -- the test of a span says whether it is accepted

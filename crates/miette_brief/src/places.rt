@@ -19,7 +19,7 @@ use miette_labels::order::{Turn, by_offset};
 use miette_protocol::error::RenderError;
 use miette_protocol::protocol::{LabeledSpan, SourceOffset, SourceSpan};
 use miette_protocol::source::{MietteSpanContents, SourceCode};
-use miette_style::sums::sum;
+use miette_basics::sums::sum;
 use miette_tree::report::SourceRef;
 use std::alloc::{AllocError, Global};
 

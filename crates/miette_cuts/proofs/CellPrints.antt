@@ -9,7 +9,7 @@ use Rattle.miette_labels.specs.rules.Answers.{Highlight}
 use Rattle.miette_page.specs.rules.Rows.{Glyph}
 use Rattle.miette_style.specs.rules.Styles.{plain}
 use Rattle.miette_snippet_rules.specs.rules.PrintedCells.{printed_glyphs, printed_cells, cells_within, cells_beyond, text_bytes, line_runs}
-use Rattle.miette_labels.specs.rules.Cells.{Cell}
+use Rattle.miette_cells.specs.rules.Cells.{Cell}
 use Rattle.miette_page.specs.views.Tokens.{Token, begins, row_tokens, text_tokens}
 use Rattle.miette_cuts.specs.steps.CellTokens.{cells_tokens}
 use Rattle.miette_snippet_rules.specs.rules.Highlighting.{highlight_of}

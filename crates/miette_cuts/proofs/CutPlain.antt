@@ -11,11 +11,11 @@ use Rattle.miette_style.specs.rules.Styles.{plain}
 use Rattle.miette_page.specs.rules.Rows.{Glyph, Run}
 use Rattle.miette_page.specs.views.Tokens.{begins, row_tokens, styled_tokens, text_tokens}
 use Rattle.miette_page.proofs.Paging.{put_append, put_nil}
-use Rattle.miette_labels.specs.rules.Cells.{Cell, cells_from, characters}
-use Rattle.miette_labels.specs.views.GivenLabels.{width_of}
-use Rattle.miette_labels.specs.views.Printable.{is_printable, plain_cells}
-use Rattle.miette_labels.proofs.Numbers.{by_cases}
-use Rattle.miette_labels.proofs.Plaining.{plain_byte, printable_taken}
+use Rattle.miette_cells.specs.rules.Cells.{Cell, cells_from, characters}
+use Rattle.miette_cells.specs.rules.Widths.{width_of}
+use Rattle.miette_cells.specs.views.Printable.{is_printable, plain_cells}
+use Rattle.miette_basics.proofs.Cases.{by_cases}
+use Rattle.miette_cells.proofs.Plaining.{plain_byte, printable_taken}
 use Rattle.miette_snippet_rules.specs.rules.PrintedCells.{line_runs, printed_glyphs, printed_cells, text_bytes}
 use Rattle.miette_snippet_rules.specs.rules.CutLines.{agree, cut_line, dots, ends, is_near, is_near_after, is_within, stretches}
 use Rattle.miette_snippet_rules.proofs.Telling.{then, told-append}

@@ -6,8 +6,8 @@ use Rattle.std.proofs.lemmas.List.{at_drop_more, at_drop_all}
 use Rattle.std.specs.List.{All, AllByRecursion, list_any}
 use Rattle.std.proofs.lemmas.List.Elements.{All-from_recursion, recursion_from_All}
 use Rattle.miette_protocol.specs.views.Meaning.{Label}
-use Rattle.miette_labels.specs.rules.Cells.{Cell}
-use Rattle.miette_labels.proofs.Numbers.{by_cases}
+use Rattle.miette_cells.specs.rules.Cells.{Cell}
+use Rattle.miette_basics.proofs.Cases.{by_cases}
 use Rattle.miette_snippet_rules.specs.rules.Marks.{Mark, HasAnchor}
 use Rattle.miette_snippet_rules.specs.rules.PrintedCells.{cells_width, text_bytes}
 use Rattle.miette_snippet_rules.specs.rules.CutLines.{Stretch, agree, bytes_in, columns_in, cut_line, ends, is_near, is_near_after, is_within, onto_stretches, row_column, row_mark, shown_marks, stretches}

@@ -8,8 +8,8 @@ use Rattle.miette_page.specs.rules.Rows.{Run}
 use Rattle.miette_page.specs.views.Tokens.{begins, row_tokens, text_tokens}
 use Rattle.miette_page.proofs.Paging.{put_append, put_nil}
 use Rattle.miette_labels.specs.rules.Answers.{Highlight}
-use Rattle.miette_labels.specs.rules.Cells.{Cell}
-use Rattle.miette_labels.proofs.Numbers.{by_cases}
+use Rattle.miette_cells.specs.rules.Cells.{Cell}
+use Rattle.miette_basics.proofs.Cases.{by_cases}
 use Rattle.miette_snippet_rules.specs.rules.Highlighting.{highlight_of}
 use Rattle.miette_snippet_rules.specs.rules.Marks.{Mark}
 use Rattle.miette_snippet_rules.specs.rules.PrintedCells.{cells_width, cells_within, cells_beyond, line_runs}

@@ -4,14 +4,14 @@ use Rattle.std.specs.List.{list_all}
 use Rattle.std.proofs.lemmas.Bool.{and_parts, leb-true, ltb-true, le-ltb, lt-leb, ltb-false, leb-false}
 use Rattle.bstr.specs.Utf8.{or_replacement}
 use Rattle.miette_snippet_rules.specs.rules.PrintedCells.{first_column, last_column, cells_width}
-use Rattle.miette_labels.specs.rules.Cells.{Cell, cells_from, characters, width_at, hides_next}
-use Rattle.miette_labels.specs.views.GivenLabels.{width_of}
+use Rattle.miette_cells.specs.rules.Cells.{Cell, cells_from, characters, width_at, hides_next}
+use Rattle.miette_cells.specs.rules.Widths.{width_of}
 use Rattle.miette_snippet_rules.specs.rules.SnippetLayout.{text_of_cells}
 use Rattle.miette_snippet_rules.specs.rules.Marks.{Text}
-use Rattle.miette_labels.specs.views.Printable.{is_printable, plain_cells}
-use Rattle.miette_labels.proofs.Numbers.{by_cases}
-use Rattle.miette_labels.proofs.Stepping.{cells_step, cells_end}
-use Rattle.miette_labels.proofs.Plaining.{ascii_decoded, one_column, plain_byte}
+use Rattle.miette_cells.specs.views.Printable.{is_printable, plain_cells}
+use Rattle.miette_basics.proofs.Cases.{by_cases}
+use Rattle.miette_cells.proofs.Stepping.{cells_step, cells_end}
+use Rattle.miette_cells.proofs.Plaining.{ascii_decoded, one_column, plain_byte}
 
 plain_width : (tab column b : ℕ) → is_printable b ≡ true → 1 ≡ width_at width_of tab false column b
 plain_width tab column b h =

@@ -5,7 +5,7 @@ use Rattle.std.proofs.lemmas.List.{length-drop}
 use Rattle.bstr.specs.Utf8.{decoded, pieces, or_replacement, Decoded}
 use Rattle.bstr.proofs.lemmas.PieceLemmas.{pieces-step, pieces-nil, piece-bounds}
 use Rattle.miette_snippet_rules.specs.rules.PrintedCells.{first_column, last_column, cells_width}
-use Rattle.miette_labels.specs.rules.Cells.{Cell, cells_from, characters, hides_next, width_at}
+use Rattle.miette_cells.specs.rules.Cells.{Cell, cells_from, characters, hides_next, width_at}
 use Rattle.miette_cuts.specs.steps.Stops.{ComeFrom}
 
 first_later : (cell : Cell) (left : List Cell) (e w o : ℕ) → cell.after ≤ o → first_column left e w o ≡ first_column (cell ∷ left) e w o

@@ -13,12 +13,12 @@ use Rattle.miette_style.specs.rules.Styles.{plain}
 use Rattle.miette_page.specs.rules.Rows.{Glyph}
 use Rattle.miette_page.specs.views.Tokens.{begins, row_tokens, text_tokens}
 use Rattle.miette_page.proofs.Paging.{told_append, put_append}
-use Rattle.miette_labels.specs.rules.Cells.{Cell, cells_from, characters, width_at}
-use Rattle.miette_labels.specs.views.GivenLabels.{width_of}
-use Rattle.miette_labels.specs.views.Printable.{is_printable}
-use Rattle.miette_labels.proofs.Stepping.{cells_step, cells_end}
-use Rattle.miette_labels.proofs.Numbers.{by_cases}
-use Rattle.miette_labels.proofs.Plaining.{ascii_decoded, one_column, plain_byte}
+use Rattle.miette_cells.specs.rules.Cells.{Cell, cells_from, characters, width_at}
+use Rattle.miette_cells.specs.rules.Widths.{width_of}
+use Rattle.miette_cells.specs.views.Printable.{is_printable}
+use Rattle.miette_cells.proofs.Stepping.{cells_step, cells_end}
+use Rattle.miette_basics.proofs.Cases.{by_cases}
+use Rattle.miette_cells.proofs.Plaining.{ascii_decoded, one_column, plain_byte}
 use Rattle.miette_snippet_rules.specs.rules.PrintedCells.{printed_glyphs, printed_cells, line_runs}
 use Rattle.miette_snippet_rules.specs.rules.Highlighting.{highlight_of}
 use Rattle.miette_snippet_rules.proofs.Telling.{then}

@@ -15,10 +15,10 @@ use Rattle.miette_style.specs.declared.style.Style.{Style}
 use Rattle.miette_style.specs.rules.Styles.{plain}
 use Rattle.miette_page.specs.rules.Rows.{Glyph}
 use Rattle.miette_page.specs.views.Tokens.{begins, row_tokens, text_tokens}
-use Rattle.miette_labels.specs.rules.Cells.{Character, Cell, cells_from, characters, width_at, hides_next}
-use Rattle.miette_labels.specs.views.GivenLabels.{width_of}
-use Rattle.miette_labels.proofs.Stepping.{made}
-use Rattle.miette_labels.proofs.Numbers.{by_cases}
+use Rattle.miette_cells.specs.rules.Cells.{Character, Cell, cells_from, characters, width_at, hides_next}
+use Rattle.miette_cells.specs.rules.Widths.{width_of}
+use Rattle.miette_cells.proofs.Stepping.{made}
+use Rattle.miette_basics.proofs.Cases.{by_cases}
 use Rattle.miette_snippet_rules.specs.rules.PrintedCells.{printed_glyphs, printed_cells, line_runs}
 use Rattle.miette_snippet_rules.specs.rules.Highlighting.{highlight_of}
 use Rattle.miette_snippet_rules.proofs.Telling.{then}

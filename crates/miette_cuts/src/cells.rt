@@ -5,9 +5,9 @@ ghost use Rattle.miette_snippet_rules.specs.rules.PrintedCells.{printed_glyphs, 
 ghost use Rattle.miette_page.specs.views.Printouts.{◌⊕◌};
 ghost use Rattle.miette_page.specs.views.Tokens.{text_tokens};
 ghost use Rattle.miette_cuts.specs.steps.CellTokens.{cells_tokens};
-ghost use Rattle.miette_labels.specs.views.Walking.{cell_of};
+ghost use Rattle.miette_cells.specs.views.Walking.{cell_of};
 
-use miette_labels::cells::{Cell, Walk};
+use miette_cells::cells::{Cell, Walk};
 use miette_page::canvas::Canvas;
 use miette_page::page::Page;
 use std::alloc::AllocError;

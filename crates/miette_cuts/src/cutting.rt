@@ -6,8 +6,8 @@ ghost use Rattle.std.specs.Prelude.{if◌then◌else◌};
 ghost use Rattle.std.specs.List.{list_all};
 ghost use Rattle.std.specs.Option.{option_map};
 ghost use Rattle.miette_protocol.specs.views.Meaning.{Label};
-ghost use Rattle.miette_labels.specs.views.Printable.{is_printable, plain_cells};
-ghost use Rattle.miette_labels.specs.views.Walking.{cell_of};
+ghost use Rattle.miette_cells.specs.views.Printable.{is_printable, plain_cells};
+ghost use Rattle.miette_cells.specs.views.Walking.{cell_of};
 ghost use Rattle.miette_snippet_rules.specs.rules.PrintedCells.{cells_width};
 ghost use Rattle.miette_snippet_rules.specs.rules.CutLines.{cut_line, ends, is_near, is_near_after, is_within};
 ghost use Rattle.miette_snippet_rules.specs.rules.CutLines.{shown_marks, stretches};
@@ -22,9 +22,9 @@ use crate::line_text::LineText;
 use crate::marks::Mark;
 use crate::plain_cut::plain_stretches;
 use crate::stretch::{Cut, Stretch, is_shown, put_stretch};
-use miette_labels::cells::{Cell, Walk};
-use miette_labels::plain::all_printable;
-use miette_style::sums::sum;
+use miette_cells::cells::{Cell, Walk};
+use miette_cells::plain::all_printable;
+use miette_basics::sums::sum;
 use std::alloc::{AllocError, Global};
 
 // Whether some column of a cell is at most so many columns away from this one.

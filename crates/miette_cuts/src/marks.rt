@@ -5,19 +5,20 @@ ghost use Rattle.std.specs.List.{All};
 ghost use Rattle.miette_protocol.specs.views.Meaning.{Label};
 ghost use Rattle.miette_snippet_rules.specs.rules.PrintedCells.{cells_width, first_column as first_of_cells};
 ghost use Rattle.miette_snippet_rules.specs.rules.PrintedCells.{last_column as last_of_cells};
-ghost use Rattle.miette_labels.specs.rules.Cells.{cells_from, characters};
+ghost use Rattle.miette_cells.specs.rules.Cells.{cells_from, characters};
 ghost use Rattle.miette_snippet_rules.specs.rules.Marks.{label_from, mark_from, mark_until, mark_anchor, marks};
 ghost use Rattle.miette_snippet_rules.specs.rules.SnippetLayout.{text_of_cells};
 ghost use Rattle.miette_labels.specs.views.Sweeping.{label_of};
-ghost use Rattle.miette_labels.specs.views.GivenLabels.{drawn_of, width_of};
+ghost use Rattle.miette_labels.specs.views.GivenLabels.{drawn_of};
+ghost use Rattle.miette_cells.specs.rules.Widths.{width_of};
 ghost use Rattle.miette_cuts.specs.views.Marks.{mark_of, IsAnchored};
 ghost use Rattle.miette_cuts.specs.steps.Stops.{ComeFrom, IsStop};
 
-use miette_labels::cells::Walk;
-use miette_labels::plain::all_printable;
+use miette_cells::cells::Walk;
+use miette_cells::plain::all_printable;
 use miette_labels::sweep::PlacedLabel;
 use miette_source_lines::lines::LineOfText;
-use miette_style::sums::sum;
+use miette_basics::sums::sum;
 use std::alloc::{AllocError, Global};
 use std::marker::Model;
 
@@ -48,7 +49,7 @@ impl<'a> Model for Columns<'a> {
     ghost use Rattle.std.specs.List.{All};
     ghost use Rattle.miette_snippet_rules.specs.rules.Marks.{Text};
     ghost use Rattle.miette_cuts.specs.steps.Stops.{IsStop};
-    ghost use Rattle.miette_labels.specs.views.Printable.{plain_cells};
+    ghost use Rattle.miette_cells.specs.views.Printable.{plain_cells};
 
     ghost Value = { Text };
 

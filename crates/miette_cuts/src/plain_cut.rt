@@ -4,7 +4,7 @@
 ghost use Rattle.std.specs.Prelude.{◌≡◌, ◌<◌, ◌≤◌, ◌+◌, ℕ, List, true, false, map, take, nat_lt, IfOk, OnOk};
 ghost use Rattle.std.specs.List.{list_all};
 ghost use Rattle.miette_page.specs.views.Printouts.{◌⊕◌};
-ghost use Rattle.miette_labels.specs.views.Printable.{is_printable, plain_cells};
+ghost use Rattle.miette_cells.specs.views.Printable.{is_printable, plain_cells};
 ghost use Rattle.miette_snippet_rules.specs.rules.CutLines.{is_near, stretches};
 ghost use Rattle.miette_cuts.specs.views.Cuts.{measure};
 ghost use Rattle.miette_cuts.specs.steps.Cut.{cell_at, even, plain_run, plain_told};

@@ -4,7 +4,7 @@ ghost use Rattle.std.specs.Prelude.{◌≡◌, ◌++◌, List, IfOk, OnOk};
 ghost use Rattle.miette_cuts.specs.views.Cuts.{is_kept};
 ghost use Rattle.miette_cuts.specs.steps.Cut.{grown_stretch, onto_made};
 
-use miette_style::sums::sum;
+use miette_basics::sums::sum;
 use std::alloc::AllocError;
 
 /// A line's stretches; none where it isn't cut.

@@ -16,10 +16,10 @@ use Rattle.miette_snippet_rules.specs.rules.Gutters.{number_gutter, other_gutter
 use Rattle.miette_labels.specs.views.GivenLabels.{drawn_of}
 use Rattle.miette_labels.specs.views.Sweeping.{nothing}
 use Rattle.miette_page.specs.views.Tokens.{Token, row_tokens, styled_tokens, text_tokens}
-use Rattle.miette_labels.proofs.Numbers.{by_cases}
+use Rattle.miette_basics.proofs.Cases.{by_cases}
 use Rattle.miette_snippet_rules.proofs.Telling.{styled_told, styled_row, blank_row, then, run_one}
 use Rattle.miette_style.specs.rules.Themes.{Characters}
-use Rattle.miette_style.specs.rules.Lists.{onto}
+use Rattle.miette_basics.specs.rules.Lists.{onto}
 
 -- A gutter whose labels from some index on are left: none is left, or the one at the index adds runs.
 abbrev Gutter : Type 0

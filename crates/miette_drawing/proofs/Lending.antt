@@ -19,7 +19,7 @@ use Rattle.miette_source_lines.specs.declared.lines.LineOfText.{LineOfText}
 use Rattle.miette_labels.specs.declared.sweep.PlacedLabel.{PlacedLabel}
 use Rattle.miette_labels.specs.rules.Answers.{Highlight, first_of}
 use Rattle.miette_page.specs.rules.Rows.{Row}
-use Rattle.miette_labels.specs.rules.Cells.{Cell, characters, cells_from}
+use Rattle.miette_cells.specs.rules.Cells.{Cell, characters, cells_from}
 use Rattle.miette_labels.specs.rules.Contexts.{contents, lines_of_contents}
 use Rattle.miette_snippet_rules.specs.rules.Folds.{Spread}
 use Rattle.miette_snippet_rules.specs.rules.Frames.{SnippetSettings, Place, top_row, top_row_of, bottom_row, number_width, width_of_lines}
@@ -37,7 +37,7 @@ use Rattle.miette_source_lines.specs.views.Walking.{line_of_text}
 use Rattle.miette_labels.specs.views.Sweeping.{is_one, is_multi, nothing, start_at, AreSorted}
 use Rattle.miette_labels.specs.views.LabelCounts.{most_multi}
 use Rattle.miette_page.specs.views.Tokens.{rows_tokens}
-use Rattle.miette_labels.proofs.Numbers.{by_cases}
+use Rattle.miette_basics.proofs.Cases.{by_cases}
 use Rattle.miette_labels.proofs.Sources.{IsCut, lines_from}
 use Rattle.miette_labels.proofs.Lines.{cut_lines, cut-le}
 use Rattle.miette_labels.proofs.Segments.{drop_drop}

@@ -17,10 +17,10 @@ use Rattle.miette_snippet_rules.specs.rules.Drawing.{mark_code, mark_run, mark_r
 use Rattle.miette_cuts.specs.views.Marks.{mark_of}
 use Rattle.miette_page.specs.views.Tokens.{Token, begins, row_tokens, run_tokens, styled_tokens, text_tokens}
 use Rattle.miette_snippet_rules.proofs.Numbers.{range_with_len-append}
-use Rattle.miette_labels.proofs.Numbers.{by_cases}
+use Rattle.miette_basics.proofs.Cases.{by_cases}
 use Rattle.miette_snippet_rules.proofs.Telling.{then, told_as, run_one, run_more, blank_told}
 use Rattle.miette_style.specs.rules.Themes.{Characters}
-use Rattle.miette_style.specs.rules.Lists.{onto}
+use Rattle.miette_basics.specs.rules.Lists.{onto}
 
 mapped_codes : (w f : ℕ → ℕ) (ks : List ℕ) → map (λ p. p.code) (map (λ k. glyph_of w (f k)) ks) ≡ map f ks
 mapped_codes w f [] = refl

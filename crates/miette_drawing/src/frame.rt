@@ -18,7 +18,7 @@ use miette_page::page::{PLAIN, Page};
 use miette_protocol::protocol::LabeledSpan;
 use miette_snippet_rules::options::LayoutOptions;
 use miette_style::style::Style;
-use miette_style::sums::sum;
+use miette_basics::sums::sum;
 use miette_style::theme::GraphicalTheme;
 use std::alloc::AllocError;
 

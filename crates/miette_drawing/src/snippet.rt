@@ -52,7 +52,7 @@ use miette_page::page::Page;
 use miette_protocol::protocol::LabeledSpan;
 use miette_protocol::source::MietteSpanContents;
 use miette_snippet_rules::options::LayoutOptions;
-use miette_style::sums::sum;
+use miette_basics::sums::sum;
 use miette_style::theme::GraphicalTheme;
 use std::alloc::{AllocError, Global};
 

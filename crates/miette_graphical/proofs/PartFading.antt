@@ -1,6 +1,6 @@
 -- The parts of a diagnostic's text, without their colours.
 use Rattle.std.proofs.Common.{◌≡◌, ℕ, ◌-◌, Bool, true, false, List, [], ◌∷◌, ◌++◌, refl, sym, ap, ap₂, ◌∙◌, chars, Option, Some, None, IfSome}
-use Rattle.miette_style.specs.rules.Lists.{is_nil}
+use Rattle.miette_basics.specs.rules.Lists.{is_nil}
 use Rattle.miette_runs.specs.rules.Runs.{Fragment, Styled, print}
 use Rattle.miette_style.specs.rules.Styles.{plain}
 use Rattle.miette_protocol.specs.views.Meaning.{Meaning, Label}

@@ -8,7 +8,7 @@ ghost use Rattle.miette_tree.specs.views.Report.{tree_of};
 ghost use Rattle.miette_tree.specs.rules.Tree.{head};
 ghost use Rattle.miette_tree.specs.rules.DiagnosticParts.{severity_title};
 ghost use Rattle.miette_runs.specs.rules.Runs as runs;
-ghost use Rattle.miette_style.specs.rules.Lists.{is_nil};
+ghost use Rattle.miette_basics.specs.rules.Lists.{is_nil};
 
 use crate::header::push_header;
 use crate::indents::{Branch, push_message, push_text_under_arrow};

@@ -2,7 +2,7 @@
 
 ghost use Rattle.std.specs.Prelude.{◌≡◌, ◌++◌, IfOk, OnOk, not, option_map};
 ghost use Rattle.miette_runs.specs.rules.Runs.{print};
-ghost use Rattle.miette_style.specs.rules.Lists.{is_nil};
+ghost use Rattle.miette_basics.specs.rules.Lists.{is_nil};
 ghost use Rattle.miette_graphical.specs.rules.DiagnosticText as parts;
 ghost use Rattle.miette_graphical.specs.views.Modes.{urls_of};
 ghost use Rattle.miette_graphical.specs.steps.SettingsView.{settings_of};

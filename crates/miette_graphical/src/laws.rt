@@ -23,7 +23,7 @@ ghost use Rattle.miette_style.specs.declared.theme.Terminal.{Terminal};
 ghost use Rattle.miette_style.specs.rules.Themes.{Characters, Styles, terminal_theme};
 ghost use Rattle.miette_runs.specs.rules.Sequences.{erase};
 ghost use Rattle.miette_text.specs.laws.Tame.{IsTame};
-ghost use Rattle.miette_labels.specs.views.GivenLabels.{width_of};
+ghost use Rattle.miette_cells.specs.rules.Widths.{width_of};
 
 use miette_layout::laws::{
     cut_lines_are_parted, cut_rows_are_narrow, ends_are_drawn, groups_are_ranges,

@@ -5,7 +5,7 @@ use Rattle.std.specs.Option.{option_map_or}
 use Rattle.std.proofs.lemmas.Bool.{ne_eqb}
 use Rattle.miette_source_lines.specs.rules.Lines as P
 use Rattle.miette_source_lines.specs.rules.Lines.{Line, ends_line, with_byte}
-use Rattle.miette_labels.proofs.Numbers.{by_cases}
+use Rattle.miette_basics.proofs.Cases.{by_cases}
 use Rattle.miette_labels.proofs.Sources.{begins_with_lf, with_text, with_cr, lines_from, lines, end_of}
 
 pub text_step : (byte at : ℕ) (ls : List Line) → eqb byte 13 ≡ false → with_byte byte at ls ≡ with_text at ls

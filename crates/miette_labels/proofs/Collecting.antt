@@ -21,7 +21,7 @@ use Rattle.miette_labels.specs.views.GivenLabels.{label_at}
 use Rattle.miette_labels.specs.rules.Groups.{in_order, spans_of, joined_span, stretch, put_span, by_begin, stretches_from, joined_stretches, own_groups, groups_answered, groups_of, some_fails}
 use Rattle.miette_labels.specs.views.Reads.{IsRead, IsLent, AreGroups, AreGrouped}
 use Rattle.miette_labels.proofs.Sources.{IsCut, lines}
-use Rattle.miette_labels.proofs.Numbers.{by_cases}
+use Rattle.miette_basics.proofs.Cases.{by_cases}
 use Rattle.miette_labels.proofs.Lines.{cut-le, end-in}
 use Rattle.miette_labels.proofs.Data.{cut}
 use Rattle.miette_labels.proofs.Bridge.{lines_same, end_same, some-context}

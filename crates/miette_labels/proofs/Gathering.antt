@@ -9,7 +9,7 @@ use Rattle.miette_labels.specs.declared.reading.ReadLabel.{ReadLabel}
 use Rattle.miette_labels.specs.rules.Answers.{NoneFails, next_answer}
 use Rattle.miette_labels.specs.rules.Groups.{joined_span, joins_before, groups_from, groups_answered}
 use Rattle.miette_labels.specs.views.Reads.{IsLent}
-use Rattle.miette_labels.proofs.Numbers.{by_cases}
+use Rattle.miette_basics.proofs.Cases.{by_cases}
 use Rattle.miette_labels.specs.steps.Reads.{AreJoined}
 
 -- the groups of what is left, in front of which some are done

@@ -9,13 +9,10 @@ pub mod Joining
 pub mod Lines
 pub mod Merging
 pub mod Nearing
-pub mod Numbers
 pub mod Owning
 pub mod Placing
-pub mod Plaining
 pub mod Refusing
 pub mod Segments
 pub mod Sorting
 pub mod Sources
-pub mod Stepping
 pub mod Swept

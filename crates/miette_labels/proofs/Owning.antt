@@ -3,10 +3,10 @@ use Rattle.std.proofs.Common.{ℕ, ◌≡◌, max, Bool, true, false, cond, leb,
 use Rattle.std.specs.Prelude.{unwrap_or, is_some}
 use Rattle.std.specs.List.{list_all, list_any}
 use Rattle.miette_protocol.specs.views.Meaning.{Label}
-use Rattle.miette_style.specs.rules.Lists.{is_nil}
+use Rattle.miette_basics.specs.rules.Lists.{is_nil}
 use Rattle.miette_labels.specs.rules.Around.{has_own, lines_around}
 use Rattle.miette_labels.specs.rules.Groups.{in_order, put_label}
-use Rattle.miette_labels.proofs.Numbers.{by_cases}
+use Rattle.miette_basics.proofs.Cases.{by_cases}
 use Rattle.miette_labels.proofs.Merging.{swap_or}
 
 -- ---- labels in order

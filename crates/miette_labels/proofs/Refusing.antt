@@ -18,7 +18,7 @@ use Rattle.miette_labels.specs.rules.Contexts.{contents}
 use Rattle.miette_labels.specs.views.GivenLabels.{label_at}
 use Rattle.miette_labels.specs.rules.Groups.{refusal, AreAccepted}
 use Rattle.miette_labels.specs.views.Reads.{IsRead, AreRead, name_of}
-use Rattle.miette_labels.proofs.Numbers.{by_cases}
+use Rattle.miette_basics.proofs.Cases.{by_cases}
 use Rattle.miette_labels.proofs.Bodies.{accepted_is}
 use Rattle.miette_labels.proofs.Sorting.{label_got}
 use Rattle.miette_labels.specs.steps.Reads.{Reason}

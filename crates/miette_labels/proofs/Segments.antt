@@ -4,7 +4,7 @@ use Rattle.std.proofs.Math.Seq.{drop-nil}
 use Rattle.miette_source_lines.specs.rules.Lines.{Line}
 use Rattle.miette_source_lines.proofs.Only.{made}
 use Rattle.miette_labels.proofs.Sources.{begins_with_lf, with_text, with_cr, lines_from}
-use Rattle.miette_labels.proofs.Numbers.{by_cases}
+use Rattle.miette_basics.proofs.Cases.{by_cases}
 
 -- the bytes of the first line's text, and of the whole line
 abbrev pub first_text : List ℕ → ℕ

@@ -11,7 +11,7 @@ use Rattle.std.proofs.lemmas.List.Elements.{All-push}
 use Rattle.miette_labels.specs.declared.order.Turn.{Turn}
 use Rattle.miette_labels.specs.views.GivenLabels.{label_at}
 use Rattle.miette_labels.specs.rules.Groups.{put_label, in_order}
-use Rattle.miette_labels.proofs.Numbers.{by_cases}
+use Rattle.miette_basics.proofs.Cases.{by_cases}
 
 abbrev pub put : {X : Type 0} → (X → ℕ) → X → List X → List X
 put n x [] = x ∷ []

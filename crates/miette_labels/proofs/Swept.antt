@@ -7,7 +7,7 @@ use Rattle.miette_labels.specs.declared.sweep.PlacedLabel.{PlacedLabel}
 use Rattle.miette_labels.specs.declared.sweep.Bounds.{Bounds}
 use Rattle.miette_labels.specs.rules.Labels.{reach}
 use Rattle.miette_labels.specs.views.Sweeping.{label_of, line_of_bounds, passes, is_one, is_multi, nothing, start_at, AreSorted, IsAt, IsOn}
-use Rattle.miette_labels.proofs.Numbers.{by_cases}
+use Rattle.miette_basics.proofs.Cases.{by_cases}
 
 -- on the way through a line
 pub record IsSwept (labels : List PlacedLabel) (line : Bounds) (next : ℕ) (one multi : List PlacedLabel) : Type 0 where

@@ -2,8 +2,6 @@
 pub mod GivenLabels
 pub mod Placing
 pub mod Primary
-pub mod Printable
 pub mod Reads
 pub mod Sweeping
 pub mod LabelCounts
-pub mod Walking

@@ -1,12 +1,10 @@
-//! Labels over lines: their reads, groups and columns, and which lie on which line.
+//! Labels over lines: their reads and groups, and which lie on which line.
 #![tactic(auto)]
 
-pub mod cells;
 pub mod drawn_labels;
 pub mod grouping;
 pub mod line_sweep;
 pub mod order;
-pub mod plain;
 pub mod primary;
 pub mod reading;
 mod spans;

@@ -15,7 +15,7 @@ use Rattle.miette_labels.specs.views.GivenLabels.{label_at}
 use Rattle.miette_snippet_rules.specs.rules.SnippetLayout.{is_within, first_marked, primary_of, begins_at, place_of}
 use Rattle.miette_labels.specs.views.Primary.{lies_within, chosen_label, PointsTo, begins_of, is_unread}
 use Rattle.miette_labels.specs.views.Reads.{IsRead}
-use Rattle.miette_labels.proofs.Numbers.{by_cases}
+use Rattle.miette_basics.proofs.Cases.{by_cases}
 use Rattle.miette_labels.proofs.Refusing.{read_of}
 
 -- the span of the first label that is marked, else of the first one that was found

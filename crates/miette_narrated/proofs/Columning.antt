@@ -6,9 +6,9 @@ use Rattle.bstr.proofs.lemmas.EncodeLemmas.{lossy_chars-utf8}
 use Rattle.std.proofs.lemmas.Str.{chars_from_encodes, encodes-append, encodes-chars, chars-nil}
 use Rattle.std.proofs.lemmas.Bool.{ne_eqb, le-ltb, lt-ltb}
 use Rattle.unicode_width.specs.Width.{str_width}
-use Rattle.miette_labels.specs.rules.Cells.{Character, characters}
-use Rattle.miette_labels.specs.views.GivenLabels.{width_of}
-use Rattle.miette_labels.proofs.Stepping.{IsFirst, made, characters_step, characters_end}
+use Rattle.miette_cells.specs.rules.Cells.{Character, characters}
+use Rattle.miette_cells.specs.rules.Widths.{width_of}
+use Rattle.miette_cells.proofs.Stepping.{IsFirst, made, characters_step, characters_end}
 use Rattle.miette_narrated.specs.rules.Columns.{begun_text, is_boundary, widths, column}
 use Rattle.miette_narrated.specs.rules.Lines.{decoded_text}
 use Rattle.miette_narrated.specs.declared.places.PartingPlace.{PartingPlace}

@@ -16,8 +16,8 @@ use Rattle.unicode_width.specs.Kind.{kind, is_text_presentation_base}
 use Rattle.unicode_width.specs.Width.{before, plain, of_kind, single, alone, joins, Reading, added, is_plain, past_selectors, in_context, past_emoji, step, read_before, str_width}
 use Rattle.unicode_width.proofs.KindLemmas.{is_text_presentation_base_stepped}
 use Rattle.unicode_width.proofs.Computing.{unicode_width}
-use Rattle.miette_labels.specs.views.GivenLabels.{width_of}
-use Rattle.miette_labels.proofs.Numbers.{by_cases}
+use Rattle.miette_cells.specs.rules.Widths.{width_of}
+use Rattle.miette_basics.proofs.Cases.{by_cases}
 use Rattle.miette_narrated.specs.steps.Trails.{is_faint}
 use Rattle.miette_narrated.proofs.KindTests.{kind_test_stepped}
 use Rattle.miette_narrated.proofs.Lone.{read_append}

@@ -6,7 +6,7 @@ use Rattle.std.proofs.lemmas.Bool.Decides.{nat_tests}
 use Rattle.miette_protocol.specs.views.Meaning.{Label}
 use Rattle.miette_source_lines.specs.rules.Lines.{Line}
 use Rattle.miette_labels.specs.declared.sweep.PlacedLabel.{PlacedLabel}
-use Rattle.miette_labels.proofs.Numbers.{by_cases}
+use Rattle.miette_basics.proofs.Cases.{by_cases}
 use Rattle.miette_narrated.specs.rules.Labels.{SnippetLine, label_row, label_rows}
 use Rattle.miette_narrated.specs.steps.Ends.{is_ended, is_begun}
 use Rattle.miette_narrated.specs.steps.Conversions.{range_of, ranges_of}

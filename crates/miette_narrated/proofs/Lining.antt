@@ -8,10 +8,10 @@ use Rattle.miette_source_lines.specs.declared.lines.LineOfText.{LineOfText}
 use Rattle.miette_source_lines.specs.views.Walking.{Rest, IsFirst, behind, line_of_text, lines_left}
 use Rattle.miette_protocol.specs.rules.Reading.{Contents}
 use Rattle.miette_labels.specs.rules.Contexts.{lines_of_contents}
-use Rattle.miette_labels.proofs.Numbers.{by_cases}
+use Rattle.miette_basics.proofs.Cases.{by_cases}
 use Rattle.miette_narrated.specs.rules.Labels.{LabelRange, SnippetLine}
 use Rattle.miette_narrated.specs.rules.Lines.{snippet_line, rows_of_line, rows_of_lines}
-use Rattle.miette_style.specs.rules.Lists.{is_nil}
+use Rattle.miette_basics.specs.rules.Lists.{is_nil}
 
 -- The lines that are left of what a read lent, with numbers behind this one, have the rows that are left of the goal.
 pub record AreLeft (labels : List LabelRange) (lent : Contents) (before : ℕ) (rest : Rest) (out goal : List ℕ) : Type 0 where

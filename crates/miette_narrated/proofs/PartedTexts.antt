@@ -18,8 +18,8 @@ use Rattle.unicode_width.specs.Kind.{kind, is_ligature_transparent, is_text_pres
 use Rattle.unicode_width.specs.Width.{before, plain, is_joined_emoji, is_line_feed, is_quote, of_kind, alone, char_width, before_alef, is_lam, is_emoji, joins, first_of, joined_or, Reading, added, if_kept, skips_marks, is_plain, past_selectors, in_context, past_emoji, step, read_before, str_width}
 use Rattle.unicode_width.proofs.KindLemmas.{is_ligature_transparent_stepped}
 use Rattle.unicode_width.proofs.Computing.{unicode_width}
-use Rattle.miette_labels.specs.views.GivenLabels.{width_of}
-use Rattle.miette_labels.proofs.Numbers.{by_cases}
+use Rattle.miette_cells.specs.rules.Widths.{width_of}
+use Rattle.miette_basics.proofs.Cases.{by_cases}
 use Rattle.miette_narrated.specs.steps.Parting.{is_lone, is_joining, is_closing, may_part}
 use Rattle.miette_narrated.proofs.KindTests.{kind_test_stepped}
 use Rattle.miette_narrated.proofs.Lone.{adds_up, shifted, read_append, or_false, or_turn}

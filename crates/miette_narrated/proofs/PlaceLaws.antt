@@ -6,10 +6,10 @@ use Rattle.std.proofs.lemmas.List.{drop-drop}
 use Rattle.std.proofs.lemmas.Option.{none-some, same_Some}
 use Rattle.ucd_emoji.specs.Binary.{is_emoji_variation_base}
 use Rattle.unicode_width.specs.Width.{str_width}
-use Rattle.miette_labels.specs.rules.Cells.{characters}
-use Rattle.miette_labels.specs.views.GivenLabels.{width_of}
-use Rattle.miette_labels.proofs.Stepping.{IsFirst, characters_step}
-use Rattle.miette_labels.proofs.Numbers.{by_cases}
+use Rattle.miette_cells.specs.rules.Cells.{characters}
+use Rattle.miette_cells.specs.rules.Widths.{width_of}
+use Rattle.miette_cells.proofs.Stepping.{IsFirst, characters_step}
+use Rattle.miette_basics.proofs.Cases.{by_cases}
 use Rattle.miette_narrated.specs.declared.overlap.Overlap.{Overlap}
 use Rattle.miette_narrated.specs.declared.overlap.Overlap.TheVariants.{Nothing}
 use Rattle.miette_narrated.specs.declared.places.PartingPlace.{PartingPlace}

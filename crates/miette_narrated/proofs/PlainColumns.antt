@@ -6,12 +6,12 @@ use Rattle.std.proofs.lemmas.Bool.{and_parts}
 use Rattle.std.proofs.lemmas.List.{length-take}
 use Rattle.unicode_width.specs.Width.{str_width}
 use Rattle.unicode_width.proofs.Rules.{str_width-printable}
-use Rattle.miette_labels.specs.rules.Cells.{characters}
-use Rattle.miette_labels.specs.views.GivenLabels.{width_of}
-use Rattle.miette_labels.specs.views.Printable.{is_printable}
-use Rattle.miette_labels.proofs.Plaining.{one_column, printable_character, printable_in_range, printable_taken}
-use Rattle.miette_labels.proofs.Stepping.{characters_end}
-use Rattle.miette_labels.proofs.Numbers.{by_cases}
+use Rattle.miette_cells.specs.rules.Cells.{characters}
+use Rattle.miette_cells.specs.rules.Widths.{width_of}
+use Rattle.miette_cells.specs.views.Printable.{is_printable}
+use Rattle.miette_cells.proofs.Plaining.{one_column, printable_character, printable_in_range, printable_taken}
+use Rattle.miette_cells.proofs.Stepping.{characters_end}
+use Rattle.miette_basics.proofs.Cases.{by_cases}
 use Rattle.miette_narrated.specs.rules.Columns.{begun_text, is_boundary, widths, column}
 use Rattle.miette_narrated.proofs.Columning.{begun_more, begun_zero, at_boundary, off_boundary}
 

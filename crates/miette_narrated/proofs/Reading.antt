@@ -20,7 +20,7 @@ use Rattle.miette_labels.specs.rules.Groups.{put_label, in_order, refusal, AreAc
 use Rattle.miette_labels.specs.rules.Groups as groups
 use Rattle.miette_labels.specs.views.Placing.{placed_one, placed_from}
 use Rattle.miette_labels.specs.views.Reads.{IsRead, AreRead, IsLent, AreGroups, AreGrouped, IsUnread}
-use Rattle.miette_labels.proofs.Numbers.{by_cases}
+use Rattle.miette_basics.proofs.Cases.{by_cases}
 use Rattle.miette_labels.proofs.Owning.{order_all}
 use Rattle.miette_labels.proofs.Refusing.{all_accepted, read_of}
 use Rattle.miette_narrated.specs.rules.Labels.{LabelRange, label_range}
@@ -31,7 +31,7 @@ use Rattle.miette_narrated.specs.steps.Sweeping.{BeginsFrom, AreOrdered}
 use Rattle.miette_narrated.specs.steps.AppendedParts.{AppendsSnippets}
 use Rattle.std.proofs.lemmas.List.{drop_all}
 use Rattle.std.proofs.lemmas.List.Elements.{All-tail, All-head}
-use Rattle.miette_style.specs.rules.Lists.{is_nil}
+use Rattle.miette_basics.specs.rules.Lists.{is_nil}
 
 -- where a read's data end cuts a label as the source's end does
 abbrev pub Reaches : Type 0

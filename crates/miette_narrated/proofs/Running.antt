@@ -5,9 +5,9 @@ use Rattle.std.specs.List.{list_all}
 use Rattle.std.proofs.lemmas.Bool.{true≢false, and_parts, cases_lt, cond-true, cond-false, ne_eqb, lt-ltb}
 use Rattle.std.proofs.lemmas.List.{drop-drop, take_rest}
 use Rattle.unicode_width.specs.Width.{str_width}
-use Rattle.miette_labels.specs.rules.Cells.{Character, characters}
-use Rattle.miette_labels.proofs.Stepping.{IsFirst, made, characters_step}
-use Rattle.miette_labels.proofs.Numbers.{by_cases}
+use Rattle.miette_cells.specs.rules.Cells.{Character, characters}
+use Rattle.miette_cells.proofs.Stepping.{IsFirst, made, characters_step}
+use Rattle.miette_basics.proofs.Cases.{by_cases}
 use Rattle.miette_narrated.specs.declared.places.PartingPlace.{PartingPlace}
 use Rattle.miette_narrated.specs.declared.trails.Trail.{Trail}
 use Rattle.miette_narrated.specs.rules.Columns.{begun_text, is_boundary, widths, column}

@@ -4,7 +4,7 @@ use Rattle.std.proofs.Common.{ℕ, ◌+◌, ◌≡◌, Bool, true, false, cond, 
 use Rattle.std.specs.Prelude.{chars, if◌then◌else◌}
 use Rattle.std.proofs.lemmas.Bool.{and_parts, or_cases, cond-true, cond-false}
 use Rattle.std.proofs.lemmas.Option.{none-some, same_Some}
-use Rattle.miette_labels.proofs.Numbers.{by_cases}
+use Rattle.miette_basics.proofs.Cases.{by_cases}
 use Rattle.ucd_emoji.specs.Binary.{is_emoji_variation_base}
 use Rattle.unicode_width.specs.declared.state.After.{After}
 use Rattle.unicode_width.specs.declared.state.After.TheVariants as afters

@@ -1,7 +1,7 @@
 //! Characters of a line's text, and their columns.
 
 ghost use Rattle.std.specs.Prelude.{◌≡◌, ◌≤◌, ◌++◌, IfOk, OnOk, string_bytes};
-ghost use Rattle.miette_labels.specs.rules.Cells.{characters};
+ghost use Rattle.miette_cells.specs.rules.Cells.{characters};
 ghost use Rattle.miette_narrated.specs.rules.Columns.{column};
 ghost use Rattle.miette_narrated.specs.rules.Lines.{decoded_text};
 ghost use Rattle.miette_narrated.specs.steps.Places.{IsPlace};
@@ -9,7 +9,7 @@ ghost use Rattle.miette_narrated.specs.steps.Places.{IsPlace};
 use crate::narrated_text::NarratedText;
 use crate::places::{PartingPlace, column_after, overlap_text, place_before};
 use crate::trails::{column_in, trail_at};
-use miette_labels::cells::{columns_of, first_character};
+use miette_cells::cells::{columns_of, first_character};
 use std::alloc::{AllocError, Global};
 
 /// Appends bytes as characters, U+FFFD for those that are none.

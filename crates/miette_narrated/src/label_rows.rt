@@ -21,7 +21,7 @@ use crate::words::push_number;
 use miette_labels::drawn_labels::text_of;
 use miette_labels::sweep::PlacedLabel;
 use miette_protocol::protocol::LabeledSpan;
-use miette_style::sums::sum;
+use miette_basics::sums::sum;
 use std::alloc::{AllocError, Global};
 
 /// Whether a label begins on the line or behind it.

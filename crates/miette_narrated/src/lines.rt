@@ -18,7 +18,7 @@ use crate::sweeping::{ReachSweep, come_to};
 use crate::words::push_number;
 use miette_source_lines::lines::{LineOfText, Lines};
 use miette_protocol::source::MietteSpanContents;
-use miette_style::sums::sum;
+use miette_basics::sums::sum;
 use std::alloc::{AllocError, Global};
 
 /// `snippet line 2:   text`

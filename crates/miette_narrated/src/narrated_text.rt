@@ -2,13 +2,13 @@
 
 ghost use Rattle.std.specs.Prelude.{◌≡◌};
 ghost use Rattle.std.specs.List.{All, list_all};
-ghost use Rattle.miette_labels.specs.views.Printable.{is_printable};
+ghost use Rattle.miette_cells.specs.views.Printable.{is_printable};
 ghost use Rattle.miette_narrated.specs.steps.Places.{IsPlace};
 ghost use Rattle.miette_narrated.specs.steps.Trails.{IsTrail};
 
 use crate::places::PartingPlace;
 use crate::trails::Trail;
-use miette_labels::plain::all_printable;
+use miette_cells::plain::all_printable;
 
 /// The bytes of a line's text, whether each is a printable ASCII character, places from which a walk over its
 /// characters may go on, and trails in which no walk is needed.

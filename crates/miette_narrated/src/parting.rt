@@ -7,7 +7,7 @@ ghost use Rattle.miette_narrated.specs.steps.Parting.{is_keeping, opens, end_ove
 ghost use Rattle.unicode_width.specs.Width.{is_indicator};
 
 use crate::overlap::Overlap;
-use miette_labels::cells::columns_of;
+use miette_cells::cells::columns_of;
 use ucd_emoji::is_emoji_variation_base;
 
 fn in_range(code: u32, low: u32, high: u32) -> bool

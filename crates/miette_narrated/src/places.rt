@@ -8,7 +8,7 @@ ghost use Rattle.miette_narrated.specs.steps.Places.{IsPlace, overlap_text};
 
 use crate::overlap::Overlap;
 use crate::parting::{is_indicator, overlap_between};
-use miette_labels::cells::{columns_of, first_character};
+use miette_cells::cells::{columns_of, first_character};
 use std::alloc::{AllocError, Global};
 use unicode_width::UnicodeWidthStr;
 

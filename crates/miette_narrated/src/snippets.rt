@@ -25,7 +25,7 @@ use miette_protocol::error::RenderError;
 use miette_protocol::laws::data_reach_the_span;
 use miette_protocol::protocol::LabeledSpan;
 use miette_protocol::source::{MietteSpanContents, SourceCode};
-use miette_style::sums::sum;
+use miette_basics::sums::sum;
 use std::alloc::{AllocError, Global};
 
 /// ` for bad_file.rs`

@@ -4,13 +4,13 @@
 
 ghost use Rattle.std.specs.Prelude.{◌≡◌, ◌<◌, ◌≤◌, ◌+◌, IfOk, IfSome, length, drop};
 ghost use Rattle.std.specs.List.{All};
-ghost use Rattle.miette_labels.specs.rules.Cells.{characters};
+ghost use Rattle.miette_cells.specs.rules.Cells.{characters};
 ghost use Rattle.miette_narrated.specs.rules.Columns.{column};
 ghost use Rattle.miette_narrated.specs.steps.Places.{IsPlace};
 ghost use Rattle.miette_narrated.specs.steps.Trails.{is_faint, first_size, AreFaint, IsTrail};
 
 use crate::places::{APART, PartingPlace, column_after, overlap_text, start};
-use miette_labels::cells::{columns_of, first_character};
+use miette_cells::cells::{columns_of, first_character};
 use std::alloc::{AllocError, Global};
 
 /// Bytes of a text whose characters take no columns: the column behind each of them, and what the characters before it

@@ -10,7 +10,7 @@ use Rattle.miette_source_lines.specs.rules.Lines.{Line, lines_from}
 use Rattle.miette_source_lines.specs.declared.lines.LineOfText.{LineOfText}
 use Rattle.miette_source_lines.specs.views.Walking.{Rest, IsFirst, behind, line_of_text, lines_left}
 use Rattle.miette_protocol.specs.views.Meaning.{Label}
-use Rattle.miette_labels.specs.rules.Cells.{Cell}
+use Rattle.miette_cells.specs.rules.Cells.{Cell}
 use Rattle.miette_report.specs.rules.Findings.{ending_blanks, finding, is_blank, misplaced_tab, overlong, tab_after_space, tab_behind, too_wide, trailing_space}
 
 -- The lines that are left of so many bytes have what is left to be found.

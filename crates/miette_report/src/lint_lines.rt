@@ -6,13 +6,13 @@ ghost use Rattle.std.specs.Prelude.{None as Nothing, string_bytes};
 ghost use Rattle.std.specs.List.{last_or};
 ghost use Rattle.std.specs.Option.{option_map};
 ghost use Rattle.miette_source_lines.specs.views.Walking.{line_of_text};
-ghost use Rattle.miette_labels.specs.views.Walking.{cell_of};
+ghost use Rattle.miette_cells.specs.views.Walking.{cell_of};
 ghost use Rattle.miette_report.specs.rules.Findings.{cells_of, ending_blanks, finding, findings_of, is_blank};
 ghost use Rattle.miette_report.specs.rules.Findings.{line_findings, misplaced_tab, overlong, tab_after_space};
 ghost use Rattle.miette_report.specs.rules.Findings.{tab_behind, too_wide, trailing_space, missing_terminator};
 
 use itoa::Buffer;
-use miette_labels::cells::{Cell, Walk};
+use miette_cells::cells::{Cell, Walk};
 use miette_source_lines::lines::{LineOfText, Lines};
 use miette_protocol::protocol::LabeledSpan;
 use std::alloc::{AllocError, Global};

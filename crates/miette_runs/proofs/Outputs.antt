@@ -4,7 +4,7 @@ use Rattle.std.proofs.lemmas.Str.{IsUtf8-string_bytes, encodes-append, encodes-c
 use Rattle.std.specs.Str.{IsUtf8}
 use Rattle.miette_runs.specs.rules.Runs.{link_start, printed_run}
 use Rattle.miette_style.specs.rules.Codes.{colour_start, colour_stop, style_codes}
-use Rattle.miette_style.specs.rules.Lists.{is_nil}
+use Rattle.miette_basics.specs.rules.Lists.{is_nil}
 use Rattle.miette_style.specs.declared.style.Style.{Style}
 use Rattle.miette_runs.proofs.Painting.{run-styled, style-bytes}
 

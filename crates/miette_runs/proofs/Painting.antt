@@ -8,7 +8,7 @@ use Rattle.miette_runs.specs.rules.Runs.{printed_run}
 use Rattle.miette_style.specs.rules.Codes.{colour_start, colour_stop, style_codes}
 use Rattle.miette_style.specs.rules.Escapes.{is_escape}
 use Rattle.miette_runs.specs.rules.Colours.{is_colour, is_colour_end}
-use Rattle.miette_style.specs.rules.Lists.{is_nil}
+use Rattle.miette_basics.specs.rules.Lists.{is_nil}
 use Rattle.miette_style.specs.declared.style.Style.{Style}
 use Rattle.miette_runs.proofs.Parameters.{start_colour}
 

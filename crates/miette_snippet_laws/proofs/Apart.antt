@@ -4,7 +4,7 @@ use Rattle.std.proofs.lemmas.Bool.{lt-ltb, le-ltb, le-leb, lt-leb, and_right}
 use Rattle.std.specs.List.{AllByRecursion}
 use Rattle.miette_labels.specs.rules.Labels.{DrawnLabel, is_empty}
 use Rattle.miette_snippet_rules.specs.rules.Marks.{Text, Mark, mark_from, mark_until, marks_from, marks, AreApart, marks_at}
-use Rattle.miette_labels.proofs.Numbers.{by_cases}
+use Rattle.miette_basics.proofs.Cases.{by_cases}
 
 longer : (text : Text) (reached : ℕ) (label : DrawnLabel) → mark_from text reached label < mark_until text reached label
 longer text reached label =

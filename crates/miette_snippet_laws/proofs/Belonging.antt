@@ -12,7 +12,7 @@ use Rattle.miette_snippet_laws.specs.laws.Belonging.{holds, HasOneGroup}
 use Rattle.miette_labels.specs.rules.Contexts.{contents, end_of_span}
 use Rattle.miette_labels.specs.rules.Groups.{AreAccepted, joined_span, stretch, put_span, by_begin, stretches_from, joined_stretches}
 use Rattle.miette_labels.proofs.Sources.{IsCut, lines, line_of, start_of}
-use Rattle.miette_labels.proofs.Numbers.{by_cases}
+use Rattle.miette_basics.proofs.Cases.{by_cases}
 use Rattle.miette_labels.proofs.Merging.{swap_or}
 use Rattle.miette_snippet_rules.proofs.Lines.{line-zero}
 use Rattle.miette_snippet_rules.proofs.Data.{first-lt}

@@ -7,7 +7,7 @@ use Rattle.std.specs.List.{AllByRecursion, range_with_len}
 use Rattle.miette_page.specs.rules.Rows.{Glyph, Run, Row, glyphs_of, columns_of, code_at, glyph_of, styled_run}
 use Rattle.miette_style.specs.rules.Styles.{plain}
 use Rattle.miette_source_lines.specs.rules.Lines.{Line}
-use Rattle.miette_labels.specs.rules.Cells.{Cell}
+use Rattle.miette_cells.specs.rules.Cells.{Cell}
 use Rattle.miette_labels.specs.rules.Answers.{Highlight}
 use Rattle.miette_labels.specs.rules.Labels.{DrawnLabel, starts_on, ends_on, one_line, multi_line, closing_labels}
 use Rattle.miette_snippet_rules.specs.rules.Marks.{Mark, AreApart}
@@ -16,7 +16,7 @@ use Rattle.miette_snippet_rules.specs.rules.Gutters.{most_labels, gutter_columns
 use Rattle.miette_snippet_rules.specs.rules.Frames.{SnippetSettings, other_start, number_start}
 use Rattle.miette_snippet_rules.specs.rules.SnippetLayout.{line_rows, before_each, line_marks, text_of_cells}
 use Rattle.miette_snippet_laws.specs.laws.Pictures.{mark_at, marks_end, Hangs, AreMarked, ShowMarks, marks_of_line, text_of_line, text_start, HasText}
-use Rattle.miette_labels.proofs.Numbers.{by_cases}
+use Rattle.miette_basics.proofs.Cases.{by_cases}
 use Rattle.miette_snippet_laws.proofs.Apart.{marks_apart}
 use Rattle.miette_snippet_rules.proofs.CutColumns.{AreColumns, shown_apart}
 use Rattle.miette_snippet_laws.proofs.Columns.{columns_of-append, code_at-append}

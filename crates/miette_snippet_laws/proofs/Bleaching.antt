@@ -11,7 +11,7 @@ use Rattle.miette_labels.specs.rules.Labels.{DrawnLabel, parts_of, drawn_label, 
 use Rattle.miette_snippet_rules.specs.rules.Marks.{Text, Mark, marks_from, marks, mark_from, mark_until, mark_anchor}
 use Rattle.miette_labels.specs.rules.Groups.{put_label, in_order}
 use Rattle.miette_snippet_laws.proofs.CleanTexts.{clean_parts}
-use Rattle.miette_labels.proofs.Numbers.{by_cases}
+use Rattle.miette_basics.proofs.Cases.{by_cases}
 use Rattle.miette_snippet_laws.proofs.Paling.{bleached, bleached_mark, HasCleanParts, IsCleanMark}
 
 -- a filter that styles don't matter to

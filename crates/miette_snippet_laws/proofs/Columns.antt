@@ -2,7 +2,7 @@
 use Rattle.std.proofs.Common.{ℕ, zero, suc, ◌+◌, ◌-◌, ◌<◌, ◌≡◌, false, ltb, eqb, List, [], ◌∷◌, ◌++◌, map, Some, refl, ap, ◌∙◌, arith}
 use Rattle.std.proofs.lemmas.Bool.{le-ltb, ne_eqb, eqb-true, eqb-false}
 use Rattle.std.specs.List.{range_with_len}
-use Rattle.miette_labels.proofs.Numbers.{by_cases}
+use Rattle.miette_basics.proofs.Cases.{by_cases}
 use Rattle.miette_page.specs.rules.Rows.{Glyph, columns_of, code_at}
 
 pub code_at-here : (p : Glyph) (row : List Glyph) → p.columns ≡ 1 → code_at (p ∷ row) 0 ≡ Some p.code

@@ -3,8 +3,8 @@ use Rattle.std.proofs.Common.{◌≡◌, ◌≢◌, ℕ, ◌+◌, ◌-◌, ◌<�
 use Rattle.std.proofs.lemmas.Bool.{lt-ltb, le-leb, ltb-true, leb-true, and_from, and_parts}
 use Rattle.std.proofs.lemmas.List.{map-append}
 use Rattle.miette_labels.specs.rules.Answers.{Highlight}
-use Rattle.miette_labels.specs.rules.Cells.{Cell}
-use Rattle.miette_labels.proofs.Numbers.{by_cases}
+use Rattle.miette_cells.specs.rules.Cells.{Cell}
+use Rattle.miette_basics.proofs.Cases.{by_cases}
 use Rattle.miette_page.specs.rules.Rows.{glyphs_of}
 use Rattle.miette_snippet_rules.specs.rules.CutLines.{Stretch, agree, bytes_in, cut_runs, dots, is_kept, is_near_after, is_within, onto_stretches, pieces_within, stretches}
 use Rattle.miette_snippet_rules.specs.rules.PrintedCells.{line_runs, printed_cells}

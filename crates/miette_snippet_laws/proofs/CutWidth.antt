@@ -5,8 +5,8 @@ use Rattle.std.proofs.lemmas.Bool.Decides.{nat_tests}
 use Rattle.std.proofs.Math.Nat.{suc-mul}
 use Rattle.std.specs.List.{list_any}
 use Rattle.miette_labels.specs.rules.Answers.{Highlight}
-use Rattle.miette_labels.specs.rules.Cells.{Cell}
-use Rattle.miette_labels.proofs.Numbers.{by_cases}
+use Rattle.miette_cells.specs.rules.Cells.{Cell}
+use Rattle.miette_basics.proofs.Cases.{by_cases}
 use Rattle.miette_page.specs.rules.Rows.{glyphs_of, columns_of}
 use Rattle.miette_snippet_rules.specs.rules.CutLines.{Stretch, columns_in, cut_line, dots, ends, is_kept, is_near, is_near_after, is_within, kept_columns, onto_stretches, shown_runs, stretches}
 use Rattle.miette_snippet_rules.specs.rules.Marks.{Mark}

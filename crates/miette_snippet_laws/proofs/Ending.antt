@@ -22,7 +22,7 @@ use Rattle.miette_snippet_laws.specs.laws.Ends.{last_line, stands_behind, EndsSt
 use Rattle.miette_labels.proofs.Bridge.{lines_same}
 use Rattle.miette_labels.proofs.Data.{cut}
 use Rattle.miette_labels.proofs.Lines.{cut-le}
-use Rattle.miette_labels.proofs.Numbers.{by_cases}
+use Rattle.miette_basics.proofs.Cases.{by_cases}
 use Rattle.miette_labels.proofs.Owning.{own_ordered, order_any}
 use Rattle.miette_labels.proofs.Sources.{IsCut, lines}
 use Rattle.miette_snippet_rules.proofs.Endings.{shows_around}

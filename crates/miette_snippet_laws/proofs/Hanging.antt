@@ -8,7 +8,7 @@ use Rattle.miette_snippet_rules.specs.rules.Marks.{Mark, AreApart}
 use Rattle.miette_snippet_rules.specs.rules.Drawing.{IsNarrow, code_with_parts, mark_code}
 use Rattle.miette_snippet_laws.specs.laws.Pictures.{mark_at, marks_end, HangsFrom, PartHangs, Hangs}
 use Rattle.miette_snippet_laws.proofs.UnstyledRows.{mark_row, lead_at, lead, corner_pieces, beside_pieces, plain_parts, plain_below}
-use Rattle.miette_labels.proofs.Numbers.{by_cases}
+use Rattle.miette_basics.proofs.Cases.{by_cases}
 use Rattle.miette_snippet_laws.proofs.Columns.{code_at-here, code_at-front, code_at-behind, columns_of-map, columns_of-append, code_at-append}
 use Rattle.miette_style.specs.rules.Themes.{Characters}
 

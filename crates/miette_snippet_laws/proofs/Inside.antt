@@ -15,7 +15,7 @@ use Rattle.miette_snippet_rules.specs.rules.ShownLines.{line_at}
 use Rattle.miette_snippet_rules.specs.rules.Snippets as N
 use Rattle.miette_labels.specs.rules.Contexts.{end_of_span}
 use Rattle.miette_labels.proofs.Sources.{lines, line_of, start_of, end_of, first_line, last_line, reading_end}
-use Rattle.miette_labels.proofs.Numbers.{by_cases}
+use Rattle.miette_basics.proofs.Cases.{by_cases}
 use Rattle.miette_labels.proofs.Data.{cut}
 use Rattle.miette_labels.proofs.Bridge.{lines_same}
 use Rattle.miette_snippet_rules.proofs.Lines.{line-mono, line-start, line-end, start-lt, start-le-end, start-next}

@@ -3,7 +3,7 @@ use Rattle.std.proofs.Common.{ℕ, ◌+◌, ◌≡◌, eqb, List, [], ◌∷◌,
 use Rattle.std.proofs.lemmas.Bool.{eqb-true, eqb-false}
 use Rattle.std.specs.List.{AllByRecursion, concat}
 use Rattle.miette_snippet_rules.specs.rules.Numbers.{onto_range, ranges, IsRange, AreParted}
-use Rattle.miette_labels.proofs.Numbers.{by_cases}
+use Rattle.miette_basics.proofs.Cases.{by_cases}
 
 -- what runs have
 pub record AreRuns (ks : List ℕ) (rs : List (List ℕ)) : Type 0 where

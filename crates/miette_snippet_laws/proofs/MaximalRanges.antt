@@ -23,7 +23,7 @@ use Rattle.miette_snippet_rules.specs.rules.Snippets as N
 use Rattle.miette_labels.proofs.Sources.{lines}
 use Rattle.miette_snippet_rules.proofs.Joining as J
 use Rattle.miette_snippet_rules.proofs.Numbers.{filter-none}
-use Rattle.miette_labels.proofs.Numbers.{by_cases}
+use Rattle.miette_basics.proofs.Cases.{by_cases}
 use Rattle.miette_snippet_rules.proofs.Bridge.{none_or_some}
 use Rattle.miette_snippet_rules.proofs.Bodies.{KeepsAlike, joined_runs, joined_bodies, all_framed, none_refused, ordered_accepted}
 use Rattle.miette_labels.proofs.Bodies.{some_none}

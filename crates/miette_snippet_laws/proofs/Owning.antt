@@ -25,7 +25,7 @@ use Rattle.miette_snippet_rules.specs.rules.ShownLines.{range_rows, rows_of_rang
 use Rattle.miette_snippet_rules.specs.rules.Snippets as N
 use Rattle.miette_labels.proofs.Sources.{lines, first_line, last_line}
 use Rattle.miette_snippet_rules.proofs.Joining as J
-use Rattle.miette_labels.proofs.Numbers.{by_cases}
+use Rattle.miette_basics.proofs.Cases.{by_cases}
 use Rattle.miette_snippet_rules.proofs.Data.{first-lt, first-le-last}
 use Rattle.miette_snippet_rules.proofs.Bridge.{begin_same, end_data_same}
 use Rattle.miette_labels.proofs.Bridge.{lines_same, some-context}

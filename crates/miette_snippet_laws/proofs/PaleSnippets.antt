@@ -7,7 +7,7 @@ use Rattle.miette_protocol.specs.views.Meaning.{Label}
 use Rattle.miette_protocol.specs.rules.Reading.{Span, Source, Contents, is_accepted}
 use Rattle.miette_labels.specs.rules.Answers.{Answers, Highlight, next_answer, first_of}
 use Rattle.miette_snippet_rules.specs.rules.CutLines.{cut_line, shown_marks, shown_runs}
-use Rattle.miette_labels.specs.rules.Cells.{Cell, characters}
+use Rattle.miette_cells.specs.rules.Cells.{Cell, characters}
 use Rattle.miette_snippet_laws.specs.laws.Clean.{IsClean, IsCleanText, IsCleanRow, IsCleanLabel, IsCleanSource, AreCleanDrawings}
 use Rattle.miette_labels.specs.rules.Contexts.{contents, lines_of_contents}
 use Rattle.miette_snippet_rules.specs.rules.Drawing.{marked_rows}

@@ -11,7 +11,7 @@ use Rattle.miette_labels.specs.rules.Contexts as C
 use Rattle.miette_labels.specs.rules.Contexts.{contents, lines_of_contents}
 use Rattle.miette_snippet_rules.specs.rules.ShownLines.{line_at}
 use Rattle.miette_snippet_rules.proofs.Numbers.{filter-same}
-use Rattle.miette_labels.proofs.Numbers.{by_cases}
+use Rattle.miette_basics.proofs.Cases.{by_cases}
 use Rattle.miette_labels.proofs.Sources.{begins_with_lf, with_text, with_cr, lines_from, lines, IsCut, start_of, end_of, past_lf, reading_end}
 use Rattle.miette_snippet_rules.proofs.Lines.{end-ge, cut-some, start-lt, start-le-end, end-mono, line-start}
 use Rattle.miette_labels.proofs.Lines.{cut_lines, end-in}

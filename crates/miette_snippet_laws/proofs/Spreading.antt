@@ -11,7 +11,7 @@ use Rattle.miette_snippet_rules.specs.rules.Numbers.{ranges}
 use Rattle.miette_labels.specs.rules.Contexts.{end_of_span}
 use Rattle.miette_labels.proofs.Sources.{lines, start_of, end_of}
 use Rattle.miette_snippet_rules.proofs.Numbers.{filter-none}
-use Rattle.miette_labels.proofs.Numbers.{by_cases}
+use Rattle.miette_basics.proofs.Cases.{by_cases}
 use Rattle.miette_snippet_rules.proofs.Lines.{line-mono, line-start, start-next, start-le-end, end-mono}
 use Rattle.miette_snippet_rules.proofs.Data.{starts}
 use Rattle.miette_labels.proofs.Data.{cut}

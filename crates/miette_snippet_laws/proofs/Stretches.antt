@@ -4,7 +4,7 @@ use Rattle.std.specs.List.{range_with_len, filter, AllByRecursion}
 use Rattle.std.proofs.lemmas.Bool.{eqb-true, eqb-false, cases_lt}
 use Rattle.std.proofs.lemmas.List.FromFn.{length-range_with_len}
 use Rattle.miette_snippet_rules.specs.rules.Numbers.{onto_range, ranges}
-use Rattle.miette_labels.proofs.Numbers.{by_cases}
+use Rattle.miette_basics.proofs.Cases.{by_cases}
 
 -- a run of the numbers from one place up to another, with none that passes before it
 record IsStretch (p : ℕ → Bool) (from to : ℕ) (run : List ℕ) : Type 0 where

@@ -14,7 +14,7 @@ use Rattle.miette_snippet_rules.specs.rules.SnippetLayout.{cells_of, line_marks,
 use Rattle.miette_snippet_laws.specs.laws.Pictures.{LinesShow, BodyShows, marks_of_line}
 use Rattle.miette_snippet_rules.specs.rules.Marks.{AreApart}
 use Rattle.miette_snippet_laws.proofs.Apart.{marks_apart}
-use Rattle.miette_labels.specs.rules.Cells.{characters}
+use Rattle.miette_cells.specs.rules.Cells.{characters}
 use Rattle.miette_snippet_rules.proofs.CutColumns.{AreColumns, columns_from, shown_apart}
 use Rattle.miette_snippet_laws.proofs.Numerals.{decimal-mono}
 use Rattle.miette_snippet_laws.proofs.Beneath.{HasRoom, line_shows, line_begins, all_room}

@@ -24,7 +24,7 @@ ghost use Rattle.miette_snippet_rules.specs.rules.Snippets.{snippets, shown_numb
 ghost use Rattle.miette_labels.specs.rules.Labels.{DrawnLabel, drawn_from, multi_line, some_shows_end, one_line};
 ghost use Rattle.miette_snippet_rules.specs.rules.Marks.{Text, marks, marks_at, AreApart};
 ghost use Rattle.miette_source_lines.specs.rules.Lines.{Line};
-ghost use Rattle.miette_labels.specs.rules.Cells.{Cell};
+ghost use Rattle.miette_cells.specs.rules.Cells.{Cell};
 ghost use Rattle.miette_labels.specs.rules.Contexts.{lines_of_contents};
 ghost use Rattle.miette_snippet_rules.specs.rules.CutLines.{Stretch, cut_runs, is_within, stretches};
 ghost use Rattle.miette_snippet_rules.specs.rules.Drawing.{IsNarrow};

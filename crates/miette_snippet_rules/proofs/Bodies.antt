@@ -28,7 +28,7 @@ use Rattle.miette_snippet_rules.proofs.Joining as J
 use Rattle.miette_snippet_rules.proofs.Joining.{by_offset, put_by_offset, lines_of_groups}
 use Rattle.miette_labels.proofs.Joining.{joins, groups}
 use Rattle.miette_snippet_rules.proofs.Numbers.{filter-same}
-use Rattle.miette_labels.proofs.Numbers.{by_cases}
+use Rattle.miette_basics.proofs.Cases.{by_cases}
 use Rattle.miette_snippet_rules.proofs.Lines.{start-lt, start-le-end, end-mono}
 use Rattle.miette_snippet_rules.proofs.Data.{first-lt, first-le-last, read-lines}
 use Rattle.miette_labels.proofs.Data.{cut}

@@ -2,11 +2,11 @@
 use Rattle.std.proofs.Common.{ℕ, ◌+◌, ◌-◌, ◌/◌, ◌<◌, ◌≤◌, ◌≡◌, Bool, true, false, cond, eqb, ltb, leb, List, [], ◌∷◌, ◌++◌, map, refl, sym, ap, ◌∙◌, ◌||◌, Option, Some, None, arith}
 use Rattle.std.proofs.lemmas.Bool.{lt-ltb, le-ltb, le-leb, ne_eqb, ltb-true, ltb-false, and_from, or_left, or_right}
 use Rattle.std.specs.List.{list_any, AllByRecursion}
-use Rattle.miette_labels.specs.rules.Cells.{Character, Cell, cells_from, hides_next, width_at}
+use Rattle.miette_cells.specs.rules.Cells.{Character, Cell, cells_from, hides_next, width_at}
 use Rattle.miette_snippet_rules.specs.rules.Marks.{Mark, AreApart, HasAnchor}
 use Rattle.miette_snippet_rules.specs.rules.PrintedCells.{cells_width}
 use Rattle.miette_snippet_rules.specs.rules.CutLines.{Stretch, agree, columns_in, cut_line, ends, is_kept, is_near, is_near_after, is_within, onto_stretches, row_column, row_mark, shown_marks, stretches}
-use Rattle.miette_labels.proofs.Numbers.{by_cases}
+use Rattle.miette_basics.proofs.Cases.{by_cases}
 
 -- ---- cells one after the other, from a column on
 

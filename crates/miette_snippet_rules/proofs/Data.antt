@@ -7,7 +7,7 @@ use Rattle.miette_labels.specs.rules.Contexts.{end_of_span}
 use Rattle.miette_labels.proofs.Sources.{lines, line_of, start_of, end_of, past_lf, reading_end, first_line, last_line, read, lines_in, lines_between}
 use Rattle.miette_protocol.specs.rules.Reading.{Span}
 use Rattle.miette_snippet_rules.proofs.Numbers.{filter-range}
-use Rattle.miette_labels.proofs.Numbers.{by_cases}
+use Rattle.miette_basics.proofs.Cases.{by_cases}
 use Rattle.miette_snippet_rules.proofs.Lines.{end-gt, cut-some, line-mono, line-le, line-le-length, terminators, line-start, line-end, start-le-end, end-mono, end-strict}
 use Rattle.miette_labels.proofs.Data.{cut}
 

@@ -18,7 +18,7 @@ use Rattle.miette_labels.specs.views.Placing.{lends_before, told_end}
 use Rattle.miette_snippet_rules.specs.rules.Frames.{SnippetSettings}
 use Rattle.miette_snippet_rules.specs.rules.SnippetLayout.{drawn_labels, settings_around}
 use Rattle.miette_labels.proofs.Sources.{IsCut, line_of, end_of, lines, reading_end, first_line, last_line, read}
-use Rattle.miette_labels.proofs.Numbers.{by_cases}
+use Rattle.miette_basics.proofs.Cases.{by_cases}
 use Rattle.miette_labels.proofs.Lines.{cut-le, end-in}
 use Rattle.miette_labels.proofs.Data.{cut}
 use Rattle.miette_labels.proofs.Owning.{own_ordered}

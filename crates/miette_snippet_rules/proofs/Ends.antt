@@ -16,7 +16,7 @@ use Rattle.miette_labels.specs.views.GivenLabels.{label_at, text_at, drawn_of}
 use Rattle.miette_labels.specs.views.Reads.{IsRead}
 use Rattle.miette_labels.specs.views.Placing.{end_drawn, is_told, placed_one, placed_from}
 use Rattle.miette_labels.proofs.Sources.{IsCut, line_of, end_of, lines, reading_end, last_line, read}
-use Rattle.miette_labels.proofs.Numbers.{by_cases}
+use Rattle.miette_basics.proofs.Cases.{by_cases}
 use Rattle.miette_snippet_rules.proofs.Lines.{end-ge, line-mono}
 use Rattle.miette_labels.proofs.Lines.{cut-le, end-in}
 use Rattle.miette_snippet_rules.proofs.Data.{end-le-reading}

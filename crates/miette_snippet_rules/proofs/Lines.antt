@@ -1,7 +1,7 @@
 -- The lines of a source: where they begin and end, and how they are counted.
 use Rattle.std.proofs.Common.{ℕ, zero, suc, ◌+◌, ◌<◌, ◌≤◌, ◌≡◌, min, Bool, true, false, cond, ltb, leb, List, [], ◌∷◌, length, refl, ⊎_elim, ◌&&◌, arith}
 use Rattle.std.proofs.lemmas.Bool.{lt-ltb, le-ltb, le-leb, lt-leb, ltb-false, leb-true, leb-false, cases_lt}
-use Rattle.miette_labels.proofs.Numbers.{by_cases}
+use Rattle.miette_basics.proofs.Cases.{by_cases}
 use Rattle.miette_source_lines.specs.rules.Lines.{Line, is_terminated}
 use Rattle.miette_labels.proofs.Sources.{IsCut, line_of, terminators_in, start_of, end_of}
 use Rattle.miette_labels.proofs.Lines.{cut-le}

@@ -12,7 +12,7 @@ use Rattle.miette_labels.specs.rules.Groups.{joined_span}
 use Rattle.miette_snippet_rules.proofs.Joining.{put_by_offset, by_offset, lines_of_groups, is_in_context, is_shown, shown, snippets}
 use Rattle.miette_labels.proofs.Joining.{joins, groups_from, groups}
 use Rattle.miette_snippet_rules.proofs.Numbers.{filter-none, filter-front, begins-other, runs-block, BeginsOtherThan}
-use Rattle.miette_labels.proofs.Numbers.{by_cases}
+use Rattle.miette_basics.proofs.Cases.{by_cases}
 use Rattle.miette_snippet_rules.proofs.Lines.{line-mono}
 use Rattle.miette_snippet_rules.proofs.Data.{first-mono, last-mono, first-le-last, first-le, first-lt, read-sum, read-lines}
 use Rattle.miette_labels.proofs.Merging.{IsAscending, swap_or}

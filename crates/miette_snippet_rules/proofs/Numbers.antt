@@ -4,7 +4,7 @@ use Rattle.std.proofs.lemmas.Bool.{eq-eqb, ne_eqb}
 use Rattle.std.proofs.lemmas.List.Elements.{filter-append}
 use Rattle.std.specs.List.{range_with_len, filter}
 use Rattle.miette_snippet_rules.specs.rules.Numbers.{onto_range, ranges}
-use Rattle.miette_labels.proofs.Numbers.{by_cases}
+use Rattle.miette_basics.proofs.Cases.{by_cases}
 
 pub range_with_len-append : (from x y : ℕ) → range_with_len from (x + y) ≡ range_with_len from x ++ range_with_len (from + x) y
 range_with_len-append from zero y = let e : zero + y ≡ y = omega arith in let f : from + zero ≡ from = omega arith in rw (e, f) refl

@@ -7,7 +7,7 @@ use Rattle.std.specs.List.{range_with_len}
 use Rattle.miette_source_lines.specs.rules.Lines.{Line}
 use Rattle.miette_labels.proofs.Sources.{begins_with_lf, lines_from, lines, start_of, end_of}
 use Rattle.miette_snippet_rules.specs.rules.ShownLines.{line_at}
-use Rattle.miette_labels.proofs.Numbers.{by_cases}
+use Rattle.miette_basics.proofs.Cases.{by_cases}
 use Rattle.miette_source_lines.proofs.Only.{made}
 use Rattle.miette_labels.proofs.Segments.{drop_drop, first_size, first_text, parted}
 

@@ -3,4 +3,3 @@ pub mod Styles
 pub mod Codes
 pub mod Themes
 pub mod Escapes
-pub mod Lists

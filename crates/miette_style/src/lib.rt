@@ -1,8 +1,7 @@
-//! Styles, their codes, and themes; sums of counts.
+//! Styles, their codes, and themes.
 #![tactic(auto)]
 
 pub mod codes;
 pub mod laws;
 pub mod style;
-pub mod sums;
 pub mod theme;

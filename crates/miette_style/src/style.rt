@@ -2,7 +2,7 @@
 
 ghost use Rattle.std.specs.Prelude.{◌≡◌, Some, true};
 ghost use Rattle.miette_style.specs.rules.Codes.{style_codes};
-ghost use Rattle.miette_style.specs.rules.Lists.{is_nil};
+ghost use Rattle.miette_basics.specs.rules.Lists.{is_nil};
 
 /// A colour of the foreground: one of the terminal's own, or its red, green and blue parts. Codes stand between `ESC
 /// [` and `m`.

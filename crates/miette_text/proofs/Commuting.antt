@@ -8,7 +8,7 @@ use Rattle.miette_runs.specs.rules.Colours.{is_colour}
 use Rattle.miette_text.specs.rules.Wrapping.{TextLine, Word, Cuts, Plan, map_indents, on_first, with_tag, with_code, no_characters, text_lines, cell_tokens, columns, is_space, with_letter, with_space, words, is_alphanumeric, begins_alphanumeric, hyphen_parts, broken_parts, with_spaces, first_room, further_room, cuts_of, hyphenated_parts, narrow_parts, parts, cut_words, word_cells, rows_behind, rows, only_spaces, trimmed_row, row_tokens, with_rest, text_line_rows, text_rows, line_feed, joined_rows, filled_text, all_white, text_line_tokens, indented_row, last_indented, whole_lines, wrapped_tokens}
 use Rattle.miette_runs.specs.rules.Cells.{Cell, width, token_width, columns_of}
 use Rattle.miette_text.proofs.ErasedTokens.{erased}
-use Rattle.miette_style.specs.rules.Lists.{onto}
+use Rattle.miette_basics.specs.rules.Lists.{onto}
 
 abbrev pub kept : List (List ℕ) → List (List ℕ)
 kept [] = []

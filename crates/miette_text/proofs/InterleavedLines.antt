@@ -4,7 +4,7 @@ use Rattle.std.proofs.lemmas.Bool.{and_parts}
 use Rattle.std.proofs.lemmas.List.{take_all}
 use Rattle.std.specs.Char.{is_whitespace}
 use Rattle.miette_runs.specs.rules.Sequences.{Token, Character, spell}
-use Rattle.miette_style.specs.rules.Lists.{is_nil}
+use Rattle.miette_basics.specs.rules.Lists.{is_nil}
 use Rattle.miette_text.specs.rules.Wrapping.{TextLine, all_white, indented_row, is_space, line_feed, only_spaces, text_lines, trimmed_row, whole_lines}
 use Rattle.miette_text.specs.steps.Ends.{all_spaces, bare_len, line_len}
 use Rattle.miette_runs.specs.steps.Cells.{plain_cells}

@@ -4,7 +4,7 @@ use Rattle.std.proofs.lemmas.List.Sums.{sum_by-append}
 use Rattle.miette_text.specs.rules.Wrapping.{Word, columns, word_cells, rows, rows_behind}
 use Rattle.miette_runs.specs.rules.Cells.{Cell, width}
 use Rattle.miette_text.specs.steps.Ends.{row_cells}
-use Rattle.miette_style.specs.rules.Lists.{onto}
+use Rattle.miette_basics.specs.rules.Lists.{onto}
 
 abbrev pub pack : Bool → List Cell → ℕ → ℕ → ℕ → List Word → List (List Cell)
 pack started row used room further [] = row ∷ []

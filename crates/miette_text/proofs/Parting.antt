@@ -6,7 +6,7 @@ use Rattle.miette_text.specs.rules.Wrapping.{Word, words, is_space, is_alphanume
 use Rattle.miette_runs.specs.rules.Cells.{Cell, width}
 use Rattle.miette_text.specs.steps.Ends.{codes_of, begins_word, part_len, gap_len, code_behind, hyphenated_behind, words_behind}
 use Rattle.miette_text.proofs.Ending.{letters_len, spaces_len, words-first}
-use Rattle.miette_style.specs.rules.Lists.{onto}
+use Rattle.miette_basics.specs.rules.Lists.{onto}
 
 -- ---- cuts at hyphens, and where a part is too wide, in one recursion
 

@@ -5,7 +5,7 @@ use Rattle.std.specs.Cmp.{second_so}
 use Rattle.miette_runs.specs.rules.Sequences.{Token, Character, Sequence}
 use Rattle.miette_text.specs.rules.Wrapping.{Word, columns, word_cells, is_space, only_spaces, rows, rows_behind, trimmed_row}
 use Rattle.miette_text.specs.laws.FilledRows.{all_words, sequences_of, is_letter, ends_with_letter, IsTrimmed}
-use Rattle.miette_style.specs.rules.Lists.{onto}
+use Rattle.miette_basics.specs.rules.Lists.{onto}
 
 -- ---- words
 

@@ -6,7 +6,7 @@ use Rattle.miette_runs.specs.rules.Sequences.{Token, Character, Sequence, is_lin
 use Rattle.miette_style.specs.rules.Escapes.{is_escape}
 use Rattle.miette_text.specs.laws.Tame.{State, Free, Escaped, Opened, Waiting, Broken, step, state_behind, AreTame}
 use Rattle.miette_runs.specs.rules.Colours.{is_colour, is_link}
-use Rattle.miette_style.specs.rules.Lists.{is_nil, onto}
+use Rattle.miette_basics.specs.rules.Lists.{is_nil, onto}
 use Rattle.miette_text.specs.rules.Wrapping.{TextLine, Word, Cuts, Plan, on_first, with_tag, with_code, no_characters, text_lines, cell_tokens, columns, is_space, with_letter, with_space, words, is_alphanumeric, begins_alphanumeric, hyphen_parts, broken_parts, with_spaces, first_room, further_room, cuts_of, hyphenated_parts, narrow_parts, parts, cut_words, word_cells, rows_behind, rows, only_spaces, trimmed_row, row_tokens, with_rest, text_line_rows, text_rows, line_feed, joined_rows, filled_text, all_white, text_line_tokens, indented_row, last_indented, whole_lines, wrapped_tokens}
 use Rattle.miette_runs.specs.rules.Cells.{Cell, width}
 use Rattle.miette_text.proofs.Parsing.{broken_stays}

@@ -2,7 +2,7 @@
 use Rattle.std.proofs.Common.{◌≡◌, ℕ, ◌+◌, ◌<◌, ◌≤◌, Bool, true, false, nat_lt, List, [], ◌∷◌, ◌++◌, refl, sym, ap, ◌∙◌, if◌then◌else◌, ltb-true, ltb-false, lt-ltb, le-ltb}
 use Rattle.miette_text.specs.rules.Wrapping.{Word, columns, word_cells, rows, rows_behind}
 use Rattle.miette_text.specs.laws.FilledRows.{all_words, Fits, used_behind, Below, IsFilled}
-use Rattle.miette_style.specs.rules.Lists.{onto}
+use Rattle.miette_basics.specs.rules.Lists.{onto}
 
 -- the rest of a row behind so many columns, and the rows below it
 abbrev Behind : ℕ → ℕ → ℕ → List Word → List (List Word) → Type 0

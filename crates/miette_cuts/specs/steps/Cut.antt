@@ -3,7 +3,7 @@ use Rattle.std.specs.Prelude.{ℕ, ◌+◌, ◌-◌, List, [], ◌∷◌, ◌++�
 use Rattle.std.specs.Prelude.{if◌then◌else◌, nat_lt}
 use Rattle.miette_page.specs.views.Tokens.{Token, styled_tokens}
 use Rattle.miette_style.specs.rules.Styles.{plain}
-use Rattle.miette_labels.specs.rules.Cells.{Cell}
+use Rattle.miette_cells.specs.rules.Cells.{Cell}
 use Rattle.miette_snippet_rules.specs.rules.PrintedCells.{text_bytes}
 use Rattle.miette_snippet_rules.specs.rules.CutLines.{agree}
 use Rattle.miette_cuts.specs.declared.stretch.Stretch.{Stretch as MadeStretch}

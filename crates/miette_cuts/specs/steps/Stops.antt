@@ -1,6 +1,6 @@
 -- The stops of a line's text, from which the columns of its characters are found.
 use Rattle.std.specs.Prelude.{ℕ, ◌≡◌, ◌<◌, ◌≤◌, List, [], ◌∷◌}
-use Rattle.miette_labels.specs.rules.Cells.{Cell}
+use Rattle.miette_cells.specs.rules.Cells.{Cell}
 use Rattle.miette_snippet_rules.specs.rules.PrintedCells.{first_column, last_column}
 use Rattle.miette_cuts.specs.declared.marks.Stop.{Stop}
 

@@ -1,6 +1,6 @@
 -- Texts without tabs, which print as they are, and texts of printable ASCII and tabs.
 use Rattle.std.specs.Prelude.{ℕ, ◌+◌, ◌-◌, ◌%◌, List, [], ◌∷◌, ◌++◌, replicate, Bool, not, ◌||◌, if◌then◌else◌, ◌==◌}
-use Rattle.miette_labels.specs.views.Printable.{is_printable}
+use Rattle.miette_cells.specs.views.Printable.{is_printable}
 
 abbrev pub is_untabbed : ℕ → Bool
 is_untabbed code = not (code == 9)

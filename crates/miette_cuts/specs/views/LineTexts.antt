@@ -1,7 +1,7 @@
 -- The text of a line, as a program has it.
 use Rattle.std.specs.Prelude.{List, false}
-use Rattle.miette_labels.specs.rules.Cells.{Cell, cells_from, characters}
-use Rattle.miette_labels.specs.views.GivenLabels.{width_of}
+use Rattle.miette_cells.specs.rules.Cells.{Cell, cells_from, characters}
+use Rattle.miette_cells.specs.rules.Widths.{width_of}
 use Rattle.miette_cuts.specs.declared.line_text.LineText.{LineText}
 
 -- its cells

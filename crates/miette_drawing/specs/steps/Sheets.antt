@@ -7,10 +7,11 @@ use Rattle.miette_snippet_rules.specs.rules.Marks.{Mark}
 use Rattle.miette_snippet_rules.specs.rules.Drawing.{text_row}
 use Rattle.miette_labels.specs.rules.Labels.{DrawnLabel}
 use Rattle.miette_snippet_rules.specs.views.ThemeSettings.{settings_of}
-use Rattle.miette_labels.specs.views.GivenLabels.{drawn_of, width_of}
+use Rattle.miette_labels.specs.views.GivenLabels.{drawn_of}
+use Rattle.miette_cells.specs.rules.Widths.{width_of}
 use Rattle.miette_snippet_rules.specs.rules.Gutters.{number_gutter, other_gutter, open_gutter, part_run}
 use Rattle.miette_snippet_rules.specs.rules.Frames.{SnippetSettings, number_start, other_start}
-use Rattle.miette_labels.specs.rules.Cells.{Cell, cells_from, characters}
+use Rattle.miette_cells.specs.rules.Cells.{Cell, cells_from, characters}
 use Rattle.miette_source_lines.specs.views.Walking.{line_of_text}
 
 abbrev pub settings : Sheet → SnippetSettings

@@ -15,8 +15,8 @@ use Rattle.miette_labels.specs.rules.Labels.{DrawnLabel, multi_line, one_line, s
 use Rattle.miette_snippet_rules.specs.rules.SnippetLayout as snippet_layout
 use Rattle.miette_snippet_rules.specs.rules.SnippetLayout.{body_rows, cells_of, line_cut, line_marks, settings_around}
 use Rattle.miette_page.specs.rules.Rows.{Row, columns_of, glyphs_of}
-use Rattle.miette_labels.specs.rules.Cells.{Cell}
-use Rattle.miette_labels.specs.views.GivenLabels.{width_of}
+use Rattle.miette_cells.specs.rules.Cells.{Cell}
+use Rattle.miette_cells.specs.rules.Widths.{width_of}
 use Rattle.miette_snippet_rules.specs.rules.CutLines.{Stretch, ends, is_near}
 use Rattle.miette_snippet_laws.specs.laws.Cuts.{AreAsWide, AreStretches, Fits, by_nearness, by_stretch}
 use Rattle.miette_snippet_laws.specs.laws.Cuts.{most_columns, pieces_shown}

@@ -3,7 +3,7 @@ use Rattle.std.specs.Prelude.{ℕ, List, [], map, chars, encode_utf8_all, Option
 use Rattle.miette_runs.specs.rules.Runs.{Fragment, Styled}
 use Rattle.miette_page.specs.rules.Rows.{Row, Run}
 use Rattle.miette_snippet_rules.specs.rules.Frames as frames
-use Rattle.miette_labels.specs.views.GivenLabels.{width_of}
+use Rattle.miette_cells.specs.rules.Widths.{width_of}
 use Rattle.miette_snippet_rules.specs.rules.SnippetLayout.{snippet_rows}
 use Rattle.miette_graphical.specs.rules.Settings.{Settings}
 use Rattle.miette_graphical.specs.rules.DiagnosticText.{SnippetRows}

@@ -1,7 +1,7 @@
 -- The text of a whole report.
 use Rattle.std.specs.Prelude.{ℕ, Bool, true, false, List, [], ◌∷◌, ◌++◌, chars, Option, if◌then◌else◌}
 use Rattle.miette_runs.specs.rules.Runs.{print}
-use Rattle.miette_style.specs.rules.Lists.{is_nil}
+use Rattle.miette_basics.specs.rules.Lists.{is_nil}
 use Rattle.miette_runs.specs.rules.Cutting.{without_leading, without_trailing}
 use Rattle.miette_protocol.specs.views.Meaning.{Meaning}
 use Rattle.miette_protocol.specs.rules.Reading.{Source}

@@ -5,7 +5,7 @@ use Rattle.std.specs.List.{filter, list_any}
 use Rattle.miette_source_lines.specs.rules.Lines.{Line}
 use Rattle.miette_protocol.specs.views.Meaning.{Label}
 use Rattle.miette_style.specs.declared.style.Style.{Style}
-use Rattle.miette_style.specs.rules.Lists.{onto}
+use Rattle.miette_basics.specs.rules.Lists.{onto}
 use Rattle.miette_style.specs.rules.Styles.{plain}
 use Rattle.miette_labels.specs.rules.Around.{lines_around}
 use Rattle.miette_labels.specs.rules.Contexts.{end_of_span}

@@ -1,14 +1,9 @@
--- Labels as a program gives them, and the columns of characters.
+-- Labels as a program gives them.
 use Rattle.std.specs.Prelude.{ℕ, false, List, Option, None, slice_get, unwrap_or}
 use Rattle.std.specs.Option.{option_map_or}
-use Rattle.unicode_width.specs.Width.{char_width}
 use Rattle.miette_protocol.specs.views.Meaning.{Label}
 use Rattle.miette_labels.specs.declared.sweep.PlacedLabel.{PlacedLabel}
 use Rattle.miette_labels.specs.rules.Labels.{DrawnLabel, parts_of}
-
--- the columns of a character; 0 where it has none
-abbrev pub width_of : ℕ → ℕ
-width_of code = unwrap_or (char_width false code) 0
 
 -- the text of the i-th label
 abbrev pub text_at : List Label → ℕ → Option (List ℕ)

@@ -1,8 +1,8 @@
 -- Columns of the bytes of a line's text.
 use Rattle.std.specs.Prelude.{ℕ, ◌+◌, ◌-◌, ◌==◌, List, [], ◌∷◌, Bool, true, false, if◌then◌else◌, nat_lt}
 use Rattle.unicode_width.specs.Width.{str_width}
-use Rattle.miette_labels.specs.rules.Cells.{Character}
-use Rattle.miette_labels.specs.views.GivenLabels.{width_of}
+use Rattle.miette_cells.specs.rules.Cells.{Character}
+use Rattle.miette_cells.specs.rules.Widths.{width_of}
 
 -- the characters of a text that begin before so many of its bytes are over
 abbrev pub begun_text : ℕ → List Character → List ℕ

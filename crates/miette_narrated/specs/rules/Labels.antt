@@ -3,7 +3,7 @@ use Rattle.std.specs.Prelude.{ℕ, ◌+◌, ◌-◌, ◌==◌, min, max, List, [
 use Rattle.std.specs.Prelude.{if◌then◌else◌, nat_le, decimal, codes}
 use Rattle.miette_source_lines.specs.rules.Lines.{Line}
 use Rattle.miette_protocol.specs.views.Meaning.{Label}
-use Rattle.miette_labels.specs.rules.Cells.{Character}
+use Rattle.miette_cells.specs.rules.Cells.{Character}
 use Rattle.miette_labels.specs.rules.Contexts.{end_of_span}
 use Rattle.miette_narrated.specs.rules.Columns.{column}
 

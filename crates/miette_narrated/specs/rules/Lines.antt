@@ -2,9 +2,9 @@
 use Rattle.std.specs.Prelude.{ℕ, ◌+◌, ◌-◌, List, [], ◌∷◌, ◌++◌, map, length, Bool, slice_range, decimal}
 use Rattle.std.specs.Prelude.{codes, encode_utf8_all}
 use Rattle.miette_source_lines.specs.rules.Lines.{Line}
-use Rattle.miette_style.specs.rules.Lists.{is_nil}
+use Rattle.miette_basics.specs.rules.Lists.{is_nil}
 use Rattle.miette_protocol.specs.rules.Reading.{Contents}
-use Rattle.miette_labels.specs.rules.Cells.{Character, characters}
+use Rattle.miette_cells.specs.rules.Cells.{Character, characters}
 use Rattle.miette_narrated.specs.rules.Labels.{SnippetLine, LabelRange, row, label_rows}
 
 -- characters as a text

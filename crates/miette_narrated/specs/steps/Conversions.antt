@@ -2,7 +2,7 @@
 use Rattle.std.specs.Prelude.{List, map}
 use Rattle.miette_protocol.specs.views.Meaning.{Label}
 use Rattle.miette_labels.specs.declared.sweep.PlacedLabel.{PlacedLabel}
-use Rattle.miette_labels.specs.rules.Cells.{characters}
+use Rattle.miette_cells.specs.rules.Cells.{characters}
 use Rattle.miette_labels.specs.views.GivenLabels.{text_at}
 use Rattle.miette_source_lines.specs.views.Walking.{line_of_text}
 use Rattle.miette_narrated.specs.declared.narrated_line.NarratedLine.{NarratedLine}

@@ -3,7 +3,7 @@ use Rattle.std.specs.Prelude.{ℕ, Bool, Option, Some, None, not, nat_lt, nat_le
 use Rattle.std.specs.Int.{is_in_range}
 use Rattle.ucd_emoji.specs.Binary.{is_emoji_variation_base}
 use Rattle.unicode_width.specs.Width.{is_indicator}
-use Rattle.miette_labels.specs.views.GivenLabels.{width_of}
+use Rattle.miette_cells.specs.rules.Widths.{width_of}
 use Rattle.miette_narrated.specs.declared.overlap.Overlap.{Overlap}
 use Rattle.miette_narrated.specs.declared.overlap.Overlap.TheVariants.{Nothing, One, Selected}
 

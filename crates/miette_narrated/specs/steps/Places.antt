@@ -2,7 +2,7 @@
 use Rattle.std.specs.Prelude.{ℕ, Bool, ◌+◌, ◌≤◌, ◌≡◌, List, [], ◌∷◌, ◌++◌, length, drop, false}
 use Rattle.std.specs.Prelude.{if◌then◌else◌}
 use Rattle.unicode_width.specs.Width.{str_width, is_indicator}
-use Rattle.miette_labels.specs.rules.Cells.{Character, characters}
+use Rattle.miette_cells.specs.rules.Cells.{Character, characters}
 use Rattle.miette_narrated.specs.declared.overlap.Overlap.{Overlap}
 use Rattle.miette_narrated.specs.declared.overlap.Overlap.TheVariants.{Nothing, One, Selected}
 use Rattle.miette_narrated.specs.declared.places.PartingPlace.{PartingPlace}

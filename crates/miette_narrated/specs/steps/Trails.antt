@@ -2,8 +2,8 @@
 use Rattle.std.specs.Prelude.{ℕ, ◌+◌, ◌-◌, ◌≤◌, ◌≡◌, ◌==◌, ◌&&◌, nat_lt, Bool, true, List, [], ◌∷◌, length, drop}
 use Rattle.std.specs.Prelude.{if◌then◌else◌}
 use Rattle.std.specs.List.{list_all}
-use Rattle.miette_labels.specs.rules.Cells.{Character, characters}
-use Rattle.miette_labels.specs.views.GivenLabels.{width_of}
+use Rattle.miette_cells.specs.rules.Cells.{Character, characters}
+use Rattle.miette_cells.specs.rules.Widths.{width_of}
 use Rattle.miette_narrated.specs.declared.trails.Trail.{Trail}
 use Rattle.miette_narrated.specs.rules.Columns.{begun_text, is_boundary, column}
 

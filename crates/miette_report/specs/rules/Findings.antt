@@ -6,8 +6,8 @@ use Rattle.std.specs.Option.{option_and_then, option_map, option_map_or}
 use Rattle.std.specs.List.{last_or}
 use Rattle.miette_source_lines.specs.rules.Lines.{Line, is_terminated, lines_of}
 use Rattle.miette_protocol.specs.views.Meaning.{Label}
-use Rattle.miette_labels.specs.rules.Cells.{Cell, cells_from, characters}
-use Rattle.miette_labels.specs.views.GivenLabels.{width_of}
+use Rattle.miette_cells.specs.rules.Cells.{Cell, cells_from, characters}
+use Rattle.miette_cells.specs.rules.Widths.{width_of}
 
 -- a space or a tab
 abbrev pub is_blank : ℕ → Bool

@@ -1,6 +1,6 @@
 -- Which sequences are colours, and which are links'.
 use Rattle.std.specs.Prelude.{ℕ, Bool, false, ◌&&◌, not, ◌==◌, if◌then◌else◌, List, [], ◌∷◌}
-use Rattle.miette_style.specs.rules.Lists.{is_nil}
+use Rattle.miette_basics.specs.rules.Lists.{is_nil}
 use Rattle.miette_runs.specs.rules.Sequences.{is_bell, is_line_feed, is_parameter}
 use Rattle.miette_style.specs.rules.Escapes.{is_escape}
 

@@ -5,7 +5,7 @@ ghost use Rattle.miette_runs.specs.rules.Cells.{columns_of, width};
 ghost use Rattle.miette_runs.specs.views.Interleaving.{interleaving};
 
 use crate::runs::RunsSlice;
-use miette_style::sums::sum;
+use miette_basics::sums::sum;
 use std::alloc::AllocError;
 use unicode_width::UnicodeWidthChar;
 

@@ -1,7 +1,7 @@
 -- What holds of lines that are cut: which cells are shown and where dots stand, and how wide a row can be.
 use Rattle.std.specs.Prelude.{ℕ, ◌+◌, ◌*◌, ◌/◌, ◌<◌, ◌≤◌, ◌≢◌, List, [], ◌∷◌, ◌++◌, map, Bool, if◌then◌else◌}
 use Rattle.std.specs.Prelude.{Option, Some, None, ◌-◌}
-use Rattle.miette_labels.specs.rules.Cells.{Cell}
+use Rattle.miette_cells.specs.rules.Cells.{Cell}
 use Rattle.miette_page.specs.rules.Rows.{Glyph}
 use Rattle.miette_snippet_rules.specs.rules.CutLines.{Stretch, dots, is_kept, is_near_after}
 use Rattle.miette_snippet_rules.specs.rules.PrintedCells.{printed_cells, cells_width}

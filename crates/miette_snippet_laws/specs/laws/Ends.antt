@@ -5,7 +5,7 @@ use Rattle.miette_source_lines.specs.rules.Lines.{Line, lines_of}
 use Rattle.miette_page.specs.rules.Rows.{columns_of, glyphs_of}
 use Rattle.miette_protocol.specs.views.Meaning.{Label}
 use Rattle.miette_labels.specs.rules.Answers.{Highlight}
-use Rattle.miette_labels.specs.rules.Cells.{Cell}
+use Rattle.miette_cells.specs.rules.Cells.{Cell}
 use Rattle.miette_labels.specs.rules.Labels.{DrawnLabel, is_at_end, is_empty, is_one_line}
 use Rattle.miette_snippet_rules.specs.rules.Frames.{SnippetSettings}
 use Rattle.miette_snippet_rules.specs.rules.Marks.{Text, marks}

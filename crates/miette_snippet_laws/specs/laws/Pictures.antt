@@ -4,7 +4,7 @@ use Rattle.std.specs.Prelude.{drop}
 use Rattle.std.specs.List.{AllByRecursion}
 use Rattle.miette_page.specs.rules.Rows.{Glyph, Row, glyphs_of, glyph_of, code_at, Begins}
 use Rattle.miette_source_lines.specs.rules.Lines.{Line}
-use Rattle.miette_labels.specs.rules.Cells.{Cell}
+use Rattle.miette_cells.specs.rules.Cells.{Cell}
 use Rattle.miette_labels.specs.rules.Labels.{DrawnLabel, one_line}
 use Rattle.miette_snippet_rules.specs.rules.CutLines.{shown_runs, shown_marks}
 use Rattle.miette_snippet_rules.specs.rules.Marks.{Mark}

@@ -3,7 +3,7 @@ use Rattle.std.specs.Prelude.{ℕ, ◌+◌, ◌/◌, ◌<◌, ◌≤◌, max, Li
 use Rattle.std.specs.List.{filter}
 use Rattle.miette_labels.specs.rules.Labels.{DrawnLabel, is_empty}
 use Rattle.miette_snippet_rules.specs.rules.PrintedCells.{first_column, last_column}
-use Rattle.miette_labels.specs.rules.Cells.{Cell}
+use Rattle.miette_cells.specs.rules.Cells.{Cell}
 
 -- a line's text: its cells, where it ends, and its columns
 pub record Text : Type 0 where

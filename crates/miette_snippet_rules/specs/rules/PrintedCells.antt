@@ -3,7 +3,7 @@ use Rattle.std.specs.Prelude.{ℕ, ◌+◌, ◌-◌, List, [], ◌∷◌, ◌++�
 use Rattle.miette_page.specs.rules.Rows.{Glyph, Run}
 use Rattle.miette_style.specs.rules.Styles.{plain}
 use Rattle.miette_labels.specs.rules.Answers.{Highlight}
-use Rattle.miette_labels.specs.rules.Cells.{Cell}
+use Rattle.miette_cells.specs.rules.Cells.{Cell}
 
 -- the column of an offset, rounded down to a character's start; at the text's end its width, after it one more
 abbrev pub first_column : List Cell → ℕ → ℕ → ℕ → ℕ

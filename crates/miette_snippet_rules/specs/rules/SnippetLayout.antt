@@ -12,7 +12,7 @@ use Rattle.miette_labels.specs.rules.Around.{has_own, group_context}
 use Rattle.miette_labels.specs.rules.Contexts.{end_of_span, contents, lines_of_contents}
 use Rattle.miette_labels.specs.rules.Groups.{in_order, refusal, groups_of, some_fails, groups_fail}
 use Rattle.miette_snippet_rules.specs.rules.PrintedCells.{cells_width}
-use Rattle.miette_labels.specs.rules.Cells.{Cell, characters, cells_from}
+use Rattle.miette_cells.specs.rules.Cells.{Cell, characters, cells_from}
 use Rattle.miette_labels.specs.rules.Labels.{DrawnLabel, drawn_from, some_shows_end, one_line, multi_line}
 use Rattle.miette_labels.specs.rules.Labels.{closing_labels}
 use Rattle.miette_snippet_rules.specs.rules.Marks.{Text, Mark, marks}

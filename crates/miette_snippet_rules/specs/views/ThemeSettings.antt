@@ -2,7 +2,7 @@
 use Rattle.miette_style.specs.declared.theme.GraphicalTheme.{GraphicalTheme}
 use Rattle.miette_snippet_rules.specs.declared.options.LayoutOptions.{LayoutOptions}
 use Rattle.miette_snippet_rules.specs.rules.Frames.{SnippetSettings}
-use Rattle.miette_labels.specs.views.GivenLabels.{width_of}
+use Rattle.miette_cells.specs.rules.Widths.{width_of}
 use Rattle.miette_style.specs.rules.Themes.{characters_of, styles_of}
 
 -- the settings of a theme and options

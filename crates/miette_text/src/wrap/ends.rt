@@ -6,7 +6,7 @@ ghost use Rattle.miette_runs.specs.steps.Cells.{code_columns};
 ghost use Rattle.miette_text.specs.rules.Wrapping.{is_alphanumeric};
 
 use miette_runs::runs::columns::char_columns;
-use miette_style::sums::sum;
+use miette_basics::sums::sum;
 use std::alloc::AllocError;
 use std::marker::Model;
 

@@ -1,7 +1,7 @@
 -- What sources answer to the reads of a report: where they always read, and where they accept the labels.
 use Rattle.std.specs.Prelude.{◌≡◌, Bool, true, false, ◌&&◌, ◌||◌, List, Option, Some, None, IfSome, ⊤}
 use Rattle.std.specs.List.{list_all}
-use Rattle.miette_style.specs.rules.Lists.{is_nil}
+use Rattle.miette_basics.specs.rules.Lists.{is_nil}
 use Rattle.miette_protocol.specs.views.Meaning.{Label}
 use Rattle.miette_protocol.specs.rules.Reading.{Source, is_accepted}
 use Rattle.miette_tree.specs.rules.Tree.{Tree, tree, Cause, diagnostic, texts, Trees, no_trees, more_trees, effective}

@@ -1,4 +1,4 @@
-use Rattle.miette_labels.specs.views.Walking.{cell_of}
+use Rattle.miette_cells.specs.views.Walking.{cell_of}
 use Rattle.miette_cuts.proofs.CellPrints.{tab_put}
 use Rattle.miette_cuts.proofs.cells.push_cell.Goals as goal
 

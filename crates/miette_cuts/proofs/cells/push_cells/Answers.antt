@@ -1,5 +1,5 @@
 use Rattle.std.proofs.Common.{◌≡◌, ◌∷◌, rules}
-use Rattle.miette_labels.specs.views.Walking.{cell_of}
+use Rattle.miette_cells.specs.views.Walking.{cell_of}
 use Rattle.miette_cuts.proofs.CellPrints.{cells_more}
 use Rattle.miette_cuts.proofs.cells.push_cells.Goals as goal
 

@@ -1,5 +1,5 @@
 use Rattle.std.proofs.Common.{◌≡◌, ◌∷◌, ◌-◌, ◌∙◌, ap, rules}
-use Rattle.miette_labels.specs.views.Walking.{cell_of}
+use Rattle.miette_cells.specs.views.Walking.{cell_of}
 use Rattle.miette_cuts.proofs.CellPrints.{within_more, beyond_more, within_end, beyond_end}
 use Rattle.miette_cuts.proofs.cells.push_cells_within.Goals as goal
 

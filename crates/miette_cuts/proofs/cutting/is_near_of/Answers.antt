@@ -1,6 +1,6 @@
 use Rattle.std.proofs.Common.{◌≡◌, ◌∙◌, false, eqb, eqb-true, sym, length, arith}
 use Rattle.std.proofs.lemmas.Bool.{eq-eqb}
-use Rattle.miette_labels.specs.views.Walking.{cell_of}
+use Rattle.miette_cells.specs.views.Walking.{cell_of}
 use Rattle.miette_cuts.proofs.CutStretches.{near_first_columns, near_found, near_later, near_nowhere}
 use Rattle.miette_cuts.proofs.cutting.is_near_of.Goals as goal
 

@@ -1,6 +1,6 @@
 use Rattle.std.proofs.Common.{◌≡◌, ◌/◌, drop}
 use Rattle.std.specs.List.{list_any}
-use Rattle.miette_labels.specs.views.Walking.{cell_of}
+use Rattle.miette_cells.specs.views.Walking.{cell_of}
 use Rattle.miette_snippet_rules.specs.rules.CutLines.{is_within}
 use Rattle.miette_cuts.proofs.cutting.is_near_of.Given as goal
 

@@ -1,5 +1,5 @@
 use Rattle.std.proofs.Common.{◌∙◌, List, false, ap, map}
-use Rattle.miette_labels.specs.views.Printable.{plain_cells}
+use Rattle.miette_cells.specs.views.Printable.{plain_cells}
 use Rattle.miette_snippet_rules.specs.rules.CutLines.{is_near, stretches}
 use Rattle.miette_snippet_rules.specs.rules.Marks.{Mark}
 use Rattle.miette_cuts.specs.views.Cuts.{measure}

@@ -1,5 +1,5 @@
 use Rattle.std.proofs.Common.{◌≡◌, ◌∷◌, ◌∙◌, false, rules}
-use Rattle.miette_labels.specs.views.Walking.{cell_of}
+use Rattle.miette_cells.specs.views.Walking.{cell_of}
 use Rattle.miette_snippet_rules.specs.rules.CutLines.{is_near}
 use Rattle.miette_cuts.proofs.CutStretches.{first_stretch}
 use Rattle.miette_cuts.proofs.cutting.stretches_of.Goals as goal

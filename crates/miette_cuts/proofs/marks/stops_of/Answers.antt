@@ -2,8 +2,8 @@ use Rattle.std.proofs.Common.{◌≡◌, ◌≤◌, ◌∷◌, ◌∙◌, ℕ, L
 use Rattle.std.specs.List.{All}
 use Rattle.std.proofs.lemmas.List.Elements.{All-push}
 use Rattle.miette_snippet_rules.specs.rules.PrintedCells.{first_column, last_column}
-use Rattle.miette_labels.specs.rules.Cells.{Cell}
-use Rattle.miette_labels.specs.views.Walking.{cell_of}
+use Rattle.miette_cells.specs.rules.Cells.{Cell}
+use Rattle.miette_cells.specs.views.Walking.{cell_of}
 use Rattle.miette_cuts.specs.steps.Stops.{IsStop}
 use Rattle.miette_cuts.specs.declared.marks.Stop.{Stop}
 use Rattle.miette_cuts.proofs.Stopping.{first_passed, last_passed, width_passed, cells_left}

@@ -1,5 +1,5 @@
 use Rattle.std.proofs.Common.{◌≡◌, ◌≤◌, ◌+◌, ◌-◌, ◌++◌, ℕ, false, map, length, drop}
-use Rattle.miette_labels.specs.views.Printable.{plain_cells}
+use Rattle.miette_cells.specs.views.Printable.{plain_cells}
 use Rattle.miette_snippet_rules.specs.rules.CutLines.{is_near, stretches}
 use Rattle.miette_cuts.specs.views.Cuts.{measure}
 use Rattle.miette_cuts.specs.steps.Cut.{onto_made}

@@ -1,7 +1,7 @@
 use Rattle.std.proofs.Common.{◌∙◌, take, drop, ap}
 use Rattle.std.specs.List.{list_all}
-use Rattle.miette_labels.specs.views.Printable.{is_printable}
-use Rattle.miette_labels.proofs.Plaining.{printable_taken}
+use Rattle.miette_cells.specs.views.Printable.{is_printable}
+use Rattle.miette_cells.proofs.Plaining.{printable_taken}
 use Rattle.miette_cuts.proofs.CutPlain.{drop_least, dropped, plain_end, plain_more, take_least}
 use Rattle.miette_cuts.proofs.plain_cut.push_plain_cut.Goals as goal
 

@@ -1,7 +1,7 @@
 use Rattle.miette_page.specs.views.Printouts.{◌⊕◌}
 use Rattle.std.proofs.Common.{◌≡◌, true, drop}
 use Rattle.std.specs.List.{list_all}
-use Rattle.miette_labels.specs.views.Printable.{is_printable}
+use Rattle.miette_cells.specs.views.Printable.{is_printable}
 use Rattle.miette_cuts.specs.steps.Cut.{plain_told}
 use Rattle.miette_cuts.proofs.plain_cut.push_plain_cut.Given as goal
 

@@ -1,7 +1,8 @@
 use Rattle.std.specs.Prelude.{chars}
 use Rattle.miette_snippet_rules.specs.rules.Frames.{other_start}
 use Rattle.miette_snippet_rules.specs.rules.Gutters.{other_gutter}
-use Rattle.miette_labels.specs.views.GivenLabels.{drawn_of, width_of}
+use Rattle.miette_labels.specs.views.GivenLabels.{drawn_of}
+use Rattle.miette_cells.specs.rules.Widths.{width_of}
 use Rattle.miette_drawing.specs.steps.Sheets.{settings, multi_labels}
 use Rattle.miette_source_lines.specs.views.Walking.{line_of_text}
 use Rattle.miette_drawing.proofs.Closing.{closed_put}

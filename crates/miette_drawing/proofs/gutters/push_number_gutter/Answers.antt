@@ -1,6 +1,7 @@
 use Rattle.std.proofs.Common.{◌∙◌, map, drop, get_or, ◌+◌, sym}
 use Rattle.miette_labels.specs.views.Sweeping.{nothing}
-use Rattle.miette_labels.specs.views.GivenLabels.{drawn_of, width_of}
+use Rattle.miette_labels.specs.views.GivenLabels.{drawn_of}
+use Rattle.miette_cells.specs.rules.Widths.{width_of}
 use Rattle.miette_source_lines.specs.views.Walking.{line_of_text}
 use Rattle.miette_snippet_rules.specs.rules.Gutters.{number_gutter}
 use Rattle.miette_snippet_rules.proofs.Telling.{blank_row}

@@ -3,9 +3,9 @@ use Rattle.std.proofs.Common.{◌≡◌, List, Option, [], ◌∷◌, ◌∙◌,
 use Rattle.miette_page.specs.rules.Rows.{Row}
 use Rattle.miette_page.specs.views.Tokens.{rows_tokens}
 use Rattle.miette_labels.specs.rules.Answers.{Highlight}
-use Rattle.miette_labels.specs.rules.Cells.{Cell, characters}
+use Rattle.miette_cells.specs.rules.Cells.{Cell, characters}
 use Rattle.miette_labels.specs.rules.Labels.{closing_labels}
-use Rattle.miette_labels.specs.views.GivenLabels.{width_of}
+use Rattle.miette_cells.specs.rules.Widths.{width_of}
 use Rattle.miette_snippet_rules.specs.rules.CutLines.{Stretch, cut_line, shown_marks, shown_runs}
 use Rattle.miette_snippet_rules.specs.rules.Marks.{Mark, marks}
 use Rattle.miette_snippet_rules.specs.rules.Drawing.{marked_rows}

@@ -3,7 +3,7 @@ use Rattle.std.proofs.Common.{◌∙◌, ◌<◌, ap, map, [], length, rules}
 use Rattle.miette_snippet_rules.specs.rules.Drawing.{mark_runs, rows_below}
 use Rattle.miette_page.specs.views.Tokens.{rows_tokens}
 use Rattle.miette_snippet_rules.specs.rules.SnippetLayout.{before_each}
-use Rattle.miette_labels.specs.views.GivenLabels.{width_of}
+use Rattle.miette_cells.specs.rules.Widths.{width_of}
 use Rattle.miette_cuts.specs.views.Marks.{mark_of}
 use Rattle.miette_drawing.specs.steps.Sheets.{before_marks}
 use Rattle.miette_drawing.proofs.Lining.{marked_put, marked_some}

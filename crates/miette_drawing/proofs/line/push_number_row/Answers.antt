@@ -3,7 +3,7 @@ use Rattle.std.specs.Option.{option_map}
 use Rattle.miette_cuts.specs.views.Cuts.{made_runs}
 use Rattle.miette_snippet_rules.specs.rules.Frames.{number_start}
 use Rattle.miette_snippet_rules.specs.rules.Gutters.{number_gutter}
-use Rattle.miette_labels.specs.views.GivenLabels.{width_of}
+use Rattle.miette_cells.specs.rules.Widths.{width_of}
 use Rattle.miette_snippet_rules.specs.rules.Highlighting.{highlight_of}
 use Rattle.miette_cuts.specs.views.LineTexts.{text_cells}
 use Rattle.miette_drawing.specs.steps.Sheets.{settings, multi_labels}

@@ -1,5 +1,5 @@
 use Rattle.std.proofs.Common.{rules, refl, ◌-◌}
-use Rattle.miette_labels.specs.views.GivenLabels.{width_of}
+use Rattle.miette_cells.specs.rules.Widths.{width_of}
 use Rattle.miette_cuts.specs.views.Marks.{mark_of}
 use Rattle.miette_drawing.proofs.Stroking.{mark_put}
 use Rattle.miette_drawing.proofs.strokes.push_mark.Goals as goal

@@ -1,4 +1,4 @@
-use Rattle.miette_labels.specs.views.GivenLabels.{width_of}
+use Rattle.miette_cells.specs.rules.Widths.{width_of}
 use Rattle.miette_cuts.proofs.Placing.{no_mark}
 use Rattle.miette_drawing.proofs.Stroking.{mark_more}
 use Rattle.miette_drawing.proofs.strokes.push_marks.Goals as goal

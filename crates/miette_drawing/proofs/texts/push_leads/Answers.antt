@@ -3,7 +3,7 @@ use Rattle.miette_page.specs.views.Printouts.{◌⊕◌}
 use Rattle.miette_page.specs.views.Tokens.{row_tokens}
 use Rattle.miette_snippet_rules.specs.rules.Drawing.{lead_runs}
 use Rattle.miette_cuts.specs.views.Marks.{mark_of}
-use Rattle.miette_labels.specs.views.GivenLabels.{width_of}
+use Rattle.miette_cells.specs.rules.Widths.{width_of}
 use Rattle.miette_cuts.proofs.Placing.{no_mark}
 use Rattle.miette_drawing.proofs.Texting.{lead_more, lead_end}
 use Rattle.miette_drawing.proofs.texts.push_leads.Goals as goal

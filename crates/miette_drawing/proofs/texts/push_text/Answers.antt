@@ -1,7 +1,7 @@
 use Rattle.std.proofs.Common.{◌∙◌, ◌∷◌, ap, sym, map}
 use Rattle.std.specs.Prelude.{chars, option_copied}
 use Rattle.miette_labels.specs.rules.Labels.{parts_of}
-use Rattle.miette_labels.specs.views.GivenLabels.{width_of}
+use Rattle.miette_cells.specs.rules.Widths.{width_of}
 use Rattle.miette_cuts.specs.views.Marks.{mark_of}
 use Rattle.miette_drawing.specs.steps.Sheets.{before_marks}
 use Rattle.miette_drawing.proofs.Texting.{several_parts}

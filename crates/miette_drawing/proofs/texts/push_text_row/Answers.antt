@@ -1,6 +1,6 @@
 use Rattle.std.proofs.Common.{map, refl}
 use Rattle.std.specs.Prelude.{chars}
-use Rattle.miette_labels.specs.views.GivenLabels.{width_of}
+use Rattle.miette_cells.specs.rules.Widths.{width_of}
 use Rattle.miette_cuts.specs.views.Marks.{mark_of}
 use Rattle.miette_drawing.specs.steps.Sheets.{before_marks}
 use Rattle.miette_drawing.proofs.Texting.{text_put}

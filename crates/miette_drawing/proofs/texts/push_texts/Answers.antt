@@ -1,5 +1,5 @@
 use Rattle.std.proofs.Common.{◌<◌, ◌-◌, ◌+◌, ◌≡◌, ◌≤◌, length, arith}
-use Rattle.miette_labels.specs.views.GivenLabels.{width_of}
+use Rattle.miette_cells.specs.rules.Widths.{width_of}
 use Rattle.miette_drawing.specs.steps.Sheets.{before_marks}
 use Rattle.miette_cuts.proofs.Placing.{no_mark}
 use Rattle.miette_drawing.proofs.Texting.{below_more}

@@ -1,5 +1,5 @@
 use Rattle.std.proofs.Common.{◌≡◌, ◌++◌, string_bytes, length}
-use Rattle.miette_labels.specs.rules.Cells.{characters}
+use Rattle.miette_cells.specs.rules.Cells.{characters}
 use Rattle.miette_narrated.specs.rules.Lines.{decoded_text}
 use Rattle.miette_narrated.proofs.columns.push_replaced.Given as goal
 

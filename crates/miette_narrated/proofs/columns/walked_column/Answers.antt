@@ -3,7 +3,7 @@ use Rattle.std.specs.Prelude.{chars}
 use Rattle.std.proofs.lemmas.List.{nil_from_length, take_rest}
 use Rattle.std.proofs.lemmas.Str.{IsUtf8-string_bytes}
 use Rattle.unicode_width.specs.Width.{str_width}
-use Rattle.miette_labels.specs.views.GivenLabels.{width_of}
+use Rattle.miette_cells.specs.rules.Widths.{width_of}
 use Rattle.miette_narrated.proofs.Columning.{IsOver, none_over, one_over, over_at_zero, over_past_end, over_inside}
 use Rattle.miette_narrated.proofs.PlaceLaws.{column_from}
 use Rattle.miette_narrated.specs.steps.Places.{overlap_text}

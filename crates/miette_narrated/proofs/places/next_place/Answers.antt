@@ -6,8 +6,8 @@ use Rattle.std.proofs.lemmas.Str.{IsUtf8-string_bytes}
 use Rattle.ucd_emoji.specs.Binary.{is_emoji_variation_base}
 use Rattle.unicode_width.specs.Width.{str_width}
 use Rattle.unicode_width.proofs.Computing.{unicode_width}
-use Rattle.miette_labels.specs.views.GivenLabels.{width_of}
-use Rattle.miette_labels.proofs.Stepping.{IsFirst}
+use Rattle.miette_cells.specs.rules.Widths.{width_of}
+use Rattle.miette_cells.proofs.Stepping.{IsFirst}
 use Rattle.miette_narrated.proofs.Columning.{chars_pushed}
 use Rattle.miette_narrated.proofs.Flags.{no_flags, flags_pushed}
 use Rattle.miette_narrated.proofs.PlaceLaws.{none_since, one_since, ends_pushed, ends_twice, is_next_place}

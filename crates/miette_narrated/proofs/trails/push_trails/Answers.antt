@@ -3,7 +3,7 @@ use Rattle.std.specs.Prelude.{chars}
 use Rattle.std.proofs.lemmas.List.{take_rest}
 use Rattle.std.proofs.lemmas.Str.{IsUtf8-string_bytes}
 use Rattle.unicode_width.specs.Width.{str_width}
-use Rattle.miette_labels.specs.views.GivenLabels.{width_of}
+use Rattle.miette_cells.specs.rules.Widths.{width_of}
 use Rattle.miette_narrated.proofs.PlaceLaws.{one_since, ends_pushed}
 use Rattle.miette_narrated.proofs.Running.{first_trail, first_behind, some_behind}
 use Rattle.miette_narrated.proofs.trails.push_trails.Goals as goal

@@ -1,7 +1,7 @@
 use Rattle.std.proofs.Common.{◌≡◌, length, None}
 use Rattle.std.specs.List.{last_or}
 use Rattle.std.specs.Option.{option_map}
-use Rattle.miette_labels.specs.views.Walking.{cell_of}
+use Rattle.miette_cells.specs.views.Walking.{cell_of}
 use Rattle.miette_report.specs.rules.Findings.{cells_of}
 use Rattle.miette_report.proofs.lint_lines.last_cell.Given as goal
 

@@ -1,6 +1,6 @@
 use Rattle.std.proofs.Common.{ap, sym, ◌∙◌}
 use Rattle.std.specs.Option.{option_map}
-use Rattle.miette_labels.specs.views.Walking.{cell_of}
+use Rattle.miette_cells.specs.views.Walking.{cell_of}
 use Rattle.miette_report.specs.rules.Findings.{cells_of}
 use Rattle.miette_report.proofs.FindingSteps.{overlong_put}
 use Rattle.miette_report.proofs.lint_lines.push_overlong.Goals as goal

@@ -1,10 +1,10 @@
 use Rattle.std.proofs.Common.{List, length, ◌≡◌, ◌++◌, [], ◌∙◌, false, refl, sym, ap, subst}
-use Rattle.miette_labels.specs.rules.Cells.{Cell}
+use Rattle.miette_cells.specs.rules.Cells.{Cell}
 use Rattle.miette_snippet_rules.specs.rules.Marks.{Text}
-use Rattle.miette_labels.specs.views.Printable.{plain_cells}
-use Rattle.miette_labels.specs.views.GivenLabels.{width_of}
+use Rattle.miette_cells.specs.views.Printable.{plain_cells}
+use Rattle.miette_cells.specs.rules.Widths.{width_of}
 use Rattle.miette_cuts.specs.steps.Stops.{ComeFrom}
-use Rattle.miette_labels.proofs.Stepping.{cells_end}
+use Rattle.miette_cells.proofs.Stepping.{cells_end}
 use Rattle.miette_cuts.proofs.Stopping.{cells_come}
 use Rattle.miette_cuts.proofs.Plaining.{plain_text}
 use Rattle.miette_cuts.proofs.marks.Columns.new.Goals as goal

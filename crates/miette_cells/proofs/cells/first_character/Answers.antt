@@ -1,6 +1,6 @@
 use Rattle.bstr.proofs.lemmas.PieceLemmas.{piece-bounds}
 use Rattle.std.proofs.Common.{◌<◌, ◌≤◌, length, subst, sym}
-use Rattle.miette_labels.proofs.cells.first_character.Goals as goal
+use Rattle.miette_cells.proofs.cells.first_character.Goals as goal
 
 pub returns-clause-some : goal.returns-clause-some
 returns-clause-some c = subst (λ n. 0 < n) (sym c.decode_lossy.ensures.size) (piece-bounds c.args.bytes.now c.requires).0

@@ -3,10 +3,10 @@
 ghost use Rattle.std.specs.Prelude.{◌≡◌, ◌<◌, ◌≤◌, ◌+◌, ◌-◌, ◌%◌, ◌^◌, List, [], ◌∷◌, length, false, IfOk};
 ghost use Rattle.std.specs.Prelude.{MatchOption};
 ghost use Rattle.bstr.specs.Utf8.{decoded, or_replacement};
-ghost use Rattle.miette_labels.specs.views.Walking.{cell_of};
-ghost use Rattle.miette_labels.specs.views.GivenLabels.{width_of};
-ghost use Rattle.miette_labels.specs.rules.Cells.{width_at};
-ghost use Rattle.miette_labels.specs.rules.Cells.{Cell as TextCell, cells_from, characters, is_hidden, hides_next};
+ghost use Rattle.miette_cells.specs.views.Walking.{cell_of};
+ghost use Rattle.miette_cells.specs.rules.Widths.{width_of};
+ghost use Rattle.miette_cells.specs.rules.Cells.{width_at};
+ghost use Rattle.miette_cells.specs.rules.Cells.{Cell as TextCell, cells_from, characters, is_hidden, hides_next};
 
 use std::alloc::AllocError;
 use std::marker::Model;

@@ -1,4 +1,4 @@
--- Numbers in order.
+-- The two cases of a test.
 use Rattle.std.proofs.Common.{◌≡◌, Bool, true, false, refl}
 
 pub by_cases : {C : Type 0} (b : Bool) → (b ≡ true → C) → (b ≡ false → C) → C

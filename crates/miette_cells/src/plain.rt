@@ -2,7 +2,7 @@
 
 ghost use Rattle.std.specs.Prelude.{◌≡◌};
 ghost use Rattle.std.specs.List.{list_all};
-ghost use Rattle.miette_labels.specs.views.Printable.{is_printable};
+ghost use Rattle.miette_cells.specs.views.Printable.{is_printable};
 
 /// Whether each of these bytes is a printable ASCII character.
 pub fn all_printable(bytes: &[u8]) -> bool

@@ -1,6 +1,6 @@
 -- Texts of printable ASCII characters, and their cells.
 use Rattle.std.specs.Prelude.{ℕ, ◌+◌, List, [], ◌∷◌, Bool, ◌&&◌, nat_le, nat_lt}
-use Rattle.miette_labels.specs.rules.Cells.{Cell}
+use Rattle.miette_cells.specs.rules.Cells.{Cell}
 
 abbrev pub is_printable : ℕ → Bool
 is_printable b = nat_le 0x20 b && nat_lt b 0x7F

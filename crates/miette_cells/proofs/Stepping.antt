@@ -2,7 +2,7 @@
 use Rattle.std.proofs.Common.{ℕ, ◌+◌, ◌<◌, ◌≡◌, Bool, List, [], ◌∷◌, map, length, drop, sym, ap, ◌∙◌}
 use Rattle.bstr.specs.Utf8.{decoded, or_replacement, Decoded}
 use Rattle.bstr.proofs.lemmas.PieceLemmas.{pieces-step, pieces-nil}
-use Rattle.miette_labels.specs.rules.Cells.{Cell, Character, cells_from, characters, hides_next, width_at}
+use Rattle.miette_cells.specs.rules.Cells.{Cell, Character, cells_from, characters, hides_next, width_at}
 
 abbrev cell : ℕ → ℕ → ℕ → ℕ → ℕ → Cell
 cell code start after from until = record { code = code; start = start; after = after; from = from; until = until }

@@ -1,9 +1,9 @@
 use Rattle.std.proofs.Common.{◌≡◌, ◌<◌, ◌+◌, ◌-◌, take, drop, arith, length, sym, ◌∙◌, rules, eqb-true}
 use Rattle.std.proofs.lemmas.List.{nil_from_length}
 use Rattle.std.proofs.lemmas.Grind.{common_steps}
-use Rattle.miette_labels.specs.views.GivenLabels.{width_of}
-use Rattle.miette_labels.proofs.Stepping.{cells_step, cells_end}
-use Rattle.miette_labels.proofs.cells.Walk.next.Goals as goal
+use Rattle.miette_cells.specs.rules.Widths.{width_of}
+use Rattle.miette_cells.proofs.Stepping.{cells_step, cells_end}
+use Rattle.miette_cells.proofs.cells.Walk.next.Goals as goal
 
 pub returns-then-is_empty : goal.returns-then-is_empty
 returns-then-is_empty c =

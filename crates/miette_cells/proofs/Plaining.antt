@@ -8,10 +8,10 @@ use Rattle.std.proofs.lemmas.Bool.Decides.{nat_tests}
 use Rattle.unicode_width.specs.Width.{char_width}
 use Rattle.bstr.specs.Utf8.{decoded, good, or_replacement}
 use Rattle.bstr.proofs.lemmas.PieceLemmas.{value-1}
-use Rattle.miette_labels.specs.rules.Cells.{characters}
-use Rattle.miette_labels.specs.views.GivenLabels.{width_of}
-use Rattle.miette_labels.specs.views.Printable.{is_printable}
-use Rattle.miette_labels.proofs.Stepping.{made, characters_step}
+use Rattle.miette_cells.specs.rules.Cells.{characters}
+use Rattle.miette_cells.specs.rules.Widths.{width_of}
+use Rattle.miette_cells.specs.views.Printable.{is_printable}
+use Rattle.miette_cells.proofs.Stepping.{made, characters_step}
 
 -- what a printable character is not
 pub record IsPlain (b : ℕ) : Type 0 where

@@ -1,0 +1,2 @@
+-- What users rely on.
+pub mod Lists

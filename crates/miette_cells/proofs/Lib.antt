@@ -1,0 +1,2 @@
+pub mod Plaining
+pub mod Stepping
